@@ -1,0 +1,37 @@
+-- The text of each kind of error.
+use Rattle.std.specs.Prelude.{ℕ, List, codes}
+use Rattle.sfv_base.specs.declared.error.ErrorKind.{ErrorKind}
+use Rattle.sfv_base.specs.declared.error.ErrorKind.TheVariants.{OutOfMemory, OutOfRange, Empty, InvalidCharacter, TrailingCharactersAfterMember, TrailingComma, TrailingCharactersAfterParsedValue, ExpectedInnerListDelimiter, UnterminatedInnerList, ExpectedStartOfBareItem, ExpectedBoolean, InvalidStringCharacter, UnterminatedString, UnterminatedEscapeSequence, InvalidEscapeSequence, UnterminatedByteSequence, InvalidByteSequence, ExpectedDigit, TooManyDigits, TooManyDigitsBeforeDecimalPoint, TooManyDigitsAfterDecimalPoint, TrailingDecimalPoint, Rfc8941Date, NonIntegerDate, Rfc8941DisplayString, ExpectedQuote, InvalidUtf8InDisplayString, InvalidDisplayStringCharacter, UnterminatedDisplayString, ExpectedStartOfKey}
+
+-- what a kind of error prints
+abbrev pub message_of : ErrorKind → List ℕ
+message_of OutOfMemory = codes "out of memory"
+message_of OutOfRange = codes "out of range"
+message_of Empty = codes "cannot be empty"
+message_of InvalidCharacter = codes "invalid character"
+message_of TrailingCharactersAfterMember = codes "trailing characters after member"
+message_of TrailingComma = codes "trailing comma"
+message_of TrailingCharactersAfterParsedValue = codes "trailing characters after parsed value"
+message_of ExpectedInnerListDelimiter = codes "expected inner list delimiter (' ' or ')')"
+message_of UnterminatedInnerList = codes "unterminated inner list"
+message_of ExpectedStartOfBareItem = codes "expected start of bare item"
+message_of ExpectedBoolean = codes "expected boolean ('0' or '1')"
+message_of InvalidStringCharacter = codes "invalid string character"
+message_of UnterminatedString = codes "unterminated string"
+message_of UnterminatedEscapeSequence = codes "unterminated escape sequence"
+message_of InvalidEscapeSequence = codes "invalid escape sequence"
+message_of UnterminatedByteSequence = codes "unterminated byte sequence"
+message_of InvalidByteSequence = codes "invalid byte sequence"
+message_of ExpectedDigit = codes "expected digit"
+message_of TooManyDigits = codes "too many digits"
+message_of TooManyDigitsBeforeDecimalPoint = codes "too many digits before decimal point"
+message_of TooManyDigitsAfterDecimalPoint = codes "too many digits after decimal point"
+message_of TrailingDecimalPoint = codes "trailing decimal point"
+message_of Rfc8941Date = codes "RFC 8941 does not support dates"
+message_of NonIntegerDate = codes "date must be an integer number of seconds"
+message_of Rfc8941DisplayString = codes "RFC 8941 does not support display strings"
+message_of ExpectedQuote = codes "expected '\"'"
+message_of InvalidUtf8InDisplayString = codes "invalid UTF-8 in display string"
+message_of InvalidDisplayStringCharacter = codes "invalid display string character"
+message_of UnterminatedDisplayString = codes "unterminated display string"
+message_of ExpectedStartOfKey = codes "expected start of key ('a'-'z' or '*')"

@@ -1,0 +1,74 @@
+//! Dates (RFC 9651, section 3.3.7).
+
+ghost use Rattle.std.specs.Prelude.{◌≡◌, ◌++◌, Some, pos, codes};
+ghost use Rattle.std.specs.Fmt.{signed_decimal};
+
+use crate::integer::Integer;
+use std::fmt;
+use std::marker::Model;
+
+/// A point in time, in whole seconds from the Unix epoch (RFC 9651, section 3.3.7). RFC 8941 has none.
+///
+/// A contract sees it as its seconds.
+#[derive(Clone, Copy, Debug, PartialEq, Eq, PartialOrd, Ord, Hash)]
+pub struct Date {
+    seconds: Integer,
+}
+
+impl Model for Date {
+    ghost use Rattle.std.specs.Prelude.{ℤ};
+
+    ghost Value = { ℤ };
+
+    ghost view = { λ d. d.seconds };
+
+    ghost inverse = { λ z. record { seconds = z } };
+}
+
+impl Date {
+    /// The least date, -999999999999999 seconds.
+    pub const MIN: Date = Date {
+        seconds: Integer::MIN,
+    };
+
+    /// The greatest date, 999999999999999 seconds.
+    pub const MAX: Date = Date {
+        seconds: Integer::MAX,
+    };
+
+    /// 1970-01-01T00:00:00Z.
+    pub const UNIX_EPOCH: Date = Date {
+        seconds: Integer::ZERO,
+    };
+
+    /// The seconds from the Unix epoch.
+    pub fn unix_seconds(&self) -> Integer
+        ensures { result ≡ self.now }
+    {
+        self.seconds
+    }
+
+    /// The date of so many seconds from the Unix epoch.
+    pub fn from_unix_seconds(v: Integer) -> Date
+        ensures { result ≡ v }
+    {
+        Date { seconds: v }
+    }
+}
+
+impl Default for Date {
+    ghost is_default = { λ d. d ≡ pos 0 };
+
+    fn default() -> Date {
+        Date::UNIX_EPOCH
+    }
+}
+
+impl fmt::Display for Date {
+    ghost output = { λ d. Some (codes "@" ++ signed_decimal d) };
+
+    fn fmt<W: fmt::Write>(&self, f: &mut fmt::Formatter<W>) -> fmt::Result {
+        let seconds = self.seconds;
+        write!(f, "@{seconds}")
+    }
+}

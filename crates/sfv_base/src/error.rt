@@ -1,0 +1,233 @@
+//! What is wrong with an input, and where.
+
+ghost use Rattle.std.specs.Prelude.{◌≡◌, ◌++◌, ◌↔◌, ℕ, List, [], Some, None, IsTrue, codes};
+ghost use Rattle.sfv_base.specs.Messages.{message_of};
+ghost use Rattle.sfv_base.specs.Errors.{error_of, kind_of, index_of, out_of_memory, error_text};
+
+use std::alloc::{AllocError, AllocFailed};
+use std::fmt;
+
+/// What kind of thing is wrong.
+#[derive(Clone, Copy, Debug, PartialEq, Eq)]
+pub enum ErrorKind {
+    /// A request for memory was refused.
+    OutOfMemory,
+    /// A number isn't in the range of its type.
+    OutOfRange,
+    /// A key or a token is made from an empty text.
+    Empty,
+    /// A key, a token or a string is made from a text with a byte that isn't of its class.
+    InvalidCharacter,
+    /// After a member stands neither a comma nor the end.
+    TrailingCharactersAfterMember,
+    /// After a comma the input ends.
+    TrailingComma,
+    /// After an item the input doesn't end.
+    TrailingCharactersAfterParsedValue,
+    /// After an item of an inner list stands neither a space nor `)`.
+    ExpectedInnerListDelimiter,
+    /// The input ends in an inner list.
+    UnterminatedInnerList,
+    /// No bare item begins where one is wanted.
+    ExpectedStartOfBareItem,
+    /// After `?` stands neither `0` nor `1`.
+    ExpectedBoolean,
+    /// A string holds a byte that isn't printable ASCII.
+    InvalidStringCharacter,
+    /// The input ends in a string.
+    UnterminatedString,
+    /// The input ends in an escape of a string or a display string.
+    UnterminatedEscapeSequence,
+    /// An escape of a string or a display string is malformed.
+    InvalidEscapeSequence,
+    /// No colon closes a byte sequence.
+    UnterminatedByteSequence,
+    /// The content of a byte sequence is no Base64.
+    InvalidByteSequence,
+    /// No digit stands where a number's digits begin.
+    ExpectedDigit,
+    /// An integer has more than fifteen digits.
+    TooManyDigits,
+    /// A decimal has more than twelve digits before its point.
+    TooManyDigitsBeforeDecimalPoint,
+    /// A decimal has more than three digits after its point.
+    TooManyDigitsAfterDecimalPoint,
+    /// No digit stands after the point of a decimal.
+    TrailingDecimalPoint,
+    /// A date stands in a field under RFC 8941.
+    Rfc8941Date,
+    /// A decimal stands where a date has its seconds.
+    NonIntegerDate,
+    /// A display string stands in a field under RFC 8941.
+    Rfc8941DisplayString,
+    /// No quote opens a display string after its `%`.
+    ExpectedQuote,
+    /// The bytes of a display string aren't UTF-8.
+    InvalidUtf8InDisplayString,
+    /// A display string holds a byte that isn't printable ASCII.
+    InvalidDisplayStringCharacter,
+    /// The input ends in a display string.
+    UnterminatedDisplayString,
+    /// No key begins where one is wanted.
+    ExpectedStartOfKey,
+}
+
+impl ErrorKind {
+    /// The text of the kind.
+    pub fn message(self) -> &'static str
+        ensures { result.now ≡ message_of self }
+    {
+        match self {
+            ErrorKind::OutOfMemory => "out of memory",
+            ErrorKind::OutOfRange => "out of range",
+            ErrorKind::Empty => "cannot be empty",
+            ErrorKind::InvalidCharacter => "invalid character",
+            ErrorKind::TrailingCharactersAfterMember => "trailing characters after member",
+            ErrorKind::TrailingComma => "trailing comma",
+            ErrorKind::TrailingCharactersAfterParsedValue => {
+                "trailing characters after parsed value"
+            }
+            ErrorKind::ExpectedInnerListDelimiter => "expected inner list delimiter (' ' or ')')",
+            ErrorKind::UnterminatedInnerList => "unterminated inner list",
+            ErrorKind::ExpectedStartOfBareItem => "expected start of bare item",
+            ErrorKind::ExpectedBoolean => "expected boolean ('0' or '1')",
+            ErrorKind::InvalidStringCharacter => "invalid string character",
+            ErrorKind::UnterminatedString => "unterminated string",
+            ErrorKind::UnterminatedEscapeSequence => "unterminated escape sequence",
+            ErrorKind::InvalidEscapeSequence => "invalid escape sequence",
+            ErrorKind::UnterminatedByteSequence => "unterminated byte sequence",
+            ErrorKind::InvalidByteSequence => "invalid byte sequence",
+            ErrorKind::ExpectedDigit => "expected digit",
+            ErrorKind::TooManyDigits => "too many digits",
+            ErrorKind::TooManyDigitsBeforeDecimalPoint => "too many digits before decimal point",
+            ErrorKind::TooManyDigitsAfterDecimalPoint => "too many digits after decimal point",
+            ErrorKind::TrailingDecimalPoint => "trailing decimal point",
+            ErrorKind::Rfc8941Date => "RFC 8941 does not support dates",
+            ErrorKind::NonIntegerDate => "date must be an integer number of seconds",
+            ErrorKind::Rfc8941DisplayString => "RFC 8941 does not support display strings",
+            ErrorKind::ExpectedQuote => "expected '\"'",
+            ErrorKind::InvalidUtf8InDisplayString => "invalid UTF-8 in display string",
+            ErrorKind::InvalidDisplayStringCharacter => "invalid display string character",
+            ErrorKind::UnterminatedDisplayString => "unterminated display string",
+            ErrorKind::ExpectedStartOfKey => "expected start of key ('a'-'z' or '*')",
+        }
+    }
+}
+
+impl fmt::Display for ErrorKind {
+    ghost output = { λ kind. Some (message_of kind) };
+
+    fn fmt<W: fmt::Write>(&self, f: &mut fmt::Formatter<W>) -> fmt::Result {
+        f.write_str(self.message())
+    }
+}
+
+/// An error of this library: its kind and, where it has one, its place.
+#[derive(Clone, Copy, Debug, PartialEq, Eq)]
+pub struct Error {
+    kind: ErrorKind,
+    index: Option<usize>,
+}
+
+impl Error {
+    ghost use Rattle.sfv_base.specs.Errors.{error_of, kind_of, index_of, out_of_memory};
+
+    /// The error of this kind, at this zero-based offset in bytes into the input.
+    pub fn with_kind(kind: ErrorKind, index: Option<usize>) -> Error
+        ensures { result ≡ error_of kind index }
+    {
+        Error { kind, index }
+    }
+
+    /// What kind of thing is wrong.
+    pub fn kind(&self) -> ErrorKind
+        ensures { result ≡ kind_of self.now }
+    {
+        self.kind
+    }
+
+    /// The zero-based offset in bytes into the input at which the error stands, if it has one.
+    pub fn index(&self) -> Option<usize>
+        ensures { result ≡ index_of self.now }
+    {
+        self.index
+    }
+
+    /// The text of the error without its index.
+    pub fn message(&self) -> &'static str
+        ensures { result.now ≡ message_of (kind_of self.now) }
+    {
+        self.kind.message()
+    }
+
+    /// Whether a request for memory was refused.
+    pub fn is_out_of_memory(&self) -> bool
+        ensures { IsTrue result ↔ (kind_of self.now ≡ ErrorKind.OutOfMemory) }
+    {
+        self.kind == ErrorKind::OutOfMemory
+    }
+}
+
+impl fmt::Display for Error {
+    ghost output = { λ e. Some (error_text e) };
+
+    fn fmt<W: fmt::Write>(&self, f: &mut fmt::Formatter<W>) -> fmt::Result {
+        let message = self.message();
+        match self.index {
+            Some(index) => write!(f, "{message} at index {index}"),
+            None => f.write_str(message),
+        }
+    }
+}
+
+impl std::error::Error for Error {}
+
+/// A request for memory was refused.
+#[derive(Clone, Copy, Debug, PartialEq, Eq)]
+pub struct OutOfMemory;
+
+impl fmt::Display for OutOfMemory {
+    ghost output = { λ _. Some (codes "out of memory") };
+
+    fn fmt<W: fmt::Write>(&self, f: &mut fmt::Formatter<W>) -> fmt::Result {
+        f.write_str("out of memory")
+    }
+}
+
+impl std::error::Error for OutOfMemory {}
+
+impl From<AllocError> for OutOfMemory {
+    fn from(_error: AllocError) -> OutOfMemory {
+        OutOfMemory
+    }
+}
+
+impl<T: Drop> From<AllocFailed<T>> for OutOfMemory {
+    fn from(_error: AllocFailed<T>) -> OutOfMemory {
+        OutOfMemory
+    }
+}
+
+impl From<OutOfMemory> for Error {
+    ghost from_gives = { λ _ e. e ≡ out_of_memory };
+
+    fn from(_error: OutOfMemory) -> Error {
+        Error::with_kind(ErrorKind::OutOfMemory, None)
+    }
+}
+
+impl From<AllocError> for Error {
+    ghost from_gives = { λ _ e. e ≡ out_of_memory };
+
+    fn from(_error: AllocError) -> Error {
+        Error::with_kind(ErrorKind::OutOfMemory, None)
+    }
+}
+
+impl<T: Drop> From<AllocFailed<T>> for Error {
+    ghost from_gives = { λ _ e. e ≡ out_of_memory };
+
+    fn from(_error: AllocFailed<T>) -> Error {
+        Error::with_kind(ErrorKind::OutOfMemory, None)
+    }
+}
