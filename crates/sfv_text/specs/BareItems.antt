@@ -1,0 +1,57 @@
+-- The values of bare items, whatever owns their texts.
+use Rattle.std.specs.Prelude.{ℕ, List, string_bytes}
+use Rattle.std.specs.Borrow.{Bor}
+use Rattle.std.specs.declared.alloc.Global.{Global}
+use Rattle.std.specs.declared.vec.Vec.{Vec}
+use Rattle.std.specs.declared.string.String as std_string
+use Rattle.std.specs.declared.borrow.CowStr.{CowStr}
+use Rattle.std.specs.declared.borrow.CowStr.TheVariants as cow
+use Rattle.sfv_spec.specs.Values.{Edition, rfc8941, rfc9651, BareValue}
+use Rattle.sfv_spec.specs.Values as values
+use Rattle.sfv_text.specs.declared.token_ref.TokenRef.{TokenRef}
+use Rattle.sfv_text.specs.declared.string_ref.StringRef.{StringRef}
+use Rattle.sfv_text.specs.TokenText.{token_text}
+use Rattle.sfv_text.specs.StringText.{string_text}
+use Rattle.sfv_text.specs.declared.bare.GenericBareItem.{GenericBareItem}
+use Rattle.sfv_text.specs.declared.bare.GenericBareItem.TheVariants as bare
+use Rattle.sfv_text.specs.declared.bare.StringFromInput.{StringFromInput}
+use Rattle.sfv_text.specs.declared.bare.StringFromInput.TheVariants as input
+use Rattle.sfv_text.specs.declared.bare.Version.{Version}
+use Rattle.sfv_text.specs.declared.bare.Version.TheVariants as version
+
+-- the value of a bare item, given the bytes of its texts
+abbrev pub value_by : {S B T D : Type 0} → (S → List ℕ) → (B → List ℕ) → (T → List ℕ) → (D → List ℕ) → GenericBareItem S B T D → BareValue
+value_by s b t d (bare.Decimal z) = values.decimal z
+value_by s b t d (bare.Integer z) = values.integer z
+value_by s b t d (bare.String x) = values.string (s x)
+value_by s b t d (bare.ByteSequence x) = values.byte_sequence (b x)
+value_by s b t d (bare.Boolean x) = values.boolean x
+value_by s b t d (bare.Token x) = values.token (t x)
+value_by s b t d (bare.Date z) = values.date z
+value_by s b t d (bare.DisplayString x) = values.display_string (d x)
+
+-- the value of a bare item that owns its text
+abbrev pub bare_value : GenericBareItem (List ℕ) (Vec ℕ Global) (List ℕ) (std_string.String Global) → BareValue
+bare_value item = value_by (λ s. s) (λ b. b.items) (λ t. t) string_bytes item
+
+-- the value of a bare item whose text is borrowed
+abbrev pub ref_value : GenericBareItem StringRef (Bor (List ℕ)) TokenRef (Bor (List ℕ)) → BareValue
+ref_value item = value_by string_text (λ b. b.now) token_text (λ d. d.now) item
+
+-- the bytes of a string that was read
+abbrev pub read_text : StringFromInput → List ℕ
+read_text (input.Borrowed s) = string_text s
+read_text (input.Owned s) = s
+
+abbrev pub cow_text : CowStr Global → List ℕ
+cow_text (cow.Borrowed s) = s.now
+cow_text (cow.Owned s) = string_bytes s
+
+-- the value of a bare item that was read
+abbrev pub input_value : GenericBareItem StringFromInput (Vec ℕ Global) TokenRef (CowStr Global) → BareValue
+input_value item = value_by read_text (λ b. b.items) token_text cow_text item
+
+-- the edition that a version stands for
+abbrev pub edition_of : Version → Edition
+edition_of version.Rfc8941 = rfc8941
+edition_of version.Rfc9651 = rfc9651

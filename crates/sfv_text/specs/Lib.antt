@@ -1,0 +1,4 @@
+pub mod KeyText
+pub mod TokenText
+pub mod StringText
+pub mod BareItems

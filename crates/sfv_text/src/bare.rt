@@ -1,0 +1,151 @@
+//! Bare items (RFC 9651, section 3.3), and the versions of the standard.
+
+ghost use Rattle.std.specs.Prelude.{◌≡◌, IfOk, Some, codes};
+ghost use Rattle.sfv_text.specs.BareItems.{bare_value, ref_value, input_value, read_text};
+ghost use Rattle.sfv_text.specs.StringText.{string_text};
+ghost use Rattle.sfv_text.specs.declared.bare.Version.TheVariants as versions;
+
+use crate::string::String;
+use crate::string_ref::StringRef;
+use crate::token::Token;
+use crate::token_ref::TokenRef;
+use sfv_base::date::Date;
+use sfv_base::decimal::Decimal;
+use sfv_base::error::OutOfMemory;
+use sfv_base::integer::Integer;
+use std::alloc::Global;
+use std::borrow::CowStr;
+use std::fmt;
+use std::string::String as StdString;
+
+/// A bare item over the types of its texts (RFC 9651, section 3.3).
+///
+/// `BareItem` owns its text, `RefBareItem` borrows it, and `BareItemFromInput` borrows what of it
+/// stands in the input.
+#[derive(Clone, Copy, Debug, Drop)]
+pub enum GenericBareItem<S, B, T, D> {
+    /// A decimal (section 3.3.2).
+    Decimal(Decimal),
+    /// An integer (section 3.3.1).
+    Integer(Integer),
+    /// A string (section 3.3.3).
+    String(S),
+    /// A byte sequence (section 3.3.5).
+    ByteSequence(B),
+    /// A boolean (section 3.3.6).
+    Boolean(bool),
+    /// A token (section 3.3.4).
+    Token(T),
+    /// A date (section 3.3.7).
+    Date(Date),
+    /// A display string (section 3.3.8).
+    DisplayString(D),
+}
+
+/// A bare item that owns its text.
+pub type BareItem = GenericBareItem<String, Vec<u8>, Token, StdString>;
+
+/// A bare item whose text is borrowed.
+pub type RefBareItem<'a> = GenericBareItem<StringRef<'a>, &'a [u8], TokenRef<'a>, &'a str>;
+
+/// A bare item that was read: its text is borrowed from the input where it stands there as it is.
+pub type BareItemFromInput<'a> = GenericBareItem<
+    StringFromInput<'a>,
+    Vec<u8>,
+    TokenRef<'a>,
+    CowStr<'a>,
+>;
+
+/// A string that was read: borrowed from the input exactly if it has no escape there.
+#[derive(Drop)]
+pub enum StringFromInput<'a> {
+    /// The string stands in the input as it is.
+    Borrowed(StringRef<'a>),
+    /// The string is written with escapes.
+    Owned(String),
+}
+
+impl<'a> StringFromInput<'a> {
+    /// The string, lent.
+    pub fn as_string_ref(&self) -> StringRef<'_>
+        ensures { string_text result ≡ read_text self.now }
+    {
+        match self {
+            StringFromInput::Borrowed(text) => *text,
+            StringFromInput::Owned(text) => text.as_string_ref(),
+        }
+    }
+
+    /// The string with a text of its own; refused where memory is.
+    pub fn try_into_owned(self, alloc: Global) -> Result<String, OutOfMemory>
+        ensures { IfOk result (λ text. text ≡ read_text self.entry) }
+    {
+        match self {
+            StringFromInput::Borrowed(text) => text.to_owned(alloc),
+            StringFromInput::Owned(text) => Ok(text),
+        }
+    }
+}
+
+impl BareItem {
+    /// The same value, lent.
+    pub fn as_ref_item(&self) -> RefBareItem<'_>
+        ensures { ref_value result ≡ bare_value self.now }
+    {
+        match self {
+            GenericBareItem::Decimal(value) => GenericBareItem::Decimal(*value),
+            GenericBareItem::Integer(value) => GenericBareItem::Integer(*value),
+            GenericBareItem::String(text) => GenericBareItem::String(text.as_string_ref()),
+            GenericBareItem::ByteSequence(bytes) => GenericBareItem::ByteSequence(bytes.as_slice()),
+            GenericBareItem::Boolean(value) => GenericBareItem::Boolean(*value),
+            GenericBareItem::Token(token) => GenericBareItem::Token(token.as_token_ref()),
+            GenericBareItem::Date(value) => GenericBareItem::Date(*value),
+            GenericBareItem::DisplayString(text) => GenericBareItem::DisplayString(text.as_str()),
+        }
+    }
+}
+
+impl<'a> BareItemFromInput<'a> {
+    /// The same value with texts of its own; refused where memory is.
+    pub fn try_into_owned(self, alloc: Global) -> Result<BareItem, OutOfMemory>
+        ensures { IfOk result (λ item. bare_value item ≡ input_value self.entry) }
+    {
+        Ok(match self {
+            GenericBareItem::Decimal(value) => GenericBareItem::Decimal(value),
+            GenericBareItem::Integer(value) => GenericBareItem::Integer(value),
+            GenericBareItem::String(text) => GenericBareItem::String(text.try_into_owned(alloc)?),
+            GenericBareItem::ByteSequence(bytes) => GenericBareItem::ByteSequence(bytes),
+            GenericBareItem::Boolean(value) => GenericBareItem::Boolean(value),
+            GenericBareItem::Token(token) => GenericBareItem::Token(token.to_owned(alloc)?),
+            GenericBareItem::Date(value) => GenericBareItem::Date(value),
+            GenericBareItem::DisplayString(text) => {
+                GenericBareItem::DisplayString(text.into_owned(alloc)?)
+            }
+        })
+    }
+}
+
+/// A version of the standard.
+#[derive(Clone, Copy, Debug, PartialEq, Eq)]
+pub enum Version {
+    /// RFC 8941, which has neither dates nor display strings.
+    Rfc8941,
+    /// RFC 9651.
+    Rfc9651,
+}
+
+impl Version {
+    /// The name of the version.
+    fn name(self) -> &'static str {
+        match self {
+            Version::Rfc8941 => "RFC 8941",
+            Version::Rfc9651 => "RFC 9651",
+        }
+    }
+}
+
+impl fmt::Display for Version {
+    fn fmt<W: fmt::Write>(&self, f: &mut fmt::Formatter<W>) -> fmt::Result {
+        f.write_str(self.name())
+    }
+}

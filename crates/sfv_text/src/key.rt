@@ -1,0 +1,134 @@
+//! Keys that own their text (RFC 9651, section 3.1.2).
+
+ghost use Rattle.std.specs.Prelude.{◌≡◌, IfOk, Some, refl, nat_eq, string_bytes, IsTrue};
+ghost use Rattle.std.specs.Hash as fed;
+ghost use Rattle.std.specs.Cmp.Lexicographic.{pointwise, slice_cmp, nat_list_eq_equiv, nat_list_cmp_total, texts_ties, texts_po};
+ghost use Rattle.std.specs.Cmp;
+ghost use Rattle.std.specs.Ordering.{nat_cmp};
+ghost use Rattle.std.specs.Cmp.Rules.{hashing};
+ghost use Rattle.std.proofs.Common.{rules};
+ghost use Rattle.sfv_spec.specs.Classes.{is_key};
+ghost use Rattle.sfv_text.specs.KeyText.{key_text};
+
+use crate::key_ref::KeyRef;
+use std::alloc::AllocError;
+use std::cmp::Ordering;
+use std::fmt;
+use std::hash::{Hash, Hasher};
+use std::marker::Model;
+use std::string::String as StdString;
+
+/// A key that owns its text (RFC 9651, section 3.1.2).
+///
+/// A contract sees it as its bytes.
+#[derive(Drop)]
+pub struct Key {
+    text: StdString,
+}
+
+impl Model for Key {
+    ghost use Rattle.std.specs.Prelude.{List, ℕ, string_bytes, IsTrue};
+    ghost use Rattle.sfv_spec.specs.Classes.{is_key};
+
+    ghost Value = { List ℕ };
+
+    ghost view = { λ t. string_bytes t.text };
+
+    ghost invariant = { λ t. IsTrue (is_key (string_bytes t.text)) };
+}
+
+impl Key {
+    /// The key of this text, which is one.
+    pub(crate) fn made(text: StdString) -> Key
+        requires { IsTrue (is_key (string_bytes text)) }
+        ensures { result ≡ string_bytes text }
+    {
+        Key { text }
+    }
+
+    /// The text.
+    pub fn as_str(&self) -> &str
+        ensures text { result.now ≡ self.now }
+        ensures valid { IsTrue (is_key self.now) }
+    {
+        self.text.as_str()
+    }
+
+    /// The same key, lent.
+    pub fn as_key_ref(&self) -> KeyRef<'_>
+        ensures { key_text result ≡ self.now }
+    {
+        KeyRef::constant(self.as_str())
+    }
+}
+
+impl PartialEq for Key {
+    ghost eq = { pointwise nat_eq };
+
+    ghost laws = { Cmp.partial_equiv_from_equiv nat_list_eq_equiv };
+
+    fn eq(&self, other: &Key) -> bool {
+        self.as_str() == other.as_str()
+    }
+}
+
+impl Eq for Key {
+    ghost laws = { nat_list_eq_equiv };
+}
+
+impl PartialOrd for Key {
+    ghost partial_cmp = { λ x y. Some (slice_cmp nat_cmp x y) };
+
+    ghost laws = { texts_po };
+
+    fn partial_cmp(&self, other: &Key) -> Option<Ordering> {
+        Some(self.cmp(other))
+    }
+}
+
+impl Ord for Key {
+    ghost cmp = { slice_cmp nat_cmp };
+
+    ghost total = { nat_list_cmp_total };
+
+    ghost matches_partial_cmp = { λ x y. refl };
+
+    ghost matches_eq = { λ x y. texts_ties x y };
+
+    fn cmp(&self, other: &Key) -> Ordering {
+        self.as_str().cmp(other.as_str())
+    }
+}
+
+impl Hash for Key {
+    ghost hash_input = { fed.str };
+
+    ghost respects_eq = { Prim.search (hashing, rules) };
+
+    fn hash<H: Hasher>(&self, state: &mut H) {
+        self.as_str().hash(state);
+    }
+}
+
+impl Clone for Key {
+    ghost is_clone = { λ x y. y ≡ x };
+
+    fn clone(&self) -> Result<Key, AllocError> {
+        let text = self.text.clone()?;
+        Ok(Key { text })
+    }
+}
+
+impl fmt::Display for Key {
+    ghost output = { λ t. Some t };
+
+    fn fmt<W: fmt::Write>(&self, f: &mut fmt::Formatter<W>) -> fmt::Result {
+        f.write_str(self.as_str())
+    }
+}
+
+impl fmt::Debug for Key {
+    fn fmt<W: fmt::Write>(&self, f: &mut fmt::Formatter<W>) -> fmt::Result {
+        fmt::Debug::fmt(self.as_str(), f)
+    }
+}

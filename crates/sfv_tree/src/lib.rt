@@ -1,0 +1,4 @@
+//! The values of structured fields (RFC 9651) as trees that own their parts.
+#![tactic(auto)]
+
+pub mod parsed;
