@@ -7,10 +7,10 @@ use Rattle.std.proofs.lemmas.List.{length-append, append-nil, take_more, drop_mo
 use Rattle.std.proofs.lemmas.List.Folds.{list_all-append}
 use Rattle.sfv_spec.specs.Base64.{IsBase64Text, symbol}
 use Rattle.sfv_spec.specs.Faults.{unterminated_byte_sequence}
-use Rattle.sfv_reading.specs.Reader.{first, by_rule}
+use Rattle.sfv_reading.specs.Reader.{first, Fault, by_rule}
 use Rattle.sfv_reading.specs.Judgements.{Reached, Sound, Mute, Quiet, IsFault, Lasts, Local}
 use Rattle.sfv_reading.specs.Content.{is_symbol, most_padding, padding_in, valid_from, bytes_of, fault_place, IsBytesEnd, is_colon, HasNoColon, content_in, content_fault, closed_by, bytes_at}
-use Rattle.sfv_reading.specs.Claims.{ShunsMark, ShunsMarks}
+use Rattle.sfv_reading.specs.Claims.{IsBytesFault, BytesRead, ShunsMark, ShunsMarks}
 use Rattle.sfv_reading.proofs.Shape.{valid_local, are_symbols}
 use Rattle.sfv_reading.proofs.Contents.{gives_the_bytes, longest_valid, refused_at}
 
@@ -214,6 +214,41 @@ Local-bytes = record {
   ];
 }
 
+-- a text without a colon has none
+pub no_colon_any : (u : List ℕ) → HasNoColon u → list_any is_colon u ≡ false
+no_colon_any [] h = refl
+no_colon_any (c ∷ u) h =
+    let p = and_parts (not (is_colon c)) (list_all (λ c. not (is_colon c)) u) h in
+    let no : is_colon c ≡ false = elim (cases_Bool (is_colon c)) [ inl y ↦ absurd (true≢false (sym (rw y at p.0))) | inr n ↦ n ] in
+    rw no (no_colon_any u p.1)
+
+-- Exactly these faults are given.
+closed_fault : (content rest : List ℕ) (e : Fault) (value : Option (List ℕ)) → HasNoColon content → bytes_of content ≡ value → closed_by (content ++ 0x3a ∷ rest) content value ≡ Err e → IsBytesFault (content ++ 0x3a ∷ rest) e
+closed_fault content rest e (Some bytes) h v i = absurd cc
+closed_fault content rest e None h v i =
+    let same : content_fault content (drop (fault_place content) (content ++ 0x3a ∷ rest)) ≡ e = cc in
+    inr (content, rest, refl, h, v, sym same)
+
+pub bytes_fault : (t : List ℕ) (e : Fault) → bytes_at t ≡ Err e → IsBytesFault t e
+bytes_fault t e i = elim (cases_Bool (list_any is_colon t)) [
+  | inl y ↦
+      let s = content_split t y in
+      let content : List ℕ = content_in t in
+      subst (λ (t : List ℕ). IsBytesFault t e) (sym s.1) (closed_fault content s.0 e (bytes_of content) s.2 refl (sym (read_closed content s.0 s.2) ∙ ap bytes_at (sym s.1) ∙ i))
+  | inr n ↦
+      let both = sym (read_unclosed t n) ∙ i in
+      let same : by_rule unterminated_byte_sequence [] ≡ e = cc in
+      inl (no_colon t n, sym same)
+]
+
+pub bytes_faulty : (t : List ℕ) (e : Fault) → IsBytesFault t e → bytes_at t ≡ Err e
+bytes_faulty t e (inl h) = read_unclosed t (no_colon_any t h.0) ∙ ap (λ (e : Fault). Err e) (sym h.1)
+bytes_faulty t e (inr h) =
+    ap bytes_at h.2 ∙ read_fault h.0 h.1 h.3 h.4 ∙ ap (λ (t : List ℕ). Err (content_fault h.0 (drop (fault_place h.0) t))) (sym h.2) ∙ ap (λ (e : Fault). Err e) (sym h.5)
+
+pub bytes_read : BytesRead
+bytes_read = (Sound-bytes, bytes_again, λ t e. (bytes_fault t e, bytes_faulty t e), Local-bytes)
+
 -- ---- a reading from a place of an input
 
 -- the content from start to end, which a colon closes
@@ -245,13 +280,6 @@ gives_fault input start index h =
     let r = read_fault h.content (drop (h.end + 1) input) h.closed.no_colon h.no_value in
     let e : bytes_at (drop start input) ≡ Err (content_fault h.content (drop (fault_place h.content) (drop start input))) = rw h.closed.text r in
     e ∙ rw (drop-drop (fault_place h.content) start input, h.here) refl
-
-pub no_colon_any : (u : List ℕ) → HasNoColon u → list_any is_colon u ≡ false
-no_colon_any [] h = refl
-no_colon_any (c ∷ u) h =
-    let p = and_parts (not (is_colon c)) (list_all (λ c. not (is_colon c)) u) h in
-    let no : is_colon c ≡ false = elim (cases_Bool (is_colon c)) [ inl y ↦ absurd (true≢false (sym (rw y at p.0))) | inr n ↦ n ] in
-    rw no (no_colon_any u p.1)
 
 -- the fault of a text in which no colon follows
 pub gives_unclosed : (input : List ℕ) (start : ℕ) → HasNoColon (drop start input) → bytes_at (drop start input) ≡ Err (by_rule unterminated_byte_sequence [])

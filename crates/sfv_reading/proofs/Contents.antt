@@ -13,7 +13,7 @@ use Rattle.sfv_spec.proofs.Bytes.{bytes_settle}
 use Rattle.sfv_reading.specs.Content.{is_symbol, symbol_value, most_padding, valid_from, values_in, bytes_from, bytes_of, fault_place}
 use Rattle.sfv_reading.specs.Claims.{GivesTheBytes, GivesTheFault}
 use Rattle.sfv_reading.proofs.Bits.{spare_of, same_bits, spare_length, bytes_within}
-use Rattle.sfv_reading.proofs.Shape.{shape_of, shape_valid, are_symbols, are_values, symbols-values, values-symbols, valid_local, valid_run, padding-padded}
+use Rattle.sfv_reading.proofs.Shape.{shape_of, shape_valid, are_symbols, are_values, symbols-values, values-symbols, valid_local, valid_run, padding-padded, padding-nil}
 
 few_spare : (n : ℕ) → 2 * most_padding n < 6
 few_spare n = elim (cases_Bool (n % 4 == 2)) [

@@ -12,6 +12,12 @@ pub mod Utf8
 pub mod Pieces
 pub mod Traces
 pub mod Quoted
+pub mod DisplayFaults
+pub mod DisplayRules
+pub mod Ranges
+pub mod StringSteps
+pub mod DisplaySteps
+pub mod Cuts
 pub mod Steps
 pub mod Numbers
 pub mod Bare

@@ -20,6 +20,16 @@ pub behind_bytes_more : (xs ys : List ℕ) (a : Answer (List ℕ)) → behind_by
 behind_bytes_more xs ys (Ok x) = ap (λ (l : List ℕ). Ok (l, x.1)) (sym (append_assoc xs ys x.0))
 behind_bytes_more xs ys (Err e) = refl
 
+-- what stands behind the bytes that were read
+what_follows : Answer (List ℕ) → List ℕ
+what_follows (Ok x) = x.1
+what_follows (Err e) = []
+
+pub behind_bytes_ok : (xs : List ℕ) (a : Answer (List ℕ)) (ys rest : List ℕ) → behind_bytes xs a ≡ Ok (ys, rest) → (zs : List ℕ) × (a ≡ Ok (zs, rest))
+unfolding what_follows
+behind_bytes_ok xs (Ok x) ys rest e = (x.0, ap (λ (l : List ℕ). Ok (x.0, l)) (ap what_follows e))
+behind_bytes_ok xs (Err x) ys rest e = absurd cc
+
 -- ---- a piece is read as its byte
 
 pub step_string : (c : ℕ) (p t : List ℕ) → IsStringPiece c p → string_from false (p ++ t) ≡ behind_bytes (c ∷ []) (string_from false t)
