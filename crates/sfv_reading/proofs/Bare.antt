@@ -1,24 +1,21 @@
 -- What is read as a bare item is one.
-use Rattle.std.proofs.Common.{◌≡◌, ℕ, ◌≤◌, true, false, eqb, List, [], ◌∷◌, ◌++◌, length, Option, Some, None, refl, sym, ap, subst, ◌∙◌, append_assoc, arith, inl, inr, ℤ}
-use Rattle.std.specs.Prelude.{codes, IsTrue, flat_map}
+use Rattle.std.proofs.Common.{ℕ, true, false, List, [], ◌∷◌, refl, sym, ap, subst, ℤ}
 use Rattle.std.proofs.lemmas.List.{append-nil}
-use Rattle.std.proofs.lemmas.Bool.{eqb-true, true≢false, and_from}
-use Rattle.sfv_spec.specs.Texts.{Exactly, RunOf, ◌⨾◌, IsJoining}
-use Rattle.sfv_spec.specs.Classes.{is_token, is_token_start, is_token_inner}
-use Rattle.sfv_spec.specs.Strings.{IsStringPiece, IsStringContent, IsDisplayPiece, IsDisplayContent}
+use Rattle.std.proofs.lemmas.Bool.{true≢false, and_from}
+use Rattle.sfv_spec.specs.Classes.{is_token_start}
+use Rattle.sfv_spec.specs.Strings.{IsDisplayPiece}
 use Rattle.sfv_spec.specs.Values.{Edition, rfc8941, rfc9651, BareValue, integer, decimal, string, token, byte_sequence, boolean, date, display_string}
 use Rattle.sfv_spec.specs.Grammar.{IsBareText}
 use Rattle.sfv_spec.specs.Numbers.{IsIntegerText}
 use Rattle.sfv_spec.specs.Events.{TreeEvent}
-use Rattle.sfv_spec.specs.Faults.{expected_quote, expected_start_of_bare_item}
 use Rattle.sfv_reading.specs.Judgements.{Sound, Local, Mute}
-use Rattle.sfv_reading.specs.Reader.{Reader, give, fail, branch, byte, many, ◌>>=◌}
+use Rattle.sfv_reading.specs.Reader.{give, ◌>>=◌}
 use Rattle.sfv_reading.specs.Content.{bytes_at, IsBytesEnd}
 use Rattle.sfv_reading.specs.Quoted.{string_at, display_at, IsStringEnd, IsDisplayEnd}
 use Rattle.sfv_reading.specs.Bare.{number_at, boolean_at, token_at, as_date, date_at, quoted_at, bare_at}
-use Rattle.sfv_reading.proofs.Sound.{Found, Sound-give, Sound-fail, Sound-branch, Sound-byte, Sound-ahead, Sound-bind, Sound-map, Sound-weaker, Sound-back, Sound-span, Reads, Somewhere, Begins, begins_none}
+use Rattle.sfv_reading.proofs.Sound.{Found, Sound-give, Sound-fail, Sound-branch, Sound-byte, Sound-ahead, Sound-map, Sound-weaker, Sound-back, Sound-span, Reads, Somewhere}
 use Rattle.sfv_reading.proofs.Local.{local_rules}
-use Rattle.sfv_reading.proofs.Joining.{joining_none, Joined, split_joined}
+use Rattle.sfv_reading.proofs.Joining.{joining_none}
 use Rattle.sfv_reading.proofs.ByteSequences.{Sound-bytes, Local-bytes}
 use Rattle.sfv_reading.proofs.Quoted.{Sound-string, Local-string, Sound-display, Local-display}
 use Rattle.sfv_reading.proofs.Numbers.{IsNumber, Sound-number, Local-number}

@@ -1,25 +1,23 @@
 -- A text of a bare item is read, as that bare item.
-use Rattle.std.proofs.Common.{◌≡◌, ℕ, ◌<◌, ◌≤◌, Bool, true, false, eqb, ◌||◌, ◌&&◌, not, ℤ, List, [], ◌∷◌, ◌++◌, length, Option, Some, None, Ok, refl, sym, ap, subst, ◌∙◌, append_assoc, arith, inl, inr}
-use Rattle.std.specs.Prelude.{codes, IsTrue}
+use Rattle.std.proofs.Common.{◌≡◌, ℕ, ◌≤◌, Bool, true, false, eqb, not, ℤ, List, [], ◌∷◌, ◌++◌, length, Ok, refl, sym, ap, subst, ◌∙◌, append_assoc, arith, inl, inr}
+use Rattle.std.specs.Prelude.{IsTrue}
 use Rattle.std.specs.List.{list_all}
-use Rattle.std.proofs.lemmas.List.{append-nil}
-use Rattle.std.proofs.lemmas.Bool.{eqb-true, or_parts, or_left, or_from, or_right, ne_eqb, and_parts, true≢false, both_ways, cases_Bool, or_cases, not-true}
-use Rattle.sfv_spec.specs.Texts.{Exactly, RunOf, ◌⨾◌, IsJoining}
-use Rattle.sfv_spec.specs.Classes.{is_digit, is_token, is_token_start, is_token_inner, is_string_byte}
-use Rattle.sfv_spec.specs.Strings.{is_escaped_in_string, IsStringPiece}
-use Rattle.sfv_spec.specs.Values.{Edition, rfc8941, rfc9651, BareValue, integer, decimal, string, token, byte_sequence, boolean, date, display_string}
-use Rattle.sfv_spec.specs.Numbers.{AreDigits, minus_text, IsIntegerText, IsDecimalText}
+use Rattle.std.proofs.lemmas.Bool.{eqb-true, or_left, or_from, ne_eqb, and_parts, true≢false, both_ways, cases_Bool, or_cases, not-true}
+use Rattle.sfv_spec.specs.Texts.{RunOf}
+use Rattle.sfv_spec.specs.Classes.{is_digit, is_token, is_token_start, is_token_inner}
+use Rattle.sfv_spec.specs.Values.{Edition, rfc9651, BareValue, integer, decimal, string, token, byte_sequence, boolean, date, display_string}
+use Rattle.sfv_spec.specs.Numbers.{minus_text, IsIntegerText, IsDecimalText}
 use Rattle.sfv_spec.specs.Grammar.{IsBareText, boolean_text}
 use Rattle.sfv_spec.proofs.Parts.{implied, between_below, no_digit, no_point}
-use Rattle.sfv_reading.specs.Reader.{Apart, byte, give, many, ◌>>=◌}
+use Rattle.sfv_reading.specs.Reader.{Apart, byte, give}
 use Rattle.sfv_reading.specs.Content.{IsBytesEnd}
 use Rattle.sfv_reading.specs.Quoted.{IsStringEnd, IsDisplayEnd}
 use Rattle.sfv_reading.specs.Bare.{is_number_start, number_at, boolean_at, token_at, date_at, quoted_at, bare_at}
-use Rattle.sfv_reading.proofs.Sound.{run_head, run_tail}
+use Rattle.sfv_reading.proofs.Sound.{run_head}
 use Rattle.sfv_reading.proofs.Again.{Apart-cons, branch_past, branch_take, ahead_past, ahead_take, bind_again, back_again, span_again}
 use Rattle.sfv_reading.proofs.ByteSequences.{bytes_again}
 use Rattle.sfv_reading.proofs.Quoted.{string_again, display_again}
-use Rattle.sfv_reading.proofs.Numbers.{goes_on, digit_apart, digit_within, integer_again, decimal_again}
+use Rattle.sfv_reading.proofs.Numbers.{goes_on, digit_apart, integer_again, decimal_again}
 
 -- ---- how the readers of bare items are chosen, by the first byte
 

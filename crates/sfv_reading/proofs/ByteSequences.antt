@@ -1,9 +1,9 @@
 -- What the reader of a Byte Sequence gives, and on how much of the text it rests.
-use Rattle.std.proofs.Common.{◌≡◌, ℕ, zero, suc, ◌<◌, ◌≤◌, ◌+◌, List, [], ◌∷◌, ◌++◌, length, take, drop, get_or, replicate, map, refl, sym, ◌∙◌, ap, subst, true, false, append_assoc, arith, inl, inr, Option, Some, None, Result, Ok, Err}
+use Rattle.std.proofs.Common.{◌≡◌, ℕ, zero, suc, ◌<◌, ◌≤◌, ◌+◌, List, [], ◌∷◌, ◌++◌, length, take, drop, get_or, replicate, map, refl, sym, ◌∙◌, ap, subst, true, false, append_assoc, arith, inl, inr, Option, Some, None, Ok, Err}
 use Rattle.std.specs.Prelude.{◌==◌, not}
 use Rattle.std.specs.List.{list_all, list_any}
 use Rattle.std.proofs.lemmas.Bool.{and_parts, eqb-true, eqb-false, cases_Bool, cases_lt, true≢false}
-use Rattle.std.proofs.lemmas.List.{length-append, append-nil, take_more, drop_more, drop_all, drop-append-le, take-append-le, drop_at, length-take-le, take-append-drop, drop-drop}
+use Rattle.std.proofs.lemmas.List.{length-append, take_more, drop_more, drop-append-le, take-append-le, drop_at, length-take-le, take-append-drop, drop-drop}
 use Rattle.std.proofs.lemmas.List.Folds.{list_all-append}
 use Rattle.sfv_spec.specs.Base64.{IsBase64Text, symbol}
 use Rattle.sfv_spec.specs.Faults.{unterminated_byte_sequence}

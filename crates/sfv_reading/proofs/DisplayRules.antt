@@ -9,7 +9,7 @@ use Rattle.sfv_spec.specs.Texts.{RunOf, IsLongestBeginning}
 use Rattle.sfv_spec.specs.Classes.{is_lower_hexadecimal}
 use Rattle.sfv_spec.specs.Values.{Edition, FieldKind}
 use Rattle.sfv_spec.specs.Strings.{hexadecimal_value, IsDisplayPiece, AreDisplayPieces}
-use Rattle.sfv_spec.specs.Faults.{WantsBetween, IsDisplayBegun, IsUnterminatedDisplay, IsUnterminatedEscape, IsInvalidEscape, IsInvalidDisplayByte, IsInvalidUtf8}
+use Rattle.sfv_spec.specs.Faults.{WantsBetween, IsUnterminatedDisplay, IsUnterminatedEscape, IsInvalidEscape, IsInvalidDisplayByte, IsInvalidUtf8}
 use Rattle.sfv_spec.specs.Faults.{unterminated_escape_sequence, invalid_escape_sequence, invalid_utf8_in_display_string, invalid_display_string_character, unterminated_display_string}
 use Rattle.sfv_reading.specs.Reader.{by_rule}
 use Rattle.sfv_reading.specs.Quoted.{behind_pieces}

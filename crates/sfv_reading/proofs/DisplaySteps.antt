@@ -1,12 +1,9 @@
 -- The steps over the inside of a Display String in an input.
-use Rattle.std.proofs.Common.{◌≡◌, ℕ, zero, suc, ◌<◌, ◌≤◌, ◌+◌, ◌-◌, Bool, true, false, cond, not, ◌&&◌, ◌||◌, List, [], ◌∷◌, ◌++◌, length, take, drop, Ok, Err, refl, sym, ap, subst, ◌∙◌, append_assoc, take-append-drop, take-add, length-drop, arith, inl, inr}
+use Rattle.std.proofs.Common.{◌≡◌, ℕ, suc, ◌<◌, ◌≤◌, ◌+◌, ◌-◌, Bool, true, false, cond, not, ◌||◌, List, [], ◌∷◌, ◌++◌, length, drop, Ok, Err, refl, sym, ap, subst, ◌∙◌, append_assoc, length-drop, arith, inl, inr}
 use Rattle.std.specs.Prelude.{◌==◌, IsUtf8, slice_index, slice_range}
 use Rattle.std.specs.List.{concat, AllZip, list_all}
-use Rattle.std.specs.Str.{IsAscii}
-use Rattle.std.proofs.lemmas.Bool.{and_parts, and_from, and_cases, or_parts, or_from, not-true, not_from_false, both_ways, eqb-true, leb-true, ne_eqb}
-use Rattle.std.proofs.lemmas.List.{append-nil, drop-drop, drop_more, drop_all, length-append}
-use Rattle.std.proofs.lemmas.List.Folds.{list_all-append}
-use Rattle.std.proofs.lemmas.Str.{IsUtf8-from_ascii}
+use Rattle.std.proofs.lemmas.Bool.{and_parts, and_cases, or_parts, or_from, not-true, not_from_false, both_ways, eqb-true, ne_eqb}
+use Rattle.std.proofs.lemmas.List.{append-nil, drop-drop, drop_all, length-append}
 use Rattle.sfv_spec.specs.Texts.{RunOf}
 use Rattle.sfv_spec.specs.Classes.{is_string_byte}
 use Rattle.sfv_spec.specs.Strings.{is_plain_in_display, IsDisplayPiece}

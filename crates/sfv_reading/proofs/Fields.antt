@@ -1,22 +1,21 @@
 -- What is read as a field is one, and a field is read.
-use Rattle.std.proofs.Common.{◌≡◌, ℕ, ◌≤◌, true, false, eqb, List, [], ◌∷◌, ◌++◌, length, Ok, refl, sym, ap, subst, ◌∙◌, append_assoc, arith}
-use Rattle.std.specs.Prelude.{flat_map}
+use Rattle.std.proofs.Common.{◌≡◌, ℕ, List, [], ◌∷◌, ◌++◌, Ok, refl, sym, ap, subst, ◌∙◌}
 use Rattle.std.proofs.lemmas.List.{append-nil}
 use Rattle.std.proofs.lemmas.Bool.{eqb-true}
-use Rattle.sfv_spec.specs.Texts.{RunOf, ◌⨾◌}
+use Rattle.sfv_spec.specs.Texts.{RunOf}
 use Rattle.sfv_spec.specs.Classes.{is_space}
 use Rattle.sfv_spec.specs.Values.{Edition, FieldKind, item_field, list_field, dictionary_field, RawField, RawItem}
-use Rattle.sfv_spec.specs.Grammar.{Spaces, IsItemText, IsMemberText, IsDictionaryMemberText, IsFieldText}
-use Rattle.sfv_spec.specs.Events.{TreeEvent, events, item_events}
+use Rattle.sfv_spec.specs.Grammar.{IsItemText, IsMemberText, IsDictionaryMemberText, IsFieldText}
+use Rattle.sfv_spec.specs.Events.{TreeEvent, events}
 use Rattle.sfv_reading.specs.Judgements.{Local}
-use Rattle.sfv_reading.specs.Reader.{Apart, give, span, ◌>>=◌}
+use Rattle.sfv_reading.specs.Reader.{Apart, give, span}
 use Rattle.sfv_reading.specs.Items.{item_at}
 use Rattle.sfv_reading.specs.Members.{entry_events, entry_at, keyed_events, keyed_at}
 use Rattle.sfv_reading.specs.Fields.{whole_field_at}
 use Rattle.sfv_reading.proofs.Sound.{run_head, Sound-give, Sound-bind, Sound-within, Sound-span, Reads, Goes}
 use Rattle.sfv_reading.proofs.Local.{local_rules}
 use Rattle.sfv_reading.proofs.Again.{Apart-nil, Apart-cons, bind_again, span_again}
-use Rattle.sfv_reading.proofs.Items.{ItemGoes, Sound-item, Local-item, as_it_stands}
+use Rattle.sfv_reading.proofs.Items.{ItemGoes, Sound-item, Local-item}
 use Rattle.sfv_reading.proofs.Members.{Sound-entry, Local-entry, Sound-keyed, Local-keyed}
 use Rattle.sfv_reading.proofs.Separated.{Sound-members, Local-members, members_again}
 use Rattle.sfv_reading.proofs.ItemsAgain.{lengthens_item, item_again, item_no, blank_ends, space_ends}

@@ -1,22 +1,21 @@
 -- What is read as a key, parameters, an item is one.
-use Rattle.std.proofs.Common.{◌≡◌, ℕ, ◌≤◌, true, false, eqb, List, [], ◌∷◌, ◌++◌, length, Option, Some, None, refl, sym, ap, subst, ◌∙◌, append_assoc, arith, inl, inr}
-use Rattle.std.specs.Prelude.{codes, IsTrue, flat_map, map}
+use Rattle.std.proofs.Common.{◌≡◌, ℕ, ◌≤◌, true, List, [], ◌∷◌, ◌++◌, length, Some, refl, sym, ap, subst, arith, inl, inr}
+use Rattle.std.specs.Prelude.{flat_map, map}
 use Rattle.std.proofs.lemmas.List.{append-nil, length-append}
-use Rattle.std.proofs.lemmas.Bool.{eqb-true, true≢false, and_from}
-use Rattle.sfv_spec.specs.Texts.{Exactly, RunOf, ◌⨾◌, IsJoining}
-use Rattle.sfv_spec.specs.Classes.{is_space, is_key, is_key_start, is_key_inner}
-use Rattle.sfv_spec.specs.Values.{Edition, BareValue, boolean, RawParameters, RawItem}
+use Rattle.std.proofs.lemmas.Bool.{and_from}
+use Rattle.sfv_spec.specs.Texts.{Exactly, RunOf}
+use Rattle.sfv_spec.specs.Classes.{is_space, is_key, is_key_start}
+use Rattle.sfv_spec.specs.Values.{Edition, BareValue, boolean, RawParameters}
 use Rattle.sfv_spec.specs.Grammar.{IsBareText, IsKeyText, IsValueText, IsParameterText, IsParametersText, IsItemText}
 use Rattle.sfv_spec.specs.Events.{TreeEvent, bare_item, parameter, parameters_end, parameters_events, item_events}
-use Rattle.sfv_reading.specs.Judgements.{Sound, Local, Mute}
-use Rattle.sfv_reading.specs.Reader.{Reader, many}
+use Rattle.sfv_reading.specs.Judgements.{Local, Mute}
 use Rattle.sfv_reading.specs.Bare.{bare_at}
 use Rattle.sfv_reading.specs.Items.{key_at, value_at, parameter_at, parameter_event, parameters_at, item_of, item_at}
 use Rattle.sfv_reading.proofs.Sound.{Sound-give, Sound-fail, Sound-led, Sound-branch, Sound-byte, Sound-bind, Sound-map, Sound-weaker, Sound-span, Reads, Somewhere, Begins, Goes, begins_behind, begins_longer}
 use Rattle.sfv_reading.proofs.Local.{local_rules}
 use Rattle.sfv_reading.proofs.Joining.{joining_none, joined_end}
 use Rattle.sfv_reading.proofs.Many.{Step, Consumes, Consumes-from, Local-many}
-use Rattle.sfv_reading.proofs.Steps.{step_events, StepGoes, ManyGoes, Sound-steps}
+use Rattle.sfv_reading.proofs.Steps.{StepGoes, ManyGoes, Sound-steps}
 use Rattle.sfv_reading.proofs.Bare.{BareGoes, Sound-bare, Local-bare}
 
 -- ---- keys

@@ -3,8 +3,8 @@ use Rattle.std.proofs.Common.{◌≡◌, ℕ, zero, suc, Bool, true, false, cond
 use Rattle.sfv_spec.specs.Events.{TreeEvent}
 use Rattle.sfv_spec.specs.Faults.{SyntaxFault}
 use Rattle.std.proofs.lemmas.Bool.{true≢false}
-use Rattle.sfv_reading.specs.Judgements.{IsFault, Lasts, Local}
-use Rattle.sfv_reading.specs.Reader.{first, Fault, Answer, Reader, behind_events, and_then, give, fail, ruled, ◌>>=◌, bind, led_answer, led, branch, ahead, at_start, back, up_to, span}
+use Rattle.sfv_reading.specs.Judgements.{Lasts, Local}
+use Rattle.sfv_reading.specs.Reader.{first, Answer, Reader, behind_events, and_then, give, fail, ruled, ◌>>=◌, bind, led_answer, led, branch, ahead, at_start, back, up_to, span}
 
 pub first_behind : (p q r : List ℕ) → first q ≡ first r → first (p ++ q) ≡ first (p ++ r)
 first_behind [] q r e = e

@@ -1,22 +1,21 @@
 -- What is read as an inner list, as a member of a list or of a dictionary, is one.
-use Rattle.std.proofs.Common.{◌≡◌, ℕ, ◌≤◌, true, false, eqb, List, [], ◌∷◌, ◌++◌, length, Option, Some, None, refl, sym, ap, subst, ◌∙◌, append_assoc, arith, inl, inr}
-use Rattle.std.specs.Prelude.{codes, IsTrue, flat_map}
-use Rattle.std.proofs.lemmas.List.{append-nil, length-append}
-use Rattle.sfv_spec.specs.Texts.{Exactly, RunOf, ◌⨾◌, IsJoining}
+use Rattle.std.proofs.Common.{◌≡◌, ℕ, ◌≤◌, true, List, [], ◌∷◌, ◌++◌, length, Some, None, refl, sym, ap, subst, ◌∙◌, append_assoc, arith, inl, inr}
+use Rattle.std.specs.Prelude.{codes, flat_map}
+use Rattle.sfv_spec.specs.Texts.{Exactly, RunOf, ◌⨾◌}
 use Rattle.sfv_spec.specs.Classes.{is_space}
-use Rattle.sfv_spec.specs.Values.{Edition, BareValue, boolean, RawParameters, RawItem, RawInnerList, RawMember, item, inner_list}
-use Rattle.sfv_spec.specs.Grammar.{Spaces, SomeSpaces, IsKeyText, IsParameterText, IsParametersText, IsItemText, AreInnerItemsText, IsInnerListText, IsMemberText, true_with, IsMemberValueText, IsDictionaryMemberText}
+use Rattle.sfv_spec.specs.Values.{Edition, boolean, RawParameters, RawItem, RawMember, item}
+use Rattle.sfv_spec.specs.Grammar.{Spaces, SomeSpaces, IsKeyText, IsParameterText, IsParametersText, IsItemText, IsMemberText, true_with, IsMemberValueText, IsDictionaryMemberText}
 use Rattle.sfv_spec.specs.Events.{TreeEvent, entry, keyed_entry, begins_item, begins_inner_list, bare_item, inner_list_end, parameters_events, item_events, member_events}
 use Rattle.sfv_reading.specs.Judgements.{Sound, Local}
-use Rattle.sfv_reading.specs.Reader.{Reader, many, ◌>>=◌, led, give}
-use Rattle.sfv_reading.specs.Items.{key_at, parameters_at, item_of, item_at}
+use Rattle.sfv_reading.specs.Reader.{many}
+use Rattle.sfv_reading.specs.Items.{key_at, parameters_at, item_at}
 use Rattle.sfv_reading.specs.Members.{inner_item_events, inner_item_at, next_item_at, inner_items_at, inner_of, closed_events, inner_at, member_at, entry_events, entry_at, member_value_at, keyed_events, keyed_at}
-use Rattle.sfv_reading.proofs.Sound.{Sound-give, Sound-fail, Sound-led, Sound-branch, Sound-byte, Sound-ahead, Sound-bind, Sound-map, Sound-weaker, Sound-within, Sound-span, Reads, Somewhere, Begins, Goes, begins_behind, begins_longer}
+use Rattle.sfv_reading.proofs.Sound.{Sound-give, Sound-fail, Sound-led, Sound-byte, Sound-ahead, Sound-bind, Sound-map, Sound-within, Sound-span, Reads, Somewhere, Begins, Goes, begins_behind, begins_longer}
 use Rattle.sfv_reading.proofs.Local.{local_rules}
 use Rattle.sfv_reading.proofs.Joining.{joining_none, Joined, split_joined}
 use Rattle.sfv_reading.proofs.Many.{Step, Consumes, Consumes-from, Local-many}
-use Rattle.sfv_reading.proofs.Steps.{step_events, StepGoes, ManyGoes, Sound-steps}
-use Rattle.sfv_reading.proofs.Items.{KeyGoes, Sound-key, Local-key, ParametersGo, Sound-parameters, Local-parameters, ItemGoes, item_with, Sound-item, Local-item, as_it_stands}
+use Rattle.sfv_reading.proofs.Steps.{StepGoes, Sound-steps}
+use Rattle.sfv_reading.proofs.Items.{KeyGoes, Sound-key, Local-key, ParametersGo, Sound-parameters, Local-parameters, ItemGoes, Sound-item, Local-item, as_it_stands}
 
 -- ---- inner items
 

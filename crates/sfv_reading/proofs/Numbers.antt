@@ -1,15 +1,14 @@
 -- What is read as a number is one.
-use Rattle.std.proofs.Common.{◌≡◌, ℕ, ◌+◌, ◌*◌, ◌-◌, ◌^◌, ◌≤◌, Bool, true, false, eqb, leb, ◌||◌, ℤ, List, [], ◌∷◌, ◌++◌, length, Option, Some, None, Ok, refl, sym, ap, subst, ◌∙◌, append_assoc, arith}
-use Rattle.std.specs.Prelude.{codes}
+use Rattle.std.proofs.Common.{◌≡◌, ℕ, ◌+◌, ◌*◌, ◌-◌, ◌^◌, ◌≤◌, Bool, true, false, eqb, leb, ◌||◌, ℤ, List, [], ◌∷◌, ◌++◌, length, Some, Ok, refl, sym, ap, subst, ◌∙◌, append_assoc, arith}
 use Rattle.std.proofs.lemmas.List.{append-nil, nil_from_length}
-use Rattle.std.proofs.lemmas.Bool.{and_parts, or_parts, leb-true, ne_eqb, le-ltb, eqb-true, eqb-false, ltb-false, true≢false}
+use Rattle.std.proofs.lemmas.Bool.{and_parts, or_parts, leb-true, ne_eqb, le-ltb, eqb-true, eqb-false, ltb-false}
 use Rattle.sfv_spec.specs.Texts.{RunOf}
 use Rattle.sfv_spec.specs.Classes.{is_digit}
-use Rattle.sfv_spec.specs.Values.{BareValue, integer, decimal, string, token, byte_sequence, boolean, date, display_string}
+use Rattle.sfv_spec.specs.Values.{BareValue, integer, decimal}
 use Rattle.sfv_spec.specs.Numbers.{AreDigits, place_value, minus_text, signed, IsIntegerText, IsDecimalText}
 use Rattle.sfv_spec.specs.Events.{TreeEvent}
 use Rattle.sfv_reading.specs.Judgements.{Sound, Local}
-use Rattle.sfv_reading.specs.Reader.{Apart, byte, give, ◌>>=◌, back, up_to}
+use Rattle.sfv_reading.specs.Reader.{Apart, byte, give, ◌>>=◌, up_to}
 use Rattle.sfv_reading.specs.Bare.{sign_at, long_at, decimal_at, fraction_at, point_at, whole_at, number_at}
 use Rattle.sfv_reading.proofs.Sound.{Found, Sound-give, Sound-fail, Sound-ruled, Sound-branch, Sound-ahead, Sound-cond, Sound-bind, Sound-back, Sound-up_to}
 use Rattle.sfv_reading.proofs.Local.{local_rules}

@@ -1,22 +1,19 @@
 -- A fault whose place has a rule of its own is that of a bare item, or a comma's.
-use Rattle.std.proofs.Common.{◌≡◌, ℕ, Bool, false, List, [], ◌∷◌, ◌++◌, length, Option, Some, None, Ok, Err, refl, sym, ap, subst, ◌∙◌, append_assoc}
+use Rattle.std.proofs.Common.{ℕ, Bool, List, [], ◌∷◌, ◌++◌, Option, refl, sym, ap, ◌∙◌, append_assoc}
 use Rattle.std.specs.Prelude.{flat_map}
-use Rattle.sfv_spec.specs.Texts.{Exactly, RunOf, ◌⨾◌, IsJoining}
-use Rattle.sfv_spec.specs.Classes.{is_space}
-use Rattle.sfv_spec.specs.Values.{Edition, BareValue, RawItem}
-use Rattle.sfv_spec.specs.Grammar.{IsBareText, IsKeyText, IsParameterText, IsItemText}
+use Rattle.sfv_spec.specs.Values.{Edition}
 use Rattle.sfv_spec.specs.Events.{TreeEvent}
 use Rattle.sfv_reading.specs.Judgements.{Sound}
-use Rattle.sfv_reading.specs.Reader.{Fault, Reader, behind_events, give, ◌>>=◌, led, branch, span, many}
+use Rattle.sfv_reading.specs.Reader.{Fault, Reader, behind_events, ◌>>=◌, led, branch, span, many}
 use Rattle.sfv_reading.specs.Bare.{bare_at}
 use Rattle.sfv_reading.specs.Items.{key_at, value_at, parameter_at, parameter_event, parameters_at, item_at}
 use Rattle.sfv_reading.specs.Members.{inner_item_events, inner_item_at, next_item_at, inner_items_at, inner_at, member_at, entry_at, member_value_at, keyed_at}
 use Rattle.sfv_reading.specs.Claims.{Origin}
-use Rattle.sfv_reading.proofs.Sound.{Steady-span, Sound-steady, Somewhere}
+use Rattle.sfv_reading.proofs.Sound.{Steady-span, Sound-steady}
 use Rattle.sfv_reading.proofs.Many.{Step, Consumes}
 use Rattle.sfv_reading.proofs.Items.{Sound-key, Sound-value, Sound-parameter, Consumes-parameter, Sound-parameters, Sound-item}
 use Rattle.sfv_reading.proofs.Bare.{Sound-bare}
-use Rattle.sfv_reading.proofs.Members.{IsClosed, IsNextItem, Sound-inner_item, Sound-next_item, Consumes-next_item, Sound-items, Sound-member, Sound-member_value, bracket}
+use Rattle.sfv_reading.proofs.Members.{IsClosed, IsNextItem, Sound-inner_item, Sound-next_item, Consumes-next_item, Sound-items, Sound-member_value, bracket}
 use Rattle.sfv_reading.proofs.Steps.{Sound-steps}
 use Rattle.sfv_reading.proofs.Rules.{Rules, Rules-give, Rules-fail, Rules-steady, Rules-led, Rules-bind, Rules-branch, Rules-ahead, Rules-weaker}
 use Rattle.sfv_reading.proofs.RulesMany.{Rules-many}

@@ -6,7 +6,7 @@ use Rattle.std.proofs.lemmas.Bool.{and_parts, and_left, ne_eqb, or_parts, not-tr
 use Rattle.sfv_spec.specs.Texts.{RunOf}
 use Rattle.sfv_spec.specs.Classes.{is_string_byte, is_lower_hexadecimal}
 use Rattle.sfv_spec.specs.Strings.{is_escaped_in_string, is_plain_in_display, IsStringPiece, IsDisplayPiece}
-use Rattle.sfv_spec.specs.Faults.{SyntaxFault, invalid_string_character, unterminated_string, unterminated_escape_sequence, invalid_escape_sequence, invalid_utf8_in_display_string, invalid_display_string_character, unterminated_display_string}
+use Rattle.sfv_spec.specs.Faults.{SyntaxFault, invalid_string_character, unterminated_string, unterminated_escape_sequence, invalid_escape_sequence, invalid_display_string_character, unterminated_display_string}
 use Rattle.sfv_reading.specs.Reader.{first, Answer, Reader, at_reach, by_rule, is_ruled}
 use Rattle.sfv_reading.specs.Quoted.{behind_bytes, string_from, Place, outside, percent, digit, pieces_from, StringStops, DisplayStops}
 

@@ -1,10 +1,10 @@
 -- Parts of an input, and runs of bytes in it.
-use Rattle.std.proofs.Common.{◌≡◌, ℕ, zero, suc, ◌<◌, ◌≤◌, ◌+◌, ◌-◌, Bool, true, false, cond, not, ◌&&◌, ◌||◌, List, [], ◌∷◌, ◌++◌, length, take, drop, Ok, Err, refl, sym, ap, subst, ◌∙◌, append_assoc, take-append-drop, take-add, length-drop, arith, inl, inr}
-use Rattle.std.specs.Prelude.{◌==◌, IsUtf8, slice_index, slice_range}
-use Rattle.std.specs.List.{concat, AllZip, list_all}
+use Rattle.std.proofs.Common.{◌≡◌, ℕ, zero, suc, ◌<◌, ◌≤◌, ◌+◌, ◌-◌, Bool, true, ◌&&◌, List, [], ◌∷◌, ◌++◌, length, take, drop, refl, sym, ap, subst, ◌∙◌, take-append-drop, take-add, length-drop, arith}
+use Rattle.std.specs.Prelude.{IsUtf8, slice_index, slice_range}
+use Rattle.std.specs.List.{list_all}
 use Rattle.std.specs.Str.{IsAscii}
-use Rattle.std.proofs.lemmas.Bool.{and_parts, and_from, and_cases, or_parts, or_from, not-true, not_from_false, both_ways, eqb-true, leb-true, ne_eqb}
-use Rattle.std.proofs.lemmas.List.{append-nil, drop-drop, drop_more, drop_all, length-append}
+use Rattle.std.proofs.lemmas.Bool.{and_parts, and_from, leb-true}
+use Rattle.std.proofs.lemmas.List.{drop-drop, drop_more}
 use Rattle.std.proofs.lemmas.List.Folds.{list_all-append}
 use Rattle.std.proofs.lemmas.Str.{IsUtf8-from_ascii}
 use Rattle.sfv_spec.specs.Texts.{RunOf}

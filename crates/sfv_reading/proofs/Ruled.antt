@@ -1,28 +1,26 @@
 -- A fault of a field whose place has a rule of its own is that of a bare item, or of the comma at the end.
-use Rattle.std.proofs.Common.{◌≡◌, ℕ, ◌≤◌, true, false, Bool, List, [], ◌∷◌, ◌++◌, length, drop, Option, Some, None, Result, Ok, Err, refl, sym, ap, subst, ◌∙◌, append_assoc, arith, inl, inr, ◌⊎◌}
-use Rattle.std.specs.Prelude.{flat_map, codes}
+use Rattle.std.proofs.Common.{◌≡◌, ℕ, true, false, List, [], ◌∷◌, ◌++◌, length, drop, Option, Some, None, Ok, Err, refl, sym, ap, subst, ◌∙◌, append_assoc, inl, inr, ◌⊎◌}
+use Rattle.std.specs.Prelude.{flat_map}
 use Rattle.std.proofs.lemmas.List.{append-nil, drop_at}
 use Rattle.std.proofs.lemmas.Bool.{eqb-true, true≢false}
-use Rattle.sfv_spec.specs.Texts.{RunOf, ◌⨾◌, IsJoining}
+use Rattle.sfv_spec.specs.Texts.{RunOf, IsJoining}
 use Rattle.sfv_spec.specs.Classes.{is_space, is_space_or_tab}
 use Rattle.sfv_spec.specs.Values.{Edition, FieldKind, item_field, list_field, dictionary_field, RawField}
-use Rattle.sfv_spec.specs.Grammar.{Spaces, OptionalWhitespace, AreMembersText, IsMemberText, IsDictionaryMemberText, IsItemText, IsFieldText}
+use Rattle.sfv_spec.specs.Grammar.{OptionalWhitespace, IsMemberText, IsDictionaryMemberText}
 use Rattle.sfv_spec.specs.Events.{TreeEvent, events}
-use Rattle.sfv_spec.specs.Faults.{SyntaxFault, trailing_comma, trailing_characters_after_parsed_value, IsTrailingComma}
-use Rattle.sfv_reading.specs.Judgements.{Sound}
-use Rattle.sfv_reading.specs.Reader.{Fault, Answer, Reader, byte, any, behind_events, ahead, back, many, span, ◌>>=◌, led, give}
+use Rattle.sfv_spec.specs.Faults.{trailing_comma, trailing_characters_after_parsed_value, IsTrailingComma}
+use Rattle.sfv_reading.specs.Reader.{Fault, Answer, Reader, byte, any, behind_events, ahead, back, many, span, ◌>>=◌, give}
 use Rattle.sfv_reading.specs.Items.{item_at}
 use Rattle.sfv_reading.specs.Members.{entry_events, entry_at, keyed_events, keyed_at}
 use Rattle.sfv_reading.specs.Fields.{comma_at, next_at, members_at, whole_field_at, ending, read_field}
 use Rattle.sfv_reading.specs.Claims.{Origin, CommaAt, RuledComes}
 use Rattle.sfv_reading.proofs.Sound.{Sound-back, Sound-steady, Steady-span, IsSpan, Reads, Somewhere, Goes}
-use Rattle.sfv_reading.proofs.Again.{branch_take, ahead_past, ahead_any, bind_again, Apart-nil}
-use Rattle.sfv_reading.proofs.Joining.{Joined, joined_split}
-use Rattle.sfv_reading.proofs.Many.{Step}
+use Rattle.sfv_reading.proofs.Again.{branch_take, bind_again}
+use Rattle.sfv_reading.proofs.Joining.{joined_split}
 use Rattle.sfv_reading.proofs.Steps.{Sound-steps}
 use Rattle.sfv_reading.proofs.Items.{Sound-item}
 use Rattle.sfv_reading.proofs.Members.{Sound-entry, Sound-keyed}
-use Rattle.sfv_reading.proofs.Separated.{IsComma, Sound-comma, IsNext, NextGoes, Sound-next, Consumes-next, members_text}
+use Rattle.sfv_reading.proofs.Separated.{IsComma, Sound-comma, IsNext, Sound-next, Consumes-next, members_text}
 use Rattle.sfv_reading.proofs.Rules.{Rules, Rules-give, Rules-fail, Rules-steady, Rules-led, Rules-bind, Rules-branch, Rules-back, Rules-ahead, Rules-ahead_at, Rules-weaker}
 use Rattle.sfv_reading.proofs.RulesMany.{Rules-many}
 use Rattle.sfv_reading.proofs.Origins.{Comes, origin_behind, origin_led, comes_bind, comes_span, comes_item, comes_entry, comes_keyed}
@@ -37,8 +35,11 @@ comma_none r q i =
       | [] ↦ λ e j. subst (RunOf is_space_or_tab) (sym (e ∙ append-nil m.0 ∙ m.5.0)) m.5.1
       | c ∷ p ↦ λ e j.
           let k : give {A = Option (Unit {0})} (Some tt) (c ∷ p) ≡ Ok (None, q) = j in
-          let pairs : (Some tt, c ∷ p) ≡ (None, q) = cc in
-          let o : Some tt ≡ None = ap (λ (x : Option (Unit {0}) × List ℕ). x.0) pairs in absurd cc
+          let found : Option (Unit {0}) × List ℕ = (Some tt, c ∷ p) in
+          let none : Option (Unit {0}) × List ℕ = (None, q) in
+          let pairs : found ≡ none = cc in
+          let some : Option (Unit {0}) = Some tt in
+          let same : some ≡ None = ap (λ (x : Option (Unit {0}) × List ℕ). x.0) pairs in absurd cc
     ] in on m.2 m.4 (sym whole ∙ i)
 
 -- it never faults

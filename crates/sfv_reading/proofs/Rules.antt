@@ -1,14 +1,12 @@
 -- Where a fault whose place has a rule of its own comes from: V t e is known of the text that is read and
 -- of such a fault.
-use Rattle.std.proofs.Common.{◌≡◌, ℕ, zero, suc, Bool, true, false, cond, List, [], ◌∷◌, ◌++◌, length, Option, Some, None, Ok, Err, refl, sym, ap, subst, ◌∙◌, append_assoc}
-use Rattle.std.specs.Prelude.{flat_map}
+use Rattle.std.proofs.Common.{◌≡◌, ℕ, Bool, true, false, cond, List, [], ◌∷◌, ◌++◌, Option, Some, None, Ok, Err, refl, sym, ap, subst, ◌∙◌}
 use Rattle.std.proofs.lemmas.Bool.{true≢false}
-use Rattle.sfv_spec.specs.Texts.{IsJoining}
 use Rattle.sfv_spec.specs.Events.{TreeEvent}
-use Rattle.sfv_spec.specs.Faults.{SyntaxFault, unterminated_byte_sequence}
+use Rattle.sfv_spec.specs.Faults.{SyntaxFault}
 use Rattle.sfv_reading.specs.Judgements.{Reached, Sound}
-use Rattle.sfv_reading.specs.Reader.{Fault, Answer, Reader, behind_events, and_then, give, fail, ruled, ◌>>=◌, bind, led_answer, led, branch, ahead, at_start, back, span, go_on, many_within, many}
-use Rattle.sfv_reading.proofs.Sound.{Steady, Steady-span}
+use Rattle.sfv_reading.specs.Reader.{Fault, Answer, Reader, behind_events, and_then, give, fail, ◌>>=◌, bind, led_answer, led, branch, ahead, at_start, back}
+use Rattle.sfv_reading.proofs.Sound.{Steady}
 
 pub record Rules {A : Type 0} (f : Reader A) (V : List ℕ → Fault → Type 0) : Type 0 where
   pub rules : (t : List ℕ) (e : Fault) → f t ≡ Err e → e.exact ≡ false → V t e

@@ -4,10 +4,9 @@ use Rattle.std.specs.Prelude.{flat_map}
 use Rattle.sfv_spec.specs.Texts.{IsJoining}
 use Rattle.sfv_spec.specs.Events.{TreeEvent}
 use Rattle.sfv_reading.specs.Judgements.{Reached, Sound}
-use Rattle.sfv_reading.specs.Reader.{Fault, Answer, Reader, behind_events, and_then, give, bind, led_answer, led, go_on, many}
+use Rattle.sfv_reading.specs.Reader.{Fault, Answer, Reader, behind_events, and_then, give, bind, led, go_on, many}
 use Rattle.sfv_reading.proofs.Joining.{joining_none, joining_push, events_push}
 use Rattle.sfv_reading.proofs.Many.{Step, Consumes, put, many_is}
-use Rattle.sfv_reading.proofs.UpToFault.{behind_twice}
 use Rattle.sfv_reading.proofs.Rules.{Rules}
 
 module _ {A : Type 0} (P : A → List ℕ → Type 0) (E : List ℕ → Type 0) (W : List ℕ → List TreeEvent → Type 0) (T : List TreeEvent → Type 0) (parts : A → List TreeEvent) (step : Reader (Option A)) (c : Consumes step) (sound : Sound step (Step P E) W T)

@@ -1,22 +1,22 @@
 -- Members with commas between them, of any kind.
-use Rattle.std.proofs.Common.{◌≡◌, ℕ, ◌≤◌, true, false, eqb, Bool, List, [], ◌∷◌, ◌++◌, length, Option, Some, None, Ok, Err, refl, sym, ap, subst, ◌∙◌, append_assoc, arith}
-use Rattle.std.specs.Prelude.{codes, IsTrue, flat_map}
+use Rattle.std.proofs.Common.{◌≡◌, ℕ, ◌≤◌, true, false, eqb, List, [], ◌∷◌, ◌++◌, length, Some, None, Ok, Err, refl, sym, ap, subst, ◌∙◌, append_assoc, arith}
+use Rattle.std.specs.Prelude.{codes, flat_map}
 use Rattle.std.proofs.lemmas.List.{append-nil, length-append}
 use Rattle.std.proofs.lemmas.Bool.{or_parts}
-use Rattle.sfv_spec.specs.Texts.{Exactly, RunOf, ◌⨾◌, IsJoining, IsSeparated}
+use Rattle.sfv_spec.specs.Texts.{Exactly, RunOf, ◌⨾◌}
 use Rattle.sfv_spec.specs.Classes.{is_space, is_space_or_tab}
 use Rattle.sfv_spec.specs.Grammar.{Spaces, OptionalWhitespace, Comma, AreMembersText}
 use Rattle.sfv_spec.specs.Events.{TreeEvent}
 use Rattle.sfv_spec.specs.Faults.{trailing_comma}
 use Rattle.sfv_reading.specs.Judgements.{Sound, Local}
-use Rattle.sfv_reading.specs.Reader.{Fault, Reader, Apart, byte, any, at_start, back, many, span, ◌>>=◌, led, give}
+use Rattle.sfv_reading.specs.Reader.{Fault, Reader, Apart, any, at_start, back, many, span, give}
 use Rattle.sfv_reading.specs.Fields.{comma_at, next_at, members_at}
-use Rattle.sfv_reading.proofs.Sound.{run_head, Found, Sound-give, Sound-fail, Sound-led, Sound-byte, Sound-ahead, Sound-bind, Sound-map, Sound-back, Sound-within, Sound-span, Reads, Somewhere, Begins, Goes, begins_behind, begins_longer}
+use Rattle.sfv_reading.proofs.Sound.{run_head, Found, Sound-give, Sound-fail, Sound-led, Sound-byte, Sound-ahead, Sound-bind, Sound-map, Sound-back, Sound-within, Sound-span, Reads, Somewhere, Goes, begins_behind, begins_longer}
 use Rattle.sfv_reading.proofs.Local.{Local-give, Local-fail, Local-led, Local-bind, Local-ahead, Local-back, Local-span, local_rules}
 use Rattle.sfv_reading.proofs.Again.{Apart-nil, Apart-cons, branch_take, ahead_past, ahead_take, ahead_any, bind_again, back_again, led_again, span_again}
 use Rattle.sfv_reading.proofs.Joining.{Joined, split_joined, joined_split}
 use Rattle.sfv_reading.proofs.Many.{Step, Consumes, Consumes-from, Local-many, many_again}
-use Rattle.sfv_reading.proofs.Steps.{step_events, StepGoes, ManyGoes, Sound-steps}
+use Rattle.sfv_reading.proofs.Steps.{StepGoes, Sound-steps}
 use Rattle.sfv_reading.proofs.Items.{as_it_stands}
 use Rattle.sfv_reading.proofs.UpToFault.{bind_met, led_met, many_met}
 

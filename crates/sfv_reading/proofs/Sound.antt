@@ -1,13 +1,13 @@
 -- Readers give what the grammar has, and a fault carries a text that shows how far the reading was right.
 use Rattle.std.proofs.Common.{◌≡◌, ℕ, zero, suc, ◌≤◌, Bool, true, false, cond, List, [], ◌∷◌, ◌++◌, length, Option, Some, None, Ok, Err, refl, sym, ap, subst, ◌∙◌, append_assoc, arith}
-use Rattle.std.specs.Prelude.{IsTrue, ⊤}
+use Rattle.std.specs.Prelude.{⊤}
 use Rattle.std.specs.List.{list_all}
 use Rattle.std.proofs.lemmas.Bool.{and_from, and_parts, true≢false, eqb-true}
 use Rattle.sfv_spec.specs.Texts.{RunOf}
 use Rattle.sfv_spec.specs.Events.{TreeEvent}
 use Rattle.sfv_spec.specs.Faults.{SyntaxFault}
 use Rattle.sfv_reading.specs.Judgements.{GoesOn, Reached, Sound}
-use Rattle.sfv_reading.specs.Reader.{is_ruled, Fault, Answer, Reader, behind_events, and_then, give, fail, ruled, ◌>>=◌, bind, led_answer, led, branch, ahead, at_start, back, up_to, span, byte}
+use Rattle.sfv_reading.specs.Reader.{is_ruled, Fault, Answer, Reader, and_then, give, fail, ruled, ◌>>=◌, bind, led_answer, led, branch, ahead, at_start, back, up_to, span, byte}
 
 further : (W : List ℕ → List TreeEvent → Type 0) (s q : List ℕ) (e : Fault) → GoesOn (λ u es. W (s ++ u) es) q e → GoesOn W (s ++ q) e
 further W s q e g = record {

@@ -1,10 +1,9 @@
 -- Steps whose values are handed out.
-use Rattle.std.proofs.Common.{◌≡◌, ℕ, List, [], ◌∷◌, ◌++◌, Option, Some, None, refl, sym, ap, subst, ◌∙◌, append_assoc}
+use Rattle.std.proofs.Common.{ℕ, List, [], ◌∷◌, ◌++◌, Option, Some, None, refl, sym, ap, subst, ◌∙◌, append_assoc}
 use Rattle.std.specs.Prelude.{flat_map}
 use Rattle.std.proofs.lemmas.List.{append-nil}
 use Rattle.sfv_spec.specs.Texts.{IsJoining}
 use Rattle.sfv_spec.specs.Events.{TreeEvent}
-use Rattle.sfv_reading.specs.Judgements.{Sound}
 use Rattle.sfv_reading.specs.Reader.{Reader, many}
 use Rattle.sfv_reading.proofs.Sound.{Sound-weaker, Somewhere, Begins, Goes, Reads, begins_behind}
 use Rattle.sfv_reading.proofs.Joining.{joining_push, Joined, joined_split, events_push}

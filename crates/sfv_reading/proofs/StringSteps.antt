@@ -1,5 +1,5 @@
 -- The steps over the inside of a String in an input.
-use Rattle.std.proofs.Common.{◌≡◌, ℕ, zero, suc, ◌<◌, ◌≤◌, ◌+◌, ◌-◌, Bool, true, false, not, List, [], ◌∷◌, ◌++◌, length, take, drop, Ok, Err, refl, sym, ap, subst, ◌∙◌, length-drop, arith, inl, inr}
+use Rattle.std.proofs.Common.{◌≡◌, ℕ, ◌<◌, ◌≤◌, ◌+◌, ◌-◌, Bool, true, false, not, List, [], ◌∷◌, ◌++◌, length, drop, Ok, Err, refl, sym, ap, subst, ◌∙◌, length-drop, arith, inl, inr}
 use Rattle.std.specs.Prelude.{◌==◌, IsUtf8, slice_index, slice_range}
 use Rattle.std.specs.List.{concat, AllZip, list_all}
 use Rattle.std.proofs.lemmas.Bool.{and_parts, and_from, and_cases, or_parts, or_from, not-true, not_from_false, both_ways, eqb-true, ne_eqb, or_cases}

@@ -1,21 +1,19 @@
 -- The reader of fields and the grammar agree; where a fault is exact no field goes on.
-use Rattle.std.proofs.Common.{◌≡◌, ℕ, ◌+◌, ◌<◌, ◌≤◌, Bool, true, false, List, [], ◌∷◌, ◌++◌, length, take, drop, get_or, Some, Result, Ok, Err, refl, sym, ap, subst, ◌∙◌, append_assoc, arith, inl, inr}
-use Rattle.std.specs.Prelude.{◌↔◌}
-use Rattle.std.proofs.lemmas.List.{append-nil, append_cancel_right, length-append, take-append-drop, take_more, take_at, drop_at}
-use Rattle.std.proofs.lemmas.Bool.{cases_Bool, cases_lt}
-use Rattle.sfv_spec.specs.Values.{Edition, FieldKind, RawField, IsFieldValue}
+use Rattle.std.proofs.Common.{◌≡◌, ℕ, ◌+◌, ◌<◌, true, false, List, [], ◌∷◌, ◌++◌, length, take, drop, Some, Ok, Err, refl, sym, ap, subst, ◌∙◌, append_assoc, arith, inl, inr}
+use Rattle.std.proofs.lemmas.List.{append-nil, append_cancel_right, length-append, take_at, drop_at}
+use Rattle.std.proofs.lemmas.Bool.{cases_Bool}
+use Rattle.sfv_spec.specs.Values.{Edition, FieldKind}
 use Rattle.sfv_spec.specs.Grammar.{IsFieldText}
 use Rattle.sfv_spec.specs.Events.{TreeEvent, events}
 use Rattle.sfv_spec.specs.Reach.{BeginsAccepted, IsReach}
-use Rattle.sfv_spec.specs.Visiting.{BeginsEvents}
 use Rattle.sfv_spec.specs.Faults.{trailing_characters_after_parsed_value}
 use Rattle.sfv_spec.proofs.Reached.{reach_before, reach_end}
 use Rattle.sfv_spec.proofs.Valid.{accepted_is_value_lem}
 use Rattle.sfv_reading.specs.Judgements.{Reached, Lasts, Local}
 use Rattle.sfv_reading.specs.Reader.{is_ruled, first, Fault, Answer, Reader}
 use Rattle.sfv_reading.specs.Fields.{whole_field_at, ending, read_field}
-use Rattle.sfv_reading.specs.Claims.{IsFaultOf, ReadIsAccepted, FaultIsPlaced}
-use Rattle.sfv_reading.proofs.Sound.{Somewhere, Begins, Goes, Reads}
+use Rattle.sfv_reading.specs.Claims.{ReadIsAccepted, FaultIsPlaced}
+use Rattle.sfv_reading.proofs.Sound.{Somewhere, Goes, Reads}
 use Rattle.sfv_reading.proofs.Fields.{Sound-field, Local-field, field_again}
 
 -- a beginning of a text of the grammar

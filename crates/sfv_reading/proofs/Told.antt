@@ -1,9 +1,9 @@
 -- What a visitor is handed.
-use Rattle.std.proofs.Common.{◌≡◌, ℕ, true, false, List, [], ◌∷◌, ◌++◌, Ok, Err, refl, sym, ap, subst, ◌∙◌, append_assoc, inl, inr}
+use Rattle.std.proofs.Common.{ℕ, List, [], ◌∷◌, ◌++◌, Ok, Err, refl, sym, ap, ◌∙◌, append_assoc, inl, inr}
 use Rattle.std.proofs.lemmas.List.{append-nil}
 use Rattle.std.proofs.lemmas.Bool.{cases_Bool}
-use Rattle.sfv_spec.specs.Values.{Edition, FieldKind, item_field, RawField, RawItem, IsFieldValue}
-use Rattle.sfv_spec.specs.Grammar.{IsItemText, IsFieldText}
+use Rattle.sfv_spec.specs.Values.{Edition, FieldKind, item_field, RawField}
+use Rattle.sfv_spec.specs.Grammar.{IsFieldText}
 use Rattle.sfv_spec.specs.Events.{TreeEvent, events}
 use Rattle.sfv_spec.specs.Visiting.{BeginsEvents}
 use Rattle.sfv_spec.proofs.Valid.{accepted_is_value_lem}
@@ -11,7 +11,7 @@ use Rattle.sfv_reading.specs.Judgements.{Reached}
 use Rattle.sfv_reading.specs.Reader.{Answer, handed}
 use Rattle.sfv_reading.specs.Fields.{whole_field_at}
 use Rattle.sfv_reading.specs.Claims.{HandedBegins, RefusedBegins, ItemIsValue}
-use Rattle.sfv_reading.proofs.Sound.{Somewhere, Goes}
+use Rattle.sfv_reading.proofs.Sound.{Somewhere}
 use Rattle.sfv_reading.proofs.Fields.{FieldGoes, Sound-field}
 
 begun_by : (edition : Edition) (kind : FieldKind) (es : List TreeEvent) → Somewhere (FieldGoes edition kind) es → BeginsEvents kind es

@@ -1,5 +1,5 @@
 -- Reading bare items.
-use Rattle.std.specs.Prelude.{ℕ, ◌+◌, ◌-◌, ◌*◌, ◌^◌, Bool, true, false, ◌||◌, List, [], ◌∷◌, length, Option, Some, None, nat_lt, ◌==◌, if◌then◌else◌}
+use Rattle.std.specs.Prelude.{ℕ, ◌+◌, ◌-◌, ◌*◌, ◌^◌, Bool, true, false, ◌||◌, List, ◌∷◌, length, Option, Some, None, nat_lt, ◌==◌, if◌then◌else◌}
 use Rattle.sfv_spec.specs.Classes.{is_digit, is_token_start, is_token_inner}
 use Rattle.sfv_spec.specs.Numbers.{place_value, signed}
 use Rattle.sfv_spec.specs.Values.{Edition, rfc8941, rfc9651, BareValue, integer, decimal, string, token, byte_sequence, boolean, date, display_string}
