@@ -22,9 +22,11 @@ pub record IsFaultOf (edition : Edition) (kind : FieldKind) (t : List ℕ) (e : 
   pub exact : e.exact ≡ true → (n : ℕ) × (drop n t ≡ e.rest) × IsReach edition kind t n
   pub ruled : e.exact ≡ false → is_ruled e.kind ≡ true
 
+-- a field is read as the grammar accepts it
 abbrev pub ReadIsAccepted : Type 0
 ReadIsAccepted = (edition : Edition) (kind : FieldKind) (t : List ℕ) (raw : RawField kind) → (read_field edition kind t ≡ Ok raw) ↔ IsFieldText edition kind raw t
 
+-- each fault of a field stands where it should
 abbrev pub FaultIsPlaced : Type 0
 FaultIsPlaced = (edition : Edition) (kind : FieldKind) (t : List ℕ) (e : Fault) → read_field edition kind t ≡ Err e → IsFaultOf edition kind t e
 
@@ -36,6 +38,7 @@ HandedBegins = (edition : Edition) (kind : FieldKind) (t : List ℕ) → BeginsE
 abbrev pub RefusedBegins : Type 0
 RefusedBegins = (kind : FieldKind) (es before : List TreeEvent) (e : TreeEvent) (after : List TreeEvent) → BeginsEvents kind es → es ≡ before ++ e ∷ after → BeginsEvents kind (before ++ e ∷ [])
 
+-- what is accepted as an item is a value
 abbrev pub ItemIsValue : Type 0
 ItemIsValue = (edition : Edition) (i : RawItem) (t : List ℕ) → IsItemText edition i t → IsFieldValue item_field i
 

@@ -15,6 +15,7 @@ symbol_value c =
     else if is_between 0x30 0x39 c then c - 0x30 + 52
     else if c == 0x2b then 62 else 63
 
+-- a symbol of Base64
 unfoldable pub is_symbol : ℕ → Bool
 is_symbol c = is_between 0x41 0x5a c || is_between 0x61 0x7a c || is_between 0x30 0x39 c || c == 0x2b || c == 0x2f
 
@@ -63,6 +64,7 @@ fault_place content =
 abbrev pub IsBytesEnd : List ℕ → List ℕ → Type 0
 IsBytesEnd bytes t = (IsBase64Text bytes ⨾ Exactly (codes ":")) t
 
+-- the byte that closes a Byte Sequence
 abbrev pub is_colon : ℕ → Bool
 is_colon c = c == 0x3a
 
@@ -85,5 +87,6 @@ abbrev pub closed_by : List ℕ → List ℕ → Option (List ℕ) → Answer (L
 closed_by t content (Some bytes) = Ok (bytes, drop (length content + 1) t)
 closed_by t content None = Err (content_fault content (drop (fault_place content) t))
 
+-- a Byte Sequence, or the fault of its content
 unfoldable pub bytes_at : Reader (List ℕ)
 bytes_at t = if list_any is_colon t then closed_by t (content_in t) (bytes_of (content_in t)) else Err (by_rule unterminated_byte_sequence [])

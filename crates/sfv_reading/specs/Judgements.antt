@@ -38,6 +38,7 @@ abbrev pub Lasts : {A : Type 0} → Reader A → List ℕ → Answer A → Type 
 Lasts f t (Ok x) = (p : List ℕ) × (t ≡ p ++ x.1) × ((r : List ℕ) → first r ≡ first x.1 → f (p ++ r) ≡ Ok (x.0, r))
 Lasts f t (Err e) = e.exact ≡ true → (p : List ℕ) × (t ≡ p ++ e.rest) × ((r : List ℕ) → first r ≡ first e.rest → IsFault (f (p ++ r)))
 
+-- all answers of a reader rest so
 pub record Local {A : Type 0} (f : Reader A) : Type 0 where
   pub lasts : (t : List ℕ) → Lasts f t (f t)
 

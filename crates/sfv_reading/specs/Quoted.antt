@@ -9,10 +9,11 @@ use Rattle.sfv_spec.specs.Strings.{is_escaped_in_string, hexadecimal_value, IsSt
 use Rattle.sfv_spec.specs.Faults.{SyntaxFault, invalid_string_character, unterminated_string, unterminated_escape_sequence, invalid_escape_sequence, invalid_utf8_in_display_string, invalid_display_string_character, unterminated_display_string}
 use Rattle.sfv_reading.specs.Reader.{Answer, Reader, at_reach, by_rule}
 
--- the texts behind the opening quote
+-- the texts of a String behind its opening quote
 abbrev pub IsStringEnd : List ℕ → List ℕ → Type 0
 IsStringEnd s t = (IsStringContent s ⨾ Exactly (codes "\"")) t
 
+-- the texts of a Display String behind its opening quote
 abbrev pub IsDisplayEnd : List ℕ → List ℕ → Type 0
 IsDisplayEnd s t = (IsDisplayContent s ⨾ Exactly (codes "\"")) t
 
@@ -27,6 +28,7 @@ behind_bytes bytes (Err e) = Err e
 
 -- ---- a String, also behind a backslash
 
+-- the bytes up to the closing quote; true: the next byte is escaped
 unfoldable pub string_from : Bool → Reader (List ℕ)
 string_from false [] = Err (at_reach unterminated_string [])
 string_from false (c ∷ r) =
@@ -45,6 +47,7 @@ string_at = string_from false
 
 -- ---- a Display String, also behind a percent sign, and behind that and a digit
 
+-- where in a Display String the next byte stands
 pub data Place : Type 0 where
   outside percent : Place
   digit : ℕ → Place
@@ -83,6 +86,7 @@ display_at t = checked t (pieces_from outside t)
 
 -- ---- where the pieces end, but for the closing quote: this is left, and the fault stands there
 
+-- a String's inside stops so
 abbrev pub StringStops : SyntaxFault → List ℕ → List ℕ → Type 0
 StringStops unterminated_string left there = (left ≡ []) × (there ≡ [])
 StringStops unterminated_escape_sequence left there = (left ≡ 0x5c ∷ []) × (there ≡ [])
@@ -90,6 +94,7 @@ StringStops invalid_escape_sequence left there = (wrong : ℕ) × (more : List �
 StringStops invalid_string_character left there = (wrong : ℕ) × (more : List ℕ) × (left ≡ wrong ∷ more) × (there ≡ wrong ∷ more) × IsFalse (is_string_byte wrong)
 StringStops _ left there = ⊥
 
+-- a Display String's inside stops so
 abbrev pub DisplayStops : SyntaxFault → List ℕ → List ℕ → Type 0
 DisplayStops unterminated_display_string left there = (left ≡ []) × (there ≡ [])
 DisplayStops unterminated_escape_sequence left there = (digits : List ℕ) × (left ≡ 0x25 ∷ digits) × (there ≡ []) × RunOf is_lower_hexadecimal digits × (length digits ≤ 1)

@@ -23,9 +23,11 @@ at_reach k t = placed true k t
 abbrev pub by_rule : SyntaxFault → List ℕ → Fault
 by_rule k t = placed false k t
 
+-- a value and the rest of the text, or a fault
 abbrev pub Answer : Type 0 → Type 0
 Answer A = Result (A × List ℕ) Fault
 
+-- what is read of a text
 abbrev pub Reader : Type 0 → Type 0
 Reader A = List ℕ → Answer A
 
@@ -45,10 +47,12 @@ fail k t = Err (at_reach k t)
 unfoldable pub ruled : {A : Type 0} → SyntaxFault → Reader A
 ruled k t = Err (by_rule k t)
 
+-- goes on behind an answer, if it is no fault
 abbrev pub and_then : {A B : Type 0} → Answer A → (A → Reader B) → Answer B
 and_then (Ok x) g = g x.0 x.1
 and_then (Err e) g = Err e
 
+-- one reader behind another
 unfoldable pub bind : {A B : Type 0} → Reader A → (A → Reader B) → Reader B
 bind f g t = and_then (f t) g
 
@@ -56,6 +60,7 @@ infixl 10 ◌>>=◌
 abbrev pub ◌>>=◌ : {A B : Type 0} → Reader A → (A → Reader B) → Reader B
 f >>= g = bind f g
 
+-- an answer behind these events
 abbrev pub led_answer : {A : Type 0} → List TreeEvent → Answer A → Answer A
 led_answer es (Ok x) = Ok x
 led_answer es (Err e) = Err (behind_events es e)
@@ -74,6 +79,7 @@ unfoldable pub ahead : {A : Type 0} → (ℕ → Bool) → Reader A → Reader A
 ahead class taken other [] = other []
 ahead class taken other (c ∷ r) = if class c then taken (c ∷ r) else other (c ∷ r)
 
+-- a fault at the start of t in place of nothing
 abbrev pub at_start : {A : Type 0} → SyntaxFault → List ℕ → Answer (Option A) → Answer A
 at_start k t (Ok (Some v, r)) = Ok (v, r)
 at_start k t (Ok (None, r)) = Err (record { kind = k; exact = false; rest = t; events = [] })
@@ -93,6 +99,7 @@ unfoldable pub span : (ℕ → Bool) → Reader (List ℕ)
 span class [] = Ok ([], [])
 span class (c ∷ r) = if class c then and_then (span class r) (λ cs. give (c ∷ cs)) else Ok ([], c ∷ r)
 
+-- behind a step: more of them, or the end
 abbrev pub go_on : {A : Type 0} → (A → List TreeEvent) → Reader (List A) → Option A → Reader (List A)
 go_on parts more None = give []
 go_on parts more (Some a) = led (parts a) (more >>= λ vs. give (a ∷ vs))
@@ -106,9 +113,11 @@ many_within parts (suc n) step = step >>= go_on parts (many_within parts n step)
 unfoldable pub many : {A : Type 0} → (A → List TreeEvent) → Reader (Option A) → Reader (List A)
 many parts step t = many_within parts (suc (length t)) step t
 
+-- the class of one byte
 abbrev pub byte : ℕ → ℕ → Bool
 byte c b = b == c
 
+-- the class of all bytes
 abbrev pub any : ℕ → Bool
 any _ = true
 
@@ -117,6 +126,7 @@ abbrev pub handed : {A : Type 0} → (A → List TreeEvent) → Answer A → Lis
 handed parts (Ok x) = parts x.0
 handed parts (Err e) = e.events
 
+-- the byte that stands next
 abbrev pub first : List ℕ → Option ℕ
 first [] = None
 first (c ∷ r) = Some c
