@@ -252,7 +252,7 @@ bytes_read = (Sound-bytes, bytes_again, λ t e. (bytes_fault t e, bytes_faulty t
 -- ---- a reading from a place of an input
 
 -- the content from start to end, which a colon closes
-pub record IsClosed (input : List ℕ) (start end : ℕ) (content : List ℕ) : Type 0 where
+pub record IsContentAt (input : List ℕ) (start end : ℕ) (content : List ℕ) : Type 0 where
   pub text : drop start input ≡ content ++ 0x3a ∷ drop (end + 1) input
   pub no_colon : HasNoColon content
   pub counted : end ≡ start + length content
@@ -260,14 +260,14 @@ pub record IsClosed (input : List ℕ) (start end : ℕ) (content : List ℕ) : 
 -- bytes are read, and the closing colon stands at the end
 pub record IsBytesAt (input : List ℕ) (start : ℕ) (bytes : List ℕ) (end : ℕ) : Type 0 where
   pub content : List ℕ
-  pub closed : IsClosed input start end content
+  pub closed : IsContentAt input start end content
   pub value : bytes_of content ≡ Some bytes
 
 -- the content is closed, and at fault at the index
 pub record IsInvalidAt (input : List ℕ) (start index : ℕ) : Type 0 where
   pub content : List ℕ
   pub end : ℕ
-  pub closed : IsClosed input start end content
+  pub closed : IsContentAt input start end content
   pub no_value : bytes_of content ≡ None
   pub here : index ≡ start + fault_place content
 

@@ -130,7 +130,7 @@ read_past input bytes start end next l m h e n =
 -- ---- back to the place of a piece
 
 -- so many pieces stand there, and behind them the goal
-pub record Behind (input : List ℕ) (index count : ℕ) (goal : List ℕ) : Type 0 where
+pub record LeadsTo (input : List ℕ) (index count : ℕ) (goal : List ℕ) : Type 0 where
   pub within : index ≤ length input
   pub bytes : List ℕ
   pub rest : List ℕ
@@ -197,8 +197,8 @@ drop_two r c false = drop_none r
     drop_none (x ∷ r) = refl
 
 -- one piece on
-pub behind_next : (input : List ℕ) (index count : ℕ) (goal : List ℕ) → Behind input index (suc count) goal → (index < length input) × Behind input (index + cond (slice_index input index == 0x25) 3 1) count goal
-behind_next input index count goal h =
+pub leads_on : (input : List ℕ) (index count : ℕ) (goal : List ℕ) → LeadsTo input index (suc count) goal → (index < length input) × LeadsTo input (index + cond (slice_index input index == 0x25) 3 1) count goal
+leads_on input index count goal h =
     let o = first_piece (drop index input) h.bytes h.rest h.read (omega (arith, h.enough)) in
     let len : length (drop index input) ≡ suc (length o.r) = ap (length {A = ℕ}) o.text in
     let inside : index < length input = omega (arith, len, length-drop index input, h.within) in
@@ -207,7 +207,7 @@ behind_next input index count goal h =
     let n : ℕ = cond (o.c == 0x25) 3 1 in
     let short : (b : Bool) → (o.c == 0x25) ≡ b → index + cond b 3 1 ≤ length input = λ b. elim b as (λ (b : Bool). (o.c == 0x25) ≡ b → index + cond b 3 1 ≤ length input) [ true ↦ (λ e. let long = o.long (eqb-true o.c 0x25 e) in omega (arith, long, length-drop index input, h.within)) | false ↦ (λ e. omega (arith, inside)) ] in
     let next : drop (index + n) input ≡ cond (o.c == 0x25) (drop 2 o.r) o.r = sym (drop-drop n index input) ∙ ap (drop n) o.text ∙ drop_two o.r o.c (o.c == 0x25) in
-    let there : Behind input (index + n) count goal = record {
+    let there : LeadsTo input (index + n) count goal = record {
       within = short (o.c == 0x25) refl;
       bytes = o.later;
       rest = h.rest;
@@ -215,4 +215,4 @@ behind_next input index count goal h =
       enough = omega (arith, h.enough, o.count);
       here = ap (behind_pieces count) next ∙ ap (behind_pieces (suc count)) (sym o.text) ∙ h.here;
     } in
-    (inside, subst (λ (c : ℕ). Behind input (index + cond (c == 0x25) 3 1) count goal) (sym byte) there)
+    (inside, subst (λ (c : ℕ). LeadsTo input (index + cond (c == 0x25) 3 1) count goal) (sym byte) there)

@@ -3,6 +3,7 @@ use Rattle.std.proofs.Common.{◌≡◌, ℕ, zero, suc, ◌≤◌, Bool, true, 
 use Rattle.std.specs.Prelude.{◌==◌}
 use Rattle.std.specs.List.{concat, AllZip}
 use Rattle.std.proofs.lemmas.Bool.{and_parts, and_left, ne_eqb, or_parts, not-true, both_ways}
+use Rattle.std.proofs.lemmas.List.{append-nil}
 use Rattle.sfv_spec.specs.Texts.{RunOf}
 use Rattle.sfv_spec.specs.Classes.{is_string_byte, is_lower_hexadecimal}
 use Rattle.sfv_spec.specs.Strings.{is_escaped_in_string, is_plain_in_display, IsStringPiece, IsDisplayPiece}
@@ -139,13 +140,9 @@ string_stops_again invalid_escape_sequence left there h = (0x5c ∷ [], h.2 ∙ 
 string_stops_again invalid_string_character left there h = ([], h.2 ∙ sym h.3, λ r e. let s = same_first h.0 h.1 r (e ∙ ap first h.3) in (h.0, s.0, s.1, s.1, h.4))
 string_stops_again _ left there h = absurd h
 
-append_none : (l : List ℕ) → l ++ [] ≡ l
-append_none [] = refl
-append_none (c ∷ l) = ap (λ (l : List ℕ). c ∷ l) (append_none l)
-
 pub display_stops_again : (k : SyntaxFault) (left there : List ℕ) → DisplayStops k left there → StopsAgain DisplayStops k left there
 display_stops_again unterminated_display_string left there h = ([], h.0 ∙ sym h.1, λ r e. let n : r ≡ [] = no_first r (e ∙ ap first h.1) in (n, n))
-display_stops_again unterminated_escape_sequence left there h = (0x25 ∷ h.0, rw (h.1, h.2) (ap (λ (l : List ℕ). 0x25 ∷ l) (sym (append_none h.0))), λ r e. let n : r ≡ [] = no_first r (e ∙ ap first h.2) in (h.0, rw n (ap (λ (l : List ℕ). 0x25 ∷ l) (append_none h.0)), n, h.3, h.4))
+display_stops_again unterminated_escape_sequence left there h = (0x25 ∷ h.0, rw (h.1, h.2) (ap (λ (l : List ℕ). 0x25 ∷ l) (sym (append-nil h.0))), λ r e. let n : r ≡ [] = no_first r (e ∙ ap first h.2) in (h.0, rw n (ap (λ (l : List ℕ). 0x25 ∷ l) (append-nil h.0)), n, h.3, h.4))
 display_stops_again invalid_escape_sequence left there h = (0x25 ∷ h.0, rw (h.3, h.4) refl, λ r e. let s = same_first h.1 h.2 r (e ∙ ap first h.4) in (h.0, h.1, s.0, ap (λ (l : List ℕ). 0x25 ∷ (h.0 ++ l)) s.1, s.1, h.5, h.6, h.7))
 display_stops_again invalid_display_string_character left there h = ([], h.2 ∙ sym h.3, λ r e. let s = same_first h.0 h.1 r (e ∙ ap first h.3) in (h.0, s.0, s.1, s.1, h.4))
 display_stops_again _ left there h = absurd h
@@ -185,7 +182,7 @@ closed_past (c ∷ bytes) (p ∷ ps) t h = ap (closed outside) (append_assoc p (
 
 pub closed_pieces : (bytes : List ℕ) (pieces : List (List ℕ)) → AllZip IsDisplayPiece bytes pieces → closed outside (concat pieces) ≡ true
 unfolding closed
-closed_pieces bytes pieces h = ap (closed outside) (sym (append_none (concat pieces))) ∙ closed_past bytes pieces [] h
+closed_pieces bytes pieces h = ap (closed outside) (sym (append-nil (concat pieces))) ∙ closed_past bytes pieces [] h
 
 -- no piece begins what is left
 abbrev pub IsStuck : List ℕ → Type 0

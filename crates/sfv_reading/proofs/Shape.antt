@@ -3,7 +3,7 @@ use Rattle.std.proofs.Common.{◌≡◌, ℕ, zero, suc, ◌<◌, ◌≤◌, ◌
 use Rattle.std.specs.Prelude.{◌==◌, ◌||◌}
 use Rattle.sfv_spec.specs.Classes.{is_between}
 use Rattle.std.specs.List.{list_all}
-use Rattle.std.proofs.lemmas.Bool.{and_parts, eqb-true, ltb-true, cases_Bool, true≢false}
+use Rattle.std.proofs.lemmas.Bool.{and_parts, eqb-true, ltb-true, cases_Bool, true≢false, or_cases}
 use Rattle.sfv_spec.specs.Base64.{symbol}
 use Rattle.sfv_spec.proofs.Settled.{NotBegun}
 use Rattle.sfv_spec.proofs.Parts.{implied, between_below}
@@ -12,10 +12,6 @@ use Rattle.sfv_reading.proofs.Bits.{is_value}
 
 abbrev pub is_equals : ℕ → Bool
 is_equals c = c == 0x3d
-
-or_cases : (x y : Bool) → (x || y) ≡ true → (x ≡ true) ⊎ (y ≡ true)
-or_cases true y h = inl refl
-or_cases false y h = inr h
 
 below_128 : (v : ℕ) → is_value v ≡ true → v < 128
 below_128 v h = omega (arith, ltb-true v 64 h)
