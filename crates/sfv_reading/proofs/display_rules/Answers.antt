@@ -1,0 +1,5 @@
+use Rattle.sfv_reading.proofs.display_rules.Goals as goal
+use Rattle.sfv_reading.proofs.DisplayRules.{display_rules}
+
+pub returns : goal.returns
+returns c = display_rules

@@ -1,0 +1,5 @@
+use Rattle.sfv_reading.proofs.shuns_marks.Goals as goal
+use Rattle.sfv_reading.proofs.ByteSequences.{shuns_bytes}
+
+pub returns : goal.returns
+returns c = shuns_bytes

@@ -1,0 +1,143 @@
+-- What the readers of fields have to do with the grammar.
+use Rattle.std.specs.Prelude.{◌≡◌, ◌↔◌, ℕ, ◌+◌, ◌%◌, Bool, List, [], ◌∷◌, ◌++◌, length, drop, true, false, Some, None, Ok, Err, ◌⊎◌, codes}
+use Rattle.sfv_spec.specs.Texts.{RunOf}
+use Rattle.sfv_spec.specs.Classes.{is_space_or_tab, is_one_of}
+use Rattle.sfv_spec.specs.Values.{Edition, rfc9651, FieldKind, item_field, RawField, RawItem, IsFieldValue}
+use Rattle.sfv_spec.specs.Grammar.{IsItemText, AreMembersText, IsFieldText}
+use Rattle.sfv_spec.specs.Events.{TreeEvent, events}
+use Rattle.sfv_spec.specs.Reach.{IsReach}
+use Rattle.sfv_spec.specs.Visiting.{BeginsEvents}
+use Rattle.sfv_spec.specs.Base64.{IsBase64Text, symbols}
+use Rattle.sfv_spec.specs.Faults.{SyntaxFault, trailing_comma, unterminated_byte_sequence, unterminated_escape_sequence, invalid_escape_sequence, unterminated_display_string, invalid_display_string_character, invalid_utf8_in_display_string, IsTrailingComma, WantsBetween, IsUnterminatedDisplay, IsUnterminatedEscape, IsInvalidEscape, IsInvalidDisplayByte, IsInvalidUtf8, IsBase64FaultPlace}
+use Rattle.sfv_reading.specs.Reader.{Fault, Reader, by_rule, is_ruled, handed}
+use Rattle.sfv_reading.specs.Judgements.{Sound, Mute, Quiet, IsFault, Local, Complete, StaysButText}
+use Rattle.sfv_reading.specs.Content.{valid_from, bytes_of, fault_place, IsBytesEnd, HasNoColon, content_fault, bytes_at}
+use Rattle.sfv_reading.specs.Quoted.{IsStringEnd, string_at, IsStringFault, IsDisplayEnd, display_at, IsDisplayFault}
+use Rattle.sfv_reading.specs.Bare.{bare_at}
+use Rattle.sfv_reading.specs.Fields.{whole_field_at, read_field}
+
+-- A fault stands at the reach, or its place has a rule; what was handed out begins some field's events.
+pub record IsFaultOf (edition : Edition) (kind : FieldKind) (t : List ℕ) (e : Fault) : Type 0 where
+  pub told : BeginsEvents kind e.events
+  pub exact : e.exact ≡ true → (n : ℕ) × (drop n t ≡ e.rest) × IsReach edition kind t n
+  pub ruled : e.exact ≡ false → is_ruled e.kind ≡ true
+
+-- a field is read as the grammar accepts it
+abbrev pub ReadIsAccepted : Type 0
+ReadIsAccepted = (edition : Edition) (kind : FieldKind) (t : List ℕ) (raw : RawField kind) → (read_field edition kind t ≡ Ok raw) ↔ IsFieldText edition kind raw t
+
+-- each fault of a field stands where it should
+abbrev pub FaultIsPlaced : Type 0
+FaultIsPlaced = (edition : Edition) (kind : FieldKind) (t : List ℕ) (e : Fault) → read_field edition kind t ≡ Err e → IsFaultOf edition kind t e
+
+-- what is handed out by an answer, a success or a fault, begins some field's events
+abbrev pub HandedBegins : Type 0
+HandedBegins = (edition : Edition) (kind : FieldKind) (t : List ℕ) → BeginsEvents kind (handed (events kind) (whole_field_at edition kind t))
+
+-- so does what a visitor took before it refused, with what it refused
+abbrev pub RefusedBegins : Type 0
+RefusedBegins = (kind : FieldKind) (es before : List TreeEvent) (e : TreeEvent) (after : List TreeEvent) → BeginsEvents kind es → es ≡ before ++ e ∷ after → BeginsEvents kind (before ++ e ∷ [])
+
+-- what is accepted as an item is a value
+abbrev pub ItemIsValue : Type 0
+ItemIsValue = (edition : Edition) (i : RawItem) (t : List ℕ) → IsItemText edition i t → IsFieldValue item_field i
+
+-- a comma and blanks at the end, behind a field with a member
+abbrev pub CommaRow : Type 0
+CommaRow = (edition : Edition) (kind : FieldKind) (t : List ℕ) (index : ℕ) → IsTrailingComma edition kind t index → (raw : RawField kind) × (read_field edition kind t ≡ Err (record { kind = trailing_comma; exact = false; rest = drop index t; events = events kind raw }))
+
+-- the fault is that of a bare item, which is wanted behind before
+pub record Origin (edition : Edition) (t : List ℕ) (e : Fault) : Type 0 where
+  pub before : List ℕ
+  pub item : List ℕ
+  pub fault : Fault
+  pub text : t ≡ before ++ item
+  pub is_fault : bare_at edition item ≡ Err fault
+  pub ruled : fault.exact ≡ false
+  pub kind : fault.kind ≡ e.kind
+  pub rest : fault.rest ≡ e.rest
+
+-- the comma at the end, behind members
+pub record CommaAt {A : Type 0} (P : A → List ℕ → Type 0) (t : List ℕ) (e : Fault) : Type 0 where
+  pub before : List ℕ
+  pub whitespace : List ℕ
+  pub m : A
+  pub ms : List A
+  pub text : t ≡ before ++ 0x2c ∷ whitespace
+  pub blank : RunOf is_space_or_tab whitespace
+  pub accepted : AreMembersText P (m ∷ ms) before
+  pub kind : e.kind ≡ trailing_comma
+  pub rest : e.rest ≡ 0x2c ∷ whitespace
+
+-- a fault that isn't exact is that of a bare item, or of the comma at the end
+abbrev pub RuledComes : Type 0
+RuledComes = (edition : Edition) (kind : FieldKind) (t : List ℕ) (e : Fault) → read_field edition kind t ≡ Err e → e.exact ≡ false →
+    Origin edition t e ⊎ ((index : ℕ) × (drop index t ≡ e.rest) × (e.kind ≡ trailing_comma) × IsTrailingComma edition kind t index)
+
+-- ---- the insides of byte sequences, strings and display strings
+
+-- a content is Base64 of the bytes that `bytes_of` gives, and of no others
+abbrev pub GivesTheBytes : Type 0
+GivesTheBytes = (content bytes : List ℕ) → IsBase64Text bytes content ↔ (bytes_of content ≡ Some bytes)
+
+-- a content that is no Base64 is at fault at `fault_place`
+abbrev pub GivesTheFault : Type 0
+GivesTheFault = (content : List ℕ) → bytes_of content ≡ None → IsBase64FaultPlace content (fault_place content)
+
+-- a content that is at fault at its end is symbols, of which one is left over
+abbrev pub LeavesOneOver : Type 0
+LeavesOneOver = (content : List ℕ) → bytes_of content ≡ None
+    → (valid_from 0 content ≡ length content) ↔ (RunOf (is_one_of symbols) content × (length content % 4 ≡ 1))
+
+-- no colon follows, or the content in front of the first one is no Base64
+abbrev pub IsBytesFault : List ℕ → Fault → Type 0
+IsBytesFault t e =
+    (HasNoColon t × (e ≡ by_rule unterminated_byte_sequence []))
+    ⊎ ((content : List ℕ) × (rest : List ℕ) × (t ≡ content ++ 0x3a ∷ rest) × HasNoColon content × (bytes_of content ≡ None) × (e ≡ content_fault content (drop (fault_place content) t)))
+
+-- a Byte Sequence is read exactly, and exactly these are its faults
+abbrev pub BytesRead : Type 0
+BytesRead = Sound bytes_at IsBytesEnd (Mute IsBytesEnd) Quiet × Complete bytes_at IsBytesEnd × ((t : List ℕ) (e : Fault) → (bytes_at t ≡ Err e) ↔ IsBytesFault t e) × Local bytes_at
+
+-- where a question mark comes, the reader of Byte Sequences faults, or it was done before
+abbrev pub ShunsMark : List ℕ → Type 0
+ShunsMark u =
+    ((c : List ℕ) → IsFault (bytes_at (u ++ 0x3f ∷ c)))
+    ⊎ ((rest : List ℕ) × (bytes : List ℕ) × ((c : List ℕ) → bytes_at (u ++ 0x3f ∷ c) ≡ Ok (bytes, rest ++ 0x3f ∷ c)))
+
+-- a question mark stands in no Byte Sequence
+abbrev pub ShunsMarks : Type 0
+ShunsMarks = (u : List ℕ) → ShunsMark u
+
+-- exactly these faults are given, all of them exact or none, and nothing is handed out
+abbrev pub Faults : Bool → Reader (List ℕ) → (List ℕ → SyntaxFault → List ℕ → Type 0) → Type 0
+Faults exact f P = (t : List ℕ) (e : Fault) → (f t ≡ Err e) ↔ (P t e.kind e.rest × (e.exact ≡ exact) × (e.events ≡ []))
+
+-- a String is read exactly, and exactly these are its faults, each at the reach
+abbrev pub StringRead : Type 0
+StringRead = Sound string_at IsStringEnd (Mute IsStringEnd) Quiet × Complete string_at IsStringEnd × Faults true string_at IsStringFault × Local string_at
+
+-- a Display String is read exactly, and exactly these are its faults, each with a rule of its own
+abbrev pub DisplayRead : Type 0
+DisplayRead = Sound display_at IsDisplayEnd (Mute IsDisplayEnd) Quiet × Complete display_at IsDisplayEnd × Faults false display_at IsDisplayFault × Local display_at × ((t : List ℕ) → StaysButText display_at t (display_at t))
+
+-- In a text in which a bare item is wanted behind before, and a Display String begins there, the reader gives
+-- this fault, where so much of the whole is left.
+pub record IsFaultOfDisplay (edition : Edition) (kind : FieldKind) (whole : List ℕ) (k : SyntaxFault) (index : ℕ) : Type 0 where
+  pub known : edition ≡ rfc9651
+  pub before : List ℕ
+  pub inside : List ℕ
+  pub there : List ℕ
+  pub place : WantsBetween edition kind whole before (codes "%\"" ++ inside)
+  pub fault : display_at inside ≡ Err (by_rule k there)
+  pub here : index + length there ≡ length whole
+
+-- a rule of the fault table says where the reader gives this fault
+abbrev pub RuleOf : (Edition → FieldKind → List ℕ → ℕ → Type 0) → SyntaxFault → Type 0
+RuleOf R k = (edition : Edition) (kind : FieldKind) (whole : List ℕ) (index : ℕ) → IsFaultOfDisplay edition kind whole k index ↔ R edition kind whole index
+
+-- the faults of a Display String are those of its rules, each at its place
+abbrev pub DisplayRules : Type 0
+DisplayRules =
+    RuleOf IsUnterminatedDisplay unterminated_display_string × RuleOf IsUnterminatedEscape unterminated_escape_sequence × RuleOf IsInvalidEscape invalid_escape_sequence
+    × RuleOf IsInvalidDisplayByte invalid_display_string_character × RuleOf IsInvalidUtf8 invalid_utf8_in_display_string

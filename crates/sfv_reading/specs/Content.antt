@@ -1,0 +1,92 @@
+-- Reading a Byte Sequence: its content from left to right, and the reader behind the opening colon.
+use Rattle.std.specs.Prelude.{ℕ, zero, suc, ◌+◌, ◌-◌, ◌*◌, ◌/◌, ◌%◌, ◌==◌, List, [], ◌∷◌, length, drop, Bool, not, ◌||◌, ◌&&◌, if◌then◌else◌, Option, Some, None, Ok, Err, codes}
+use Rattle.std.specs.List.{list_any}
+use Rattle.sfv_spec.specs.Texts.{RunOf, Exactly, ◌⨾◌}
+use Rattle.sfv_spec.specs.Classes.{is_between}
+use Rattle.sfv_spec.specs.Base64.{IsBase64Text}
+use Rattle.sfv_spec.specs.Faults.{unterminated_byte_sequence, invalid_byte_sequence}
+use Rattle.sfv_reading.specs.Reader.{Fault, Answer, Reader, placed, by_rule}
+
+-- the value of a symbol
+unfoldable pub symbol_value : ℕ → ℕ
+symbol_value c =
+    if is_between 0x41 0x5a c then c - 0x41
+    else if is_between 0x61 0x7a c then c - 0x61 + 26
+    else if is_between 0x30 0x39 c then c - 0x30 + 52
+    else if c == 0x2b then 62 else 63
+
+-- a symbol of Base64
+unfoldable pub is_symbol : ℕ → Bool
+is_symbol c = is_between 0x41 0x5a c || is_between 0x61 0x7a c || is_between 0x30 0x39 c || c == 0x2b || c == 0x2f
+
+-- how much padding may follow so many symbols
+abbrev pub most_padding : ℕ → ℕ
+most_padding n = if n % 4 == 2 then 2 else if n % 4 == 3 then 1 else 0
+
+-- the signs of padding in front, up to so many
+unfoldable pub padding_in : ℕ → List ℕ → ℕ
+padding_in zero t = 0
+padding_in (suc k) [] = 0
+padding_in (suc k) (c ∷ t) = if c == 0x3d then suc (padding_in k t) else 0
+
+-- behind n symbols, how many bytes some Base64 text goes on with
+unfoldable pub valid_from : ℕ → List ℕ → ℕ
+valid_from n [] = 0
+valid_from n (c ∷ t) = if is_symbol c then suc (valid_from (suc n) t) else padding_in (most_padding n) (c ∷ t)
+
+-- the values of the symbols in front
+unfoldable pub values_in : List ℕ → List ℕ
+values_in [] = []
+values_in (c ∷ t) = if is_symbol c then symbol_value c ∷ values_in t else []
+
+-- the whole bytes of values of six bits
+unfoldable pub bytes_from : List ℕ → List ℕ
+bytes_from [] = []
+bytes_from (a ∷ []) = []
+bytes_from (a ∷ b ∷ []) = (a * 4 + b / 16) ∷ []
+bytes_from (a ∷ b ∷ c ∷ []) = (a * 4 + b / 16) ∷ (b % 16 * 16 + c / 4) ∷ []
+bytes_from (a ∷ b ∷ c ∷ d ∷ rest) = (a * 4 + b / 16) ∷ (b % 16 * 16 + c / 4) ∷ (c % 4 * 64 + d) ∷ bytes_from rest
+
+-- the bytes of a content, if it is Base64
+unfoldable pub bytes_of : List ℕ → Option (List ℕ)
+bytes_of content =
+    if valid_from 0 content == length content && not (length (values_in content) % 4 == 1)
+    then Some (bytes_from (values_in content)) else None
+
+-- where a content that isn't Base64 is at fault
+unfoldable pub fault_place : List ℕ → ℕ
+fault_place content =
+    if valid_from 0 content == length content then valid_from 0 content - 1 else valid_from 0 content
+
+-- ---- behind the opening colon, with the closing one
+
+-- the texts behind the opening colon
+abbrev pub IsBytesEnd : List ℕ → List ℕ → Type 0
+IsBytesEnd bytes t = (IsBase64Text bytes ⨾ Exactly (codes ":")) t
+
+-- the byte that closes a Byte Sequence
+abbrev pub is_colon : ℕ → Bool
+is_colon c = c == 0x3a
+
+-- no colon stands in a text
+abbrev pub HasNoColon : List ℕ → Type 0
+HasNoColon = RunOf (λ c. not (c == 0x3a))
+
+-- the bytes in front of the first colon
+unfoldable pub content_in : List ℕ → List ℕ
+content_in [] = []
+content_in (c ∷ t) = if is_colon c then [] else c ∷ content_in t
+
+-- The fault of a closed content that isn't Base64, where this stands: a single symbol that is left over is
+-- placed by a rule, any other fault is at the reach.
+abbrev pub content_fault : List ℕ → List ℕ → Fault
+content_fault content there = placed (not (valid_from 0 content == length content)) invalid_byte_sequence there
+
+-- what is read of a content that a colon closes
+abbrev pub closed_by : List ℕ → List ℕ → Option (List ℕ) → Answer (List ℕ)
+closed_by t content (Some bytes) = Ok (bytes, drop (length content + 1) t)
+closed_by t content None = Err (content_fault content (drop (fault_place content) t))
+
+-- a Byte Sequence, or the fault of its content
+unfoldable pub bytes_at : Reader (List ℕ)
+bytes_at t = if list_any is_colon t then closed_by t (content_in t) (bytes_of (content_in t)) else Err (by_rule unterminated_byte_sequence [])

@@ -1,0 +1,10 @@
+pub mod Reader
+pub mod Judgements
+pub mod Content
+pub mod Quoted
+pub mod Bare
+pub mod Items
+pub mod Members
+pub mod Fields
+pub mod Claims
+pub mod Visits

@@ -1,0 +1,121 @@
+-- Reading Strings and Display Strings: what stands behind the opening quote, from left to right.
+use Rattle.std.specs.Prelude.{◌≡◌, ℕ, zero, suc, ◌≤◌, ◌+◌, ◌*◌, Bool, true, false, not, ◌&&◌, List, [], ◌∷◌, ◌++◌, length, drop, Ok, Err, IsFalse, IsUtf8, ◌==◌, if◌then◌else◌, codes}
+use Rattle.std.specs.List.{concat, AllZip}
+use Rattle.std.specs.Str.{is_utf8}
+use Rattle.std.specs.Str.Lossy.{utf8_valid_len}
+use Rattle.sfv_spec.specs.Texts.{RunOf, Exactly, ◌⨾◌}
+use Rattle.sfv_spec.specs.Classes.{is_string_byte, is_lower_hexadecimal}
+use Rattle.sfv_spec.specs.Strings.{is_escaped_in_string, hexadecimal_value, IsStringPiece, IsStringContent, IsDisplayPiece, IsDisplayContent}
+use Rattle.sfv_spec.specs.Faults.{SyntaxFault, invalid_string_character, unterminated_string, unterminated_escape_sequence, invalid_escape_sequence, invalid_utf8_in_display_string, invalid_display_string_character, unterminated_display_string}
+use Rattle.sfv_reading.specs.Reader.{Answer, Reader, at_reach, by_rule}
+
+-- the texts of a String behind its opening quote
+abbrev pub IsStringEnd : List ℕ → List ℕ → Type 0
+IsStringEnd s t = (IsStringContent s ⨾ Exactly (codes "\"")) t
+
+-- the texts of a Display String behind its opening quote
+abbrev pub IsDisplayEnd : List ℕ → List ℕ → Type 0
+IsDisplayEnd s t = (IsDisplayContent s ⨾ Exactly (codes "\"")) t
+
+-- a byte that a String writes for itself
+abbrev pub is_plain_in_string : ℕ → Bool
+is_plain_in_string c = is_string_byte c && not (is_escaped_in_string c)
+
+-- an answer behind bytes that were read before
+abbrev pub behind_bytes : List ℕ → Answer (List ℕ) → Answer (List ℕ)
+behind_bytes bytes (Ok x) = Ok (bytes ++ x.0, x.1)
+behind_bytes bytes (Err e) = Err e
+
+-- ---- a String, also behind a backslash
+
+-- the bytes up to the closing quote; true: the next byte is escaped
+unfoldable pub string_from : Bool → Reader (List ℕ)
+string_from false [] = Err (at_reach unterminated_string [])
+string_from false (c ∷ r) =
+    if c == 0x22 then Ok ([], r)
+    else if c == 0x5c then string_from true r
+    else if is_string_byte c then behind_bytes (c ∷ []) (string_from false r)
+    else Err (at_reach invalid_string_character (c ∷ r))
+string_from true [] = Err (at_reach unterminated_escape_sequence [])
+string_from true (c ∷ r) =
+    if is_escaped_in_string c then behind_bytes (c ∷ []) (string_from false r)
+    else Err (at_reach invalid_escape_sequence (c ∷ r))
+
+-- behind the opening quote, with the closing one
+abbrev pub string_at : Reader (List ℕ)
+string_at = string_from false
+
+-- ---- a Display String, also behind a percent sign, and behind that and a digit
+
+-- where in a Display String the next byte stands
+pub data Place : Type 0 where
+  outside percent : Place
+  digit : ℕ → Place
+
+-- its bytes, be they UTF-8 or not
+unfoldable pub pieces_from : Place → Reader (List ℕ)
+pieces_from outside [] = Err (by_rule unterminated_display_string [])
+pieces_from outside (c ∷ r) =
+    if c == 0x22 then Ok ([], r)
+    else if c == 0x25 then pieces_from percent r
+    else if is_string_byte c then behind_bytes (c ∷ []) (pieces_from outside r)
+    else Err (by_rule invalid_display_string_character (c ∷ r))
+pieces_from percent [] = Err (by_rule unterminated_escape_sequence [])
+pieces_from percent (c ∷ r) =
+    if is_lower_hexadecimal c then pieces_from (digit c) r
+    else Err (by_rule invalid_escape_sequence (c ∷ r))
+pieces_from (digit h) [] = Err (by_rule unterminated_escape_sequence [])
+pieces_from (digit h) (c ∷ r) =
+    if is_lower_hexadecimal c then behind_bytes ((16 * hexadecimal_value h + hexadecimal_value c) ∷ []) (pieces_from outside r)
+    else Err (by_rule invalid_escape_sequence (c ∷ r))
+
+-- what stands behind n pieces
+abbrev pub behind_pieces : ℕ → List ℕ → List ℕ
+behind_pieces zero t = t
+behind_pieces (suc n) [] = []
+behind_pieces (suc n) (c ∷ r) = behind_pieces n (if c == 0x25 then drop 2 r else r)
+
+-- the bytes must be UTF-8
+abbrev pub checked : List ℕ → Answer (List ℕ) → Answer (List ℕ)
+checked t (Ok x) = if is_utf8 x.0 then Ok x else Err (by_rule invalid_utf8_in_display_string (behind_pieces (utf8_valid_len x.0) t))
+checked t (Err e) = Err e
+
+-- behind the opening quote, with the closing one
+unfoldable pub display_at : Reader (List ℕ)
+display_at t = checked t (pieces_from outside t)
+
+-- ---- where the pieces end, but for the closing quote: this is left, and the fault stands there
+
+-- a String's inside stops so
+abbrev pub StringStops : SyntaxFault → List ℕ → List ℕ → Type 0
+StringStops unterminated_string left there = (left ≡ []) × (there ≡ [])
+StringStops unterminated_escape_sequence left there = (left ≡ 0x5c ∷ []) × (there ≡ [])
+StringStops invalid_escape_sequence left there = (wrong : ℕ) × (more : List ℕ) × (left ≡ 0x5c ∷ wrong ∷ more) × (there ≡ wrong ∷ more) × IsFalse (is_escaped_in_string wrong)
+StringStops invalid_string_character left there = (wrong : ℕ) × (more : List ℕ) × (left ≡ wrong ∷ more) × (there ≡ wrong ∷ more) × IsFalse (is_string_byte wrong)
+StringStops _ left there = ⊥
+
+-- a Display String's inside stops so
+abbrev pub DisplayStops : SyntaxFault → List ℕ → List ℕ → Type 0
+DisplayStops unterminated_display_string left there = (left ≡ []) × (there ≡ [])
+DisplayStops unterminated_escape_sequence left there = (digits : List ℕ) × (left ≡ 0x25 ∷ digits) × (there ≡ []) × RunOf is_lower_hexadecimal digits × (length digits ≤ 1)
+DisplayStops invalid_escape_sequence left there = (digits : List ℕ) × (wrong : ℕ) × (more : List ℕ) × (left ≡ 0x25 ∷ (digits ++ wrong ∷ more)) × (there ≡ wrong ∷ more) × RunOf is_lower_hexadecimal digits × (length digits ≤ 1) × IsFalse (is_lower_hexadecimal wrong)
+DisplayStops invalid_display_string_character left there = (wrong : ℕ) × (more : List ℕ) × (left ≡ wrong ∷ more) × (there ≡ wrong ∷ more) × IsFalse (is_string_byte wrong)
+DisplayStops _ left there = ⊥
+
+-- The pieces that are read, one for each byte, and what is left behind them.
+pub record Traced (P : ℕ → List ℕ → Type 0) (t : List ℕ) (Ends : List ℕ → List ℕ → Type 0) : Type 0 where
+  pub bytes : List ℕ
+  pub pieces : List (List ℕ)
+  pub left : List ℕ
+  pub text : t ≡ concat pieces ++ left
+  pub content : AllZip P bytes pieces
+  pub ends : Ends bytes left
+
+-- the faults of a String whose inside is t
+abbrev pub IsStringFault : List ℕ → SyntaxFault → List ℕ → Type 0
+IsStringFault t kind there = Traced IsStringPiece t (λ bytes left. StringStops kind left there)
+
+-- the faults of a Display String whose inside is t: all but that of UTF-8 stop the pieces
+abbrev pub IsDisplayFault : List ℕ → SyntaxFault → List ℕ → Type 0
+IsDisplayFault t invalid_utf8_in_display_string there = Traced IsDisplayPiece t (λ bytes left. (rest : List ℕ) × (left ≡ 0x22 ∷ rest) × (¬ IsUtf8 bytes) × (there ≡ behind_pieces (utf8_valid_len bytes) t))
+IsDisplayFault t kind there = Traced IsDisplayPiece t (λ bytes left. DisplayStops kind left there)

@@ -1,0 +1,151 @@
+-- Readers: functions on lists that give a value and the rest, or a fault.
+use Rattle.std.specs.Prelude.{◌≡◌, ℕ, zero, suc, Bool, true, false, List, [], ◌∷◌, ◌++◌, length, Option, Some, None, Result, Ok, Err, if◌then◌else◌, ◌==◌}
+use Rattle.sfv_spec.specs.Events.{TreeEvent}
+use Rattle.sfv_spec.specs.Faults.{SyntaxFault, trailing_comma, trailing_decimal_point, non_integer_date, too_many_digits_after_decimal_point, unterminated_byte_sequence, invalid_byte_sequence, unterminated_display_string, unterminated_escape_sequence, invalid_escape_sequence, invalid_display_string_character, invalid_utf8_in_display_string}
+
+-- What is met first that isn't of the grammar. Where it is exact, the rest begins at the first byte behind
+-- which no text of the grammar goes on; the events are those that were handed out before.
+pub record Fault : Type 0 where
+  pub kind : SyntaxFault
+  pub exact : Bool
+  pub rest : List ℕ
+  pub events : List TreeEvent
+
+-- a fault of which nothing was handed out before
+abbrev pub placed : Bool → SyntaxFault → List ℕ → Fault
+placed exact k t = record { kind = k; exact = exact; rest = t; events = [] }
+
+-- one that stands at the reach
+abbrev pub at_reach : SyntaxFault → List ℕ → Fault
+at_reach k t = placed true k t
+
+-- one whose place has a rule of its own
+abbrev pub by_rule : SyntaxFault → List ℕ → Fault
+by_rule k t = placed false k t
+
+-- a value and the rest of the text, or a fault
+abbrev pub Answer : Type 0 → Type 0
+Answer A = Result (A × List ℕ) Fault
+
+-- what is read of a text
+abbrev pub Reader : Type 0 → Type 0
+Reader A = List ℕ → Answer A
+
+-- behind events that were handed out before
+abbrev pub behind_events : List TreeEvent → Fault → Fault
+behind_events es e = record { kind = e.kind; exact = e.exact; rest = e.rest; events = es ++ e.events }
+
+-- the value, and nothing read
+unfoldable pub give : {A : Type 0} → A → Reader A
+give v t = Ok (v, t)
+
+-- a fault here, at the reach
+unfoldable pub fail : {A : Type 0} → SyntaxFault → Reader A
+fail k t = Err (at_reach k t)
+
+-- a fault here, where its own rule places it
+unfoldable pub ruled : {A : Type 0} → SyntaxFault → Reader A
+ruled k t = Err (by_rule k t)
+
+-- goes on behind an answer, if it is no fault
+abbrev pub and_then : {A B : Type 0} → Answer A → (A → Reader B) → Answer B
+and_then (Ok x) g = g x.0 x.1
+and_then (Err e) g = Err e
+
+-- one reader behind another
+unfoldable pub bind : {A B : Type 0} → Reader A → (A → Reader B) → Reader B
+bind f g t = and_then (f t) g
+
+infixl 10 ◌>>=◌
+abbrev pub ◌>>=◌ : {A B : Type 0} → Reader A → (A → Reader B) → Reader B
+f >>= g = bind f g
+
+-- an answer behind these events
+abbrev pub led_answer : {A : Type 0} → List TreeEvent → Answer A → Answer A
+led_answer es (Ok x) = Ok x
+led_answer es (Err e) = Err (behind_events es e)
+
+-- hands out these events, and goes on
+unfoldable pub led : {A : Type 0} → List TreeEvent → Reader A → Reader A
+led es f t = led_answer es (f t)
+
+-- takes a byte of the class, or goes on without it
+unfoldable pub branch : {A : Type 0} → (ℕ → Bool) → (ℕ → Reader A) → Reader A → Reader A
+branch class taken other [] = other []
+branch class taken other (c ∷ r) = if class c then taken c r else other (c ∷ r)
+
+-- goes on by what the next byte is, and leaves it
+unfoldable pub ahead : {A : Type 0} → (ℕ → Bool) → Reader A → Reader A → Reader A
+ahead class taken other [] = other []
+ahead class taken other (c ∷ r) = if class c then taken (c ∷ r) else other (c ∷ r)
+
+-- a fault at the start of t in place of nothing
+abbrev pub at_start : {A : Type 0} → SyntaxFault → List ℕ → Answer (Option A) → Answer A
+at_start k t (Ok (Some v, r)) = Ok (v, r)
+at_start k t (Ok (None, r)) = Err (record { kind = k; exact = false; rest = t; events = [] })
+at_start k t (Err e) = Err e
+
+-- a fault at the start, by a rule of its own, where f gives nothing
+unfoldable pub back : {A : Type 0} → SyntaxFault → Reader (Option A) → Reader A
+back k f t = at_start k t (f t)
+
+-- at most so many bytes of the class
+unfoldable pub up_to : (ℕ → Bool) → ℕ → Reader (List ℕ)
+up_to class zero = give []
+up_to class (suc n) = branch class (λ c. up_to class n >>= λ cs. give (c ∷ cs)) (give [])
+
+-- the bytes of the class, as many as there are
+unfoldable pub span : (ℕ → Bool) → Reader (List ℕ)
+span class [] = Ok ([], [])
+span class (c ∷ r) = if class c then and_then (span class r) (λ cs. give (c ∷ cs)) else Ok ([], c ∷ r)
+
+-- behind a step: more of them, or the end
+abbrev pub go_on : {A : Type 0} → (A → List TreeEvent) → Reader (List A) → Option A → Reader (List A)
+go_on parts more None = give []
+go_on parts more (Some a) = led (parts a) (more >>= λ vs. give (a ∷ vs))
+
+-- so many steps; want of more never shows, since `many` has enough
+unfoldable pub many_within : {A : Type 0} → (A → List TreeEvent) → ℕ → Reader (Option A) → Reader (List A)
+many_within parts zero step = ruled unterminated_byte_sequence
+many_within parts (suc n) step = step >>= go_on parts (many_within parts n step)
+
+-- step after step, until one gives nothing; each takes a byte, and hands out the events of its value
+unfoldable pub many : {A : Type 0} → (A → List TreeEvent) → Reader (Option A) → Reader (List A)
+many parts step t = many_within parts (suc (length t)) step t
+
+-- the class of one byte
+abbrev pub byte : ℕ → ℕ → Bool
+byte c b = b == c
+
+-- the class of all bytes
+abbrev pub any : ℕ → Bool
+any _ = true
+
+-- what was handed out by an answer
+abbrev pub handed : {A : Type 0} → (A → List TreeEvent) → Answer A → List TreeEvent
+handed parts (Ok x) = parts x.0
+handed parts (Err e) = e.events
+
+-- the byte that stands next
+abbrev pub first : List ℕ → Option ℕ
+first [] = None
+first (c ∷ r) = Some c
+
+-- no byte of the class stands next
+pub record Apart (class : ℕ → Bool) (t : List ℕ) : Type 0 where
+  pub apart : (c : ℕ) → first t ≡ Some c → class c ≡ false
+
+-- the kinds that the table rules
+abbrev pub is_ruled : SyntaxFault → Bool
+is_ruled trailing_comma = true
+is_ruled trailing_decimal_point = true
+is_ruled non_integer_date = true
+is_ruled too_many_digits_after_decimal_point = true
+is_ruled unterminated_byte_sequence = true
+is_ruled invalid_byte_sequence = true
+is_ruled unterminated_display_string = true
+is_ruled unterminated_escape_sequence = true
+is_ruled invalid_escape_sequence = true
+is_ruled invalid_display_string_character = true
+is_ruled invalid_utf8_in_display_string = true
+is_ruled _ = false
