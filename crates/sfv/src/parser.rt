@@ -1,0 +1,7 @@
+//! Reading fields.
+
+mod cursor;
+mod number;
+mod runs;
+mod scan;
+mod text;

@@ -1,0 +1,96 @@
+//! Reading numbers (RFC 9651, section 4.2.4).
+
+ghost use Rattle.std.specs.Prelude.{◌≡◌, ◌≤◌, ◌<◌, ◌^◌, Bool, true, length, Ok};
+ghost use Rattle.sfv_spec.specs.Texts.{RunOf};
+ghost use Rattle.sfv_spec.specs.Classes.{is_digit};
+ghost use Rattle.sfv_spec.specs.Numbers.{signed as with_sign};
+ghost use Rattle.sfv_reading.specs.Reader.{byte};
+ghost use Rattle.sfv_reading.specs.Bare.{sign_at, point_at, whole_at, number_at};
+ghost use Rattle.sfv.specs.Cursor.{rest, Gives, Meets};
+ghost use Rattle.sfv.specs.Numbers.{number_value_of};
+
+use crate::parser::cursor::Cursor;
+use crate::parser::runs::{number_value, thousandths};
+use sfv_base::decimal::Decimal;
+use sfv_base::error::{Error, ErrorKind};
+use sfv_base::integer::Integer;
+
+/// A number of either kind.
+#[derive(Clone, Copy)]
+pub(crate) enum Number {
+    Integer(Integer),
+    Decimal(Decimal),
+}
+
+/// The number of this sign and magnitude.
+fn signed(negative: bool, magnitude: u64) -> Integer
+    requires { magnitude < 10 ^ 15 }
+    ensures { result ≡ with_sign negative magnitude }
+{
+    let magnitude = magnitude as i64;
+    Integer::constant(if negative { -magnitude } else { magnitude })
+}
+
+impl Cursor<'_> {
+    /// Takes a minus, if it stands next.
+    #[tactic(auto, using(crate::proofs::Steps::sign_takes))]
+    fn sign(&mut self) -> bool
+        ensures sign { sign_at (rest self.old) ≡ Ok (result, rest self.new) }
+        ensures input { self.new.input ≡ self.old.input }
+    {
+        self.take_if(b'-')
+    }
+
+    /// Takes a number, by itself or as the seconds of a date.
+    #[tactic(auto, using(crate::proofs::Steps::number_steps))]
+    pub(crate) fn number(&mut self) -> Result<Number, Error>
+        ensures { (dated : Bool) → Gives number_value_of self.old.input self.new result (number_at dated (rest self.old)) }
+    {
+        let negative = self.sign();
+        let whole = self.digits(15);
+        self.behind_whole(negative, whole)
+    }
+
+    /// Takes what stands behind the whole part of a number.
+    #[tactic(auto, using(crate::proofs::Steps::whole_steps))]
+    fn behind_whole(&mut self, negative: bool, whole: &[u8]) -> Result<Number, Error>
+        requires each { RunOf is_digit whole.now }
+        requires most { length whole.now ≤ 15 }
+        ensures { (dated : Bool) → Gives number_value_of self.old.input self.new result (whole_at dated negative whole.now (rest self.old)) }
+    {
+        if whole.is_empty() {
+            return Err(self.error(ErrorKind::ExpectedDigit));
+        }
+        if self.next_is_digit() {
+            return Err(self.error(ErrorKind::TooManyDigits));
+        }
+        if !self.next_is(b'.') {
+            return Ok(Number::Integer(signed(negative, number_value(whole))));
+        }
+        if whole.len() > 12 {
+            return Err(self.error(ErrorKind::TooManyDigitsBeforeDecimalPoint));
+        }
+        self.fraction(negative, whole)
+    }
+
+    /// Takes the point and the fraction of a decimal.
+    #[tactic(auto, using(crate::proofs::Steps::point_steps))]
+    fn fraction(&mut self, negative: bool, whole: &[u8]) -> Result<Number, Error>
+        requires each { RunOf is_digit whole.now }
+        requires most { length whole.now ≤ 12 }
+        requires point { Meets (byte 0x2e) true (rest self.old) }
+        ensures { (dated : Bool) → Gives number_value_of self.old.input self.new result (point_at dated negative whole.now (rest self.old)) }
+    {
+        let point = self.index;
+        self.skip();
+        let fraction = self.digits(3);
+        if fraction.is_empty() {
+            return Err(Error::with_kind(ErrorKind::TrailingDecimalPoint, Some(point)));
+        }
+        if self.next_is_digit() {
+            return Err(self.error(ErrorKind::TooManyDigitsAfterDecimalPoint));
+        }
+        let magnitude = number_value(whole) * 1000 + thousandths(fraction);
+        Ok(Number::Decimal(Decimal::from_integer_scaled_1000(signed(negative, magnitude))))
+    }
+}

@@ -1,0 +1,69 @@
+//! Reading keys and tokens (RFC 9651, sections 4.2.3.3 and 4.2.6).
+
+ghost use Rattle.std.specs.Prelude.{◌≡◌, Bool};
+ghost use Rattle.sfv_spec.specs.Classes.{is_key_start, is_token_start};
+ghost use Rattle.sfv_spec.specs.Values.{token};
+ghost use Rattle.sfv_text.specs.KeyText.{key_text};
+ghost use Rattle.sfv_text.specs.TokenText.{token_text};
+ghost use Rattle.sfv_reading.specs.Bare.{token_at};
+ghost use Rattle.sfv_reading.specs.Items.{key_at};
+ghost use Rattle.sfv.specs.Cursor.{rest, Gives, Meets};
+
+use crate::parser::cursor::Cursor;
+use crate::parser::runs::{key_run, token_run};
+use sfv_base::error::{Error, ErrorKind};
+use sfv_base::utils::{is_allowed_start_key_char, is_allowed_start_token_char};
+use sfv_text::key_ref::KeyRef;
+use sfv_text::token_ref::TokenRef;
+
+impl<'de> Cursor<'de> {
+    /// Whether a byte stands next that a key may begin with.
+    fn next_is_key_start(&self) -> bool
+        ensures { Meets is_key_start result (rest self.now) }
+    {
+        match self.peek() {
+            Some(byte) => is_allowed_start_key_char(byte),
+            None => false,
+        }
+    }
+
+    /// Whether a byte stands next that a token may begin with.
+    fn next_is_token_start(&self) -> bool
+        ensures { Meets is_token_start result (rest self.now) }
+    {
+        match self.peek() {
+            Some(byte) => is_allowed_start_token_char(byte),
+            None => false,
+        }
+    }
+
+    /// Takes a key.
+    #[tactic(auto, using(crate::proofs::Steps::key_steps))]
+    pub(crate) fn key(&mut self) -> Result<KeyRef<'de>, Error>
+        ensures { Gives key_text self.old.input self.new result (key_at (rest self.old)) }
+    {
+        if !self.next_is_key_start() {
+            return Err(self.error(ErrorKind::ExpectedStartOfKey));
+        }
+        let start = self.index;
+        let len = key_run(&self.input[start + 1..]);
+        self.index = start + 1 + len;
+        let text = unsafe { std::str::from_utf8_unchecked(&self.input[start..self.index]) };
+        Ok(KeyRef::constant(text))
+    }
+
+    /// Takes a token.
+    #[tactic(auto, using(crate::proofs::Steps::token_steps))]
+    pub(crate) fn token(&mut self) -> Result<TokenRef<'de>, Error>
+        ensures { Gives (λ t. token (token_text t)) self.old.input self.new result (token_at (rest self.old)) }
+    {
+        if !self.next_is_token_start() {
+            return Err(self.error(ErrorKind::ExpectedStartOfBareItem));
+        }
+        let start = self.index;
+        let len = token_run(&self.input[start + 1..]);
+        self.index = start + 1 + len;
+        let text = unsafe { std::str::from_utf8_unchecked(&self.input[start..self.index]) };
+        Ok(TokenRef::constant(text))
+    }
+}

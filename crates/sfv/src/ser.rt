@@ -1,0 +1,1 @@
+//! Writing fields (RFC 9651, section 4.1).
