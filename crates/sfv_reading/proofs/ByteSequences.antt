@@ -9,7 +9,7 @@ use Rattle.sfv_spec.specs.Base64.{IsBase64Text, symbol}
 use Rattle.sfv_spec.specs.Faults.{unterminated_byte_sequence}
 use Rattle.sfv_reading.specs.Reader.{first, Fault, by_rule}
 use Rattle.sfv_reading.specs.Judgements.{Reached, Sound, Mute, Quiet, IsFault, Lasts, Local}
-use Rattle.sfv_reading.specs.Content.{is_symbol, most_padding, padding_in, valid_from, bytes_of, fault_place, IsBytesEnd, is_colon, HasNoColon, content_in, content_fault, closed_by, bytes_at}
+use Rattle.sfv_reading.specs.Content.{is_symbol, most_padding, padding_in, valid_from, bytes_of, fault_place, IsBytesEnd, is_colon, HasNoColon, content_in, content_fault, closed_by, bytes_at, IsBytesAt, IsInvalidAt}
 use Rattle.sfv_reading.specs.Claims.{IsBytesFault, BytesRead, ShunsMark, ShunsMarks}
 use Rattle.sfv_reading.proofs.Shape.{valid_local, are_symbols}
 use Rattle.sfv_reading.proofs.Contents.{gives_the_bytes, longest_valid, refused_at}
@@ -248,28 +248,6 @@ bytes_faulty t e (inr h) =
 
 pub bytes_read : BytesRead
 bytes_read = (Sound-bytes, bytes_again, λ t e. (bytes_fault t e, bytes_faulty t e), Local-bytes)
-
--- ---- a reading from a place of an input
-
--- the content from start to end, which a colon closes
-pub record IsContentAt (input : List ℕ) (start end : ℕ) (content : List ℕ) : Type 0 where
-  pub text : drop start input ≡ content ++ 0x3a ∷ drop (end + 1) input
-  pub no_colon : HasNoColon content
-  pub counted : end ≡ start + length content
-
--- bytes are read, and the closing colon stands at the end
-pub record IsBytesAt (input : List ℕ) (start : ℕ) (bytes : List ℕ) (end : ℕ) : Type 0 where
-  pub content : List ℕ
-  pub closed : IsContentAt input start end content
-  pub value : bytes_of content ≡ Some bytes
-
--- the content is closed, and at fault at the index
-pub record IsInvalidAt (input : List ℕ) (start index : ℕ) : Type 0 where
-  pub content : List ℕ
-  pub end : ℕ
-  pub closed : IsContentAt input start end content
-  pub no_value : bytes_of content ≡ None
-  pub here : index ≡ start + fault_place content
 
 -- what a reading from a place answers, as the reader says it
 pub gives_value : (input bytes : List ℕ) (start end : ℕ) → IsBytesAt input start bytes end → bytes_at (drop start input) ≡ Ok (bytes, drop (end + 1) input)

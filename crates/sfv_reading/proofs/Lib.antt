@@ -8,6 +8,7 @@ pub mod Shape
 pub mod Contents
 pub mod Lone
 pub mod ByteSequences
+pub mod BytesRules
 pub mod Utf8
 pub mod Pieces
 pub mod Traces

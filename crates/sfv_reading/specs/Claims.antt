@@ -8,7 +8,7 @@ use Rattle.sfv_spec.specs.Events.{TreeEvent, events}
 use Rattle.sfv_spec.specs.Reach.{IsReach}
 use Rattle.sfv_spec.specs.Visiting.{BeginsEvents}
 use Rattle.sfv_spec.specs.Base64.{IsBase64Text, symbols}
-use Rattle.sfv_spec.specs.Faults.{SyntaxFault, trailing_comma, unterminated_byte_sequence, unterminated_escape_sequence, invalid_escape_sequence, unterminated_display_string, invalid_display_string_character, invalid_utf8_in_display_string, IsTrailingComma, WantsBetween, IsUnterminatedDisplay, IsUnterminatedEscape, IsInvalidEscape, IsInvalidDisplayByte, IsInvalidUtf8, IsBase64FaultPlace}
+use Rattle.sfv_spec.specs.Faults.{SyntaxFault, trailing_comma, unterminated_byte_sequence, invalid_byte_sequence, unterminated_escape_sequence, invalid_escape_sequence, unterminated_display_string, invalid_display_string_character, invalid_utf8_in_display_string, IsTrailingComma, WantsBetween, IsUnterminatedByteSequence, IsLoneSymbol, IsUnterminatedDisplay, IsUnterminatedEscape, IsInvalidEscape, IsInvalidDisplayByte, IsInvalidUtf8, IsBase64FaultPlace}
 use Rattle.sfv_reading.specs.Reader.{Fault, Reader, by_rule, is_ruled, handed}
 use Rattle.sfv_reading.specs.Judgements.{Sound, Mute, Quiet, IsFault, Local, Complete, StaysButText}
 use Rattle.sfv_reading.specs.Content.{valid_from, bytes_of, fault_place, IsBytesEnd, HasNoColon, content_fault, bytes_at}
@@ -98,6 +98,22 @@ IsBytesFault t e =
 -- a Byte Sequence is read exactly, and exactly these are its faults
 abbrev pub BytesRead : Type 0
 BytesRead = Sound bytes_at IsBytesEnd (Mute IsBytesEnd) Quiet × Complete bytes_at IsBytesEnd × ((t : List ℕ) (e : Fault) → (bytes_at t ≡ Err e) ↔ IsBytesFault t e) × Local bytes_at
+
+-- In a text in which a bare item is wanted behind before, and a Byte Sequence begins there, the reader gives
+-- this fault by its rule, where so much of the whole is left.
+pub record IsFaultOfBytes (edition : Edition) (kind : FieldKind) (whole : List ℕ) (k : SyntaxFault) (index : ℕ) : Type 0 where
+  pub before : List ℕ
+  pub inside : List ℕ
+  pub there : List ℕ
+  pub place : WantsBetween edition kind whole before (codes ":" ++ inside)
+  pub fault : bytes_at inside ≡ Err (by_rule k there)
+  pub here : index + length there ≡ length whole
+
+-- the faults of a Byte Sequence that have rules are those of these rules, each at its place
+abbrev pub BytesRules : Type 0
+BytesRules =
+    ((edition : Edition) (kind : FieldKind) (whole : List ℕ) (index : ℕ) → IsFaultOfBytes edition kind whole unterminated_byte_sequence index ↔ IsUnterminatedByteSequence edition kind whole index)
+    × ((edition : Edition) (kind : FieldKind) (whole : List ℕ) (index : ℕ) → IsFaultOfBytes edition kind whole invalid_byte_sequence index ↔ IsLoneSymbol edition kind whole index)
 
 -- where a question mark comes, the reader of Byte Sequences faults, or it was done before
 abbrev pub ShunsMark : List ℕ → Type 0

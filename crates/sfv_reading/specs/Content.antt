@@ -1,5 +1,5 @@
 -- Reading a Byte Sequence: its content from left to right, and the reader behind the opening colon.
-use Rattle.std.specs.Prelude.{ℕ, zero, suc, ◌+◌, ◌-◌, ◌*◌, ◌/◌, ◌%◌, ◌==◌, List, [], ◌∷◌, length, drop, Bool, not, ◌||◌, ◌&&◌, if◌then◌else◌, Option, Some, None, Ok, Err, codes}
+use Rattle.std.specs.Prelude.{◌≡◌, ◌++◌, ℕ, zero, suc, ◌+◌, ◌-◌, ◌*◌, ◌/◌, ◌%◌, ◌==◌, List, [], ◌∷◌, length, drop, Bool, not, ◌||◌, ◌&&◌, if◌then◌else◌, Option, Some, None, Ok, Err, codes}
 use Rattle.std.specs.List.{list_any}
 use Rattle.sfv_spec.specs.Texts.{RunOf, Exactly, ◌⨾◌}
 use Rattle.sfv_spec.specs.Classes.{is_between}
@@ -90,3 +90,25 @@ closed_by t content None = Err (content_fault content (drop (fault_place content
 -- a Byte Sequence, or the fault of its content
 unfoldable pub bytes_at : Reader (List ℕ)
 bytes_at t = if list_any is_colon t then closed_by t (content_in t) (bytes_of (content_in t)) else Err (by_rule unterminated_byte_sequence [])
+
+-- ---- a reading from a place of an input
+
+-- the content from start to end, which a colon closes
+pub record IsContentAt (input : List ℕ) (start end : ℕ) (content : List ℕ) : Type 0 where
+  pub text : drop start input ≡ content ++ 0x3a ∷ drop (end + 1) input
+  pub no_colon : HasNoColon content
+  pub counted : end ≡ start + length content
+
+-- bytes are read, and the closing colon stands at the end
+pub record IsBytesAt (input : List ℕ) (start : ℕ) (bytes : List ℕ) (end : ℕ) : Type 0 where
+  pub content : List ℕ
+  pub closed : IsContentAt input start end content
+  pub value : bytes_of content ≡ Some bytes
+
+-- the content is closed, and at fault at the index
+pub record IsInvalidAt (input : List ℕ) (start index : ℕ) : Type 0 where
+  pub content : List ℕ
+  pub end : ℕ
+  pub closed : IsContentAt input start end content
+  pub no_value : bytes_of content ≡ None
+  pub here : index ≡ start + fault_place content
