@@ -1,3 +1,6 @@
 pub mod Runs
 pub mod Steps
 pub mod Ascii
+pub mod Symbols
+pub mod Contents
+pub mod Coded

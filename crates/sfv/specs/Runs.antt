@@ -1,0 +1,18 @@
+-- Runs of symbols of Base64, and of padding.
+use Rattle.std.specs.Prelude.{◌≡◌, ℕ, ◌≤◌, ◌⊎◌, List, length, take, drop, replicate}
+use Rattle.sfv_spec.specs.Texts.{RunOf}
+use Rattle.sfv_reading.specs.Reader.{Apart, byte}
+use Rattle.sfv_reading.specs.Content.{is_symbol}
+
+-- the first n bytes, and no more, are symbols
+pub record IsSymbolRun (t : List ℕ) (n : ℕ) : Type 0 where
+  pub within : n ≤ length t
+  pub each : RunOf is_symbol (take n t)
+  pub ends : Apart is_symbol (drop n t)
+
+-- the first n bytes, and no more of the first so many, are padding
+pub record IsPaddingRun (t : List ℕ) (most n : ℕ) : Type 0 where
+  pub within : n ≤ length t
+  pub room : n ≤ most
+  pub each : take n t ≡ replicate n 0x3d
+  pub ends : (n ≡ most) ⊎ Apart (byte 0x3d) (drop n t)
