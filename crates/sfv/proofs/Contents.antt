@@ -11,7 +11,8 @@ use Rattle.sfv_reading.specs.Reader.{Apart}
 use Rattle.sfv_reading.specs.Content.{is_symbol, most_padding, valid_from, fault_place, HasNoColon, bytes_at}
 use Rattle.sfv_reading.proofs.Shape.{Shape, is_equals, shape_valid, valid_local}
 use Rattle.sfv_reading.proofs.Contents.{well_formed, gives_the_bytes, refused_at, lone_symbol}
-use Rattle.sfv_reading.proofs.ByteSequences.{symbols_apart, padding_apart, both_apart, no_colon, IsContentAt, IsBytesAt, IsInvalidAt, gives_value, gives_fault, gives_unclosed}
+use Rattle.sfv_reading.proofs.ByteSequences.{symbols_apart, padding_apart, both_apart, no_colon, gives_value, gives_fault, gives_unclosed}
+use Rattle.sfv_reading.specs.Content.{IsContentAt, IsBytesAt, IsInvalidAt}
 use Rattle.sfv.specs.Cursor.{told}
 use Rattle.sfv.specs.Runs.{IsSymbolRun, IsPaddingRun}
 use Rattle.sfv.specs.Zeros.{decoded_symbols}

@@ -4,3 +4,5 @@ pub mod Ascii
 pub mod Symbols
 pub mod Contents
 pub mod Coded
+pub mod Errors
+pub mod Collected

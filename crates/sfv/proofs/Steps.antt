@@ -1,19 +1,26 @@
 -- What a reader gives, by what the code found out.
-use Rattle.std.proofs.Common.{◌≡◌, ℕ, ◌+◌, ◌-◌, ◌*◌, ◌^◌, ◌<◌, ◌≤◌, Bool, true, false, eqb, ltb, List, [], ◌∷◌, length, Option, Some, None, Ok, Err, refl, sym, ap, ◌∙◌, arith, suc, get_or, take, drop}
-use Rattle.std.specs.Prelude.{IsTrue}
+use Rattle.std.proofs.Common.{◌≡◌, ℕ, ◌+◌, ◌-◌, ◌*◌, ◌^◌, ◌<◌, ◌≤◌, Bool, true, false, eqb, ltb, List, [], ◌∷◌, length, Option, Some, None, Ok, Err, refl, sym, ap, subst, ◌∙◌, arith, suc, get_or, take, drop}
+use Rattle.std.specs.Prelude.{IsTrue, ℤ, MatchOption}
 use Rattle.std.proofs.lemmas.List.{drop_more, drop-drop, length-drop}
 use Rattle.std.proofs.lemmas.Bool.{and_from}
 use Rattle.sfv_spec.specs.Texts.{RunOf}
-use Rattle.sfv_spec.specs.Classes.{is_digit, is_key_start, is_key_inner, is_key, is_token_start, is_token_inner, is_token}
-use Rattle.sfv_spec.specs.Values.{BareValue, integer, decimal, token}
+use Rattle.sfv_spec.specs.Classes.{is_digit, is_space, is_key_start, is_key_inner, is_key, is_token_start, is_token_inner, is_token}
+use Rattle.sfv_spec.specs.Values.{Edition, rfc8941, rfc9651, RawParameters, RawItem, BareValue, integer, decimal, token, boolean, date, display_string, string, byte_sequence}
+use Rattle.sfv_base.specs.declared.error.Error.{Error}
+use Rattle.std.specs.Borrow.{Bor}
+use Rattle.sfv_base.specs.declared.error.ErrorKind.{ErrorKind}
 use Rattle.sfv_spec.specs.Numbers.{place_value, signed}
-use Rattle.sfv_base.specs.declared.error.ErrorKind.TheVariants.{ExpectedStartOfKey, ExpectedStartOfBareItem, ExpectedDigit, TooManyDigits, TooManyDigitsBeforeDecimalPoint, TooManyDigitsAfterDecimalPoint, TrailingDecimalPoint}
-use Rattle.sfv_spec.specs.Faults.{too_many_digits_before_decimal_point, trailing_decimal_point}
-use Rattle.sfv_reading.specs.Reader.{Answer, Reader, give, fail, ruled, bind, ◌>>=◌, branch, ahead, at_start, back, up_to, span, byte, Apart}
-use Rattle.sfv_reading.specs.Bare.{sign_at, long_at, decimal_at, fraction_at, point_at, whole_at, number_at, token_at}
-use Rattle.sfv_reading.specs.Items.{key_at}
-use Rattle.sfv_reading.proofs.Again.{branch_past, branch_take, ahead_past, ahead_take, bind_again}
-use Rattle.sfv.specs.Cursor.{told, Meets, Takes, Skips}
+use Rattle.sfv_base.specs.declared.error.ErrorKind.TheVariants.{OutOfMemory, ExpectedQuote, Rfc8941DisplayString, ExpectedBoolean, Rfc8941Date, NonIntegerDate, ExpectedStartOfKey, ExpectedStartOfBareItem, ExpectedDigit, TooManyDigits, TooManyDigitsBeforeDecimalPoint, TooManyDigitsAfterDecimalPoint, TrailingDecimalPoint}
+use Rattle.sfv_spec.specs.Faults.{expected_quote, non_integer_date, too_many_digits_before_decimal_point, trailing_decimal_point}
+use Rattle.sfv_reading.specs.Reader.{Answer, Reader, and_then, led, led_answer, give, fail, ruled, bind, ◌>>=◌, branch, ahead, at_start, back, up_to, span, byte, Apart}
+use Rattle.sfv_reading.specs.Bare.{is_number_start, bare_at, boolean_at, as_date, date_at, quoted_at, sign_at, long_at, decimal_at, fraction_at, point_at, whole_at, number_at, token_at}
+use Rattle.sfv_reading.specs.Quoted.{string_at, display_at}
+use Rattle.sfv_reading.specs.Content.{bytes_at}
+use Rattle.sfv_reading.specs.Items.{key_at, value_at, parameter_at, parameters_at, item_of, item_at}
+use Rattle.sfv_spec.specs.Events.{TreeEvent, bare_item}
+use Rattle.sfv_reading.proofs.Again.{branch_past, branch_take, ahead_past, ahead_take, bind_again, led_again}
+use Rattle.sfv.proofs.Errors.{fault_bind}
+use Rattle.sfv.specs.Cursor.{told, IsFaultOf, Meets, Takes, Skips}
 
 pub ahead_true : {A : Type 0} (class : ℕ → Bool) (taken other : Reader A) (t : List ℕ) → Meets class true t → ahead class taken other t ≡ taken t
 ahead_true class taken other t m = ap (ahead class taken other) m.2 ∙ ahead_take class taken other m.0 m.1 m.3 ∙ ap taken (sym m.2)
@@ -154,3 +161,180 @@ token_some xs t i len h =
 pub ruleset key_steps = (meets_within, key_none)
 
 pub ruleset token_steps = (meets_within, token_none)
+
+-- ---- booleans
+
+pub boolean_false : (t r : List ℕ) → Takes (byte 0x30) true t r → boolean_at t ≡ Ok (boolean false, r)
+unfolding boolean_at give
+boolean_false t r m = branch_true _ _ _ t r m
+
+pub boolean_true : (t r q : List ℕ) → Takes (byte 0x30) false t r → Takes (byte 0x31) true r q → boolean_at t ≡ Ok (boolean true, q)
+unfolding boolean_at give
+boolean_true t r q m k = branch_false _ _ _ t r m ∙ branch_true _ _ _ r q k
+
+pub boolean_none : (t r q : List ℕ) → Takes (byte 0x30) false t r → Takes (byte 0x31) false r q → told (boolean_at t) ≡ Err (ExpectedBoolean, q)
+unfolding boolean_at fail
+boolean_none t r q m k = ap told (branch_false _ _ _ t r m ∙ branch_false _ _ _ r q k)
+
+pub ruleset boolean_steps = (boolean_false, boolean_true, boolean_none)
+
+-- ---- dates
+
+pub date_older : (t : List ℕ) → told (date_at rfc8941 t) ≡ Err (Rfc8941Date, t)
+unfolding date_at fail
+date_older t = refl
+
+at_sign : (t r : List ℕ) → Meets (byte 0x40) true t → Skips t r → date_at rfc9651 t ≡ at_start non_integer_date t ((number_at true >>= λ v. give (as_date v)) r)
+unfolding date_at back
+at_sign t r m k =
+    let same : m.0 ∷ m.1 ≡ k.0 ∷ r = sym m.2 ∙ k.1 in
+    let after : m.1 ≡ r = cc in
+    ap (at_start non_integer_date t) (branch_true (byte 0x40) _ _ t r (m.0, m.2 ∙ ap (λ (l : List ℕ). m.0 ∷ l) after, m.3))
+
+pub date_integer : (t r q : List ℕ) (z : ℤ) → Meets (byte 0x40) true t → Skips t r → number_at true r ≡ Ok (integer z, q) → date_at rfc9651 t ≡ Ok (date z, q)
+unfolding give
+date_integer t r q z m k n = at_sign t r m k ∙ ap (at_start non_integer_date t) (bind_again _ _ r q (integer z) n)
+
+pub date_decimal : (t r q : List ℕ) (z : ℤ) → Meets (byte 0x40) true t → Skips t r → number_at true r ≡ Ok (decimal z, q) → told (date_at rfc9651 t) ≡ Err (NonIntegerDate, t)
+unfolding give
+date_decimal t r q z m k n = ap told (at_sign t r m k ∙ ap (at_start non_integer_date t) (bind_again _ _ r q (decimal z) n))
+
+start_fault : (k t s : List ℕ) (o : Answer (Option BareValue)) (kind : ErrorKind) → told o ≡ Err (kind, s) → told (at_start non_integer_date t o) ≡ Err (kind, s)
+start_fault k t s (Ok x) kind h = absurd cc
+start_fault k t s (Err f) kind h = ap (λ (p : ErrorKind × List ℕ). Err p) cc
+
+date_faulty : (t r : List ℕ) (kind : ErrorKind) (s : List ℕ) → Meets (byte 0x40) true t → Skips t r → told (number_at true r) ≡ Err (kind, s) → told (date_at rfc9651 t) ≡ Err (kind, s)
+date_faulty t r kind s m k n = ap told (at_sign t r m k) ∙ start_fault t t s _ kind (fault_bind _ _ r kind s n)
+
+pub date_fault : (t r : List ℕ) (i j : Bor (List ℕ)) (e : Error) → Meets (byte 0x40) true t → Skips t r → i ≡ j → IsFaultOf i.now e (number_at true r) → IsFaultOf j.now e (date_at rfc9651 t)
+date_fault t r i j e m k same h = subst (λ (i : Bor (List ℕ)). IsFaultOf i.now e (date_at rfc9651 t)) same (on e.index h)
+  where
+    on : (o : Option ℕ) → MatchOption o ⊥ (λ index. (told (number_at true r) ≡ Err (e.kind, drop index i.now)) × (index ≤ length i.now)) → MatchOption o ⊥ (λ index. (told (date_at rfc9651 t) ≡ Err (e.kind, drop index i.now)) × (index ≤ length i.now))
+    on None h = h
+    on (Some i) h = (date_faulty t r _ _ m k h.0, h.1)
+
+-- ---- display strings
+
+pub quoted_older : (t : List ℕ) → told (quoted_at rfc8941 t) ≡ Err (Rfc8941DisplayString, t)
+unfolding quoted_at fail
+quoted_older t = refl
+
+quoted_is : (t r : List ℕ) → Meets (byte 0x25) true t → Skips t r → quoted_at rfc9651 t ≡ branch (byte 0x22) (λ _. display_at >>= λ s. give (display_string s)) (fail expected_quote) r
+unfolding quoted_at
+quoted_is t r m k =
+    let same : m.0 ∷ m.1 ≡ k.0 ∷ r = sym m.2 ∙ k.1 in
+    let after : m.1 ≡ r = cc in
+    branch_true (byte 0x25) _ _ t r (m.0, m.2 ∙ ap (λ (l : List ℕ). m.0 ∷ l) after, m.3)
+
+pub quoted_no_quote : (t r q : List ℕ) → Meets (byte 0x25) true t → Skips t r → Takes (byte 0x22) false r q → told (quoted_at rfc9651 t) ≡ Err (ExpectedQuote, q)
+unfolding fail
+quoted_no_quote t r q m k n = ap told (quoted_is t r m k ∙ branch_false _ _ _ r q n)
+
+pub quoted_reads : (t r q : List ℕ) → Meets (byte 0x25) true t → Skips t r → Takes (byte 0x22) true r q → quoted_at rfc9651 t ≡ (display_at >>= λ s. give (display_string s)) q
+quoted_reads t r q m k n = quoted_is t r m k ∙ branch_true _ _ _ r q n
+
+pub ruleset quoted_steps = quoted_older
+
+pub ruleset date_steps = date_older
+
+-- ---- bare items
+
+pub bare_boolean : (edition : Edition) (t r : List ℕ) → Takes (byte 0x3f) true t r → bare_at edition t ≡ boolean_at r
+unfolding bare_at
+bare_boolean edition t r m = branch_true _ _ _ t r m
+
+pub bare_string : (edition : Edition) (t r q : List ℕ) → Takes (byte 0x3f) false t r → Takes (byte 0x22) true r q → bare_at edition t ≡ (string_at >>= λ s. give (string s)) q
+unfolding bare_at
+bare_string edition t r q m k = branch_false _ _ _ t r m ∙ branch_true _ _ _ r q k
+
+-- none of the first three openers stands next
+pub record NoOpener (t r q w : List ℕ) : Type 0 where
+  pub no_boolean : Takes (byte 0x3f) false t r
+  pub no_string : Takes (byte 0x22) false r q
+  pub no_bytes : Takes (byte 0x3a) false q w
+
+pub bare_bytes : (edition : Edition) (t r q w : List ℕ) → Takes (byte 0x3f) false t r → Takes (byte 0x22) false r q → Takes (byte 0x3a) true q w → bare_at edition t ≡ (bytes_at >>= λ s. give (byte_sequence s)) w
+unfolding bare_at
+bare_bytes edition t r q w m k n = branch_false _ _ _ t r m ∙ branch_false _ _ _ r q k ∙ branch_true _ _ _ q w n
+
+others : (edition : Edition) → Reader BareValue
+others edition = ahead (byte 0x40) (date_at edition) (ahead (byte 0x25) (quoted_at edition) (ahead is_number_start (number_at false) token_at))
+
+bare_others : (edition : Edition) (t r q w : List ℕ) → NoOpener t r q w → bare_at edition t ≡ others edition w
+unfolding bare_at others
+bare_others edition t r q w h = branch_false _ _ _ t r h.no_boolean ∙ branch_false _ _ _ r q h.no_string ∙ branch_false _ _ _ q w h.no_bytes
+
+pub bare_date : (edition : Edition) (t r q w : List ℕ) → NoOpener t r q w → Meets (byte 0x40) true w → bare_at edition t ≡ date_at edition w
+unfolding others
+bare_date edition t r q w h m = bare_others edition t r q w h ∙ ahead_true _ _ _ w m
+
+pub bare_quoted : (edition : Edition) (t r q w : List ℕ) → NoOpener t r q w → Apart (byte 0x40) w → Meets (byte 0x25) true w → bare_at edition t ≡ quoted_at edition w
+unfolding others
+bare_quoted edition t r q w h m k = bare_others edition t r q w h ∙ ahead_past _ _ _ w m ∙ ahead_true _ _ _ w k
+
+pub bare_number : (edition : Edition) (t r q w : List ℕ) → NoOpener t r q w → Apart (byte 0x40) w → Apart (byte 0x25) w → Meets is_number_start true w → bare_at edition t ≡ number_at false w
+unfolding others
+bare_number edition t r q w h m k n = bare_others edition t r q w h ∙ ahead_past _ _ _ w m ∙ ahead_past _ _ _ w k ∙ ahead_true _ _ _ w n
+
+pub bare_token : (edition : Edition) (t r q w : List ℕ) → NoOpener t r q w → Apart (byte 0x40) w → Apart (byte 0x25) w → Apart is_number_start w → bare_at edition t ≡ token_at w
+unfolding others
+bare_token edition t r q w h m k n = bare_others edition t r q w h ∙ ahead_past _ _ _ w m ∙ ahead_past _ _ _ w k ∙ ahead_past _ _ _ w n
+
+-- what is read of a part and then given on
+pub given : {A B : Type 0} (f : Reader A) (view : A → B) (t r : List ℕ) (v : A) → f t ≡ Ok (v, r) → (f >>= λ s. give (view s)) t ≡ Ok (view v, r)
+unfolding give
+given f view t r v e = bind_again f _ t r v e
+
+pub ruleset bare_steps = bare_boolean
+
+-- ---- parameters
+
+pub value_given : (edition : Edition) (t r : List ℕ) → Takes (byte 0x3d) true t r → value_at edition t ≡ bare_at edition r
+unfolding value_at
+value_given edition t r m = branch_true _ _ _ t r m
+
+pub value_left_out : (edition : Edition) (t r : List ℕ) → Takes (byte 0x3d) false t r → value_at edition t ≡ Ok (boolean true, r)
+unfolding value_at give
+value_left_out edition t r m = branch_false _ _ _ t r m
+
+pub ruleset value_steps = (value_given, value_left_out)
+
+pub parameter_none : (edition : Edition) (t r : List ℕ) → Takes (byte 0x3b) false t r → parameter_at edition t ≡ Ok (None, r)
+unfolding parameter_at give
+parameter_none edition t r m = branch_false _ _ _ t r m
+
+-- behind the semicolon and spaces
+pub parameter_is : (edition : Edition) (t r s q : List ℕ) → Takes (byte 0x3b) true t r → span is_space r ≡ Ok (s, q) → parameter_at edition t ≡ (key_at >>= λ key. value_at edition >>= λ v. give (Some (key, v))) q
+unfolding parameter_at
+parameter_is edition t r s q m i = branch_true _ _ _ t r m ∙ bind_again _ _ r q s i
+
+pub parameter_keyed : (edition : Edition) (t r s q key w : List ℕ) → Takes (byte 0x3b) true t r → span is_space r ≡ Ok (s, q) → key_at q ≡ Ok (key, w) → parameter_at edition t ≡ (value_at edition >>= λ v. give (Some (key, v))) w
+parameter_keyed edition t r s q key w m i k = parameter_is edition t r s q m i ∙ bind_again _ _ q w key k
+
+pub parameter_some : (edition : Edition) (t r s q key w x : List ℕ) (v : BareValue) → Takes (byte 0x3b) true t r → span is_space r ≡ Ok (s, q) → key_at q ≡ Ok (key, w) → value_at edition w ≡ Ok (v, x) → parameter_at edition t ≡ Ok (Some (key, v), x)
+unfolding give
+parameter_some edition t r s q key w x v m i k e = parameter_keyed edition t r s q key w m i k ∙ bind_again _ _ w x v e
+
+pub ruleset parameter_steps = parameter_none
+
+-- ---- items
+
+-- what stands behind a bare item
+pub item_behind : Edition → BareValue → Reader RawItem
+item_behind edition bare = led (bare_item bare ∷ []) (parameters_at edition >>= λ ps. give (item_of bare ps))
+
+pub item_is : (edition : Edition) (t : List ℕ) → item_at edition t ≡ (bare_at edition >>= item_behind edition) t
+unfolding item_at item_behind
+item_is edition t = refl
+
+told_led : {A : Type 0} (es : List TreeEvent) (a : Answer A) → told (led_answer es a) ≡ told a
+told_led es (Ok x) = refl
+told_led es (Err f) = refl
+
+pub item_told : (edition : Edition) (t r : List ℕ) (bare : BareValue) → bare_at edition t ≡ Ok (bare, r) → told (item_at edition t) ≡ told ((parameters_at edition >>= λ ps. give (item_of bare ps)) r)
+unfolding item_behind led
+item_told edition t r bare e = ap told (item_is edition t ∙ bind_again (bare_at edition) (item_behind edition) t r bare e) ∙ told_led (bare_item bare ∷ []) ((parameters_at edition >>= λ ps. give (item_of bare ps)) r)
+
+pub item_some : (edition : Edition) (t r q : List ℕ) (bare : BareValue) (ps : RawParameters) → bare_at edition t ≡ Ok (bare, r) → parameters_at edition r ≡ Ok (ps, q) → item_at edition t ≡ Ok (item_of bare ps, q)
+unfolding item_behind give
+item_some edition t r q bare ps e k = item_is edition t ∙ bind_again (bare_at edition) (item_behind edition) t r bare e ∙ led_again (bare_item bare ∷ []) (parameters_at edition >>= λ ps. give (item_of bare ps)) r q (item_of bare ps) (bind_again _ _ r q ps k)

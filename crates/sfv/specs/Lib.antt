@@ -3,3 +3,4 @@ pub mod Numbers
 pub mod Texts
 pub mod Runs
 pub mod Zeros
+pub mod Items

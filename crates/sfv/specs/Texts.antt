@@ -4,6 +4,8 @@ use Rattle.std.specs.declared.alloc.Global.{Global}
 use Rattle.std.specs.declared.vec.Vec.{Vec}
 use Rattle.std.specs.declared.borrow.CowStr.{CowStr}
 use Rattle.std.specs.declared.borrow.CowStr.TheVariants as cow
+use Rattle.sfv_spec.specs.Values.{BareValue, display_string}
+use Rattle.sfv_text.specs.BareItems.{cow_text}
 use Rattle.sfv_text.specs.declared.bare.StringFromInput.{StringFromInput}
 use Rattle.sfv_text.specs.declared.bare.StringFromInput.TheVariants as input
 
@@ -19,3 +21,7 @@ is_borrowed_string (input.Owned s) = false
 abbrev pub is_borrowed_text : CowStr Global → Bool
 is_borrowed_text (cow.Borrowed s) = true
 is_borrowed_text (cow.Owned s) = false
+
+-- the value of a display string that was read
+abbrev pub display_value_of : CowStr Global → BareValue
+display_value_of text = display_string (cow_text text)
