@@ -6,3 +6,5 @@ pub mod Contents
 pub mod Coded
 pub mod Errors
 pub mod Collected
+pub mod Whole
+pub mod Parsed

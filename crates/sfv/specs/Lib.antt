@@ -4,3 +4,5 @@ pub mod Texts
 pub mod Runs
 pub mod Zeros
 pub mod Items
+pub mod Fields
+pub mod Parsers

@@ -1,5 +1,6 @@
 //! Structured Field Values for HTTP (RFC 9651, and RFC 8941 by a version switch).
 #![tactic(auto)]
 
-mod parser;
+pub mod field_type;
+pub mod parser;
 mod ser;

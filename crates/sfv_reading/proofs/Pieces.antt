@@ -7,8 +7,8 @@ use Rattle.std.proofs.lemmas.List.{append-nil}
 use Rattle.sfv_spec.specs.Texts.{RunOf}
 use Rattle.sfv_spec.specs.Classes.{is_string_byte, is_lower_hexadecimal}
 use Rattle.sfv_spec.specs.Strings.{is_escaped_in_string, is_plain_in_display, IsStringPiece, IsDisplayPiece}
-use Rattle.sfv_spec.specs.Faults.{SyntaxFault, invalid_string_character, unterminated_string, unterminated_escape_sequence, invalid_escape_sequence, invalid_display_string_character, unterminated_display_string}
-use Rattle.sfv_reading.specs.Reader.{first, Answer, Reader, at_reach, by_rule, is_ruled}
+use Rattle.sfv_spec.specs.Faults.{has_rule, SyntaxFault, invalid_string_character, unterminated_string, unterminated_escape_sequence, invalid_escape_sequence, invalid_display_string_character, unterminated_display_string}
+use Rattle.sfv_reading.specs.Reader.{first, Answer, Reader, at_reach, by_rule}
 use Rattle.sfv_reading.specs.Quoted.{behind_bytes, string_from, Place, outside, percent, digit, pieces_from, StringStops, DisplayStops}
 
 -- ---- values in front
@@ -147,7 +147,7 @@ display_stops_again invalid_escape_sequence left there h = (0x25 ∷ h.0, rw (h.
 display_stops_again invalid_display_string_character left there h = ([], h.2 ∙ sym h.3, λ r e. let s = same_first h.0 h.1 r (e ∙ ap first h.3) in (h.0, s.0, s.1, s.1, h.4))
 display_stops_again _ left there h = absurd h
 
-pub display_ruled : (k : SyntaxFault) (left there : List ℕ) → DisplayStops k left there → is_ruled k ≡ true
+pub display_ruled : (k : SyntaxFault) (left there : List ℕ) → DisplayStops k left there → has_rule k ≡ true
 display_ruled unterminated_display_string left there h = refl
 display_ruled unterminated_escape_sequence left there h = refl
 display_ruled invalid_escape_sequence left there h = refl

@@ -5,9 +5,9 @@ use Rattle.std.specs.List.{list_all}
 use Rattle.std.proofs.lemmas.Bool.{and_from, and_parts, true≢false, eqb-true}
 use Rattle.sfv_spec.specs.Texts.{RunOf}
 use Rattle.sfv_spec.specs.Events.{TreeEvent}
-use Rattle.sfv_spec.specs.Faults.{SyntaxFault}
+use Rattle.sfv_spec.specs.Faults.{has_rule, SyntaxFault}
 use Rattle.sfv_reading.specs.Judgements.{GoesOn, Reached, Sound}
-use Rattle.sfv_reading.specs.Reader.{is_ruled, Fault, Answer, Reader, and_then, give, fail, ruled, ◌>>=◌, bind, led_answer, led, branch, ahead, at_start, back, up_to, span, byte}
+use Rattle.sfv_reading.specs.Reader.{Fault, Answer, Reader, and_then, give, fail, ruled, ◌>>=◌, bind, led_answer, led, branch, ahead, at_start, back, up_to, span, byte}
 
 further : (W : List ℕ → List TreeEvent → Type 0) (s q : List ℕ) (e : Fault) → GoesOn (λ u es. W (s ++ u) es) q e → GoesOn W (s ++ q) e
 further W s q e g = record {
@@ -30,7 +30,7 @@ pub Sound-fail : {A : Type 0} (k : SyntaxFault) (P : A → List ℕ → Type 0) 
 unfolding fail
 Sound-fail k P W V c q = record { sound = λ t. ((λ _. record { front = []; more = c; parts = refl; holds = q }), λ e. absurd (true≢false e)) }
 
-pub Sound-ruled : {A : Type 0} (k : SyntaxFault) (P : A → List ℕ → Type 0) (W : List ℕ → List TreeEvent → Type 0) (V : List TreeEvent → Type 0) → is_ruled k ≡ true → V [] → Sound (ruled k) P W V
+pub Sound-ruled : {A : Type 0} (k : SyntaxFault) (P : A → List ℕ → Type 0) (W : List ℕ → List TreeEvent → Type 0) (V : List TreeEvent → Type 0) → has_rule k ≡ true → V [] → Sound (ruled k) P W V
 unfolding ruled
 Sound-ruled k P W V r q = record { sound = λ t. ((λ e. absurd (true≢false (sym e))), λ _. (q, r)) }
 
@@ -77,12 +77,12 @@ abbrev pub Found : {A : Type 0} → (A → List ℕ → Type 0) → Option A →
 Found P (Some v) s = P v s
 Found P None s = ⊤
 
-from_start : {A : Type 0} (P : A → List ℕ → Type 0) (W : List ℕ → List TreeEvent → Type 0) (V : List TreeEvent → Type 0) (k : SyntaxFault) (t : List ℕ) (a : Answer (Option A)) → is_ruled k ≡ true → V [] → Reached (Found P) W V t a → Reached P W V t (at_start k t a)
+from_start : {A : Type 0} (P : A → List ℕ → Type 0) (W : List ℕ → List TreeEvent → Type 0) (V : List TreeEvent → Type 0) (k : SyntaxFault) (t : List ℕ) (a : Answer (Option A)) → has_rule k ≡ true → V [] → Reached (Found P) W V t a → Reached P W V t (at_start k t a)
 from_start P W V k t (Ok (Some v, r)) late q h = h
 from_start P W V k t (Ok (None, r)) late q h = ((λ e. absurd (true≢false (sym e))), λ _. (q, late))
 from_start P W V k t (Err e) late q h = h
 
-pub Sound-back : {A : Type 0} (k : SyntaxFault) (f : Reader (Option A)) (P : A → List ℕ → Type 0) (W : List ℕ → List TreeEvent → Type 0) (V : List TreeEvent → Type 0) → is_ruled k ≡ true → V [] → Sound f (Found P) W V → Sound (back k f) P W V
+pub Sound-back : {A : Type 0} (k : SyntaxFault) (f : Reader (Option A)) (P : A → List ℕ → Type 0) (W : List ℕ → List TreeEvent → Type 0) (V : List TreeEvent → Type 0) → has_rule k ≡ true → V [] → Sound f (Found P) W V → Sound (back k f) P W V
 unfolding back
 Sound-back k f P W V late q h = record { sound = λ t. from_start P W V k t (f t) late q (h.sound t) }
 

@@ -6,11 +6,11 @@ use Rattle.sfv_spec.specs.Values.{Edition, FieldKind}
 use Rattle.sfv_spec.specs.Grammar.{IsFieldText}
 use Rattle.sfv_spec.specs.Events.{TreeEvent, events}
 use Rattle.sfv_spec.specs.Reach.{BeginsAccepted, IsReach}
-use Rattle.sfv_spec.specs.Faults.{trailing_characters_after_parsed_value}
+use Rattle.sfv_spec.specs.Faults.{has_rule, trailing_characters_after_parsed_value}
 use Rattle.sfv_spec.proofs.Reached.{reach_before, reach_end}
 use Rattle.sfv_spec.proofs.Valid.{accepted_is_value_lem}
 use Rattle.sfv_reading.specs.Judgements.{Reached, Lasts, Local}
-use Rattle.sfv_reading.specs.Reader.{is_ruled, first, Fault, Answer, Reader}
+use Rattle.sfv_reading.specs.Reader.{first, Fault, Answer, Reader}
 use Rattle.sfv_reading.specs.Fields.{whole_field_at, ending, read_field}
 use Rattle.sfv_reading.specs.Claims.{ReadIsAccepted, FaultIsPlaced}
 use Rattle.sfv_reading.proofs.Sound.{Somewhere, Goes, Reads}
@@ -79,16 +79,16 @@ module _ {A : Type 0} (f : Reader A) (P : A → List ℕ → Type 0) (parts : A 
   told_at : (t : List ℕ) (x : Fault) → Reached P (Goes P parts) (Somewhere (Goes P parts)) t (Err x) → Somewhere (Goes P parts) x.events
   told_at t x h = elim (cases_Bool x.exact) [ inl e ↦ let g = h.0 e in (g.front ++ g.more, g.holds) | inr e ↦ (h.1 e).0 ]
 
-  told_on : (t : List ℕ) (e : Fault) (a : Answer A) → Reached P (Goes P parts) (Somewhere (Goes P parts)) t a → ending parts a ≡ Err e → Somewhere (Goes P parts) e.events × (e.exact ≡ false → is_ruled e.kind ≡ true)
+  told_on : (t : List ℕ) (e : Fault) (a : Answer A) → Reached P (Goes P parts) (Somewhere (Goes P parts)) t a → ending parts a ≡ Err e → Somewhere (Goes P parts) e.events × (e.exact ≡ false → has_rule e.kind ≡ true)
   told_on t e (Ok (v, [])) h i = absurd cc
   told_on t e (Ok (v, c ∷ q)) h i =
       let same : record { kind = trailing_characters_after_parsed_value; exact = true; rest = c ∷ q; events = parts v } ≡ e = cc in
       (subst (Somewhere (Goes P parts)) (ap (λ (e : Fault). e.events) same) (h.0, (v, h.2, ([], sym (append-nil (parts v))))), λ x. let y : true ≡ false = ap (λ (e : Fault). e.exact) same ∙ x in absurd cc)
   told_on t e (Err x) h i =
       let same : x ≡ e = cc in
-      (subst (Somewhere (Goes P parts)) (ap (λ (e : Fault). e.events) same) (told_at t x h), λ y. ap is_ruled (ap (λ (e : Fault). e.kind) (sym same)) ∙ (h.1 (ap (λ (e : Fault). e.exact) same ∙ y)).1)
+      (subst (Somewhere (Goes P parts)) (ap (λ (e : Fault). e.events) same) (told_at t x h), λ y. ap has_rule (ap (λ (e : Fault). e.kind) (sym same)) ∙ (h.1 (ap (λ (e : Fault). e.exact) same ∙ y)).1)
 
-  pub told : (t : List ℕ) (e : Fault) → ending parts (f t) ≡ Err e → Somewhere (Goes P parts) e.events × (e.exact ≡ false → is_ruled e.kind ≡ true)
+  pub told : (t : List ℕ) (e : Fault) → ending parts (f t) ≡ Err e → Somewhere (Goes P parts) e.events × (e.exact ≡ false → has_rule e.kind ≡ true)
   told t e i = told_on t e (f t) (s.sound t) i
 
 -- ---- fields

@@ -8,8 +8,8 @@ use Rattle.sfv_spec.specs.Events.{TreeEvent, events}
 use Rattle.sfv_spec.specs.Reach.{IsReach}
 use Rattle.sfv_spec.specs.Visiting.{BeginsEvents}
 use Rattle.sfv_spec.specs.Base64.{IsBase64Text, symbols}
-use Rattle.sfv_spec.specs.Faults.{SyntaxFault, trailing_comma, unterminated_byte_sequence, invalid_byte_sequence, unterminated_escape_sequence, invalid_escape_sequence, unterminated_display_string, invalid_display_string_character, invalid_utf8_in_display_string, IsTrailingComma, WantsBetween, IsUnterminatedByteSequence, IsLoneSymbol, IsUnterminatedDisplay, IsUnterminatedEscape, IsInvalidEscape, IsInvalidDisplayByte, IsInvalidUtf8, IsBase64FaultPlace}
-use Rattle.sfv_reading.specs.Reader.{Fault, Reader, by_rule, is_ruled, handed}
+use Rattle.sfv_spec.specs.Faults.{has_rule, SyntaxFault, trailing_comma, unterminated_byte_sequence, invalid_byte_sequence, unterminated_escape_sequence, invalid_escape_sequence, unterminated_display_string, invalid_display_string_character, invalid_utf8_in_display_string, IsTrailingComma, WantsBetween, IsUnterminatedByteSequence, IsLoneSymbol, IsUnterminatedDisplay, IsUnterminatedEscape, IsInvalidEscape, IsInvalidDisplayByte, IsInvalidUtf8, IsBase64FaultPlace}
+use Rattle.sfv_reading.specs.Reader.{Fault, Reader, by_rule, handed}
 use Rattle.sfv_reading.specs.Judgements.{Sound, Mute, Quiet, IsFault, Local, Complete, StaysButText}
 use Rattle.sfv_reading.specs.Content.{valid_from, bytes_of, fault_place, IsBytesEnd, HasNoColon, content_fault, bytes_at}
 use Rattle.sfv_reading.specs.Quoted.{IsStringEnd, string_at, IsStringFault, IsDisplayEnd, display_at, IsDisplayFault}
@@ -20,7 +20,7 @@ use Rattle.sfv_reading.specs.Fields.{whole_field_at, read_field}
 pub record IsFaultOf (edition : Edition) (kind : FieldKind) (t : List ℕ) (e : Fault) : Type 0 where
   pub told : BeginsEvents kind e.events
   pub exact : e.exact ≡ true → (n : ℕ) × (drop n t ≡ e.rest) × IsReach edition kind t n
-  pub ruled : e.exact ≡ false → is_ruled e.kind ≡ true
+  pub ruled : e.exact ≡ false → has_rule e.kind ≡ true
 
 -- a field is read as the grammar accepts it
 abbrev pub ReadIsAccepted : Type 0

@@ -1,8 +1,8 @@
 -- What it is for a reader to be right.
 use Rattle.std.specs.Prelude.{◌≡◌, ℕ, true, false, List, [], ◌++◌, Ok, Err}
 use Rattle.sfv_spec.specs.Events.{TreeEvent}
-use Rattle.sfv_spec.specs.Faults.{invalid_utf8_in_display_string}
-use Rattle.sfv_reading.specs.Reader.{Fault, Answer, Reader, first, is_ruled}
+use Rattle.sfv_spec.specs.Faults.{has_rule, invalid_utf8_in_display_string}
+use Rattle.sfv_reading.specs.Reader.{Fault, Answer, Reader, first}
 
 -- W u es: u is a text of the grammar, and es begins what is handed out for it. Such a text goes on behind
 -- what stands before the fault.
@@ -15,7 +15,7 @@ pub record GoesOn (W : List ℕ → List TreeEvent → Type 0) (t : List ℕ) (e
 -- P v s: the text s means v. V es: es begins what is handed out for some text.
 abbrev pub Reached : {A : Type 0} → (A → List ℕ → Type 0) → (List ℕ → List TreeEvent → Type 0) → (List TreeEvent → Type 0) → List ℕ → Answer A → Type 0
 Reached P W V t (Ok x) = (s : List ℕ) × (t ≡ s ++ x.1) × P x.0 s
-Reached P W V t (Err e) = (e.exact ≡ true → GoesOn W t e) × (e.exact ≡ false → V e.events × (is_ruled e.kind ≡ true))
+Reached P W V t (Err e) = (e.exact ≡ true → GoesOn W t e) × (e.exact ≡ false → V e.events × (has_rule e.kind ≡ true))
 
 -- what is read is of P; in front of an exact fault stands a beginning of a text of W
 pub record Sound {A : Type 0} (f : Reader A) (P : A → List ℕ → Type 0) (W : List ℕ → List TreeEvent → Type 0) (V : List TreeEvent → Type 0) : Type 0 where

@@ -134,18 +134,3 @@ first (c ∷ r) = Some c
 -- no byte of the class stands next
 pub record Apart (class : ℕ → Bool) (t : List ℕ) : Type 0 where
   pub apart : (c : ℕ) → first t ≡ Some c → class c ≡ false
-
--- the kinds that the table rules
-abbrev pub is_ruled : SyntaxFault → Bool
-is_ruled trailing_comma = true
-is_ruled trailing_decimal_point = true
-is_ruled non_integer_date = true
-is_ruled too_many_digits_after_decimal_point = true
-is_ruled unterminated_byte_sequence = true
-is_ruled invalid_byte_sequence = true
-is_ruled unterminated_display_string = true
-is_ruled unterminated_escape_sequence = true
-is_ruled invalid_escape_sequence = true
-is_ruled invalid_display_string_character = true
-is_ruled invalid_utf8_in_display_string = true
-is_ruled _ = false

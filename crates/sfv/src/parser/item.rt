@@ -71,7 +71,7 @@ impl<'de> Cursor<'de> {
     }
 
     /// Takes an item.
-    fn item(&mut self, alloc: Global, version: Version) -> Result<Item, Error>
+    pub(crate) fn item(&mut self, alloc: Global, version: Version) -> Result<Item, Error>
         ensures { Builds IsOrderedItem self.old.input self.new result (item_at (edition_of version) (rest self.old)) }
     {
         let bare_item = self.bare_item(alloc, version)?.try_into_owned(alloc)?;

@@ -15,7 +15,7 @@ impl<'de> Cursor<'de> {
     /// At the start of an input.
     pub(crate) fn new(input: &'de [u8]) -> Cursor<'de>
         ensures rest { rest result ≡ input.now }
-        ensures input { result.input.now ≡ input.now }
+        ensures input { result.input ≡ input.entry }
     {
         Cursor { input, index: 0 }
     }

@@ -1,0 +1,72 @@
+-- What a whole field gives, by what the code found out.
+use Rattle.std.proofs.Common.{◌≡◌, ℕ, ◌≤◌, Bool, true, false, List, [], ◌∷◌, length, drop, Option, Some, None, Result, Ok, Err, refl, sym, ap, subst, ◌∙◌}
+use Rattle.std.specs.Prelude.{MatchOption, is_some}
+use Rattle.std.specs.Borrow.{Bor}
+use Rattle.sfv_spec.specs.Classes.{is_space}
+use Rattle.sfv_spec.specs.Values.{Edition, FieldKind, item_field, RawField, RawItem}
+use Rattle.sfv_spec.specs.Events.{TreeEvent, events}
+use Rattle.sfv_base.specs.declared.error.Error.{Error}
+use Rattle.sfv_base.specs.declared.error.ErrorKind.{ErrorKind}
+use Rattle.sfv_base.specs.declared.error.ErrorKind.TheVariants.{OutOfMemory, TrailingCharactersAfterParsedValue}
+use Rattle.sfv_reading.specs.Reader.{Fault, Answer, Reader, first, give, bind, ◌>>=◌, span}
+use Rattle.sfv_reading.specs.Items.{item_at}
+use Rattle.sfv_reading.specs.Fields.{whole_field_at, ending, read_field}
+use Rattle.sfv_reading.proofs.Again.{bind_again}
+use Rattle.sfv.specs.declared.parser.cursor.Cursor.{Cursor}
+use Rattle.sfv.specs.Cursor.{rest, told, IsErrorOf}
+use Rattle.sfv.specs.Fields.{told_whole}
+use Rattle.sfv.proofs.Errors.{fault_bind}
+
+-- an item and the spaces behind it
+spaced : Edition → Reader RawItem
+spaced edition = item_at edition >>= λ i. span is_space >>= λ _. give i
+
+field_is : (edition : Edition) (t s r : List ℕ) → span is_space t ≡ Ok (s, r) → read_field edition item_field t ≡ ending (events item_field) (spaced edition r)
+unfolding read_field whole_field_at spaced
+field_is edition t s r e = ap (ending (events item_field)) (bind_again (span is_space) _ t r s e)
+
+ending_told : {A : Type 0} (parts : A → List TreeEvent) (a : Answer A) (k : ErrorKind) (r : List ℕ) → told a ≡ Err (k, r) → told_whole (ending parts a) ≡ Err (k, r)
+ending_told parts (Ok x) k r h = absurd cc
+ending_told parts (Err f) k r h = ap (λ (p : ErrorKind × List ℕ). Err p) cc
+
+field_faulty : (edition : Edition) (t s r : List ℕ) (k : ErrorKind) (q : List ℕ) → span is_space t ≡ Ok (s, r) → told (item_at edition r) ≡ Err (k, q) → told_whole (read_field edition item_field t) ≡ Err (k, q)
+unfolding spaced
+field_faulty edition t s r k q e h = ap told_whole (field_is edition t s r e) ∙ ending_told (events item_field) (spaced edition r) k q (fault_bind (item_at edition) _ r k q h)
+
+-- the error is the fault that a whole field is answered with, or want of memory
+pub field_error : (edition : Edition) (t s r : List ℕ) (i j : Bor (List ℕ)) (e : Error) → i ≡ j → span is_space t ≡ Ok (s, r) → IsErrorOf i.now e (item_at edition r)
+    → MatchOption e.index (e.kind ≡ OutOfMemory) (λ index. (told_whole (read_field edition item_field t) ≡ Err (e.kind, drop index j.now)) × (index ≤ length j.now))
+field_error edition t s r i j e same skipped error =
+    subst (λ (i : Bor (List ℕ)). MatchOption e.index (e.kind ≡ OutOfMemory) (λ index. (told_whole (read_field edition item_field t) ≡ Err (e.kind, drop index i.now)) × (index ≤ length i.now))) same (on e.index error)
+  where
+    on : (o : Option ℕ) → MatchOption o (e.kind ≡ OutOfMemory) (λ index. (told (item_at edition r) ≡ Err (e.kind, drop index i.now)) × (index ≤ length i.now))
+        → MatchOption o (e.kind ≡ OutOfMemory) (λ index. (told_whole (read_field edition item_field t) ≡ Err (e.kind, drop index i.now)) × (index ≤ length i.now))
+    on None h = h
+    on (Some n) h = (field_faulty edition t s r _ _ skipped h.0, h.1)
+
+-- behind an item and spaces
+behind : (edition : Edition) (t s r q s' w : List ℕ) (raw : RawItem) → span is_space t ≡ Ok (s, r) → item_at edition r ≡ Ok (raw, q) → span is_space q ≡ Ok (s', w) → read_field edition item_field t ≡ ending (events item_field) (Ok (raw, w))
+unfolding spaced give
+behind edition t s r q s' w raw e k n =
+    field_is edition t s r e ∙ ap (ending (events item_field)) (bind_again (item_at edition) _ r q raw k ∙ bind_again (span is_space) _ q w s' n)
+
+pub field_trailing : (edition : Edition) (t s r q s' w : List ℕ) (raw : RawItem) → span is_space t ≡ Ok (s, r) → item_at edition r ≡ Ok (raw, q) → span is_space q ≡ Ok (s', w) → is_some (first w) ≡ true → told_whole (read_field edition item_field t) ≡ Err (TrailingCharactersAfterParsedValue, w)
+field_trailing edition t s r q s' w raw e k n h = ap told_whole (behind edition t s r q s' w raw e k n) ∙ on w h
+  where
+    on : (w : List ℕ) → is_some (first w) ≡ true → told_whole (ending (events item_field) (Ok (raw, w))) ≡ Err (TrailingCharactersAfterParsedValue, w)
+    on [] h = absurd cc
+    on (c ∷ w) h = refl
+
+-- the byte behind an item and spaces is where the error stands
+pub field_trailing_error : (edition : Edition) (t s r q s' : List ℕ) (p : Cursor) (j : Bor (List ℕ)) (raw : RawItem) → p.input ≡ j → span is_space t ≡ Ok (s, r) → item_at edition r ≡ Ok (raw, q) → span is_space q ≡ Ok (s', rest p) → is_some (first (rest p)) ≡ true
+    → (told_whole (read_field edition item_field t) ≡ Err (TrailingCharactersAfterParsedValue, drop p.index j.now)) × (p.index ≤ length j.now)
+field_trailing_error edition t s r q s' p j raw same e k n h =
+    subst (λ (i : Bor (List ℕ)). (told_whole (read_field edition item_field t) ≡ Err (TrailingCharactersAfterParsedValue, drop p.index i.now)) × (p.index ≤ length i.now)) same
+    (field_trailing edition t s r q s' (rest p) raw e k n h, p.within)
+
+pub field_done : (edition : Edition) (t s r q s' w : List ℕ) (raw : RawItem) → span is_space t ≡ Ok (s, r) → item_at edition r ≡ Ok (raw, q) → span is_space q ≡ Ok (s', w) → is_some (first w) ≡ false → read_field edition item_field t ≡ Ok raw
+field_done edition t s r q s' w raw e k n h = behind edition t s r q s' w raw e k n ∙ on w h
+  where
+    on : (w : List ℕ) → is_some (first w) ≡ false → ending (events item_field) (Ok (raw, w)) ≡ Ok raw
+    on [] h = refl
+    on (c ∷ w) h = absurd cc

@@ -1,0 +1,40 @@
+-- What a parser reads, and what it answers with an error.
+use Rattle.std.specs.Prelude.{◌≡◌, ℕ, List, drop, Some, Err, ◌⊎◌}
+use Rattle.sfv_spec.specs.Values.{Edition, FieldKind}
+use Rattle.sfv_spec.specs.Faults.{SyntaxFault, IsRefusedAt}
+use Rattle.sfv_base.specs.declared.error.Error.{Error}
+use Rattle.sfv_base.specs.Errors.{error_of, error_kind, out_of_memory}
+use Rattle.sfv_text.specs.BareItems.{edition_of}
+use Rattle.sfv_reading.specs.Reader.{Fault}
+use Rattle.sfv_reading.specs.Fields.{read_field}
+use Rattle.sfv.specs.declared.parser.Parser.{Parser}
+
+-- the input of a parser, and the edition of its version
+abbrev pub input_of : Parser → List ℕ
+input_of p = p.input.now
+
+abbrev pub parser_edition : Parser → Edition
+parser_edition p = edition_of p.version
+
+-- a fault of the text, with its kind and its index
+pub record IsSyntaxError (edition : Edition) (kind : FieldKind) (t : List ℕ) (e : Error) : Type 0 where
+  pub fault : SyntaxFault
+  pub index : ℕ
+  pub error : e ≡ error_of (error_kind fault) (Some index)
+  pub refused : IsRefusedAt edition kind t fault index
+
+-- memory was refused, or the text is
+abbrev pub IsParseError : Edition → FieldKind → List ℕ → Error → Type 0
+IsParseError edition kind t e = (e ≡ out_of_memory) ⊎ IsSyntaxError edition kind t e
+
+-- the fault is the reader's, at its place
+pub record IsFaultOfReader (edition : Edition) (kind : FieldKind) (t : List ℕ) (e : Error) : Type 0 where
+  pub fault : Fault
+  pub index : ℕ
+  pub answered : read_field edition kind t ≡ Err fault
+  pub error : e ≡ error_of (error_kind fault.kind) (Some index)
+  pub here : drop index t ≡ fault.rest
+
+-- memory was refused, or the fault is the reader's
+abbrev pub IsReaderFault : Edition → FieldKind → List ℕ → Error → Type 0
+IsReaderFault edition kind t e = (e ≡ out_of_memory) ⊎ IsFaultOfReader edition kind t e

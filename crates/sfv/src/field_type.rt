@@ -1,0 +1,53 @@
+//! The types of fields.
+
+ghost use Rattle.std.specs.Prelude.{◌≡◌, IfOk, IfErr, string_bytes};
+ghost use Rattle.sfv_spec.specs.Values.{FieldKind, RawField, item_field};
+ghost use Rattle.sfv_spec.specs.Statements.{IsParsedAs, IsWrittenAs};
+ghost use Rattle.sfv_tree.specs.Trees.{item_tree};
+ghost use Rattle.sfv.specs.Parsers.{input_of, parser_edition, IsParseError, IsReaderFault};
+
+use crate::parser::{Parser, parse_item_field};
+use sfv_base::error::{Error, OutOfMemory};
+use sfv_tree::parsed::Item;
+use std::alloc::Global;
+use std::string::String as StdString;
+
+mod sealed {
+    pub trait Sealed {}
+
+    impl Sealed for sfv_tree::parsed::Item {}
+}
+
+/// A type of field: `Item`.
+///
+/// A contract sees a value as its tree, by the kind of field that it is.
+pub trait FieldType: sealed::Sealed + Drop {
+    /// What `serialize` answers.
+    type SerializeResult: Drop;
+
+    ghost kind: { FieldKind };
+
+    ghost tree: { Self → RawField kind };
+
+    ghost is_text: { Self → Self.SerializeResult → Type 0 };
+
+    /// Reads a field of this type (RFC 9651, section 4.2), as `Parser::parse` does.
+    fn parse(alloc: Global, parser: Parser<'_>) -> Result<Self, Error>
+        ensures read { IfOk result (λ value. IsParsedAs (parser_edition parser.entry) kind (input_of parser.entry) (tree value)) }
+        ensures refused { IfErr result (IsParseError (parser_edition parser.entry) kind (input_of parser.entry)) }
+        ensures fault { IfErr result (IsReaderFault (parser_edition parser.entry) kind (input_of parser.entry)) };
+}
+
+impl FieldType for Item {
+    type SerializeResult = StdString;
+
+    ghost kind = { item_field };
+
+    ghost tree = { item_tree };
+
+    ghost is_text = { λ item text. IsWrittenAs item_field (item_tree item) (string_bytes text) };
+
+    fn parse(alloc: Global, parser: Parser<'_>) -> Result<Item, Error> {
+        parse_item_field(alloc, parser.input(), parser.version())
+    }
+}
