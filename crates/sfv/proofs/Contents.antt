@@ -39,7 +39,7 @@ pub record Runs (t : List ℕ) (n p : ℕ) : Type 0 where
 front : (t : List ℕ) (n p : ℕ) → Runs t n p → take (n + p) t ≡ take n t ++ replicate p 0x3d
 front t n p r = take-add n p t ∙ ap (λ (u : List ℕ). take n t ++ u) r.padding.each
 
-pub within : (t : List ℕ) (n p : ℕ) → Runs t n p → n + p ≤ length t
+within : (t : List ℕ) (n p : ℕ) → Runs t n p → n + p ≤ length t
 within t n p r = omega (arith, r.symbols.within, r.padding.within, length-drop n t)
 
 front_apart : (t : List ℕ) (n p : ℕ) → Runs t n p → HasNoColon (take (n + p) t)
@@ -132,29 +132,35 @@ malformed_closed input start n p r other colon =
       here = ap (λ j. start + j) (sym refused.1);
     }
 
--- ---- what the reader gives
+-- ---- what the reader gives, and that its place is within the input
 
-pub bytes_read : (input : List ℕ) (start n p : ℕ) → Runs (drop start input) n p → n + p < length (drop start input) → get_or (drop start input) (n + p) 0 ≡ 0x3a
-    → ¬ (n % 4 ≡ 1) → bytes_at (drop start input) ≡ Ok (decoded_symbols (take n (drop start input)), drop (start + (n + p) + 1) input)
-bytes_read input start n p r lt colon lone = gives_value input _ start _ (bytes_closed input start n p r lt colon lone)
+pub bytes_read : (input : List ℕ) (start n p : ℕ) → Runs (drop start input) n p → ¬ (n + p ≡ length (drop start input)) → get_or (drop start input) (n + p) 0 ≡ 0x3a → ¬ (n % 4 ≡ 1)
+    → (bytes_at (drop start input) ≡ Ok (decoded_symbols (take n (drop start input)), drop (start + (n + p) + 1) input)) × (start + (n + p) + 1 ≤ length input)
+bytes_read input start n p r open_end colon lone =
+    let l = within (drop start input) n p r in
+    let lt : n + p < length (drop start input) = omega (arith, l, open_end) in
+    (gives_value input _ start _ (bytes_closed input start n p r lt colon lone), omega (arith, lt, length-drop start input))
 
-invalid_told : (input : List ℕ) (start index : ℕ) → IsInvalidAt input start index → told (bytes_at (drop start input)) ≡ Err (InvalidByteSequence, drop index input)
-invalid_told input start index h = ap told (gives_fault input start index h)
-
-pub lone_told : (input : List ℕ) (start n p : ℕ) → Runs (drop start input) n p → n + p < length (drop start input) → get_or (drop start input) (n + p) 0 ≡ 0x3a
-    → n % 4 ≡ 1 → told (bytes_at (drop start input)) ≡ Err (InvalidByteSequence, drop (start + (n + p) - 1) input)
-lone_told input start n p r lt colon one = invalid_told input start _ (lone_closed input start n p r lt colon one)
+pub lone_told : (input : List ℕ) (start n p : ℕ) → Runs (drop start input) n p → ¬ (n + p ≡ length (drop start input)) → get_or (drop start input) (n + p) 0 ≡ 0x3a → n % 4 ≡ 1
+    → (told (bytes_at (drop start input)) ≡ Err (InvalidByteSequence, drop (start + (n + p) - 1) input)) × (start + (n + p) - 1 ≤ length input)
+lone_told input start n p r open_end colon one =
+    let l = within (drop start input) n p r in
+    let lt : n + p < length (drop start input) = omega (arith, l, open_end) in
+    (ap told (gives_fault input start _ (lone_closed input start n p r lt colon one)), omega (arith, lt, length-drop start input))
 
 pub malformed_told : (input : List ℕ) (start n p : ℕ) → Runs (drop start input) n p → (n + p ≡ length (drop start input)) ⊎ (get_or (drop start input) (n + p) 0 ≡ 0x3a → ⊥)
-    → list_any (λ c. c == 0x3a) (drop (n + p) (drop start input)) ≡ true → told (bytes_at (drop start input)) ≡ Err (InvalidByteSequence, drop (start + (n + p)) input)
-malformed_told input start n p r other colon = invalid_told input start _ (malformed_closed input start n p r other colon)
+    → list_any (λ c. c == 0x3a) (drop (n + p) (drop start input)) ≡ true → start ≤ length input
+    → (told (bytes_at (drop start input)) ≡ Err (InvalidByteSequence, drop (start + (n + p)) input)) × (start + (n + p) ≤ length input)
+malformed_told input start n p r other colon inside =
+    let l = within (drop start input) n p r in
+    (ap told (gives_fault input start _ (malformed_closed input start n p r other colon)), omega (arith, l, inside, length-drop start input))
 
 pub unterminated_told : (input : List ℕ) (start n p : ℕ) → Runs (drop start input) n p → list_any (λ c. c == 0x3a) (drop (n + p) (drop start input)) ≡ false
-    → told (bytes_at (drop start input)) ≡ Err (UnterminatedByteSequence, drop (length input) input)
+    → (told (bytes_at (drop start input)) ≡ Err (UnterminatedByteSequence, drop (length input) input)) × (length input ≤ length input)
 unterminated_told input start n p r none =
     let t : List ℕ = drop start input in
     let apart : HasNoColon t = subst HasNoColon (take-append-drop (n + p) t) (both_apart (take (n + p) t) (drop (n + p) t) (front_apart t n p r) (no_colon (drop (n + p) t) none)) in
-    ap told (gives_unclosed input start apart) ∙ rw (drop_all (length input) input (omega arith)) refl
+    (ap told (gives_unclosed input start apart) ∙ rw (drop_all (length input) input (omega arith)) refl, omega arith)
 
 -- the runs in what stands from a place on, as the code cuts it out
 abbrev pub cut : List ℕ → ℕ → List ℕ

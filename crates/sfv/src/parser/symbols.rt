@@ -5,13 +5,16 @@ ghost use Rattle.sfv_spec.specs.Base64.{symbol};
 ghost use Rattle.sfv_reading.specs.Content.{is_symbol, symbol_value, most_padding};
 ghost use Rattle.sfv.specs.Runs.{IsSymbolRun, IsPaddingRun};
 
+/// The symbols in the order of their values.
 const SYMBOLS: [u8; 64] = *b"ABCDEFGHIJKLMNOPQRSTUVWXYZabcdefghijklmnopqrstuvwxyz0123456789+/";
 
 /// Stands in the table for a byte that is no symbol.
 const NO_VALUE: u8 = 255;
 
-// The value of each byte that is a symbol. Each byte of a content is looked up here, which takes a third
-// of the time of comparing it with the ends of the ranges of symbols.
+/// The value of each byte that is a symbol.
+///
+/// Each byte of a content is looked up here: to compare it with the ends of the ranges of symbols takes
+/// three times as long.
 const VALUES: [u8; 256] = [
     255, 255, 255, 255, 255, 255, 255, 255, 255, 255, 255, 255, 255, 255, 255, 255, 255, 255, 255,
     255, 255, 255, 255, 255, 255, 255, 255, 255, 255, 255, 255, 255, 255, 255, 255, 255, 255, 255,

@@ -1,6 +1,6 @@
-use Rattle.std.proofs.Common.{◌≡◌, ◌+◌, List, ℕ, length, drop, sym, ◌∙◌, arith, inl, inr, ◌⊎◌, get_or}
-use Rattle.std.proofs.lemmas.List.{take_rest, length-drop}
-use Rattle.sfv.proofs.Contents.{runs_of, within, bytes_read, lone_told, malformed_told, unterminated_told}
+use Rattle.std.proofs.Common.{◌≡◌, ◌+◌, List, ℕ, length, drop, sym, ◌∙◌, inl, inr, ◌⊎◌, get_or}
+use Rattle.std.proofs.lemmas.List.{take_rest}
+use Rattle.sfv.proofs.Contents.{runs_of, bytes_read, lone_told, malformed_told, unterminated_told}
 use Rattle.sfv.proofs.parser.byte_sequence.byte_sequence.Goals as goal
 use Rattle.sfv.proofs.parser.byte_sequence.byte_sequence.Goals.{then-end-content-via-then-end-content, then-end-content-via-else-end-content+then-content-end-ne58, then-contains, else-contains}
 
@@ -11,16 +11,14 @@ returns-then-end-content c =
     let n : ℕ = c.symbol_run-count.result in
     let p : ℕ = c.padding_run.result in
     let runs = runs_of input start n _ p c.symbol_run-count.ensures c.padding_after.ensures c.padding_run.ensures in
-    let l = within (drop start input) n p runs in
-    let size = length-drop start input in
     let found = simp take_rest at c.contains.ensures.value in
     let other : (n + p ≡ length (drop start input)) ⊎ (get_or (drop start input) (n + p) 0 ≡ 0x3a → ⊥) = elim c.then-end-content.branch [
       | then-end-content-via-then-end-content w ↦ inl (simp take_rest at w.if-end-content.true)
       | then-end-content-via-else-end-content+then-content-end-ne58 w ↦ inr (simp take_rest at w.if-content-end-ne58.true)
     ] in
     elim c.if-contains.branch [
-      | then-contains w ↦ rw (w.result-is, w.invalid.ensures) (malformed_told input start n p runs other (sym found ∙ w.if-contains.true), omega (arith, l, size))
-      | else-contains w ↦ rw (w.result-is, w.with_kind.ensures) (unterminated_told input start n p runs (sym found ∙ w.if-contains.false), omega arith)
+      | then-contains w ↦ rw (w.result-is, w.invalid.ensures) (malformed_told input start n p runs other (sym found ∙ w.if-contains.true) c.requires)
+      | else-contains w ↦ rw (w.result-is, w.with_kind.ensures) (unterminated_told input start n p runs (sym found ∙ w.if-contains.false))
     ]
 
 pub returns-then-count-eq1 : goal.returns-then-count-eq1
@@ -30,11 +28,9 @@ returns-then-count-eq1 c =
     let n : ℕ = c.symbol_run-count.result in
     let p : ℕ = c.padding_run.result in
     let runs = runs_of input start n _ p c.symbol_run-count.ensures c.padding_after.ensures c.padding_run.ensures in
-    let l = within (drop start input) n p runs in
-    let size = length-drop start input in
     let open_end = simp take_rest at c.if-end-content.false in
     let colon = simp take_rest at c.if-content-end-ne58.false in
-    rw c.invalid-then-count-eq1.ensures (lone_told input start n p runs (omega (arith, l, open_end)) colon c.if-count-eq1.true, omega (arith, l, size))
+    rw c.invalid-then-count-eq1.ensures (lone_told input start n p runs open_end colon c.if-count-eq1.true)
 
 pub returns : goal.returns
 returns c =
@@ -43,9 +39,7 @@ returns c =
     let n : ℕ = c.symbol_run-count.result in
     let p : ℕ = c.padding_run.result in
     let runs = runs_of input start n _ p c.symbol_run-count.ensures c.padding_after.ensures c.padding_run.ensures in
-    let l = within (drop start input) n p runs in
-    let size = length-drop start input in
     let open_end = simp take_rest at c.if-end-content.false in
     let colon = simp take_rest at c.if-content-end-ne58.false in
     let value = simp take_rest at c.in_ok-bytes.ensures in
-    (rw value (bytes_read input start n p runs (omega (arith, l, open_end)) colon c.if-count-eq1.false), omega (arith, l, size, open_end))
+    rw value (bytes_read input start n p runs open_end colon c.if-count-eq1.false)
