@@ -8,3 +8,4 @@ pub mod Errors
 pub mod Collected
 pub mod Whole
 pub mod Parsed
+pub mod Decimals
