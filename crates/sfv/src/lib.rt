@@ -2,4 +2,5 @@
 #![tactic(auto)]
 
 mod parser;
+mod quoted;
 mod ser;
