@@ -55,8 +55,9 @@ fn escaped(input: &[u8], at: usize) -> Result<u8, Error>
     Ok(16 * value_of(high) + value_of(low))
 }
 
-/// The bytes of the display string from there on, which are plain up to an end, and the index
-/// behind the closing quote.
+/// The bytes of the display string from `start` on, and the index behind its closing quote.
+///
+/// Up to `plain_until` the bytes are known to be plain.
 fn unescaped(
     alloc: Global,
     input: &[u8],
@@ -134,6 +135,7 @@ pub(crate) fn display_string<'de>(
         return Err(Error::with_kind(ErrorKind::UnterminatedDisplayString, Some(end)));
     }
     if input[end] == b'"' {
+        // Plain bytes are ASCII, so they are a text as they stand.
         let text = unsafe { std::str::from_utf8_unchecked(&input[start..end]) };
         return Ok((CowStr::Borrowed(text), end + 1));
     }

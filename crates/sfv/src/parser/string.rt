@@ -32,8 +32,9 @@ fn escaped(input: &[u8], at: usize) -> Result<u8, Error>
     }
 }
 
-/// The bytes of the string from there on, which are plain up to an end, and the index behind the
-/// closing quote.
+/// The bytes of the string from `start` on, and the index behind its closing quote.
+///
+/// Up to `plain_until` the bytes are known to be plain.
 fn unescaped(
     alloc: Global,
     input: &[u8],
@@ -81,6 +82,7 @@ pub(crate) fn string<'de>(
         return Err(Error::with_kind(ErrorKind::UnterminatedString, Some(end)));
     }
     if input[end] == b'"' {
+        // Plain bytes are ASCII, so they are a text as they stand.
         let text = unsafe { std::str::from_utf8_unchecked(&input[start..end]) };
         return Ok((
             StringFromInput::Borrowed(StringRef::constant(text)),
@@ -91,6 +93,7 @@ pub(crate) fn string<'de>(
         return Err(Error::with_kind(ErrorKind::InvalidStringCharacter, Some(end)));
     }
     let (bytes, next) = unescaped(alloc, input, start, end)?;
+    // Bytes that are escaped are ASCII as the plain ones are.
     let text = unsafe { StdString::from_utf8_unchecked(bytes) };
     Ok((StringFromInput::Owned(String::constant(text)), next))
 }

@@ -45,6 +45,7 @@ fn push_display_string(output: &mut String, text: &str) -> Result<(), AllocError
     let mut at = 0;
     loop {
         let end = plain_end(bytes, at);
+        // Plain bytes are ASCII, so a run of them can be cut out of a text.
         output.push_str(unsafe { std::str::from_utf8_unchecked(&bytes[at..end]) })?;
         if end >= bytes.len() {
             return output.push('"');
