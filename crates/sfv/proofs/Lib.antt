@@ -9,3 +9,7 @@ pub mod Collected
 pub mod Whole
 pub mod Parsed
 pub mod Decimals
+pub mod Written
+pub mod Escapes
+pub mod StringBytes
+pub mod Params

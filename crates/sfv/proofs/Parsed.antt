@@ -3,11 +3,14 @@ use Rattle.std.proofs.Common.{◌≡◌, ℕ, ◌≤◌, Bool, true, false, List
 use Rattle.std.specs.Prelude.{MatchOption, IfOk, IfErr, ◌⊎◌}
 use Rattle.std.proofs.lemmas.List.{length-drop}
 use Rattle.std.proofs.lemmas.Bool.{true≢false}
-use Rattle.sfv_spec.specs.Values.{Edition, FieldKind, RawField}
+use Rattle.sfv_spec.specs.Values.{Edition, rfc9651, FieldKind, RawField}
 use Rattle.sfv_spec.specs.Faults.{has_rule, IsRefusedAt}
 use Rattle.sfv_spec.specs.Reach.{IsReach}
 use Rattle.sfv_spec.specs.Ordered.{ordered}
-use Rattle.sfv_spec.specs.Statements.{IsParsedAs}
+use Rattle.sfv_spec.specs.Statements.{IsParsedAs, IsValue, IsWrittenAs}
+use Rattle.sfv_spec.specs.Grammar.{IsFieldText}
+use Rattle.sfv_spec.specs.Canonical.{canonical}
+use Rattle.sfv_spec.proofs.Laws.{round_trip_lem}
 use Rattle.sfv_spec.proofs.Structure.{one_field_lem}
 use Rattle.sfv_base.specs.declared.error.Error.{Error}
 use Rattle.sfv_base.specs.declared.error.ErrorKind.{ErrorKind}
@@ -39,6 +42,7 @@ refused_at edition kind t f index e here le = record {
   where
     told : IsFaultOf edition kind t f
     told = fault_is_placed edition kind t f e
+
     placed : (b : Bool) → f.exact ≡ b → has_rule f.kind ≡ false → IsReach edition kind t index
     placed true x n =
         let p = told.exact x in
@@ -52,7 +56,7 @@ unnamed e i k = ap (λ (o : Option ℕ). error_of e.kind o) i ∙ ap (λ (kind :
 
 told_fault : {A : Type 0} (answer : Result A Fault) (k : ErrorKind) (r : List ℕ) → told_whole answer ≡ Err (k, r) → (f : Fault) × (answer ≡ Err f) × (error_kind f.kind ≡ k) × (f.rest ≡ r)
 told_fault (Ok v) k r h = absurd cc
-told_fault (Err f) k r h = 
+told_fault (Err f) k r h =
     let there : ErrorKind × List ℕ = (k, r) in
     let here : ErrorKind × List ℕ = (error_kind f.kind, f.rest) in
     let e : here ≡ there = cc in
@@ -83,3 +87,14 @@ answer_refused edition kind tree t (Err e) h = (reader_fault edition kind t e h)
 pub answer_fault : {X : Type 0} (edition : Edition) (kind : FieldKind) (tree : X → RawField kind) (t : List ℕ) (r : Result X Error) → Answers (λ raw x. tree x ≡ ordered kind raw) t r (read_field edition kind t) → IfErr r (IsReaderFault edition kind t)
 answer_fault edition kind tree t (Ok x) h = tt
 answer_fault edition kind tree t (Err e) h = (reader_fault edition kind t e h).0
+
+-- the canonical text of a value is read back as it
+pub written : (kind : FieldKind) (value : RawField kind) (t : List ℕ) → IsValue kind value → t ≡ canonical kind value → IsWrittenAs kind value t
+written kind value t v e =
+    let back = round_trip_lem kind value v in
+    let accepted : IsFieldText rfc9651 kind value t = subst (λ (s : List ℕ). IsFieldText rfc9651 kind value s) (sym e) back.0 in
+    record {
+      is_value = v;
+      text = e;
+      read_back = record { raw = value; accepted = accepted; only = λ other h. one_field_lem rfc9651 kind t other value h accepted; ordered_value = sym back.1 };
+    }

@@ -6,3 +6,5 @@ pub mod Zeros
 pub mod Items
 pub mod Fields
 pub mod Parsers
+pub mod Quoted
+pub mod Written

@@ -7,6 +7,7 @@ ghost use Rattle.sfv_tree.specs.Trees.{item_tree};
 ghost use Rattle.sfv.specs.Parsers.{input_of, parser_edition, IsParseError, IsReaderFault};
 
 use crate::parser::{Parser, parse_item_field};
+use crate::ser::serialize_item;
 use sfv_base::error::{Error, OutOfMemory};
 use sfv_tree::parsed::Item;
 use std::alloc::Global;
@@ -36,6 +37,10 @@ pub trait FieldType: sealed::Sealed + Drop {
         ensures read { IfOk result (λ value. IsParsedAs (parser_edition parser.entry) kind (input_of parser.entry) (tree value)) }
         ensures refused { IfErr result (IsParseError (parser_edition parser.entry) kind (input_of parser.entry)) }
         ensures fault { IfErr result (IsReaderFault (parser_edition parser.entry) kind (input_of parser.entry)) };
+
+    /// Writes the canonical text (RFC 9651, section 4.1), with memory from `alloc`; refused where memory is.
+    fn serialize(&self, alloc: Global) -> Result<Self::SerializeResult, OutOfMemory>
+        ensures { IfOk result (is_text self.now) };
 }
 
 impl FieldType for Item {
@@ -49,5 +54,11 @@ impl FieldType for Item {
 
     fn parse(alloc: Global, parser: Parser<'_>) -> Result<Item, Error> {
         parse_item_field(alloc, parser.input(), parser.version())
+    }
+
+    fn serialize(&self, alloc: Global) -> Result<StdString, OutOfMemory> {
+        let mut text = StdString::new(alloc);
+        serialize_item(self, &mut text)?;
+        Ok(text)
     }
 }

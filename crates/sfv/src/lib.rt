@@ -1,6 +1,27 @@
 //! Structured Field Values for HTTP (RFC 9651, and RFC 8941 by a version switch).
+//!
+//! A field is read by `Parser`, into a value that owns its parts, and written by
+//! `FieldType::serialize`, as its one canonical text.
 #![tactic(auto)]
 
 pub mod field_type;
 pub mod parser;
+mod quoted;
 mod ser;
+
+pub use field_type::FieldType;
+pub use parser::Parser;
+pub use sfv_base::date::Date;
+pub use sfv_base::decimal::Decimal;
+pub use sfv_base::error::{Error, ErrorKind, OutOfMemory};
+pub use sfv_base::integer::Integer;
+pub use sfv_text::bare::{
+    BareItem, BareItemFromInput, GenericBareItem, RefBareItem, StringFromInput, Version,
+};
+pub use sfv_text::key::Key;
+pub use sfv_text::key_ref::KeyRef;
+pub use sfv_text::string::String;
+pub use sfv_text::string_ref::StringRef;
+pub use sfv_text::token::Token;
+pub use sfv_text::token_ref::TokenRef;
+pub use sfv_tree::parsed::{Item, Parameters};

@@ -41,7 +41,7 @@ impl Model for String {
 
 impl String {
     /// The string of this text, which is one.
-    pub(crate) fn made(text: StdString) -> String
+    pub fn constant(text: StdString) -> String
         requires { IsTrue (list_all is_string_byte (string_bytes text)) }
         ensures { result ≡ string_bytes text }
     {

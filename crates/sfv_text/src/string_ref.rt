@@ -41,6 +41,6 @@ impl<'a> StringRef<'a> {
         ensures { IfOk result (λ t. t ≡ string_text self.now) }
     {
         let text = StdString::from_str(alloc, self.text)?;
-        Ok(String::made(text))
+        Ok(String::constant(text))
     }
 }

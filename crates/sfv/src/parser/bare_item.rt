@@ -139,9 +139,7 @@ impl<'de> Cursor<'de> {
             return Ok(GenericBareItem::Date(self.date(version)?));
         }
         if self.next_is(b'%') {
-            return Ok(GenericBareItem::DisplayString(
-                self.display_string(alloc, version)?,
-            ));
+            return Ok(GenericBareItem::DisplayString(self.display_string(alloc, version)?));
         }
         if self.next_is_number_start() {
             return Ok(match self.number()? {

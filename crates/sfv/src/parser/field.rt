@@ -14,11 +14,7 @@ use sfv_tree::parsed::Item;
 use std::alloc::Global;
 
 /// Reads the input as an item.
-pub(crate) fn parse_item_field(
-    alloc: Global,
-    input: &[u8],
-    version: Version,
-) -> Result<Item, Error>
+pub(crate) fn parse_item_field(alloc: Global, input: &[u8], version: Version) -> Result<Item, Error>
     ensures { Answers IsOrderedItem input.now result (read_field (edition_of version) item_field input.now) }
 {
     let mut cursor = Cursor::new(input);

@@ -2,7 +2,8 @@
 
 ghost use Rattle.std.specs.Prelude.{◌≡◌, ◌++◌, take, OnOk, OnErr};
 ghost use Rattle.std.specs.String.{string_bytes, string_len};
-ghost use Rattle.sfv_spec.specs.Values.{byte_sequence};
+ghost use Rattle.sfv_spec.specs.Texts.{RunOf};
+ghost use Rattle.sfv_spec.specs.Values.{is_byte, byte_sequence};
 ghost use Rattle.sfv_spec.specs.Canonical.{bare_text};
 
 use base64::engine::general_purpose::STANDARD;
@@ -24,6 +25,7 @@ fn append_text(value: &[u8], output: &mut String) -> Result<(), AllocError>
 pub(crate) fn serialize_byte_sequence(value: &[u8], output: &mut String) -> Result<(), OutOfMemory>
     ensures ok { OnOk result (string_bytes output.new ≡ string_bytes output.old ++ bare_text (byte_sequence value.now)) }
     ensures err { OnErr result (string_bytes output.new ≡ string_bytes output.old) }
+    ensures bytes { RunOf is_byte value.now }
 {
     let start = output.len();
     if let Err(AllocError) = append_text(value, output) {

@@ -2,22 +2,25 @@
 
 ghost use Rattle.std.specs.Prelude.{◌≡◌, ◌++◌, true, OnOk, MatchBool, IsTrue, codes, string_bytes};
 ghost use Rattle.sfv_spec.specs.Classes.{is_key};
-ghost use Rattle.sfv_spec.specs.Values.{IsBareValue, AreParameters, IsItem, boolean};
+ghost use Rattle.sfv_spec.specs.Values.{IsBareValue, AreParameters, boolean, item_field};
 ghost use Rattle.sfv_spec.specs.Canonical.{bare_text, value_text, parameters_text, item_text};
 ghost use Rattle.sfv_spec.specs.Ordered.{keys, no_repeats};
+ghost use Rattle.sfv_spec.specs.Statements.{IsValue};
 ghost use Rattle.sfv_text.specs.BareItems.{ref_value};
 ghost use Rattle.sfv_text.specs.KeyText.{key_text};
 ghost use Rattle.sfv_tree.specs.Trees.{pairs_tree, item_tree};
 
 use crate::ser::byte_sequence::serialize_byte_sequence;
+use crate::ser::display_string::serialize_display_string;
 use crate::ser::number::{serialize_date, serialize_decimal, serialize_integer};
+use crate::ser::string::serialize_string;
 use sfv_base::error::OutOfMemory;
 use sfv_text::bare::{GenericBareItem, RefBareItem};
 use sfv_text::key_ref::KeyRef;
 use sfv_tree::parsed::{Item, Parameters};
 use std::string::String as StdString;
 
-/// Appends a token or another text that is written as it is.
+/// Appends a text that is written as it is.
 fn serialize_text(text: &str, output: &mut StdString) -> Result<(), OutOfMemory>
     ensures { OnOk result (string_bytes output.new ≡ string_bytes output.old ++ text.now) }
 {
@@ -36,13 +39,13 @@ pub(crate) fn serialize_bare_item(
     match value {
         GenericBareItem::Decimal(value) => serialize_decimal(*value, output),
         GenericBareItem::Integer(value) => serialize_integer(*value, output),
-        GenericBareItem::String(value) => serialize_text(value.as_str(), output),
+        GenericBareItem::String(value) => serialize_string(*value, output),
         GenericBareItem::ByteSequence(value) => serialize_byte_sequence(value, output),
         GenericBareItem::Boolean(true) => serialize_text("?1", output),
         GenericBareItem::Boolean(false) => serialize_text("?0", output),
         GenericBareItem::Token(value) => serialize_text(value.as_str(), output),
         GenericBareItem::Date(value) => serialize_date(*value, output),
-        GenericBareItem::DisplayString(value) => serialize_text(value, output),
+        GenericBareItem::DisplayString(value) => serialize_display_string(value, output),
     }
 }
 
@@ -82,7 +85,7 @@ pub(crate) fn serialize_parameters(
     ensures ok { OnOk result
         (string_bytes output.new ≡ string_bytes output.old ++ parameters_text (pairs_tree params.now.entries)) }
     ensures value { OnOk result (AreParameters (pairs_tree params.now.entries)) }
-    ensures distinct { IsTrue (no_repeats (keys (pairs_tree params.now.entries))) }
+    ensures distinct { OnOk result (IsTrue (no_repeats (keys (pairs_tree params.now.entries)))) }
 {
     for (key, value) in params.iter() {
         serialize_parameter(key.as_key_ref(), &value.as_ref_item(), output)?;
@@ -93,8 +96,7 @@ pub(crate) fn serialize_parameters(
 /// Appends an item.
 pub(crate) fn serialize_item(item: &Item, output: &mut StdString) -> Result<(), OutOfMemory>
     ensures ok { OnOk result (string_bytes output.new ≡ string_bytes output.old ++ item_text (item_tree item.now)) }
-    ensures value { OnOk result (IsItem (item_tree item.now)) }
-    ensures distinct { IsTrue (no_repeats (keys (pairs_tree item.now.params.entries))) }
+    ensures value { OnOk result (IsValue item_field (item_tree item.now)) }
 {
     serialize_bare_item(&item.bare_item.as_ref_item(), output)?;
     serialize_parameters(&item.params, output)

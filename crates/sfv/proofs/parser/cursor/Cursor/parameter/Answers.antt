@@ -20,6 +20,6 @@ returns-in_err-value c =
 
 pub returns : goal.returns
 returns c = (
-    parameter_some _ _ _ _ _ _ _ _ _ c.if-not-take_if.ensures.takes c.spaces.ensures.spaces.1 c.in_ok-key.ensures.0 c.in_ok-value.ensures.0,
-    c.in_ok-value.ensures.1 ∙ c.in_ok-key.ensures.1 ∙ c.spaces.ensures.input ∙ c.take_if.ensures.input,
+  parameter_some _ _ _ _ _ _ _ _ _ c.if-not-take_if.ensures.takes c.spaces.ensures.spaces.1 c.in_ok-key.ensures.0 c.in_ok-value.ensures.0,
+  c.in_ok-value.ensures.1 ∙ c.in_ok-key.ensures.1 ∙ c.spaces.ensures.input ∙ c.take_if.ensures.input,
 )

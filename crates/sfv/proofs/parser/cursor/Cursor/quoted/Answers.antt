@@ -17,6 +17,6 @@ returns-in_err-text c =
 
 pub returns : goal.returns
 returns c = (
-    quoted_reads _ _ _ c.requires c.skip.ensures.skips c.if-not-take_if.ensures.takes ∙ given display_at (λ s. display_string s) _ _ _ c.in_ok-text.ensures.read.0,
-    c.take_if.ensures.input ∙ c.skip.ensures.input,
+  quoted_reads _ _ _ c.requires c.skip.ensures.skips c.if-not-take_if.ensures.takes ∙ given display_at (λ s. display_string s) _ _ _ c.in_ok-text.ensures.read.0,
+  c.take_if.ensures.input ∙ c.skip.ensures.input,
 )

@@ -1,0 +1,9 @@
+use Rattle.std.proofs.Common.{◌++◌, ◌∙◌, ap, List, ℕ}
+use Rattle.sfv_spec.specs.Values.{item_field}
+use Rattle.sfv_spec.specs.Canonical.{item_text}
+use Rattle.sfv_tree.specs.Trees.{item_tree}
+use Rattle.sfv.proofs.Parsed.{written}
+use Rattle.sfv.proofs.field_type.ItemFieldType.serialize.Goals as goal
+
+pub returns : goal.returns
+returns c = written item_field (item_tree c.args.self.now) _ c.in_ok-serialize_item.ensures.value (c.in_ok-serialize_item.ensures.ok ∙ ap (λ (s : List ℕ). s ++ item_text (item_tree c.args.self.now)) c.new-text.ensures.bytes)
