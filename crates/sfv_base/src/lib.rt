@@ -6,4 +6,6 @@ pub mod date;
 pub mod decimal;
 pub mod error;
 pub mod integer;
+#[cfg(test)]
+mod tests;
 pub mod utils;
