@@ -1,7 +1,8 @@
 use crate::date::Date;
 use crate::decimal::Decimal;
-use crate::error::{Error, ErrorKind, OutOfMemory};
+use crate::error::{Error, ErrorKind, OutOfMemory, ParseError};
 use crate::integer::Integer;
+use crate::shorthand::integer;
 use crate::utils::{
     is_allowed_inner_key_char, is_allowed_inner_token_char, is_allowed_start_key_char,
     is_allowed_start_token_char, is_allowed_string_char, is_lower_hexadecimal_digit,
@@ -12,7 +13,7 @@ use std::test::Fail;
 #[test]
 fn decimals_print(rt: HostRuntime) -> Result<(), Fail> {
     let cases = [
-        (-5, "-0.005"),
+        (-5i64, "-0.005"),
         (-50, "-0.05"),
         (-500, "-0.5"),
         (12_346, "12.346"),
@@ -57,7 +58,7 @@ fn integers_print(rt: HostRuntime) -> Result<(), Fail> {
 
 #[test]
 fn dates_print(rt: HostRuntime) -> Result<(), Fail> {
-    let cases = [(-1, "@-1"), (0, "@0"), (1_659_578_233, "@1659578233")];
+    let cases = [(-1i64, "@-1"), (0, "@0"), (1_659_578_233, "@1659578233")];
     for (seconds, want) in cases {
         let seconds = Integer::try_from(seconds)?;
         let date = Date::from_unix_seconds(seconds);
@@ -89,6 +90,102 @@ fn integers_have_a_range(rt: HostRuntime) {
             }
         }
     }
+}
+
+#[test]
+fn numbers_become_integers(rt: HostRuntime) -> Result<(), Fail> {
+    assert_eq!(rt; Integer::from(-128i8), integer(-128));
+    assert_eq!(rt; Integer::from(-32_768i16), integer(-32_768));
+    assert_eq!(rt; Integer::from(i32::MIN), integer(-2_147_483_648));
+    assert_eq!(rt; Integer::from(255u8), integer(255));
+    assert_eq!(rt; Integer::from(65_535u16), integer(65_535));
+    assert_eq!(rt; Integer::from(u32::MAX), integer(4_294_967_295));
+    assert_eq!(rt; Integer::try_from(-999_999_999_999_999i128)?, Integer::MIN);
+    assert_eq!(rt; Integer::try_from(-7isize)?, integer(-7));
+    assert_eq!(rt; Integer::try_from(999_999_999_999_999u64)?, Integer::MAX);
+    assert_eq!(rt; Integer::try_from(7u128)?, integer(7));
+    assert_eq!(rt; Integer::try_from(7usize)?, integer(7));
+    let refused = [
+        Integer::try_from(i128::MIN),
+        Integer::try_from(isize::MAX),
+        Integer::try_from(1_000_000_000_000_000u64),
+        Integer::try_from(u128::MAX),
+        Integer::try_from(usize::MAX),
+    ];
+    for result in refused {
+        assert_eq!(rt; result, Err(Error::with_kind(ErrorKind::OutOfRange, None)));
+    }
+    Ok(())
+}
+
+#[test]
+fn integers_become_numbers(rt: HostRuntime) -> Result<(), Fail> {
+    let error = Error::with_kind(ErrorKind::OutOfRange, None);
+    assert_eq!(rt; i8::try_from(integer(-128))?, -128);
+    assert_eq!(rt; i16::try_from(integer(-32_768))?, -32_768);
+    assert_eq!(rt; i32::try_from(integer(2_147_483_647))?, i32::MAX);
+    assert_eq!(rt; i128::from(Integer::MIN), -999_999_999_999_999);
+    assert_eq!(rt; isize::try_from(Integer::MIN)?, -999_999_999_999_999);
+    assert_eq!(rt; u8::try_from(integer(255))?, 255);
+    assert_eq!(rt; u16::try_from(integer(65_535))?, 65_535);
+    assert_eq!(rt; u32::try_from(integer(4_294_967_295))?, u32::MAX);
+    assert_eq!(rt; u64::try_from(Integer::MAX)?, 999_999_999_999_999);
+    assert_eq!(rt; u128::try_from(Integer::MAX)?, 999_999_999_999_999);
+    assert_eq!(rt; usize::try_from(Integer::MAX)?, 999_999_999_999_999);
+    assert_eq!(rt; i8::try_from(integer(-129)), Err(error));
+    assert_eq!(rt; u8::try_from(integer(256)), Err(error));
+    assert_eq!(rt; u64::try_from(integer(-1)), Err(error));
+    assert_eq!(rt; u128::try_from(integer(-1)), Err(error));
+    Ok(())
+}
+
+#[test]
+fn numbers_become_decimals(rt: HostRuntime) -> Result<(), Fail> {
+    let cases = [
+        (Decimal::from(-128i8), "-128.0"),
+        (Decimal::from(33i8), "33.0"),
+        (Decimal::from(-32_768i16), "-32768.0"),
+        (Decimal::from(i32::MIN), "-2147483648.0"),
+        (Decimal::from(255u8), "255.0"),
+        (Decimal::from(65_535u16), "65535.0"),
+        (Decimal::from(u32::MAX), "4294967295.0"),
+        (Decimal::try_from(999_999_999_999i64)?, "999999999999.0"),
+        (Decimal::try_from(-999_999_999_999i128)?, "-999999999999.0"),
+        (Decimal::try_from(-7isize)?, "-7.0"),
+        (Decimal::try_from(7u64)?, "7.0"),
+        (Decimal::try_from(7u128)?, "7.0"),
+        (Decimal::try_from(7usize)?, "7.0"),
+        (
+            Decimal::try_from(integer(-999_999_999_999))?,
+            "-999999999999.0",
+        ),
+    ];
+    for (decimal, want) in cases {
+        assert_eq!(rt; decimal.to_string(rt.alloc())?.as_str(), want);
+    }
+    let refused = [
+        Decimal::try_from(1_000_000_000_000i64),
+        Decimal::try_from(-1_000_000_000_000i64),
+        Decimal::try_from(u128::MAX),
+        Decimal::try_from(Integer::MAX),
+    ];
+    for result in refused {
+        assert_eq!(rt; result, Err(Error::with_kind(ErrorKind::OutOfRange, None)));
+    }
+    Ok(())
+}
+
+#[test]
+fn parse_errors_print(rt: HostRuntime) -> Result<(), Fail> {
+    let placed = Error::with_kind(ErrorKind::ExpectedStartOfKey, Some(4));
+    let syntax: ParseError<OutOfMemory> = ParseError::Syntax(placed);
+    let text = "expected start of key ('a'-'z' or '*') at index 4";
+    assert_eq!(rt; syntax.to_string(rt.alloc())?.as_str(), text);
+    assert_eq!(rt; syntax.index(), Some(4));
+    let visitor = ParseError::Visitor(placed);
+    assert_eq!(rt; visitor.to_string(rt.alloc())?.as_str(), text);
+    assert_eq!(rt; visitor.index(), None);
+    Ok(())
 }
 
 #[test]
