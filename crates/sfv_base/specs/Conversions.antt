@@ -4,11 +4,11 @@ use Rattle.sfv_base.specs.declared.error.Error.{Error}
 use Rattle.sfv_base.specs.declared.error.ErrorKind.TheVariants.{OutOfRange}
 use Rattle.sfv_base.specs.Errors.{error_of}
 
--- what so many bits hold, the one of the sign with them
+-- what a signed type of so many bits holds
 abbrev pub IsSigned : ℕ → ℤ → Type 0
 IsSigned bits z = (neg_ℤ (pos (2 ^ (bits - 1))) ≤ℤ z) × (z <ℤ pos (2 ^ (bits - 1)))
 
--- what so many bits hold without a sign
+-- what an unsigned type of so many bits holds
 abbrev pub IsUnsigned : ℕ → ℤ → Type 0
 IsUnsigned bits z = (pos 0 ≤ℤ z) × (z <ℤ pos (2 ^ bits))
 
