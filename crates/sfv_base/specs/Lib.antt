@@ -1,2 +1,4 @@
+pub mod Conversions
 pub mod Errors
 pub mod Messages
+pub mod ParseErrors

@@ -1,11 +1,19 @@
 //! Decimals (RFC 9651, section 3.3.2).
 
-ghost use Rattle.std.specs.Prelude.{◌≡◌, pos};
+ghost use Rattle.std.specs.Prelude.{◌≡◌, Some, pos, nat_abs};
+ghost use Rattle.sfv_spec.specs.Numbers.{minus_text, is_negative};
+ghost use Rattle.sfv_spec.specs.Canonical.{decimal_text};
+ghost use Rattle.sfv_base.specs.Conversions.{IsWhole, thousandths_of, GivesIf};
 
+use crate::error::Error;
 use crate::integer::Integer;
+use std::fmt;
 use std::marker::Model;
 
 /// A number of at most twelve digits before its point and three behind it (RFC 9651, section 3.3.2).
+///
+/// A conversion from a whole number gives the same number. One that may fail fails with
+/// `ErrorKind::OutOfRange`, exactly if the number has more than twelve digits.
 ///
 /// A contract sees it as its thousandths.
 #[derive(Clone, Copy, Debug, PartialEq, Eq, PartialOrd, Ord, Hash)]
@@ -52,6 +60,34 @@ impl Decimal {
     {
         Decimal { thousandths: v }
     }
+
+    // The decimal of a whole number of at most twelve digits.
+    fn whole(v: i64) -> Decimal
+        requires { IsWhole v }
+        ensures { result ≡ thousandths_of v }
+    {
+        Decimal {
+            thousandths: Integer::constant(v * 1000),
+        }
+    }
+
+    // What is printed before the digits.
+    fn sign(&self) -> &'static str
+        ensures { result.now ≡ minus_text (is_negative self.now) }
+    {
+        if self.thousandths < Integer::ZERO {
+            "-"
+        } else {
+            ""
+        }
+    }
+
+    // The thousandths without their sign.
+    fn magnitude(&self) -> u64
+        ensures { result ≡ nat_abs self.now }
+    {
+        i64::from(self.thousandths).unsigned_abs()
+    }
 }
 
 impl Default for Decimal {
@@ -59,5 +95,162 @@ impl Default for Decimal {
 
     fn default() -> Decimal {
         Decimal::ZERO
+    }
+}
+
+impl fmt::Display for Decimal {
+    ghost output = { λ d. Some (decimal_text d) };
+
+    fn fmt<W: fmt::Write>(&self, f: &mut fmt::Formatter<W>) -> fmt::Result {
+        let sign = self.sign();
+        let magnitude = self.magnitude();
+        let whole = magnitude / 1000;
+        let fraction = magnitude % 1000;
+        let tenths = fraction / 100;
+        let hundredths = fraction / 10 % 10;
+        let thousandths = fraction % 10;
+        if fraction % 100 == 0 {
+            write!(f, "{sign}{whole}.{tenths}")
+        } else if fraction % 10 == 0 {
+            write!(f, "{sign}{whole}.{tenths}{hundredths}")
+        } else {
+            write!(f, "{sign}{whole}.{tenths}{hundredths}{thousandths}")
+        }
+    }
+}
+
+impl From<i8> for Decimal {
+    ghost from_gives = { λ v d. d ≡ thousandths_of v };
+
+    fn from(v: i8) -> Decimal {
+        Decimal::whole(i64::from(v))
+    }
+}
+
+impl From<i16> for Decimal {
+    ghost from_gives = { λ v d. d ≡ thousandths_of v };
+
+    fn from(v: i16) -> Decimal {
+        Decimal::whole(i64::from(v))
+    }
+}
+
+impl From<i32> for Decimal {
+    ghost from_gives = { λ v d. d ≡ thousandths_of v };
+
+    fn from(v: i32) -> Decimal {
+        Decimal::whole(i64::from(v))
+    }
+}
+
+impl TryFrom<i64> for Decimal {
+    type Error = Error;
+
+    ghost try_from_gives = { λ v r. GivesIf (IsWhole v) (thousandths_of v) r };
+
+    fn try_from(v: i64) -> Result<Decimal, Error> {
+        if v < -999_999_999_999 || v > 999_999_999_999 {
+            return Err(Error::OUT_OF_RANGE);
+        }
+        Ok(Decimal::whole(v))
+    }
+}
+
+impl TryFrom<i128> for Decimal {
+    type Error = Error;
+
+    ghost try_from_gives = { λ v r. GivesIf (IsWhole v) (thousandths_of v) r };
+
+    fn try_from(v: i128) -> Result<Decimal, Error> {
+        match i64::try_from(v) {
+            Ok(v) => Decimal::try_from(v),
+            Err(_) => Err(Error::OUT_OF_RANGE),
+        }
+    }
+}
+
+impl TryFrom<isize> for Decimal {
+    type Error = Error;
+
+    ghost try_from_gives = { λ v r. GivesIf (IsWhole v) (thousandths_of v) r };
+
+    fn try_from(v: isize) -> Result<Decimal, Error> {
+        match i64::try_from(v) {
+            Ok(v) => Decimal::try_from(v),
+            Err(_) => Err(Error::OUT_OF_RANGE),
+        }
+    }
+}
+
+impl TryFrom<u64> for Decimal {
+    type Error = Error;
+
+    ghost try_from_gives = { λ v r. GivesIf (IsWhole (pos v)) (thousandths_of (pos v)) r };
+
+    fn try_from(v: u64) -> Result<Decimal, Error> {
+        match i64::try_from(v) {
+            Ok(v) => Decimal::try_from(v),
+            Err(_) => Err(Error::OUT_OF_RANGE),
+        }
+    }
+}
+
+impl TryFrom<u128> for Decimal {
+    type Error = Error;
+
+    ghost try_from_gives = { λ v r. GivesIf (IsWhole (pos v)) (thousandths_of (pos v)) r };
+
+    fn try_from(v: u128) -> Result<Decimal, Error> {
+        match i64::try_from(v) {
+            Ok(v) => Decimal::try_from(v),
+            Err(_) => Err(Error::OUT_OF_RANGE),
+        }
+    }
+}
+
+impl TryFrom<usize> for Decimal {
+    type Error = Error;
+
+    ghost try_from_gives = { λ v r. GivesIf (IsWhole (pos v)) (thousandths_of (pos v)) r };
+
+    fn try_from(v: usize) -> Result<Decimal, Error> {
+        match i64::try_from(v) {
+            Ok(v) => Decimal::try_from(v),
+            Err(_) => Err(Error::OUT_OF_RANGE),
+        }
+    }
+}
+
+impl From<u8> for Decimal {
+    ghost from_gives = { λ v d. d ≡ thousandths_of (pos v) };
+
+    fn from(v: u8) -> Decimal {
+        Decimal::whole(i64::from(v))
+    }
+}
+
+impl From<u16> for Decimal {
+    ghost from_gives = { λ v d. d ≡ thousandths_of (pos v) };
+
+    fn from(v: u16) -> Decimal {
+        Decimal::whole(i64::from(v))
+    }
+}
+
+impl From<u32> for Decimal {
+    ghost from_gives = { λ v d. d ≡ thousandths_of (pos v) };
+
+    fn from(v: u32) -> Decimal {
+        Decimal::whole(i64::from(v))
+    }
+}
+
+impl TryFrom<Integer> for Decimal {
+    type Error = Error;
+
+    ghost try_from_gives = { λ n r. GivesIf (IsWhole n) (thousandths_of n) r };
+
+    fn try_from(n: Integer) -> Result<Decimal, Error> {
+        Decimal::try_from(i64::from(n))
     }
 }

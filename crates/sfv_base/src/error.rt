@@ -132,6 +132,12 @@ pub struct Error {
 impl Error {
     ghost use Rattle.sfv_base.specs.Errors.{error_of, kind_of, index_of, out_of_memory};
 
+    // A number that its type doesn't hold has no place in an input.
+    pub(crate) const OUT_OF_RANGE: Error = Error {
+        kind: ErrorKind::OutOfRange,
+        index: None,
+    };
+
     /// The error of this kind, at this zero-based offset in bytes into the input.
     pub fn with_kind(kind: ErrorKind, index: Option<usize>) -> Error
         ensures { result ≡ error_of kind index }
@@ -231,3 +237,42 @@ impl<T: Drop> From<AllocFailed<T>> for Error {
         Error::with_kind(ErrorKind::OutOfMemory, None)
     }
 }
+
+/// Why a text was not read: by itself, or since a visitor of it, whose errors are of type `E`, refused it.
+#[derive(Debug, Drop)]
+pub enum ParseError<E> {
+    /// The text is malformed, or a request for memory was refused.
+    Syntax(Error),
+    /// The visitor's own error.
+    Visitor(E),
+}
+
+impl<E> ParseError<E> {
+    ghost use Rattle.sfv_base.specs.ParseErrors.{parse_index};
+
+    /// The zero-based offset in bytes into the input at which the error stands, if it has one. A
+    /// visitor's error has none.
+    pub fn index(&self) -> Option<usize>
+        ensures { result ≡ parse_index self.now }
+    {
+        match self {
+            ParseError::Syntax(error) => error.index(),
+            ParseError::Visitor(_) => None,
+        }
+    }
+}
+
+impl<E: fmt::Display> fmt::Display for ParseError<E> {
+    ghost use Rattle.sfv_base.specs.ParseErrors.{parse_output};
+
+    ghost output = { λ e. parse_output E.output e };
+
+    fn fmt<W: fmt::Write>(&self, f: &mut fmt::Formatter<W>) -> fmt::Result {
+        match self {
+            ParseError::Syntax(error) => write!(f, "{error}"),
+            ParseError::Visitor(error) => write!(f, "{error}"),
+        }
+    }
+}
+
+impl<E: std::error::Error> std::error::Error for ParseError<E> {}

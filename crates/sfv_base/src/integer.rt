@@ -1,16 +1,18 @@
 //! Integers (RFC 9651, section 3.3.1).
 
-ghost use Rattle.std.specs.Prelude.{◌≡◌, Some, None, ℤ, pos, MatchResult};
+ghost use Rattle.std.specs.Prelude.{◌≡◌, Some, pos, nat_abs};
 ghost use Rattle.std.specs.Fmt.{signed_decimal};
 ghost use Rattle.sfv_spec.specs.Values.{IsInRange};
-ghost use Rattle.sfv_base.specs.declared.error.ErrorKind.TheVariants.{OutOfRange};
-ghost use Rattle.sfv_base.specs.Errors.{error_of};
+ghost use Rattle.sfv_base.specs.Conversions.{IsSigned, IsUnsigned, GivesIf};
 
-use crate::error::{Error, ErrorKind};
+use crate::error::Error;
 use std::fmt;
 use std::marker::Model;
 
 /// An integer of at most fifteen digits (RFC 9651, section 3.3.1).
+///
+/// A conversion from or to another number gives the same number. One that may fail fails with
+/// `ErrorKind::OutOfRange`, exactly if the number isn't in the range of the type that it goes to.
 ///
 /// A contract sees it as a whole number.
 #[derive(Clone, Copy, Debug, PartialEq, Eq, PartialOrd, Ord, Hash)]
@@ -71,6 +73,73 @@ impl fmt::Display for Integer {
     }
 }
 
+impl From<i8> for Integer {
+    ghost from_gives = { λ v n. n ≡ v };
+
+    fn from(v: i8) -> Integer {
+        Integer::constant(i64::from(v))
+    }
+}
+
+impl TryFrom<Integer> for i8 {
+    type Error = Error;
+
+    ghost try_from_gives = { λ n r. GivesIf (IsSigned 8 n) n r };
+
+    fn try_from(n: Integer) -> Result<i8, Error> {
+        i8::try_from(n.value).map_err(|_| Error::OUT_OF_RANGE)
+    }
+}
+
+impl From<i16> for Integer {
+    ghost from_gives = { λ v n. n ≡ v };
+
+    fn from(v: i16) -> Integer {
+        Integer::constant(i64::from(v))
+    }
+}
+
+impl TryFrom<Integer> for i16 {
+    type Error = Error;
+
+    ghost try_from_gives = { λ n r. GivesIf (IsSigned 16 n) n r };
+
+    fn try_from(n: Integer) -> Result<i16, Error> {
+        i16::try_from(n.value).map_err(|_| Error::OUT_OF_RANGE)
+    }
+}
+
+impl From<i32> for Integer {
+    ghost from_gives = { λ v n. n ≡ v };
+
+    fn from(v: i32) -> Integer {
+        Integer::constant(i64::from(v))
+    }
+}
+
+impl TryFrom<Integer> for i32 {
+    type Error = Error;
+
+    ghost try_from_gives = { λ n r. GivesIf (IsSigned 32 n) n r };
+
+    fn try_from(n: Integer) -> Result<i32, Error> {
+        i32::try_from(n.value).map_err(|_| Error::OUT_OF_RANGE)
+    }
+}
+
+impl TryFrom<i64> for Integer {
+    type Error = Error;
+
+    ghost try_from_gives = { λ v r. GivesIf (IsInRange v) v r };
+
+    fn try_from(v: i64) -> Result<Integer, Error> {
+        if v < Integer::MIN.value || v > Integer::MAX.value {
+            return Err(Error::OUT_OF_RANGE);
+        }
+        Ok(Integer { value: v })
+    }
+}
+
 impl From<Integer> for i64 {
     ghost from_gives = { λ n r. (r ≡ n) × IsInRange n };
 
@@ -79,16 +148,169 @@ impl From<Integer> for i64 {
     }
 }
 
-impl TryFrom<i64> for Integer {
+impl TryFrom<i128> for Integer {
     type Error = Error;
 
-    ghost try_from_gives = { λ v r. MatchResult r (λ n. (n ≡ v) × IsInRange v)
-        (λ e. (e ≡ error_of OutOfRange None) × ¬ (IsInRange v)) };
+    ghost try_from_gives = { λ v r. GivesIf (IsInRange v) v r };
 
-    fn try_from(v: i64) -> Result<Integer, Error> {
-        if v < Integer::MIN.value || v > Integer::MAX.value {
-            return Err(Error::with_kind(ErrorKind::OutOfRange, None));
+    fn try_from(v: i128) -> Result<Integer, Error> {
+        match i64::try_from(v) {
+            Ok(v) => Integer::try_from(v),
+            Err(_) => Err(Error::OUT_OF_RANGE),
         }
-        Ok(Integer { value: v })
+    }
+}
+
+impl From<Integer> for i128 {
+    ghost from_gives = { λ n r. (r ≡ n) × IsInRange n };
+
+    fn from(n: Integer) -> i128 {
+        i128::from(n.value)
+    }
+}
+
+impl TryFrom<isize> for Integer {
+    type Error = Error;
+
+    ghost try_from_gives = { λ v r. GivesIf (IsInRange v) v r };
+
+    fn try_from(v: isize) -> Result<Integer, Error> {
+        match i64::try_from(v) {
+            Ok(v) => Integer::try_from(v),
+            Err(_) => Err(Error::OUT_OF_RANGE),
+        }
+    }
+}
+
+impl TryFrom<Integer> for isize {
+    type Error = Error;
+
+    ghost try_from_gives = { λ n r. GivesIf (IsSigned 64 n) n r };
+
+    fn try_from(n: Integer) -> Result<isize, Error> {
+        isize::try_from(n.value).map_err(|_| Error::OUT_OF_RANGE)
+    }
+}
+
+impl From<u8> for Integer {
+    ghost from_gives = { λ v n. n ≡ pos v };
+
+    fn from(v: u8) -> Integer {
+        Integer::constant(i64::from(v))
+    }
+}
+
+impl TryFrom<Integer> for u8 {
+    type Error = Error;
+
+    ghost try_from_gives = { λ n r. GivesIf (IsUnsigned 8 n) (nat_abs n) r };
+
+    fn try_from(n: Integer) -> Result<u8, Error> {
+        u8::try_from(n.value).map_err(|_| Error::OUT_OF_RANGE)
+    }
+}
+
+impl From<u16> for Integer {
+    ghost from_gives = { λ v n. n ≡ pos v };
+
+    fn from(v: u16) -> Integer {
+        Integer::constant(i64::from(v))
+    }
+}
+
+impl TryFrom<Integer> for u16 {
+    type Error = Error;
+
+    ghost try_from_gives = { λ n r. GivesIf (IsUnsigned 16 n) (nat_abs n) r };
+
+    fn try_from(n: Integer) -> Result<u16, Error> {
+        u16::try_from(n.value).map_err(|_| Error::OUT_OF_RANGE)
+    }
+}
+
+impl From<u32> for Integer {
+    ghost from_gives = { λ v n. n ≡ pos v };
+
+    fn from(v: u32) -> Integer {
+        Integer::constant(i64::from(v))
+    }
+}
+
+impl TryFrom<Integer> for u32 {
+    type Error = Error;
+
+    ghost try_from_gives = { λ n r. GivesIf (IsUnsigned 32 n) (nat_abs n) r };
+
+    fn try_from(n: Integer) -> Result<u32, Error> {
+        u32::try_from(n.value).map_err(|_| Error::OUT_OF_RANGE)
+    }
+}
+
+impl TryFrom<u64> for Integer {
+    type Error = Error;
+
+    ghost try_from_gives = { λ v r. GivesIf (IsInRange (pos v)) (pos v) r };
+
+    fn try_from(v: u64) -> Result<Integer, Error> {
+        match i64::try_from(v) {
+            Ok(v) => Integer::try_from(v),
+            Err(_) => Err(Error::OUT_OF_RANGE),
+        }
+    }
+}
+
+impl TryFrom<Integer> for u64 {
+    type Error = Error;
+
+    ghost try_from_gives = { λ n r. GivesIf (IsUnsigned 64 n) (nat_abs n) r };
+
+    fn try_from(n: Integer) -> Result<u64, Error> {
+        u64::try_from(n.value).map_err(|_| Error::OUT_OF_RANGE)
+    }
+}
+
+impl TryFrom<u128> for Integer {
+    type Error = Error;
+
+    ghost try_from_gives = { λ v r. GivesIf (IsInRange (pos v)) (pos v) r };
+
+    fn try_from(v: u128) -> Result<Integer, Error> {
+        match i64::try_from(v) {
+            Ok(v) => Integer::try_from(v),
+            Err(_) => Err(Error::OUT_OF_RANGE),
+        }
+    }
+}
+
+impl TryFrom<Integer> for u128 {
+    type Error = Error;
+
+    ghost try_from_gives = { λ n r. GivesIf (IsUnsigned 128 n) (nat_abs n) r };
+
+    fn try_from(n: Integer) -> Result<u128, Error> {
+        u128::try_from(n.value).map_err(|_| Error::OUT_OF_RANGE)
+    }
+}
+
+impl TryFrom<usize> for Integer {
+    type Error = Error;
+
+    ghost try_from_gives = { λ v r. GivesIf (IsInRange (pos v)) (pos v) r };
+
+    fn try_from(v: usize) -> Result<Integer, Error> {
+        match i64::try_from(v) {
+            Ok(v) => Integer::try_from(v),
+            Err(_) => Err(Error::OUT_OF_RANGE),
+        }
+    }
+}
+
+impl TryFrom<Integer> for usize {
+    type Error = Error;
+
+    ghost try_from_gives = { λ n r. GivesIf (IsUnsigned 64 n) (nat_abs n) r };
+
+    fn try_from(n: Integer) -> Result<usize, Error> {
+        usize::try_from(n.value).map_err(|_| Error::OUT_OF_RANGE)
     }
 }

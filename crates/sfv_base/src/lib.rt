@@ -6,4 +6,7 @@ pub mod date;
 pub mod decimal;
 pub mod error;
 pub mod integer;
+pub mod shorthand;
+#[cfg(test)]
+mod tests;
 pub mod utils;

@@ -1,0 +1,25 @@
+-- What a conversion of a number gives.
+use Rattle.std.specs.Prelude.{◌≡◌, ℕ, ◌-◌, ◌<◌, ◌^◌, None, Result, MatchResult, ℤ, pos, neg_ℤ, nat_abs, ◌*ℤ◌, ◌≤ℤ◌, ◌<ℤ◌}
+use Rattle.sfv_base.specs.declared.error.Error.{Error}
+use Rattle.sfv_base.specs.declared.error.ErrorKind.TheVariants.{OutOfRange}
+use Rattle.sfv_base.specs.Errors.{error_of}
+
+-- what a signed type of so many bits holds
+abbrev pub IsSigned : ℕ → ℤ → Type 0
+IsSigned bits z = (neg_ℤ (pos (2 ^ (bits - 1))) ≤ℤ z) × (z <ℤ pos (2 ^ (bits - 1)))
+
+-- what an unsigned type of so many bits holds
+abbrev pub IsUnsigned : ℕ → ℤ → Type 0
+IsUnsigned bits z = (pos 0 ≤ℤ z) × (z <ℤ pos (2 ^ bits))
+
+-- at most twelve digits, as before the point of a decimal
+abbrev pub IsWhole : ℤ → Type 0
+IsWhole z = nat_abs z < 10 ^ 12
+
+-- a decimal is held in thousandths
+abbrev pub thousandths_of : ℤ → ℤ
+thousandths_of z = z *ℤ pos 1000
+
+-- the value exactly if it fits, and else that it is out of range
+abbrev pub GivesIf : {A : Type 0} → Type 0 → A → Result A Error → Type 0
+GivesIf fits value r = MatchResult r (λ x. (x ≡ value) × fits) (λ e. (e ≡ error_of OutOfRange None) × ¬ fits)

@@ -1,0 +1,14 @@
+//! Functions that make a value in short.
+
+ghost use Rattle.std.specs.Prelude.{◌≡◌};
+ghost use Rattle.sfv_spec.specs.Values.{IsInRange};
+
+use crate::integer::Integer;
+
+/// The integer of this number, which is in range: `Integer::constant` in short.
+pub fn integer(v: i64) -> Integer
+    requires { IsInRange v }
+    ensures { result ≡ v }
+{
+    Integer::constant(v)
+}
