@@ -7,9 +7,8 @@ mod run;
 mod tests;
 
 use crate::run::run;
-use std::env;
-use std::io;
 use std::process::ExitCode;
+use std::{env, io};
 
 fn main(rt: HostRuntime) -> io::Result<ExitCode> {
     let mut args = Vec::new(rt.alloc());

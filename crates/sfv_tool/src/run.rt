@@ -6,7 +6,9 @@ use std::alloc::Global;
 use std::io::{Read, Write};
 
 const DONE: u8 = 0;
+
 const FAILED: u8 = 1;
+
 const WRONG_ARGUMENTS: u8 = 2;
 
 /// The field and the version that the arguments name.

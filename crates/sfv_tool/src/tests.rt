@@ -55,7 +55,13 @@ fn expect_run(
     let args = words(rt.alloc(), args)?;
     let mut written = Vec::new(rt.alloc());
     let mut faults = Vec::new(rt.alloc());
-    let ended = run(rt.alloc(), args.as_slice(), input, &mut written, &mut faults);
+    let ended = run(
+        rt.alloc(),
+        args.as_slice(),
+        input,
+        &mut written,
+        &mut faults,
+    );
     assert_eq!(rt; written.as_slice(), output.as_bytes());
     assert_eq!(rt; faults.as_slice(), errors.as_bytes());
     assert_eq!(rt; ended, status);
