@@ -6,6 +6,8 @@
 #![tactic(auto)]
 
 mod replay;
+#[cfg(test)]
+mod rows;
 
 use crate::replay::{answer_of, parse_line};
 use std::io;

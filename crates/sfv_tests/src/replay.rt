@@ -35,7 +35,7 @@ pub fn parse_line(line: &str) -> Option<Case<'_>> {
 }
 
 /// The canonical text of an input that is an item.
-fn canonical_text(alloc: Global, version: Version, input: &[u8]) -> Result<String, Error> {
+pub fn canonical_text(alloc: Global, version: Version, input: &[u8]) -> Result<String, Error> {
     let item = Parser::new(input)
         .with_version(version)
         .parse::<Item>(alloc)?;

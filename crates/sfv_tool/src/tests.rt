@@ -43,32 +43,147 @@ fn words(alloc: Global, args: &[&str]) -> Result<Vec<String>, Fail> {
     Ok(all)
 }
 
-/// A run with these arguments on this input gives this output, these errors and this status.
-fn expect_run(
-    rt: HostRuntime,
-    args: &[&str],
-    input: &[u8],
-    output: &str,
-    errors: &str,
+/// What a run wrote, and its status.
+#[derive(Drop)]
+struct Ended {
+    output: Vec<u8>,
+    errors: Vec<u8>,
     status: u8,
-) -> Result<(), Fail> {
-    let args = words(rt.alloc(), args)?;
-    let mut written = Vec::new(rt.alloc());
-    let mut faults = Vec::new(rt.alloc());
-    let ended = run(
-        rt.alloc(),
-        args.as_slice(),
-        input,
-        &mut written,
-        &mut faults,
-    );
-    assert_eq!(rt; written.as_slice(), output.as_bytes());
-    assert_eq!(rt; faults.as_slice(), errors.as_bytes());
-    assert_eq!(rt; ended, status);
-    Ok(())
+}
+
+/// A run over memory.
+fn run_over(alloc: Global, args: &[&str], input: &[u8]) -> Result<Ended, Fail> {
+    let args = words(alloc, args)?;
+    let mut output = Vec::new(alloc);
+    let mut errors = Vec::new(alloc);
+    let status = run(alloc, args.as_slice(), input, &mut output, &mut errors);
+    Ok(Ended {
+        output,
+        errors,
+        status,
+    })
 }
 
 #[test]
 fn items(rt: HostRuntime) -> Result<(), Fail> {
-    expect_run(rt, &["item", "9651"], b"007.50;a=?1\n", "7.5;a\n", "", 0)
+    let rows: [(&str, &[u8], &str, &str, u8); 8] = [
+        ("9651", b"007.50;a=?1\n", "7.5;a\n", "", 0),
+        ("9651", b"007.50;a=?1", "7.5;a\n", "", 0),
+        (
+            "9651",
+            b"1\n\n",
+            "",
+            "error: trailing characters after parsed value at index 1\n",
+            1,
+        ),
+        (
+            "9651",
+            b"",
+            "",
+            "error: expected start of bare item at index 0\n",
+            1,
+        ),
+        (
+            "9651",
+            b"\n",
+            "",
+            "error: expected start of bare item at index 0\n",
+            1,
+        ),
+        ("9651", b"@5\n", "@5\n", "", 0),
+        (
+            "8941",
+            b"@5\n",
+            "",
+            "error: RFC 8941 does not support dates at index 0\n",
+            1,
+        ),
+        (
+            "8941",
+            b"%\"x\"\n",
+            "",
+            "error: RFC 8941 does not support display strings at index 0\n",
+            1,
+        ),
+    ];
+    for (version, input, output, errors, status) in rows {
+        let ended = run_over(rt.alloc(), &["item", version], input)?;
+        assert_eq!(rt; ended.output.as_slice(), output.as_bytes());
+        assert_eq!(rt; ended.errors.as_slice(), errors.as_bytes());
+        assert_eq!(rt; ended.status, status);
+    }
+    Ok(())
+}
+
+#[test]
+fn usage(rt: HostRuntime) -> Result<(), Fail> {
+    let usage = "usage: sfv_tool item|list|dict 8941|9651\n";
+    let rows: [&[&str]; 8] = [
+        &[],
+        &["item"],
+        &["item", "9652"],
+        &["Item", "9651"],
+        &["item", "9651", "9651"],
+        &["list", "9651"],
+        &["dict", "9651"],
+        &["9651", "item"],
+    ];
+    for args in rows {
+        let ended = run_over(rt.alloc(), args, b"1\n")?;
+        assert_eq!(rt; ended.output.len(), 0);
+        assert_eq!(rt; ended.errors.as_slice(), usage.as_bytes());
+        assert_eq!(rt; ended.status, 2);
+    }
+    Ok(())
+}
+
+#[test]
+fn unreadable_input(rt: HostRuntime) -> Result<(), Fail> {
+    let args = words(rt.alloc(), &["item", "9651"])?;
+    let mut output = Vec::new(rt.alloc());
+    let mut errors = Vec::new(rt.alloc());
+    let input = Broken { left: b"1;a" };
+    let status = run(rt.alloc(), args.as_slice(), input, &mut output, &mut errors);
+    assert_eq!(rt; errors.as_slice(), b"error: cannot read input\n".as_slice());
+    assert_eq!(rt; output.len(), 0);
+    assert_eq!(rt; status, 1);
+    Ok(())
+}
+
+#[test]
+fn unwritable_output(rt: HostRuntime) -> Result<(), Fail> {
+    let args = words(rt.alloc(), &["item", "9651"])?;
+    let mut errors = Vec::new(rt.alloc());
+    let status = run(
+        rt.alloc(),
+        args.as_slice(),
+        b"1\n".as_slice(),
+        Full,
+        &mut errors,
+    );
+    assert_eq!(rt;
+        errors.as_slice(),
+        b"error: cannot write output\n".as_slice()
+    );
+    assert_eq!(rt; status, 1);
+    Ok(())
+}
+
+/// Where the errors can't be written, the status stays.
+#[test]
+fn unwritable_errors(rt: HostRuntime) -> Result<(), Fail> {
+    let args = words(rt.alloc(), &["item", "9651"])?;
+    let mut output = Vec::new(rt.alloc());
+    let status = run(
+        rt.alloc(),
+        args.as_slice(),
+        b"1,\n".as_slice(),
+        &mut output,
+        Full,
+    );
+    assert_eq!(rt; output.len(), 0);
+    assert_eq!(rt; status, 1);
+    let status = run(rt.alloc(), &[], b"1\n".as_slice(), &mut output, Full);
+    assert_eq!(rt; status, 2);
+    Ok(())
 }

@@ -1,0 +1,201 @@
+//! Worked rows: inputs with their canonical texts, or with their errors.
+
+use crate::replay::canonical_text;
+use sfv::{BareItem, FieldType, Item, Parser, Version};
+use std::alloc::Global;
+use std::test::Fail;
+
+/// The canonical text of the input, or the text of its error.
+fn told(alloc: Global, version: Version, input: &[u8]) -> Result<String, Fail> {
+    match canonical_text(alloc, version, input) {
+        Ok(text) => Ok(text),
+        Err(error) => Ok(format!(in alloc; "{error}")?),
+    }
+}
+
+#[test]
+fn items_and_their_texts(rt: HostRuntime) -> Result<(), Fail> {
+    let rows: [(&[u8], &str); 27] = [
+        (b"007.50;a=?1", "7.5;a"),
+        (b"-0.0", "0.0"),
+        (b"-0", "0"),
+        (b"999999999999999", "999999999999999"),
+        (b"-999999999999999", "-999999999999999"),
+        (b":aGVsbG9:", ":aGVsbG8=:"),
+        (b"%\"%c3%a9\"", "%\"%c3%a9\""),
+        (b"\"a\\\"b\\\\c\"", "\"a\\\"b\\\\c\""),
+        (b"0.010", "0.01"),
+        (b"-0.5", "-0.5"),
+        (b"999999999999.999", "999999999999.999"),
+        (b"1; a;a=2;b", "1;a=2;b"),
+        (b"::", "::"),
+        (b":YR:", ":YQ==:"),
+        (b"  1  ", "1"),
+        (b"?1;a=?0", "?1;a=?0"),
+        (b"@-0", "@0"),
+        (b"@1659578233", "@1659578233"),
+        (b"a:/~;x", "a:/~;x"),
+        (b"*a", "*a"),
+        (b"1;*_-.=2", "1;*_-.=2"),
+        (b"\"\"", "\"\""),
+        (b"%\"\"", "%\"\""),
+        (b"1;a;b;a=3", "1;a=3;b"),
+        (b"1;a=1;b=2;a", "1;a;b=2"),
+        (b"%\"\\\"", "%\"\\\""),
+        (b"a;  b=\"x y\"", "a;b=\"x y\""),
+    ];
+    for (input, text) in rows {
+        assert_eq!(rt; told(rt.alloc(), Version::Rfc9651, input)?.as_str(), text);
+    }
+    Ok(())
+}
+
+#[test]
+fn faults_and_their_places(rt: HostRuntime) -> Result<(), Fail> {
+    let rows: [(&[u8], &str); 46] = [
+        (b"", "expected start of bare item at index 0"),
+        (b"1000000000000000", "too many digits at index 15"),
+        (b"0000000000000001", "too many digits at index 15"),
+        (
+            b"1234567890123.0",
+            "too many digits before decimal point at index 13",
+        ),
+        (b"1.", "trailing decimal point at index 1"),
+        (
+            b"@1.5",
+            "date must be an integer number of seconds at index 0",
+        ),
+        (b"@1.5555", "too many digits after decimal point at index 6"),
+        (b"1\t", "trailing characters after parsed value at index 1"),
+        (b":a:", "invalid byte sequence at index 1"),
+        (b":a=:", "invalid byte sequence at index 2"),
+        (b":ab!", "unterminated byte sequence at index 4"),
+        (b":=:", "invalid byte sequence at index 1"),
+        (b":aa=a:", "invalid byte sequence at index 4"),
+        (b":aa===:", "invalid byte sequence at index 5"),
+        (b":aaaa=:", "invalid byte sequence at index 5"),
+        (b":aaaaa:", "invalid byte sequence at index 5"),
+        (b":a!:", "invalid byte sequence at index 2"),
+        (b"%\"a%ff\"", "invalid UTF-8 in display string at index 3"),
+        (b"%\"%C3%a9\"", "invalid escape sequence at index 3"),
+        (b"\"a\\b\"", "invalid escape sequence at index 3"),
+        (b"\"a", "unterminated string at index 2"),
+        (b"\"\\", "unterminated escape sequence at index 2"),
+        (b"-", "expected digit at index 1"),
+        (b"1.2345", "too many digits after decimal point at index 5"),
+        (b"1 ;a", "trailing characters after parsed value at index 2"),
+        (b"1;", "expected start of key ('a'-'z' or '*') at index 2"),
+        (b"1;a=", "expected start of bare item at index 4"),
+        (
+            b"abc;0",
+            "expected start of key ('a'-'z' or '*') at index 4",
+        ),
+        (b"?2", "expected boolean ('0' or '1') at index 1"),
+        (b"%x", "expected '\"' at index 1"),
+        (
+            b"5;a=1234567890123.",
+            "too many digits before decimal point at index 17",
+        ),
+        (b"@-1.", "trailing decimal point at index 3"),
+        (b"%\"%ff\x01", "invalid display string character at index 5"),
+        (b"%\"%ff%4", "unterminated escape sequence at index 7"),
+        (
+            b"%\"ab%e2%82\"",
+            "invalid UTF-8 in display string at index 4",
+        ),
+        (b"\"\x7f\"", "invalid string character at index 1"),
+        (b"%\"ab", "unterminated display string at index 4"),
+        (b"@", "expected digit at index 1"),
+        (b"@-", "expected digit at index 2"),
+        (b"\t1", "expected start of bare item at index 0"),
+        (b"(1)", "expected start of bare item at index 0"),
+        (b"1;A", "expected start of key ('a'-'z' or '*') at index 2"),
+        (b"a,b", "trailing characters after parsed value at index 1"),
+        (b"1;a=@", "expected digit at index 5"),
+        (b"1;a=-", "expected digit at index 5"),
+        (b"1  2", "trailing characters after parsed value at index 3"),
+    ];
+    for (input, text) in rows {
+        assert_eq!(rt; told(rt.alloc(), Version::Rfc9651, input)?.as_str(), text);
+    }
+    Ok(())
+}
+
+#[test]
+fn older_version(rt: HostRuntime) -> Result<(), Fail> {
+    let rows: [(&[u8], &str); 5] = [
+        (b"@5", "RFC 8941 does not support dates at index 0"),
+        (b"1;x=@5", "RFC 8941 does not support dates at index 4"),
+        (
+            b"%\"a\"",
+            "RFC 8941 does not support display strings at index 0",
+        ),
+        (b"007.50;a=?1", "7.5;a"),
+        (
+            b"1;a=%",
+            "RFC 8941 does not support display strings at index 4",
+        ),
+    ];
+    for (input, text) in rows {
+        assert_eq!(rt; told(rt.alloc(), Version::Rfc8941, input)?.as_str(), text);
+    }
+    Ok(())
+}
+
+/// Where an input is refused for its reach, the text up to there goes on like an accepted one.
+#[test]
+fn completions(rt: HostRuntime) -> Result<(), Fail> {
+    let rows: [(&[u8], usize, &str); 3] = [
+        (b"?2", 1, "1"),
+        (b"%x", 1, "\"\""),
+        (b"5;a=1234567890123.", 17, ""),
+    ];
+    for (input, index, completion) in rows {
+        match Parser::new(input).parse::<Item>(rt.alloc()) {
+            Ok(_) => panic!(rt; "accepted"),
+            Err(error) => assert_eq!(rt; error.index(), Some(index)),
+        }
+        let mut text = Vec::new(rt.alloc());
+        text.extend_from_slice(input.get(..index).ok_or("short")?)?;
+        text.extend_from_slice(completion.as_bytes())?;
+        assert!(rt;
+            Parser::new(text.as_slice())
+                .parse::<Item>(rt.alloc())
+                .is_ok()
+        );
+    }
+    Ok(())
+}
+
+#[test]
+fn values(rt: HostRuntime) -> Result<(), Fail> {
+    let item = Parser::new(b":aGVsbG9:").parse::<Item>(rt.alloc())?;
+    match &item.bare_item {
+        BareItem::ByteSequence(bytes) => assert_eq!(rt; bytes.as_slice(), b"hello".as_slice()),
+        _ => panic!(rt; "no byte sequence"),
+    }
+    let item = Parser::new(b"%\"%c3%a9\"").parse::<Item>(rt.alloc())?;
+    match &item.bare_item {
+        BareItem::DisplayString(text) => assert_eq!(rt; text.as_str(), "\u{e9}"),
+        _ => panic!(rt; "no display string"),
+    }
+    let item = Parser::new(b"\"a\\\"b\\\\c\"").parse::<Item>(rt.alloc())?;
+    match &item.bare_item {
+        BareItem::String(text) => assert_eq!(rt; text.as_str(), "a\"b\\c"),
+        _ => panic!(rt; "no string"),
+    }
+    let item = Parser::new(b"1;a=1;b;a=2").parse::<Item>(rt.alloc())?;
+    assert_eq!(rt; item.params.len(), 2);
+    Ok(())
+}
+
+#[test]
+fn written(rt: HostRuntime) -> Result<(), Fail> {
+    let text = String::from_str(rt.alloc(), "50% \"\u{fc}\"")?;
+    let item = Item::new(rt.alloc(), BareItem::DisplayString(text));
+    assert_eq!(rt;
+        item.serialize(rt.alloc())?.as_str(),
+        "%\"50%25 %22%c3%bc%22\""
+    );
+    Ok(())
+}
