@@ -1,10 +1,11 @@
 -- Worked texts, computed.
-use Rattle.std.proofs.Common.{◌≡◌, [], ◌∷◌, Ok, Err, refl, pos, true, false}
+use Rattle.std.proofs.Common.{◌≡◌, ℕ, List, [], ◌∷◌, Ok, Err, refl, pos, true, false}
 use Rattle.std.specs.Prelude.{codes}
-use Rattle.sfv_spec.specs.Values.{rfc8941, rfc9651, item_field, list_field, dictionary_field, integer, decimal, string, token, byte_sequence, boolean, display_string}
+use Rattle.sfv_spec.specs.Values.{Edition, rfc8941, rfc9651, FieldKind, item_field, list_field, dictionary_field, integer, decimal, string, token, byte_sequence, boolean, display_string}
 use Rattle.sfv_spec.specs.Events.{entry, keyed_entry, begins_item, begins_inner_list, bare_item, parameter, parameters_end, inner_list_end, events}
-use Rattle.sfv_spec.specs.Faults.{trailing_comma, trailing_decimal_point, non_integer_date, rfc8941_date, expected_start_of_bare_item, trailing_characters_after_parsed_value, unterminated_inner_list, invalid_byte_sequence, unterminated_byte_sequence, invalid_escape_sequence, unterminated_escape_sequence, unterminated_string, invalid_utf8_in_display_string, rfc8941_display_string}
-use Rattle.sfv_reading.specs.Reader.{give, fail, ruled, bind, led, branch, ahead, back, up_to, span, many, many_within, handed}
+use Rattle.sfv_spec.specs.Faults.{trailing_comma, trailing_decimal_point, non_integer_date, rfc8941_date, expected_digit, too_many_digits, too_many_digits_after_decimal_point, expected_start_of_bare_item, trailing_characters_after_parsed_value, unterminated_inner_list, invalid_byte_sequence, unterminated_byte_sequence, invalid_escape_sequence, unterminated_escape_sequence, unterminated_string, invalid_utf8_in_display_string, rfc8941_display_string}
+use Rattle.sfv_spec.specs.Grammar.{IsAccepted}
+use Rattle.sfv_reading.specs.Reader.{Fault, at_reach, by_rule, give, fail, ruled, bind, led, branch, ahead, back, up_to, span, many, many_within, handed}
 use Rattle.std.specs.Str.{is_utf8, chars}
 use Rattle.std.specs.Str.Lossy.{utf8_valid_len}
 use Rattle.sfv_reading.specs.Content.{symbol_value, is_symbol, padding_in, valid_from, values_in, bytes_from, bytes_of, fault_place, content_in, bytes_at}
@@ -13,6 +14,7 @@ use Rattle.sfv_reading.specs.Bare.{sign_at, long_at, decimal_at, fraction_at, po
 use Rattle.sfv_reading.specs.Items.{key_at, value_at, parameter_at, parameters_at, item_at}
 use Rattle.sfv_reading.specs.Members.{inner_item_at, next_item_at, inner_items_at, inner_at, member_at, entry_at, member_value_at, keyed_at}
 use Rattle.sfv_reading.specs.Fields.{comma_at, next_at, members_at, whole_field_at, read_field}
+use Rattle.sfv_reading.proofs.Theorems.{read_is_accepted}
 
 item_with_more : read_field rfc9651 item_field (codes "1.5;a;b=x, 2") ≡ Err (record { kind = trailing_characters_after_parsed_value; exact = true; rest = codes ", 2"; events = bare_item (decimal (pos 1500)) ∷ parameter (codes "a") (boolean true) ∷ parameter (codes "b") (token (codes "x")) ∷ parameters_end ∷ [] })
 unfolding content_in bytes_at string_from pieces_from display_at give fail ruled bind led branch ahead back up_to span many many_within sign_at long_at decimal_at fraction_at point_at whole_at number_at boolean_at token_at date_at quoted_at bare_at key_at value_at parameter_at parameters_at item_at inner_item_at next_item_at inner_items_at inner_at member_at entry_at member_value_at keyed_at comma_at next_at members_at whole_field_at read_field
@@ -101,3 +103,53 @@ cut_escape = refl
 old_display : read_field rfc8941 item_field (codes "%\"a\"") ≡ Err (record { kind = rfc8941_display_string; exact = true; rest = codes "%\"a\""; events = [] })
 unfolding lib.Utf8.encode is_utf8 chars utf8_valid_len content_in bytes_at string_from pieces_from display_at give fail ruled bind led branch ahead back up_to span many many_within sign_at long_at decimal_at fraction_at point_at whole_at number_at boolean_at token_at date_at quoted_at bare_at key_at value_at parameter_at parameters_at item_at inner_item_at next_item_at inner_items_at inner_at member_at entry_at member_value_at keyed_at comma_at next_at members_at whole_field_at read_field
 old_display = refl
+
+-- ---- texts that are refused
+
+-- a text in which the reader finds a fault isn't accepted
+refused : (edition : Edition) (kind : FieldKind) (t : List ℕ) (e : Fault) → read_field edition kind t ≡ Err e → ¬ IsAccepted edition kind t
+refused edition kind t e h (raw, i) = let k = (read_is_accepted edition kind t raw).1 i in absurd cc
+
+-- no item in an empty text
+empty_is_refused : ¬ IsAccepted rfc9651 item_field []
+unfolding give fail ruled bind led branch ahead back up_to span many many_within sign_at long_at decimal_at fraction_at point_at whole_at number_at token_at date_at bare_at parameter_at parameters_at item_at whole_field_at read_field
+empty_is_refused = refused rfc9651 item_field [] (at_reach expected_start_of_bare_item []) refl
+
+-- a minus without digits
+minus_is_refused : ¬ IsAccepted rfc9651 item_field (codes "-")
+unfolding give fail ruled bind led branch ahead back up_to span many many_within sign_at long_at decimal_at fraction_at point_at whole_at number_at token_at date_at bare_at parameter_at parameters_at item_at whole_field_at read_field
+minus_is_refused = refused rfc9651 item_field (codes "-") (at_reach expected_digit []) refl
+
+-- no digit behind the point
+point_is_refused : ¬ IsAccepted rfc9651 item_field (codes "1.")
+unfolding give fail ruled bind led branch ahead back up_to span many many_within sign_at long_at decimal_at fraction_at point_at whole_at number_at token_at date_at bare_at parameter_at parameters_at item_at whole_field_at read_field
+point_is_refused = refused rfc9651 item_field (codes "1.") (by_rule trailing_decimal_point (codes ".")) refl
+
+-- four digits behind the point
+long_fraction_is_refused : ¬ IsAccepted rfc9651 item_field (codes "1.2345")
+unfolding give fail ruled bind led branch ahead back up_to span many many_within sign_at long_at decimal_at fraction_at point_at whole_at number_at token_at date_at bare_at parameter_at parameters_at item_at whole_field_at read_field
+long_fraction_is_refused = refused rfc9651 item_field (codes "1.2345") (at_reach too_many_digits_after_decimal_point (codes "5")) refl
+
+-- sixteen digits
+sixteen_digits_are_refused : ¬ IsAccepted rfc9651 item_field (codes "1234567890123456")
+unfolding give fail ruled bind led branch ahead back up_to span many many_within sign_at long_at decimal_at fraction_at point_at whole_at number_at token_at date_at bare_at parameter_at parameters_at item_at whole_field_at read_field
+sixteen_digits_are_refused = refused rfc9651 item_field (codes "1234567890123456") (at_reach too_many_digits (codes "6")) refl
+
+-- a single symbol between the colons
+lone_symbol_is_refused : ¬ IsAccepted rfc9651 item_field (codes ":a:")
+lone_symbol_is_refused = refused rfc9651 item_field (codes ":a:") (by_rule invalid_byte_sequence (codes "a:")) lone_symbol
+
+-- a Date, which RFC 8941 does not have
+old_date_is_refused : ¬ IsAccepted rfc8941 item_field (codes "@5")
+unfolding give fail ruled bind led branch ahead back up_to span many many_within sign_at long_at decimal_at fraction_at point_at whole_at number_at token_at date_at bare_at parameter_at parameters_at item_at whole_field_at read_field
+old_date_is_refused = refused rfc8941 item_field (codes "@5") (at_reach rfc8941_date (codes "@5")) refl
+
+-- a tab in front of a list
+leading_tab_is_refused : ¬ IsAccepted rfc9651 list_field (codes "\t1")
+unfolding fail bind led branch ahead back span many many_within token_at bare_at item_at member_at entry_at members_at whole_field_at read_field
+leading_tab_is_refused = refused rfc9651 list_field (codes "\t1") (record { kind = expected_start_of_bare_item; exact = true; rest = codes "\t1"; events = entry ∷ begins_item ∷ [] }) refl
+
+-- a tab behind an item
+trailing_tab_is_refused : ¬ IsAccepted rfc9651 item_field (codes "1\t")
+unfolding give fail ruled bind led branch ahead back up_to span many many_within sign_at long_at decimal_at fraction_at point_at whole_at number_at token_at date_at bare_at parameter_at parameters_at item_at whole_field_at read_field
+trailing_tab_is_refused = refused rfc9651 item_field (codes "1\t") (record { kind = trailing_characters_after_parsed_value; exact = true; rest = codes "\t"; events = bare_item (integer (pos 1)) ∷ parameters_end ∷ [] }) refl

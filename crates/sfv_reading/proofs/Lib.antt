@@ -23,6 +23,7 @@ pub mod Steps
 pub mod Numbers
 pub mod Bare
 pub mod BareAgain
+pub mod Exact
 pub mod Items
 pub mod Members
 pub mod UpToFault

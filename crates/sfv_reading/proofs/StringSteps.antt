@@ -27,8 +27,12 @@ plain_reads input at end l h =
     let w = plain_pieces run h in
     ap (string_from false) (range_at input at end l ∙ ap (λ (r : List ℕ). r ++ drop end input) w.1) ∙ past_string run w.0 (drop end input) w.2
 
+-- the bytes of a plain run are of a string
+pub plain_bytes : (run : List ℕ) → RunOf is_plain_in_string run → RunOf is_string_byte run
+plain_bytes run h = run_weaker is_plain_in_string is_string_byte (λ c e. (and_parts (is_string_byte c) (not (is_escaped_in_string c)) e).0) run h
+
 pub plain_utf8 : (run : List ℕ) → RunOf is_plain_in_string run → IsUtf8 run
-plain_utf8 run h = string_utf8 run (run_weaker is_plain_in_string is_string_byte (λ c e. (and_parts (is_string_byte c) (not (is_escaped_in_string c)) e).0) run h)
+plain_utf8 run h = string_utf8 run (plain_bytes run h)
 
 -- a byte that is not plain, and neither the quote nor the backslash
 outside_byte : (c : ℕ) → is_plain_in_string c ≡ false → (c == 0x22) ≡ false → (c == 0x5c) ≡ false → is_string_byte c ≡ false
@@ -111,16 +115,22 @@ read_past input bytes start end next l m h e n =
     let less = ok_shorter (drop end input) w.0 (drop next input) w.1 in
     omega (arith, less, length-drop end input, length-drop next input, m, n)
 
--- a byte that is read is one of a string
-escaped_byte : (c : ℕ) → is_escaped_in_string c ≡ true → is_string_byte c ≡ true
-escaped_byte c h = elim (or_cases (c == 0x22) (c == 0x5c) h) as (λ x. is_string_byte c ≡ true) [ inl e ↦ subst (λ (c : ℕ). is_string_byte c ≡ true) (sym (eqb-true c 0x22 e)) refl | inr e ↦ subst (λ (c : ℕ). is_string_byte c ≡ true) (sym (eqb-true c 0x5c e)) refl ]
+-- the byte of a piece is of a string
+pub piece_byte : (c : ℕ) (piece : List ℕ) → IsStringPiece c piece → is_string_byte c ≡ true
+piece_byte c piece (inl h) = (and_parts (is_string_byte c) (not (is_escaped_in_string c)) h.0).0
+piece_byte c piece (inr h) = elim (or_cases (c == 0x22) (c == 0x5c) h.0) [ inl e ↦ ap is_string_byte (eqb-true c 0x22 e) | inr e ↦ ap is_string_byte (eqb-true c 0x5c e) ]
 
-piece_bytes : (bytes : List ℕ) (pieces : List (List ℕ)) → AllZip IsStringPiece bytes pieces → RunOf is_string_byte bytes
+-- so are the bytes of a row of pieces
+pub piece_bytes : (bytes : List ℕ) (pieces : List (List ℕ)) → AllZip IsStringPiece bytes pieces → RunOf is_string_byte bytes
 piece_bytes [] pieces h = refl
 piece_bytes (c ∷ bytes) [] h = absurd h
-piece_bytes (c ∷ bytes) (p ∷ pieces) h = and_from (is_string_byte c) (list_all is_string_byte bytes) (elim h.0 as (λ x. is_string_byte c ≡ true) [ inl q ↦ (and_parts (is_string_byte c) (not (is_escaped_in_string c)) q.0).0 | inr q ↦ escaped_byte c q.0 ]) (piece_bytes bytes pieces h.1)
+piece_bytes (c ∷ bytes) (p ∷ pieces) h = and_from (is_string_byte c) (list_all is_string_byte bytes) (piece_byte c p h.0) (piece_bytes bytes pieces h.1)
+
+-- and those of a string that was read
+pub read_bytes : (t bytes rest : List ℕ) → string_from false t ≡ Ok (bytes, rest) → RunOf is_string_byte bytes
+read_bytes t bytes rest e =
+    let h = subst (λ (a : Answer (List ℕ)). Traced IsStringPiece t (Ends true StringStops a)) e (trace_of_string t) in
+    subst (RunOf is_string_byte) (sym h.ends.0) (piece_bytes h.bytes h.pieces h.content)
 
 pub read_utf8 : (t bytes rest : List ℕ) → string_from false t ≡ Ok (bytes, rest) → IsUtf8 bytes
-read_utf8 t bytes rest e =
-    let h = subst (λ (a : Answer (List ℕ)). Traced IsStringPiece t (Ends true StringStops a)) e (trace_of_string t) in
-    string_utf8 bytes (subst (RunOf is_string_byte) (sym h.ends.0) (piece_bytes h.bytes h.pieces h.content))
+read_utf8 t bytes rest e = string_utf8 bytes (read_bytes t bytes rest e)

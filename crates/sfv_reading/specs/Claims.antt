@@ -1,9 +1,9 @@
 -- What the readers of fields have to do with the grammar.
-use Rattle.std.specs.Prelude.{◌≡◌, ◌↔◌, ℕ, ◌+◌, ◌%◌, Bool, List, [], ◌∷◌, ◌++◌, length, drop, true, false, Some, None, Ok, Err, ◌⊎◌, codes}
+use Rattle.std.specs.Prelude.{◌≡◌, ◌↔◌, ℕ, ◌+◌, ◌≤◌, ◌%◌, Bool, List, [], ◌∷◌, ◌++◌, length, drop, true, false, IsTrue, ⊤, Some, None, Ok, Err, ◌⊎◌, codes}
 use Rattle.sfv_spec.specs.Texts.{RunOf}
 use Rattle.sfv_spec.specs.Classes.{is_space_or_tab, is_one_of}
-use Rattle.sfv_spec.specs.Values.{Edition, rfc9651, FieldKind, item_field, RawField, RawItem, IsFieldValue}
-use Rattle.sfv_spec.specs.Grammar.{IsItemText, AreMembersText, IsFieldText}
+use Rattle.sfv_spec.specs.Values.{Edition, rfc9651, FieldKind, item_field, RawField, BareValue, RawItem, IsFieldValue}
+use Rattle.sfv_spec.specs.Grammar.{IsBareText, IsItemText, AreMembersText, IsFieldText}
 use Rattle.sfv_spec.specs.Events.{TreeEvent, events}
 use Rattle.sfv_spec.specs.Reach.{IsReach}
 use Rattle.sfv_spec.specs.Visiting.{BeginsEvents}
@@ -73,6 +73,31 @@ pub record CommaAt {A : Type 0} (P : A → List ℕ → Type 0) (t : List ℕ) (
 abbrev pub RuledComes : Type 0
 RuledComes = (edition : Edition) (kind : FieldKind) (t : List ℕ) (e : Fault) → read_field edition kind t ≡ Err e → e.exact ≡ false →
     Origin edition t e ⊎ ((index : ℕ) × (drop index t ≡ e.rest) × (e.kind ≡ trailing_comma) × IsTrailingComma edition kind t index)
+
+-- ---- bare items
+
+-- a text of some bare value
+abbrev pub IsSomeBareText : Edition → List ℕ → Type 0
+IsSomeBareText edition t = (value : BareValue) × IsBareText edition value t
+
+-- t is the longest text of any value that it begins with, which has this value alone, and the rest
+pub record BeginsWithBare (edition : Edition) (t : List ℕ) (value : BareValue) (rest : List ℕ) : Type 0 where
+  pub front : List ℕ
+  pub text : t ≡ front ++ rest
+  pub means : IsBareText edition value front
+  pub only : (other : BareValue) → IsBareText edition other front → other ≡ value
+  pub longest : (longer behind : List ℕ) → t ≡ longer ++ behind → IsSomeBareText edition longer → length longer ≤ length front
+
+-- a bare item ends here: at the end, or at a semicolon, SP, a tab, a comma or a closing parenthesis
+abbrev pub IsEnded : List ℕ → Type 0
+IsEnded [] = ⊤
+IsEnded (c ∷ cs) = IsTrue (is_one_of (codes "; \t,)") c)
+
+-- what is read is the longest text; where nothing is read, no text of a value stands there and is ended
+abbrev pub BareIsExact : Type 0
+BareIsExact =
+    ((edition : Edition) (t : List ℕ) (value : BareValue) (rest : List ℕ) → bare_at edition t ≡ Ok (value, rest) → BeginsWithBare edition t value rest)
+    × ((edition : Edition) (t : List ℕ) (e : Fault) → bare_at edition t ≡ Err e → (s rest : List ℕ) → t ≡ s ++ rest → IsSomeBareText edition s → ¬ IsEnded rest)
 
 -- ---- the insides of byte sequences, strings and display strings
 

@@ -1,7 +1,7 @@
 -- Readers: functions on lists that give a value and the rest, or a fault.
 use Rattle.std.specs.Prelude.{◌≡◌, ℕ, zero, suc, Bool, true, false, List, [], ◌∷◌, ◌++◌, length, Option, Some, None, Result, Ok, Err, if◌then◌else◌, ◌==◌}
 use Rattle.sfv_spec.specs.Events.{TreeEvent}
-use Rattle.sfv_spec.specs.Faults.{SyntaxFault, trailing_comma, trailing_decimal_point, non_integer_date, too_many_digits_after_decimal_point, unterminated_byte_sequence, invalid_byte_sequence, unterminated_display_string, unterminated_escape_sequence, invalid_escape_sequence, invalid_display_string_character, invalid_utf8_in_display_string}
+use Rattle.sfv_spec.specs.Faults.{SyntaxFault, unterminated_byte_sequence}
 
 -- What is met first that isn't of the grammar. Where it is exact, the rest begins at the first byte behind
 -- which no text of the grammar goes on; the events are those that were handed out before.
