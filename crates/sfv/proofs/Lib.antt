@@ -11,5 +11,4 @@ pub mod Parsed
 pub mod Decimals
 pub mod Written
 pub mod Escapes
-pub mod StringBytes
 pub mod Params
