@@ -199,3 +199,11 @@ fn written(rt: HostRuntime) -> Result<(), Fail> {
     );
     Ok(())
 }
+
+#[test]
+fn written_with_parameters(rt: HostRuntime) -> Result<(), Fail> {
+    let read = Parser::new(b"1;a=2;b").parse::<Item>(rt.alloc())?;
+    let item = Item::with_params(BareItem::Boolean(false), read.params);
+    assert_eq!(rt; item.serialize(rt.alloc())?.as_str(), "?0;a=2;b");
+    Ok(())
+}
