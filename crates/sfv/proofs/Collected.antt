@@ -1,5 +1,5 @@
 -- The loop over parameters: what it has put into the map is the collapse of the pairs that were read.
-use Rattle.std.proofs.Common.{◌≡◌, ℕ, ◌≤◌, Bool, true, false, cond, List, [], ◌∷◌, ◌++◌, length, Option, Some, None, Ok, Err, refl, sym, ap, subst, ◌∙◌, drop, map}
+use Rattle.std.proofs.Common.{◌≡◌, ℕ, ◌≤◌, Bool, true, false, cond, List, [], ◌∷◌, ◌++◌, length, Option, Some, None, Ok, Err, refl, sym, ap, subst, ◌∙◌, drop}
 use Rattle.std.specs.Prelude.{MatchOption, bytes_eq}
 use Rattle.std.specs.Borrow.{Bor}
 use Rattle.indexmap.specs.IndexMap.{insert_entry}
@@ -11,7 +11,7 @@ use Rattle.sfv_base.specs.declared.error.ErrorKind.{ErrorKind}
 use Rattle.sfv_base.specs.declared.error.ErrorKind.TheVariants.{OutOfMemory}
 use Rattle.sfv_text.specs.BareItems.{bare_value}
 use Rattle.sfv_tree.specs.Trees.{OwnedBareItem, pair_tree, pairs_tree}
-use Rattle.sfv_reading.specs.Reader.{Answer, behind_events}
+use Rattle.sfv_reading.specs.Reader.{Answer}
 use Rattle.sfv_reading.specs.Items.{parameter_event, parameter_at, parameters_at}
 use Rattle.sfv_reading.proofs.Many.{in_front, starts, goes_on, is_done, is_faulty}
 use Rattle.sfv_reading.proofs.Items.{Consumes-parameter}

@@ -1,5 +1,5 @@
 -- The digits of a fraction.
-use Rattle.std.proofs.Common.{◌≡◌, ℕ, ◌+◌, ◌/◌, ◌%◌, Bool, true, false, eqb, List, [], ◌∷◌, ◌++◌, refl}
+use Rattle.std.proofs.Common.{◌≡◌, ℕ, ◌+◌, ◌/◌, ◌%◌, true, false, eqb, [], ◌∷◌, refl}
 use Rattle.sfv_spec.specs.Canonical.{fraction_digits}
 
 pub fraction_one : (f : ℕ) → eqb (f % 100) 0 ≡ true → fraction_digits f ≡ (0x30 + f / 100) ∷ []

@@ -1,5 +1,5 @@
 -- What a part of a reading answers is what the whole does.
-use Rattle.std.proofs.Common.{◌≡◌, ℕ, ◌≤◌, List, length, Option, Some, None, Ok, Err, ap, subst, sym, ◌∙◌, drop}
+use Rattle.std.proofs.Common.{◌≡◌, ℕ, ◌≤◌, List, length, Option, Some, None, Ok, Err, ap, subst, ◌∙◌, drop}
 use Rattle.std.specs.Prelude.{MatchOption}
 use Rattle.std.specs.Borrow.{Bor}
 use Rattle.sfv_base.specs.declared.error.Error.{Error}

@@ -1,12 +1,12 @@
 -- Writing parameters: each of them once, and each a value of its class.
-use Rattle.std.proofs.Common.{◌≡◌, ℕ, zero, suc, ◌+◌, ◌<◌, ◌^◌, Bool, true, false, not, List, [], ◌∷◌, ◌++◌, get_or, Fits, w8, refl, sym, ap, ◌∙◌, arith, map, append_assoc}
-use Rattle.std.specs.Prelude.{IsTrue, ◌&&◌, bytes_eq, nat_lt}
-use Rattle.std.specs.List.{list_all, list_any, AllByRecursion, IsDistinct}
+use Rattle.std.proofs.Common.{◌≡◌, ℕ, suc, true, false, List, [], ◌∷◌, get_or, Fits, w8, refl, ap, arith}
+use Rattle.std.specs.Prelude.{IsTrue, bytes_eq}
+use Rattle.std.specs.List.{list_any, AllByRecursion, IsDistinct}
 use Rattle.std.specs.Map.{keys_of}
 use Rattle.std.proofs.lemmas.Bool.{and_from}
 use Rattle.std.proofs.lemmas.Bool.Decides.{nat_tests}
 use Rattle.sfv_spec.specs.Texts.{RunOf}
-use Rattle.sfv_spec.specs.Values.{is_byte, RawParameters}
+use Rattle.sfv_spec.specs.Values.{is_byte}
 use Rattle.sfv_spec.specs.Ordered.{keys, no_repeats}
 use Rattle.sfv_tree.specs.Trees.{OwnedBareItem, pairs_tree}
 

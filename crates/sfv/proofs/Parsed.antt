@@ -1,6 +1,6 @@
 -- What an answer of the reading says of the text, in the words of the definitions.
 use Rattle.std.proofs.Common.{◌≡◌, ℕ, ◌≤◌, Bool, true, false, List, length, drop, Option, Some, None, Result, Ok, Err, refl, sym, ap, subst, ◌∙◌, inl, inr, arith}
-use Rattle.std.specs.Prelude.{MatchOption, IfOk, IfErr, ◌⊎◌}
+use Rattle.std.specs.Prelude.{MatchOption, IfOk, IfErr}
 use Rattle.std.proofs.lemmas.List.{length-drop}
 use Rattle.std.proofs.lemmas.Bool.{true≢false}
 use Rattle.sfv_spec.specs.Values.{Edition, rfc9651, FieldKind, RawField}
@@ -21,7 +21,7 @@ use Rattle.sfv_reading.specs.Fields.{read_field}
 use Rattle.sfv_reading.specs.Claims.{IsFaultOf}
 use Rattle.sfv_reading.proofs.Theorems.{read_is_accepted, fault_is_placed}
 use Rattle.sfv.specs.Fields.{told_whole, Answers}
-use Rattle.sfv.specs.Parsers.{IsSyntaxError, IsParseError, IsFaultOfReader, IsReaderFault}
+use Rattle.sfv.specs.Parsers.{IsParseError, IsReaderFault}
 
 -- a field that was read is the one that the grammar gives
 pub parsed : (edition : Edition) (kind : FieldKind) (t : List ℕ) (raw value : RawField kind) → read_field edition kind t ≡ Ok raw → value ≡ ordered kind raw → IsParsedAs edition kind t value

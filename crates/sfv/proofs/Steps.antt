@@ -10,9 +10,9 @@ use Rattle.sfv_base.specs.declared.error.Error.{Error}
 use Rattle.std.specs.Borrow.{Bor}
 use Rattle.sfv_base.specs.declared.error.ErrorKind.{ErrorKind}
 use Rattle.sfv_spec.specs.Numbers.{place_value, signed}
-use Rattle.sfv_base.specs.declared.error.ErrorKind.TheVariants.{OutOfMemory, ExpectedQuote, Rfc8941DisplayString, ExpectedBoolean, Rfc8941Date, NonIntegerDate, ExpectedStartOfKey, ExpectedStartOfBareItem, ExpectedDigit, TooManyDigits, TooManyDigitsBeforeDecimalPoint, TooManyDigitsAfterDecimalPoint, TrailingDecimalPoint}
+use Rattle.sfv_base.specs.declared.error.ErrorKind.TheVariants.{ExpectedQuote, Rfc8941DisplayString, ExpectedBoolean, Rfc8941Date, NonIntegerDate, ExpectedStartOfKey, ExpectedStartOfBareItem, ExpectedDigit, TooManyDigits, TooManyDigitsBeforeDecimalPoint, TooManyDigitsAfterDecimalPoint, TrailingDecimalPoint}
 use Rattle.sfv_spec.specs.Faults.{expected_quote, non_integer_date, too_many_digits_before_decimal_point, trailing_decimal_point}
-use Rattle.sfv_reading.specs.Reader.{Answer, Reader, and_then, led, led_answer, give, fail, ruled, bind, ◌>>=◌, branch, ahead, at_start, back, up_to, span, byte, Apart}
+use Rattle.sfv_reading.specs.Reader.{Answer, Reader, led, led_answer, give, fail, ruled, ◌>>=◌, branch, ahead, at_start, back, up_to, span, byte, Apart}
 use Rattle.sfv_reading.specs.Bare.{is_number_start, bare_at, boolean_at, as_date, date_at, quoted_at, sign_at, long_at, decimal_at, fraction_at, point_at, whole_at, number_at, token_at}
 use Rattle.sfv_reading.specs.Quoted.{string_at, display_at}
 use Rattle.sfv_reading.specs.Content.{bytes_at}

@@ -1,14 +1,14 @@
 -- What a whole field gives, by what the code found out.
-use Rattle.std.proofs.Common.{◌≡◌, ℕ, ◌≤◌, Bool, true, false, List, [], ◌∷◌, length, drop, Option, Some, None, Result, Ok, Err, refl, sym, ap, subst, ◌∙◌}
+use Rattle.std.proofs.Common.{◌≡◌, ℕ, ◌≤◌, true, false, List, [], ◌∷◌, length, drop, Option, Some, None, Ok, Err, refl, ap, subst, ◌∙◌}
 use Rattle.std.specs.Prelude.{MatchOption, is_some}
 use Rattle.std.specs.Borrow.{Bor}
 use Rattle.sfv_spec.specs.Classes.{is_space}
-use Rattle.sfv_spec.specs.Values.{Edition, FieldKind, item_field, RawField, RawItem}
+use Rattle.sfv_spec.specs.Values.{Edition, item_field, RawItem}
 use Rattle.sfv_spec.specs.Events.{TreeEvent, events}
 use Rattle.sfv_base.specs.declared.error.Error.{Error}
 use Rattle.sfv_base.specs.declared.error.ErrorKind.{ErrorKind}
 use Rattle.sfv_base.specs.declared.error.ErrorKind.TheVariants.{OutOfMemory, TrailingCharactersAfterParsedValue}
-use Rattle.sfv_reading.specs.Reader.{Fault, Answer, Reader, first, give, bind, ◌>>=◌, span}
+use Rattle.sfv_reading.specs.Reader.{Answer, Reader, first, give, ◌>>=◌, span}
 use Rattle.sfv_reading.specs.Items.{item_at}
 use Rattle.sfv_reading.specs.Fields.{whole_field_at, ending, read_field}
 use Rattle.sfv_reading.proofs.Again.{bind_again}

@@ -1,17 +1,10 @@
 -- What parameters and items that were read are.
 use Rattle.std.specs.Prelude.{◌≡◌, ℕ, List}
-use Rattle.std.specs.declared.alloc.Global.{Global}
-use Rattle.std.specs.declared.vec.Vec.{Vec}
-use Rattle.std.specs.declared.borrow.CowStr.{CowStr}
 use Rattle.indexmap.specs.IndexMap.{IndexMap}
 use Rattle.std.specs.declared.hash.FoldHasher.{FoldHasher}
 use Rattle.std.specs.declared.hash.BuildHasherDefault.{BuildHasherDefault}
 use Rattle.sfv_spec.specs.Values.{BareValue, RawParameters, RawItem}
 use Rattle.sfv_spec.specs.Ordered.{collapse, ordered_item}
-use Rattle.sfv_text.specs.declared.key_ref.KeyRef.{KeyRef}
-use Rattle.sfv_text.specs.declared.token_ref.TokenRef.{TokenRef}
-use Rattle.sfv_text.specs.declared.bare.GenericBareItem.{GenericBareItem}
-use Rattle.sfv_text.specs.declared.bare.StringFromInput.{StringFromInput}
 use Rattle.sfv_text.specs.KeyText.{key_text}
 use Rattle.sfv_text.specs.BareItems.{input_value}
 use Rattle.sfv_tree.specs.Trees.{OwnedBareItem, pairs_tree, item_tree}

@@ -1,8 +1,6 @@
-use Rattle.std.proofs.Common.{◌≡◌, ◌∙◌, false, refl}
-use Rattle.std.specs.Borrow.{Bor}
+use Rattle.std.proofs.Common.{◌∙◌, false}
 use Rattle.std.proofs.lemmas.Result.{err_from_is_err_and}
 use Rattle.sfv_spec.specs.Values.{string, byte_sequence}
-use Rattle.sfv_text.specs.BareItems.{edition_of}
 use Rattle.sfv_reading.specs.Quoted.{string_at}
 use Rattle.sfv_reading.specs.Content.{bytes_at}
 use Rattle.sfv.specs.Cursor.{rest}

@@ -3,7 +3,6 @@ use Rattle.std.proofs.lemmas.Result.{err_from_is_err_and}
 use Rattle.sfv_text.specs.BareItems.{edition_of}
 use Rattle.sfv_reading.proofs.Items.{Consumes-parameter}
 use Rattle.sfv.specs.Cursor.{rest}
-use Rattle.sfv.specs.Items.{read_pair}
 use Rattle.sfv.proofs.Collected.{collected_none, collected_more, collected_all, collected_error}
 use Rattle.sfv.proofs.parser.cursor.Cursor.parameters.Goals as goal
 

@@ -1,4 +1,4 @@
-use Rattle.std.proofs.Common.{ℕ, ◌≡◌, ◌+◌, ◌-◌, List, Bool, ◌∙◌, ap, take, drop, length, refl, Ok}
+use Rattle.std.proofs.Common.{ℕ, ◌+◌, ◌-◌, List, take, drop, length, refl}
 use Rattle.std.proofs.lemmas.List.{take_rest}
 use Rattle.sfv_spec.specs.Classes.{is_token_start, is_token_inner}
 use Rattle.sfv.proofs.Ascii.{token_utf8}
