@@ -1,5 +1,5 @@
--- A text is of its classes exactly if no byte of it is outside of them.
-use Rattle.std.proofs.Common.{◌≡◌, ℕ, Bool, true, false, not, List, [], ◌∷◌, Some, None, option_map, arith, rules, refl}
+-- Where no byte is outside of a class, each byte is of it.
+use Rattle.std.proofs.Common.{◌≡◌, ℕ, Bool, true, not, List, [], ◌∷◌, None, arith, refl}
 use Rattle.std.specs.List.{list_all, position}
 use Rattle.std.proofs.lemmas.Grind.{common_steps}
 use Rattle.std.proofs.lemmas.Bool.Decides.{nat_tests}

@@ -11,6 +11,9 @@ use std::fmt;
 use std::string::String as StdString;
 
 /// A key whose text is borrowed (RFC 9651, section 3.1.2).
+///
+/// `TryFrom` of a text and of bytes are `from_str` and `from_bytes`. Comparisons, `Hash` and `Display` go by
+/// the text.
 #[derive(Clone, Copy, PartialEq, Eq, PartialOrd, Ord, Hash)]
 pub struct KeyRef<'a> {
     text: &'a str,
@@ -70,7 +73,7 @@ impl<'a> KeyRef<'a> {
     pub fn to_owned(&self, alloc: Global) -> Result<Key, OutOfMemory>
         ensures { IfOk result (λ t. t ≡ key_text self.now) }
     {
-        let text = StdString::from_str(alloc, self.text)?;
+        let text = StdString::from_str(alloc, self.as_str())?;
         Ok(Key::made(text))
     }
 }
@@ -106,7 +109,7 @@ impl fmt::Display for KeyRef<'_> {
     ghost output = { λ t. Some (key_text t) };
 
     fn fmt<W: fmt::Write>(&self, f: &mut fmt::Formatter<W>) -> fmt::Result {
-        f.write_str(self.text)
+        f.write_str(self.as_str())
     }
 }
 
@@ -118,7 +121,7 @@ impl fmt::Debug for KeyRef<'_> {
     ghost debug_output = { λ t. debug_variant (codes "KeyRef") (debug_str (key_text t)) };
 
     fn fmt<W: fmt::Write>(&self, f: &mut fmt::Formatter<W>) -> fmt::Result {
-        let text = self.text;
+        let text = self.as_str();
         write!(f, "KeyRef({text:?})")
     }
 }

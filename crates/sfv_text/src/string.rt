@@ -24,6 +24,9 @@ use std::string::String as StdString;
 
 /// A string that owns its text (RFC 9651, section 3.3.3).
 ///
+/// `TryFrom` of a text is `from_string` without the text in its error. Comparisons, `Hash` and `Display` go
+/// by the text.
+///
 /// A contract sees it as its bytes.
 #[derive(Drop)]
 pub struct String {

@@ -12,6 +12,9 @@ use std::fmt;
 use std::string::String as StdString;
 
 /// A string whose text is borrowed (RFC 9651, section 3.3.3).
+///
+/// `TryFrom` of a text and of bytes are `from_str` and `from_bytes`. Comparisons, `Hash` and `Display` go by
+/// the text.
 #[derive(Clone, Copy, PartialEq, Eq, PartialOrd, Ord, Hash)]
 pub struct StringRef<'a> {
     text: &'a str,
@@ -74,7 +77,7 @@ impl<'a> StringRef<'a> {
     pub fn to_owned(&self, alloc: Global) -> Result<String, OutOfMemory>
         ensures { IfOk result (λ t. t ≡ string_text self.now) }
     {
-        let text = StdString::from_str(alloc, self.text)?;
+        let text = StdString::from_str(alloc, self.as_str())?;
         Ok(String::constant(text))
     }
 }
@@ -121,7 +124,7 @@ impl fmt::Display for StringRef<'_> {
     ghost output = { λ t. Some (string_text t) };
 
     fn fmt<W: fmt::Write>(&self, f: &mut fmt::Formatter<W>) -> fmt::Result {
-        f.write_str(self.text)
+        f.write_str(self.as_str())
     }
 }
 
@@ -133,7 +136,7 @@ impl fmt::Debug for StringRef<'_> {
     ghost debug_output = { λ t. debug_variant (codes "StringRef") (debug_str (string_text t)) };
 
     fn fmt<W: fmt::Write>(&self, f: &mut fmt::Formatter<W>) -> fmt::Result {
-        let text = self.text;
+        let text = self.as_str();
         write!(f, "StringRef({text:?})")
     }
 }

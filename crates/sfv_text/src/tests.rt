@@ -13,6 +13,7 @@ use std::string::String as StdString;
 use std::test::Fail;
 
 const EMPTY: ErrorKind = ErrorKind::Empty;
+
 const INVALID: ErrorKind = ErrorKind::InvalidCharacter;
 
 #[test]
@@ -26,10 +27,11 @@ fn keys_are_checked(rt: HostRuntime) {
         ("a\u{e9}", Some(Error::with_kind(INVALID, Some(1)))),
     ];
     for (text, fault) in cases {
+        let bytes = text.as_bytes();
         assert_eq!(rt; KeyRef::from_str(text).err(), fault, "{text}");
-        assert_eq!(rt; KeyRef::from_bytes(text.as_bytes()).err(), fault, "{text}");
+        assert_eq!(rt; KeyRef::from_bytes(bytes).err(), fault, "{text}");
         assert_eq!(rt; KeyRef::try_from(text).err(), fault, "{text}");
-        assert_eq!(rt; KeyRef::try_from(text.as_bytes()).err(), fault, "{text}");
+        assert_eq!(rt; KeyRef::try_from(bytes).err(), fault, "{text}");
     }
 }
 
@@ -45,10 +47,11 @@ fn tokens_are_checked(rt: HostRuntime) {
         ("a;\u{e9}", Some(Error::with_kind(INVALID, Some(1)))),
     ];
     for (text, fault) in cases {
+        let bytes = text.as_bytes();
         assert_eq!(rt; TokenRef::from_str(text).err(), fault, "{text}");
-        assert_eq!(rt; TokenRef::from_bytes(text.as_bytes()).err(), fault, "{text}");
+        assert_eq!(rt; TokenRef::from_bytes(bytes).err(), fault, "{text}");
         assert_eq!(rt; TokenRef::try_from(text).err(), fault, "{text}");
-        assert_eq!(rt; TokenRef::try_from(text.as_bytes()).err(), fault, "{text}");
+        assert_eq!(rt; TokenRef::try_from(bytes).err(), fault, "{text}");
     }
 }
 
@@ -62,10 +65,11 @@ fn strings_are_checked(rt: HostRuntime) {
         ("\u{e9}", Some(Error::with_kind(INVALID, Some(0)))),
     ];
     for (text, fault) in cases {
+        let bytes = text.as_bytes();
         assert_eq!(rt; StringRef::from_str(text).err(), fault, "{text}");
-        assert_eq!(rt; StringRef::from_bytes(text.as_bytes()).err(), fault, "{text}");
+        assert_eq!(rt; StringRef::from_bytes(bytes).err(), fault, "{text}");
         assert_eq!(rt; StringRef::try_from(text).err(), fault, "{text}");
-        assert_eq!(rt; StringRef::try_from(text.as_bytes()).err(), fault, "{text}");
+        assert_eq!(rt; StringRef::try_from(bytes).err(), fault, "{text}");
     }
 }
 
@@ -88,16 +92,16 @@ fn borrowed_texts_are_owned_and_lent(rt: HostRuntime) -> Result<(), Fail> {
 
 #[test]
 fn texts_become_owned(rt: HostRuntime) -> Result<(), Fail> {
-    let alloc = rt.alloc();
-    let key = Key::from_string(StdString::from_str(alloc, "key")?).map_err(|(error, _)| error)?;
-    assert!(rt; key.clone()? == Key::try_from(StdString::from_str(alloc, "key")?)?);
-    assert_eq!(rt; StdString::from(key).as_str(), "key");
-    let token = Token::from_string(StdString::from_str(alloc, "to:ken")?).map_err(|(error, _)| error)?;
-    assert!(rt; token.clone()? == Token::try_from(StdString::from_str(alloc, "to:ken")?)?);
-    assert_eq!(rt; StdString::from(token).as_str(), "to:ken");
-    let string = String::from_string(StdString::from_str(alloc, "a string")?).map_err(|(error, _)| error)?;
-    assert!(rt; string.clone()? == String::try_from(StdString::from_str(alloc, "a string")?)?);
-    assert_eq!(rt; StdString::from(string).as_str(), "a string");
+    let text = StdString::from_str(rt.alloc(), "a")?;
+    let key = Key::from_string(text.clone()?).ok().ok_or("refused")?;
+    assert!(rt; key.clone()? == Key::try_from(text.clone()?)?);
+    assert_eq!(rt; StdString::from(key).as_str(), "a");
+    let token = Token::from_string(text.clone()?).ok().ok_or("refused")?;
+    assert!(rt; token.clone()? == Token::try_from(text.clone()?)?);
+    assert_eq!(rt; StdString::from(token).as_str(), "a");
+    let string = String::from_string(text.clone()?).ok().ok_or("refused")?;
+    assert!(rt; string.clone()? == String::try_from(text)?);
+    assert_eq!(rt; StdString::from(string).as_str(), "a");
     Ok(())
 }
 
@@ -124,31 +128,28 @@ fn refused_texts_come_back(rt: HostRuntime) -> Result<(), Fail> {
 
 #[test]
 fn texts_print(rt: HostRuntime) -> Result<(), Fail> {
-    let key = key_ref("a");
-    let token = token_ref("B");
-    let string = string_ref("c\"d");
-    let printed = [
-        (format!(in rt.alloc(); "{key} {key:?}")?, "a KeyRef(\"a\")"),
-        (format!(in rt.alloc(); "{token} {token:?}")?, "B TokenRef(\"B\")"),
-        (format!(in rt.alloc(); "{string} {string:?}")?, "c\"d StringRef(\"c\\\"d\")"),
-    ];
-    for (text, want) in printed {
-        assert_eq!(rt; text.as_str(), want);
-    }
-    let key = key.to_owned(rt.alloc())?;
-    let token = token.to_owned(rt.alloc())?;
-    let string = string.to_owned(rt.alloc())?;
-    let printed = [
-        (format!(in rt.alloc(); "{key} {key:?}")?, "a Key(\"a\")"),
-        (format!(in rt.alloc(); "{token} {token:?}")?, "B Token(\"B\")"),
-        (format!(in rt.alloc(); "{string} {string:?}")?, "c\"d String(\"c\\\"d\")"),
-    ];
-    for (text, want) in printed {
-        assert_eq!(rt; text.as_str(), want);
-    }
-    for (version, want) in [(Version::Rfc8941, "RFC 8941"), (Version::Rfc9651, "RFC 9651")] {
-        assert_eq!(rt; version.to_string(rt.alloc())?.as_str(), want);
-    }
+    let alloc = rt.alloc();
+    let (key, token, string) = (key_ref("a"), token_ref("B"), string_ref("c\"d"));
+    let printed = format!(in alloc; "{key} {token} {string}")?;
+    assert_eq!(rt; printed.as_str(), "a B c\"d");
+    let printed = format!(in alloc; "{key:?} {token:?} {string:?}")?;
+    let want = r#"KeyRef("a") TokenRef("B") StringRef("c\"d")"#;
+    assert_eq!(rt; printed.as_str(), want);
+    let (key, token) = (key.to_owned(alloc)?, token.to_owned(alloc)?);
+    let string = string.to_owned(alloc)?;
+    let printed = format!(in alloc; "{key} {token} {string}")?;
+    assert_eq!(rt; printed.as_str(), "a B c\"d");
+    let printed = format!(in alloc; "{key:?} {token:?} {string:?}")?;
+    assert_eq!(rt; printed.as_str(), r#"Key("a") Token("B") String("c\"d")"#);
+    Ok(())
+}
+
+#[test]
+fn versions_print(rt: HostRuntime) -> Result<(), Fail> {
+    let older = Version::Rfc8941.to_string(rt.alloc())?;
+    assert_eq!(rt; older.as_str(), "RFC 8941");
+    let newer = Version::Rfc9651.to_string(rt.alloc())?;
+    assert_eq!(rt; newer.as_str(), "RFC 9651");
     Ok(())
 }
 
@@ -168,21 +169,16 @@ fn texts_are_ordered(rt: HostRuntime) -> Result<(), Fail> {
 #[test]
 fn bare_items_are_owned_and_lent(rt: HostRuntime) -> Result<(), Fail> {
     let alloc = rt.alloc();
-    let read: BareItemFromInput =
-        GenericBareItem::String(StringFromInput::Borrowed(string_ref("a")));
-    let item: BareItem = read.try_into_owned(alloc)?;
-    let GenericBareItem::String(text) = item.as_ref_item() else {
-        return Err(Fail::from("no string"));
-    };
-    assert_eq!(rt; text.as_str(), "a");
     let read: BareItemFromInput = GenericBareItem::DisplayString(CowStr::Borrowed("b"));
     let item: BareItem = read.try_into_owned(alloc)?;
     let GenericBareItem::DisplayString(text) = item.as_ref_item() else {
         return Err(Fail::from("no display string"));
     };
     assert_eq!(rt; text, "b");
-    let owned = StringFromInput::Owned(string_ref("c").to_owned(alloc)?);
-    assert_eq!(rt; owned.as_string_ref().as_str(), "c");
-    assert_eq!(rt; owned.try_into_owned(alloc)?.as_str(), "c");
+    let text = StringFromInput::Borrowed(string_ref("c"));
+    assert_eq!(rt; text.as_string_ref().as_str(), "c");
+    let text = StringFromInput::Owned(text.try_into_owned(alloc)?);
+    assert_eq!(rt; text.as_string_ref().as_str(), "c");
+    assert_eq!(rt; text.try_into_owned(alloc)?.as_str(), "c");
     Ok(())
 }

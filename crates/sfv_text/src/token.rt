@@ -23,6 +23,9 @@ use std::string::String as StdString;
 
 /// A token that owns its text (RFC 9651, section 3.3.4).
 ///
+/// `TryFrom` of a text is `from_string` without the text in its error. Comparisons, `Hash` and `Display` go
+/// by the text.
+///
 /// A contract sees it as its bytes.
 #[derive(Drop)]
 pub struct Token {

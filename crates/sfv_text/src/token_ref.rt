@@ -11,6 +11,9 @@ use std::fmt;
 use std::string::String as StdString;
 
 /// A token whose text is borrowed (RFC 9651, section 3.3.4).
+///
+/// `TryFrom` of a text and of bytes are `from_str` and `from_bytes`. Comparisons, `Hash` and `Display` go by
+/// the text.
 #[derive(Clone, Copy, PartialEq, Eq, PartialOrd, Ord, Hash)]
 pub struct TokenRef<'a> {
     text: &'a str,
@@ -70,7 +73,7 @@ impl<'a> TokenRef<'a> {
     pub fn to_owned(&self, alloc: Global) -> Result<Token, OutOfMemory>
         ensures { IfOk result (λ t. t ≡ token_text self.now) }
     {
-        let text = StdString::from_str(alloc, self.text)?;
+        let text = StdString::from_str(alloc, self.as_str())?;
         Ok(Token::made(text))
     }
 }
@@ -106,7 +109,7 @@ impl fmt::Display for TokenRef<'_> {
     ghost output = { λ t. Some (token_text t) };
 
     fn fmt<W: fmt::Write>(&self, f: &mut fmt::Formatter<W>) -> fmt::Result {
-        f.write_str(self.text)
+        f.write_str(self.as_str())
     }
 }
 
@@ -118,7 +121,7 @@ impl fmt::Debug for TokenRef<'_> {
     ghost debug_output = { λ t. debug_variant (codes "TokenRef") (debug_str (token_text t)) };
 
     fn fmt<W: fmt::Write>(&self, f: &mut fmt::Formatter<W>) -> fmt::Result {
-        let text = self.text;
+        let text = self.as_str();
         write!(f, "TokenRef({text:?})")
     }
 }
