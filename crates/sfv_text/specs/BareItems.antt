@@ -1,5 +1,5 @@
 -- The values of bare items, whatever owns their texts.
-use Rattle.std.specs.Prelude.{ℕ, List, string_bytes}
+use Rattle.std.specs.Prelude.{ℕ, List, string_bytes, codes}
 use Rattle.std.specs.Borrow.{Bor}
 use Rattle.std.specs.declared.alloc.Global.{Global}
 use Rattle.std.specs.declared.vec.Vec.{Vec}
@@ -55,3 +55,8 @@ input_value item = value_by read_text (λ b. b.items) token_text cow_text item
 abbrev pub edition_of : Version → Edition
 edition_of version.Rfc8941 = rfc8941
 edition_of version.Rfc9651 = rfc9651
+
+-- what a version prints
+abbrev pub version_text : Version → List ℕ
+version_text version.Rfc8941 = codes "RFC 8941"
+version_text version.Rfc9651 = codes "RFC 9651"

@@ -1,7 +1,7 @@
 //! Bare items (RFC 9651, section 3.3), and the versions of the standard.
 
 ghost use Rattle.std.specs.Prelude.{◌≡◌, IfOk, Some, codes};
-ghost use Rattle.sfv_text.specs.BareItems.{bare_value, ref_value, input_value, read_text};
+ghost use Rattle.sfv_text.specs.BareItems.{bare_value, ref_value, input_value, read_text, version_text};
 ghost use Rattle.sfv_text.specs.StringText.{string_text};
 ghost use Rattle.sfv_text.specs.declared.bare.Version.TheVariants as versions;
 
@@ -136,7 +136,9 @@ pub enum Version {
 
 impl Version {
     /// The name of the version.
-    fn name(self) -> &'static str {
+    fn name(self) -> &'static str
+        ensures { result.now ≡ version_text self }
+    {
         match self {
             Version::Rfc8941 => "RFC 8941",
             Version::Rfc9651 => "RFC 9651",
@@ -145,6 +147,8 @@ impl Version {
 }
 
 impl fmt::Display for Version {
+    ghost output = { λ v. Some (version_text v) };
+
     fn fmt<W: fmt::Write>(&self, f: &mut fmt::Formatter<W>) -> fmt::Result {
         f.write_str(self.name())
     }

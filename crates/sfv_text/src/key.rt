@@ -1,6 +1,7 @@
 //! Keys that own their text (RFC 9651, section 3.1.2).
 
-ghost use Rattle.std.specs.Prelude.{◌≡◌, IfOk, Some, refl, nat_eq, string_bytes, IsTrue};
+ghost use Rattle.std.specs.Prelude.{◌≡◌, IfOk, Some, refl, nat_eq, string_bytes, IsTrue, codes};
+ghost use Rattle.std.specs.Fmt.{debug_variant, debug_str};
 ghost use Rattle.std.specs.Hash as fed;
 ghost use Rattle.std.specs.Cmp.Lexicographic.{pointwise, slice_cmp, nat_list_eq_equiv, nat_list_cmp_total, texts_ties, texts_po};
 ghost use Rattle.std.specs.Cmp;
@@ -8,9 +9,11 @@ ghost use Rattle.std.specs.Ordering.{nat_cmp};
 ghost use Rattle.std.specs.Cmp.Rules.{hashing};
 ghost use Rattle.std.proofs.Common.{rules};
 ghost use Rattle.sfv_spec.specs.Classes.{is_key};
-ghost use Rattle.sfv_text.specs.KeyText.{key_text};
+ghost use Rattle.sfv_text.specs.KeyText.{key_text, GivesKey, GivesKeyOrText};
 
 use crate::key_ref::KeyRef;
+use crate::validity::check_key;
+use sfv_base::error::Error;
 use std::alloc::AllocError;
 use std::cmp::Ordering;
 use std::fmt;
@@ -19,6 +22,9 @@ use std::marker::Model;
 use std::string::String as StdString;
 
 /// A key that owns its text (RFC 9651, section 3.1.2).
+///
+/// `TryFrom` of a text is `from_string` without the text in its error. Comparisons, `Hash` and `Display` go
+/// by the text.
 ///
 /// A contract sees it as its bytes.
 #[derive(Drop)]
@@ -46,6 +52,22 @@ impl Key {
         Key { text }
     }
 
+    /// The key of this text.
+    ///
+    /// # Errors
+    ///
+    /// `ErrorKind::Empty` with no index if the text is empty, and else `ErrorKind::InvalidCharacter` at the
+    /// index of the first byte that may not stand there in a key (section 3.1.2).
+    /// The text comes back beside the error.
+    pub fn from_string(v: StdString) -> Result<Key, (Error, StdString)>
+        ensures { GivesKeyOrText v result }
+    {
+        match check_key(v.as_bytes()) {
+            Ok(()) => Ok(Key { text: v }),
+            Err(error) => Err((error, v)),
+        }
+    }
+
     /// The text.
     pub fn as_str(&self) -> &str
         ensures text { result.now ≡ self.now }
@@ -59,6 +81,25 @@ impl Key {
         ensures { key_text result ≡ self.now }
     {
         KeyRef::constant(self.as_str())
+    }
+}
+
+impl TryFrom<StdString> for Key {
+    type Error = Error;
+
+    ghost try_from_gives = { λ v r. GivesKey (string_bytes v) r };
+
+    fn try_from(v: StdString) -> Result<Key, Error> {
+        check_key(v.as_bytes())?;
+        Ok(Key { text: v })
+    }
+}
+
+impl From<Key> for StdString {
+    ghost from_gives = { λ t s. (string_bytes s ≡ t) × IsTrue (is_key t) };
+
+    fn from(t: Key) -> StdString {
+        t.text
     }
 }
 
@@ -128,7 +169,10 @@ impl fmt::Display for Key {
 }
 
 impl fmt::Debug for Key {
+    ghost debug_output = { λ t. debug_variant (codes "Key") (debug_str t) };
+
     fn fmt<W: fmt::Write>(&self, f: &mut fmt::Formatter<W>) -> fmt::Result {
-        fmt::Debug::fmt(self.as_str(), f)
+        let text = self.as_str();
+        write!(f, "Key({text:?})")
     }
 }

@@ -4,7 +4,11 @@
 pub mod bare;
 pub mod key;
 pub mod key_ref;
+pub mod shorthand;
 pub mod string;
 pub mod string_ref;
+#[cfg(test)]
+mod tests;
 pub mod token;
 pub mod token_ref;
+mod validity;

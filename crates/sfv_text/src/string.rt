@@ -1,6 +1,7 @@
 //! Strings that own their text (RFC 9651, section 3.3.3).
 
-ghost use Rattle.std.specs.Prelude.{◌≡◌, IfOk, Some, refl, nat_eq, string_bytes, IsTrue};
+ghost use Rattle.std.specs.Prelude.{◌≡◌, [], IfOk, Some, refl, nat_eq, string_bytes, IsTrue, codes};
+ghost use Rattle.std.specs.Fmt.{debug_variant, debug_str};
 ghost use Rattle.std.specs.Hash as fed;
 ghost use Rattle.std.specs.Cmp.Lexicographic.{pointwise, slice_cmp, nat_list_eq_equiv, nat_list_cmp_total, texts_ties, texts_po};
 ghost use Rattle.std.specs.Cmp;
@@ -9,10 +10,12 @@ ghost use Rattle.std.specs.Cmp.Rules.{hashing};
 ghost use Rattle.std.proofs.Common.{rules};
 ghost use Rattle.std.specs.List.{list_all};
 ghost use Rattle.sfv_spec.specs.Classes.{is_string_byte};
-ghost use Rattle.sfv_text.specs.StringText.{string_text};
+ghost use Rattle.sfv_text.specs.StringText.{string_text, GivesString, GivesStringOrText};
 
 use crate::string_ref::StringRef;
-use std::alloc::AllocError;
+use crate::validity::check_string;
+use sfv_base::error::Error;
+use std::alloc::{AllocError, Global};
 use std::cmp::Ordering;
 use std::fmt;
 use std::hash::{Hash, Hasher};
@@ -20,6 +23,9 @@ use std::marker::Model;
 use std::string::String as StdString;
 
 /// A string that owns its text (RFC 9651, section 3.3.3).
+///
+/// `TryFrom` of a text is `from_string` without the text in its error. Comparisons, `Hash` and `Display` go
+/// by the text.
 ///
 /// A contract sees it as its bytes.
 #[derive(Drop)]
@@ -48,6 +54,31 @@ impl String {
         String { text }
     }
 
+    /// The empty string, which takes no memory.
+    pub fn empty(alloc: Global) -> String
+        ensures { result ≡ [] }
+    {
+        String {
+            text: StdString::new(alloc),
+        }
+    }
+
+    /// The string of this text.
+    ///
+    /// # Errors
+    ///
+    /// `ErrorKind::InvalidCharacter` at the index of the first byte that a string may not hold, which is one
+    /// that isn't printable ASCII (section 3.3.3).
+    /// The text comes back beside the error.
+    pub fn from_string(v: StdString) -> Result<String, (Error, StdString)>
+        ensures { GivesStringOrText v result }
+    {
+        match check_string(v.as_bytes()) {
+            Ok(()) => Ok(String { text: v }),
+            Err(error) => Err((error, v)),
+        }
+    }
+
     /// The text.
     pub fn as_str(&self) -> &str
         ensures text { result.now ≡ self.now }
@@ -61,6 +92,25 @@ impl String {
         ensures { string_text result ≡ self.now }
     {
         StringRef::constant(self.as_str())
+    }
+}
+
+impl TryFrom<StdString> for String {
+    type Error = Error;
+
+    ghost try_from_gives = { λ v r. GivesString (string_bytes v) r };
+
+    fn try_from(v: StdString) -> Result<String, Error> {
+        check_string(v.as_bytes())?;
+        Ok(String { text: v })
+    }
+}
+
+impl From<String> for StdString {
+    ghost from_gives = { λ t s. (string_bytes s ≡ t) × IsTrue (list_all is_string_byte t) };
+
+    fn from(t: String) -> StdString {
+        t.text
     }
 }
 
@@ -130,7 +180,10 @@ impl fmt::Display for String {
 }
 
 impl fmt::Debug for String {
+    ghost debug_output = { λ t. debug_variant (codes "String") (debug_str t) };
+
     fn fmt<W: fmt::Write>(&self, f: &mut fmt::Formatter<W>) -> fmt::Result {
-        fmt::Debug::fmt(self.as_str(), f)
+        let text = self.as_str();
+        write!(f, "String({text:?})")
     }
 }

@@ -1,6 +1,7 @@
 //! Tokens that own their text (RFC 9651, section 3.3.4).
 
-ghost use Rattle.std.specs.Prelude.{◌≡◌, IfOk, Some, refl, nat_eq, string_bytes, IsTrue};
+ghost use Rattle.std.specs.Prelude.{◌≡◌, IfOk, Some, refl, nat_eq, string_bytes, IsTrue, codes};
+ghost use Rattle.std.specs.Fmt.{debug_variant, debug_str};
 ghost use Rattle.std.specs.Hash as fed;
 ghost use Rattle.std.specs.Cmp.Lexicographic.{pointwise, slice_cmp, nat_list_eq_equiv, nat_list_cmp_total, texts_ties, texts_po};
 ghost use Rattle.std.specs.Cmp;
@@ -8,9 +9,11 @@ ghost use Rattle.std.specs.Ordering.{nat_cmp};
 ghost use Rattle.std.specs.Cmp.Rules.{hashing};
 ghost use Rattle.std.proofs.Common.{rules};
 ghost use Rattle.sfv_spec.specs.Classes.{is_token};
-ghost use Rattle.sfv_text.specs.TokenText.{token_text};
+ghost use Rattle.sfv_text.specs.TokenText.{token_text, GivesToken, GivesTokenOrText};
 
 use crate::token_ref::TokenRef;
+use crate::validity::check_token;
+use sfv_base::error::Error;
 use std::alloc::AllocError;
 use std::cmp::Ordering;
 use std::fmt;
@@ -19,6 +22,9 @@ use std::marker::Model;
 use std::string::String as StdString;
 
 /// A token that owns its text (RFC 9651, section 3.3.4).
+///
+/// `TryFrom` of a text is `from_string` without the text in its error. Comparisons, `Hash` and `Display` go
+/// by the text.
 ///
 /// A contract sees it as its bytes.
 #[derive(Drop)]
@@ -46,6 +52,22 @@ impl Token {
         Token { text }
     }
 
+    /// The token of this text.
+    ///
+    /// # Errors
+    ///
+    /// `ErrorKind::Empty` with no index if the text is empty, and else `ErrorKind::InvalidCharacter` at the
+    /// index of the first byte that may not stand there in a token (section 3.3.4).
+    /// The text comes back beside the error.
+    pub fn from_string(v: StdString) -> Result<Token, (Error, StdString)>
+        ensures { GivesTokenOrText v result }
+    {
+        match check_token(v.as_bytes()) {
+            Ok(()) => Ok(Token { text: v }),
+            Err(error) => Err((error, v)),
+        }
+    }
+
     /// The text.
     pub fn as_str(&self) -> &str
         ensures text { result.now ≡ self.now }
@@ -59,6 +81,25 @@ impl Token {
         ensures { token_text result ≡ self.now }
     {
         TokenRef::constant(self.as_str())
+    }
+}
+
+impl TryFrom<StdString> for Token {
+    type Error = Error;
+
+    ghost try_from_gives = { λ v r. GivesToken (string_bytes v) r };
+
+    fn try_from(v: StdString) -> Result<Token, Error> {
+        check_token(v.as_bytes())?;
+        Ok(Token { text: v })
+    }
+}
+
+impl From<Token> for StdString {
+    ghost from_gives = { λ t s. (string_bytes s ≡ t) × IsTrue (is_token t) };
+
+    fn from(t: Token) -> StdString {
+        t.text
     }
 }
 
@@ -128,7 +169,10 @@ impl fmt::Display for Token {
 }
 
 impl fmt::Debug for Token {
+    ghost debug_output = { λ t. debug_variant (codes "Token") (debug_str t) };
+
     fn fmt<W: fmt::Write>(&self, f: &mut fmt::Formatter<W>) -> fmt::Result {
-        fmt::Debug::fmt(self.as_str(), f)
+        let text = self.as_str();
+        write!(f, "Token({text:?})")
     }
 }

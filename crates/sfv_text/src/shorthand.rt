@@ -1,0 +1,36 @@
+//! Functions that make a value in short.
+
+ghost use Rattle.std.specs.Prelude.{◌≡◌, IsTrue};
+ghost use Rattle.std.specs.List.{list_all};
+ghost use Rattle.sfv_spec.specs.Classes.{is_key, is_token, is_string_byte};
+ghost use Rattle.sfv_text.specs.KeyText.{key_text};
+ghost use Rattle.sfv_text.specs.TokenText.{token_text};
+ghost use Rattle.sfv_text.specs.StringText.{string_text};
+
+use crate::key_ref::KeyRef;
+use crate::string_ref::StringRef;
+use crate::token_ref::TokenRef;
+
+/// The key of this text, which is one: `KeyRef::constant` in short.
+pub fn key_ref(v: &str) -> KeyRef<'_>
+    requires { IsTrue (is_key v.now) }
+    ensures { key_text result ≡ v.now }
+{
+    KeyRef::constant(v)
+}
+
+/// The token of this text, which is one: `TokenRef::constant` in short.
+pub fn token_ref(v: &str) -> TokenRef<'_>
+    requires { IsTrue (is_token v.now) }
+    ensures { token_text result ≡ v.now }
+{
+    TokenRef::constant(v)
+}
+
+/// The string of this text, which is one: `StringRef::constant` in short.
+pub fn string_ref(v: &str) -> StringRef<'_>
+    requires { IsTrue (list_all is_string_byte v.now) }
+    ensures { string_text result ≡ v.now }
+{
+    StringRef::constant(v)
+}
