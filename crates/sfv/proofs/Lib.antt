@@ -1,6 +1,5 @@
 pub mod Runs
 pub mod Steps
-pub mod Ascii
 pub mod Symbols
 pub mod Contents
 pub mod Coded

@@ -1,7 +1,7 @@
 use Rattle.std.proofs.Common.{ℕ, ◌+◌, ◌-◌, List, take, drop, length, refl}
 use Rattle.std.proofs.lemmas.List.{take_rest}
 use Rattle.sfv_spec.specs.Classes.{is_key_start, is_key_inner}
-use Rattle.sfv.proofs.Ascii.{key_utf8}
+use Rattle.sfv_text.proofs.Ascii.{key_utf8}
 use Rattle.sfv.proofs.Steps.{IsTextAt, key_some, key_class}
 use Rattle.sfv.proofs.parser.cursor.Cursor.key.Goals as goal
 
