@@ -3,7 +3,7 @@
 ghost use Rattle.std.specs.Prelude.{◌≡◌, IfOk, IfErr, string_bytes};
 ghost use Rattle.sfv_spec.specs.Values.{item_field};
 ghost use Rattle.sfv_text.specs.BareItems.{edition_of};
-ghost use Rattle.sfv.specs.Parsers.{IsParseError};
+ghost use Rattle.sfv.specs.Parsers.{IsParseError, IsReaderFault};
 ghost use Rattle.sfv_tool.specs.Answers.{kind_of_field, without_newline, IsAnswer};
 
 use sfv::{Error, FieldType, Item, Parser, Version};
@@ -30,6 +30,7 @@ fn without_newline(input: &[u8]) -> &[u8]
 fn answer_item(alloc: Global, version: Version, input: &[u8]) -> Result<String, Error>
     ensures accepted { IfOk result (λ text. IsAnswer (edition_of version) item_field input.now (string_bytes text)) }
     ensures refused { IfErr result (IsParseError (edition_of version) item_field input.now) }
+    ensures fault { IfErr result (IsReaderFault (edition_of version) item_field input.now) }
 {
     let parser = Parser::new(input).with_version(version);
     let mut text = parser.parse::<Item>(alloc)?.serialize(alloc)?;
@@ -42,6 +43,7 @@ fn answer_item(alloc: Global, version: Version, input: &[u8]) -> Result<String, 
 pub fn answer(alloc: Global, field: Field, version: Version, input: &[u8]) -> Result<String, Error>
     ensures accepted { IfOk result (λ text. IsAnswer (edition_of version) (kind_of_field field) (without_newline input.now) (string_bytes text)) }
     ensures refused { IfErr result (IsParseError (edition_of version) (kind_of_field field) (without_newline input.now)) }
+    ensures fault { IfErr result (IsReaderFault (edition_of version) (kind_of_field field) (without_newline input.now)) }
 {
     let input = without_newline(input);
     match field {
