@@ -1,13 +1,15 @@
 //! Dates (RFC 9651, section 3.3.7).
 
-ghost use Rattle.std.specs.Prelude.{◌≡◌, ◌++◌, Some, pos, codes};
-ghost use Rattle.std.specs.Fmt.{signed_decimal};
+ghost use Rattle.std.specs.Prelude.{◌≡◌, Some, pos};
+ghost use Rattle.sfv_spec.specs.Values.{date as date_value};
+ghost use Rattle.sfv_spec.specs.Canonical.{bare_text};
 
 use crate::integer::Integer;
 use std::fmt;
 use std::marker::Model;
 
 /// A point in time, in whole seconds from the Unix epoch (RFC 9651, section 3.3.7). RFC 8941 has none.
+/// `Default` is the epoch, comparisons and `Hash` go by the seconds, and `Display` prints the canonical text.
 ///
 /// A contract sees it as its seconds.
 #[derive(Clone, Copy, Debug, PartialEq, Eq, PartialOrd, Ord, Hash)]
@@ -65,7 +67,7 @@ impl Default for Date {
 }
 
 impl fmt::Display for Date {
-    ghost output = { λ d. Some (codes "@" ++ signed_decimal d) };
+    ghost output = { λ d. Some (bare_text (date_value d)) };
 
     fn fmt<W: fmt::Write>(&self, f: &mut fmt::Formatter<W>) -> fmt::Result {
         let seconds = self.seconds;

@@ -2,7 +2,8 @@
 
 ghost use Rattle.std.specs.Prelude.{◌≡◌, Some, pos, nat_abs};
 ghost use Rattle.sfv_spec.specs.Numbers.{minus_text, is_negative};
-ghost use Rattle.sfv_spec.specs.Canonical.{decimal_text};
+ghost use Rattle.sfv_spec.specs.Values.{decimal as decimal_value};
+ghost use Rattle.sfv_spec.specs.Canonical.{bare_text};
 ghost use Rattle.sfv_base.specs.Conversions.{IsWhole, thousandths_of, GivesIf};
 
 use crate::error::Error;
@@ -14,6 +15,7 @@ use std::marker::Model;
 ///
 /// A conversion from a whole number gives the same number. One that may fail fails with
 /// `ErrorKind::OutOfRange`, exactly if the number has more than twelve digits.
+/// `Default` is zero, comparisons and `Hash` go by the number, and `Display` prints its canonical text.
 ///
 /// A contract sees it as its thousandths.
 #[derive(Clone, Copy, Debug, PartialEq, Eq, PartialOrd, Ord, Hash)]
@@ -99,7 +101,7 @@ impl Default for Decimal {
 }
 
 impl fmt::Display for Decimal {
-    ghost output = { λ d. Some (decimal_text d) };
+    ghost output = { λ d. Some (bare_text (decimal_value d)) };
 
     fn fmt<W: fmt::Write>(&self, f: &mut fmt::Formatter<W>) -> fmt::Result {
         let sign = self.sign();

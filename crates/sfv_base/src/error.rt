@@ -8,6 +8,9 @@ use std::alloc::{AllocError, AllocFailed};
 use std::fmt;
 
 /// What kind of thing is wrong.
+///
+/// Each kind says at which index its error stands: a zero-based offset in bytes into the input. `OutOfMemory`,
+/// `OutOfRange` and `Empty` have none. `Display` prints the kind's text.
 #[derive(Clone, Copy, Debug, PartialEq, Eq)]
 pub enum ErrorKind {
     /// A request for memory was refused.
@@ -16,59 +19,60 @@ pub enum ErrorKind {
     OutOfRange,
     /// A key or a token is made from an empty text.
     Empty,
-    /// A key, a token or a string is made from a text with a byte that isn't of its class.
+    /// A key, a token or a string is made from a text with a byte that isn't of its class: at the first such byte.
     InvalidCharacter,
-    /// After a member stands neither a comma nor the end.
+    /// After a member, and spaces and tabs, stands a byte other than a comma: at that byte.
     TrailingCharactersAfterMember,
-    /// After a comma the input ends.
+    /// After a comma, and spaces and tabs, the input ends: at the comma.
     TrailingComma,
-    /// After an item the input doesn't end.
+    /// After an item and spaces stands a byte: at that byte.
     TrailingCharactersAfterParsedValue,
-    /// After an item of an inner list stands neither a space nor `)`.
+    /// After an item of an inner list stands a byte other than a space or `)`: at that byte.
     ExpectedInnerListDelimiter,
-    /// The input ends in an inner list.
+    /// The input ends directly after the `(` of an inner list or after one of its items: at the end.
     UnterminatedInnerList,
-    /// No bare item begins where one is wanted.
+    /// No bare item begins where one is wanted: there, or at the end.
     ExpectedStartOfBareItem,
-    /// After `?` stands neither `0` nor `1`.
+    /// After `?` stands neither `0` nor `1`: there, or at the end.
     ExpectedBoolean,
-    /// A string holds a byte that isn't printable ASCII.
+    /// A string holds a byte that isn't printable ASCII, not directly behind a backslash that escapes: at that byte.
     InvalidStringCharacter,
-    /// The input ends in a string.
+    /// The input ends in a string, not directly behind a backslash that escapes: at the end.
     UnterminatedString,
-    /// The input ends in an escape of a string or a display string.
+    /// The input ends in an escape of a string or a display string: at the end.
     UnterminatedEscapeSequence,
-    /// An escape of a string or a display string is malformed.
+    /// An escape of a string or a display string is malformed: at its first byte that is wrong.
     InvalidEscapeSequence,
-    /// No colon closes a byte sequence.
+    /// No colon closes a byte sequence: at the end.
     UnterminatedByteSequence,
-    /// The content of a byte sequence is no Base64.
+    /// The content of a byte sequence is no Base64: at the first byte past the longest beginning of the content
+    /// that some Base64 text continues, or at the last byte of the content where there is none.
     InvalidByteSequence,
-    /// No digit stands where a number's digits begin.
+    /// No digit stands where a number's digits begin: there, or at the end.
     ExpectedDigit,
-    /// An integer has more than fifteen digits.
+    /// A number has a sixteenth digit before any point: at that digit.
     TooManyDigits,
-    /// A decimal has more than twelve digits before its point.
+    /// A decimal has more than twelve digits before its point: at the point.
     TooManyDigitsBeforeDecimalPoint,
-    /// A decimal has more than three digits after its point.
+    /// A decimal has more than three digits after its point: at the fourth.
     TooManyDigitsAfterDecimalPoint,
-    /// No digit stands after the point of a decimal.
+    /// No digit stands after the point of a decimal: at the point.
     TrailingDecimalPoint,
-    /// A date stands in a field under RFC 8941.
+    /// A date stands in a field under RFC 8941: at its `@`.
     Rfc8941Date,
-    /// A decimal stands where a date has its seconds.
+    /// A decimal stands where a date has its seconds: at the `@`.
     NonIntegerDate,
-    /// A display string stands in a field under RFC 8941.
+    /// A display string stands in a field under RFC 8941: at its `%`.
     Rfc8941DisplayString,
-    /// No quote opens a display string after its `%`.
+    /// No quote opens a display string after its `%`: there, or at the end.
     ExpectedQuote,
-    /// The bytes of a display string aren't UTF-8.
+    /// The bytes of a display string aren't UTF-8: where the first byte past their longest valid beginning is written.
     InvalidUtf8InDisplayString,
-    /// A display string holds a byte that isn't printable ASCII.
+    /// A display string holds a byte that isn't printable ASCII, outside an escape: at that byte.
     InvalidDisplayStringCharacter,
-    /// The input ends in a display string.
+    /// The input ends in a display string, outside an escape: at the end.
     UnterminatedDisplayString,
-    /// No key begins where one is wanted.
+    /// No key begins where one is wanted: there, or at the end.
     ExpectedStartOfKey,
 }
 
@@ -123,6 +127,9 @@ impl fmt::Display for ErrorKind {
 }
 
 /// An error of this library: its kind and, where it has one, its place.
+///
+/// `Display` prints the text of its kind, and ` at index N` behind it where it has an index N. Refused memory
+/// (`OutOfMemory`, and the allocator's own errors) becomes the kind `OutOfMemory` without an index.
 #[derive(Clone, Copy, Debug, PartialEq, Eq)]
 pub struct Error {
     kind: ErrorKind,
@@ -188,7 +195,7 @@ impl fmt::Display for Error {
 
 impl std::error::Error for Error {}
 
-/// A request for memory was refused.
+/// A request for memory was refused. `Display` prints `out of memory`.
 #[derive(Clone, Copy, Debug, PartialEq, Eq)]
 pub struct OutOfMemory;
 
@@ -239,6 +246,7 @@ impl<T: Drop> From<AllocFailed<T>> for Error {
 }
 
 /// Why a text was not read: by itself, or since a visitor of it, whose errors are of type `E`, refused it.
+/// `Display` prints what it holds.
 #[derive(Debug, Drop)]
 pub enum ParseError<E> {
     /// The text is malformed, or a request for memory was refused.

@@ -1,8 +1,8 @@
 //! Integers (RFC 9651, section 3.3.1).
 
 ghost use Rattle.std.specs.Prelude.{◌≡◌, Some, pos, nat_abs};
-ghost use Rattle.std.specs.Fmt.{signed_decimal};
-ghost use Rattle.sfv_spec.specs.Values.{IsInRange};
+ghost use Rattle.sfv_spec.specs.Values.{IsInRange, integer as integer_value};
+ghost use Rattle.sfv_spec.specs.Canonical.{bare_text};
 ghost use Rattle.sfv_base.specs.Conversions.{IsSigned, IsUnsigned, GivesIf};
 
 use crate::error::Error;
@@ -13,6 +13,7 @@ use std::marker::Model;
 ///
 /// A conversion from or to another number gives the same number. One that may fail fails with
 /// `ErrorKind::OutOfRange`, exactly if the number isn't in the range of the type that it goes to.
+/// `Default` is zero, comparisons and `Hash` go by the number, and `Display` prints its canonical text.
 ///
 /// A contract sees it as a whole number.
 #[derive(Clone, Copy, Debug, PartialEq, Eq, PartialOrd, Ord, Hash)]
@@ -47,7 +48,7 @@ impl Integer {
     /// Zero.
     pub const ZERO: Integer = Integer { value: 0 };
 
-    /// The integer of this number, which is in range.
+    /// The integer of this number, which is from -999999999999999 to 999999999999999.
     pub fn constant(v: i64) -> Integer
         requires { IsInRange v }
         ensures { result ≡ v }
@@ -65,7 +66,7 @@ impl Default for Integer {
 }
 
 impl fmt::Display for Integer {
-    ghost output = { λ n. Some (signed_decimal n) };
+    ghost output = { λ n. Some (bare_text (integer_value n)) };
 
     fn fmt<W: fmt::Write>(&self, f: &mut fmt::Formatter<W>) -> fmt::Result {
         let value = self.value;

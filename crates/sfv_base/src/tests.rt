@@ -8,6 +8,8 @@ use crate::utils::{
     is_allowed_start_token_char, is_allowed_string_char, is_lower_hexadecimal_digit,
 };
 use std::alloc::{AllocError, AllocFailed};
+use std::cmp::Ordering;
+use std::hash::{DefaultHasher, Hash, Hasher};
 use std::test::Fail;
 
 #[test]
@@ -69,6 +71,40 @@ fn dates_print(rt: HostRuntime) -> Result<(), Fail> {
     assert_eq!(rt; Date::MIN.unix_seconds(), Integer::MIN);
     assert_eq!(rt; Date::MAX.unix_seconds(), Integer::MAX);
     Ok(())
+}
+
+/// What a value gives to a hasher.
+fn hash_of<T: Hash>(value: &T) -> u64 {
+    let mut hasher = DefaultHasher::new();
+    value.hash(&mut hasher);
+    hasher.finish()
+}
+
+#[test]
+fn numbers_compare(rt: HostRuntime) {
+    let cases = [
+        (-1i64, 1i64, Ordering::Less),
+        (1, 1, Ordering::Equal),
+        (10, 9, Ordering::Greater),
+    ];
+    for (a, b, want) in cases {
+        let (a, b) = (integer(a), integer(b));
+        let equal = want == Ordering::Equal;
+        assert_eq!(rt; a.cmp(&b), want);
+        assert_eq!(rt; a == b, equal);
+        assert_eq!(rt; hash_of(&a) == hash_of(&b), equal);
+        let (c, d) = (
+            Decimal::from_integer_scaled_1000(a),
+            Decimal::from_integer_scaled_1000(b),
+        );
+        assert_eq!(rt; c.cmp(&d), want);
+        assert_eq!(rt; c == d, equal);
+        assert_eq!(rt; hash_of(&c) == hash_of(&d), equal);
+        let (c, d) = (Date::from_unix_seconds(a), Date::from_unix_seconds(b));
+        assert_eq!(rt; c.cmp(&d), want);
+        assert_eq!(rt; c == d, equal);
+        assert_eq!(rt; hash_of(&c) == hash_of(&d), equal);
+    }
 }
 
 #[test]

@@ -69,7 +69,11 @@ impl<'a> KeyRef<'a> {
         self.text
     }
 
-    /// The same key, with a text of its own; refused where memory is.
+    /// The same key, with a text of its own.
+    ///
+    /// # Errors
+    ///
+    /// `OutOfMemory` where the request for memory is refused.
     pub fn to_owned(&self, alloc: Global) -> Result<Key, OutOfMemory>
         ensures { IfOk result (λ t. t ≡ key_text self.now) }
     {

@@ -25,7 +25,7 @@ use std::string::String as StdString;
 /// A string that owns its text (RFC 9651, section 3.3.3).
 ///
 /// `TryFrom` of a text is `from_string` without the text in its error. Comparisons, `Hash` and `Display` go
-/// by the text.
+/// by the text, and it becomes its text by `From`. `clone` is refused (`AllocError`) where memory is.
 ///
 /// A contract sees it as its bytes.
 #[derive(Drop)]

@@ -14,7 +14,7 @@ use std::string::String as StdString;
 /// A string whose text is borrowed (RFC 9651, section 3.3.3).
 ///
 /// `TryFrom` of a text and of bytes are `from_str` and `from_bytes`. Comparisons, `Hash` and `Display` go by
-/// the text.
+/// the text. `Default` is the empty string.
 #[derive(Clone, Copy, PartialEq, Eq, PartialOrd, Ord, Hash)]
 pub struct StringRef<'a> {
     text: &'a str,
@@ -73,7 +73,11 @@ impl<'a> StringRef<'a> {
         self.text
     }
 
-    /// The same string, with a text of its own; refused where memory is.
+    /// The same string, with a text of its own.
+    ///
+    /// # Errors
+    ///
+    /// `OutOfMemory` where the request for memory is refused.
     pub fn to_owned(&self, alloc: Global) -> Result<String, OutOfMemory>
         ensures { IfOk result (λ t. t ≡ string_text self.now) }
     {

@@ -9,6 +9,7 @@ use crate::token_ref::TokenRef;
 use sfv_base::error::{Error, ErrorKind};
 use std::borrow::CowStr;
 use std::cmp::Ordering;
+use std::hash::{DefaultHasher, Hash, Hasher};
 use std::string::String as StdString;
 use std::test::Fail;
 
@@ -163,6 +164,48 @@ fn texts_are_ordered(rt: HostRuntime) -> Result<(), Fail> {
     assert!(rt; key_ref("ab").to_owned(alloc)? < key_ref("b").to_owned(alloc)?);
     assert!(rt; token_ref("b").to_owned(alloc)? > token_ref("ab").to_owned(alloc)?);
     assert!(rt; string_ref("a").to_owned(alloc)? <= string_ref("a").to_owned(alloc)?);
+    Ok(())
+}
+
+/// What a value gives to a hasher.
+fn hash_of<T: Hash>(value: &T) -> u64 {
+    let mut hasher = DefaultHasher::new();
+    value.hash(&mut hasher);
+    hasher.finish()
+}
+
+#[test]
+fn texts_are_hashed(rt: HostRuntime) -> Result<(), Fail> {
+    let alloc = rt.alloc();
+    for (a, b) in [("ab", "ab"), ("ab", "ba"), ("a", "aa")] {
+        let equal = a == b;
+        let (c, d) = (KeyRef::from_str(a)?, KeyRef::from_str(b)?);
+        assert_eq!(rt; hash_of(&c) == hash_of(&d), equal);
+        let (c, d) = (c.to_owned(alloc)?, d.to_owned(alloc)?);
+        assert_eq!(rt; hash_of(&c) == hash_of(&d), equal);
+        let (c, d) = (TokenRef::from_str(a)?, TokenRef::from_str(b)?);
+        assert_eq!(rt; hash_of(&c) == hash_of(&d), equal);
+        let (c, d) = (c.to_owned(alloc)?, d.to_owned(alloc)?);
+        assert_eq!(rt; hash_of(&c) == hash_of(&d), equal);
+        let (c, d) = (StringRef::from_str(a)?, StringRef::from_str(b)?);
+        assert_eq!(rt; hash_of(&c) == hash_of(&d), equal);
+        let (c, d) = (c.to_owned(alloc)?, d.to_owned(alloc)?);
+        assert_eq!(rt; hash_of(&c) == hash_of(&d), equal);
+    }
+    Ok(())
+}
+
+#[test]
+fn borrowed_texts_are_kept(rt: HostRuntime) -> Result<(), Fail> {
+    assert_eq!(rt; KeyRef::from_str("ab")?.as_str(), "ab");
+    assert_eq!(rt; KeyRef::try_from("ab")?.as_str(), "ab");
+    assert_eq!(rt; KeyRef::try_from("ab".as_bytes())?.as_str(), "ab");
+    assert_eq!(rt; TokenRef::from_str("ab")?.as_str(), "ab");
+    assert_eq!(rt; TokenRef::try_from("ab")?.as_str(), "ab");
+    assert_eq!(rt; TokenRef::try_from("ab".as_bytes())?.as_str(), "ab");
+    assert_eq!(rt; StringRef::from_str("ab")?.as_str(), "ab");
+    assert_eq!(rt; StringRef::try_from("ab")?.as_str(), "ab");
+    assert_eq!(rt; StringRef::try_from("ab".as_bytes())?.as_str(), "ab");
     Ok(())
 }
 

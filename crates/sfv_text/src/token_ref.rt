@@ -69,7 +69,11 @@ impl<'a> TokenRef<'a> {
         self.text
     }
 
-    /// The same token, with a text of its own; refused where memory is.
+    /// The same token, with a text of its own.
+    ///
+    /// # Errors
+    ///
+    /// `OutOfMemory` where the request for memory is refused.
     pub fn to_owned(&self, alloc: Global) -> Result<Token, OutOfMemory>
         ensures { IfOk result (λ t. t ≡ token_text self.now) }
     {
