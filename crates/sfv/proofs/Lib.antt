@@ -11,3 +11,4 @@ pub mod Decimals
 pub mod Written
 pub mod Escapes
 pub mod Params
+pub mod Lent

@@ -8,3 +8,4 @@ pub mod Fields
 pub mod Parsers
 pub mod Quoted
 pub mod Written
+pub mod Serializers

@@ -7,10 +7,11 @@
 pub mod field_type;
 pub mod parser;
 mod quoted;
-mod ser;
+pub mod ser;
 
 pub use field_type::FieldType;
 pub use parser::Parser;
+pub use ser::{ItemSerializer, ParameterSerializer};
 pub use sfv_base::date::Date;
 pub use sfv_base::decimal::Decimal;
 pub use sfv_base::error::{Error, ErrorKind, OutOfMemory, ParseError};

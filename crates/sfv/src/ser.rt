@@ -1,9 +1,14 @@
 //! Writing fields (RFC 9651, section 4.1).
 
+mod append;
 mod byte_sequence;
 mod display_string;
 mod item;
+pub mod item_serializer;
 mod number;
+pub mod parameter_serializer;
 mod string;
 
 pub(crate) use item::serialize_item;
+pub use item_serializer::ItemSerializer;
+pub use parameter_serializer::ParameterSerializer;

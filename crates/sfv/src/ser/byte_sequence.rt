@@ -1,37 +1,29 @@
 //! Writing byte sequences (RFC 9651, section 4.1.8).
 
-ghost use Rattle.std.specs.Prelude.{◌≡◌, ◌++◌, take, OnOk, OnErr};
-ghost use Rattle.std.specs.String.{string_bytes, string_len};
+ghost use Rattle.std.specs.Prelude.{◌≡◌, ◌++◌, OnOk, OnErr, string_bytes};
 ghost use Rattle.sfv_spec.specs.Texts.{RunOf};
 ghost use Rattle.sfv_spec.specs.Values.{is_byte, byte_sequence};
 ghost use Rattle.sfv_spec.specs.Canonical.{bare_text};
+ghost use Rattle.sfv.specs.Written.{Extends};
 
 use base64::engine::general_purpose::STANDARD;
 use sfv_base::error::OutOfMemory;
-use std::alloc::AllocError;
+use std::alloc::Allocator;
 use std::string::String;
 
-/// Appends the text of bytes. On an error some of it may stand behind the old text.
-fn append_text(value: &[u8], output: &mut String) -> Result<(), AllocError>
+/// Appends a byte sequence: its Base64 between colons.
+#[tactic(auto, using(crate::proofs::Params::run_of_bytes))]
+pub(crate) fn serialize_byte_sequence<A: Allocator>(
+    value: &[u8],
+    output: &mut String<A>,
+) -> Result<(), OutOfMemory>
     ensures ok { OnOk result (string_bytes output.new ≡ string_bytes output.old ++ bare_text (byte_sequence value.now)) }
-    ensures err { OnErr result (take (string_len output.old) (string_bytes output.new) ≡ string_bytes output.old) }
+    ensures err { OnErr result (Extends (string_bytes output.old) (string_bytes output.new)) }
+    ensures bytes { RunOf is_byte value.now }
 {
     output.push(':')?;
     STANDARD.encode_string(value, output)?;
-    output.push(':')
-}
-
-/// Appends the text of bytes: their Base64 between colons. On an error `output` keeps its text.
-pub(crate) fn serialize_byte_sequence(value: &[u8], output: &mut String) -> Result<(), OutOfMemory>
-    ensures ok { OnOk result (string_bytes output.new ≡ string_bytes output.old ++ bare_text (byte_sequence value.now)) }
-    ensures err { OnErr result (string_bytes output.new ≡ string_bytes output.old) }
-    ensures bytes { RunOf is_byte value.now }
-{
-    let start = output.len();
-    if let Err(AllocError) = append_text(value, output) {
-        output.truncate(start);
-        return Err(OutOfMemory);
-    }
+    output.push(':')?;
     Ok(())
 }
 

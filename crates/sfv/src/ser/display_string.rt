@@ -7,7 +7,7 @@ ghost use Rattle.sfv.specs.Written.{Extends};
 
 use crate::quoted::in_display_string::{is_plain, plain_end};
 use sfv_base::error::OutOfMemory;
-use std::alloc::AllocError;
+use std::alloc::{AllocError, Allocator};
 
 /// The digit of a number below 16.
 fn digit_of(value: u8) -> char
@@ -23,7 +23,7 @@ fn digit_of(value: u8) -> char
 }
 
 /// Adds a byte of a display string, or a part of its escape.
-fn push_byte(output: &mut String, byte: u8) -> Result<(), AllocError>
+fn push_byte<A: Allocator>(output: &mut String<A>, byte: u8) -> Result<(), AllocError>
     ensures ok { OnOk result (string_bytes output.new ≡ string_bytes output.old ++ display_piece byte) }
     ensures err { OnErr result (Extends (string_bytes output.old) (string_bytes output.new)) }
 {
@@ -36,7 +36,7 @@ fn push_byte(output: &mut String, byte: u8) -> Result<(), AllocError>
 }
 
 /// Adds a display string, or a part of it.
-fn push_display_string(output: &mut String, text: &str) -> Result<(), AllocError>
+fn push_display_string<A: Allocator>(output: &mut String<A>, text: &str) -> Result<(), AllocError>
     ensures ok { OnOk result (string_bytes output.new ≡ string_bytes output.old ++ bare_text (display_string text.now)) }
     ensures err { OnErr result (Extends (string_bytes output.old) (string_bytes output.new)) }
 {
@@ -55,19 +55,16 @@ fn push_display_string(output: &mut String, text: &str) -> Result<(), AllocError
     }
 }
 
-/// Adds the text of a display string, or leaves the output as it was.
-pub(crate) fn serialize_display_string(value: &str, output: &mut String) -> Result<(), OutOfMemory>
+/// Appends a display string.
+pub(crate) fn serialize_display_string<A: Allocator>(
+    value: &str,
+    output: &mut String<A>,
+) -> Result<(), OutOfMemory>
     ensures ok { OnOk result (string_bytes output.new ≡ string_bytes output.old ++ bare_text (display_string value.now)) }
-    ensures err { OnErr result (string_bytes output.new ≡ string_bytes output.old) }
+    ensures err { OnErr result (Extends (string_bytes output.old) (string_bytes output.new)) }
 {
-    let len = output.len();
-    match push_display_string(output, value) {
-        Ok(()) => Ok(()),
-        Err(_) => {
-            output.truncate(len);
-            Err(OutOfMemory)
-        }
-    }
+    push_display_string(output, value)?;
+    Ok(())
 }
 
 #[cfg(test)]

@@ -4,17 +4,23 @@ ghost use Rattle.std.specs.Prelude.{◌≡◌, ◌++◌, ◌+◌, ◌<◌, OnOk,
 ghost use Rattle.std.specs.Fmt.{signed_decimal};
 ghost use Rattle.sfv_spec.specs.Values.{IsInRange};
 ghost use Rattle.sfv_spec.specs.Canonical.{fraction_digits, decimal_text};
+ghost use Rattle.sfv.specs.Written.{Extends};
 
 use itoa::Buffer;
 use sfv_base::date::Date;
 use sfv_base::decimal::Decimal;
 use sfv_base::error::OutOfMemory;
 use sfv_base::integer::Integer;
+use std::alloc::Allocator;
 use std::string::String as StdString;
 
 /// Appends an integer.
-pub(crate) fn serialize_integer(value: Integer, output: &mut StdString) -> Result<(), OutOfMemory>
+pub(crate) fn serialize_integer<A: Allocator>(
+    value: Integer,
+    output: &mut StdString<A>,
+) -> Result<(), OutOfMemory>
     ensures ok { OnOk result (string_bytes output.new ≡ string_bytes output.old ++ signed_decimal value) }
+    ensures err { OnErr result (Extends (string_bytes output.old) (string_bytes output.new)) }
     ensures range { IsInRange value }
 {
     let mut buffer = Buffer::new();
@@ -23,8 +29,12 @@ pub(crate) fn serialize_integer(value: Integer, output: &mut StdString) -> Resul
 }
 
 /// Appends a date.
-pub(crate) fn serialize_date(value: Date, output: &mut StdString) -> Result<(), OutOfMemory>
+pub(crate) fn serialize_date<A: Allocator>(
+    value: Date,
+    output: &mut StdString<A>,
+) -> Result<(), OutOfMemory>
     ensures ok { OnOk result (string_bytes output.new ≡ string_bytes output.old ++ codes "@" ++ signed_decimal value) }
+    ensures err { OnErr result (Extends (string_bytes output.old) (string_bytes output.new)) }
     ensures range { IsInRange value }
 {
     output.push('@')?;
@@ -42,9 +52,13 @@ fn digit(value: u64) -> char
 
 /// Appends the digits of a fraction of thousandths: one at least, and no zero at the end behind it.
 #[tactic(auto, using(crate::proofs::Decimals::fraction_steps))]
-fn serialize_fraction(thousandths: u64, output: &mut StdString) -> Result<(), OutOfMemory>
+fn serialize_fraction<A: Allocator>(
+    thousandths: u64,
+    output: &mut StdString<A>,
+) -> Result<(), OutOfMemory>
     requires { thousandths < 1000 }
-    ensures { OnOk result (string_bytes output.new ≡ string_bytes output.old ++ fraction_digits thousandths) }
+    ensures ok { OnOk result (string_bytes output.new ≡ string_bytes output.old ++ fraction_digits thousandths) }
+    ensures err { OnErr result (Extends (string_bytes output.old) (string_bytes output.new)) }
 {
     output.push(digit(thousandths / 100))?;
     if thousandths % 100 == 0 {
@@ -59,8 +73,12 @@ fn serialize_fraction(thousandths: u64, output: &mut StdString) -> Result<(), Ou
 }
 
 /// Appends a decimal.
-pub(crate) fn serialize_decimal(value: Decimal, output: &mut StdString) -> Result<(), OutOfMemory>
+pub(crate) fn serialize_decimal<A: Allocator>(
+    value: Decimal,
+    output: &mut StdString<A>,
+) -> Result<(), OutOfMemory>
     ensures ok { OnOk result (string_bytes output.new ≡ string_bytes output.old ++ decimal_text value) }
+    ensures err { OnErr result (Extends (string_bytes output.old) (string_bytes output.new)) }
     ensures range { IsInRange value }
 {
     let value = i64::from(value.as_integer_scaled_1000());

@@ -11,10 +11,10 @@ ghost use Rattle.sfv.specs.Written.{Extends};
 use crate::quoted::in_string::{is_escaped, plain_end};
 use sfv_base::error::OutOfMemory;
 use sfv_text::string_ref::StringRef;
-use std::alloc::AllocError;
+use std::alloc::{AllocError, Allocator};
 
 /// Adds a byte of a string, or a part of its escape.
-fn push_byte(output: &mut String, byte: u8) -> Result<(), AllocError>
+fn push_byte<A: Allocator>(output: &mut String<A>, byte: u8) -> Result<(), AllocError>
     requires { byte < 128 }
     ensures ok { OnOk result (string_bytes output.new ≡ string_bytes output.old ++ string_piece byte) }
     ensures err { OnErr result (Extends (string_bytes output.old) (string_bytes output.new)) }
@@ -26,7 +26,7 @@ fn push_byte(output: &mut String, byte: u8) -> Result<(), AllocError>
 }
 
 /// Adds a string, or a part of it.
-fn push_string(output: &mut String, text: &str) -> Result<(), AllocError>
+fn push_string<A: Allocator>(output: &mut String<A>, text: &str) -> Result<(), AllocError>
     requires { RunOf is_string_byte text.now }
     ensures ok { OnOk result (string_bytes output.new ≡ string_bytes output.old ++ bare_text (string text.now)) }
     ensures err { OnErr result (Extends (string_bytes output.old) (string_bytes output.new)) }
@@ -46,19 +46,16 @@ fn push_string(output: &mut String, text: &str) -> Result<(), AllocError>
     }
 }
 
-/// Adds the text of a string, or leaves the output as it was.
-pub(crate) fn serialize_string(value: StringRef<'_>, output: &mut String) -> Result<(), OutOfMemory>
+/// Appends a string.
+pub(crate) fn serialize_string<A: Allocator>(
+    value: StringRef<'_>,
+    output: &mut String<A>,
+) -> Result<(), OutOfMemory>
     ensures ok { OnOk result (string_bytes output.new ≡ string_bytes output.old ++ bare_text (string (string_text value.entry))) }
-    ensures err { OnErr result (string_bytes output.new ≡ string_bytes output.old) }
+    ensures err { OnErr result (Extends (string_bytes output.old) (string_bytes output.new)) }
 {
-    let len = output.len();
-    match push_string(output, value.as_str()) {
-        Ok(()) => Ok(()),
-        Err(_) => {
-            output.truncate(len);
-            Err(OutOfMemory)
-        }
-    }
+    push_string(output, value.as_str())?;
+    Ok(())
 }
 
 #[cfg(test)]

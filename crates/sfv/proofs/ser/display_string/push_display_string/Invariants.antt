@@ -4,7 +4,7 @@ use Rattle.sfv_spec.specs.Canonical.{display_piece}
 use Rattle.sfv.proofs.ser.display_string.push_display_string.Given as goal
 
 abbrev pub invariant-loop-output : goal.invariant-loop-output
-invariant-loop-output l = (l.at ≤ length l.text) × (string_bytes l.output ≡ (string_bytes l.fn.output ++ codes "%\"") ++ flat_map display_piece (take l.at l.text))
+invariant-loop-output g l = (l.at ≤ length l.text) × (string_bytes l.output ≡ (string_bytes l.fn.output ++ codes "%\"") ++ flat_map display_piece (take l.at l.text))
 
 abbrev pub decreases-loop-output : goal.decreases-loop-output
-decreases-loop-output l = length l.text - l.at
+decreases-loop-output g l = length l.text - l.at
