@@ -5,9 +5,12 @@
 //! each line whose answer is another one, and how many there were.
 #![tactic(auto)]
 
+mod callers;
 mod replay;
 #[cfg(test)]
 mod rows;
+#[cfg(test)]
+mod written;
 
 use crate::replay::{answer_of, parse_line};
 use std::io;

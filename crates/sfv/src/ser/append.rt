@@ -74,3 +74,136 @@ pub(crate) fn append_parameters<
         }
     }
 }
+
+#[cfg(test)]
+mod tests {
+    use super::*;
+    use linked_list_allocator::LocalHeap;
+    use sfv_base::date::Date;
+    use sfv_base::decimal::Decimal;
+    use sfv_base::shorthand::integer;
+    use sfv_text::bare::GenericBareItem;
+    use sfv_text::shorthand::{key_ref, string_ref, token_ref};
+    use sfv_tree::parsed::Parameters;
+    use std::process::Abort;
+    use std::test::Fail;
+
+    // Sizes from none to enough for each text below, so that each request is refused at some size.
+    const SIZES: std::ops::Range<usize> = 16..640;
+
+    /// A value of each kind, and its text.
+    fn values<'a>() -> [(RefBareItem<'a>, &'static str); 9] {
+        [
+            (
+                GenericBareItem::Integer(integer(-999_999_999_999_999)),
+                "-999999999999999",
+            ),
+            (
+                GenericBareItem::Decimal(Decimal::from_integer_scaled_1000(integer(-1_234_567))),
+                "-1234.567",
+            ),
+            (
+                GenericBareItem::String(string_ref("a \"long\" \\ one, with escapes")),
+                "\"a \\\"long\\\" \\\\ one, with escapes\"",
+            ),
+            (
+                GenericBareItem::ByteSequence(b"hello, hello, hello"),
+                ":aGVsbG8sIGhlbGxvLCBoZWxsbw==:",
+            ),
+            (GenericBareItem::Boolean(true), "?1"),
+            (GenericBareItem::Boolean(false), "?0"),
+            (
+                GenericBareItem::Token(token_ref("a/long*token-of-twenty-five")),
+                "a/long*token-of-twenty-five",
+            ),
+            (
+                GenericBareItem::Date(Date::from_unix_seconds(integer(1_659_578_233))),
+                "@1659578233",
+            ),
+            (
+                GenericBareItem::DisplayString("50% \u{fc}ber\u{7f}, and more of it"),
+                "%\"50%25 %c3%bcber%7f, and more of it\"",
+            ),
+        ]
+    }
+
+    /// Whether it was refused; the text is the old one then, and else that with this behind it.
+    fn refused(rt: &impl Abort, answer: Result<(), OutOfMemory>, text: &str, behind: &str) -> bool {
+        assert!(rt; text.starts_with("X: "));
+        let want = if answer.is_ok() { behind } else { "" };
+        assert_eq!(rt; &text[3..], want);
+        answer.is_err()
+    }
+
+    #[test]
+    fn bare_items_are_written_or_refused(rt: HostRuntime) -> Result<(), Fail> {
+        for (value, behind) in values() {
+            let (mut refusals, mut writes) = (0, 0);
+            for size in SIZES {
+                let heap = LocalHeap::new(rt.alloc(), size)?;
+                let Ok(mut text) = StdString::from_str(&heap, "X: ") else {
+                    continue;
+                };
+                let answer = append_bare_item(&value, &mut text);
+                if refused(&rt, answer, text.as_str(), behind) {
+                    refusals += 1;
+                } else {
+                    writes += 1;
+                }
+            }
+            assert!(rt; refusals > 0 && writes > 0, "{behind}");
+        }
+        Ok(())
+    }
+
+    #[test]
+    fn parameters_are_written_or_refused_one_by_one(rt: HostRuntime) -> Result<(), Fail> {
+        for (value, text_of_value) in values() {
+            let behind = match &value {
+                GenericBareItem::Boolean(true) => StdString::from_str(rt.alloc(), ";a-key")?,
+                _ => format!(in rt.alloc(); ";a-key={text_of_value}")?,
+            };
+            let (mut refusals, mut writes) = (0, 0);
+            for size in SIZES {
+                let heap = LocalHeap::new(rt.alloc(), size)?;
+                let Ok(mut text) = StdString::from_str(&heap, "X: ") else {
+                    continue;
+                };
+                let answer = append_parameter(key_ref("a-key"), &value, &mut text);
+                if refused(&rt, answer, text.as_str(), behind.as_str()) {
+                    refusals += 1;
+                } else {
+                    writes += 1;
+                }
+            }
+            assert!(rt; refusals > 0 && writes > 0, "{behind}");
+        }
+        Ok(())
+    }
+
+    #[test]
+    fn parameters_are_written_or_refused_at_once(rt: HostRuntime) -> Result<(), Fail> {
+        let alloc = rt.alloc();
+        let mut params = Parameters::new(alloc);
+        for key in ["first", "second", "third"] {
+            let value = GenericBareItem::Integer(integer(1_234_567));
+            params.insert(key_ref(key).to_owned(alloc)?, value)?;
+        }
+        let (mut refusals, mut writes) = (0, 0);
+        for size in SIZES {
+            let heap = LocalHeap::new(alloc, size)?;
+            let Ok(mut text) = StdString::from_str(&heap, "X: ") else {
+                continue;
+            };
+            let answer = append_parameters(params.iter(), &mut text);
+            let behind = ";first=1234567;second=1234567;third=1234567";
+            if refused(&rt, answer, text.as_str(), behind) {
+                refusals += 1;
+            } else {
+                writes += 1;
+            }
+        }
+        assert!(rt; refusals > 0 && writes > 0);
+        Ok(())
+    }
+}
