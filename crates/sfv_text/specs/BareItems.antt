@@ -1,5 +1,5 @@
 -- The values of bare items, whatever owns their texts.
-use Rattle.std.specs.Prelude.{ℕ, List, string_bytes, codes}
+use Rattle.std.specs.Prelude.{◌≡◌, ℕ, List, Option, MatchOption, string_bytes, codes}
 use Rattle.std.specs.Borrow.{Bor}
 use Rattle.std.specs.declared.alloc.Global.{Global}
 use Rattle.std.specs.declared.vec.Vec.{Vec}
@@ -50,6 +50,10 @@ cow_text (cow.Owned s) = string_bytes s
 -- the value of a bare item that was read
 abbrev pub input_value : GenericBareItem StringFromInput (Vec ℕ Global) TokenRef (CowStr Global) → BareValue
 input_value item = value_by read_text (λ b. b.items) token_text cow_text item
+
+-- what a value of this kind holds, and nothing from a value of another kind
+abbrev pub GivesPart : {A V P : Type 0} → (A → V) → (P → A) → V → Option P → Type 0
+GivesPart {A} kind content value r = MatchOption r ((x : A) → ¬ (value ≡ kind x)) (λ p. value ≡ kind (content p))
 
 -- the edition that a version stands for
 abbrev pub edition_of : Version → Edition
