@@ -1,7 +1,7 @@
 //! Bare items (RFC 9651, section 3.3), and the versions of the standard.
 
 ghost use Rattle.std.specs.Prelude.{◌≡◌, Some};
-ghost use Rattle.sfv_text.specs.BareItems.{version_text};
+ghost use Rattle.sfv_text.specs.BareItems.{IsCopyBy, version_text};
 
 mod accessors;
 mod borrowed;
@@ -16,6 +16,7 @@ use crate::token_ref::TokenRef;
 use sfv_base::date::Date;
 use sfv_base::decimal::Decimal;
 use sfv_base::integer::Integer;
+use std::alloc::AllocError;
 use std::borrow::CowStr;
 use std::fmt;
 use std::string::String as StdString;
@@ -24,7 +25,7 @@ use std::string::String as StdString;
 ///
 /// `BareItem` owns its text, `RefBareItem` borrows it, and `BareItemFromInput` borrows what of it
 /// stands in the input.
-#[derive(Clone, Copy, Debug, PartialEq, Eq, Drop)]
+#[derive(Copy, Debug, PartialEq, Eq, Drop)]
 pub enum GenericBareItem<S, B, T, D> {
     /// A decimal (section 3.3.2).
     Decimal(Decimal),
@@ -65,6 +66,24 @@ pub enum StringFromInput<'a> {
     Borrowed(StringRef<'a>),
     /// The string is written with escapes.
     Owned(String),
+}
+
+// What is borrowed stays borrowed.
+impl<S: Clone, B: Clone, T: Clone, D: Clone> Clone for GenericBareItem<S, B, T, D> {
+    ghost is_clone = { IsCopyBy S.is_clone B.is_clone T.is_clone D.is_clone };
+
+    fn clone(&self) -> Result<GenericBareItem<S, B, T, D>, AllocError> {
+        Ok(match self {
+            GenericBareItem::Decimal(value) => GenericBareItem::Decimal(*value),
+            GenericBareItem::Integer(value) => GenericBareItem::Integer(*value),
+            GenericBareItem::String(text) => GenericBareItem::String(text.clone()?),
+            GenericBareItem::ByteSequence(bytes) => GenericBareItem::ByteSequence(bytes.clone()?),
+            GenericBareItem::Boolean(value) => GenericBareItem::Boolean(*value),
+            GenericBareItem::Token(token) => GenericBareItem::Token(token.clone()?),
+            GenericBareItem::Date(value) => GenericBareItem::Date(*value),
+            GenericBareItem::DisplayString(text) => GenericBareItem::DisplayString(text.clone()?),
+        })
+    }
 }
 
 /// A version of the standard.
