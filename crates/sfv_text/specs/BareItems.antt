@@ -1,5 +1,5 @@
 -- The values of bare items, whatever owns their texts.
-use Rattle.std.specs.Prelude.{ℕ, List, string_bytes, codes}
+use Rattle.std.specs.Prelude.{◌≡◌, ℕ, List, Option, MatchOption, string_bytes, codes}
 use Rattle.std.specs.Borrow.{Bor}
 use Rattle.std.specs.declared.alloc.Global.{Global}
 use Rattle.std.specs.declared.vec.Vec.{Vec}
@@ -50,6 +50,21 @@ cow_text (cow.Owned s) = string_bytes s
 -- the value of a bare item that was read
 abbrev pub input_value : GenericBareItem StringFromInput (Vec ℕ Global) TokenRef (CowStr Global) → BareValue
 input_value item = value_by read_text (λ b. b.items) token_text cow_text item
+
+-- a copy is of the same kind, and what it holds is a copy as its type makes one
+abbrev pub IsCopyBy : {S B T D : Type 0} → (S → S → Type 0) → (B → B → Type 0) → (T → T → Type 0) → (D → D → Type 0) → GenericBareItem S B T D → GenericBareItem S B T D → Type 0
+IsCopyBy s b t d (bare.Decimal z) copy = copy ≡ bare.Decimal z
+IsCopyBy s b t d (bare.Integer z) copy = copy ≡ bare.Integer z
+IsCopyBy {S} s b t d (bare.String x) copy = (y : S) × s x y × (copy ≡ bare.String y)
+IsCopyBy {S} {B} s b t d (bare.ByteSequence x) copy = (y : B) × b x y × (copy ≡ bare.ByteSequence y)
+IsCopyBy s b t d (bare.Boolean x) copy = copy ≡ bare.Boolean x
+IsCopyBy {S} {B} {T} s b t d (bare.Token x) copy = (y : T) × t x y × (copy ≡ bare.Token y)
+IsCopyBy s b t d (bare.Date z) copy = copy ≡ bare.Date z
+IsCopyBy {S} {B} {T} {D} s b t d (bare.DisplayString x) copy = (y : D) × d x y × (copy ≡ bare.DisplayString y)
+
+-- what a value of this kind holds, and nothing from a value of another kind
+abbrev pub GivesPart : {A V P : Type 0} → (A → V) → (P → A) → V → Option P → Type 0
+GivesPart {A} kind content value r = MatchOption r ((x : A) → ¬ (value ≡ kind x)) (λ p. value ≡ kind (content p))
 
 -- the edition that a version stands for
 abbrev pub edition_of : Version → Edition

@@ -1,9 +1,13 @@
 //! Bare items (RFC 9651, section 3.3), and the versions of the standard.
 
-ghost use Rattle.std.specs.Prelude.{◌≡◌, IfOk, Some, codes};
-ghost use Rattle.sfv_text.specs.BareItems.{bare_value, ref_value, input_value, read_text, version_text};
-ghost use Rattle.sfv_text.specs.StringText.{string_text};
-ghost use Rattle.sfv_text.specs.declared.bare.Version.TheVariants as versions;
+ghost use Rattle.std.specs.Prelude.{◌≡◌, Some};
+ghost use Rattle.sfv_text.specs.BareItems.{IsCopyBy, version_text};
+
+mod accessors;
+mod borrowed;
+mod conversions;
+mod from_input;
+mod owned;
 
 use crate::string::String;
 use crate::string_ref::StringRef;
@@ -11,9 +15,8 @@ use crate::token::Token;
 use crate::token_ref::TokenRef;
 use sfv_base::date::Date;
 use sfv_base::decimal::Decimal;
-use sfv_base::error::OutOfMemory;
 use sfv_base::integer::Integer;
-use std::alloc::Global;
+use std::alloc::AllocError;
 use std::borrow::CowStr;
 use std::fmt;
 use std::string::String as StdString;
@@ -22,7 +25,7 @@ use std::string::String as StdString;
 ///
 /// `BareItem` owns its text, `RefBareItem` borrows it, and `BareItemFromInput` borrows what of it
 /// stands in the input.
-#[derive(Clone, Copy, Debug, Drop)]
+#[derive(Copy, Debug, PartialEq, Eq, Drop)]
 pub enum GenericBareItem<S, B, T, D> {
     /// A decimal (section 3.3.2).
     Decimal(Decimal),
@@ -57,7 +60,7 @@ pub type BareItemFromInput<'a> = GenericBareItem<
 >;
 
 /// A string that was read: borrowed from the input exactly if it has no escape there.
-#[derive(Drop)]
+#[derive(Debug, Drop)]
 pub enum StringFromInput<'a> {
     /// The string stands in the input as it is.
     Borrowed(StringRef<'a>),
@@ -65,62 +68,20 @@ pub enum StringFromInput<'a> {
     Owned(String),
 }
 
-impl<'a> StringFromInput<'a> {
-    /// The string, lent.
-    pub fn as_string_ref(&self) -> StringRef<'_>
-        ensures { string_text result ≡ read_text self.now }
-    {
-        match self {
-            StringFromInput::Borrowed(text) => *text,
-            StringFromInput::Owned(text) => text.as_string_ref(),
-        }
-    }
+// What is borrowed stays borrowed.
+impl<S: Clone, B: Clone, T: Clone, D: Clone> Clone for GenericBareItem<S, B, T, D> {
+    ghost is_clone = { IsCopyBy S.is_clone B.is_clone T.is_clone D.is_clone };
 
-    /// The string with a text of its own; refused where memory is.
-    pub fn try_into_owned(self, alloc: Global) -> Result<String, OutOfMemory>
-        ensures { IfOk result (λ text. text ≡ read_text self.entry) }
-    {
-        match self {
-            StringFromInput::Borrowed(text) => text.to_owned(alloc),
-            StringFromInput::Owned(text) => Ok(text),
-        }
-    }
-}
-
-impl BareItem {
-    /// The same value, lent.
-    pub fn as_ref_item(&self) -> RefBareItem<'_>
-        ensures { ref_value result ≡ bare_value self.now }
-    {
-        match self {
+    fn clone(&self) -> Result<GenericBareItem<S, B, T, D>, AllocError> {
+        Ok(match self {
             GenericBareItem::Decimal(value) => GenericBareItem::Decimal(*value),
             GenericBareItem::Integer(value) => GenericBareItem::Integer(*value),
-            GenericBareItem::String(text) => GenericBareItem::String(text.as_string_ref()),
-            GenericBareItem::ByteSequence(bytes) => GenericBareItem::ByteSequence(bytes.as_slice()),
+            GenericBareItem::String(text) => GenericBareItem::String(text.clone()?),
+            GenericBareItem::ByteSequence(bytes) => GenericBareItem::ByteSequence(bytes.clone()?),
             GenericBareItem::Boolean(value) => GenericBareItem::Boolean(*value),
-            GenericBareItem::Token(token) => GenericBareItem::Token(token.as_token_ref()),
+            GenericBareItem::Token(token) => GenericBareItem::Token(token.clone()?),
             GenericBareItem::Date(value) => GenericBareItem::Date(*value),
-            GenericBareItem::DisplayString(text) => GenericBareItem::DisplayString(text.as_str()),
-        }
-    }
-}
-
-impl<'a> BareItemFromInput<'a> {
-    /// The same value with texts of its own; refused where memory is.
-    pub fn try_into_owned(self, alloc: Global) -> Result<BareItem, OutOfMemory>
-        ensures { IfOk result (λ item. bare_value item ≡ input_value self.entry) }
-    {
-        Ok(match self {
-            GenericBareItem::Decimal(value) => GenericBareItem::Decimal(value),
-            GenericBareItem::Integer(value) => GenericBareItem::Integer(value),
-            GenericBareItem::String(text) => GenericBareItem::String(text.try_into_owned(alloc)?),
-            GenericBareItem::ByteSequence(bytes) => GenericBareItem::ByteSequence(bytes),
-            GenericBareItem::Boolean(value) => GenericBareItem::Boolean(value),
-            GenericBareItem::Token(token) => GenericBareItem::Token(token.to_owned(alloc)?),
-            GenericBareItem::Date(value) => GenericBareItem::Date(value),
-            GenericBareItem::DisplayString(text) => {
-                GenericBareItem::DisplayString(text.into_owned(alloc)?)
-            }
+            GenericBareItem::DisplayString(text) => GenericBareItem::DisplayString(text.clone()?),
         })
     }
 }

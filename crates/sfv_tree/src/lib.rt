@@ -2,3 +2,4 @@
 #![tactic(auto)]
 
 pub mod parsed;
+pub mod visitor;

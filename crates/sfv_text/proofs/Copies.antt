@@ -1,0 +1,34 @@
+-- A copy of a bare item that owns its text has the same value.
+use Rattle.std.proofs.Common.{◌≡◌, ℕ, List, refl, ap, ◌∙◌}
+use Rattle.std.specs.Prelude.{string_bytes}
+use Rattle.std.specs.List.{AllZip, each_same}
+use Rattle.std.specs.declared.alloc.Global.{Global}
+use Rattle.std.specs.declared.vec.Vec.{Vec}
+use Rattle.std.specs.declared.string.String as std_string
+use Rattle.sfv_spec.specs.Values as values
+use Rattle.sfv_text.specs.BareItems.{IsCopyBy, bare_value}
+use Rattle.sfv_text.specs.declared.bare.GenericBareItem.{GenericBareItem}
+use Rattle.sfv_text.specs.declared.bare.GenericBareItem.TheVariants as bare
+
+-- what holds of a copy of the bytes, whatever else does
+pub copied_value :
+    (s : List ℕ → List ℕ → Type 0) (b : Vec ℕ Global → Vec ℕ Global → Type 0)
+    (t : List ℕ → List ℕ → Type 0) (d : std_string.String Global → std_string.String Global → Type 0)
+    → ((x y : List ℕ) → s x y → y ≡ x)
+    → ((x y : Vec ℕ Global) → b x y → AllZip (λ m n. n ≡ m) x.items y.items)
+    → ((x y : List ℕ) → t x y → y ≡ x)
+    → ((x y : std_string.String Global) → d x y → string_bytes y ≡ string_bytes x)
+    → (x y : GenericBareItem (List ℕ) (Vec ℕ Global) (List ℕ) (std_string.String Global))
+    → IsCopyBy s b t d x y → bare_value y ≡ bare_value x
+copied_value s b t d on_s on_b on_t on_d (bare.Decimal z) y h = ap bare_value h
+copied_value s b t d on_s on_b on_t on_d (bare.Integer z) y h = ap bare_value h
+copied_value s b t d on_s on_b on_t on_d (bare.String x) y h =
+    ap bare_value h.2 ∙ ap values.string (on_s x h.0 h.1)
+copied_value s b t d on_s on_b on_t on_d (bare.ByteSequence x) y h =
+    ap bare_value h.2 ∙ ap values.byte_sequence (each_same x.items h.0.items (on_b x h.0 h.1))
+copied_value s b t d on_s on_b on_t on_d (bare.Boolean x) y h = ap bare_value h
+copied_value s b t d on_s on_b on_t on_d (bare.Token x) y h =
+    ap bare_value h.2 ∙ ap values.token (on_t x h.0 h.1)
+copied_value s b t d on_s on_b on_t on_d (bare.Date z) y h = ap bare_value h
+copied_value s b t d on_s on_b on_t on_d (bare.DisplayString x) y h =
+    ap bare_value h.2 ∙ ap values.display_string (on_d x h.0 h.1)

@@ -1,0 +1,61 @@
+//! What a bare item holds, if it is of a kind.
+
+ghost use Rattle.sfv_text.specs.BareItems.{GivesPart};
+ghost use Rattle.sfv_text.specs.declared.bare.GenericBareItem.TheVariants as code;
+
+use crate::bare::GenericBareItem;
+use sfv_base::date::Date;
+use sfv_base::decimal::Decimal;
+use sfv_base::integer::Integer;
+
+impl<S, B, T, D> GenericBareItem<S, B, T, D> {
+    /// The decimal (RFC 9651, section 3.3.2), and `None` for another kind.
+    pub fn as_decimal(&self) -> Option<Decimal>
+        ensures { GivesPart code.Decimal (λ z. z) self.now result }
+    {
+        match self {
+            GenericBareItem::Decimal(value) => Some(*value),
+            _ => None,
+        }
+    }
+
+    /// The integer (RFC 9651, section 3.3.1), and `None` for another kind.
+    pub fn as_integer(&self) -> Option<Integer>
+        ensures { GivesPart code.Integer (λ z. z) self.now result }
+    {
+        match self {
+            GenericBareItem::Integer(value) => Some(*value),
+            _ => None,
+        }
+    }
+
+    /// The boolean (RFC 9651, section 3.3.6), and `None` for another kind.
+    pub fn as_boolean(&self) -> Option<bool>
+        ensures { GivesPart code.Boolean (λ b. b) self.now result }
+    {
+        match self {
+            GenericBareItem::Boolean(value) => Some(*value),
+            _ => None,
+        }
+    }
+
+    /// The date (RFC 9651, section 3.3.7), and `None` for another kind.
+    pub fn as_date(&self) -> Option<Date>
+        ensures { GivesPart code.Date (λ z. z) self.now result }
+    {
+        match self {
+            GenericBareItem::Date(value) => Some(*value),
+            _ => None,
+        }
+    }
+
+    /// The display string (RFC 9651, section 3.3.8), and `None` for another kind.
+    pub fn as_display_string(&self) -> Option<&D>
+        ensures { GivesPart code.DisplayString (λ text. text.now) self.now result }
+    {
+        match self {
+            GenericBareItem::DisplayString(text) => Some(text),
+            _ => None,
+        }
+    }
+}

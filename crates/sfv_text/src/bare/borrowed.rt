@@ -1,0 +1,124 @@
+//! Bare items whose text is borrowed (RFC 9651, section 3.3).
+
+ghost use Rattle.std.specs.Prelude.{◌≡◌, IfOk};
+ghost use Rattle.sfv_spec.specs.Values as values;
+ghost use Rattle.sfv_text.specs.BareItems.{GivesPart, bare_value, ref_value};
+ghost use Rattle.sfv_text.specs.StringText.{string_text};
+ghost use Rattle.sfv_text.specs.TokenText.{token_text};
+
+use crate::bare::{BareItem, GenericBareItem, RefBareItem};
+use crate::string::String;
+use crate::string_ref::StringRef;
+use crate::token::Token;
+use crate::token_ref::TokenRef;
+use sfv_base::error::OutOfMemory;
+use std::alloc::Global;
+use std::string::String as StdString;
+
+impl<'a> RefBareItem<'a> {
+    /// The string (RFC 9651, section 3.3.3), and `None` for another kind.
+    pub fn as_string(&self) -> Option<StringRef<'a>>
+        ensures { GivesPart values.string string_text (ref_value self.now) result }
+    {
+        match self {
+            GenericBareItem::String(text) => Some(*text),
+            _ => None,
+        }
+    }
+
+    /// The bytes (RFC 9651, section 3.3.5), and `None` for another kind.
+    pub fn as_byte_sequence(&self) -> Option<&'a [u8]>
+        ensures { GivesPart values.byte_sequence (λ bytes. bytes.now) (ref_value self.now) result }
+    {
+        match self {
+            GenericBareItem::ByteSequence(bytes) => Some(*bytes),
+            _ => None,
+        }
+    }
+
+    /// The token (RFC 9651, section 3.3.4), and `None` for another kind.
+    pub fn as_token(&self) -> Option<TokenRef<'a>>
+        ensures { GivesPart values.token token_text (ref_value self.now) result }
+    {
+        match self {
+            GenericBareItem::Token(token) => Some(*token),
+            _ => None,
+        }
+    }
+
+    /// The same value, lent.
+    pub fn as_ref_item(&self) -> RefBareItem<'a>
+        ensures { ref_value result ≡ ref_value self.now }
+    {
+        match self {
+            GenericBareItem::Decimal(value) => GenericBareItem::Decimal(*value),
+            GenericBareItem::Integer(value) => GenericBareItem::Integer(*value),
+            GenericBareItem::String(text) => GenericBareItem::String(*text),
+            GenericBareItem::ByteSequence(bytes) => GenericBareItem::ByteSequence(*bytes),
+            GenericBareItem::Boolean(value) => GenericBareItem::Boolean(*value),
+            GenericBareItem::Token(token) => GenericBareItem::Token(*token),
+            GenericBareItem::Date(value) => GenericBareItem::Date(*value),
+            GenericBareItem::DisplayString(text) => GenericBareItem::DisplayString(*text),
+        }
+    }
+
+    /// The same value with texts of its own; refused where memory is.
+    pub fn try_to_owned(&self, alloc: Global) -> Result<BareItem, OutOfMemory>
+        ensures { IfOk result (λ item. bare_value item ≡ ref_value self.now) }
+    {
+        Ok(match self {
+            GenericBareItem::Decimal(value) => GenericBareItem::Decimal(*value),
+            GenericBareItem::Integer(value) => GenericBareItem::Integer(*value),
+            GenericBareItem::String(text) => GenericBareItem::String(text.to_owned(alloc)?),
+            GenericBareItem::ByteSequence(bytes) => {
+                GenericBareItem::ByteSequence(Vec::from_slice(alloc, bytes)?)
+            }
+            GenericBareItem::Boolean(value) => GenericBareItem::Boolean(*value),
+            GenericBareItem::Token(token) => GenericBareItem::Token(token.to_owned(alloc)?),
+            GenericBareItem::Date(value) => GenericBareItem::Date(*value),
+            GenericBareItem::DisplayString(text) => {
+                GenericBareItem::DisplayString(StdString::from_str(alloc, text)?)
+            }
+        })
+    }
+}
+
+impl<'a> From<StringRef<'a>> for RefBareItem<'a> {
+    ghost from_gives = { λ v item. ref_value item ≡ values.string (string_text v) };
+
+    fn from(v: StringRef<'a>) -> RefBareItem<'a> {
+        GenericBareItem::String(v)
+    }
+}
+
+impl<'a> From<TokenRef<'a>> for RefBareItem<'a> {
+    ghost from_gives = { λ v item. ref_value item ≡ values.token (token_text v) };
+
+    fn from(v: TokenRef<'a>) -> RefBareItem<'a> {
+        GenericBareItem::Token(v)
+    }
+}
+
+impl<'a> From<&'a String> for RefBareItem<'a> {
+    ghost from_gives = { λ v item. ref_value item ≡ values.string v.now };
+
+    fn from(v: &'a String) -> RefBareItem<'a> {
+        GenericBareItem::String(v.as_string_ref())
+    }
+}
+
+impl<'a> From<&'a Token> for RefBareItem<'a> {
+    ghost from_gives = { λ v item. ref_value item ≡ values.token v.now };
+
+    fn from(v: &'a Token) -> RefBareItem<'a> {
+        GenericBareItem::Token(v.as_token_ref())
+    }
+}
+
+impl<'a> From<&'a [u8]> for RefBareItem<'a> {
+    ghost from_gives = { λ v item. ref_value item ≡ values.byte_sequence v.now };
+
+    fn from(v: &'a [u8]) -> RefBareItem<'a> {
+        GenericBareItem::ByteSequence(v)
+    }
+}

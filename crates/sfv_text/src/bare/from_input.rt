@@ -1,0 +1,156 @@
+//! Bare items that were read (RFC 9651, section 3.3).
+
+ghost use Rattle.std.specs.Prelude.{◌≡◌, IfOk, nat_eq};
+ghost use Rattle.std.specs.Cmp.Lexicographic.{pointwise, nat_list_eq_equiv};
+ghost use Rattle.std.specs.Cmp;
+ghost use Rattle.std.specs.Cmp.{on_per, on_equiv};
+ghost use Rattle.sfv_spec.specs.Values as values;
+ghost use Rattle.sfv_text.specs.BareItems.{GivesPart, read_text, bare_value, ref_value, input_value};
+ghost use Rattle.sfv_text.specs.StringText.{string_text};
+ghost use Rattle.sfv_text.specs.TokenText.{token_text};
+
+use crate::bare::{BareItem, BareItemFromInput, GenericBareItem, RefBareItem, StringFromInput};
+use crate::string::String;
+use crate::string_ref::StringRef;
+use crate::token::Token;
+use crate::token_ref::TokenRef;
+use sfv_base::error::OutOfMemory;
+use std::alloc::{AllocError, Global};
+
+impl<'a> StringFromInput<'a> {
+    /// The string, lent.
+    pub fn as_string_ref(&self) -> StringRef<'_>
+        ensures { string_text result ≡ read_text self.now }
+    {
+        match self {
+            StringFromInput::Borrowed(text) => *text,
+            StringFromInput::Owned(text) => text.as_string_ref(),
+        }
+    }
+
+    /// The string with a text of its own; refused where memory is.
+    pub fn try_into_owned(self, alloc: Global) -> Result<String, OutOfMemory>
+        ensures { IfOk result (λ text. text ≡ read_text self.entry) }
+    {
+        match self {
+            StringFromInput::Borrowed(text) => text.to_owned(alloc),
+            StringFromInput::Owned(text) => Ok(text),
+        }
+    }
+}
+
+impl<'a> PartialEq for StringFromInput<'a> {
+    ghost eq = { λ x y. pointwise nat_eq (read_text x) (read_text y) };
+
+    ghost laws = { on_per read_text (Cmp.partial_equiv_from_equiv nat_list_eq_equiv) };
+
+    fn eq(&self, other: &StringFromInput<'a>) -> bool {
+        self.as_string_ref().as_str() == other.as_string_ref().as_str()
+    }
+}
+
+impl<'a> Eq for StringFromInput<'a> {
+    ghost laws = { on_equiv read_text nat_list_eq_equiv };
+}
+
+// What is borrowed stays borrowed.
+impl<'a> Clone for StringFromInput<'a> {
+    ghost is_clone = { λ text copy. copy ≡ text };
+
+    fn clone(&self) -> Result<StringFromInput<'a>, AllocError> {
+        Ok(match self {
+            StringFromInput::Borrowed(text) => StringFromInput::Borrowed(*text),
+            StringFromInput::Owned(text) => StringFromInput::Owned(text.clone()?),
+        })
+    }
+}
+
+impl<'a> BareItemFromInput<'a> {
+    /// The string (RFC 9651, section 3.3.3), and `None` for another kind.
+    pub fn as_string(&self) -> Option<StringRef<'_>>
+        ensures { GivesPart values.string string_text (input_value self.now) result }
+    {
+        match self {
+            GenericBareItem::String(text) => Some(text.as_string_ref()),
+            _ => None,
+        }
+    }
+
+    /// The bytes (RFC 9651, section 3.3.5), and `None` for another kind.
+    pub fn as_byte_sequence(&self) -> Option<&[u8]>
+        ensures { GivesPart values.byte_sequence (λ bytes. bytes.now) (input_value self.now) result }
+    {
+        match self {
+            GenericBareItem::ByteSequence(bytes) => Some(bytes.as_slice()),
+            _ => None,
+        }
+    }
+
+    /// The token (RFC 9651, section 3.3.4), and `None` for another kind.
+    pub fn as_token(&self) -> Option<TokenRef<'a>>
+        ensures { GivesPart values.token token_text (input_value self.now) result }
+    {
+        match self {
+            GenericBareItem::Token(token) => Some(*token),
+            _ => None,
+        }
+    }
+
+    /// The same value, lent.
+    pub fn as_ref_item(&self) -> RefBareItem<'_>
+        ensures { ref_value result ≡ input_value self.now }
+    {
+        match self {
+            GenericBareItem::Decimal(value) => GenericBareItem::Decimal(*value),
+            GenericBareItem::Integer(value) => GenericBareItem::Integer(*value),
+            GenericBareItem::String(text) => GenericBareItem::String(text.as_string_ref()),
+            GenericBareItem::ByteSequence(bytes) => GenericBareItem::ByteSequence(bytes.as_slice()),
+            GenericBareItem::Boolean(value) => GenericBareItem::Boolean(*value),
+            GenericBareItem::Token(token) => GenericBareItem::Token(*token),
+            GenericBareItem::Date(value) => GenericBareItem::Date(*value),
+            GenericBareItem::DisplayString(text) => GenericBareItem::DisplayString(text.as_str()),
+        }
+    }
+
+    /// The same value with texts of its own; refused where memory is.
+    pub fn try_into_owned(self, alloc: Global) -> Result<BareItem, OutOfMemory>
+        ensures { IfOk result (λ item. bare_value item ≡ input_value self.entry) }
+    {
+        Ok(match self {
+            GenericBareItem::Decimal(value) => GenericBareItem::Decimal(value),
+            GenericBareItem::Integer(value) => GenericBareItem::Integer(value),
+            GenericBareItem::String(text) => GenericBareItem::String(text.try_into_owned(alloc)?),
+            GenericBareItem::ByteSequence(bytes) => GenericBareItem::ByteSequence(bytes),
+            GenericBareItem::Boolean(value) => GenericBareItem::Boolean(value),
+            GenericBareItem::Token(token) => GenericBareItem::Token(token.to_owned(alloc)?),
+            GenericBareItem::Date(value) => GenericBareItem::Date(value),
+            GenericBareItem::DisplayString(text) => {
+                GenericBareItem::DisplayString(text.into_owned(alloc)?)
+            }
+        })
+    }
+}
+
+impl<'a> From<TokenRef<'a>> for BareItemFromInput<'a> {
+    ghost from_gives = { λ v item. input_value item ≡ values.token (token_text v) };
+
+    fn from(v: TokenRef<'a>) -> BareItemFromInput<'a> {
+        GenericBareItem::Token(v)
+    }
+}
+
+impl<'a> From<&'a Token> for BareItemFromInput<'a> {
+    ghost from_gives = { λ v item. input_value item ≡ values.token v.now };
+
+    fn from(v: &'a Token) -> BareItemFromInput<'a> {
+        GenericBareItem::Token(v.as_token_ref())
+    }
+}
+
+impl<'a> From<Vec<u8>> for BareItemFromInput<'a> {
+    ghost from_gives = { λ v item. input_value item ≡ values.byte_sequence v.items };
+
+    fn from(v: Vec<u8>) -> BareItemFromInput<'a> {
+        GenericBareItem::ByteSequence(v)
+    }
+}
