@@ -1,2 +1,4 @@
 pub mod Trees
 pub mod Kinds
+pub mod Events
+pub mod Builders

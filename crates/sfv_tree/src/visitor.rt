@@ -1,9 +1,120 @@
-//! What a visitor of a structured field is told (RFC 9651, section 3).
+//! Visitors of fields, which are told each part of a field while it is read.
 
-ghost use Rattle.std.specs.Prelude.{◌≡◌, Some};
-ghost use Rattle.sfv_tree.specs.Kinds.{kind_text};
+ghost use Rattle.std.specs.Prelude.{◌≡◌, ⊤, Some, OnOk, IfOk, IfErr};
+ghost use Rattle.sfv_spec.specs.Events.{TreeEvent};
+ghost use Rattle.sfv_tree.specs.Kinds.{kind_text, fault_text};
+ghost use Rattle.sfv_tree.specs.Events.{event_of};
 
+mod item_builder;
+
+pub use item_builder::ItemBuilder;
+use sfv_text::bare::BareItemFromInput;
+use sfv_text::key_ref::KeyRef;
 use std::fmt;
+
+/// A part of a field, as it is read from left to right.
+///
+/// A list member is led by `Entry` and a dictionary member by `KeyedEntry`. An item is then `Item`, `BareItem`, a
+/// `Parameter` for each of its parameters, repeated keys too, and `ParametersEnd`; an inner list is `InnerList`, its
+/// items, `InnerListEnd`, a `Parameter` for each of its parameters, and `ParametersEnd`. An item that is the whole field
+/// begins with `BareItem`.
+#[derive(Drop)]
+pub enum Event<'de> {
+    /// A member of a list is wanted, and a byte stands there.
+    Entry,
+    /// A member of a dictionary has this key.
+    KeyedEntry(KeyRef<'de>),
+    /// An item begins.
+    Item,
+    /// An inner list begins.
+    InnerList,
+    /// The bare item of an item. A member of a dictionary without `=` has the bare item true.
+    BareItem(BareItemFromInput<'de>),
+    /// A parameter with its value, which is true where none is written.
+    Parameter(KeyRef<'de>, BareItemFromInput<'de>),
+    /// The parameters of an item or an inner list end.
+    ParametersEnd,
+    /// The items of an inner list end.
+    InnerListEnd,
+}
+
+/// Is told each part of a field while it is read, and answers at its end.
+///
+/// A visitor may refuse a part, or its answer, and that ends the reading. A contract gives a visitor by what it may do in
+/// each state, and sees an event as its value, whether a text in it is borrowed or owned.
+pub trait Visitor<'de>: Drop {
+    /// What it answers.
+    type Out: Drop;
+
+    /// Why it refuses.
+    type Error: Drop;
+
+    /// It may be told events: what it calls may be called.
+    ghost is_ready: { Self → Type 0 } = { λ _. ⊤ };
+
+    /// In this state it may take the event, and is then in that state.
+    ghost takes: { Self → TreeEvent → Self → Type 0 };
+
+    /// In this state it may refuse the event, for this reason.
+    ghost refuses: { Self → TreeEvent → Self.Error → Type 0 };
+
+    /// In this state it may give this answer.
+    ghost finishes: { Self → Self.Out → Type 0 };
+
+    /// In this state it may refuse to answer, for this reason.
+    ghost finish_refuses: { Self → Self.Error → Type 0 };
+
+    /// The reason is that memory was refused.
+    ghost is_memory: { Self.Error → Type 0 };
+
+    /// Takes an event, or refuses it.
+    fn event(&mut self, event: Event<'de>) -> Result<(), Self::Error>
+        requires { is_ready self.old }
+        ensures ready { OnOk result (is_ready self.new) }
+        ensures taken { OnOk result (takes self.old (event_of event.entry) self.new) }
+        ensures refused { IfErr result (λ error. refuses self.old (event_of event.entry) error) };
+
+    /// Answers behind the last event, or refuses to.
+    fn finish(self) -> Result<Self::Out, Self::Error>
+        requires { is_ready self }
+        ensures answered { IfOk result (λ out. finishes self out) }
+        ensures refused { IfErr result (λ error. finish_refuses self error) };
+}
+
+/// Why a visitor of an item refuses.
+#[derive(Clone, Copy, Debug, PartialEq, Eq)]
+pub enum ItemFault {
+    /// The item is of another kind than the one that is wanted.
+    WrongType {
+        /// The kind that is wanted.
+        expected: BareItemType,
+        /// The kind that stands there.
+        got: BareItemType,
+    },
+    /// There is no item.
+    NoItem,
+    /// A request for memory was refused.
+    OutOfMemory,
+}
+
+impl fmt::Display for ItemFault {
+    ghost output = { λ fault. Some (fault_text fault) };
+
+    fn fmt<W: fmt::Write>(&self, f: &mut fmt::Formatter<W>) -> fmt::Result {
+        match self {
+            ItemFault::WrongType { expected, got } => {
+                write!(
+                    f,
+                    "unexpected bare item type: expected {expected}, got {got}"
+                )
+            }
+            ItemFault::NoItem => f.write_str("no item"),
+            ItemFault::OutOfMemory => f.write_str("out of memory"),
+        }
+    }
+}
+
+impl std::error::Error for ItemFault {}
 
 /// The kind of a bare item (RFC 9651, section 3.3).
 #[derive(Clone, Copy, Debug, PartialEq, Eq)]
