@@ -4,7 +4,7 @@ pub mod Symbols
 pub mod Contents
 pub mod Coded
 pub mod Errors
-pub mod Collected
+pub mod Built
 pub mod Whole
 pub mod Parsed
 pub mod Decimals
@@ -12,3 +12,5 @@ pub mod Written
 pub mod Escapes
 pub mod Params
 pub mod Lent
+pub mod Told
+pub mod Visited

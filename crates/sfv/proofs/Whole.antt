@@ -18,10 +18,10 @@ use Rattle.sfv.specs.Fields.{told_whole}
 use Rattle.sfv.proofs.Errors.{fault_bind}
 
 -- an item and the spaces behind it
-spaced : Edition → Reader RawItem
+unfoldable pub spaced : Edition → Reader RawItem
 spaced edition = item_at edition >>= λ i. span is_space >>= λ _. give i
 
-field_is : (edition : Edition) (t s r : List ℕ) → span is_space t ≡ Ok (s, r) → read_field edition item_field t ≡ ending (events item_field) (spaced edition r)
+pub field_is : (edition : Edition) (t s r : List ℕ) → span is_space t ≡ Ok (s, r) → read_field edition item_field t ≡ ending (events item_field) (spaced edition r)
 unfolding read_field whole_field_at spaced
 field_is edition t s r e = ap (ending (events item_field)) (bind_again (span is_space) _ t r s e)
 

@@ -9,3 +9,4 @@ pub mod Parsers
 pub mod Quoted
 pub mod Written
 pub mod Serializers
+pub mod Visits

@@ -1,8 +1,13 @@
 -- What a parser reads, and what it answers with an error.
-use Rattle.std.specs.Prelude.{◌≡◌, ℕ, List, drop, Some, Err, ◌⊎◌}
-use Rattle.sfv_spec.specs.Values.{Edition, FieldKind}
+use Rattle.std.specs.Prelude.{◌≡◌, ⊤, ℕ, List, drop, Some, Err, ◌⊎◌}
+use Rattle.sfv_spec.specs.Values.{Edition, FieldKind, RawField}
+use Rattle.sfv_spec.specs.Grammar.{IsFieldText}
+use Rattle.sfv_spec.specs.Events.{TreeEvent, events}
+use Rattle.sfv_spec.specs.Visiting.{IsVisited, IsRefused, IsRefusedEarly}
 use Rattle.sfv_spec.specs.Faults.{SyntaxFault, IsRefusedAt}
 use Rattle.sfv_base.specs.declared.error.Error.{Error}
+use Rattle.sfv_base.specs.declared.error.ParseError.{ParseError}
+use Rattle.sfv_base.specs.declared.error.ParseError.TheVariants.{Syntax, Visitor}
 use Rattle.sfv_base.specs.Errors.{error_of, error_kind, out_of_memory}
 use Rattle.sfv_text.specs.BareItems.{edition_of}
 use Rattle.sfv_reading.specs.Reader.{Fault}
@@ -38,3 +43,19 @@ pub record IsFaultOfReader (edition : Edition) (kind : FieldKind) (t : List ℕ)
 -- memory was refused, or the fault is the reader's
 abbrev pub IsReaderFault : Edition → FieldKind → List ℕ → Error → Type 0
 IsReaderFault edition kind t e = (e ≡ out_of_memory) ⊎ IsFaultOfReader edition kind t e
+
+-- the text is accepted, and the answer is the visitor's behind all events of its tree
+abbrev pub IsAnswerOf : {S O : Type 0} → (S → TreeEvent → S → Type 0) → (S → O → Type 0) → Edition → FieldKind → List ℕ → S → O → Type 0
+IsAnswerOf takes finishes edition kind t from out = (raw : RawField kind) × IsFieldText edition kind raw t × IsVisited takes finishes from (events kind raw) out
+
+-- an error of the reading is what `parse` answers
+abbrev pub IsSyntaxOf : {E : Type 0} → Edition → FieldKind → List ℕ → ParseError E → Type 0
+IsSyntaxOf edition kind t (Syntax e) = IsParseError edition kind t e × IsReaderFault edition kind t e
+IsSyntaxOf edition kind t (Visitor fault) = ⊤
+
+-- A refusal of the visitor comes behind exactly the events before it; on a text that isn't accepted, behind those of some field.
+abbrev pub IsRefusalOf : {S E : Type 0} → (S → TreeEvent → S → Type 0) → (S → TreeEvent → E → Type 0) → (S → E → Type 0) → Edition → FieldKind → List ℕ → S → ParseError E → Type 0
+IsRefusalOf takes refuses finish_refuses edition kind t from (Syntax e) = ⊤
+IsRefusalOf takes refuses finish_refuses edition kind t from (Visitor fault) =
+    ((raw : RawField kind) → IsFieldText edition kind raw t → IsRefused takes refuses finish_refuses from (events kind raw) fault)
+    × IsRefusedEarly takes refuses finish_refuses kind from fault

@@ -6,10 +6,11 @@ ghost use Rattle.sfv_spec.specs.Statements.{IsParsedAs, IsWrittenAs};
 ghost use Rattle.sfv_tree.specs.Trees.{item_tree};
 ghost use Rattle.sfv.specs.Parsers.{input_of, parser_edition, IsParseError, IsReaderFault};
 
-use crate::parser::{Parser, parse_item_field};
+use crate::parser::Parser;
 use crate::ser::serialize_item;
-use sfv_base::error::{Error, OutOfMemory};
+use sfv_base::error::{Error, OutOfMemory, ParseError};
 use sfv_tree::parsed::Item;
+use sfv_tree::visitor::ItemBuilder;
 use std::alloc::Global;
 use std::string::String as StdString;
 
@@ -53,7 +54,12 @@ impl FieldType for Item {
     ghost is_text = { λ item text. IsWrittenAs item_field (item_tree item) (string_bytes text) };
 
     fn parse(alloc: Global, parser: Parser<'_>) -> Result<Item, Error> {
-        parse_item_field(alloc, parser.input(), parser.version())
+        match parser.parse_item_with_visitor(alloc, ItemBuilder::new(alloc)) {
+            Ok(item) => Ok(item),
+            Err(ParseError::Syntax(error)) => Err(error),
+            // The builder refuses for memory alone, since an item that was read is whole.
+            Err(ParseError::Visitor(_)) => Err(Error::from(OutOfMemory)),
+        }
     }
 
     fn serialize(&self, alloc: Global) -> Result<StdString, OutOfMemory> {

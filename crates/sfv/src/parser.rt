@@ -1,13 +1,14 @@
 //! Reading fields (RFC 9651, section 4.2).
 
 ghost use Rattle.std.specs.Prelude.{◌≡◌, IfOk, IfErr};
-ghost use Rattle.sfv_spec.specs.Values.{rfc9651};
+ghost use Rattle.sfv_spec.specs.Values.{rfc9651, item_field};
 ghost use Rattle.sfv_spec.specs.Statements.{IsParsedAs};
 ghost use Rattle.sfv_text.specs.BareItems.{edition_of};
 
 use crate::field_type::FieldType;
-use sfv_base::error::Error;
+use sfv_base::error::{Error, ParseError};
 use sfv_text::bare::Version;
+use sfv_tree::visitor::Visitor;
 use std::alloc::Global;
 
 mod bare_item;
@@ -23,7 +24,7 @@ mod string;
 mod symbols;
 mod text;
 
-pub(crate) use field::parse_item_field;
+use field::parse_item_field;
 
 /// Reads an input as a field, under one version of the standard.
 #[derive(Clone, Copy, Debug)]
@@ -33,7 +34,7 @@ pub struct Parser<'de> {
 }
 
 impl<'de> Parser<'de> {
-    ghost use Rattle.sfv.specs.Parsers.{input_of, parser_edition, IsParseError, IsReaderFault};
+    ghost use Rattle.sfv.specs.Parsers.{input_of, parser_edition, IsParseError, IsReaderFault, IsAnswerOf, IsSyntaxOf, IsRefusalOf};
 
     /// Reads this input, under RFC 9651.
     pub fn new(input: &'de [u8]) -> Parser<'de>
@@ -55,20 +56,6 @@ impl<'de> Parser<'de> {
         self
     }
 
-    /// The input.
-    pub(crate) fn input(&self) -> &'de [u8]
-        ensures { result.now ≡ input_of self.now }
-    {
-        self.input
-    }
-
-    /// The version that the input is read under.
-    pub(crate) fn version(&self) -> Version
-        ensures { edition_of result ≡ parser_edition self.now }
-    {
-        self.version
-    }
-
     /// Reads the input as a field of this type (RFC 9651, section 4.2), with memory from `alloc`.
     ///
     /// It succeeds exactly if the input is such a field, and answers its value: of a repeated key the
@@ -81,5 +68,25 @@ impl<'de> Parser<'de> {
         ensures fault { IfErr result (IsReaderFault (parser_edition self.entry) T.kind (input_of self.entry)) }
     {
         T::parse(alloc, self)
+    }
+
+    /// Reads the input as an item (RFC 9651, section 4.2), and tells the visitor its parts from left to right. Memory for
+    /// texts with escapes and for byte sequences is asked of `alloc`.
+    ///
+    /// On an item it answers what the visitor answers behind all parts: `BareItem`, a `Parameter` for each parameter,
+    /// repeated keys too, and `ParametersEnd`. A refusal of the visitor ends the reading and is the answer
+    /// (`ParseError::Visitor`). Else the error (`ParseError::Syntax`) is that of `parse`. The visitor is asked for its
+    /// answer before it is known whether anything stands behind the item, so its refusal wins.
+    pub fn parse_item_with_visitor<V: Visitor<'de>>(
+        self,
+        alloc: Global,
+        visitor: V,
+    ) -> Result<V::Out, ParseError<V::Error>>
+        requires { V.is_ready visitor }
+        ensures visited { IfOk result (IsAnswerOf V.takes V.finishes (parser_edition self.entry) item_field (input_of self.entry) visitor) }
+        ensures syntax { IfErr result (IsSyntaxOf (parser_edition self.entry) item_field (input_of self.entry)) }
+        ensures refused { IfErr result (IsRefusalOf V.takes V.refuses V.finish_refuses (parser_edition self.entry) item_field (input_of self.entry) visitor) }
+    {
+        parse_item_field(alloc, self.input, self.version, visitor)
     }
 }

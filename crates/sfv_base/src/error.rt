@@ -270,6 +270,17 @@ impl<E> ParseError<E> {
     }
 }
 
+impl<E> From<Error> for ParseError<E> {
+    ghost use Rattle.std.specs.Prelude.{◌≡◌};
+    ghost use Rattle.sfv_base.specs.declared.error.ParseError.TheVariants as parse_errors;
+
+    ghost from_gives = { λ e r. r ≡ parse_errors.Syntax e };
+
+    fn from(error: Error) -> ParseError<E> {
+        ParseError::Syntax(error)
+    }
+}
+
 impl<E: fmt::Display> fmt::Display for ParseError<E> {
     ghost use Rattle.sfv_base.specs.ParseErrors.{parse_output};
 

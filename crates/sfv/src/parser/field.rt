@@ -1,28 +1,37 @@
 //! Reading whole fields (RFC 9651, section 4.2).
 
-ghost use Rattle.std.specs.Prelude.{◌≡◌, IfOk, IfErr};
 ghost use Rattle.sfv_spec.specs.Values.{item_field};
 ghost use Rattle.sfv_text.specs.BareItems.{edition_of};
-ghost use Rattle.sfv_reading.specs.Fields.{read_field};
-ghost use Rattle.sfv.specs.Items.{IsOrderedItem};
-ghost use Rattle.sfv.specs.Fields.{Answers};
+ghost use Rattle.sfv.specs.Visits.{Visits};
 
 use crate::parser::cursor::Cursor;
-use sfv_base::error::{Error, ErrorKind};
+use sfv_base::error::{ErrorKind, ParseError};
 use sfv_text::bare::Version;
-use sfv_tree::parsed::Item;
+use sfv_tree::visitor::Visitor;
 use std::alloc::Global;
 
-/// Reads the input as an item.
-pub(crate) fn parse_item_field(alloc: Global, input: &[u8], version: Version) -> Result<Item, Error>
-    ensures { Answers IsOrderedItem input.now result (read_field (edition_of version) item_field input.now) }
+/// Reads the input as an item, and tells the visitor its parts. The visitor answers before it is known whether anything
+/// stands behind the item.
+pub(crate) fn parse_item_field<'de, V: Visitor<'de>>(
+    alloc: Global,
+    input: &'de [u8],
+    version: Version,
+    mut visitor: V,
+) -> Result<V::Out, ParseError<V::Error>>
+    requires { V.is_ready visitor }
+    ensures { Visits V.takes V.refuses V.finishes V.finish_refuses (edition_of version) item_field input.now visitor result }
 {
     let mut cursor = Cursor::new(input);
     cursor.spaces();
-    let item = cursor.item(alloc, version)?;
+    cursor.item(alloc, version, &mut visitor)?;
+    let out = match visitor.finish() {
+        Ok(out) => out,
+        Err(refusal) => return Err(ParseError::Visitor(refusal)),
+    };
     cursor.spaces();
     if cursor.peek().is_some() {
-        return Err(cursor.error(ErrorKind::TrailingCharactersAfterParsedValue));
+        let error = cursor.error(ErrorKind::TrailingCharactersAfterParsedValue);
+        return Err(ParseError::Syntax(error));
     }
-    Ok(item)
+    Ok(out)
 }

@@ -1,18 +1,17 @@
 //! Reading parameters and items (RFC 9651, sections 4.2.3 and 4.2.3.2).
 
-ghost use Rattle.std.specs.Prelude.{◌≡◌, option_map, bytes_eq, OnOk};
-ghost use Rattle.indexmap.specs.IndexMap.{insert_entry};
+ghost use Rattle.std.specs.Prelude.{option_map, OnOk};
+ghost use Rattle.sfv_spec.specs.Events.{parameters_events, item_events};
 ghost use Rattle.sfv_text.specs.BareItems.{input_value, edition_of};
-ghost use Rattle.sfv_text.specs.KeyText.{key_text};
-ghost use Rattle.sfv_tree.specs.Trees.{pairs_tree};
 ghost use Rattle.sfv_reading.specs.Items.{value_at, parameter_at, parameters_at, item_at};
-ghost use Rattle.sfv.specs.Cursor.{rest, Reads, Builds};
+ghost use Rattle.sfv.specs.Cursor.{rest, Reads};
+ghost use Rattle.sfv.specs.Visits.{Tells};
 
 use crate::parser::cursor::Cursor;
-use sfv_base::error::{Error, OutOfMemory};
+use sfv_base::error::{Error, ParseError};
 use sfv_text::bare::{BareItemFromInput, GenericBareItem, Version};
 use sfv_text::key_ref::KeyRef;
-use sfv_tree::parsed::{Item, Parameters};
+use sfv_tree::visitor::{Event, Visitor};
 use std::alloc::Global;
 
 /// A parameter with its key as it stands in the input.
@@ -23,7 +22,7 @@ pub(crate) struct ReadParameter<'de> {
 }
 
 impl<'de> Cursor<'de> {
-    ghost use Rattle.sfv.specs.Items.{read_pair, AreCollapsed, IsOrderedItem};
+    ghost use Rattle.sfv.specs.Items.{read_pair};
 
     /// Takes the value of a parameter behind its key: without `=` it is true.
     #[tactic(auto, using(crate::proofs::Steps::value_steps))]
@@ -59,38 +58,44 @@ impl<'de> Cursor<'de> {
         Ok(Some(ReadParameter { key, value }))
     }
 
-    /// Takes parameters. Of a repeated key the last value stands, at the place of the first.
-    fn parameters(&mut self, alloc: Global, version: Version) -> Result<Parameters, Error>
-        ensures { Builds AreCollapsed self.old.input self.new result (parameters_at (edition_of version) (rest self.old)) }
+    /// Takes parameters, and tells the visitor each of them and their end.
+    fn parameters<V: Visitor<'de>>(
+        &mut self,
+        alloc: Global,
+        version: Version,
+        visitor: &mut V,
+    ) -> Result<(), ParseError<V::Error>>
+        requires { V.is_ready visitor.old }
+        ensures ready { OnOk result (V.is_ready visitor.new) }
+        ensures told { Tells V.takes V.refuses parameters_events self.old.input self.new visitor.old visitor.new result (parameters_at (edition_of version) (rest self.old)) }
     {
-        let mut params = Parameters::new(alloc);
         while let Some(parameter) = self.parameter(alloc, version)? {
-            enter(alloc, &mut params, parameter)?;
+            let event = Event::Parameter(parameter.key, parameter.value);
+            if let Err(refusal) = visitor.event(event) {
+                return Err(ParseError::Visitor(refusal));
+            }
         }
-        Ok(params)
+        match visitor.event(Event::ParametersEnd) {
+            Ok(()) => Ok(()),
+            Err(refusal) => Err(ParseError::Visitor(refusal)),
+        }
     }
 
-    /// Takes an item.
-    pub(crate) fn item(&mut self, alloc: Global, version: Version) -> Result<Item, Error>
-        ensures { Builds IsOrderedItem self.old.input self.new result (item_at (edition_of version) (rest self.old)) }
+    /// Takes an item, and tells the visitor its parts.
+    pub(crate) fn item<V: Visitor<'de>>(
+        &mut self,
+        alloc: Global,
+        version: Version,
+        visitor: &mut V,
+    ) -> Result<(), ParseError<V::Error>>
+        requires { V.is_ready visitor.old }
+        ensures ready { OnOk result (V.is_ready visitor.new) }
+        ensures told { Tells V.takes V.refuses item_events self.old.input self.new visitor.old visitor.new result (item_at (edition_of version) (rest self.old)) }
     {
-        let bare_item = self.bare_item(alloc, version)?.try_into_owned(alloc)?;
-        let params = self.parameters(alloc, version)?;
-        Ok(Item::with_params(bare_item, params))
+        let bare_item = self.bare_item(alloc, version)?;
+        if let Err(refusal) = visitor.event(Event::BareItem(bare_item)) {
+            return Err(ParseError::Visitor(refusal));
+        }
+        self.parameters(alloc, version, visitor)
     }
-}
-
-/// Enters a parameter: a key that is there keeps its place and takes the value, a new key goes last.
-fn enter(
-    alloc: Global,
-    params: &mut Parameters,
-    parameter: ReadParameter<'_>,
-) -> Result<(), OutOfMemory>
-    ensures { OnOk result (pairs_tree params.new.entries
-        ≡ insert_entry bytes_eq (pairs_tree params.old.entries) (key_text parameter.entry.key) (input_value parameter.entry.value)) }
-{
-    let key = parameter.key.to_owned(alloc)?;
-    let value = parameter.value.try_into_owned(alloc)?;
-    params.insert(key, value)?;
-    Ok(())
 }

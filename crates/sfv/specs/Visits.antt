@@ -1,0 +1,33 @@
+-- What a reading that tells a visitor its events returns.
+use Rattle.std.specs.Prelude.{◌≡◌, ℕ, List, [], Result, Ok, Err, ◌⊎◌, MatchOption, ◌≤◌, length, drop}
+use Rattle.std.specs.Borrow.{Bor}
+use Rattle.sfv_spec.specs.Values.{Edition, FieldKind, RawField}
+use Rattle.sfv_spec.specs.Events.{TreeEvent, events}
+use Rattle.sfv_spec.specs.Visiting.{RunsTo, IsVisited}
+use Rattle.sfv_base.specs.declared.error.Error.{Error}
+use Rattle.sfv_base.specs.declared.error.ErrorKind.TheVariants.{OutOfMemory}
+use Rattle.sfv_base.specs.declared.error.ParseError.{ParseError}
+use Rattle.sfv_base.specs.declared.error.ParseError.TheVariants.{Syntax, Visitor}
+use Rattle.sfv_base.specs.Errors.{kind_of, index_of}
+use Rattle.sfv_reading.specs.Reader.{Answer}
+use Rattle.sfv_reading.specs.Fields.{whole_field_at, read_field}
+use Rattle.sfv_reading.specs.Visits.{Refused}
+use Rattle.sfv.specs.declared.parser.cursor.Cursor.{Cursor}
+use Rattle.sfv.specs.Cursor.{rest, IsErrorOf}
+use Rattle.sfv.specs.Fields.{told_whole}
+
+-- A value was read, and the visitor took its events; or the reader's fault is met, or memory refused; or
+-- the visitor refused one of the events that the reader hands out.
+abbrev pub Tells : {A S E : Type 0} → (S → TreeEvent → S → Type 0) → (S → TreeEvent → E → Type 0) → (A → List TreeEvent) → Bor (List ℕ) → Cursor → S → S → Result (Unit {0}) (ParseError E) → Answer A → Type 0
+Tells {A} takes refuses parts input after from to (Ok u) answer = (v : A) × (answer ≡ Ok (v, rest after)) × RunsTo takes from (parts v) to × (after.input ≡ input)
+Tells takes refuses parts input after from to (Err (Syntax e)) answer = IsErrorOf input.now e answer
+Tells takes refuses parts input after from to (Err (Visitor f)) answer = Refused takes refuses parts answer from f
+
+-- The same of a whole field, behind which the visitor gives its answer, or refuses to.
+abbrev pub Visits : {S O E : Type 0} → (S → TreeEvent → S → Type 0) → (S → TreeEvent → E → Type 0) → (S → O → Type 0) → (S → E → Type 0) → Edition → (kind : FieldKind) → List ℕ → S → Result O (ParseError E) → Type 0
+Visits takes refuses finishes finish_refuses edition kind t from (Ok out) = (raw : RawField kind) × (read_field edition kind t ≡ Ok raw) × IsVisited takes finishes from (events kind raw) out
+Visits takes refuses finishes finish_refuses edition kind t from (Err (Syntax e)) =
+    MatchOption (index_of e) (kind_of e ≡ OutOfMemory) (λ index. (told_whole (read_field edition kind t) ≡ Err (kind_of e, drop index t)) × (index ≤ length t))
+Visits {S} takes refuses finishes finish_refuses edition kind t from (Err (Visitor f)) =
+    Refused takes refuses (events kind) (whole_field_at edition kind t) from f
+    ⊎ ((raw : RawField kind) × (q : List ℕ) × (s : S) × (whole_field_at edition kind t ≡ Ok (raw, q)) × RunsTo takes from (events kind raw) s × finish_refuses s f)
