@@ -13,6 +13,7 @@ use Rattle.sfv_text.specs.BareItems.{edition_of}
 use Rattle.sfv_reading.specs.Reader.{Fault}
 use Rattle.sfv_reading.specs.Fields.{read_field}
 use Rattle.sfv.specs.declared.parser.Parser.{Parser}
+use Rattle.sfv.specs.Visits.{IsFinishedFirst}
 
 -- the input of a parser, and the edition of its version
 abbrev pub input_of : Parser → List ℕ
@@ -48,10 +49,10 @@ IsReaderFault edition kind t e = (e ≡ out_of_memory) ⊎ IsFaultOfReader editi
 abbrev pub IsAnswerOf : {S O : Type 0} → (S → TreeEvent → S → Type 0) → (S → O → Type 0) → Edition → FieldKind → List ℕ → S → O → Type 0
 IsAnswerOf takes finishes edition kind t from out = (raw : RawField kind) × IsFieldText edition kind raw t × IsVisited takes finishes from (events kind raw) out
 
--- an error of the reading is what `parse` answers
-abbrev pub IsSyntaxOf : {E : Type 0} → Edition → FieldKind → List ℕ → ParseError E → Type 0
-IsSyntaxOf edition kind t (Syntax e) = IsParseError edition kind t e × IsReaderFault edition kind t e
-IsSyntaxOf edition kind t (Visitor fault) = ⊤
+-- an error of the reading is what `parse` answers, and what stands behind an item is looked at behind the visitor's answer
+abbrev pub IsSyntaxOf : {S O E : Type 0} → (S → TreeEvent → S → Type 0) → (S → O → Type 0) → Edition → FieldKind → List ℕ → S → ParseError E → Type 0
+IsSyntaxOf takes finishes edition kind t from (Syntax e) = IsParseError edition kind t e × IsReaderFault edition kind t e × IsFinishedFirst takes finishes edition kind t from e
+IsSyntaxOf takes finishes edition kind t from (Visitor fault) = ⊤
 
 -- A refusal of the visitor comes behind exactly the events before it; on a text that isn't accepted, behind those of some field.
 abbrev pub IsRefusalOf : {S E : Type 0} → (S → TreeEvent → S → Type 0) → (S → TreeEvent → E → Type 0) → (S → E → Type 0) → Edition → FieldKind → List ℕ → S → ParseError E → Type 0

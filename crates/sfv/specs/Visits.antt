@@ -1,5 +1,5 @@
 -- What a reading that tells a visitor its events returns.
-use Rattle.std.specs.Prelude.{◌≡◌, ℕ, List, [], Result, Ok, Err, ◌⊎◌, MatchOption, ◌≤◌, length, drop}
+use Rattle.std.specs.Prelude.{◌≡◌, ⊤, ℕ, List, [], Result, Ok, Err, ◌⊎◌, MatchOption, ◌≤◌, length, drop}
 use Rattle.std.specs.Borrow.{Bor}
 use Rattle.sfv_spec.specs.Values.{Edition, FieldKind, RawField}
 use Rattle.sfv_spec.specs.Events.{TreeEvent, events}
@@ -23,11 +23,17 @@ Tells {A} takes refuses parts input after from to (Ok u) answer = (v : A) × (an
 Tells takes refuses parts input after from to (Err (Syntax e)) answer = IsErrorOf input.now e answer
 Tells takes refuses parts input after from to (Err (Visitor f)) answer = Refused takes refuses parts answer from f
 
+-- Where a field of this type stands at the beginning, an error with an index is answered only behind the visitor's answer.
+abbrev pub IsFinishedFirst : {S O : Type 0} → (S → TreeEvent → S → Type 0) → (S → O → Type 0) → Edition → FieldKind → List ℕ → S → Error → Type 0
+IsFinishedFirst {S} {O} takes finishes edition kind t from e =
+    (raw : RawField kind) (q : List ℕ) → whole_field_at edition kind t ≡ Ok (raw, q) → MatchOption (index_of e) ⊤ (λ index. (s : S) × (out : O) × RunsTo takes from (events kind raw) s × finishes s out)
+
 -- The same of a whole field, behind which the visitor gives its answer, or refuses to.
 abbrev pub Visits : {S O E : Type 0} → (S → TreeEvent → S → Type 0) → (S → TreeEvent → E → Type 0) → (S → O → Type 0) → (S → E → Type 0) → Edition → (kind : FieldKind) → List ℕ → S → Result O (ParseError E) → Type 0
 Visits takes refuses finishes finish_refuses edition kind t from (Ok out) = (raw : RawField kind) × (read_field edition kind t ≡ Ok raw) × IsVisited takes finishes from (events kind raw) out
 Visits takes refuses finishes finish_refuses edition kind t from (Err (Syntax e)) =
     MatchOption (index_of e) (kind_of e ≡ OutOfMemory) (λ index. (told_whole (read_field edition kind t) ≡ Err (kind_of e, drop index t)) × (index ≤ length t))
+    × IsFinishedFirst takes finishes edition kind t from e
 Visits {S} takes refuses finishes finish_refuses edition kind t from (Err (Visitor f)) =
     Refused takes refuses (events kind) (whole_field_at edition kind t) from f
     ⊎ ((raw : RawField kind) × (q : List ℕ) × (s : S) × (whole_field_at edition kind t ≡ Ok (raw, q)) × RunsTo takes from (events kind raw) s × finish_refuses s f)

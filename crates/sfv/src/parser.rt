@@ -84,7 +84,7 @@ impl<'de> Parser<'de> {
     ) -> Result<V::Out, ParseError<V::Error>>
         requires { V.is_ready visitor }
         ensures visited { IfOk result (IsAnswerOf V.takes V.finishes (parser_edition self.entry) item_field (input_of self.entry) visitor) }
-        ensures syntax { IfErr result (IsSyntaxOf (parser_edition self.entry) item_field (input_of self.entry)) }
+        ensures syntax { IfErr result (IsSyntaxOf V.takes V.finishes (parser_edition self.entry) item_field (input_of self.entry) visitor) }
         ensures refused { IfErr result (IsRefusalOf V.takes V.refuses V.finish_refuses (parser_edition self.entry) item_field (input_of self.entry) visitor) }
     {
         parse_item_field(alloc, self.input, self.version, visitor)
