@@ -1,5 +1,5 @@
 -- A copy of a bare item that owns its text has the same value.
-use Rattle.std.proofs.Common.{◌≡◌, ℕ, List, refl, ap, ◌∙◌}
+use Rattle.std.proofs.Common.{◌≡◌, ℕ, List, ap, ◌∙◌}
 use Rattle.std.specs.Prelude.{string_bytes}
 use Rattle.std.specs.List.{AllZip, each_same}
 use Rattle.std.specs.declared.alloc.Global.{Global}

@@ -1,9 +1,8 @@
 -- Parameters whose keys and values are copied one by one keep their value.
 use Rattle.std.proofs.Common.{◌≡◌, ℕ, List, [], ◌∷◌, refl}
 use Rattle.std.specs.List.{AllZip}
-use Rattle.std.specs.Prelude.{map}
 use Rattle.sfv_text.specs.BareItems.{bare_value}
-use Rattle.sfv_tree.specs.Trees.{OwnedBareItem, pair_tree, pairs_tree}
+use Rattle.sfv_tree.specs.Trees.{OwnedBareItem, pairs_tree}
 
 pub pairs_cloned :
     (C : List ℕ → List ℕ → Type 0) (D : OwnedBareItem → OwnedBareItem → Type 0)

@@ -2,4 +2,6 @@
 #![tactic(auto)]
 
 pub mod parsed;
+#[cfg(test)]
+mod tests;
 pub mod visitor;

@@ -1,4 +1,3 @@
-use Rattle.std.proofs.Common.{◌≡◌, ℕ, List}
 use Rattle.sfv_text.proofs.Copies.{copied_value}
 use Rattle.sfv_tree.proofs.Clones.{pairs_cloned}
 use Rattle.sfv_tree.proofs.parsed.copy_params.Goals as goal
