@@ -112,10 +112,11 @@ finished_first {S} {O} takes finishes edition t s r q item from to out e skipped
 -- an error within the item: a fault, or a refusal
 pub item_fails : {S O E : Type 0} (takes : S → TreeEvent → S → Type 0) (refuses : S → TreeEvent → E → Type 0) (finishes : S → O → Type 0) (finish_refuses : S → E → Type 0) (edition : Edition) (t s r : List ℕ) (from to : S) (i j : Bor (List ℕ)) (after : Cursor) (error : ParseError E) → i ≡ j → j.now ≡ t → span is_space t ≡ Ok (s, r)
     → Tells takes refuses item_events i after from to (Err error) (item_at edition r) → Visits takes refuses finishes finish_refuses edition item_field t from (Err error)
-item_fails takes refuses finishes finish_refuses edition t s r from to i j after (Syntax e) same text skipped h =
-    (subst (λ (u : List ℕ). MatchOption (index_of e) (kind_of e ≡ OutOfMemory) (λ index. (told_whole (read_field edition item_field u) ≡ Err (kind_of e, drop index u)) × (index ≤ length u))) text
-    (field_error edition j.now s r i j e same (rw text skipped) h),
-    λ raw q whole. no_item takes finishes edition t s r q from i.now e raw skipped h whole)
+item_fails takes refuses finishes finish_refuses edition t s r from to i j after (Syntax e) same text skipped h = (
+  subst (λ (u : List ℕ). MatchOption (index_of e) (kind_of e ≡ OutOfMemory) (λ index. (told_whole (read_field edition item_field u) ≡ Err (kind_of e, drop index u)) × (index ≤ length u))) text
+      (field_error edition j.now s r i j e same (rw text skipped) h),
+  λ raw q whole. no_item takes finishes edition t s r q from i.now e raw skipped h whole,
+)
 item_fails takes refuses finishes finish_refuses edition t s r from to i j after (Visitor f) same text skipped h = inl (whole_refused takes refuses edition t s r from f skipped h)
 
 -- the visitor refused to answer behind the item

@@ -10,6 +10,8 @@ mod replay;
 #[cfg(test)]
 mod rows;
 #[cfg(test)]
+mod visitors;
+#[cfg(test)]
 mod written;
 
 use crate::replay::{answer_of, parse_line};

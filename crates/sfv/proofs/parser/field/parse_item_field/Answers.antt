@@ -23,10 +23,9 @@ returns-in-Err g c =
 pub returns-then-is_some : goal.returns-then-is_some
 returns-then-is_some g c =
     let skipped : span is_space c.args.input.now ≡ Ok (c.spaces.ensures.spaces.0, rest c.spaces.new.self) = rw (← c.new-cursor.ensures.rest) c.spaces.ensures.spaces.1 in
-    let read = c.in_ok-item.ensures.told in
-    (
+    let read = c.in_ok-item.ensures.told in (
       rw c.error-error.ensures
-      (field_trailing_error _ _ _ _ _ _ c.spaces-2.new.self c.args.input _ (c.spaces-2.ensures.input ∙ read.3 ∙ c.spaces.ensures.input ∙ c.new-cursor.ensures.input) skipped read.1 c.spaces-2.ensures.spaces.1 (rw (← c.peek.ensures) (sym c.is_some.ensures ∙ c.if-is_some.true))),
+          (field_trailing_error _ _ _ _ _ _ c.spaces-2.new.self c.args.input _ (c.spaces-2.ensures.input ∙ read.3 ∙ c.spaces.ensures.input ∙ c.new-cursor.ensures.input) skipped read.1 c.spaces-2.ensures.spaces.1 (rw (← c.peek.ensures) (sym c.is_some.ensures ∙ c.if-is_some.true))),
       finished_first g.V.Visitor.takes g.V.Visitor.finishes _ _ _ _ _ _ _ c.item.new.visitor c.in-Ok.out c.error-error.result skipped read.1 read.2 c.in-Ok.ensures.answered,
     )
 

@@ -1,0 +1,262 @@
+//! Visitors of items: what they are told, and what a refusal does.
+
+use linked_list_allocator::LocalHeap;
+use sfv::visitor::{BareItemType, Event, ItemBuilder, ItemFault, Visitor};
+use sfv::{Error, ErrorKind, GenericBareItem, ParseError, Parser, Version, integer};
+use std::alloc::{AllocError, Allocator};
+use std::test::Fail;
+
+/// Counts its events, and refuses one of them, or to answer.
+#[derive(Drop)]
+struct Counter {
+    events: u64,
+    /// The event that it refuses, from 1; 0 for none.
+    refused: u64,
+    /// Whether it refuses to answer.
+    refuses_to_finish: bool,
+}
+
+impl Counter {
+    fn refusing(refused: u64) -> Counter {
+        Counter {
+            events: 0,
+            refused,
+            refuses_to_finish: false,
+        }
+    }
+}
+
+impl<'de> Visitor<'de> for Counter {
+    ghost use Rattle.std.specs.Prelude.{⊤};
+
+    type Out = u64;
+
+    type Error = u64;
+
+    ghost takes = { λ _ _ _. ⊤ };
+
+    ghost refuses = { λ _ _ _. ⊤ };
+
+    ghost finishes = { λ _ _. ⊤ };
+
+    ghost finish_refuses = { λ _ _. ⊤ };
+
+    ghost is_memory = { λ _. ⊥ };
+
+    fn event(&mut self, _event: Event<'de>) -> Result<(), u64> {
+        self.events = self.events.saturating_add(1);
+        if self.events == self.refused {
+            return Err(self.events);
+        }
+        Ok(())
+    }
+
+    fn finish(self) -> Result<u64, u64> {
+        if self.refuses_to_finish {
+            return Err(0);
+        }
+        Ok(self.events)
+    }
+}
+
+/// Writes each of its events into a text; refused memory is its fault.
+#[derive(Drop)]
+struct Teller<A: Allocator> {
+    text: String<A>,
+}
+
+impl<'de, A: Allocator> Visitor<'de> for Teller<A> {
+    ghost use Rattle.std.specs.Prelude.{⊤};
+
+    type Out = String<A>;
+
+    type Error = AllocError;
+
+    ghost takes = { λ _ _ _. ⊤ };
+
+    ghost refuses = { λ _ _ _. ⊤ };
+
+    ghost finishes = { λ _ _. ⊤ };
+
+    ghost finish_refuses = { λ _ _. ⊤ };
+
+    ghost is_memory = { λ _. ⊤ };
+
+    fn event(&mut self, event: Event<'de>) -> Result<(), AllocError> {
+        match event {
+            Event::BareItem(item) => {
+                self.text.push_str("bare ")?;
+                self.text.push_str(kind(item.as_integer().is_some()))
+            }
+            Event::Parameter(key, value) => {
+                self.text.push_str(", ")?;
+                self.text.push_str(key.as_str())?;
+                self.text.push('=')?;
+                self.text.push_str(kind(value.as_integer().is_some()))
+            }
+            Event::ParametersEnd => self.text.push_str(", end"),
+            _ => self.text.push_str("?"),
+        }
+    }
+
+    fn finish(self) -> Result<String<A>, AllocError> {
+        Ok(self.text)
+    }
+}
+
+fn kind(is_integer: bool) -> &'static str {
+    if is_integer { "integer" } else { "other" }
+}
+
+#[test]
+fn refusals_are_answers(rt: HostRuntime) {
+    for refused in 1..4u64 {
+        let parser = Parser::new(b"1;a=2 x");
+        let answer = parser.parse_item_with_visitor(rt.alloc(), Counter::refusing(refused));
+        assert!(rt; matches!(answer, Err(ParseError::Visitor(n)) if n == refused));
+    }
+    let mut counter = Counter::refusing(0);
+    counter.refuses_to_finish = true;
+    let answer = Parser::new(b"1;a=2 x").parse_item_with_visitor(rt.alloc(), counter);
+    assert!(rt; matches!(answer, Err(ParseError::Visitor(0))));
+    let answer = Parser::new(b"1;a=2 x").parse_item_with_visitor(rt.alloc(), Counter::refusing(0));
+    let Err(ParseError::Syntax(error)) = answer else {
+        assert!(rt; false);
+        return;
+    };
+    assert_eq!(rt; error.kind(), ErrorKind::TrailingCharactersAfterParsedValue);
+    assert_eq!(rt; error.index(), Some(6));
+}
+
+#[test]
+fn events_are_counted(rt: HostRuntime) {
+    let rows: [(&[u8], u64); 4] = [
+        (b"1", 2),
+        (b"  a;b ", 3),
+        (b"1;a=2", 3),
+        (b"1;a;a=2;b;a", 6),
+    ];
+    for (input, events) in rows {
+        let answer = Parser::new(input).parse_item_with_visitor(rt.alloc(), Counter::refusing(0));
+        assert!(rt; matches!(answer, Ok(n) if n == events));
+    }
+}
+
+#[test]
+fn faults_come_behind_their_events(rt: HostRuntime) {
+    // The bare item is told before the parameter that is no key.
+    let answer = Parser::new(b"abc;0").parse_item_with_visitor(rt.alloc(), Counter::refusing(0));
+    let Err(ParseError::Syntax(error)) = answer else {
+        assert!(rt; false);
+        return;
+    };
+    assert_eq!(rt;
+        error,
+        Error::with_kind(ErrorKind::ExpectedStartOfKey, Some(4))
+    );
+    let answer = Parser::new(b"abc;0").parse_item_with_visitor(rt.alloc(), Counter::refusing(1));
+    assert!(rt; matches!(answer, Err(ParseError::Visitor(1))));
+    let parser = Parser::new(b"@5").with_version(Version::Rfc8941);
+    let answer = parser.parse_item_with_visitor(rt.alloc(), Counter::refusing(1));
+    assert!(rt; matches!(answer, Err(ParseError::Syntax(_))));
+}
+
+#[test]
+fn events_stand_in_their_order(rt: HostRuntime) -> Result<(), Fail> {
+    let teller = Teller {
+        text: String::new(rt.alloc()),
+    };
+    let parser = Parser::new(b"1;a;b=2;a=3");
+    let Ok(text) = parser.parse_item_with_visitor(rt.alloc(), teller) else {
+        return Err(Fail::from("refused"));
+    };
+    assert_eq!(rt;
+        text.as_str(),
+        "bare integer, a=other, b=integer, a=integer, end"
+    );
+    Ok(())
+}
+
+#[test]
+fn want_of_memory_is_the_visitors_answer(rt: HostRuntime) -> Result<(), Fail> {
+    let (mut refusals, mut answers) = (0, 0);
+    for size in 16..256usize {
+        let heap = LocalHeap::new(rt.alloc(), size)?;
+        let teller = Teller {
+            text: String::new(&heap),
+        };
+        match Parser::new(b"1;a;b=2").parse_item_with_visitor(rt.alloc(), teller) {
+            Ok(text) => {
+                assert_eq!(rt; text.as_str(), "bare integer, a=other, b=integer, end");
+                answers += 1;
+            }
+            Err(ParseError::Visitor(AllocError)) => refusals += 1,
+            Err(ParseError::Syntax(_)) => return Err(Fail::from("a fault")),
+        }
+    }
+    assert!(rt; refusals > 0 && answers > 0);
+    Ok(())
+}
+
+#[test]
+fn items_are_built(rt: HostRuntime) -> Result<(), Fail> {
+    let builder = ItemBuilder::new(rt.alloc());
+    let answer = Parser::new(b"1;a;b=2;a=3").parse_item_with_visitor(rt.alloc(), builder);
+    let Ok(item) = answer else {
+        return Err(Fail::from("refused"));
+    };
+    assert_eq!(rt; item.bare_item.as_integer(), Some(integer(1)));
+    assert_eq!(rt; item.params.len(), 2);
+    Ok(())
+}
+
+#[test]
+fn out_of_place_events_change_nothing(rt: HostRuntime) -> Result<(), Fail> {
+    let mut builder = ItemBuilder::new(rt.alloc());
+    assert!(rt; builder.event(Event::ParametersEnd).is_ok());
+    assert!(rt; builder.event(Event::Entry).is_ok());
+    assert!(rt;
+        builder
+            .event(Event::BareItem(GenericBareItem::Boolean(true)))
+            .is_ok()
+    );
+    assert!(rt;
+        builder
+            .event(Event::BareItem(GenericBareItem::Boolean(false)))
+            .is_ok()
+    );
+    assert!(rt; builder.event(Event::InnerListEnd).is_ok());
+    assert!(rt; builder.event(Event::ParametersEnd).is_ok());
+    assert!(rt;
+        builder
+            .event(Event::BareItem(GenericBareItem::Boolean(false)))
+            .is_ok()
+    );
+    let Ok(item) = builder.finish() else {
+        return Err(Fail::from("refused"));
+    };
+    assert_eq!(rt; item.bare_item.as_boolean(), Some(true));
+    let answer = ItemBuilder::new(rt.alloc()).finish();
+    assert!(rt; matches!(answer, Err(ItemFault::NoItem)));
+    Ok(())
+}
+
+#[test]
+fn faults_of_items_print(rt: HostRuntime) -> Result<(), Fail> {
+    let fault = ItemFault::WrongType {
+        expected: BareItemType::Integer,
+        got: BareItemType::Token,
+    };
+    let cases = [
+        (
+            fault,
+            "unexpected bare item type: expected integer, got token",
+        ),
+        (ItemFault::NoItem, "no item"),
+        (ItemFault::OutOfMemory, "out of memory"),
+    ];
+    for (fault, text) in cases {
+        assert_eq!(rt; fault.to_string(rt.alloc())?.as_str(), text);
+    }
+    Ok(())
+}
