@@ -24,7 +24,12 @@ use std::string::String as StdString;
 /// A bare item over the types of its texts (RFC 9651, section 3.3).
 ///
 /// `BareItem` owns its text, `RefBareItem` borrows it, and `BareItemFromInput` borrows what of it
-/// stands in the input.
+/// stands in the input. Each is compared by its value, and a copy has the same value; what is borrowed stays
+/// borrowed.
+///
+/// `From` gives the bare item of its kind, and `From` a number the integer of the same number. `TryFrom` a
+/// number fails with `ErrorKind::OutOfRange` and no index, exactly if an integer (section 3.3.1) doesn't hold
+/// it.
 #[derive(Copy, Debug, PartialEq, Eq, Drop)]
 pub enum GenericBareItem<S, B, T, D> {
     /// A decimal (section 3.3.2).
@@ -59,7 +64,9 @@ pub type BareItemFromInput<'a> = GenericBareItem<
     CowStr<'a>,
 >;
 
-/// A string that was read: borrowed from the input exactly if it has no escape there.
+/// A string that was read (RFC 9651, section 3.3.3): borrowed from the input exactly if it has no escape there.
+///
+/// It is compared by its text. A copy has the same text, and what is borrowed stays borrowed.
 #[derive(Debug, Drop)]
 pub enum StringFromInput<'a> {
     /// The string stands in the input as it is.
@@ -68,7 +75,6 @@ pub enum StringFromInput<'a> {
     Owned(String),
 }
 
-// What is borrowed stays borrowed.
 impl<S: Clone, B: Clone, T: Clone, D: Clone> Clone for GenericBareItem<S, B, T, D> {
     ghost is_clone = { IsCopyBy S.is_clone B.is_clone T.is_clone D.is_clone };
 

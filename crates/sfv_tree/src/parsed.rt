@@ -12,6 +12,9 @@ use std::alloc::{AllocError, Global};
 pub type Parameters = IndexMap<Key, BareItem>;
 
 /// An item (RFC 9651, section 3.3): a bare item with its parameters.
+///
+/// Two items are equal if their values are and each key has the same value in both, in whatever order. A copy
+/// has the same value and the same parameters in their order.
 #[derive(Debug, PartialEq, Drop)]
 pub struct Item {
     /// The item's value.

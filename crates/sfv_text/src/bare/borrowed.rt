@@ -46,7 +46,7 @@ impl<'a> RefBareItem<'a> {
         }
     }
 
-    /// The same value, lent.
+    /// The same value (RFC 9651, section 3.3), lent.
     pub fn as_ref_item(&self) -> RefBareItem<'a>
         ensures { ref_value result ≡ ref_value self.now }
     {
@@ -62,7 +62,11 @@ impl<'a> RefBareItem<'a> {
         }
     }
 
-    /// The same value with texts of its own; refused where memory is.
+    /// The same value (RFC 9651, section 3.3) with texts of its own.
+    ///
+    /// # Errors
+    ///
+    /// `OutOfMemory` if a request for memory is refused.
     pub fn try_to_owned(&self, alloc: Global) -> Result<BareItem, OutOfMemory>
         ensures { IfOk result (λ item. bare_value item ≡ ref_value self.now) }
     {

@@ -18,7 +18,7 @@ use sfv_base::error::OutOfMemory;
 use std::alloc::{AllocError, Global};
 
 impl<'a> StringFromInput<'a> {
-    /// The string, lent.
+    /// The string (RFC 9651, section 3.3.3), lent.
     pub fn as_string_ref(&self) -> StringRef<'_>
         ensures { string_text result ≡ read_text self.now }
     {
@@ -28,7 +28,11 @@ impl<'a> StringFromInput<'a> {
         }
     }
 
-    /// The string with a text of its own; refused where memory is.
+    /// The string (RFC 9651, section 3.3.3) with a text of its own.
+    ///
+    /// # Errors
+    ///
+    /// `OutOfMemory` if a request for memory is refused.
     pub fn try_into_owned(self, alloc: Global) -> Result<String, OutOfMemory>
         ensures { IfOk result (λ text. text ≡ read_text self.entry) }
     {
@@ -53,7 +57,6 @@ impl<'a> Eq for StringFromInput<'a> {
     ghost laws = { on_equiv read_text nat_list_eq_equiv };
 }
 
-// What is borrowed stays borrowed.
 impl<'a> Clone for StringFromInput<'a> {
     ghost is_clone = { λ text copy. copy ≡ text };
 
@@ -96,7 +99,7 @@ impl<'a> BareItemFromInput<'a> {
         }
     }
 
-    /// The same value, lent.
+    /// The same value (RFC 9651, section 3.3), lent.
     pub fn as_ref_item(&self) -> RefBareItem<'_>
         ensures { ref_value result ≡ input_value self.now }
     {
@@ -112,7 +115,11 @@ impl<'a> BareItemFromInput<'a> {
         }
     }
 
-    /// The same value with texts of its own; refused where memory is.
+    /// The same value (RFC 9651, section 3.3) with texts of its own.
+    ///
+    /// # Errors
+    ///
+    /// `OutOfMemory` if a request for memory is refused.
     pub fn try_into_owned(self, alloc: Global) -> Result<BareItem, OutOfMemory>
         ensures { IfOk result (λ item. bare_value item ≡ input_value self.entry) }
     {

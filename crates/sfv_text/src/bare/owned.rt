@@ -43,7 +43,7 @@ impl BareItem {
         }
     }
 
-    /// The same value, lent.
+    /// The same value (RFC 9651, section 3.3), lent.
     pub fn as_ref_item(&self) -> RefBareItem<'_>
         ensures { ref_value result ≡ bare_value self.now }
     {
