@@ -1,12 +1,19 @@
 //! Callers of the library in another crate: what their contracts promise follows from its contracts alone.
 
-ghost use Rattle.std.specs.Prelude.{◌≡◌, ◌++◌, ◌∷◌, [], ◌⊎◌, OnOk, OnErr, string_bytes};
+ghost use Rattle.std.specs.Prelude.{◌≡◌, ◌++◌, ◌∷◌, ◌↔◌, [], ◌⊎◌, OnOk, OnErr, IfOk, IsTrue, string_bytes};
+ghost use Rattle.std.specs.Cmp.Lexicographic.{slice_cmp};
+ghost use Rattle.std.specs.Ordering.{nat_cmp};
 ghost use Rattle.sfv_spec.specs.Canonical.{bare_text, item_text};
-ghost use Rattle.sfv_text.specs.BareItems.{ref_value};
+ghost use Rattle.sfv_text.specs.BareItems.{bare_value, ref_value, input_value, read_text};
 ghost use Rattle.sfv_text.specs.KeyText.{key_text};
 ghost use Rattle.sfv_tree.specs.Trees.{item_tree};
 
-use sfv::{Item, ItemSerializer, KeyRef, OutOfMemory, RefBareItem};
+use sfv::{
+    BareItem, BareItemFromInput, Date, Decimal, Integer, Item, ItemSerializer, KeyRef, OutOfMemory,
+    RefBareItem, StringFromInput,
+};
+use std::alloc::AllocError;
+use std::cmp::Ordering;
 
 /// Writes an item of one parameter behind what stands in the text. Where memory is refused, the text holds what was
 /// written before the call that was refused.
@@ -34,4 +41,95 @@ pub fn write_parts(text: &mut String, item: &Item) -> Result<(), OutOfMemory>
     let params = ItemSerializer::with_buffer(text).bare_item(&value)?;
     params.parameters(item.params.iter())?.finish();
     Ok(())
+}
+
+/// A copy has the same value.
+pub fn copy_of(item: &BareItem) -> Result<BareItem, AllocError>
+    ensures { IfOk result (λ copy. bare_value copy ≡ bare_value item.now) }
+{
+    item.clone()
+}
+
+/// A copy of an item that was read has the same value.
+pub fn copy_of_read<'a>(item: &BareItemFromInput<'a>) -> Result<BareItemFromInput<'a>, AllocError>
+    ensures { IfOk result (λ copy. input_value copy ≡ input_value item.now) }
+{
+    item.clone()
+}
+
+/// What is borrowed stays borrowed.
+pub fn copy_of_string<'a>(text: &StringFromInput<'a>) -> Result<StringFromInput<'a>, AllocError>
+    ensures { IfOk result (λ copy. copy ≡ text.now) }
+{
+    text.clone()
+}
+
+/// A copy of an item has the same value.
+pub fn copy_of_item(item: &Item) -> Result<Item, AllocError>
+    ensures { IfOk result (λ copy. item_tree copy ≡ item_tree item.now) }
+{
+    item.clone()
+}
+
+/// Bare items compare by value.
+pub fn same(a: &BareItem, b: &BareItem) -> bool
+    ensures { IsTrue result ↔ (bare_value a.now ≡ bare_value b.now) }
+{
+    *a == *b
+}
+
+/// Borrowed bare items compare by value.
+pub fn same_borrowed(a: &RefBareItem<'_>, b: &RefBareItem<'_>) -> bool
+    ensures { IsTrue result ↔ (ref_value a.now ≡ ref_value b.now) }
+{
+    *a == *b
+}
+
+/// Bare items that were read compare by value, whether a text in them is borrowed or owned.
+pub fn same_read(a: &BareItemFromInput<'_>, b: &BareItemFromInput<'_>) -> bool
+    ensures { IsTrue result ↔ (input_value a.now ≡ input_value b.now) }
+{
+    *a == *b
+}
+
+/// Strings that were read compare by their text.
+pub fn same_string(a: &StringFromInput<'_>, b: &StringFromInput<'_>) -> bool
+    ensures { IsTrue result ↔ (read_text a.now ≡ read_text b.now) }
+{
+    *a == *b
+}
+
+/// Borrowed keys compare by their bytes.
+pub fn same_key(a: KeyRef<'_>, b: KeyRef<'_>) -> bool
+    ensures { IsTrue result ↔ (key_text a.entry ≡ key_text b.entry) }
+{
+    a == b
+}
+
+/// Borrowed keys are ordered by their bytes.
+pub fn order_of_keys(a: KeyRef<'_>, b: KeyRef<'_>) -> Ordering
+    ensures { result ≡ slice_cmp nat_cmp (key_text a.entry) (key_text b.entry) }
+{
+    a.cmp(&b)
+}
+
+/// Numbers compare by their value.
+pub fn same_number(a: Integer, b: Integer) -> bool
+    ensures { IsTrue result ↔ (a ≡ b) }
+{
+    a == b
+}
+
+/// Decimals compare by their thousandths.
+pub fn same_decimal(a: Decimal, b: Decimal) -> bool
+    ensures { IsTrue result ↔ (a ≡ b) }
+{
+    a == b
+}
+
+/// Dates compare by their seconds.
+pub fn same_date(a: Date, b: Date) -> bool
+    ensures { IsTrue result ↔ (a ≡ b) }
+{
+    a == b
 }

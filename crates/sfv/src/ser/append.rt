@@ -137,46 +137,48 @@ mod tests {
 
     #[test]
     fn bare_items_are_written_or_refused(rt: HostRuntime) -> Result<(), Fail> {
-        for (value, behind) in values() {
-            let (mut refusals, mut writes) = (0, 0);
+        let values = values();
+        for (value, behind) in values[..].iter() {
+            let (mut was_refused, mut was_written) = (false, false);
             for size in SIZES {
                 let heap = LocalHeap::new(rt.alloc(), size)?;
                 let Ok(mut text) = StdString::from_str(&heap, "X: ") else {
                     continue;
                 };
-                let answer = append_bare_item(&value, &mut text);
+                let answer = append_bare_item(value, &mut text);
                 if refused(&rt, answer, text.as_str(), behind) {
-                    refusals += 1;
+                    was_refused = true;
                 } else {
-                    writes += 1;
+                    was_written = true;
                 }
             }
-            assert!(rt; refusals > 0 && writes > 0, "{behind}");
+            assert!(rt; was_refused && was_written, "{behind}");
         }
         Ok(())
     }
 
     #[test]
     fn parameters_are_written_or_refused_one_by_one(rt: HostRuntime) -> Result<(), Fail> {
-        for (value, text_of_value) in values() {
-            let behind = match &value {
+        let values = values();
+        for (value, text_of_value) in values[..].iter() {
+            let behind = match value {
                 GenericBareItem::Boolean(true) => StdString::from_str(rt.alloc(), ";a-key")?,
                 _ => format!(in rt.alloc(); ";a-key={text_of_value}")?,
             };
-            let (mut refusals, mut writes) = (0, 0);
+            let (mut was_refused, mut was_written) = (false, false);
             for size in SIZES {
                 let heap = LocalHeap::new(rt.alloc(), size)?;
                 let Ok(mut text) = StdString::from_str(&heap, "X: ") else {
                     continue;
                 };
-                let answer = append_parameter(key_ref("a-key"), &value, &mut text);
+                let answer = append_parameter(key_ref("a-key"), value, &mut text);
                 if refused(&rt, answer, text.as_str(), behind.as_str()) {
-                    refusals += 1;
+                    was_refused = true;
                 } else {
-                    writes += 1;
+                    was_written = true;
                 }
             }
-            assert!(rt; refusals > 0 && writes > 0, "{behind}");
+            assert!(rt; was_refused && was_written, "{behind}");
         }
         Ok(())
     }
@@ -189,7 +191,7 @@ mod tests {
             let value = GenericBareItem::Integer(integer(1_234_567));
             params.insert(key_ref(key).to_owned(alloc)?, value)?;
         }
-        let (mut refusals, mut writes) = (0, 0);
+        let (mut was_refused, mut was_written) = (false, false);
         for size in SIZES {
             let heap = LocalHeap::new(alloc, size)?;
             let Ok(mut text) = StdString::from_str(&heap, "X: ") else {
@@ -198,12 +200,12 @@ mod tests {
             let answer = append_parameters(params.iter(), &mut text);
             let behind = ";first=1234567;second=1234567;third=1234567";
             if refused(&rt, answer, text.as_str(), behind) {
-                refusals += 1;
+                was_refused = true;
             } else {
-                writes += 1;
+                was_written = true;
             }
         }
-        assert!(rt; refusals > 0 && writes > 0);
+        assert!(rt; was_refused && was_written);
         Ok(())
     }
 }
