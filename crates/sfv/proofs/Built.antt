@@ -1,10 +1,9 @@
 -- The builder of an item: behind all events of a tree it has the ordered item.
-use Rattle.std.proofs.Common.{◌≡◌, ℕ, cond, List, [], ◌∷◌, ◌++◌, Result, Ok, Err, refl, sym, ap, subst, ◌∙◌, append_assoc}
-use Rattle.std.specs.Prelude.{bytes_eq, map, IfOk}
+use Rattle.std.proofs.Common.{◌≡◌, ℕ, cond, List, [], ◌∷◌, ◌++◌, refl, sym, ap, ◌∙◌, append_assoc}
+use Rattle.std.specs.Prelude.{bytes_eq}
 use Rattle.std.proofs.lemmas.List.{append-nil}
 use Rattle.indexmap.specs.IndexMap.{insert_entry}
 use Rattle.sfv_spec.specs.Values.{Edition, item_field, BareValue, RawParameters, RawItem}
-use Rattle.sfv_spec.specs.Grammar.{IsFieldText}
 use Rattle.sfv_spec.specs.Events.{TreeEvent, bare_item, parameter, parameters_end, parameters_events, item_events}
 use Rattle.sfv_spec.specs.Ordered.{collapse, ordered_item}
 use Rattle.sfv_spec.specs.Statements.{IsParsedAs}

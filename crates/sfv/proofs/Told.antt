@@ -2,7 +2,6 @@
 use Rattle.std.proofs.Common.{◌≡◌, ℕ, ◌≤◌, List, [], ◌∷◌, ◌++◌, length, Option, Some, None, Result, Ok, Err, refl, sym, ap, subst, ◌∙◌, drop, append_assoc}
 use Rattle.std.specs.Prelude.{MatchOption, map, flat_map}
 use Rattle.std.specs.Borrow.{Bor}
-use Rattle.std.specs.List.{FoldsTo}
 use Rattle.std.proofs.lemmas.List.{map-append}
 use Rattle.sfv_spec.specs.Values.{Edition, BareValue, RawParameters, RawItem}
 use Rattle.sfv_spec.specs.Events.{TreeEvent, parameter, parameters_end, parameters_events, bare_item, item_events}

@@ -1,12 +1,12 @@
 -- What a visitor is told of a whole field.
 use Rattle.std.proofs.Common.{◌≡◌, ℕ, ◌≤◌, Bool, true, false, List, [], ◌∷◌, ◌++◌, length, drop, Option, Some, None, Result, Ok, Err, refl, sym, ap, subst, ◌∙◌, inl, inr}
-use Rattle.std.specs.Prelude.{◌⊎◌, ⊤, MatchOption, IfOk, IfErr}
+use Rattle.std.specs.Prelude.{⊤, MatchOption, IfOk, IfErr}
 use Rattle.std.specs.Borrow.{Bor}
 use Rattle.sfv_spec.specs.Classes.{is_space}
 use Rattle.sfv_spec.specs.Values.{Edition, FieldKind, item_field, RawField, RawItem, IsFieldValue}
 use Rattle.sfv_spec.specs.Grammar.{IsFieldText}
 use Rattle.sfv_spec.specs.Events.{TreeEvent, events, item_events}
-use Rattle.sfv_spec.specs.Visiting.{RunsTo, IsVisited, IsRefused, IsRefusedEarly}
+use Rattle.sfv_spec.specs.Visiting.{RunsTo, IsRefused, IsRefusedEarly}
 use Rattle.sfv_spec.proofs.Valid.{accepted_is_value_lem}
 use Rattle.sfv_base.specs.declared.error.Error.{Error}
 use Rattle.sfv_base.specs.declared.error.ErrorKind.{ErrorKind}

@@ -1,5 +1,5 @@
 -- What a reading that tells a visitor its events returns.
-use Rattle.std.specs.Prelude.{◌≡◌, ⊤, ℕ, List, [], Result, Ok, Err, ◌⊎◌, MatchOption, ◌≤◌, length, drop}
+use Rattle.std.specs.Prelude.{◌≡◌, ⊤, ℕ, List, Result, Ok, Err, ◌⊎◌, MatchOption, ◌≤◌, length, drop}
 use Rattle.std.specs.Borrow.{Bor}
 use Rattle.sfv_spec.specs.Values.{Edition, FieldKind, RawField}
 use Rattle.sfv_spec.specs.Events.{TreeEvent, events}
