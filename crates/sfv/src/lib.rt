@@ -4,10 +4,10 @@
 //! `FieldType::serialize`, as its one canonical text.
 #![tactic(auto)]
 
-pub mod field_type;
-pub mod parser;
+mod field_type;
+mod parser;
 mod quoted;
-pub mod ser;
+mod ser;
 
 pub use field_type::FieldType;
 pub use parser::Parser;

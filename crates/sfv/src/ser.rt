@@ -4,9 +4,9 @@ mod append;
 mod byte_sequence;
 mod display_string;
 mod item;
-pub mod item_serializer;
+mod item_serializer;
 mod number;
-pub mod parameter_serializer;
+mod parameter_serializer;
 mod string;
 
 pub(crate) use item::serialize_item;
