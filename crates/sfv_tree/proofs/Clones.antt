@@ -1,5 +1,5 @@
--- Parameters whose keys and values are copied one by one keep their value.
-use Rattle.std.proofs.Common.{◌≡◌, ℕ, List, [], ◌∷◌, refl}
+-- Parameters and items that are copied one by one keep their value.
+use Rattle.std.proofs.Common.{◌≡◌, ℕ, List, [], ◌∷◌, map, refl}
 use Rattle.std.specs.List.{AllZip}
 use Rattle.sfv_text.specs.BareItems.{bare_value}
 use Rattle.sfv_tree.specs.Trees.{OwnedBareItem, pairs_tree}
@@ -19,3 +19,15 @@ pairs_cloned C D same_key same_value (x ∷ xs) (y ∷ ys) h =
     let v : bare_value y.1 ≡ bare_value x.1 = same_value x.1 y.1 h.0.1 in
     let rest : pairs_tree ys ≡ pairs_tree xs = pairs_cloned C D same_key same_value xs ys h.1 in
     rw (k, v, rest) refl
+
+pub each_cloned :
+    {A B : Type 0} (f : A → B) (xs ys : List A)
+    → AllZip (λ x y. f y ≡ f x) xs ys
+    → map f ys ≡ map f xs
+each_cloned f [] [] h = refl
+each_cloned f [] (y ∷ ys) h = absurd h
+each_cloned f (x ∷ xs) [] h = absurd h
+each_cloned f (x ∷ xs) (y ∷ ys) h =
+    let head : f y ≡ f x = h.0 in
+    let rest : map f ys ≡ map f xs = each_cloned f xs ys h.1 in
+    rw (head, rest) refl

@@ -1,12 +1,15 @@
 -- What the builders of owned trees do with the events of a field.
-use Rattle.std.specs.Prelude.{◌≡◌, ℕ, List, [], bytes_eq}
+use Rattle.std.specs.Prelude.{◌≡◌, ℕ, List, [], ◌∷◌, ◌++◌, Option, Some, None, bytes_eq}
 use Rattle.indexmap.specs.IndexMap.{insert_entry}
-use Rattle.sfv_spec.specs.Values.{BareValue, RawParameters, RawItem}
-use Rattle.sfv_spec.specs.Events.{TreeEvent, bare_item, parameter, parameters_end}
-use Rattle.sfv_tree.specs.Trees.{item_tree}
+use Rattle.sfv_spec.specs.Values.{BareValue, RawParameters, RawItem, RawInnerList, RawMember, item, inner_list}
+use Rattle.sfv_spec.specs.Events.{TreeEvent, entry, begins_item, begins_inner_list, bare_item, parameter, parameters_end, inner_list_end}
+use Rattle.sfv_tree.specs.Trees.{item_tree, inner_list_tree, member_tree, list_tree}
 use Rattle.sfv_tree.specs.declared.visitor.item_builder.ItemBuilder.{ItemBuilder}
 use Rattle.sfv_tree.specs.declared.visitor.item_builder.Place.{Place}
 use Rattle.sfv_tree.specs.declared.visitor.item_builder.Place.TheVariants as place
+use Rattle.sfv_tree.specs.declared.visitor.partial_member.PartialMember.{PartialMember}
+use Rattle.sfv_tree.specs.declared.visitor.partial_member.PartialMember.TheVariants as partial
+use Rattle.sfv_tree.specs.declared.visitor.list_builder.ListBuilder.{ListBuilder}
 
 -- the place of an item's builder: before its bare item, among its parameters, or behind them
 pub data ItemPlace : Type 0 where
@@ -27,9 +30,88 @@ item_step p e = p
 
 abbrev pub place_of : Place → ItemPlace
 place_of place.Head = at_head
-place_of (place.Params item) = at_parameters (item_tree item)
-place_of (place.Done item) = at_end (item_tree item)
+place_of (place.Params i) = at_parameters (item_tree i)
+place_of (place.Done i) = at_end (item_tree i)
 
 -- the place of a builder, with the item so far
 abbrev pub item_place : ItemBuilder → ItemPlace
 item_place b = place_of b.place
+
+-- the place of a member's reading, with what is read of it: an item alone, or the items of an inner list so far and the
+-- item that is being read, or the whole inner list
+pub data MemberPlace : Type 0 where
+  begun : MemberPlace
+  item_head : MemberPlace
+  item_parameters : RawItem → MemberPlace
+  inner_items : RawInnerList → MemberPlace
+  inner_head : RawInnerList → MemberPlace
+  inner_parameters : RawInnerList → RawItem → MemberPlace
+  list_parameters : RawInnerList → MemberPlace
+  ended : RawMember → MemberPlace
+
+-- an item without parameters
+abbrev pub plain_item : BareValue → RawItem
+plain_item value = record { bare = value; parameters = [] }
+
+-- the inner list with this item last
+abbrev pub adds : RawInnerList → RawItem → RawInnerList
+adds l i = record { items = l.items ++ i ∷ []; parameters = l.parameters }
+
+-- the inner list with this parameter entered
+abbrev pub enters_list : RawInnerList → List ℕ → BareValue → RawInnerList
+enters_list l key value = record { items = l.items; parameters = insert_entry bytes_eq l.parameters key value }
+
+-- the place behind an event; every other event changes nothing
+abbrev pub member_step : MemberPlace → TreeEvent → MemberPlace
+member_step begun begins_item = item_head
+member_step begun begins_inner_list = inner_items (record { items = []; parameters = [] })
+member_step item_head (bare_item value) = item_parameters (plain_item value)
+member_step (item_parameters i) (parameter key value) = item_parameters (enters i key value)
+member_step (item_parameters i) parameters_end = ended (item i)
+member_step (inner_items l) begins_item = inner_head l
+member_step (inner_items l) inner_list_end = list_parameters l
+member_step (inner_head l) (bare_item value) = inner_parameters l (plain_item value)
+member_step (inner_parameters l i) (parameter key value) = inner_parameters l (enters i key value)
+member_step (inner_parameters l i) parameters_end = inner_items (adds l i)
+member_step (list_parameters l) (parameter key value) = list_parameters (enters_list l key value)
+member_step (list_parameters l) parameters_end = ended (inner_list l)
+member_step p e = p
+
+abbrev pub member_place : PartialMember → MemberPlace
+member_place partial.Begun = begun
+member_place partial.Head = item_head
+member_place (partial.Params i) = item_parameters (item_tree i)
+member_place (partial.Inner l) = inner_items (inner_list_tree l)
+member_place (partial.InnerHead l) = inner_head (inner_list_tree l)
+member_place (partial.InnerParams l i) = inner_parameters (inner_list_tree l) (item_tree i)
+member_place (partial.ListParams l) = list_parameters (inner_list_tree l)
+member_place (partial.Ended m) = ended (member_tree m)
+
+-- the place of a list's builder, with the members that are whole: between two members, or within one
+pub data ListPlace : Type 0 where
+  between : List RawMember → ListPlace
+  within : List RawMember → MemberPlace → ListPlace
+
+-- a member that has ended goes last into the list
+abbrev pub settle : List RawMember → MemberPlace → ListPlace
+settle ms (ended m) = between (ms ++ m ∷ [])
+settle ms p = within ms p
+
+-- the place behind an event; every other event changes nothing
+abbrev pub list_step : ListPlace → TreeEvent → ListPlace
+list_step (between ms) entry = within ms begun
+list_step (between ms) e = between ms
+list_step (within ms p) e = settle ms (member_step p e)
+
+-- the members that are whole
+abbrev pub list_members : ListPlace → List RawMember
+list_members (between ms) = ms
+list_members (within ms p) = ms
+
+abbrev pub place_among : List RawMember → Option PartialMember → ListPlace
+place_among ms None = between ms
+place_among ms (Some m) = within ms (member_place m)
+
+-- the place of a builder, with the list so far
+abbrev pub list_place : ListBuilder → ListPlace
+list_place b = place_among (list_tree b.list.items) b.member

@@ -1,12 +1,15 @@
--- The values of parameters and items.
+-- The values of parameters, items, inner lists and lists.
 use Rattle.std.specs.Prelude.{ℕ, List, map}
 use Rattle.std.specs.declared.alloc.Global.{Global}
 use Rattle.std.specs.declared.vec.Vec.{Vec}
 use Rattle.std.specs.declared.string.String.{String}
-use Rattle.sfv_spec.specs.Values.{BareValue, RawParameters, RawItem}
+use Rattle.sfv_spec.specs.Values.{BareValue, RawParameters, RawItem, RawInnerList, RawMember, item, inner_list}
 use Rattle.sfv_text.specs.declared.bare.GenericBareItem.{GenericBareItem}
 use Rattle.sfv_text.specs.BareItems.{bare_value}
 use Rattle.sfv_tree.specs.declared.parsed.Item.{Item}
+use Rattle.sfv_tree.specs.declared.parsed.InnerList.{InnerList}
+use Rattle.sfv_tree.specs.declared.parsed.ListEntry.{ListEntry}
+use Rattle.sfv_tree.specs.declared.parsed.ListEntry.TheVariants as entries
 
 -- a `BareItem`, since antt has no name for an alias
 abbrev pub OwnedBareItem : Type 0
@@ -23,3 +26,16 @@ pairs_tree pairs = map pair_tree pairs
 -- the value of an item
 abbrev pub item_tree : Item → RawItem
 item_tree i = record { bare = bare_value i.bare_item; parameters = pairs_tree i.params.entries }
+
+-- the value of an inner list
+abbrev pub inner_list_tree : InnerList → RawInnerList
+inner_list_tree l = record { items = map item_tree l.items.items; parameters = pairs_tree l.params.entries }
+
+-- the value of a member of a list
+abbrev pub member_tree : ListEntry → RawMember
+member_tree (entries.Item i) = item (item_tree i)
+member_tree (entries.InnerList l) = inner_list (inner_list_tree l)
+
+-- the value of the members of a list, in order
+abbrev pub list_tree : List ListEntry → List RawMember
+list_tree members = map member_tree members

@@ -1,7 +1,8 @@
-//! Items and parameters (RFC 9651, sections 3.1.2 and 3.3).
+//! Lists, inner lists, parameters and items (RFC 9651, sections 3.1 and 3.3).
 
-ghost use Rattle.std.specs.Prelude.{◌≡◌, [], IfOk};
-ghost use Rattle.sfv_tree.specs.Trees.{item_tree, pairs_tree};
+ghost use Rattle.std.specs.Prelude.{◌≡◌, [], IfOk, map};
+ghost use Rattle.sfv_tree.specs.Trees.{item_tree, pairs_tree, inner_list_tree, member_tree};
+ghost use Rattle.sfv_tree.specs.declared.parsed.ListEntry.TheVariants as entries;
 
 use indexmap::IndexMap;
 use sfv_text::bare::BareItem;
@@ -59,5 +60,102 @@ impl Clone for Item {
         let value = self.bare_item.clone()?;
         let params = copy_params(&self.params)?;
         Ok(Item::with_params(value, params))
+    }
+}
+
+/// An inner list (RFC 9651, section 3.1.1): items in order, with parameters of its own.
+#[derive(Debug, PartialEq, Drop)]
+pub struct InnerList {
+    /// The items.
+    pub items: Vec<Item>,
+    /// The parameters of the inner list itself.
+    pub params: Parameters,
+}
+
+impl InnerList {
+    /// The inner list of these items, without parameters.
+    pub fn new(alloc: Global, items: Vec<Item>) -> InnerList
+        ensures items { result.items ≡ items }
+        ensures params { result.params.entries ≡ [] }
+    {
+        InnerList::with_params(items, Parameters::new(alloc))
+    }
+
+    /// The inner list of these items, with these parameters.
+    pub fn with_params(items: Vec<Item>, params: Parameters) -> InnerList
+        ensures items { result.items ≡ items }
+        ensures params { result.params ≡ params }
+    {
+        InnerList { items, params }
+    }
+
+    /// The inner list without items and without parameters. It takes no memory.
+    pub fn empty(alloc: Global) -> InnerList
+        ensures items { result.items.items ≡ [] }
+        ensures params { result.params.entries ≡ [] }
+    {
+        InnerList::new(alloc, Vec::new(alloc))
+    }
+}
+
+// The same items, in the same order.
+fn copy_items(items: &Vec<Item>) -> Result<Vec<Item>, AllocError>
+    ensures { IfOk result (λ copy. map item_tree copy.items ≡ map item_tree items.now.items) }
+{
+    let copy = items.clone()?;
+    Ok(copy)
+}
+
+impl Clone for InnerList {
+    ghost is_clone = { λ list copy. inner_list_tree copy ≡ inner_list_tree list };
+
+    fn clone(&self) -> Result<InnerList, AllocError> {
+        let items = copy_items(&self.items)?;
+        Ok(InnerList::with_params(items, copy_params(&self.params)?))
+    }
+}
+
+/// A member of a list (RFC 9651, section 3.1): an item or an inner list.
+#[derive(Debug, PartialEq, Drop)]
+pub enum ListEntry {
+    /// An item.
+    Item(Item),
+    /// An inner list.
+    InnerList(InnerList),
+}
+
+/// A list (RFC 9651, section 3.1): its members in order.
+pub type List = Vec<ListEntry>;
+
+impl From<Item> for ListEntry {
+    ghost from_gives = { λ item member. member ≡ entries.Item item };
+
+    fn from(item: Item) -> ListEntry {
+        ListEntry::Item(item)
+    }
+}
+
+impl From<InnerList> for ListEntry {
+    ghost from_gives = { λ list member. member ≡ entries.InnerList list };
+
+    fn from(list: InnerList) -> ListEntry {
+        ListEntry::InnerList(list)
+    }
+}
+
+impl Clone for ListEntry {
+    ghost is_clone = { λ member copy. member_tree copy ≡ member_tree member };
+
+    fn clone(&self) -> Result<ListEntry, AllocError> {
+        match self {
+            ListEntry::Item(item) => {
+                let copy = item.clone()?;
+                Ok(ListEntry::Item(copy))
+            }
+            ListEntry::InnerList(list) => {
+                let copy = list.clone()?;
+                Ok(ListEntry::InnerList(copy))
+            }
+        }
     }
 }

@@ -1,7 +1,10 @@
-use crate::parsed::{Item, Parameters};
-use crate::visitor::BareItemType;
-use sfv_text::bare::BareItem;
+use crate::parsed::{InnerList, Item, List, ListEntry, Parameters};
+use crate::visitor::{BareItemType, Event, ListBuilder, Visitor};
+use sfv_base::error::OutOfMemory;
+use sfv_text::bare::{BareItem, BareItemFromInput};
+use sfv_text::key_ref::KeyRef;
 use sfv_text::shorthand::key_ref;
+use std::alloc::Global;
 use std::test::Fail;
 
 #[test]
@@ -35,5 +38,124 @@ fn items_are_copied_and_compared(rt: HostRuntime) -> Result<(), Fail> {
     assert!(rt; copy == item);
     assert!(rt; item != Item::new(alloc, BareItem::from(2u8)));
     assert_eq!(rt; copy.params.len(), 2);
+    Ok(())
+}
+
+// The item of the number, with one parameter.
+fn item_of(alloc: Global, value: u8, key: KeyRef<'_>, param: u8) -> Result<Item, OutOfMemory> {
+    let mut params = Parameters::new(alloc);
+    params.insert(key.to_owned(alloc)?, BareItem::from(param))?;
+    Ok(Item::with_params(BareItem::from(value), params))
+}
+
+#[test]
+fn inner_lists_are_made(rt: HostRuntime) -> Result<(), Fail> {
+    let alloc = rt.alloc();
+    let items = vec![in alloc; item_of(alloc, 1, key_ref("a"), 2)?]?;
+    let plain = InnerList::new(alloc, items.clone()?);
+    assert_eq!(rt; plain.items.len(), 1);
+    assert!(rt; plain.params.is_empty());
+    let params = item_of(alloc, 0, key_ref("c"), 5)?.params;
+    let list = InnerList::with_params(items, params);
+    assert_eq!(rt; list.params.len(), 1);
+    assert!(rt; list != plain);
+    assert!(rt; list.clone()? == list);
+    let empty = InnerList::empty(alloc);
+    assert!(rt; empty.items.is_empty() && empty.params.is_empty());
+    Ok(())
+}
+
+#[test]
+fn members_are_made_and_copied(rt: HostRuntime) -> Result<(), Fail> {
+    let alloc = rt.alloc();
+    let item = ListEntry::from(item_of(alloc, 1, key_ref("a"), 2)?);
+    let empty = ListEntry::from(InnerList::empty(alloc));
+    assert!(rt; item != empty);
+    assert!(rt; item.clone()? == item);
+    let members: List = vec![in alloc; item, empty]?;
+    assert!(rt; members.clone()? == members);
+    Ok(())
+}
+
+fn param(key: KeyRef<'static>, value: u8) -> Event<'static> {
+    Event::Parameter(key, BareItemFromInput::from(value))
+}
+
+// The event of a letter.
+fn event(letter: char) -> Event<'static> {
+    match letter {
+        ',' => Event::Entry,
+        'k' => Event::KeyedEntry(key_ref("a")),
+        'i' => Event::Item,
+        '(' => Event::InnerList,
+        'a' => param(key_ref("a"), 1),
+        'A' => param(key_ref("a"), 2),
+        'b' => param(key_ref("b"), 1),
+        ';' => Event::ParametersEnd,
+        ')' => Event::InnerListEnd,
+        '5' => Event::BareItem(BareItemFromInput::from(5u8)),
+        _ => Event::BareItem(BareItemFromInput::from(6u8)),
+    }
+}
+
+// What is built of the events behind a list.
+fn build(alloc: Global, list: List, letters: &str) -> Result<List, OutOfMemory> {
+    let mut builder = ListBuilder::new(alloc, list);
+    for letter in letters.chars() {
+        builder.event(event(letter))?;
+    }
+    builder.finish()
+}
+
+// The first parameter's key of an item that is the first member.
+fn first_key(list: &List) -> Option<KeyRef<'_>> {
+    match list.first() {
+        Some(ListEntry::Item(item)) => item.params.keys().next().map(|key| key.as_key_ref()),
+        _ => None,
+    }
+}
+
+#[test]
+fn list_is_built_event_by_event(rt: HostRuntime) -> Result<(), Fail> {
+    let alloc = rt.alloc();
+    let list = build(alloc, List::new(alloc), ",i5abA;,(i5a;i6;)aA;")?;
+    assert!(rt; first_key(&list) == Some(key_ref("a")));
+    let mut item = item_of(alloc, 5, key_ref("a"), 2)?;
+    item.params
+        .insert(key_ref("b").to_owned(alloc)?, BareItem::from(1u8))?;
+    let params = item_of(alloc, 0, key_ref("a"), 2)?.params;
+    let items = vec![in alloc;
+        item_of(alloc, 5, key_ref("a"), 1)?,
+        Item::new(alloc, BareItem::from(6u8)),
+    ]?;
+    let inner = InnerList::with_params(items, params);
+    assert!(rt; list == vec![in alloc; ListEntry::from(item), ListEntry::from(inner)]?);
+    Ok(())
+}
+
+#[test]
+fn event_out_of_its_place_changes_no_list(rt: HostRuntime) -> Result<(), Fail> {
+    let alloc = rt.alloc();
+    let held = build(alloc, List::new(alloc), ",i6;")?;
+    let want = build(alloc, held.clone()?, ",(i5b;)a;,i5;")?;
+    assert_eq!(rt; want.len(), 3);
+    let cases = [
+        // between the members
+        "i5a;()k,(i5b;)a;,i5;",
+        // before what says what the member is
+        ",,k5a;)(i5b;)a;,5;i5;",
+        // among the items of an inner list
+        ",(,k(5a;i5b;)a;,i5;",
+        // before the bare items
+        ",(i,ki(a;)5b;)a;,i,ki(a;)5;",
+        // among the parameters
+        ",(i5,ki(6b);)a,ki(6);,i5,ki(6);",
+        // a member that has not ended
+        ",(i5b;)a;,i5;,i6a",
+        ",(i5b;)a;,i5;,(i6;i5",
+    ];
+    for letters in cases {
+        assert!(rt; build(alloc, held.clone()?, letters)? == want, "{letters}");
+    }
     Ok(())
 }

@@ -6,8 +6,12 @@ ghost use Rattle.sfv_tree.specs.Kinds.{kind_text, fault_text};
 ghost use Rattle.sfv_tree.specs.Events.{event_of};
 
 mod item_builder;
+mod list_builder;
+mod parameters;
+mod partial_member;
 
 pub use item_builder::ItemBuilder;
+pub use list_builder::ListBuilder;
 use sfv_text::bare::BareItemFromInput;
 use sfv_text::key_ref::KeyRef;
 use std::fmt;

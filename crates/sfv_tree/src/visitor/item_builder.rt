@@ -1,17 +1,17 @@
 //! The visitor that builds an item.
 
-ghost use Rattle.std.specs.Prelude.{◌≡◌, OnOk, bytes_eq};
-ghost use Rattle.indexmap.specs.IndexMap.{insert_entry};
+ghost use Rattle.std.specs.Prelude.{◌≡◌, OnOk};
 ghost use Rattle.sfv_spec.specs.Values.{RawItem};
 ghost use Rattle.sfv_spec.specs.Events as tree;
 ghost use Rattle.sfv_text.specs.BareItems.{input_value};
 ghost use Rattle.sfv_text.specs.KeyText.{key_text};
-ghost use Rattle.sfv_tree.specs.Trees.{item_tree, pairs_tree};
+ghost use Rattle.sfv_tree.specs.Trees.{item_tree};
 ghost use Rattle.sfv_tree.specs.Events.{event_of};
 ghost use Rattle.sfv_tree.specs.Builders.{at_head, at_end, item_step, item_place, place_of};
 ghost use Rattle.sfv_tree.specs.declared.visitor.ItemFault.TheVariants as faults;
 
-use crate::parsed::{Item, Parameters};
+use crate::parsed::Item;
+use crate::visitor::parameters::enter;
 use crate::visitor::{Event, ItemFault, Visitor};
 use sfv_base::error::OutOfMemory;
 use sfv_text::bare::BareItemFromInput;
@@ -37,22 +37,6 @@ enum Place {
 pub struct ItemBuilder {
     alloc: Global,
     place: Place,
-}
-
-// Enters a parameter: a key that is there keeps its place and takes the value, a new key goes last.
-fn enter(
-    alloc: Global,
-    params: &mut Parameters,
-    key: KeyRef<'_>,
-    value: BareItemFromInput<'_>,
-) -> Result<(), OutOfMemory>
-    ensures { OnOk result (pairs_tree params.new.entries
-        ≡ insert_entry bytes_eq (pairs_tree params.old.entries) (key_text key.entry) (input_value value.entry)) }
-{
-    let key = key.to_owned(alloc)?;
-    let value = value.try_into_owned(alloc)?;
-    params.insert(key, value)?;
-    Ok(())
 }
 
 impl ItemBuilder {

@@ -1,0 +1,99 @@
+//! The visitor that builds a list.
+
+ghost use Rattle.std.specs.Prelude.{◌≡◌, ⊤, None, OnOk};
+ghost use Rattle.sfv_tree.specs.Trees.{list_tree};
+ghost use Rattle.sfv_tree.specs.Events.{event_of};
+ghost use Rattle.sfv_tree.specs.Builders.{between, settle, list_step, list_place, list_members, member_place};
+
+use crate::parsed::List;
+use crate::visitor::partial_member::PartialMember;
+use crate::visitor::{Event, Visitor};
+use sfv_base::error::OutOfMemory;
+use std::alloc::Global;
+
+/// Builds a list of its events, behind the members of a list that it begins with. Of a repeated key the last value stands,
+/// at the place of the first.
+///
+/// It takes every event, and an event out of its place changes nothing. It refuses an event only where memory is refused,
+/// and never its answer, which is the list of the members that are whole.
+#[derive(Drop)]
+pub struct ListBuilder {
+    alloc: Global,
+    list: List,
+    // The member that is being read.
+    member: Option<PartialMember>,
+}
+
+impl ListBuilder {
+    /// The builder before any event, with the members of `list`, which builds with memory from `alloc`. A further line of
+    /// the same field is read into the list of the lines before it.
+    pub fn new(alloc: Global, list: List) -> ListBuilder
+        ensures { list_place result ≡ between (list_tree list.items) }
+    {
+        ListBuilder {
+            alloc,
+            list,
+            member: None,
+        }
+    }
+
+    fn begin(&mut self, event: Event<'_>)
+        requires no_member { self.old.member ≡ None }
+        ensures { list_place self.new ≡ list_step (list_place self.old) (event_of event.entry) }
+    {
+        if let Event::Entry = event {
+            self.member = Some(PartialMember::Begun);
+        }
+    }
+
+    // Puts a member last that has ended, and goes on reading one that has not.
+    fn settle(&mut self, member: PartialMember) -> Result<(), OutOfMemory>
+        requires no_member { self.old.member ≡ None }
+        ensures { OnOk result (list_place self.new ≡ settle (list_tree self.old.list.items) (member_place member)) }
+    {
+        match member {
+            PartialMember::Ended(entry) => self.list.push(entry)?,
+            member => self.member = Some(member),
+        }
+        Ok(())
+    }
+
+    fn step(&mut self, event: Event<'_>) -> Result<(), OutOfMemory>
+        ensures { OnOk result (list_place self.new ≡ list_step (list_place self.old) (event_of event.entry)) }
+    {
+        match self.member.take() {
+            None => {
+                self.begin(event);
+                Ok(())
+            }
+            Some(member) => {
+                let member = member.step(self.alloc, event)?;
+                self.settle(member)
+            }
+        }
+    }
+}
+
+impl<'de> Visitor<'de> for ListBuilder {
+    type Out = List;
+
+    type Error = OutOfMemory;
+
+    ghost takes = { λ s event after. list_place after ≡ list_step (list_place s) event };
+
+    ghost refuses = { λ s event fault. ⊤ };
+
+    ghost finishes = { λ s list. list_tree list.items ≡ list_members (list_place s) };
+
+    ghost finish_refuses = { λ _ _. ⊥ };
+
+    ghost is_memory = { λ _. ⊤ };
+
+    fn event(&mut self, event: Event<'de>) -> Result<(), OutOfMemory> {
+        self.step(event)
+    }
+
+    fn finish(self) -> Result<List, OutOfMemory> {
+        Ok(self.list)
+    }
+}
