@@ -27,5 +27,5 @@ pub use sfv_text::string::String;
 pub use sfv_text::string_ref::StringRef;
 pub use sfv_text::token::Token;
 pub use sfv_text::token_ref::TokenRef;
-pub use sfv_tree::parsed::{Item, Parameters};
+pub use sfv_tree::parsed::{InnerList, Item, List, ListEntry, Parameters};
 pub use sfv_tree::visitor;
