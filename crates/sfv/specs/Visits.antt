@@ -23,6 +23,11 @@ Tells {A} takes refuses parts input after from to (Ok u) answer = (v : A) × (an
 Tells takes refuses parts input after from to (Err (Syntax e)) answer = IsErrorOf input.now e answer
 Tells takes refuses parts input after from to (Err (Visitor f)) answer = Refused takes refuses parts answer from f
 
+-- the visitor refused the event
+abbrev pub IsToldRefusal : {S E : Type 0} → (S → TreeEvent → E → Type 0) → S → TreeEvent → ParseError E → Type 0
+IsToldRefusal refuses s e (Syntax error) = ⊥
+IsToldRefusal refuses s e (Visitor fault) = refuses s e fault
+
 -- Where a field of this type stands at the beginning, an error with an index is answered only behind the visitor's answer.
 abbrev pub IsFinishedFirst : {S O : Type 0} → (S → TreeEvent → S → Type 0) → (S → O → Type 0) → Edition → FieldKind → List ℕ → S → Error → Type 0
 IsFinishedFirst {S} {O} takes finishes edition kind t from e =

@@ -17,6 +17,7 @@ mod cursor;
 mod display_string;
 mod field;
 mod item;
+mod member;
 mod number;
 mod runs;
 mod scan;

@@ -1,11 +1,12 @@
 //! Reading parameters and items (RFC 9651, sections 4.2.3 and 4.2.3.2).
 
-ghost use Rattle.std.specs.Prelude.{option_map, OnOk};
+ghost use Rattle.std.specs.Prelude.{option_map, OnOk, IfErr};
 ghost use Rattle.sfv_spec.specs.Events.{parameters_events, item_events};
 ghost use Rattle.sfv_text.specs.BareItems.{input_value, edition_of};
+ghost use Rattle.sfv_tree.specs.Events.{event_of};
 ghost use Rattle.sfv_reading.specs.Items.{value_at, parameter_at, parameters_at, item_at};
 ghost use Rattle.sfv.specs.Cursor.{rest, Reads};
-ghost use Rattle.sfv.specs.Visits.{Tells};
+ghost use Rattle.sfv.specs.Visits.{Tells, IsToldRefusal};
 
 use crate::parser::cursor::Cursor;
 use sfv_base::error::{Error, ParseError};
@@ -19,6 +20,22 @@ use std::alloc::Global;
 pub(crate) struct ReadParameter<'de> {
     pub(crate) key: KeyRef<'de>,
     pub(crate) value: BareItemFromInput<'de>,
+}
+
+/// Tells the visitor an event.
+pub(crate) fn tell<'de, V: Visitor<'de>>(
+    visitor: &mut V,
+    event: Event<'de>,
+) -> Result<(), ParseError<V::Error>>
+    requires { V.is_ready visitor.old }
+    ensures ready { OnOk result (V.is_ready visitor.new) }
+    ensures taken { OnOk result (V.takes visitor.old (event_of event.entry) visitor.new) }
+    ensures refused { IfErr result (IsToldRefusal V.refuses visitor.old (event_of event.entry)) }
+{
+    match visitor.event(event) {
+        Ok(()) => Ok(()),
+        Err(refusal) => Err(ParseError::Visitor(refusal)),
+    }
 }
 
 impl<'de> Cursor<'de> {
@@ -59,7 +76,7 @@ impl<'de> Cursor<'de> {
     }
 
     /// Takes parameters, and tells the visitor each of them and their end.
-    fn parameters<V: Visitor<'de>>(
+    pub(crate) fn parameters<V: Visitor<'de>>(
         &mut self,
         alloc: Global,
         version: Version,

@@ -2,7 +2,7 @@
 
 ghost use Rattle.std.specs.Prelude.{◌≡◌, ◌≤◌, ◌<◌, ◌^◌, ◌*◌, ◌-◌, length, take, drop, Ok};
 ghost use Rattle.sfv_spec.specs.Texts.{RunOf};
-ghost use Rattle.sfv_spec.specs.Classes.{is_digit, is_space, is_key_inner, is_token_inner};
+ghost use Rattle.sfv_spec.specs.Classes.{is_digit, is_space, is_space_or_tab, is_key_inner, is_token_inner};
 ghost use Rattle.sfv_spec.specs.Numbers.{place_value};
 ghost use Rattle.sfv_reading.specs.Reader.{up_to, span};
 
@@ -65,6 +65,24 @@ pub(crate) fn space_run(bytes: &[u8]) -> usize
 {
     let mut count = 0;
     while count < bytes.len() && bytes[count] == b' ' {
+        count += 1;
+    }
+    count
+}
+
+fn is_blank_byte(byte: u8) -> bool
+    ensures { result ≡ is_space_or_tab byte }
+{
+    byte == b' ' || byte == b'\t'
+}
+
+/// How many spaces and tabs the bytes begin with.
+pub(crate) fn blank_run(bytes: &[u8]) -> usize
+    ensures within { result ≤ length bytes.now }
+    ensures run { span is_space_or_tab bytes.now ≡ Ok (take result bytes.now, drop result bytes.now) }
+{
+    let mut count = 0;
+    while count < bytes.len() && is_blank_byte(bytes[count]) {
         count += 1;
     }
     count

@@ -2,13 +2,13 @@
 
 ghost use Rattle.std.specs.Prelude.{◌≡◌, ◌≤◌, ◌∷◌, ℕ, Bool, true, false, List, length, slice_get, drop, Some, None, Ok};
 ghost use Rattle.sfv_spec.specs.Texts.{RunOf};
-ghost use Rattle.sfv_spec.specs.Classes.{is_digit, is_space};
+ghost use Rattle.sfv_spec.specs.Classes.{is_digit, is_space, is_space_or_tab};
 ghost use Rattle.sfv_base.specs.Errors.{error_of};
 ghost use Rattle.sfv_reading.specs.Reader.{first, byte, up_to, span};
 ghost use Rattle.sfv.specs.Cursor.{rest, Meets, Takes, Skips};
 
 use crate::parser::cursor::Cursor;
-use crate::parser::runs::{digit_run, is_digit_byte, space_run};
+use crate::parser::runs::{blank_run, digit_run, is_digit_byte, space_run};
 use sfv_base::error::{Error, ErrorKind};
 
 impl<'de> Cursor<'de> {
@@ -91,6 +91,15 @@ impl<'de> Cursor<'de> {
         ensures input { self.new.input ≡ self.old.input }
     {
         let len = space_run(&self.input[self.index..]);
+        self.index += len;
+    }
+
+    /// Takes spaces and tabs.
+    pub(crate) fn blanks(&mut self)
+        ensures blanks { (s : List ℕ) × (span is_space_or_tab (rest self.old) ≡ Ok (s, rest self.new)) }
+        ensures input { self.new.input ≡ self.old.input }
+    {
+        let len = blank_run(&self.input[self.index..]);
         self.index += len;
     }
 }

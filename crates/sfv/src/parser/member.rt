@@ -1,0 +1,172 @@
+//! Reading inner lists, and members of lists (RFC 9651, sections 4.2.1.1 and 4.2.1.2).
+
+ghost use Rattle.std.specs.Prelude.{◌≡◌, [], OnOk, flat_map};
+ghost use Rattle.sfv_spec.specs.Events.{member_events};
+ghost use Rattle.sfv_text.specs.BareItems.{edition_of};
+ghost use Rattle.sfv_reading.specs.Members.{inner_item_events, inner_item_at, inner_items_at, inner_at, member_at, entry_events, entry_at};
+ghost use Rattle.sfv_reading.specs.Fields.{members_at};
+ghost use Rattle.sfv.specs.Cursor.{rest, Gives};
+ghost use Rattle.sfv.specs.Members.{wants_item_at, wants_member_at, behind_begin};
+ghost use Rattle.sfv.specs.Visits.{Tells};
+
+use crate::parser::cursor::Cursor;
+use crate::parser::item::tell;
+use sfv_base::error::{Error, ErrorKind, ParseError};
+use sfv_text::bare::Version;
+use sfv_tree::visitor::{Event, Visitor};
+use std::alloc::Global;
+
+impl<'de> Cursor<'de> {
+    /// Takes an item of an inner list, and tells the visitor its parts.
+    fn inner_item<V: Visitor<'de>>(
+        &mut self,
+        alloc: Global,
+        version: Version,
+        visitor: &mut V,
+    ) -> Result<(), ParseError<V::Error>>
+        requires { V.is_ready visitor.old }
+        ensures ready { OnOk result (V.is_ready visitor.new) }
+        ensures told { Tells V.takes V.refuses inner_item_events self.old.input self.new visitor.old visitor.new result (inner_item_at (edition_of version) (rest self.old)) }
+    {
+        tell(visitor, Event::Item)?;
+        self.item(alloc, version, visitor)
+    }
+
+    /// Takes the spaces between two items of an inner list, or its closing parenthesis. Answers whether an item is wanted.
+    fn wants_item(&mut self) -> Result<bool, Error>
+        ensures { Gives (λ wants. wants) self.old.input self.new result (wants_item_at (rest self.old)) }
+    {
+        if self.take_if(b' ') {
+            self.spaces();
+            return Ok(!self.take_if(b')'));
+        }
+        if self.take_if(b')') {
+            return Ok(false);
+        }
+        if self.peek().is_some() {
+            Err(self.error(ErrorKind::ExpectedInnerListDelimiter))
+        } else {
+            Err(self.error(ErrorKind::UnterminatedInnerList))
+        }
+    }
+
+    /// Takes the items of an inner list behind its opening parenthesis, and the closing one. Tells the visitor the items.
+    fn inner_items<V: Visitor<'de>>(
+        &mut self,
+        alloc: Global,
+        version: Version,
+        visitor: &mut V,
+    ) -> Result<(), ParseError<V::Error>>
+        requires { V.is_ready visitor.old }
+        ensures ready { OnOk result (V.is_ready visitor.new) }
+        ensures told { Tells V.takes V.refuses (λ items. flat_map inner_item_events items) self.old.input self.new visitor.old visitor.new result (inner_items_at (edition_of version) (rest self.old)) }
+    {
+        if self.peek().is_none() {
+            let error = self.error(ErrorKind::UnterminatedInnerList);
+            return Err(ParseError::Syntax(error));
+        }
+        self.spaces();
+        if self.take_if(b')') {
+            return Ok(());
+        }
+        self.inner_item(alloc, version, visitor)?;
+        while self.wants_item()? {
+            self.inner_item(alloc, version, visitor)?;
+        }
+        Ok(())
+    }
+
+    /// Takes an inner list behind its opening parenthesis, and its parameters. Tells the visitor its parts.
+    fn inner_list<V: Visitor<'de>>(
+        &mut self,
+        alloc: Global,
+        version: Version,
+        visitor: &mut V,
+    ) -> Result<(), ParseError<V::Error>>
+        requires { V.is_ready visitor.old }
+        ensures ready { OnOk result (V.is_ready visitor.new) }
+        ensures told { Tells V.takes V.refuses behind_begin self.old.input self.new visitor.old visitor.new result (inner_at (edition_of version) (rest self.old)) }
+    {
+        self.inner_items(alloc, version, visitor)?;
+        tell(visitor, Event::InnerListEnd)?;
+        self.parameters(alloc, version, visitor)
+    }
+
+    /// Takes a member of a list or a dictionary, and tells the visitor its parts.
+    pub(crate) fn member<V: Visitor<'de>>(
+        &mut self,
+        alloc: Global,
+        version: Version,
+        visitor: &mut V,
+    ) -> Result<(), ParseError<V::Error>>
+        requires { V.is_ready visitor.old }
+        ensures ready { OnOk result (V.is_ready visitor.new) }
+        ensures told { Tells V.takes V.refuses member_events self.old.input self.new visitor.old visitor.new result (member_at (edition_of version) (rest self.old)) }
+    {
+        if self.take_if(b'(') {
+            tell(visitor, Event::InnerList)?;
+            self.inner_list(alloc, version, visitor)
+        } else {
+            tell(visitor, Event::Item)?;
+            self.item(alloc, version, visitor)
+        }
+    }
+
+    /// Takes a member of a list, which is told as one before it is looked at.
+    pub(crate) fn entry<V: Visitor<'de>>(
+        &mut self,
+        alloc: Global,
+        version: Version,
+        visitor: &mut V,
+    ) -> Result<(), ParseError<V::Error>>
+        requires { V.is_ready visitor.old }
+        ensures ready { OnOk result (V.is_ready visitor.new) }
+        ensures told { Tells V.takes V.refuses entry_events self.old.input self.new visitor.old visitor.new result (entry_at (edition_of version) (rest self.old)) }
+    {
+        tell(visitor, Event::Entry)?;
+        self.member(alloc, version, visitor)
+    }
+
+    /// Takes the comma between two members, with the spaces and tabs around it. Answers whether a member is wanted, and not
+    /// the end of the input.
+    fn wants_member(&mut self) -> Result<bool, Error>
+        ensures { Gives (λ wants. wants) self.old.input self.new result (wants_member_at (rest self.old)) }
+    {
+        self.blanks();
+        if self.peek().is_none() {
+            return Ok(false);
+        }
+        let comma = self.error(ErrorKind::TrailingComma);
+        if !self.take_if(b',') {
+            return Err(self.error(ErrorKind::TrailingCharactersAfterMember));
+        }
+        self.blanks();
+        if self.peek().is_none() {
+            return Err(comma);
+        }
+        Ok(true)
+    }
+
+    /// Takes the members of a list up to the end of the input, and tells the visitor their parts.
+    pub(crate) fn entries<V: Visitor<'de>>(
+        &mut self,
+        alloc: Global,
+        version: Version,
+        visitor: &mut V,
+    ) -> Result<(), ParseError<V::Error>>
+        requires { V.is_ready visitor.old }
+        ensures ready { OnOk result (V.is_ready visitor.new) }
+        ensures told { Tells V.takes V.refuses (λ members. flat_map entry_events members) self.old.input self.new visitor.old visitor.new result (members_at entry_events (entry_at (edition_of version)) (rest self.old)) }
+        ensures end { OnOk result (rest self.new ≡ []) }
+    {
+        self.spaces();
+        if self.peek().is_none() {
+            return Ok(());
+        }
+        self.entry(alloc, version, visitor)?;
+        while self.wants_member()? {
+            self.entry(alloc, version, visitor)?;
+        }
+        Ok(())
+    }
+}
