@@ -2,14 +2,36 @@
 use Rattle.std.proofs.Common.{◌≡◌, ℕ, Bool, true, false, not, List, [], ◌∷◌, Option, Some, None, Ok, Err, refl, sym, ap, ◌∙◌}
 use Rattle.std.specs.Prelude.{is_some}
 use Rattle.sfv_spec.specs.Classes.{is_space, is_space_or_tab}
+use Rattle.sfv_spec.specs.Values.{Edition, RawItem}
+use Rattle.sfv_spec.specs.Events.{TreeEvent}
 use Rattle.sfv_spec.specs.Faults.{trailing_comma, trailing_characters_after_member, expected_inner_list_delimiter, unterminated_inner_list}
 use Rattle.sfv_base.specs.declared.error.ErrorKind.TheVariants.{ExpectedInnerListDelimiter, UnterminatedInnerList, TrailingCharactersAfterMember, TrailingComma}
-use Rattle.sfv_reading.specs.Reader.{Answer, Reader, first, byte, any, give, fail, at_start, back, ahead, branch, and_then, bind, span, ◌>>=◌}
-use Rattle.sfv_reading.specs.Fields.{comma_at}
+use Rattle.sfv_reading.specs.Reader.{Answer, Reader, first, byte, any, give, fail, at_start, back, ahead, branch, and_then, bind, span, led, many, ◌>>=◌}
+use Rattle.sfv_reading.specs.Members.{inner_item_events, inner_item_at, next_item_at, inner_items_at}
+use Rattle.sfv_reading.specs.Fields.{comma_at, next_at, members_at}
 use Rattle.sfv_reading.proofs.Again.{bind_again}
 use Rattle.sfv.specs.Cursor.{told, Takes}
 use Rattle.sfv.specs.Members.{wants_item_at, wants_member_at}
 use Rattle.sfv.proofs.Steps.{branch_true, branch_false}
+
+-- a run is read wherever it is wanted
+pub span_total : (class : ℕ → Bool) (t : List ℕ) → (s : List ℕ) × (r : List ℕ) × (span class t ≡ Ok (s, r))
+unfolding span give
+span_total class [] = ([], [], refl)
+span_total class (c ∷ t) = on (span_total class t) (class c) refl
+  where
+    on : ((s : List ℕ) × (r : List ℕ) × (span class t ≡ Ok (s, r))) → (b : Bool) → class c ≡ b → (s : List ℕ) × (r : List ℕ) × (span class (c ∷ t) ≡ Ok (s, r))
+    on h true e = (c ∷ h.0, h.1, rw (e, h.2) refl)
+    on h false e = ([], c ∷ t, rw e refl)
+
+-- one more, if one is wanted
+abbrev pub one_if : {A : Type 0} → Reader A → Bool → Reader (Option A)
+one_if one true = one >>= λ v. give (Some v)
+one_if one false = give None
+
+-- the first, and those behind it
+unfoldable pub first_of : {A : Type 0} → (A → List TreeEvent) → Reader A → Reader (Option A) → Reader (List A)
+first_of parts one next = one >>= λ v. led (parts v) (many parts next >>= λ vs. give (v ∷ vs))
 
 -- ---- items of an inner list
 
@@ -42,6 +64,51 @@ unended_item t r q sp m h = ap told (no_item_here t r q sp m) ∙ on q h
     on [] h = refl
     on (c ∷ q) h = absurd cc
 
+-- an item behind its delimiter is the next one
+pub next_item_is : (edition : Edition) (t : List ℕ) → next_item_at edition t ≡ (wants_item_at >>= one_if (inner_item_at edition)) t
+unfolding next_item_at wants_item_at bind branch ahead give fail
+next_item_is edition [] = refl
+next_item_is edition (c ∷ r) = on (is_space c) refl
+  where
+    parted : (q : List ℕ) → branch (byte 0x29) (λ _. give None) (one_if (inner_item_at edition) true) q ≡ and_then (branch (byte 0x29) (λ _. give false) (give true) q) (one_if (inner_item_at edition))
+    parted [] = refl
+    parted (d ∷ q) = here (byte 0x29 d) refl
+      where
+        here : (b : Bool) → byte 0x29 d ≡ b → branch (byte 0x29) (λ _. give None) (one_if (inner_item_at edition) true) (d ∷ q) ≡ and_then (branch (byte 0x29) (λ _. give false) (give true) (d ∷ q)) (one_if (inner_item_at edition))
+        here true e = rw e refl
+        here false e = rw e refl
+
+    closed : (b : Bool) → is_space c ≡ false → byte 0x29 c ≡ b → next_item_at edition (c ∷ r) ≡ (wants_item_at >>= one_if (inner_item_at edition)) (c ∷ r)
+    closed true n e = rw (n, e) refl
+    closed false n e = rw (n, e) refl
+
+    on : (b : Bool) → is_space c ≡ b → next_item_at edition (c ∷ r) ≡ (wants_item_at >>= one_if (inner_item_at edition)) (c ∷ r)
+    on true e = let q = span_total is_space r in rw (e, q.2) (parted q.1)
+    on false e = closed (byte 0x29 c) e refl
+
+pub items_none : (edition : Edition) (t : List ℕ) → is_some (first t) ≡ false → told (inner_items_at edition t) ≡ Err (UnterminatedInnerList, t)
+unfolding inner_items_at ahead fail
+items_none edition [] h = refl
+items_none edition (c ∷ t) h = absurd cc
+
+-- behind the spaces before the first item
+abbrev pub items_behind : Edition → Reader (List RawItem)
+items_behind edition =
+    branch (byte 0x29) (λ _. give []) (inner_item_at edition >>= λ i. led (inner_item_events i) (many inner_item_events (next_item_at edition) >>= λ is. give (i ∷ is)))
+
+items_some : (edition : Edition) (t s q : List ℕ) → is_some (first t) ≡ true → span is_space t ≡ Ok (s, q) → inner_items_at edition t ≡ items_behind edition q
+unfolding inner_items_at ahead
+items_some edition [] s q h e = absurd cc
+items_some edition (c ∷ t) s q h e = bind_again (span is_space) (λ _. items_behind edition) (c ∷ t) q s e
+
+pub items_closed : (edition : Edition) (t s q w : List ℕ) → is_some (first t) ≡ true → span is_space t ≡ Ok (s, q) → Takes (byte 0x29) true q w → inner_items_at edition t ≡ Ok ([], w)
+unfolding give
+items_closed edition t s q w h e m = items_some edition t s q h e ∙ branch_true (byte 0x29) _ _ q w m
+
+pub items_first : (edition : Edition) (t s q w : List ℕ) → is_some (first t) ≡ true → span is_space t ≡ Ok (s, q) → Takes (byte 0x29) false q w → inner_items_at edition t ≡ first_of inner_item_events (inner_item_at edition) (next_item_at edition) w
+unfolding first_of
+items_first edition t s q w h e m = items_some edition t s q h e ∙ branch_false (byte 0x29) _ _ q w m
+
 -- ---- members
 
 pub at_end : (q : List ℕ) → is_some (first q) ≡ false → q ≡ []
@@ -63,6 +130,43 @@ no_member t s q e h = member_is t s q e ∙ on q h
     on : (q : List ℕ) → is_some (first q) ≡ false → at_comma q ≡ Ok (false, q)
     on [] h = refl
     on (c ∷ q) h = absurd cc
+
+-- a member behind its delimiter, or the end
+abbrev wanted : {A : Type 0} → Reader A → Reader (Option A)
+wanted one = ahead any (ahead (byte 0x2c) (back trailing_comma comma_at >>= λ _. one >>= λ m. give (Some m)) (fail trailing_characters_after_member)) (give None)
+
+-- a member behind its delimiter is the next one
+pub next_member_is : {A : Type 0} (one : Reader A) (t : List ℕ) → next_at one t ≡ (wants_member_at >>= one_if one) t
+unfolding next_at wants_member_at bind ahead fail give
+next_member_is {A} one t = let q = span_total is_space_or_tab t in rw q.2 (on q.1)
+  where
+    behind : (a : Answer (Unit {0})) → and_then a (λ _. one >>= λ m. give (Some m)) ≡ and_then (and_then a (λ _. give true)) (one_if one)
+    behind (Ok x) = refl
+    behind (Err f) = refl
+
+    at : (c : ℕ) (r : List ℕ) (b : Bool) → byte 0x2c c ≡ b → wanted one (c ∷ r) ≡ and_then (at_comma (c ∷ r)) (one_if one)
+    at c r true e = rw e (behind (back trailing_comma comma_at (c ∷ r)))
+    at c r false e = rw e refl
+
+    on : (q : List ℕ) → wanted one q ≡ and_then (at_comma q) (one_if one)
+    on [] = refl
+    on (c ∷ r) = at c r (byte 0x2c c) refl
+
+pub members_none : {A : Type 0} (parts : A → List TreeEvent) (one : Reader A) (t s q : List ℕ) → span is_space t ≡ Ok (s, q) → is_some (first q) ≡ false → members_at parts one t ≡ Ok ([], q)
+unfolding members_at ahead give
+members_none {A} parts one t s q e h = bind_again (span is_space) _ t q s e ∙ on q h
+  where
+    on : (q : List ℕ) → is_some (first q) ≡ false → ahead any (one >>= λ m. led (parts m) (many parts (next_at one) >>= λ ms. give (m ∷ ms))) (give []) q ≡ Ok ([], q)
+    on [] h = refl
+    on (c ∷ q) h = absurd cc
+
+pub members_first : {A : Type 0} (parts : A → List TreeEvent) (one : Reader A) (t s q : List ℕ) → span is_space t ≡ Ok (s, q) → is_some (first q) ≡ true → members_at parts one t ≡ first_of parts one (next_at one) q
+unfolding members_at ahead first_of
+members_first {A} parts one t s q e h = bind_again (span is_space) _ t q s e ∙ on q h
+  where
+    on : (q : List ℕ) → is_some (first q) ≡ true → ahead any (one >>= λ m. led (parts m) (many parts (next_at one) >>= λ ms. give (m ∷ ms))) (give []) q ≡ (one >>= λ m. led (parts m) (many parts (next_at one) >>= λ ms. give (m ∷ ms))) q
+    on [] h = absurd cc
+    on (c ∷ q) h = refl
 
 -- behind the comma
 abbrev behind_comma : Reader Bool

@@ -15,3 +15,6 @@ pub mod Lent
 pub mod Told
 pub mod Visited
 pub mod Delimiters
+pub mod Telling
+pub mod Loops
+pub mod InnerLists

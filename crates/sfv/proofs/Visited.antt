@@ -31,16 +31,7 @@ use Rattle.sfv.specs.Visits.{Tells, Visits, IsFinishedFirst}
 use Rattle.sfv.specs.Parsers.{IsAnswerOf, IsSyntaxOf, IsRefusalOf}
 use Rattle.sfv.proofs.Whole.{spaced, field_error}
 use Rattle.sfv.proofs.Parsed.{reader_fault}
-
--- spaces are read wherever they are wanted
-span_total : (class : ℕ → Bool) (t : List ℕ) → (s : List ℕ) × (r : List ℕ) × (span class t ≡ Ok (s, r))
-unfolding span give
-span_total class [] = ([], [], refl)
-span_total class (c ∷ t) = on (span_total class t) (class c) refl
-  where
-    on : ((s : List ℕ) × (r : List ℕ) × (span class t ≡ Ok (s, r))) → (b : Bool) → class c ≡ b → (s : List ℕ) × (r : List ℕ) × (span class (c ∷ t) ≡ Ok (s, r))
-    on h true e = (c ∷ h.0, h.1, rw (e, h.2) refl)
-    on h false e = ([], c ∷ t, rw e refl)
+use Rattle.sfv.proofs.Delimiters.{span_total}
 
 whole_is : (edition : Edition) (t s r : List ℕ) → span is_space t ≡ Ok (s, r) → whole_field_at edition item_field t ≡ spaced edition r
 unfolding whole_field_at spaced

@@ -83,7 +83,7 @@ abbrev pub in_front : {A : Type 0} → (A → List TreeEvent) → List A → Ans
 in_front parts front (Ok x) = Ok (front ++ x.0, x.1)
 in_front parts front (Err e) = Err (behind_events (flat_map parts front) e)
 
-regroup : {A : Type 0} (parts : A → List TreeEvent) (front : List A) (v : A) (a : Answer (List A)) → in_front parts front (put parts v a) ≡ in_front parts (front ++ v ∷ []) a
+pub regroup : {A : Type 0} (parts : A → List TreeEvent) (front : List A) (v : A) (a : Answer (List A)) → in_front parts front (put parts v a) ≡ in_front parts (front ++ v ∷ []) a
 unfolding give
 regroup parts front v (Ok x) = ap (λ vs. Ok (vs, x.1)) (sym (append_assoc front (v ∷ []) x.0))
 regroup parts front v (Err e) = ap (λ (es : List TreeEvent). Err (record { kind = e.kind; exact = e.exact; rest = e.rest; events = es })) (sym (events_push parts front v e.events))

@@ -1,0 +1,143 @@
+-- An inner list and its parameters, as a visitor is told of it.
+use Rattle.std.proofs.Common.{◌≡◌, ℕ, true, false, List, [], ◌∷◌, ◌++◌, Ok, Err, refl, sym, ap, subst, ◌∙◌, append_assoc, flat_map}
+use Rattle.std.specs.Prelude.{Result}
+use Rattle.std.specs.Borrow.{Bor}
+use Rattle.sfv_spec.specs.Values.{Edition, RawParameters, RawItem, RawMember, item, inner_list}
+use Rattle.sfv_spec.specs.Events.{TreeEvent, begins_item, begins_inner_list, inner_list_end, parameters_events, item_events, member_events}
+use Rattle.sfv_spec.specs.Visiting.{RunsTo}
+use Rattle.sfv_base.specs.declared.error.ParseError.{ParseError}
+use Rattle.sfv_base.specs.declared.error.ParseError.TheVariants.{Syntax, Visitor}
+use Rattle.sfv_reading.specs.Reader.{Answer, Reader, byte, led_answer, led, give, and_then, bind, ◌>>=◌}
+use Rattle.sfv_reading.specs.Items.{parameters_at, item_at}
+use Rattle.sfv_reading.specs.Members.{inner_item_events, inner_items_at, inner_of, closed_events, inner_at, member_at}
+use Rattle.sfv_reading.specs.Visits.{Refused}
+use Rattle.sfv.specs.declared.parser.cursor.Cursor.{Cursor}
+use Rattle.sfv.specs.Cursor.{rest, Takes}
+use Rattle.sfv.specs.Members.{behind_begin}
+use Rattle.sfv.specs.Visits.{Tells, IsToldRefusal}
+use Rattle.sfv.proofs.Errors.{ErrorOf-part}
+use Rattle.sfv.proofs.Steps.{branch_true, branch_false}
+use Rattle.sfv.proofs.Told.{runs_on}
+use Rattle.sfv.proofs.Telling.{tells_as, map_tells, then_tells, first_refused, refused_longer, refused_behind, led_tells, led_fails}
+
+-- the parameters behind the items
+list_parameters : RawMember → List TreeEvent
+list_parameters (item i) = []
+list_parameters (inner_list l) = parameters_events l.parameters
+
+-- what stands behind the items
+abbrev closing : Edition → List RawItem → Reader RawMember
+closing edition is = parameters_at edition >>= λ ps. give (inner_of is ps)
+
+closing_events : (edition : Edition) (is : List RawItem) (q : List ℕ) (w : RawMember) (r : List ℕ) → closing edition is q ≡ Ok (w, r) → behind_begin w ≡ closed_events is ++ list_parameters w
+unfolding bind give list_parameters
+closing_events edition is q w r e = on (parameters_at edition q) e
+  where
+    on : (a : Answer RawParameters) → and_then a (λ ps. give (inner_of is ps)) ≡ Ok (w, r) → behind_begin w ≡ closed_events is ++ list_parameters w
+    on (Ok x) h =
+        let here : RawMember × List ℕ = (inner_of is x.0, x.1) in
+        let there : RawMember × List ℕ = (w, r) in
+        let same : here ≡ there = cc in
+        ap (λ (p : RawMember × List ℕ). behind_begin p.0) (sym same) ∙ sym (append_assoc (flat_map inner_item_events is) (inner_list_end ∷ []) (parameters_events x.0)) ∙ ap (λ (p : RawMember × List ℕ). closed_events is ++ list_parameters p.0) same
+    on (Err f) h = absurd cc
+
+module _ {S E : Type 0} (takes : S → TreeEvent → S → Type 0) (refuses : S → TreeEvent → E → Type 0) (edition : Edition) where
+  whole_refused : (t : List ℕ) (from : S) (fault : E) → Refused takes refuses closed_events (inner_items_at edition t) from fault → Refused takes refuses behind_begin (inner_at edition t) from fault
+  unfolding inner_at
+  whole_refused t from fault h = first_refused takes refuses (inner_items_at edition) (closing edition) closed_events behind_begin list_parameters t from fault (λ v q w r e k. closing_events edition v q w r k) h
+
+  -- the items are not read whole
+  pub items_fail : (t : List ℕ) (from to : S) (i j : Bor (List ℕ)) (after : Cursor) (error : ParseError E) → i ≡ j → Tells takes refuses (λ is. flat_map inner_item_events is) i after from to (Err error) (inner_items_at edition t) → Tells takes refuses behind_begin j after from to (Err error) (inner_at edition t)
+  unfolding inner_at
+  items_fail t from to i j after (Syntax e) same h = ErrorOf-part i j e (inner_items_at edition) (λ is. led (closed_events is) (closing edition is)) t _ same refl h
+  items_fail t from to i j after (Visitor fault) same h =
+      whole_refused t from fault (refused_longer takes refuses (λ is. flat_map inner_item_events is) closed_events (inner_items_at edition t) from fault (λ is. (inner_list_end ∷ [], refl)) h)
+
+  -- their end is refused
+  pub end_fails : (t q : List ℕ) (is : List RawItem) (from middle to : S) (j : Bor (List ℕ)) (after : Cursor) (error : ParseError E) → inner_items_at edition t ≡ Ok (is, q) → RunsTo takes from (flat_map inner_item_events is) middle → IsToldRefusal refuses middle inner_list_end error
+      → Tells takes refuses behind_begin j after from to (Err error) (inner_at edition t)
+  end_fails t q is from middle to j after (Syntax e) read run h = absurd h
+  end_fails t q is from middle to j after (Visitor fault) read run h =
+      whole_refused t from fault (refused_behind takes refuses (λ is. flat_map inner_item_events is) closed_events inner_list_end (inner_items_at edition t) is q from middle fault read refl run h)
+
+  -- the items, their end and the parameters
+  pub inner_list_tells : (t q : List ℕ) (is : List RawItem) (from middle end to : S) (i j : Bor (List ℕ)) (after : Cursor) (r : Result (Unit {0}) (ParseError E)) → i ≡ j → inner_items_at edition t ≡ Ok (is, q) → RunsTo takes from (flat_map inner_item_events is) middle → takes middle inner_list_end end
+      → Tells takes refuses parameters_events i after end to r (parameters_at edition q) → Tells takes refuses behind_begin j after from to r (inner_at edition t)
+  unfolding inner_at list_parameters
+  inner_list_tells t q is from middle end to i j after r same read run taken h =
+      then_tells takes refuses (inner_items_at edition) (closing edition) closed_events behind_begin list_parameters t q is from end to i j after r same read
+      (runs_on takes (flat_map inner_item_events is) (inner_list_end ∷ []) from middle end run (end, taken, refl)) (λ w s e. closing_events edition is q w s e)
+      (map_tells takes refuses (λ ps. inner_of is ps) parameters_events list_parameters (parameters_at edition) q end to i after r (λ ps. refl) h)
+
+  -- ---- a member
+
+  member_list : (t q : List ℕ) → Takes (byte 0x28) true t q → member_at edition t ≡ led (begins_inner_list ∷ []) (inner_at edition) q
+  unfolding member_at
+  member_list t q m = branch_true (byte 0x28) _ _ t q m
+
+  abbrev as_item : Reader RawMember
+  as_item = item_at edition >>= λ i. give (item i)
+
+  member_item : (t q : List ℕ) → Takes (byte 0x28) false t q → member_at edition t ≡ led (begins_item ∷ []) as_item q
+  unfolding member_at
+  member_item t q m = branch_false (byte 0x28) _ _ t q m
+
+  -- what an inner list gives begins as one
+  given_list : (is : List RawItem) (a : Answer RawParameters) (v : RawMember) (r : List ℕ) → led_answer (closed_events is) (and_then a (λ ps. give (inner_of is ps))) ≡ Ok (v, r) → member_events v ≡ begins_inner_list ∷ behind_begin v
+  unfolding give
+  given_list is (Ok x) v r h =
+      let here : RawMember × List ℕ = (inner_of is x.0, x.1) in
+      let there : RawMember × List ℕ = (v, r) in
+      let same : here ≡ there = cc in
+      subst (λ (p : RawMember × List ℕ). member_events p.0 ≡ begins_inner_list ∷ behind_begin p.0) same refl
+  given_list is (Err f) v r h = absurd cc
+
+  begins_as_list : (q : List ℕ) (v : RawMember) (r : List ℕ) → led (begins_inner_list ∷ []) (inner_at edition) q ≡ Ok (v, r) → member_events v ≡ begins_inner_list ∷ behind_begin v
+  unfolding inner_at led bind
+  begins_as_list q v r e = on (inner_items_at edition q) e
+    where
+      inner : (b : Answer RawMember) → ((v : RawMember) (r : List ℕ) → b ≡ Ok (v, r) → member_events v ≡ begins_inner_list ∷ behind_begin v) → led_answer (begins_inner_list ∷ []) b ≡ Ok (v, r) → member_events v ≡ begins_inner_list ∷ behind_begin v
+      inner (Ok x) h e =
+          let here : RawMember × List ℕ = x in
+          let there : RawMember × List ℕ = (v, r) in
+          let same : here ≡ there = cc in
+          subst (λ (p : RawMember × List ℕ). member_events p.0 ≡ begins_inner_list ∷ behind_begin p.0) same (h x.0 x.1 refl)
+      inner (Err f) h e = absurd cc
+
+      on : (a : Answer (List RawItem)) → led_answer (begins_inner_list ∷ []) (and_then a (λ is q. led_answer (closed_events is) (and_then (parameters_at edition q) (λ ps. give (inner_of is ps))))) ≡ Ok (v, r) → member_events v ≡ begins_inner_list ∷ behind_begin v
+      on (Ok x) e = inner (led_answer (closed_events x.0) (and_then (parameters_at edition x.1) (λ ps. give (inner_of x.0 ps)))) (given_list x.0 (parameters_at edition x.1)) e
+      on (Err f) e = absurd cc
+
+  pub list_member_tells : (t q : List ℕ) (from middle to : S) (i j : Bor (List ℕ)) (after : Cursor) (r : Result (Unit {0}) (ParseError E)) → i ≡ j → Takes (byte 0x28) true t q → takes from begins_inner_list middle
+      → Tells takes refuses behind_begin i after middle to r (inner_at edition q) → Tells takes refuses member_events j after from to r (member_at edition t)
+  list_member_tells t q from middle to i j after r same m taken h =
+      tells_as takes refuses (λ v. begins_inner_list ∷ behind_begin v) member_events (led (begins_inner_list ∷ []) (inner_at edition) q) (member_at edition t) from to i j after r same (member_list t q m) (begins_as_list q)
+      (led_tells takes refuses begins_inner_list behind_begin (inner_at edition) q from middle to i i after r refl taken h)
+
+  -- an item as a member
+  item_first : (q : List ℕ) → led (begins_item ∷ []) as_item q ≡ (led (begins_item ∷ []) (item_at edition) >>= λ i. give (item i)) q
+  unfolding led bind give
+  item_first q = on (item_at edition q)
+    where
+      on : (a : Answer RawItem) → led_answer (begins_item ∷ []) (and_then a (λ i. give (item i))) ≡ and_then (led_answer (begins_item ∷ []) a) (λ i. give (item i))
+      on (Ok x) = refl
+      on (Err f) = refl
+
+  pub item_member_tells : (t q : List ℕ) (from middle to : S) (i j : Bor (List ℕ)) (after : Cursor) (r : Result (Unit {0}) (ParseError E)) → i ≡ j → Takes (byte 0x28) false t q → takes from begins_item middle
+      → Tells takes refuses item_events i after middle to r (item_at edition q) → Tells takes refuses member_events j after from to r (member_at edition t)
+  item_member_tells t q from middle to i j after r same m taken h =
+      tells_as takes refuses member_events member_events ((led (begins_item ∷ []) (item_at edition) >>= λ i. give (item i)) q) (member_at edition t) from to i j after r same (member_item t q m ∙ item_first q) (λ v s e. refl)
+      (map_tells takes refuses (λ i. item i) (λ i. begins_item ∷ item_events i) member_events (led (begins_item ∷ []) (item_at edition)) q from to i after r (λ i. refl)
+      (led_tells takes refuses begins_item item_events (item_at edition) q from middle to i i after r refl taken h))
+
+  -- the beginning of a member is refused
+  pub list_begin_fails : (t q : List ℕ) (from to : S) (j : Bor (List ℕ)) (after : Cursor) (error : ParseError E) → Takes (byte 0x28) true t q → IsToldRefusal refuses from begins_inner_list error → Tells takes refuses member_events j after from to (Err error) (member_at edition t)
+  list_begin_fails t q from to j after error m h =
+      tells_as takes refuses (λ v. begins_inner_list ∷ behind_begin v) member_events (led (begins_inner_list ∷ []) (inner_at edition) q) (member_at edition t) from to j j after (Err error) refl (member_list t q m) (begins_as_list q)
+      (led_fails takes refuses begins_inner_list behind_begin (inner_at edition) q from to j after error h)
+
+  pub item_begin_fails : (t q : List ℕ) (from to : S) (j : Bor (List ℕ)) (after : Cursor) (error : ParseError E) → Takes (byte 0x28) false t q → IsToldRefusal refuses from begins_item error → Tells takes refuses member_events j after from to (Err error) (member_at edition t)
+  item_begin_fails t q from to j after error m h =
+      tells_as takes refuses member_events member_events ((led (begins_item ∷ []) (item_at edition) >>= λ i. give (item i)) q) (member_at edition t) from to j j after (Err error) refl (member_item t q m ∙ item_first q) (λ v s e. refl)
+      (map_tells takes refuses (λ i. item i) (λ i. begins_item ∷ item_events i) member_events (led (begins_item ∷ []) (item_at edition)) q from to j after (Err error) (λ i. refl)
+      (led_fails takes refuses begins_item item_events (item_at edition) q from to j after error h))
