@@ -1,6 +1,7 @@
 -- What stands between two items of an inner list, and between two members, by what the code found out.
 use Rattle.std.proofs.Common.{◌≡◌, ℕ, Bool, true, false, not, List, [], ◌∷◌, Option, Some, None, Ok, Err, refl, sym, ap, ◌∙◌}
 use Rattle.std.specs.Prelude.{is_some}
+use Rattle.std.proofs.lemmas.Bool.{true≢false}
 use Rattle.sfv_spec.specs.Classes.{is_space, is_space_or_tab}
 use Rattle.sfv_spec.specs.Values.{Edition, RawItem}
 use Rattle.sfv_spec.specs.Events.{TreeEvent}
@@ -167,6 +168,31 @@ members_first {A} parts one t s q e h = bind_again (span is_space) _ t q s e ∙
     on : (q : List ℕ) → is_some (first q) ≡ true → ahead any (one >>= λ m. led (parts m) (many parts (next_at one) >>= λ ms. give (m ∷ ms))) (give []) q ≡ (one >>= λ m. led (parts m) (many parts (next_at one) >>= λ ms. give (m ∷ ms))) q
     on [] h = absurd cc
     on (c ∷ q) h = refl
+
+-- where no member is wanted, the text has ended
+pub ends_there : (t r : List ℕ) → wants_member_at t ≡ Ok (false, r) → r ≡ []
+unfolding ahead fail give bind
+ends_there t r e = let q = span_total is_space_or_tab t in on q.1 (sym (member_is t q.0 q.1 q.2) ∙ e)
+  where
+    never : (a : Answer (Unit {0})) → and_then a (λ _. give true) ≡ Ok (false, r) → r ≡ []
+    never (Ok x) e =
+        let here : Bool × List ℕ = (true, x.1) in
+        let there : Bool × List ℕ = (false, r) in
+        let same : here ≡ there = cc in
+        absurd (true≢false (ap (λ (p : Bool × List ℕ). p.0) same))
+    never (Err f) e = absurd cc
+
+    at : (c : ℕ) (q : List ℕ) (b : Bool) → byte 0x2c c ≡ b → at_comma (c ∷ q) ≡ Ok (false, r) → r ≡ []
+    at c q true e h = never (back trailing_comma comma_at (c ∷ q)) (rw e at h)
+    at c q false e h = let n = rw e at h in absurd cc
+
+    on : (q : List ℕ) → at_comma q ≡ Ok (false, r) → r ≡ []
+    on [] h =
+        let here : Bool × List ℕ = (false, []) in
+        let there : Bool × List ℕ = (false, r) in
+        let same : here ≡ there = cc in
+        sym (ap (λ (p : Bool × List ℕ). p.1) same)
+    on (c ∷ q) h = at c q (byte 0x2c c) refl h
 
 -- behind the comma
 abbrev behind_comma : Reader Bool

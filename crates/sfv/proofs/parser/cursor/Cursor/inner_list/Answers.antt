@@ -1,4 +1,4 @@
-use Rattle.std.proofs.Common.{◌∙◌}
+use Rattle.std.proofs.Common.{refl}
 use Rattle.std.proofs.lemmas.Result.{err_from_is_err_and}
 use Rattle.sfv_text.specs.BareItems.{edition_of}
 use Rattle.sfv.proofs.InnerLists.{items_fail, end_fails, inner_list_tells}
