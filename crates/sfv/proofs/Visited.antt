@@ -3,7 +3,7 @@ use Rattle.std.proofs.Common.{◌≡◌, ℕ, ◌≤◌, Bool, true, false, List
 use Rattle.std.specs.Prelude.{⊤, MatchOption, IfOk, IfErr}
 use Rattle.std.specs.Borrow.{Bor}
 use Rattle.sfv_spec.specs.Classes.{is_space}
-use Rattle.sfv_spec.specs.Values.{Edition, FieldKind, item_field, RawField, RawItem, IsFieldValue}
+use Rattle.sfv_spec.specs.Values.{Edition, FieldKind, item_field, list_field, dictionary_field, RawField, RawItem, IsFieldValue}
 use Rattle.sfv_spec.specs.Grammar.{IsFieldText}
 use Rattle.sfv_spec.specs.Events.{TreeEvent, events, item_events}
 use Rattle.sfv_spec.specs.Visiting.{RunsTo, IsRefused, IsRefusedEarly}
@@ -27,9 +27,9 @@ use Rattle.sfv_reading.proofs.Told.{handed_begins, refused_begins}
 use Rattle.sfv.specs.declared.parser.cursor.Cursor.{Cursor}
 use Rattle.sfv.specs.Cursor.{rest, told, IsErrorOf}
 use Rattle.sfv.specs.Fields.{told_whole}
-use Rattle.sfv.specs.Visits.{Tells, Visits, IsFinishedFirst}
+use Rattle.sfv.specs.Visits.{Tells, Visits, IsFinishedFirst, IsAskedThere}
 use Rattle.sfv.specs.Parsers.{IsAnswerOf, IsSyntaxOf, IsRefusalOf}
-use Rattle.sfv.proofs.Whole.{spaced, field_error}
+use Rattle.sfv.proofs.Whole.{spaced, field_error, ending_told}
 use Rattle.sfv.proofs.Parsed.{reader_fault}
 use Rattle.sfv.proofs.Delimiters.{span_total}
 
@@ -76,6 +76,15 @@ same_value {A} a v w q r e h =
     let parts : here ≡ there = cc in
     ap (λ (p : A × List ℕ). p.0) parts
 
+-- what was read is no fault
+no_fault : {A : Type 0} (a : Answer A) (v : A) (q : List ℕ) (k : ErrorKind) (r : List ℕ) → a ≡ Ok (v, q) → told a ≡ Err (k, r) → ⊥
+no_fault (Ok x) v q k r e h = absurd cc
+no_fault (Err f) v q k r e h = absurd cc
+
+fault_of_whole : (edition : Edition) (kind : FieldKind) (t : List ℕ) (k : ErrorKind) (r : List ℕ) → told (whole_field_at edition kind t) ≡ Err (k, r) → told_whole (read_field edition kind t) ≡ Err (k, r)
+unfolding read_field
+fault_of_whole edition kind t k r h = ending_told (events kind) (whole_field_at edition kind t) k r h
+
 -- an item whose reading fails is none
 no_item : {S O : Type 0} (takes : S → TreeEvent → S → Type 0) (finishes : S → O → Type 0) (edition : Edition) (t s r q : List ℕ) (from : S) (i : List ℕ) (e : Error) (raw : RawItem) → span is_space t ≡ Ok (s, r) → IsErrorOf i e (item_at edition r) → whole_field_at edition item_field t ≡ Ok (raw, q)
     → MatchOption (index_of e) ⊤ (λ index. (s : S) × (out : O) × RunsTo takes from (item_events raw) s × finishes s out)
@@ -115,7 +124,36 @@ pub finish_fails : {S O E : Type 0} (takes : S → TreeEvent → S → Type 0) (
     → Visits takes refuses finishes finish_refuses edition item_field t from (Err (Visitor fault))
 finish_fails takes refuses finishes finish_refuses edition t s r q raw from to fault e k run refused =
     let whole = whole_some edition t s r q raw e k in
-    inr (raw, whole.0, to, whole.1, run, refused)
+    inr (raw, whole.0, to, whole.1, run, refused, tt)
+
+-- ---- members, up to the end
+
+-- an error within the field: a fault, or a refusal
+pub field_fails : {S O E : Type 0} (takes : S → TreeEvent → S → Type 0) (refuses : S → TreeEvent → E → Type 0) (finishes : S → O → Type 0) (finish_refuses : S → E → Type 0) (edition : Edition) (kind : FieldKind) (t : List ℕ) (from to : S) (i : Bor (List ℕ)) (after : Cursor) (error : ParseError E) → i.now ≡ t
+    → Tells takes refuses (events kind) i after from to (Err error) (whole_field_at edition kind t) → Visits takes refuses finishes finish_refuses edition kind t from (Err error)
+field_fails {S} {O} takes refuses finishes finish_refuses edition kind t from to i after (Visitor f) text h = inl h
+field_fails {S} {O} takes refuses finishes finish_refuses edition kind t from to i after (Syntax e) text h = (on (index_of e) here, λ raw q whole. never raw q whole (index_of e) here)
+  where
+    here : IsErrorOf t e (whole_field_at edition kind t)
+    here = subst (λ (u : List ℕ). IsErrorOf u e (whole_field_at edition kind t)) text h
+
+    on : (o : Option ℕ) → MatchOption o (kind_of e ≡ OutOfMemory) (λ index. (told (whole_field_at edition kind t) ≡ Err (kind_of e, drop index t)) × (index ≤ length t)) → MatchOption o (kind_of e ≡ OutOfMemory) (λ index. (told_whole (read_field edition kind t) ≡ Err (kind_of e, drop index t)) × (index ≤ length t))
+    on None m = m
+    on (Some n) m = (fault_of_whole edition kind t _ _ m.0, m.1)
+
+    never : (raw : RawField kind) (q : List ℕ) → whole_field_at edition kind t ≡ Ok (raw, q) → (o : Option ℕ) → MatchOption o (kind_of e ≡ OutOfMemory) (λ index. (told (whole_field_at edition kind t) ≡ Err (kind_of e, drop index t)) × (index ≤ length t))
+        → MatchOption o ⊤ (λ index. (s : S) × (out : O) × RunsTo takes from (events kind raw) s × finishes s out)
+    never raw q whole None m = tt
+    never raw q whole (Some n) m = absurd (no_fault (whole_field_at edition kind t) raw q _ _ whole m.0)
+
+-- the visitor refused to answer at the end
+pub end_refused : {S O E : Type 0} (takes : S → TreeEvent → S → Type 0) (refuses : S → TreeEvent → E → Type 0) (finishes : S → O → Type 0) (finish_refuses : S → E → Type 0) (edition : Edition) (kind : FieldKind) (t q : List ℕ) (raw : RawField kind) (from to : S) (fault : E) → whole_field_at edition kind t ≡ Ok (raw, q) → IsAskedThere kind q → RunsTo takes from (events kind raw) to → finish_refuses to fault
+    → Visits takes refuses finishes finish_refuses edition kind t from (Err (Visitor fault))
+end_refused takes refuses finishes finish_refuses edition kind t q raw from to fault e asked run refused = inr (raw, q, to, e, run, refused, asked)
+
+pub whole_read : (edition : Edition) (kind : FieldKind) (t q : List ℕ) (raw : RawField kind) → whole_field_at edition kind t ≡ Ok (raw, q) → q ≡ [] → read_field edition kind t ≡ Ok raw
+unfolding read_field
+whole_read edition kind t q raw e end = ap (ending (events kind)) (e ∙ ap (λ (l : List ℕ). Ok (raw, l)) end)
 
 -- ---- what this says in the words of the definitions
 
@@ -134,31 +172,39 @@ whole_value edition kind t q raw e =
     let h : Reached (IsFieldText edition kind) (FieldGoes edition kind) (Somewhere (FieldGoes edition kind)) t (Ok (raw, q)) = subst (λ (a : Answer (RawField kind)). Reached (IsFieldText edition kind) (FieldGoes edition kind) (Somewhere (FieldGoes edition kind)) t a) e ((Sound-field edition kind).sound t) in
     (accepted_is_value_lem edition kind h.0 raw h.2).0
 
-module _ {S O E : Type 0} (takes : S → TreeEvent → S → Type 0) (refuses : S → TreeEvent → E → Type 0) (finishes : S → O → Type 0) (finish_refuses : S → E → Type 0) (edition : Edition) (t : List ℕ) (from : S) where
-  refused_on_accepted : (f : E) → Visits takes refuses finishes finish_refuses edition item_field t from (Err (Visitor f)) → (raw : RawItem) → IsFieldText edition item_field raw t → IsRefused takes refuses finish_refuses from (item_events raw) f
+-- where a text is refused, only an item's visitor was asked
+asked_of_item : (kind : FieldKind) (q : List ℕ) → IsAskedThere kind q → (q ≡ [] → ⊥) → kind ≡ item_field
+asked_of_item item_field q asked none = refl
+asked_of_item list_field q asked none = absurd (none asked)
+asked_of_item dictionary_field q asked none = absurd (none asked)
+
+module _ {S O E : Type 0} (takes : S → TreeEvent → S → Type 0) (refuses : S → TreeEvent → E → Type 0) (finishes : S → O → Type 0) (finish_refuses : S → E → Type 0) (edition : Edition) (kind : FieldKind) (t : List ℕ) (from : S) where
+  refused_on_accepted : (f : E) → Visits takes refuses finishes finish_refuses edition kind t from (Err (Visitor f)) → (raw : RawField kind) → IsFieldText edition kind raw t → IsRefused takes refuses finish_refuses from (events kind raw) f
   refused_on_accepted f (inl r) raw h =
-      let e : item_events raw ≡ r.before ++ r.e ∷ r.after = ap (handed (events item_field)) (sym (whole_accepted edition item_field t raw h)) ∙ r.all in
+      let e : events kind raw ≡ r.before ++ r.e ∷ r.after = ap (handed (events kind)) (sym (whole_accepted edition kind t raw h)) ∙ r.all in
       inl (r.before, r.e, r.after, r.s, e, r.taken, r.refused)
   refused_on_accepted f (inr x) raw h =
-      let same = same_value (whole_field_at edition item_field t) x.0 raw x.1 [] x.3 (whole_accepted edition item_field t raw h) in
-      inr (x.2, subst (λ (i : RawItem). RunsTo takes from (item_events i) x.2) same x.4, x.5)
+      let same = same_value (whole_field_at edition kind t) x.0 raw x.1 [] x.3 (whole_accepted edition kind t raw h) in
+      inr (x.2, subst (λ (i : RawField kind). RunsTo takes from (events kind i) x.2) same x.4, x.5)
 
-  refused_early : (f : E) → Visits takes refuses finishes finish_refuses edition item_field t from (Err (Visitor f)) → IsRefusedEarly takes refuses finish_refuses item_field from f
-  refused_early f (inl r) =
-      let begins = handed_begins edition item_field t in
-      inl (r.before, r.e, r.s, refused_begins item_field (handed (events item_field) (whole_field_at edition item_field t)) r.before r.e r.after begins r.all, r.taken, r.refused)
-  refused_early f (inr x) = inr (refl, x.0, x.2, whole_value edition item_field t x.1 x.0 x.3, x.4, x.5)
+  refused_early : (f : E) → Visits takes refuses finishes finish_refuses edition kind t from (Err (Visitor f)) → ((raw : RawField kind) → IsFieldText edition kind raw t → ⊥) → IsRefusedEarly takes refuses finish_refuses kind from f
+  refused_early f (inl r) none =
+      let begins = handed_begins edition kind t in
+      inl (r.before, r.e, r.s, refused_begins kind (handed (events kind) (whole_field_at edition kind t)) r.before r.e r.after begins r.all, r.taken, r.refused)
+  refused_early f (inr x) none =
+      let accepted : x.1 ≡ [] → IsFieldText edition kind x.0 t = λ end. (read_is_accepted edition kind t x.0).0 (whole_read edition kind t x.1 x.0 x.3 end) in
+      inr (asked_of_item kind x.1 x.6 (λ end. none x.0 (accepted end)), x.0, x.2, whole_value edition kind t x.1 x.0 x.3, x.4, x.5)
 
-  pub visits_answer : (r : Result O (ParseError E)) → Visits takes refuses finishes finish_refuses edition item_field t from r → IfOk r (IsAnswerOf takes finishes edition item_field t from)
-  visits_answer (Ok out) h = (h.0, (read_is_accepted edition item_field t h.0).0 h.1, h.2)
+  pub visits_answer : (r : Result O (ParseError E)) → Visits takes refuses finishes finish_refuses edition kind t from r → IfOk r (IsAnswerOf takes finishes edition kind t from)
+  visits_answer (Ok out) h = (h.0, (read_is_accepted edition kind t h.0).0 h.1, h.2)
   visits_answer (Err e) h = tt
 
-  pub visits_syntax : (r : Result O (ParseError E)) → Visits takes refuses finishes finish_refuses edition item_field t from r → IfErr r (IsSyntaxOf takes finishes edition item_field t from)
+  pub visits_syntax : (r : Result O (ParseError E)) → Visits takes refuses finishes finish_refuses edition kind t from r → IfErr r (IsSyntaxOf takes finishes edition kind t from)
   visits_syntax (Ok out) h = tt
-  visits_syntax (Err (Syntax e)) h = let both = reader_fault edition item_field t e h.0 in (both.1, both.0, h.1)
+  visits_syntax (Err (Syntax e)) h = let both = reader_fault edition kind t e h.0 in (both.1, both.0, h.1)
   visits_syntax (Err (Visitor f)) h = tt
 
-  pub visits_refusal : (r : Result O (ParseError E)) → Visits takes refuses finishes finish_refuses edition item_field t from r → IfErr r (IsRefusalOf takes refuses finish_refuses edition item_field t from)
+  pub visits_refusal : (r : Result O (ParseError E)) → Visits takes refuses finishes finish_refuses edition kind t from r → IfErr r (IsRefusalOf takes refuses finish_refuses edition kind t from)
   visits_refusal (Ok out) h = tt
   visits_refusal (Err (Syntax e)) h = tt
   visits_refusal (Err (Visitor f)) h = (refused_on_accepted f h, refused_early f h)

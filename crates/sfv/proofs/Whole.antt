@@ -25,7 +25,7 @@ pub field_is : (edition : Edition) (t s r : List ℕ) → span is_space t ≡ Ok
 unfolding read_field whole_field_at spaced
 field_is edition t s r e = ap (ending (events item_field)) (bind_again (span is_space) _ t r s e)
 
-ending_told : {A : Type 0} (parts : A → List TreeEvent) (a : Answer A) (k : ErrorKind) (r : List ℕ) → told a ≡ Err (k, r) → told_whole (ending parts a) ≡ Err (k, r)
+pub ending_told : {A : Type 0} (parts : A → List TreeEvent) (a : Answer A) (k : ErrorKind) (r : List ℕ) → told a ≡ Err (k, r) → told_whole (ending parts a) ≡ Err (k, r)
 ending_told parts (Ok x) k r h = absurd cc
 ending_told parts (Err f) k r h = ap (λ (p : ErrorKind × List ℕ). Err p) cc
 

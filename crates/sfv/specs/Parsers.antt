@@ -59,4 +59,4 @@ abbrev pub IsRefusalOf : {S E : Type 0} → (S → TreeEvent → S → Type 0) �
 IsRefusalOf takes refuses finish_refuses edition kind t from (Syntax e) = ⊤
 IsRefusalOf takes refuses finish_refuses edition kind t from (Visitor fault) =
     ((raw : RawField kind) → IsFieldText edition kind raw t → IsRefused takes refuses finish_refuses from (events kind raw) fault)
-    × IsRefusedEarly takes refuses finish_refuses kind from fault
+    × (((raw : RawField kind) → IsFieldText edition kind raw t → ⊥) → IsRefusedEarly takes refuses finish_refuses kind from fault)

@@ -1,7 +1,7 @@
 -- What a reading that tells a visitor its events returns.
-use Rattle.std.specs.Prelude.{◌≡◌, ⊤, ℕ, List, Result, Ok, Err, ◌⊎◌, MatchOption, ◌≤◌, length, drop}
+use Rattle.std.specs.Prelude.{◌≡◌, ⊤, ℕ, List, [], Result, Ok, Err, ◌⊎◌, MatchOption, ◌≤◌, length, drop}
 use Rattle.std.specs.Borrow.{Bor}
-use Rattle.sfv_spec.specs.Values.{Edition, FieldKind, RawField}
+use Rattle.sfv_spec.specs.Values.{Edition, FieldKind, item_field, list_field, dictionary_field, RawField}
 use Rattle.sfv_spec.specs.Events.{TreeEvent, events}
 use Rattle.sfv_spec.specs.Visiting.{RunsTo, IsVisited}
 use Rattle.sfv_base.specs.declared.error.Error.{Error}
@@ -33,6 +33,12 @@ abbrev pub IsFinishedFirst : {S O : Type 0} → (S → TreeEvent → S → Type 
 IsFinishedFirst {S} {O} takes finishes edition kind t from e =
     (raw : RawField kind) (q : List ℕ) → whole_field_at edition kind t ≡ Ok (raw, q) → MatchOption (index_of e) ⊤ (λ index. (s : S) × (out : O) × RunsTo takes from (events kind raw) s × finishes s out)
 
+-- The visitor is asked for its answer behind an item whatever follows, and behind members at the end alone.
+abbrev pub IsAskedThere : FieldKind → List ℕ → Type 0
+IsAskedThere item_field q = ⊤
+IsAskedThere list_field q = q ≡ []
+IsAskedThere dictionary_field q = q ≡ []
+
 -- The same of a whole field, behind which the visitor gives its answer, or refuses to.
 abbrev pub Visits : {S O E : Type 0} → (S → TreeEvent → S → Type 0) → (S → TreeEvent → E → Type 0) → (S → O → Type 0) → (S → E → Type 0) → Edition → (kind : FieldKind) → List ℕ → S → Result O (ParseError E) → Type 0
 Visits takes refuses finishes finish_refuses edition kind t from (Ok out) = (raw : RawField kind) × (read_field edition kind t ≡ Ok raw) × IsVisited takes finishes from (events kind raw) out
@@ -41,4 +47,4 @@ Visits takes refuses finishes finish_refuses edition kind t from (Err (Syntax e)
     × IsFinishedFirst takes finishes edition kind t from e
 Visits {S} takes refuses finishes finish_refuses edition kind t from (Err (Visitor f)) =
     Refused takes refuses (events kind) (whole_field_at edition kind t) from f
-    ⊎ ((raw : RawField kind) × (q : List ℕ) × (s : S) × (whole_field_at edition kind t ≡ Ok (raw, q)) × RunsTo takes from (events kind raw) s × finish_refuses s f)
+    ⊎ ((raw : RawField kind) × (q : List ℕ) × (s : S) × (whole_field_at edition kind t ≡ Ok (raw, q)) × RunsTo takes from (events kind raw) s × finish_refuses s f × IsAskedThere kind q)

@@ -7,7 +7,7 @@ use Rattle.sfv.proofs.parser.cursor.Cursor.inner_list.Goals as goal
 pub returns-in_err-inner_items-clause-told : goal.returns-in_err-inner_items-clause-told
 returns-in_err-inner_items-clause-told g c =
     let p = err_from_is_err_and c.from_residual.result c.from_residual.ensures.1 in
-    rw (p.1, p.2) (items_fail g.V.Visitor.takes g.V.Visitor.refuses (edition_of c.args.version) _ _ c.inner_items.new.visitor _ _ c.inner_items.new.self _ refl c.in_err-inner_items.ensures.told)
+    rw (p.1, p.2) (items_fail g.V.Visitor.takes g.V.Visitor.refuses (edition_of c.args.version) _ _ c.inner_items.new.visitor c.args.self.now.input c.args.self.now.input c.inner_items.new.self _ refl c.in_err-inner_items.ensures.told)
 
 pub returns-in_err-tell-clause-told : goal.returns-in_err-tell-clause-told
 returns-in_err-tell-clause-told g c =
