@@ -18,3 +18,4 @@ pub mod Delimiters
 pub mod Telling
 pub mod Loops
 pub mod InnerLists
+pub mod Keyed

@@ -1,7 +1,7 @@
 //! Reading fields (RFC 9651, section 4.2).
 
 ghost use Rattle.std.specs.Prelude.{◌≡◌, IfOk, IfErr};
-ghost use Rattle.sfv_spec.specs.Values.{rfc9651, item_field, list_field};
+ghost use Rattle.sfv_spec.specs.Values.{rfc9651, item_field, list_field, dictionary_field};
 ghost use Rattle.sfv_spec.specs.Statements.{IsParsedAs};
 ghost use Rattle.sfv_text.specs.BareItems.{edition_of};
 
@@ -25,7 +25,7 @@ mod string;
 mod symbols;
 mod text;
 
-use field::{parse_item_field, parse_list_field};
+use field::{parse_dictionary_field, parse_item_field, parse_list_field};
 
 /// Reads an input as a field, under one version of the standard.
 #[derive(Clone, Copy, Debug)]
@@ -109,5 +109,26 @@ impl<'de> Parser<'de> {
         ensures refused { IfErr result (IsRefusalOf V.takes V.refuses V.finish_refuses (parser_edition self.entry) list_field (input_of self.entry) visitor) }
     {
         parse_list_field(alloc, self.input, self.version, visitor)
+    }
+
+    /// Reads the input as a dictionary (RFC 9651, section 4.2), and tells the visitor its parts from left to right. Memory
+    /// for texts with escapes and for byte sequences is asked of `alloc`.
+    ///
+    /// On a dictionary it answers what the visitor answers behind the parts of all members, those of a repeated key too:
+    /// `KeyedEntry` once the key has been read, and then the parts of an item or an inner list. A member without `=` is the
+    /// item true. A refusal of the visitor ends the reading and is the answer (`ParseError::Visitor`). Else the error
+    /// (`ParseError::Syntax`) is that of `parse`. The visitor is asked for its answer only where the input has ended without
+    /// a fault.
+    pub fn parse_dictionary_with_visitor<V: Visitor<'de>>(
+        self,
+        alloc: Global,
+        visitor: V,
+    ) -> Result<V::Out, ParseError<V::Error>>
+        requires { V.is_ready visitor }
+        ensures visited { IfOk result (IsAnswerOf V.takes V.finishes (parser_edition self.entry) dictionary_field (input_of self.entry) visitor) }
+        ensures syntax { IfErr result (IsSyntaxOf V.takes V.finishes (parser_edition self.entry) dictionary_field (input_of self.entry) visitor) }
+        ensures refused { IfErr result (IsRefusalOf V.takes V.refuses V.finish_refuses (parser_edition self.entry) dictionary_field (input_of self.entry) visitor) }
+    {
+        parse_dictionary_field(alloc, self.input, self.version, visitor)
     }
 }

@@ -1,6 +1,6 @@
 //! Reading whole fields (RFC 9651, section 4.2).
 
-ghost use Rattle.sfv_spec.specs.Values.{item_field, list_field};
+ghost use Rattle.sfv_spec.specs.Values.{item_field, list_field, dictionary_field};
 ghost use Rattle.sfv_text.specs.BareItems.{edition_of};
 ghost use Rattle.sfv.specs.Visits.{Visits};
 
@@ -47,6 +47,23 @@ pub(crate) fn parse_list_field<'de, V: Visitor<'de>>(
     ensures { Visits V.takes V.refuses V.finishes V.finish_refuses (edition_of version) list_field input.now visitor result }
 {
     Cursor::new(input).entries(alloc, version, &mut visitor)?;
+    match visitor.finish() {
+        Ok(out) => Ok(out),
+        Err(refusal) => Err(ParseError::Visitor(refusal)),
+    }
+}
+
+/// Reads the input as a dictionary, and tells the visitor its parts. The visitor answers where the input has ended.
+pub(crate) fn parse_dictionary_field<'de, V: Visitor<'de>>(
+    alloc: Global,
+    input: &'de [u8],
+    version: Version,
+    mut visitor: V,
+) -> Result<V::Out, ParseError<V::Error>>
+    requires { V.is_ready visitor }
+    ensures { Visits V.takes V.refuses V.finishes V.finish_refuses (edition_of version) dictionary_field input.now visitor result }
+{
+    Cursor::new(input).keyed_entries(alloc, version, &mut visitor)?;
     match visitor.finish() {
         Ok(out) => Ok(out),
         Err(refusal) => Err(ParseError::Visitor(refusal)),

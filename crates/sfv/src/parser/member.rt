@@ -1,9 +1,9 @@
-//! Reading inner lists, and members of lists (RFC 9651, sections 4.2.1.1 and 4.2.1.2).
+//! Reading inner lists, and the members of lists and dictionaries (RFC 9651, sections 4.2.1 and 4.2.2).
 
 ghost use Rattle.std.specs.Prelude.{◌≡◌, [], OnOk, flat_map};
 ghost use Rattle.sfv_spec.specs.Events.{member_events};
 ghost use Rattle.sfv_text.specs.BareItems.{edition_of};
-ghost use Rattle.sfv_reading.specs.Members.{inner_item_events, inner_item_at, inner_items_at, inner_at, member_at, entry_events, entry_at};
+ghost use Rattle.sfv_reading.specs.Members.{inner_item_events, inner_item_at, inner_items_at, inner_at, member_at, entry_events, entry_at, member_value_at, keyed_events, keyed_at};
 ghost use Rattle.sfv_reading.specs.Fields.{members_at};
 ghost use Rattle.sfv.specs.Cursor.{rest, Gives};
 ghost use Rattle.sfv.specs.Members.{wants_item_at, wants_member_at, behind_begin};
@@ -12,7 +12,7 @@ ghost use Rattle.sfv.specs.Visits.{Tells};
 use crate::parser::cursor::Cursor;
 use crate::parser::item::tell;
 use sfv_base::error::{Error, ErrorKind, ParseError};
-use sfv_text::bare::Version;
+use sfv_text::bare::{GenericBareItem, Version};
 use sfv_tree::visitor::{Event, Visitor};
 use std::alloc::Global;
 
@@ -166,6 +166,65 @@ impl<'de> Cursor<'de> {
         self.entry(alloc, version, visitor)?;
         while self.wants_member()? {
             self.entry(alloc, version, visitor)?;
+        }
+        Ok(())
+    }
+
+    /// Takes what stands behind the key of a member of a dictionary, and tells the visitor its parts. Without `=` it is the
+    /// item true.
+    fn member_value<V: Visitor<'de>>(
+        &mut self,
+        alloc: Global,
+        version: Version,
+        visitor: &mut V,
+    ) -> Result<(), ParseError<V::Error>>
+        requires { V.is_ready visitor.old }
+        ensures ready { OnOk result (V.is_ready visitor.new) }
+        ensures told { Tells V.takes V.refuses member_events self.old.input self.new visitor.old visitor.new result (member_value_at (edition_of version) (rest self.old)) }
+    {
+        if self.take_if(b'=') {
+            return self.member(alloc, version, visitor);
+        }
+        tell(visitor, Event::Item)?;
+        tell(visitor, Event::BareItem(GenericBareItem::Boolean(true)))?;
+        self.parameters(alloc, version, visitor)
+    }
+
+    /// Takes a member of a dictionary, which is told once its key has been read.
+    pub(crate) fn keyed_entry<V: Visitor<'de>>(
+        &mut self,
+        alloc: Global,
+        version: Version,
+        visitor: &mut V,
+    ) -> Result<(), ParseError<V::Error>>
+        requires { V.is_ready visitor.old }
+        ensures ready { OnOk result (V.is_ready visitor.new) }
+        ensures told { Tells V.takes V.refuses keyed_events self.old.input self.new visitor.old visitor.new result (keyed_at (edition_of version) (rest self.old)) }
+    {
+        let key = self.key()?;
+        tell(visitor, Event::KeyedEntry(key))?;
+        self.member_value(alloc, version, visitor)
+    }
+
+    /// Takes the members of a dictionary up to the end of the input, and tells the visitor their parts.
+    pub(crate) fn keyed_entries<V: Visitor<'de>>(
+        &mut self,
+        alloc: Global,
+        version: Version,
+        visitor: &mut V,
+    ) -> Result<(), ParseError<V::Error>>
+        requires { V.is_ready visitor.old }
+        ensures ready { OnOk result (V.is_ready visitor.new) }
+        ensures told { Tells V.takes V.refuses (λ members. flat_map keyed_events members) self.old.input self.new visitor.old visitor.new result (members_at keyed_events (keyed_at (edition_of version)) (rest self.old)) }
+        ensures end { OnOk result (rest self.new ≡ []) }
+    {
+        self.spaces();
+        if self.peek().is_none() {
+            return Ok(());
+        }
+        self.keyed_entry(alloc, version, visitor)?;
+        while self.wants_member()? {
+            self.keyed_entry(alloc, version, visitor)?;
         }
         Ok(())
     }
