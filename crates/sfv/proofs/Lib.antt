@@ -7,6 +7,7 @@ pub mod Errors
 pub mod Built
 pub mod BuiltMembers
 pub mod BuiltLists
+pub mod BuiltDictionaries
 pub mod Whole
 pub mod Parsed
 pub mod Decimals
