@@ -23,11 +23,11 @@ Steps s e after = item_place after ≡ item_step (item_place s) e
 abbrev Ends : ItemBuilder → Item → Type 0
 Ends s item = item_place s ≡ at_end (item_tree item)
 
-insert_entry-entered : (ps : RawParameters) (k : List ℕ) (v : BareValue) → insert_entry bytes_eq ps k v ≡ entered ps k v
+pub insert_entry-entered : {A : Type 0} (ps : List (List ℕ × A)) (k : List ℕ) (v : A) → insert_entry bytes_eq ps k v ≡ entered ps k v
 insert_entry-entered [] k v = refl
-insert_entry-entered (p ∷ ps) k v = ap (λ (rest : RawParameters). cond (bytes_eq k p.0) ((p.0, v) ∷ ps) (p ∷ rest)) (insert_entry-entered ps k v)
+insert_entry-entered {A} (p ∷ ps) k v = ap (λ (rest : List (List ℕ × A)). cond (bytes_eq k p.0) ((p.0, v) ∷ ps) (p ∷ rest)) (insert_entry-entered ps k v)
 
-abbrev with_bare : BareValue → RawParameters → RawItem
+abbrev pub with_bare : BareValue → RawParameters → RawItem
 with_bare b ps = record { bare = b; parameters = ps }
 
 parameters_built : (ps front : RawParameters) (b : BareValue) (s last : ItemBuilder) → item_place s ≡ at_parameters (with_bare b (collapse front)) → RunsTo Steps s (parameters_events ps) last → item_place last ≡ at_end (with_bare b (collapse (front ++ ps)))

@@ -5,6 +5,9 @@ pub mod Contents
 pub mod Coded
 pub mod Errors
 pub mod Built
+pub mod BuiltMembers
+pub mod BuiltLists
+pub mod BuiltDictionaries
 pub mod Whole
 pub mod Parsed
 pub mod Decimals

@@ -1,14 +1,27 @@
 -- Entering into a map is entering into its pairs.
-use Rattle.std.proofs.Common.{◌≡◌, ℕ, Bool, true, false, cond, List, [], ◌∷◌, refl, ap, ◌∙◌}
+use Rattle.std.proofs.Common.{◌≡◌, ℕ, Bool, true, false, cond, List, [], ◌∷◌, map, refl, ap, ◌∙◌}
 use Rattle.std.specs.Prelude.{bytes_eq}
 use Rattle.indexmap.specs.IndexMap.{insert_entry}
 use Rattle.sfv_text.specs.BareItems.{bare_value}
-use Rattle.sfv_tree.specs.Trees.{OwnedBareItem, pair_tree, pairs_tree}
+use Rattle.sfv_tree.specs.Trees.{OwnedBareItem, pairs_tree, member_tree, dictionary_tree}
+use Rattle.sfv_tree.specs.declared.parsed.ListEntry.{ListEntry}
 
-cond_pairs : (b : Bool) (x y : List (List ℕ × OwnedBareItem)) → pairs_tree (cond b x y) ≡ cond b (pairs_tree x) (pairs_tree y)
-cond_pairs true x y = refl
-cond_pairs false x y = refl
+module _ {A B : Type 0} (f : A → B) where
+  abbrev seen : List (List ℕ × A) → List (List ℕ × B)
+  seen es = map (λ p. (p.0, f p.1)) es
+
+  cond_seen : (b : Bool) (x y : List (List ℕ × A)) → seen (cond b x y) ≡ cond b (seen x) (seen y)
+  cond_seen true x y = refl
+  cond_seen false x y = refl
+
+  seen-insert : (es : List (List ℕ × A)) (k : List ℕ) (v : A) → seen (insert_entry bytes_eq es k v) ≡ insert_entry bytes_eq (seen es) k (f v)
+  seen-insert [] k v = refl
+  seen-insert (e ∷ es) k v =
+      cond_seen (bytes_eq k e.0) ((e.0, v) ∷ es) (e ∷ insert_entry bytes_eq es k v)
+      ∙ ap (λ (rest : List (List ℕ × B)). cond (bytes_eq k e.0) ((e.0, f v) ∷ seen es) ((e.0, f e.1) ∷ rest)) (seen-insert es k v)
 
 pub pairs_tree-insert : (es : List (List ℕ × OwnedBareItem)) (k : List ℕ) (v : OwnedBareItem) → pairs_tree (insert_entry bytes_eq es k v) ≡ insert_entry bytes_eq (pairs_tree es) k (bare_value v)
-pairs_tree-insert [] k v = refl
-pairs_tree-insert (e ∷ es) k v = cond_pairs (bytes_eq k e.0) _ _ ∙ ap (λ rest. cond (bytes_eq k e.0) ((e.0, bare_value v) ∷ pairs_tree es) (pair_tree e ∷ rest)) (pairs_tree-insert es k v)
+pairs_tree-insert = seen-insert bare_value
+
+pub dictionary_tree-insert : (es : List (List ℕ × ListEntry)) (k : List ℕ) (v : ListEntry) → dictionary_tree (insert_entry bytes_eq es k v) ≡ insert_entry bytes_eq (dictionary_tree es) k (member_tree v)
+dictionary_tree-insert = seen-insert member_tree

@@ -2,14 +2,16 @@
 use Rattle.std.specs.Prelude.{ℕ, List, [], ◌∷◌, ◌++◌, Option, Some, None, bytes_eq}
 use Rattle.indexmap.specs.IndexMap.{insert_entry}
 use Rattle.sfv_spec.specs.Values.{BareValue, RawItem, RawInnerList, RawMember, item, inner_list}
-use Rattle.sfv_spec.specs.Events.{TreeEvent, entry, begins_item, begins_inner_list, bare_item, parameter, parameters_end, inner_list_end}
-use Rattle.sfv_tree.specs.Trees.{item_tree, inner_list_tree, member_tree, list_tree}
+use Rattle.sfv_spec.specs.Events.{TreeEvent, entry, keyed_entry, begins_item, begins_inner_list, bare_item, parameter, parameters_end, inner_list_end}
+use Rattle.sfv_tree.specs.Trees.{item_tree, inner_list_tree, member_tree, list_tree, dictionary_tree}
 use Rattle.sfv_tree.specs.declared.visitor.item_builder.ItemBuilder.{ItemBuilder}
 use Rattle.sfv_tree.specs.declared.visitor.item_builder.Place.{Place}
 use Rattle.sfv_tree.specs.declared.visitor.item_builder.Place.TheVariants as place
 use Rattle.sfv_tree.specs.declared.visitor.partial_member.PartialMember.{PartialMember}
 use Rattle.sfv_tree.specs.declared.visitor.partial_member.PartialMember.TheVariants as partial
 use Rattle.sfv_tree.specs.declared.visitor.list_builder.ListBuilder.{ListBuilder}
+use Rattle.sfv_tree.specs.declared.visitor.dictionary_builder.DictionaryBuilder.{DictionaryBuilder}
+use Rattle.sfv_tree.specs.declared.visitor.dictionary_builder.PartialPair.{PartialPair}
 
 -- the place of an item's builder: before its bare item, among its parameters, or behind them
 pub data ItemPlace : Type 0 where
@@ -115,3 +117,32 @@ place_among ms (Some m) = within ms (member_place m)
 -- the place of a builder, with the list so far
 abbrev pub list_place : ListBuilder → ListPlace
 list_place b = place_among (list_tree b.list.items) b.member
+
+-- the place of a dictionary's builder, with the pairs that are whole: between two of them, or within the member of a key
+pub data DictionaryPlace : Type 0 where
+  between_pairs : List (List ℕ × RawMember) → DictionaryPlace
+  within_pair : List (List ℕ × RawMember) → List ℕ → MemberPlace → DictionaryPlace
+
+-- a member that has ended is entered: a key that is there keeps its place and takes the new member whole, and a new key goes last
+abbrev pub settle_pair : List (List ℕ × RawMember) → List ℕ → MemberPlace → DictionaryPlace
+settle_pair ms key (ended m) = between_pairs (insert_entry bytes_eq ms key m)
+settle_pair ms key p = within_pair ms key p
+
+-- the place behind an event; every other event changes nothing
+abbrev pub dictionary_step : DictionaryPlace → TreeEvent → DictionaryPlace
+dictionary_step (between_pairs ms) (keyed_entry key) = within_pair ms key begun
+dictionary_step (between_pairs ms) e = between_pairs ms
+dictionary_step (within_pair ms key p) e = settle_pair ms key (member_step p e)
+
+-- the pairs that are whole
+abbrev pub dictionary_members : DictionaryPlace → List (List ℕ × RawMember)
+dictionary_members (between_pairs ms) = ms
+dictionary_members (within_pair ms key p) = ms
+
+abbrev pub place_among_pairs : List (List ℕ × RawMember) → Option PartialPair → DictionaryPlace
+place_among_pairs ms None = between_pairs ms
+place_among_pairs ms (Some p) = within_pair ms p.key (member_place p.member)
+
+-- the place of a builder, with the dictionary so far
+abbrev pub dictionary_place : DictionaryBuilder → DictionaryPlace
+dictionary_place b = place_among_pairs (dictionary_tree b.dictionary.entries) b.pair

@@ -1,4 +1,4 @@
--- The values of parameters, items, inner lists and lists.
+-- The values of parameters, items, inner lists, lists and dictionaries.
 use Rattle.std.specs.Prelude.{ℕ, List, map}
 use Rattle.std.specs.declared.alloc.Global.{Global}
 use Rattle.std.specs.declared.vec.Vec.{Vec}
@@ -31,7 +31,7 @@ item_tree i = record { bare = bare_value i.bare_item; parameters = pairs_tree i.
 abbrev pub inner_list_tree : InnerList → RawInnerList
 inner_list_tree l = record { items = map item_tree l.items.items; parameters = pairs_tree l.params.entries }
 
--- the value of a member of a list
+-- the value of a member of a list or a dictionary
 abbrev pub member_tree : ListEntry → RawMember
 member_tree (entries.Item i) = item (item_tree i)
 member_tree (entries.InnerList l) = inner_list (inner_list_tree l)
@@ -39,3 +39,11 @@ member_tree (entries.InnerList l) = inner_list (inner_list_tree l)
 -- the value of the members of a list, in order
 abbrev pub list_tree : List ListEntry → List RawMember
 list_tree members = map member_tree members
+
+-- the pair of a key and its member
+abbrev pub entry_tree : List ℕ × ListEntry → List ℕ × RawMember
+entry_tree p = (p.0, member_tree p.1)
+
+-- the pairs of a dictionary, in order
+abbrev pub dictionary_tree : List (List ℕ × ListEntry) → List (List ℕ × RawMember)
+dictionary_tree entries = map entry_tree entries

@@ -1,12 +1,15 @@
-//! Lists, inner lists, parameters and items (RFC 9651, sections 3.1 and 3.3).
+//! Lists, dictionaries, inner lists, parameters and items (RFC 9651, sections 3.1 to 3.3).
 
-ghost use Rattle.std.specs.Prelude.{◌≡◌, [], IfOk, map};
+ghost use Rattle.std.specs.Prelude.{◌≡◌, [], IfOk, map, bytes_eq, option_copied};
+ghost use Rattle.indexmap.specs.IndexMap.{get};
+ghost use Rattle.sfv_text.specs.KeyText.{key_text};
 ghost use Rattle.sfv_tree.specs.Trees.{item_tree, pairs_tree, inner_list_tree, member_tree};
 ghost use Rattle.sfv_tree.specs.declared.parsed.ListEntry.TheVariants as entries;
 
 use indexmap::IndexMap;
 use sfv_text::bare::BareItem;
 use sfv_text::key::Key;
+use sfv_text::key_ref::KeyRef;
 use std::alloc::{AllocError, Global};
 
 /// The parameters of an item or an inner list (RFC 9651, section 3.1.2): each key once, in order.
@@ -115,7 +118,7 @@ impl Clone for InnerList {
     }
 }
 
-/// A member of a list (RFC 9651, section 3.1): an item or an inner list.
+/// A member of a list (RFC 9651, section 3.1) or a dictionary (section 3.2): an item or an inner list.
 #[derive(Debug, PartialEq, Drop)]
 pub enum ListEntry {
     /// An item.
@@ -126,6 +129,9 @@ pub enum ListEntry {
 
 /// A list (RFC 9651, section 3.1): its members in order.
 pub type List = Vec<ListEntry>;
+
+/// A dictionary (RFC 9651, section 3.2): each key once, in order, with its member.
+pub type Dictionary = IndexMap<Key, ListEntry>;
 
 impl From<Item> for ListEntry {
     ghost from_gives = { λ item member. member ≡ entries.Item item };
@@ -158,4 +164,28 @@ impl Clone for ListEntry {
             }
         }
     }
+}
+
+/// The member of this key, or `None` if there is none. It takes no memory.
+pub fn find_entry<'a>(dictionary: &'a Dictionary, key: KeyRef<'_>) -> Option<&'a ListEntry>
+    ensures { option_copied result ≡ get bytes_eq dictionary.now (key_text key.entry) }
+{
+    for (name, member) in dictionary {
+        if name.as_str() == key.as_str() {
+            return Some(member);
+        }
+    }
+    None
+}
+
+/// The value of the parameter of this key, or `None` if there is none. It takes no memory.
+pub fn find_param<'a>(params: &'a Parameters, key: KeyRef<'_>) -> Option<&'a BareItem>
+    ensures { option_copied result ≡ get bytes_eq params.now (key_text key.entry) }
+{
+    for (name, value) in params {
+        if name.as_str() == key.as_str() {
+            return Some(value);
+        }
+    }
+    None
 }

@@ -1,5 +1,7 @@
-use crate::parsed::{InnerList, Item, List, ListEntry, Parameters};
-use crate::visitor::{BareItemType, Event, ListBuilder, Visitor};
+use crate::parsed::{
+    Dictionary, InnerList, Item, List, ListEntry, Parameters, find_entry, find_param,
+};
+use crate::visitor::{BareItemType, DictionaryBuilder, Event, ListBuilder, Visitor};
 use sfv_base::error::OutOfMemory;
 use sfv_text::bare::{BareItem, BareItemFromInput};
 use sfv_text::key_ref::KeyRef;
@@ -86,6 +88,8 @@ fn event(letter: char) -> Event<'static> {
     match letter {
         ',' => Event::Entry,
         'k' => Event::KeyedEntry(key_ref("a")),
+        'l' => Event::KeyedEntry(key_ref("b")),
+        'm' => Event::KeyedEntry(key_ref("c")),
         'i' => Event::Item,
         '(' => Event::InnerList,
         'a' => param(key_ref("a"), 1),
@@ -156,6 +160,88 @@ fn event_out_of_its_place_changes_no_list(rt: HostRuntime) -> Result<(), Fail> {
     ];
     for letters in cases {
         assert!(rt; build(alloc, held.clone()?, letters)? == want, "{letters}");
+    }
+    Ok(())
+}
+
+// What is built of the events behind a dictionary.
+fn build_dictionary(
+    alloc: Global,
+    dictionary: Dictionary,
+    letters: &str,
+) -> Result<Dictionary, OutOfMemory> {
+    let mut builder = DictionaryBuilder::new(alloc, dictionary);
+    for letter in letters.chars() {
+        builder.event(event(letter))?;
+    }
+    builder.finish()
+}
+
+#[test]
+fn keys_are_found(rt: HostRuntime) -> Result<(), Fail> {
+    let alloc = rt.alloc();
+    let dictionary = build_dictionary(alloc, Dictionary::new(alloc), "ki5;li6ab;")?;
+    let six = find_entry(&dictionary, key_ref("b"));
+    assert!(rt;
+        matches!(six, Some(ListEntry::Item(item)) if item.bare_item == BareItem::from(6u8))
+    );
+    assert!(rt; find_entry(&dictionary, key_ref("c")).is_none());
+    let params = item_of(alloc, 6, key_ref("b"), 7)?.params;
+    assert!(rt; find_param(&params, key_ref("b")) == Some(&BareItem::from(7u8)));
+    assert!(rt; find_param(&params, key_ref("a")).is_none());
+    Ok(())
+}
+
+#[test]
+fn dictionary_is_built_event_by_event(rt: HostRuntime) -> Result<(), Fail> {
+    let alloc = rt.alloc();
+    let held = build_dictionary(alloc, Dictionary::new(alloc), "li5ab;k(i5a;i6;)aA;")?;
+    assert_eq!(rt; held.len(), 2);
+    let items = vec![in alloc;
+        item_of(alloc, 5, key_ref("a"), 1)?,
+        Item::new(alloc, BareItem::from(6u8)),
+    ]?;
+    let inner = InnerList::with_params(items, item_of(alloc, 0, key_ref("a"), 2)?.params);
+    assert!(rt; find_entry(&held, key_ref("a")) == Some(&ListEntry::from(inner)));
+
+    // A key that is there keeps its place, and takes the new member with its parameters.
+    let dictionary = build_dictionary(alloc, held, "mi5;li6A;li6;")?;
+    let plain = ListEntry::from(Item::new(alloc, BareItem::from(6u8)));
+    assert_eq!(rt; dictionary.len(), 3);
+    assert!(rt; find_entry(&dictionary, key_ref("b")) == Some(&plain));
+    let mut keys = dictionary.keys();
+    for want in ["b", "a", "c"] {
+        assert!(rt; matches!(keys.next(), Some(key) if key.as_str() == want));
+    }
+    Ok(())
+}
+
+#[test]
+fn event_out_of_its_place_changes_no_dictionary(rt: HostRuntime) -> Result<(), Fail> {
+    let alloc = rt.alloc();
+    let held = build_dictionary(alloc, Dictionary::new(alloc), "mi6;")?;
+    let want = build_dictionary(alloc, held.clone()?, "k(i5b;)a;li5;")?;
+    assert_eq!(rt; want.len(), 3);
+    let cases = [
+        // between the members
+        "i5a;(),k(i5b;)a;li5;",
+        // before what says what the member is
+        "k,l5a;)(i5b;)a;l5;i5;",
+        // among the items of an inner list
+        "k(,l(5a;i5b;)a;li5;",
+        // before the bare items
+        "k(i,li(a;)5b;)a;li,ki(a;)5;",
+        // among the parameters
+        "k(i5,li(6b);)a,li(6);li5,ki(6);",
+        // a member that has not ended
+        "k(i5b;)a;li5;mi5a",
+        "k(i5b;)a;li5;m(i6;i5",
+    ];
+    for letters in cases {
+        assert!(rt;
+            build_dictionary(alloc, held.clone()?, letters)? == want,
+            "{letters}"
+        );
     }
     Ok(())
 }

@@ -5,11 +5,13 @@ ghost use Rattle.sfv_spec.specs.Events.{TreeEvent};
 ghost use Rattle.sfv_tree.specs.Kinds.{kind_text, fault_text};
 ghost use Rattle.sfv_tree.specs.Events.{event_of};
 
+mod dictionary_builder;
 mod item_builder;
 mod list_builder;
 mod parameters;
 mod partial_member;
 
+pub use dictionary_builder::DictionaryBuilder;
 pub use item_builder::ItemBuilder;
 pub use list_builder::ListBuilder;
 use sfv_text::bare::BareItemFromInput;
