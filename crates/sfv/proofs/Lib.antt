@@ -14,3 +14,4 @@ pub mod Params
 pub mod Lent
 pub mod Told
 pub mod Visited
+pub mod Rows

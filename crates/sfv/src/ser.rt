@@ -5,6 +5,7 @@ mod byte_sequence;
 mod display_string;
 mod item;
 mod item_serializer;
+mod list;
 mod number;
 mod parameter_serializer;
 mod string;
