@@ -15,3 +15,4 @@ pub mod Lent
 pub mod Told
 pub mod Visited
 pub mod Rows
+pub mod Members

@@ -21,7 +21,7 @@ none_equal : (k : List ℕ) (ks : List (List ℕ)) → AllByRecursion (λ j. byt
 none_equal k [] h = refl
 none_equal k (j ∷ ks) h = rw (h.0, none_equal k ks h.1) refl
 
-no_repeats-distinct : (ks : List (List ℕ)) → IsDistinct bytes_eq ks → IsTrue (no_repeats ks)
+pub no_repeats-distinct : (ks : List (List ℕ)) → IsDistinct bytes_eq ks → IsTrue (no_repeats ks)
 unfolding IsDistinct
 no_repeats-distinct [] h = refl
 no_repeats-distinct (k ∷ ks) h = rw (none_equal k ks h.0, no_repeats-distinct ks h.1) refl

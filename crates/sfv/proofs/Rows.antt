@@ -4,6 +4,7 @@ use Rattle.std.specs.Prelude.{IfErr}
 use Rattle.std.specs.List.{AllByRecursion}
 use Rattle.std.proofs.lemmas.List.{take_more, map-append, append-nil}
 use Rattle.sfv_spec.specs.Texts.{joined}
+use Rattle.sfv.specs.Written.{Extends}
 
 abbrev pub is_none : {A : Type 0} → List A → Bool
 is_none [] = true
@@ -83,3 +84,11 @@ anyway X (Err e) x = x
 -- a row between its brackets, and what stands behind them
 pub enclosed : (old opening row closing behind : List ℕ) → (((old ++ opening) ++ row) ++ closing) ++ behind ≡ old ++ (((opening ++ row) ++ closing) ++ behind)
 enclosed old opening row closing behind = simp append_assoc
+
+-- what was added where a part isn't written to its end
+pub broken_off : (before row between output led new : List ℕ) → output ≡ before ++ row → led ≡ output ++ between → Extends led new → Extends before new
+broken_off before row between output led new o l more = (
+  row ++ (between ++ more.0),
+  more.1 ∙ ap (λ (t : List ℕ). t ++ more.0) (l ∙ ap (λ (t : List ℕ). t ++ between) o)
+      ∙ append_assoc (before ++ row) between more.0 ∙ append_assoc before row (between ++ more.0),
+)

@@ -10,3 +10,4 @@ pub mod Quoted
 pub mod Written
 pub mod Serializers
 pub mod Visits
+pub mod Dictionaries

@@ -2,6 +2,7 @@
 
 mod append;
 mod byte_sequence;
+mod dictionary;
 mod display_string;
 mod item;
 mod item_serializer;
