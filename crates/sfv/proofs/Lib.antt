@@ -22,3 +22,5 @@ pub mod Telling
 pub mod Loops
 pub mod InnerLists
 pub mod Keyed
+pub mod Rows
+pub mod Members

@@ -11,3 +11,4 @@ pub mod Written
 pub mod Serializers
 pub mod Visits
 pub mod Members
+pub mod Dictionaries

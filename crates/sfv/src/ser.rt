@@ -2,9 +2,11 @@
 
 mod append;
 mod byte_sequence;
+mod dictionary;
 mod display_string;
 mod item;
 mod item_serializer;
+mod list;
 mod number;
 mod parameter_serializer;
 mod string;

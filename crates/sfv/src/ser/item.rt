@@ -54,12 +54,28 @@ pub(crate) fn serialize_bare_item<A: Allocator>(
     }
 }
 
-/// Whether the value is true, which a parameter leaves out.
+/// Whether the value is true, which stands behind no key.
 fn is_true(value: &RefBareItem<'_>) -> bool
     ensures { MatchBool result (ref_value value.now ≡ boolean true)
         (value_text (ref_value value.now) ≡ codes "=" ++ bare_text (ref_value value.now)) }
 {
     matches!(value, GenericBareItem::Boolean(true))
+}
+
+/// Appends what stands behind a key: nothing for true, and else an equals sign and the value.
+pub(crate) fn serialize_value<A: Allocator>(
+    value: &RefBareItem<'_>,
+    output: &mut StdString<A>,
+) -> Result<(), OutOfMemory>
+    ensures ok { OnOk result (string_bytes output.new ≡ string_bytes output.old ++ value_text (ref_value value.now)) }
+    ensures err { OnErr result (Extends (string_bytes output.old) (string_bytes output.new)) }
+    ensures value { OnOk result (IsBareValue (ref_value value.now)) }
+{
+    if is_true(value) {
+        return Ok(());
+    }
+    output.push('=')?;
+    serialize_bare_item(value, output)
 }
 
 /// Appends a parameter.
@@ -76,11 +92,7 @@ pub(crate) fn serialize_parameter<A: Allocator>(
 {
     output.push(';')?;
     output.push_str(key.as_str())?;
-    if is_true(value) {
-        return Ok(());
-    }
-    output.push('=')?;
-    serialize_bare_item(value, output)
+    serialize_value(value, output)
 }
 
 /// Appends parameters.
