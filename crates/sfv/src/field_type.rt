@@ -1,16 +1,16 @@
 //! The types of fields.
 
-ghost use Rattle.std.specs.Prelude.{◌≡◌, IfOk, IfErr, string_bytes};
-ghost use Rattle.sfv_spec.specs.Values.{FieldKind, RawField, item_field};
+ghost use Rattle.std.specs.Prelude.{◌≡◌, [], IfOk, IfErr, MatchOption, string_bytes};
+ghost use Rattle.sfv_spec.specs.Values.{FieldKind, RawField, HasMember, item_field, list_field, dictionary_field};
 ghost use Rattle.sfv_spec.specs.Statements.{IsParsedAs, IsWrittenAs};
-ghost use Rattle.sfv_tree.specs.Trees.{item_tree};
+ghost use Rattle.sfv_tree.specs.Trees.{item_tree, list_tree, dictionary_tree};
 ghost use Rattle.sfv.specs.Parsers.{input_of, parser_edition, IsParseError, IsReaderFault};
 
 use crate::parser::Parser;
-use crate::ser::serialize_item;
+use crate::ser::{dictionary_text, list_text, serialize_item};
 use sfv_base::error::{Error, OutOfMemory, ParseError};
-use sfv_tree::parsed::Item;
-use sfv_tree::visitor::ItemBuilder;
+use sfv_tree::parsed::{Dictionary, Item, List};
+use sfv_tree::visitor::{DictionaryBuilder, ItemBuilder, ListBuilder};
 use std::alloc::Global;
 use std::string::String as StdString;
 
@@ -18,13 +18,17 @@ mod sealed {
     pub trait Sealed {}
 
     impl Sealed for sfv_tree::parsed::Item {}
+
+    impl Sealed for sfv_tree::parsed::List {}
+
+    impl Sealed for sfv_tree::parsed::Dictionary {}
 }
 
-/// A type of field: `Item`.
+/// A type of field: `Item`, `List` or `Dictionary`.
 ///
 /// A contract sees a value as its tree, by the kind of field that it is.
 pub trait FieldType: sealed::Sealed + Drop {
-    /// What `serialize` answers.
+    /// What `serialize` answers: a text, of a list or a dictionary only if it has a member.
     type SerializeResult: Drop;
 
     ghost kind: { FieldKind };
@@ -39,9 +43,11 @@ pub trait FieldType: sealed::Sealed + Drop {
         ensures refused { IfErr result (IsParseError (parser_edition parser.entry) kind (input_of parser.entry)) }
         ensures fault { IfErr result (IsReaderFault (parser_edition parser.entry) kind (input_of parser.entry)) };
 
-    /// Writes the canonical text (RFC 9651, section 4.1), with memory from `alloc`; refused where memory is.
+    /// Writes the canonical text (RFC 9651, section 4.1), with memory from `alloc`; refused where memory is. Of a list or
+    /// a dictionary without members nothing is written, and the answer is `None` and takes no memory.
     fn serialize(&self, alloc: Global) -> Result<Self::SerializeResult, OutOfMemory>
-        ensures { IfOk result (is_text self.now) };
+        ensures text { IfOk result (is_text self.now) }
+        ensures memory { IfErr result (λ _. HasMember kind (tree self.now)) };
 }
 
 impl FieldType for Item {
@@ -66,5 +72,53 @@ impl FieldType for Item {
         let mut text = StdString::new(alloc);
         serialize_item(self, &mut text)?;
         Ok(text)
+    }
+}
+
+impl FieldType for List {
+    type SerializeResult = Option<StdString>;
+
+    ghost kind = { list_field };
+
+    ghost tree = { λ list. list_tree list.items };
+
+    ghost is_text = { λ list text. MatchOption text (list_tree list.items ≡ [])
+        (λ text. HasMember list_field (list_tree list.items) × IsWrittenAs list_field (list_tree list.items) (string_bytes text)) };
+
+    fn parse(alloc: Global, parser: Parser<'_>) -> Result<List, Error> {
+        match parser.parse_list_with_visitor(alloc, ListBuilder::new(alloc, List::new(alloc))) {
+            Ok(list) => Ok(list),
+            Err(ParseError::Syntax(error)) => Err(error),
+            Err(ParseError::Visitor(refused)) => Err(Error::from(refused)),
+        }
+    }
+
+    fn serialize(&self, alloc: Global) -> Result<Option<StdString>, OutOfMemory> {
+        list_text(self, alloc)
+    }
+}
+
+impl FieldType for Dictionary {
+    type SerializeResult = Option<StdString>;
+
+    ghost kind = { dictionary_field };
+
+    ghost tree = { λ dictionary. dictionary_tree dictionary.entries };
+
+    ghost is_text = { λ dictionary text. MatchOption text (dictionary_tree dictionary.entries ≡ [])
+        (λ text. HasMember dictionary_field (dictionary_tree dictionary.entries)
+            × IsWrittenAs dictionary_field (dictionary_tree dictionary.entries) (string_bytes text)) };
+
+    fn parse(alloc: Global, parser: Parser<'_>) -> Result<Dictionary, Error> {
+        let builder = DictionaryBuilder::new(alloc, Dictionary::new(alloc));
+        match parser.parse_dictionary_with_visitor(alloc, builder) {
+            Ok(dictionary) => Ok(dictionary),
+            Err(ParseError::Syntax(error)) => Err(error),
+            Err(ParseError::Visitor(refused)) => Err(Error::from(refused)),
+        }
+    }
+
+    fn serialize(&self, alloc: Global) -> Result<Option<StdString>, OutOfMemory> {
+        dictionary_text(self, alloc)
     }
 }

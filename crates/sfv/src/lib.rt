@@ -27,5 +27,7 @@ pub use sfv_text::string::String;
 pub use sfv_text::string_ref::StringRef;
 pub use sfv_text::token::Token;
 pub use sfv_text::token_ref::TokenRef;
-pub use sfv_tree::parsed::{InnerList, Item, List, ListEntry, Parameters};
+pub use sfv_tree::parsed::{
+    Dictionary, InnerList, Item, List, ListEntry, Parameters, find_entry, find_param,
+};
 pub use sfv_tree::visitor;

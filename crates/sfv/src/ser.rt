@@ -11,6 +11,8 @@ mod number;
 mod parameter_serializer;
 mod string;
 
+pub(crate) use dictionary::dictionary_text;
 pub(crate) use item::serialize_item;
 pub use item_serializer::ItemSerializer;
+pub(crate) use list::list_text;
 pub use parameter_serializer::ParameterSerializer;
