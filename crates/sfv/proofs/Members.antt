@@ -10,7 +10,7 @@ use Rattle.sfv_spec.specs.Values.{RawMember, IsMember}
 use Rattle.sfv_spec.specs.Ordered.{IsOrderedMember, keys, no_repeats}
 use Rattle.sfv_tree.specs.declared.parsed.ListEntry.{ListEntry}
 use Rattle.sfv_tree.specs.Trees.{member_tree}
-use Rattle.sfv.specs.Dictionaries.{dictionary_tree}
+use Rattle.sfv_tree.specs.Trees.{dictionary_tree}
 use Rattle.sfv.proofs.Params.{no_repeats-distinct}
 
 -- the pairs that are lent

@@ -11,4 +11,3 @@ pub mod Written
 pub mod Serializers
 pub mod Visits
 pub mod Members
-pub mod Dictionaries

@@ -107,7 +107,7 @@ impl FieldType for Dictionary {
 
     ghost is_text = { λ dictionary text. MatchOption text (dictionary_tree dictionary.entries ≡ [])
         (λ text. HasMember dictionary_field (dictionary_tree dictionary.entries)
-            × IsWrittenAs dictionary_field (dictionary_tree dictionary.entries) (string_bytes text)) };
+        × IsWrittenAs dictionary_field (dictionary_tree dictionary.entries) (string_bytes text)) };
 
     fn parse(alloc: Global, parser: Parser<'_>) -> Result<Dictionary, Error> {
         let builder = DictionaryBuilder::new(alloc, Dictionary::new(alloc));

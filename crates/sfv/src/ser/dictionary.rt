@@ -7,21 +7,16 @@ ghost use Rattle.sfv_spec.specs.Ordered.{IsOrderedMember};
 ghost use Rattle.sfv_spec.specs.Canonical.{value_text, parameters_text, dictionary_member_text, canonical};
 ghost use Rattle.sfv_spec.specs.Statements.{IsValue, IsWrittenAs};
 ghost use Rattle.sfv_text.specs.BareItems.{bare_value};
-ghost use Rattle.sfv_tree.specs.Trees.{pairs_tree, item_tree, member_tree};
+ghost use Rattle.sfv_tree.specs.Trees.{pairs_tree, item_tree, member_tree, dictionary_tree};
 ghost use Rattle.sfv.specs.Written.{Extends};
-ghost use Rattle.sfv.specs.Dictionaries.{dictionary_tree};
 
 use crate::ser::item::{serialize_parameters, serialize_value};
 use crate::ser::list::serialize_inner_list;
-use indexmap::IndexMap;
 use sfv_base::error::OutOfMemory;
 use sfv_text::key::Key;
-use sfv_tree::parsed::{Item, ListEntry};
+use sfv_tree::parsed::{Dictionary, Item, ListEntry};
 use std::alloc::{Allocator, Global};
 use std::string::String as StdString;
-
-/// A dictionary (RFC 9651, section 3.2): each key once, in order.
-pub(crate) type Dictionary = IndexMap<Key, ListEntry>;
 
 /// Appends an item behind its key: a value that is true is left out.
 fn serialize_item_behind_key<A: Allocator>(

@@ -1,7 +1,7 @@
 use Rattle.std.proofs.Common.{◌++◌, ◌<◌, ◌∙◌, List, ℕ, length, ap, rules}
 use Rattle.sfv_spec.specs.Values.{HasMember, dictionary_field}
 use Rattle.sfv_spec.specs.Canonical.{canonical}
-use Rattle.sfv.specs.Dictionaries.{entry_tree, dictionary_tree}
+use Rattle.sfv_tree.specs.Trees.{entry_tree, dictionary_tree}
 use Rattle.sfv.proofs.Parsed.{written}
 use Rattle.sfv.proofs.Rows.{first_of_some, anyway}
 use Rattle.sfv.proofs.ser.dictionary.dictionary_text.Goals as goal

@@ -8,7 +8,7 @@ use Rattle.sfv_spec.specs.Ordered.{IsOrderedMember}
 use Rattle.sfv_spec.specs.Canonical.{dictionary_member_text}
 use Rattle.sfv_tree.specs.Trees.{member_tree}
 use Rattle.sfv.specs.Written.{Extends}
-use Rattle.sfv.specs.Dictionaries.{dictionary_tree}
+use Rattle.sfv_tree.specs.Trees.{dictionary_tree}
 use Rattle.sfv.proofs.Rows.{row_more, all_both, anyway, broken_off}
 use Rattle.sfv.proofs.Members.{lent_members, IsGoodMember, member_taken, member_pushed, members_all, members_distinct}
 use Rattle.sfv.proofs.ser.dictionary.serialize_dictionary.Goals as goal

@@ -1,6 +1,6 @@
 use Rattle.std.proofs.Common.{◌≡◌, ◌++◌, codes, string_bytes}
 use Rattle.sfv_spec.specs.Canonical.{dictionary_member_text}
-use Rattle.sfv.specs.Dictionaries.{dictionary_tree}
+use Rattle.sfv_tree.specs.Trees.{dictionary_tree}
 use Rattle.sfv.proofs.Rows.{IsRow}
 use Rattle.sfv.proofs.Members.{lent_members, IsGoodMember}
 use Rattle.sfv.proofs.ser.dictionary.serialize_dictionary.Given as goal

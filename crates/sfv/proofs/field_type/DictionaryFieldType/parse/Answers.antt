@@ -1,0 +1,6 @@
+use Rattle.sfv.specs.Parsers.{input_of, parser_edition}
+use Rattle.sfv.proofs.BuiltDictionaries.{built_dictionary}
+use Rattle.sfv.proofs.field_type.DictionaryFieldType.parse.Goals as goal
+
+pub returns-in-Ok-clause-read : goal.returns-in-Ok-clause-read
+returns-in-Ok-clause-read c = built_dictionary (parser_edition c.args.parser) (input_of c.args.parser) c.new-builder.result c.in-Ok.dictionary c.new-builder.ensures c.in-Ok.ensures.visited
