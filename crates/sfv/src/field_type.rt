@@ -86,7 +86,8 @@ impl FieldType for List {
         (λ text. HasMember list_field (list_tree list.items) × IsWrittenAs list_field (list_tree list.items) (string_bytes text)) };
 
     fn parse(alloc: Global, parser: Parser<'_>) -> Result<List, Error> {
-        match parser.parse_list_with_visitor(alloc, ListBuilder::new(alloc, List::new(alloc))) {
+        let builder = ListBuilder::new(alloc, List::new(alloc));
+        match parser.parse_list_with_visitor(alloc, builder) {
             Ok(list) => Ok(list),
             Err(ParseError::Syntax(error)) => Err(error),
             Err(ParseError::Visitor(refused)) => Err(Error::from(refused)),

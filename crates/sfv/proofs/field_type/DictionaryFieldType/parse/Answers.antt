@@ -1,6 +1,11 @@
+use Rattle.std.proofs.Common.{ℕ, List, ap, ◌∙◌}
+use Rattle.sfv_tree.specs.Trees.{dictionary_tree}
+use Rattle.sfv_tree.specs.Builders.{between_pairs}
+use Rattle.sfv_tree.specs.declared.parsed.ListEntry.{ListEntry}
 use Rattle.sfv.specs.Parsers.{input_of, parser_edition}
 use Rattle.sfv.proofs.BuiltDictionaries.{built_dictionary}
 use Rattle.sfv.proofs.field_type.DictionaryFieldType.parse.Goals as goal
 
 pub returns-in-Ok-clause-read : goal.returns-in-Ok-clause-read
-returns-in-Ok-clause-read c = built_dictionary (parser_edition c.args.parser) (input_of c.args.parser) c.new-builder.result c.in-Ok.dictionary c.new-builder.ensures c.in-Ok.ensures.visited
+returns-in-Ok-clause-read c =
+    built_dictionary (parser_edition c.args.parser) (input_of c.args.parser) c.new-builder.result c.in-Ok.dictionary (c.new-builder.ensures ∙ ap (λ (entries : List (List ℕ × ListEntry)). between_pairs (dictionary_tree entries)) c.new.ensures.empty) c.in-Ok.ensures.visited
