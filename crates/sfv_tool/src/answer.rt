@@ -1,12 +1,13 @@
 //! What the program answers to an input.
 
-ghost use Rattle.std.specs.Prelude.{◌≡◌, IfOk, IfErr, string_bytes};
-ghost use Rattle.sfv_spec.specs.Values.{item_field};
+ghost use Rattle.std.specs.Prelude.{◌≡◌, ◌++◌, IfOk, IfErr, codes, string_bytes};
+ghost use Rattle.sfv_base.specs.Errors.{out_of_memory};
+ghost use Rattle.sfv_spec.specs.Values.{item_field, list_field, dictionary_field};
 ghost use Rattle.sfv_text.specs.BareItems.{edition_of};
 ghost use Rattle.sfv.specs.Parsers.{IsParseError, IsReaderFault};
-ghost use Rattle.sfv_tool.specs.Answers.{kind_of_field, without_newline, IsAnswer};
+ghost use Rattle.sfv_tool.specs.Answers.{kind_of_field, without_newline, text_or_empty, IsAnswer};
 
-use sfv::{Error, FieldType, Item, Parser, Version};
+use sfv::{Dictionary, Error, FieldType, Item, List, Parser, Version};
 use std::alloc::Global;
 
 /// The types of fields that the program reads.
@@ -14,6 +15,10 @@ use std::alloc::Global;
 pub enum Field {
     /// An item.
     Item,
+    /// A list.
+    List,
+    /// A dictionary.
+    Dict,
 }
 
 /// The input without one closing newline byte, if there is one.
@@ -26,6 +31,19 @@ fn without_newline(input: &[u8]) -> &[u8]
     }
 }
 
+/// The line of a field's text, which is empty where nothing was written.
+fn line(alloc: Global, text: Option<String>) -> Result<String, Error>
+    ensures line { IfOk result (λ line. string_bytes line ≡ text_or_empty text ++ codes "\n") }
+    ensures memory { IfErr result (λ error. error ≡ out_of_memory) }
+{
+    let mut line = match text {
+        Some(text) => text,
+        None => String::new(alloc),
+    };
+    line.push('\n')?;
+    Ok(line)
+}
+
 /// Reads the input as an item, and answers its canonical text and a newline.
 fn answer_item(alloc: Global, version: Version, input: &[u8]) -> Result<String, Error>
     ensures accepted { IfOk result (λ text. IsAnswer (edition_of version) item_field input.now (string_bytes text)) }
@@ -33,13 +51,35 @@ fn answer_item(alloc: Global, version: Version, input: &[u8]) -> Result<String, 
     ensures fault { IfErr result (IsReaderFault (edition_of version) item_field input.now) }
 {
     let parser = Parser::new(input).with_version(version);
-    let mut text = parser.parse::<Item>(alloc)?.serialize(alloc)?;
-    text.push('\n')?;
-    Ok(text)
+    let item = parser.parse::<Item>(alloc)?;
+    line(alloc, Some(item.serialize(alloc)?))
+}
+
+/// Reads the input as a list, and answers its canonical text and a newline.
+fn answer_list(alloc: Global, version: Version, input: &[u8]) -> Result<String, Error>
+    ensures accepted { IfOk result (λ text. IsAnswer (edition_of version) list_field input.now (string_bytes text)) }
+    ensures refused { IfErr result (IsParseError (edition_of version) list_field input.now) }
+    ensures fault { IfErr result (IsReaderFault (edition_of version) list_field input.now) }
+{
+    let parser = Parser::new(input).with_version(version);
+    let list = parser.parse::<List>(alloc)?;
+    line(alloc, list.serialize(alloc)?)
+}
+
+/// Reads the input as a dictionary, and answers its canonical text and a newline.
+fn answer_dictionary(alloc: Global, version: Version, input: &[u8]) -> Result<String, Error>
+    ensures accepted { IfOk result (λ text. IsAnswer (edition_of version) dictionary_field input.now (string_bytes text)) }
+    ensures refused { IfErr result (IsParseError (edition_of version) dictionary_field input.now) }
+    ensures fault { IfErr result (IsReaderFault (edition_of version) dictionary_field input.now) }
+{
+    let parser = Parser::new(input).with_version(version);
+    let dictionary = parser.parse::<Dictionary>(alloc)?;
+    line(alloc, dictionary.serialize(alloc)?)
 }
 
 /// Reads the input, without one closing newline byte, as a field of this type, and answers its
-/// canonical text and a newline, or the fault that `Parser::parse` answers.
+/// canonical text and a newline, for a list or a dictionary without members the newline alone, or the
+/// fault that `Parser::parse` answers.
 pub fn answer(alloc: Global, field: Field, version: Version, input: &[u8]) -> Result<String, Error>
     ensures accepted { IfOk result (λ text. IsAnswer (edition_of version) (kind_of_field field) (without_newline input.now) (string_bytes text)) }
     ensures refused { IfErr result (IsParseError (edition_of version) (kind_of_field field) (without_newline input.now)) }
@@ -48,5 +88,7 @@ pub fn answer(alloc: Global, field: Field, version: Version, input: &[u8]) -> Re
     let input = without_newline(input);
     match field {
         Field::Item => answer_item(alloc, version, input),
+        Field::List => answer_list(alloc, version, input),
+        Field::Dict => answer_dictionary(alloc, version, input),
     }
 }

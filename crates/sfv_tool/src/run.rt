@@ -18,6 +18,8 @@ fn request(args: &[String]) -> Option<(Field, Version)> {
     };
     let field = match field.as_str() {
         "item" => Field::Item,
+        "list" => Field::List,
+        "dict" => Field::Dict,
         _ => return None,
     };
     let version = match version.as_str() {

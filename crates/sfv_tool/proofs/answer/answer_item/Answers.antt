@@ -1,18 +1,15 @@
-use Rattle.std.proofs.Common.{◌≡◌, ◌∙◌, refl, lit<}
+use Rattle.std.proofs.Common.{◌≡◌, ◌∙◌, Some}
 use Rattle.sfv_spec.specs.Values.{item_field}
 use Rattle.sfv_spec.specs.Statements.{IsParsedAs}
 use Rattle.sfv_text.specs.BareItems.{edition_of}
 use Rattle.sfv_tree.specs.Trees.{item_tree}
 use Rattle.sfv.specs.Parsers.{input_of, parser_edition}
+use Rattle.sfv_tool.proofs.Lines.{answered}
 use Rattle.sfv_tool.proofs.answer.answer_item.Goals as goal
 
 pub returns-clause-accepted : goal.returns-clause-accepted
 returns-clause-accepted c =
     let version : parser_edition c.with_version-parser.result ≡ edition_of c.args.version = c.with_version-parser.ensures.version in
     let input : input_of c.with_version-parser.result ≡ c.args.input.now = c.with_version-parser.ensures.input ∙ c.new.ensures.input in
-    let read : IsParsedAs (edition_of c.args.version) item_field c.args.input.now (item_tree c.in_ok-parse.field-0) = rw (← version, ← input) c.in_ok-parse.ensures.read in
-    record {
-      value = item_tree c.in_ok-parse.field-0;
-      parsed = read;
-      written = rw (c.in_ok-push.ensures.bytes, c.in_ok-text.ensures.text, c.in_ok-push.ensures.ascii (lit< tt)) refl;
-    }
+    let read : IsParsedAs (edition_of c.args.version) item_field c.args.input.now (item_tree c.in_ok-item.item) = rw (← version, ← input) c.in_ok-item.ensures.read in
+    answered (edition_of c.args.version) item_field c.args.input.now (item_tree c.in_ok-item.item) (Some c.in_ok-serialize.field-0) c.line.result read c.in_ok-serialize.ensures.text.text c.line.ensures.line
