@@ -1,11 +1,14 @@
 //! Replays a list of inputs with their answers.
 //!
 //! Each line of standard input is `TYPE VERSION HEX ANSWER`: the type of field, the version, the input in
-//! hexadecimal (`-` for no bytes), and `ok HEX` of the canonical text, or `err MESSAGE`. The program prints
-//! each line whose answer is another one, and how many there were.
+//! hexadecimal (`-` for no bytes), and `ok HEX` of the canonical text, `ok none` of an empty list or
+//! dictionary, or `err MESSAGE`. The program prints each line whose answer is another one, and how many
+//! there were.
 #![tactic(auto)]
 
 mod callers;
+#[cfg(test)]
+mod further_lines;
 mod replay;
 #[cfg(test)]
 mod rows;

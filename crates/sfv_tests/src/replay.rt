@@ -1,11 +1,24 @@
 //! One line of a list, and the answer of the library to it.
 
-use sfv::{Error, FieldType, Item, Parser, Version};
+use sfv::{Dictionary, Error, FieldType, Item, List, Parser, Version};
 use std::alloc::{AllocError, Global};
+
+/// The types of fields.
+#[derive(Clone, Copy)]
+pub enum Field {
+    /// An item.
+    Item,
+    /// A list.
+    List,
+    /// A dictionary.
+    Dictionary,
+}
 
 /// An input with the answer that is wanted.
 #[derive(Clone, Copy)]
 pub struct Case<'a> {
+    /// The type of field that the input is read as.
+    pub field: Field,
     /// The version that the input is read under.
     pub version: Version,
     /// The input in hexadecimal, or `-` for no bytes.
@@ -17,9 +30,12 @@ pub struct Case<'a> {
 /// The case of a line, if it is one.
 pub fn parse_line(line: &str) -> Option<Case<'_>> {
     let (field, rest) = line.split_once(' ')?;
-    if field != "item" {
-        return None;
-    }
+    let field = match field {
+        "item" => Field::Item,
+        "list" => Field::List,
+        "dict" => Field::Dictionary,
+        _ => return None,
+    };
     let (version, rest) = rest.split_once(' ')?;
     let version = match version {
         "8941" => Version::Rfc8941,
@@ -28,18 +44,26 @@ pub fn parse_line(line: &str) -> Option<Case<'_>> {
     };
     let (input, answer) = rest.split_once(' ')?;
     Some(Case {
+        field,
         version,
         input,
         answer,
     })
 }
 
-/// The canonical text of an input that is an item.
-pub fn canonical_text(alloc: Global, version: Version, input: &[u8]) -> Result<String, Error> {
-    let item = Parser::new(input)
-        .with_version(version)
-        .parse::<Item>(alloc)?;
-    let text = item.serialize(alloc)?;
+/// The canonical text of an input as a field of this type; none of an empty list or dictionary.
+pub fn canonical_text(
+    alloc: Global,
+    field: Field,
+    version: Version,
+    input: &[u8],
+) -> Result<Option<String>, Error> {
+    let parser = Parser::new(input).with_version(version);
+    let text = match field {
+        Field::Item => Some(parser.parse::<Item>(alloc)?.serialize(alloc)?),
+        Field::List => parser.parse::<List>(alloc)?.serialize(alloc)?,
+        Field::Dictionary => parser.parse::<Dictionary>(alloc)?.serialize(alloc)?,
+    };
     Ok(text)
 }
 
@@ -49,11 +73,12 @@ pub fn answer_of(alloc: Global, case: &Case<'_>) -> Result<String, AllocError> {
     let Ok(input) = hex::decode(alloc, digits) else {
         return String::from_str(alloc, "no hexadecimal");
     };
-    match canonical_text(alloc, case.version, input.as_slice()) {
-        Ok(text) => {
+    match canonical_text(alloc, case.field, case.version, input.as_slice()) {
+        Ok(Some(text)) => {
             let text = hex::encode(alloc, text.as_bytes())?;
             format!(in alloc; "ok {text}")
         }
+        Ok(None) => String::from_str(alloc, "ok none"),
         Err(error) => format!(in alloc; "err {error}"),
     }
 }

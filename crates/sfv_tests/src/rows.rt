@@ -1,16 +1,22 @@
 //! Worked rows: inputs with their canonical texts, or with their errors.
 
-use crate::replay::canonical_text;
-use sfv::{BareItem, FieldType, Item, Parser, Version};
+use crate::replay::{Field, canonical_text};
+use sfv::{BareItem, Dictionary, FieldType, Item, List, Parser, Version, find_entry, key_ref};
 use std::alloc::Global;
 use std::test::Fail;
 
-/// The canonical text of the input, or the text of its error.
-fn told(alloc: Global, version: Version, input: &[u8]) -> Result<String, Fail> {
-    match canonical_text(alloc, version, input) {
-        Ok(text) => Ok(text),
+/// The canonical text of the input as a field of this type, or the text of its error.
+fn told_as(alloc: Global, field: Field, version: Version, input: &[u8]) -> Result<String, Fail> {
+    match canonical_text(alloc, field, version, input) {
+        Ok(Some(text)) => Ok(text),
+        Ok(None) => Ok(String::from_str(alloc, "nothing")?),
         Err(error) => Ok(format!(in alloc; "{error}")?),
     }
+}
+
+/// The same of an item.
+fn told(alloc: Global, version: Version, input: &[u8]) -> Result<String, Fail> {
+    told_as(alloc, Field::Item, version, input)
 }
 
 #[test]
@@ -164,6 +170,136 @@ fn completions(rt: HostRuntime) -> Result<(), Fail> {
                 .is_ok()
         );
     }
+    Ok(())
+}
+
+#[test]
+fn lists(rt: HostRuntime) -> Result<(), Fail> {
+    let rows: [(&[u8], &str); 33] = [
+        (b"1 \t,\t 2", "1, 2"),
+        (b"(1 \"2\");b=\")\"", "(1 \"2\");b=\")\""),
+        (
+            b"(1\t2)",
+            "expected inner list delimiter (' ' or ')') at index 2",
+        ),
+        (b"", "nothing"),
+        (b"   ", "nothing"),
+        (b"\t1", "expected start of bare item at index 0"),
+        (b"1\t", "1"),
+        (b"a ,b,", "trailing comma at index 4"),
+        (b"(a", "unterminated inner list at index 2"),
+        (b"(a ", "expected start of bare item at index 3"),
+        (
+            b"tok, (99;key=?0 \"foo\");bar",
+            "tok, (99;key=?0 \"foo\");bar",
+        ),
+        (b"(  a   b )", "(a b)"),
+        (b"( )", "()"),
+        (
+            b"(a(",
+            "expected inner list delimiter (' ' or ')') at index 2",
+        ),
+        (b"((a))", "expected start of bare item at index 1"),
+        (b"1 2", "trailing characters after member at index 2"),
+        (b"\"a,b\", (1 2), ", "trailing comma at index 12"),
+        (b"?1, ?0", "?1, ?0"),
+        (b"1;a;b;a=2", "1;a=2;b"),
+        (b"(1;a;a=2 2);b;c;b=0", "(1;a=2 2);b=0;c"),
+        (b"(", "unterminated inner list at index 1"),
+        (b"( ", "expected start of bare item at index 2"),
+        (b"(1;", "expected start of key ('a'-'z' or '*') at index 3"),
+        (b"(1 ;a)", "expected start of bare item at index 3"),
+        (b"(1) ;a", "trailing characters after member at index 4"),
+        (b"()", "()"),
+        (b"(), ()", "(), ()"),
+        (b",1", "expected start of bare item at index 0"),
+        (b"1,,2", "expected start of bare item at index 2"),
+        (b"1,", "trailing comma at index 1"),
+        (b"1\t,\t", "trailing comma at index 2"),
+        (b"1)", "trailing characters after member at index 1"),
+        (b"1;a=(", "expected start of bare item at index 4"),
+    ];
+    for (input, text) in rows {
+        let told = told_as(rt.alloc(), Field::List, Version::Rfc9651, input)?;
+        assert_eq!(rt; told.as_str(), text);
+    }
+    let told = told_as(rt.alloc(), Field::List, Version::Rfc8941, b"1;x=@5")?;
+    assert_eq!(rt; told.as_str(), "RFC 8941 does not support dates at index 4");
+    Ok(())
+}
+
+#[test]
+fn dictionaries(rt: HostRuntime) -> Result<(), Fail> {
+    let rows: [(&[u8], &str); 26] = [
+        (b"a=1;x, b=2, a=3", "a=3, b=2"),
+        (b"a, b;x=1, c=(1 2);y, d=?1", "a, b;x=1, c=(1 2);y, d"),
+        (
+            b"a=1,,b=2",
+            "expected start of key ('a'-'z' or '*') at index 4",
+        ),
+        (b"", "nothing"),
+        (b"  ", "nothing"),
+        (b"a", "a"),
+        (b"a;b", "a;b"),
+        (b"a=?1;b", "a;b"),
+        (b"a=?0", "a=?0"),
+        (b"a=", "expected start of bare item at index 2"),
+        (b"a= 1", "expected start of bare item at index 2"),
+        (b"a =1", "trailing characters after member at index 2"),
+        (b"a=1 b=2", "trailing characters after member at index 4"),
+        (b"a,", "trailing comma at index 1"),
+        (b"a, \t", "trailing comma at index 1"),
+        (b"A=1", "expected start of key ('a'-'z' or '*') at index 0"),
+        (b"\ta", "expected start of key ('a'-'z' or '*') at index 0"),
+        (b"1", "expected start of key ('a'-'z' or '*') at index 0"),
+        (b"a=(1", "unterminated inner list at index 4"),
+        (b"a=1, b=(", "unterminated inner list at index 8"),
+        (b"a=1;x, a", "a"),
+        (b"a=(1 2);x, b, a=3;y;y=0", "a=3;y=0, b"),
+        (b"*a_-.*=tok", "*a_-.*=tok"),
+        (b"a=1\t,\tb=2", "a=1, b=2"),
+        (b"a;a=1;a, a;b", "a;b"),
+        (b"a=%", "expected '\"' at index 3"),
+    ];
+    for (input, text) in rows {
+        let told = told_as(rt.alloc(), Field::Dictionary, Version::Rfc9651, input)?;
+        assert_eq!(rt; told.as_str(), text);
+    }
+    let told = told_as(rt.alloc(), Field::Dictionary, Version::Rfc8941, b"a;x=@5")?;
+    assert_eq!(rt; told.as_str(), "RFC 8941 does not support dates at index 4");
+    Ok(())
+}
+
+/// The text up to the index of a fault goes on like an accepted one.
+#[test]
+fn completions_of_members(rt: HostRuntime) -> Result<(), Fail> {
+    match Parser::new(b"(a(").parse::<List>(rt.alloc()) {
+        Ok(_) => panic!(rt; "accepted"),
+        Err(error) => assert_eq!(rt; error.index(), Some(2)),
+    }
+    assert!(rt; Parser::new(b"(a)").parse::<List>(rt.alloc()).is_ok());
+    match Parser::new(b"a=1,,b=2").parse::<Dictionary>(rt.alloc()) {
+        Ok(_) => panic!(rt; "accepted"),
+        Err(error) => assert_eq!(rt; error.index(), Some(4)),
+    }
+    assert!(rt;
+        Parser::new(b"a=1,b")
+            .parse::<Dictionary>(rt.alloc())
+            .is_ok()
+    );
+    Ok(())
+}
+
+#[test]
+fn members_are_found(rt: HostRuntime) -> Result<(), Fail> {
+    let dictionary = Parser::new(b"a=1, b=2").parse::<Dictionary>(rt.alloc())?;
+    match find_entry(&dictionary, key_ref("b")) {
+        Some(sfv::ListEntry::Item(item)) => {
+            assert_eq!(rt; item.bare_item.as_integer(), Some(sfv::integer(2)));
+        }
+        _ => panic!(rt; "no item"),
+    }
+    assert!(rt; find_entry(&dictionary, key_ref("c")).is_none());
     Ok(())
 }
 

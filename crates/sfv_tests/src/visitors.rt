@@ -1,4 +1,4 @@
-//! Visitors of items: what they are told, and what a refusal does.
+//! Visitors: what they are told, and what a refusal does.
 
 use linked_list_allocator::LocalHeap;
 use sfv::visitor::{BareItemType, Event, ItemBuilder, ItemFault, Visitor};
@@ -95,7 +95,15 @@ impl<'de, A: Allocator> Visitor<'de> for Teller<A> {
                 self.text.push_str(kind(value.as_integer().is_some()))
             }
             Event::ParametersEnd => self.text.push_str(", end"),
-            _ => self.text.push_str("?"),
+            Event::Entry => self.text.push_str("; entry "),
+            Event::KeyedEntry(key) => {
+                self.text.push_str("; entry ")?;
+                self.text.push_str(key.as_str())?;
+                self.text.push(' ')
+            }
+            Event::Item => self.text.push_str("item "),
+            Event::InnerList => self.text.push_str("list "),
+            Event::InnerListEnd => self.text.push_str(" list end"),
         }
     }
 
@@ -173,6 +181,92 @@ fn events_stand_in_their_order(rt: HostRuntime) -> Result<(), Fail> {
     assert_eq!(rt;
         text.as_str(),
         "bare integer, a=other, b=integer, a=integer, end"
+    );
+    Ok(())
+}
+
+#[test]
+fn refusals_within_lists(rt: HostRuntime) {
+    let input = b"1, (2;a 3), @x";
+    for refused in 1..18u64 {
+        let counter = Counter::refusing(refused);
+        let answer = Parser::new(input).parse_list_with_visitor(rt.alloc(), counter);
+        assert!(rt; matches!(answer, Err(ParseError::Visitor(n)) if n == refused));
+    }
+    for refused in 18..20u64 {
+        let mut counter = Counter::refusing(refused);
+        counter.refuses_to_finish = true;
+        let answer = Parser::new(input).parse_list_with_visitor(rt.alloc(), counter);
+        let Err(ParseError::Syntax(error)) = answer else {
+            assert!(rt; false);
+            return;
+        };
+        assert_eq!(rt; error, Error::with_kind(ErrorKind::ExpectedDigit, Some(13)));
+    }
+}
+
+#[test]
+fn refusals_within_dictionaries(rt: HostRuntime) {
+    let input = b"a=1, b=(";
+    for refused in 1..7u64 {
+        let counter = Counter::refusing(refused);
+        let answer = Parser::new(input).parse_dictionary_with_visitor(rt.alloc(), counter);
+        assert!(rt; matches!(answer, Err(ParseError::Visitor(n)) if n == refused));
+    }
+    let mut counter = Counter::refusing(7);
+    counter.refuses_to_finish = true;
+    let answer = Parser::new(input).parse_dictionary_with_visitor(rt.alloc(), counter);
+    let Err(ParseError::Syntax(error)) = answer else {
+        assert!(rt; false);
+        return;
+    };
+    assert_eq!(rt;
+        error,
+        Error::with_kind(ErrorKind::UnterminatedInnerList, Some(8))
+    );
+}
+
+#[test]
+fn empty_lists_have_no_event(rt: HostRuntime) {
+    let mut counter = Counter::refusing(0);
+    counter.refuses_to_finish = true;
+    let answer = Parser::new(b"   ").parse_list_with_visitor(rt.alloc(), counter);
+    assert!(rt; matches!(answer, Err(ParseError::Visitor(0))));
+    let answer = Parser::new(b"   ").parse_list_with_visitor(rt.alloc(), Counter::refusing(0));
+    assert!(rt; matches!(answer, Ok(0)));
+    let answer = Parser::new(b"").parse_dictionary_with_visitor(rt.alloc(), Counter::refusing(0));
+    assert!(rt; matches!(answer, Ok(0)));
+    // A comma at the end: no further entry is told.
+    let answer = Parser::new(b"1, ").parse_list_with_visitor(rt.alloc(), Counter::refusing(5));
+    assert!(rt; matches!(answer, Err(ParseError::Syntax(_))));
+    // A byte stands where a member is wanted: the entry is told before it is looked at.
+    let answer = Parser::new(b"!").parse_list_with_visitor(rt.alloc(), Counter::refusing(1));
+    assert!(rt; matches!(answer, Err(ParseError::Visitor(1))));
+}
+
+#[test]
+fn events_of_members_stand_in_their_order(rt: HostRuntime) -> Result<(), Fail> {
+    let teller = Teller {
+        text: String::new(rt.alloc()),
+    };
+    let parser = Parser::new(b"a=(1 x;y), b");
+    let Ok(text) = parser.parse_dictionary_with_visitor(rt.alloc(), teller) else {
+        return Err(Fail::from("refused"));
+    };
+    assert_eq!(rt;
+        text.as_str(),
+        "; entry a list item bare integer, enditem bare other, y=other, end list end, end; entry b item bare other, end"
+    );
+    let teller = Teller {
+        text: String::new(rt.alloc()),
+    };
+    let parser = Parser::new(b"1;a, ()");
+    let Ok(text) = parser.parse_list_with_visitor(rt.alloc(), teller) else {
+        return Err(Fail::from("refused"));
+    };
+    assert_eq!(rt;
+        text.as_str(),
+        "; entry item bare integer, a=other, end; entry list  list end, end"
     );
     Ok(())
 }

@@ -116,16 +116,59 @@ fn items(rt: HostRuntime) -> Result<(), Fail> {
 }
 
 #[test]
+fn lists_and_dictionaries(rt: HostRuntime) -> Result<(), Fail> {
+    let rows: [(&str, &str, &[u8], &str, &str, u8); 8] = [
+        ("list", "9651", b"1 \t,\t 2\n", "1, 2\n", "", 0),
+        ("list", "9651", b"\n", "\n", "", 0),
+        (
+            "list",
+            "9651",
+            b"a ,b,\n",
+            "",
+            "error: trailing comma at index 4\n",
+            1,
+        ),
+        (
+            "list",
+            "8941",
+            b"1;x=@5\n",
+            "",
+            "error: RFC 8941 does not support dates at index 4\n",
+            1,
+        ),
+        ("dict", "9651", b"a=1;x, b=2, a=3\n", "a=3, b=2\n", "", 0),
+        ("dict", "9651", b"", "\n", "", 0),
+        ("dict", "8941", b"a, b;x=1", "a, b;x=1\n", "", 0),
+        (
+            "dict",
+            "9651",
+            b"a=\n\n",
+            "",
+            "error: expected start of bare item at index 2\n",
+            1,
+        ),
+    ];
+    for (field, version, input, output, errors, status) in rows {
+        let ended = run_over(rt.alloc(), &[field, version], input)?;
+        assert_eq!(rt; ended.output.as_slice(), output.as_bytes());
+        assert_eq!(rt; ended.errors.as_slice(), errors.as_bytes());
+        assert_eq!(rt; ended.status, status);
+    }
+    Ok(())
+}
+
+#[test]
 fn usage(rt: HostRuntime) -> Result<(), Fail> {
     let usage = "usage: sfv_tool item|list|dict 8941|9651\n";
-    let rows: [&[&str]; 8] = [
+    let rows: [&[&str]; 9] = [
         &[],
         &["item"],
         &["item", "9652"],
         &["Item", "9651"],
         &["item", "9651", "9651"],
-        &["list", "9651"],
-        &["dict", "9651"],
+        &["lists", "9651"],
+        &["dictionary", "9651"],
+        &["dict"],
         &["9651", "item"],
     ];
     for args in rows {

@@ -1,0 +1,60 @@
+//! Further lines of a field, read into what the lines before gave.
+
+use sfv::visitor::{DictionaryBuilder, ListBuilder};
+use sfv::{Dictionary, FieldType, List, ParseError, Parser};
+use std::alloc::Global;
+use std::test::Fail;
+
+/// The text of the list of both lines, or of the error of the second.
+fn list_of_lines(alloc: Global, held: &[u8], line: &[u8]) -> Result<String, Fail> {
+    let held = Parser::new(held).parse::<List>(alloc)?;
+    match Parser::new(line).parse_list_with_visitor(alloc, ListBuilder::new(alloc, held)) {
+        Ok(list) => Ok(list.serialize(alloc)?.ok_or("no member")?),
+        Err(ParseError::Syntax(error)) => Ok(format!(in alloc; "{error}")?),
+        Err(ParseError::Visitor(_)) => Err(Fail::from("want of memory")),
+    }
+}
+
+/// The same of dictionaries.
+fn dictionary_of_lines(alloc: Global, held: &[u8], line: &[u8]) -> Result<String, Fail> {
+    let held = Parser::new(held).parse::<Dictionary>(alloc)?;
+    let builder = DictionaryBuilder::new(alloc, held);
+    match Parser::new(line).parse_dictionary_with_visitor(alloc, builder) {
+        Ok(dictionary) => Ok(dictionary.serialize(alloc)?.ok_or("no member")?),
+        Err(ParseError::Syntax(error)) => Ok(format!(in alloc; "{error}")?),
+        Err(ParseError::Visitor(_)) => Err(Fail::from("want of memory")),
+    }
+}
+
+#[test]
+fn lines_of_lists(rt: HostRuntime) -> Result<(), Fail> {
+    let rows: [(&[u8], &[u8], &str); 4] = [
+        (
+            b"11, (12 13)",
+            b"\"foo\",        \"bar\"",
+            "11, (12 13), \"foo\", \"bar\"",
+        ),
+        (b"1", b"  ", "1"),
+        (b"", b"1", "1"),
+        (b"1", b"2,", "trailing comma at index 1"),
+    ];
+    for (held, line, text) in rows {
+        assert_eq!(rt; list_of_lines(rt.alloc(), held, line)?.as_str(), text);
+    }
+    Ok(())
+}
+
+#[test]
+fn lines_of_dictionaries(rt: HostRuntime) -> Result<(), Fail> {
+    let rows: [(&[u8], &[u8], &str); 5] = [
+        (b"a=1, b=2", b"a=3", "a=3, b=2"),
+        (b"a=1;x, b=(1 2)", b"b=3;y, c, a=4", "a=4, b=3;y, c"),
+        (b"a=1", b"   ", "a=1"),
+        (b"a=1", b"b=", "expected start of bare item at index 2"),
+        (b"", b"a", "a"),
+    ];
+    for (held, line, text) in rows {
+        assert_eq!(rt; dictionary_of_lines(rt.alloc(), held, line)?.as_str(), text);
+    }
+    Ok(())
+}
