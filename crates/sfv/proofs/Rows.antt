@@ -2,15 +2,16 @@
 use Rattle.std.proofs.Common.{◌≡◌, ℕ, ◌+◌, ◌<◌, Bool, true, false, cond, List, [], ◌∷◌, ◌++◌, length, get_or, map, take, refl, sym, ap, subst, ◌∙◌, append_assoc, Result, Ok, Err, arith}
 use Rattle.std.specs.Prelude.{IfErr}
 use Rattle.std.specs.List.{AllByRecursion}
-use Rattle.std.proofs.lemmas.List.{take_more, map-append, append-nil}
+use Rattle.std.proofs.lemmas.List.{take_more, map-append}
 use Rattle.sfv_spec.specs.Texts.{joined}
 use Rattle.sfv.specs.Written.{Extends}
 
+-- whether there are none
 abbrev pub is_none : {A : Type 0} → List A → Bool
 is_none [] = true
 is_none (x ∷ xs) = false
 
--- What stands when these parts are written, and each is good; the next is the first if none is.
+-- What is known when these parts are written: the next is the first if there are none, the text, and that each is good.
 pub record IsRow {A : Type 0} (text_of : A → List ℕ) (IsGood : A → Type 0) (separator : List ℕ) (xs : List A) (is_first : Bool) (before output : List ℕ) : Type 0 where
   pub first : is_first ≡ is_none xs
   pub text : output ≡ before ++ joined separator (map text_of xs)
@@ -39,9 +40,6 @@ is_none-map f (x ∷ xs) = refl
 is_none-push : {A : Type 0} (xs : List A) (x : A) → is_none (xs ++ x ∷ []) ≡ false
 is_none-push [] x = refl
 is_none-push (y ∷ ys) x = refl
-
-pub row_begins : {A : Type 0} (text_of : A → List ℕ) (IsGood : A → Type 0) (s before : List ℕ) → IsRow text_of IsGood s [] true before before
-row_begins text_of IsGood s before = record { first = refl; text = sym (append-nil before); good = tt }
 
 -- one more part is written
 pub row_more : {A : Type 0} (text_of : A → List ℕ) (IsGood : A → Type 0) (s : List ℕ) (xs ys : List A) (is_first : Bool) (before output led new : List ℕ) (x : A)
@@ -85,7 +83,7 @@ anyway X (Err e) x = x
 pub enclosed : (old opening row closing behind : List ℕ) → (((old ++ opening) ++ row) ++ closing) ++ behind ≡ old ++ (((opening ++ row) ++ closing) ++ behind)
 enclosed old opening row closing behind = simp append_assoc
 
--- what was added where a part isn't written to its end
+-- a text in which the next part breaks off still begins with the old one
 pub broken_off : (before row between output led new : List ℕ) → output ≡ before ++ row → led ≡ output ++ between → Extends led new → Extends before new
 broken_off before row between output led new o l more = (
   row ++ (between ++ more.0),
