@@ -6,13 +6,18 @@ ghost use Rattle.std.specs.Ordering.{nat_cmp};
 ghost use Rattle.sfv_spec.specs.Canonical.{bare_text, item_text};
 ghost use Rattle.sfv_text.specs.BareItems.{bare_value, ref_value, input_value, read_text};
 ghost use Rattle.sfv_text.specs.KeyText.{key_text};
-ghost use Rattle.sfv_tree.specs.Trees.{item_tree};
+ghost use Rattle.sfv_tree.specs.Trees.{item_tree, list_tree, dictionary_tree};
+ghost use Rattle.sfv_spec.specs.Values.{rfc9651, list_field, dictionary_field, RawField};
+ghost use Rattle.sfv_spec.specs.Grammar.{IsFieldText};
+ghost use Rattle.sfv_spec.specs.Ordered.{ordered};
+ghost use Rattle.sfv_spec.specs.Statements.{IsParsedAs};
 
+use sfv::visitor::{DictionaryBuilder, ListBuilder};
 use sfv::{
-    BareItem, BareItemFromInput, Date, Decimal, Integer, Item, ItemSerializer, KeyRef, OutOfMemory,
-    RefBareItem, StringFromInput,
+    BareItem, BareItemFromInput, Date, Decimal, Dictionary, Integer, Item, ItemSerializer, KeyRef,
+    List, OutOfMemory, ParseError, Parser, RefBareItem, StringFromInput,
 };
-use std::alloc::AllocError;
+use std::alloc::{AllocError, Global};
 use std::cmp::Ordering;
 
 /// Writes an item of one parameter behind what stands in the text. Where memory is refused, the text holds what was
@@ -132,4 +137,35 @@ pub fn same_date(a: Date, b: Date) -> bool
     ensures { IsTrue result ↔ (a ≡ b) }
 {
     a == b
+}
+
+/// Reads a further line of a list: its members stand behind those of the line before.
+pub fn list_of_lines(
+    alloc: Global,
+    first: &[u8],
+    second: &[u8],
+) -> Result<List, ParseError<OutOfMemory>>
+    ensures { IfOk result (λ list. (held : RawField list_field) × (raw : RawField list_field)
+        × IsParsedAs rfc9651 list_field first.now held × IsFieldText rfc9651 list_field raw second.now
+        × (list_tree list.items ≡ held ++ ordered list_field raw)) }
+{
+    let held = Parser::new(first).parse::<List>(alloc)?;
+    let builder = ListBuilder::new(alloc, held);
+    Parser::new(second).parse_list_with_visitor(alloc, builder)
+}
+
+/// Reads a further line of a dictionary: as if its members stood behind those of the line before in one field. Each key is
+/// there once, at its first place, with the whole member of its last occurrence.
+pub fn dictionary_of_lines(
+    alloc: Global,
+    first: &[u8],
+    second: &[u8],
+) -> Result<Dictionary, ParseError<OutOfMemory>>
+    ensures { IfOk result (λ dictionary. (held : RawField dictionary_field) × (raw : RawField dictionary_field)
+        × IsParsedAs rfc9651 dictionary_field first.now held × IsFieldText rfc9651 dictionary_field raw second.now
+        × (dictionary_tree dictionary.entries ≡ ordered dictionary_field (held ++ raw))) }
+{
+    let held = Parser::new(first).parse::<Dictionary>(alloc)?;
+    let builder = DictionaryBuilder::new(alloc, held);
+    Parser::new(second).parse_dictionary_with_visitor(alloc, builder)
 }
