@@ -116,11 +116,3 @@ pub built_dictionary : {S : Type 0} (edition : Edition) (t : List ℕ) (from : D
 built_dictionary edition t from dictionary here h =
     let whole = built_dictionary_behind edition t [] from dictionary refl here h in
     record { raw = whole.0; accepted = whole.1; only = whole.2; ordered_value = whole.4 (refl, tt) }
-
-keys-dictionary_tree : (es : List (List ℕ × ListEntry)) → keys (dictionary_tree es) ≡ keys_of es
-keys-dictionary_tree [] = refl
-keys-dictionary_tree (e ∷ es) = ap (λ (ks : List (List ℕ)). e.0 ∷ ks) (keys-dictionary_tree es)
-
--- a map has no key twice
-pub entries_distinct : (es : List (List ℕ × ListEntry)) → IsDistinct bytes_eq (keys_of es) → IsTrue (no_repeats (keys (dictionary_tree es)))
-entries_distinct es h = rw (keys-dictionary_tree es) (no_repeats-distinct (keys_of es) h)

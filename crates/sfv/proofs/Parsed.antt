@@ -20,7 +20,7 @@ use Rattle.sfv_reading.specs.Reader.{Fault}
 use Rattle.sfv_reading.specs.Fields.{read_field}
 use Rattle.sfv_reading.specs.Claims.{IsFaultOf}
 use Rattle.sfv_reading.proofs.Theorems.{read_is_accepted, fault_is_placed}
-use Rattle.sfv.specs.Fields.{told_whole, Answers}
+use Rattle.sfv.specs.Fields.{told_whole}
 use Rattle.sfv.specs.Parsers.{IsParseError, IsReaderFault}
 
 -- a field that was read is the one that the grammar gives
@@ -74,19 +74,6 @@ reader_fault edition kind t e = on e.index refl
           inr (record { fault = f.0; index = index; answered = f.1; error = same; here = sym f.3 }),
           inr (record { fault = f.0.kind; index = index; error = same; refused = refused_at edition kind t f.0 index f.1 (sym f.3) h.1 }),
         )
-
--- what an answer is, by its variant
-pub answer_read : {X : Type 0} (edition : Edition) (kind : FieldKind) (tree : X → RawField kind) (t : List ℕ) (r : Result X Error) → Answers (λ raw x. tree x ≡ ordered kind raw) t r (read_field edition kind t) → IfOk r (λ x. IsParsedAs edition kind t (tree x))
-answer_read edition kind tree t (Ok x) h = parsed edition kind t h.0 (tree x) h.1 h.2
-answer_read edition kind tree t (Err e) h = tt
-
-pub answer_refused : {X : Type 0} (edition : Edition) (kind : FieldKind) (tree : X → RawField kind) (t : List ℕ) (r : Result X Error) → Answers (λ raw x. tree x ≡ ordered kind raw) t r (read_field edition kind t) → IfErr r (IsParseError edition kind t)
-answer_refused edition kind tree t (Ok x) h = tt
-answer_refused edition kind tree t (Err e) h = (reader_fault edition kind t e h).1
-
-pub answer_fault : {X : Type 0} (edition : Edition) (kind : FieldKind) (tree : X → RawField kind) (t : List ℕ) (r : Result X Error) → Answers (λ raw x. tree x ≡ ordered kind raw) t r (read_field edition kind t) → IfErr r (IsReaderFault edition kind t)
-answer_fault edition kind tree t (Ok x) h = tt
-answer_fault edition kind tree t (Err e) h = (reader_fault edition kind t e h).0
 
 -- the canonical text of a value is read back as it
 pub written : (kind : FieldKind) (value : RawField kind) (t : List ℕ) → IsValue kind value → t ≡ canonical kind value → IsWrittenAs kind value t

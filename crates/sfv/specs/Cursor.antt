@@ -36,11 +36,6 @@ abbrev pub Reads : {X Y : Type 0} → (X → Y) → Bor (List ℕ) → Cursor �
 Reads view input after (Ok x) answer = (answer ≡ Ok (view x, rest after)) × (after.input ≡ input)
 Reads view input after (Err e) answer = IsErrorOf input.now e answer
 
--- The same of a reading that builds its value: what it returned is the value of what the reader gives.
-abbrev pub Builds : {X Y : Type 0} → (Y → X → Type 0) → Bor (List ℕ) → Cursor → Result X Error → Answer Y → Type 0
-Builds {X} {Y} Is input after (Ok x) answer = (v : Y) × (answer ≡ Ok (v, rest after)) × Is v x × (after.input ≡ input)
-Builds Is input after (Err e) answer = IsErrorOf input.now e answer
-
 -- a byte of the class stands next, or none does
 abbrev pub Meets : (ℕ → Bool) → Bool → List ℕ → Type 0
 Meets class true t = (b : ℕ) × (r : List ℕ) × (t ≡ b ∷ r) × (class b ≡ true)

@@ -1,26 +1,17 @@
 //! Further lines of a field, read into what the lines before gave.
 
-use sfv::visitor::{DictionaryBuilder, ListBuilder};
-use sfv::{Dictionary, FieldType, List, ParseError, Parser};
+use crate::callers::{dictionary_of_lines, list_of_lines};
+use sfv::{FieldType, OutOfMemory, ParseError};
 use std::alloc::Global;
 use std::test::Fail;
 
-/// The text of the list of both lines, or of the error of the second.
-fn list_of_lines(alloc: Global, held: &[u8], line: &[u8]) -> Result<String, Fail> {
-    let held = Parser::new(held).parse::<List>(alloc)?;
-    match Parser::new(line).parse_list_with_visitor(alloc, ListBuilder::new(alloc, held)) {
-        Ok(list) => Ok(list.serialize(alloc)?.ok_or("no member")?),
-        Err(ParseError::Syntax(error)) => Ok(format!(in alloc; "{error}")?),
-        Err(ParseError::Visitor(_)) => Err(Fail::from("want of memory")),
-    }
-}
-
-/// The same of dictionaries.
-fn dictionary_of_lines(alloc: Global, held: &[u8], line: &[u8]) -> Result<String, Fail> {
-    let held = Parser::new(held).parse::<Dictionary>(alloc)?;
-    let builder = DictionaryBuilder::new(alloc, held);
-    match Parser::new(line).parse_dictionary_with_visitor(alloc, builder) {
-        Ok(dictionary) => Ok(dictionary.serialize(alloc)?.ok_or("no member")?),
+/// The text of the field of both lines, or of the error of the second.
+fn told<T: FieldType<SerializeResult = Option<String>>>(
+    alloc: Global,
+    field: Result<T, ParseError<OutOfMemory>>,
+) -> Result<String, Fail> {
+    match field {
+        Ok(field) => Ok(field.serialize(alloc)?.ok_or("no member")?),
         Err(ParseError::Syntax(error)) => Ok(format!(in alloc; "{error}")?),
         Err(ParseError::Visitor(_)) => Err(Fail::from("want of memory")),
     }
@@ -39,7 +30,8 @@ fn lines_of_lists(rt: HostRuntime) -> Result<(), Fail> {
         (b"1", b"2,", "trailing comma at index 1"),
     ];
     for (held, line, text) in rows {
-        assert_eq!(rt; list_of_lines(rt.alloc(), held, line)?.as_str(), text);
+        let list = list_of_lines(rt.alloc(), held, line);
+        assert_eq!(rt; told(rt.alloc(), list)?.as_str(), text);
     }
     Ok(())
 }
@@ -54,7 +46,8 @@ fn lines_of_dictionaries(rt: HostRuntime) -> Result<(), Fail> {
         (b"", b"a", "a"),
     ];
     for (held, line, text) in rows {
-        assert_eq!(rt; dictionary_of_lines(rt.alloc(), held, line)?.as_str(), text);
+        let dictionary = dictionary_of_lines(rt.alloc(), held, line);
+        assert_eq!(rt; told(rt.alloc(), dictionary)?.as_str(), text);
     }
     Ok(())
 }
