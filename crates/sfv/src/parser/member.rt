@@ -136,6 +136,7 @@ impl<'de> Cursor<'de> {
         if self.peek().is_none() {
             return Ok(false);
         }
+        // The fault that stands here if the input ends behind the comma.
         let comma = self.error(ErrorKind::TrailingComma);
         if !self.take_if(b',') {
             return Err(self.error(ErrorKind::TrailingCharactersAfterMember));
