@@ -20,7 +20,7 @@ struct PartialPair {
 }
 
 /// Builds a dictionary of its events, from a dictionary that it begins with. Of a repeated key the last member stands
-/// whole, at the place of the first; of a member's repeated parameter the last value, at the place of the first.
+/// whole, at the place of the first (RFC 9651, section 4.2.2); so does the last value of a repeated parameter.
 ///
 /// It takes every event, and an event out of its place changes nothing. It refuses an event only where memory is refused,
 /// and never its answer, which is the dictionary of the members that are whole.
