@@ -5,9 +5,9 @@ use Rattle.std.specs.declared.vec.Vec.{Vec}
 use Rattle.std.specs.declared.borrow.CowStr.{CowStr}
 use Rattle.std.specs.declared.borrow.CowStr.TheVariants as cow
 use Rattle.sfv_spec.specs.Values.{BareValue, display_string}
-use Rattle.sfv_text.specs.BareItems.{cow_text}
-use Rattle.sfv_text.specs.declared.bare.StringFromInput.{StringFromInput}
-use Rattle.sfv_text.specs.declared.bare.StringFromInput.TheVariants as input
+use Rattle.sfv_bare.specs.BareItems.{cow_text}
+use Rattle.sfv_bare.specs.declared.bare.StringFromInput.{StringFromInput}
+use Rattle.sfv_bare.specs.declared.bare.StringFromInput.TheVariants as input
 
 abbrev pub vec_bytes : Vec ℕ Global → List ℕ
 vec_bytes v = v.items

@@ -3,11 +3,11 @@
 ghost use Rattle.std.specs.Prelude.{◌≡◌, IfOk, IfErr};
 ghost use Rattle.sfv_spec.specs.Values.{rfc9651, item_field, list_field, dictionary_field};
 ghost use Rattle.sfv_spec.specs.Statements.{IsParsedAs};
-ghost use Rattle.sfv_text.specs.BareItems.{edition_of};
+ghost use Rattle.sfv_bare.specs.BareItems.{edition_of};
 
 use crate::field_type::FieldType;
+use sfv_bare::bare::Version;
 use sfv_base::error::{Error, ParseError};
-use sfv_text::bare::Version;
 use sfv_tree::visitor::Visitor;
 use std::alloc::Global;
 

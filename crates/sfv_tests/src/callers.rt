@@ -4,7 +4,7 @@ ghost use Rattle.std.specs.Prelude.{◌≡◌, ◌++◌, ◌∷◌, ◌↔◌, [
 ghost use Rattle.std.specs.Cmp.Lexicographic.{slice_cmp};
 ghost use Rattle.std.specs.Ordering.{nat_cmp};
 ghost use Rattle.sfv_spec.specs.Canonical.{bare_text, item_text};
-ghost use Rattle.sfv_text.specs.BareItems.{bare_value, ref_value, input_value, read_text};
+ghost use Rattle.sfv_bare.specs.BareItems.{bare_value, ref_value, input_value, read_text};
 ghost use Rattle.sfv_text.specs.KeyText.{key_text};
 ghost use Rattle.sfv_tree.specs.Trees.{item_tree, list_tree, dictionary_tree};
 ghost use Rattle.sfv_spec.specs.Values.{rfc9651, list_field, dictionary_field, RawField};

@@ -1,3 +1,2 @@
 pub mod Ascii
 pub mod Outside
-pub mod Copies

@@ -1,5 +1,4 @@
 pub mod KeyText
 pub mod TokenText
 pub mod StringText
-pub mod BareItems
 pub mod InvalidTexts

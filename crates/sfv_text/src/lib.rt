@@ -1,7 +1,6 @@
-//! The texts that structured fields (RFC 9651) are made of, and bare items over them.
+//! The texts that structured fields (RFC 9651) are made of.
 #![tactic(auto)]
 
-pub mod bare;
 pub mod key;
 pub mod key_ref;
 pub mod shorthand;

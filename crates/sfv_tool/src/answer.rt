@@ -3,7 +3,7 @@
 ghost use Rattle.std.specs.Prelude.{◌≡◌, ◌++◌, IfOk, IfErr, codes, string_bytes};
 ghost use Rattle.sfv_base.specs.Errors.{out_of_memory};
 ghost use Rattle.sfv_spec.specs.Values.{item_field, list_field, dictionary_field};
-ghost use Rattle.sfv_text.specs.BareItems.{edition_of};
+ghost use Rattle.sfv_bare.specs.BareItems.{edition_of};
 ghost use Rattle.sfv.specs.Parsers.{IsParseError, IsReaderFault};
 ghost use Rattle.sfv_tool.specs.Answers.{kind_of_field, without_newline, text_or_empty, IsAnswer};
 

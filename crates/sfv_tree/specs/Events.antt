@@ -2,7 +2,7 @@
 use Rattle.sfv_spec.specs.Events.{TreeEvent}
 use Rattle.sfv_spec.specs.Events as tree
 use Rattle.sfv_text.specs.KeyText.{key_text}
-use Rattle.sfv_text.specs.BareItems.{input_value}
+use Rattle.sfv_bare.specs.BareItems.{input_value}
 use Rattle.sfv_tree.specs.declared.visitor.Event.{Event}
 use Rattle.sfv_tree.specs.declared.visitor.Event.TheVariants as event
 

@@ -7,7 +7,7 @@ ghost use Rattle.sfv_tree.specs.Trees.{item_tree, pairs_tree, inner_list_tree, m
 ghost use Rattle.sfv_tree.specs.declared.parsed.ListEntry.TheVariants as entries;
 
 use indexmap::IndexMap;
-use sfv_text::bare::BareItem;
+use sfv_bare::bare::BareItem;
 use sfv_text::key::Key;
 use sfv_text::key_ref::KeyRef;
 use std::alloc::{AllocError, Global};

@@ -2,8 +2,8 @@ use crate::parsed::{
     Dictionary, InnerList, Item, List, ListEntry, Parameters, find_entry, find_param,
 };
 use crate::visitor::{BareItemType, DictionaryBuilder, Event, ListBuilder, Visitor};
+use sfv_bare::bare::{BareItem, BareItemFromInput};
 use sfv_base::error::OutOfMemory;
-use sfv_text::bare::{BareItem, BareItemFromInput};
 use sfv_text::key_ref::KeyRef;
 use sfv_text::shorthand::key_ref;
 use std::alloc::Global;

@@ -14,7 +14,7 @@ mod partial_member;
 pub use dictionary_builder::DictionaryBuilder;
 pub use item_builder::ItemBuilder;
 pub use list_builder::ListBuilder;
-use sfv_text::bare::BareItemFromInput;
+use sfv_bare::bare::BareItemFromInput;
 use sfv_text::key_ref::KeyRef;
 use std::fmt;
 

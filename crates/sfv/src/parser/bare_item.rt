@@ -2,7 +2,7 @@
 
 ghost use Rattle.std.specs.Prelude.{◌≡◌, Bool, true, IfOk};
 ghost use Rattle.sfv_spec.specs.Values.{rfc9651, boolean, date};
-ghost use Rattle.sfv_text.specs.BareItems.{input_value, read_text, cow_text, edition_of};
+ghost use Rattle.sfv_bare.specs.BareItems.{input_value, read_text, cow_text, edition_of};
 ghost use Rattle.sfv_reading.specs.Reader.{byte};
 ghost use Rattle.sfv_reading.specs.Content.{bytes_at};
 ghost use Rattle.sfv_reading.specs.Quoted.{string_at};
@@ -16,9 +16,9 @@ use crate::parser::display_string::display_string;
 use crate::parser::number::Number;
 use crate::parser::runs::is_digit_byte;
 use crate::parser::string::string;
+use sfv_bare::bare::{BareItemFromInput, GenericBareItem, StringFromInput, Version};
 use sfv_base::date::Date;
 use sfv_base::error::{Error, ErrorKind};
-use sfv_text::bare::{BareItemFromInput, GenericBareItem, StringFromInput, Version};
 use std::alloc::Global;
 use std::borrow::CowStr;
 

@@ -4,7 +4,7 @@ ghost use Rattle.std.specs.Prelude.{◌≡◌, ◌≤◌, ◌<◌, ◌↔◌, �
 ghost use Rattle.sfv_spec.specs.Texts.{RunOf};
 ghost use Rattle.sfv_spec.specs.Classes.{is_lower_hexadecimal};
 ghost use Rattle.sfv_spec.specs.Strings.{is_plain_in_display, hexadecimal_value};
-ghost use Rattle.sfv_text.specs.BareItems.{cow_text};
+ghost use Rattle.sfv_bare.specs.BareItems.{cow_text};
 ghost use Rattle.sfv_reading.specs.Quoted.{outside, percent, pieces_from, behind_pieces, display_at};
 ghost use Rattle.sfv.specs.Cursor.{ReadsAt};
 ghost use Rattle.sfv.specs.Quoted.{ReadsEscape, ReadsDigit, GivesText};

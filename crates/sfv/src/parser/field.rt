@@ -1,12 +1,12 @@
 //! Reading whole fields (RFC 9651, section 4.2).
 
 ghost use Rattle.sfv_spec.specs.Values.{item_field, list_field, dictionary_field};
-ghost use Rattle.sfv_text.specs.BareItems.{edition_of};
+ghost use Rattle.sfv_bare.specs.BareItems.{edition_of};
 ghost use Rattle.sfv.specs.Visits.{Visits};
 
 use crate::parser::cursor::Cursor;
+use sfv_bare::bare::Version;
 use sfv_base::error::{ErrorKind, ParseError};
-use sfv_text::bare::Version;
 use sfv_tree::visitor::Visitor;
 use std::alloc::Global;
 

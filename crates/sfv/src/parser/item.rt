@@ -2,15 +2,15 @@
 
 ghost use Rattle.std.specs.Prelude.{option_map, OnOk, IfErr};
 ghost use Rattle.sfv_spec.specs.Events.{parameters_events, item_events};
-ghost use Rattle.sfv_text.specs.BareItems.{input_value, edition_of};
+ghost use Rattle.sfv_bare.specs.BareItems.{input_value, edition_of};
 ghost use Rattle.sfv_tree.specs.Events.{event_of};
 ghost use Rattle.sfv_reading.specs.Items.{value_at, parameter_at, parameters_at, item_at};
 ghost use Rattle.sfv.specs.Cursor.{rest, Reads};
 ghost use Rattle.sfv.specs.Visits.{Tells, IsToldRefusal};
 
 use crate::parser::cursor::Cursor;
+use sfv_bare::bare::{BareItemFromInput, GenericBareItem, Version};
 use sfv_base::error::{Error, ParseError};
-use sfv_text::bare::{BareItemFromInput, GenericBareItem, Version};
 use sfv_text::key_ref::KeyRef;
 use sfv_tree::visitor::{Event, Visitor};
 use std::alloc::Global;

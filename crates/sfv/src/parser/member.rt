@@ -2,7 +2,7 @@
 
 ghost use Rattle.std.specs.Prelude.{◌≡◌, [], OnOk, flat_map};
 ghost use Rattle.sfv_spec.specs.Events.{member_events};
-ghost use Rattle.sfv_text.specs.BareItems.{edition_of};
+ghost use Rattle.sfv_bare.specs.BareItems.{edition_of};
 ghost use Rattle.sfv_reading.specs.Members.{inner_item_events, inner_item_at, inner_items_at, inner_at, member_at, entry_events, entry_at, member_value_at, keyed_events, keyed_at};
 ghost use Rattle.sfv_reading.specs.Fields.{members_at};
 ghost use Rattle.sfv.specs.Cursor.{rest, Gives};
@@ -11,8 +11,8 @@ ghost use Rattle.sfv.specs.Visits.{Tells};
 
 use crate::parser::cursor::Cursor;
 use crate::parser::item::tell;
+use sfv_bare::bare::{GenericBareItem, Version};
 use sfv_base::error::{Error, ErrorKind, ParseError};
-use sfv_text::bare::{GenericBareItem, Version};
 use sfv_tree::visitor::{Event, Visitor};
 use std::alloc::Global;
 

@@ -2,15 +2,15 @@
 
 ghost use Rattle.std.specs.Prelude.{◌≡◌, ◌≤◌, ◌<◌, ◌↔◌, length, drop, slice_range, not, ◌==◌, true, false, IfOk, IsTrue};
 ghost use Rattle.sfv_spec.specs.Texts.{RunOf};
-ghost use Rattle.sfv_text.specs.BareItems.{read_text};
+ghost use Rattle.sfv_bare.specs.BareItems.{read_text};
 ghost use Rattle.sfv_reading.specs.Quoted.{is_plain_in_string, string_at, string_from};
 ghost use Rattle.sfv.specs.Cursor.{ReadsAt};
 ghost use Rattle.sfv.specs.Quoted.{ReadsEscape};
 ghost use Rattle.sfv.specs.Texts.{is_borrowed_string, vec_bytes};
 
 use crate::quoted::in_string::{is_escaped, plain_end};
+use sfv_bare::bare::StringFromInput;
 use sfv_base::error::{Error, ErrorKind};
-use sfv_text::bare::StringFromInput;
 use sfv_text::string::String;
 use sfv_text::string_ref::StringRef;
 use std::alloc::Global;
@@ -101,8 +101,8 @@ pub(crate) fn string<'de>(
 #[cfg(test)]
 mod tests {
     use super::string;
+    use sfv_bare::bare::StringFromInput;
     use sfv_base::error::{Error, ErrorKind};
-    use sfv_text::bare::StringFromInput;
     use std::alloc::Global;
 
     fn is_borrowed(alloc: Global, input: &[u8], text: &str, next: usize) -> bool

@@ -3,13 +3,13 @@
 ghost use Rattle.std.specs.Prelude.{◌≡◌, ◌++◌, List, OnOk, OnErr, codes, string_bytes};
 ghost use Rattle.std.specs.Iterator.{IsFinite, Drains};
 ghost use Rattle.sfv_spec.specs.Canonical.{bare_text, value_text, parameters_text};
-ghost use Rattle.sfv_text.specs.BareItems.{ref_value};
+ghost use Rattle.sfv_bare.specs.BareItems.{ref_value};
 ghost use Rattle.sfv_text.specs.KeyText.{key_text};
 ghost use Rattle.sfv.specs.Written.{lent_pairs};
 
 use crate::ser::item::{serialize_bare_item, serialize_parameter, serialize_parameters};
+use sfv_bare::bare::{BareItem, RefBareItem};
 use sfv_base::error::OutOfMemory;
-use sfv_text::bare::{BareItem, RefBareItem};
 use sfv_text::key::Key;
 use sfv_text::key_ref::KeyRef;
 use std::alloc::Allocator;
@@ -79,10 +79,10 @@ pub(crate) fn append_parameters<
 mod tests {
     use super::*;
     use linked_list_allocator::LocalHeap;
+    use sfv_bare::bare::GenericBareItem;
     use sfv_base::date::Date;
     use sfv_base::decimal::Decimal;
     use sfv_base::shorthand::integer;
-    use sfv_text::bare::GenericBareItem;
     use sfv_text::shorthand::{key_ref, string_ref, token_ref};
     use sfv_tree::parsed::Parameters;
     use std::process::Abort;

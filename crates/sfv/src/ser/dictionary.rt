@@ -6,7 +6,7 @@ ghost use Rattle.sfv_spec.specs.Values.{IsMember, HasMember, item_field, diction
 ghost use Rattle.sfv_spec.specs.Ordered.{IsOrderedMember};
 ghost use Rattle.sfv_spec.specs.Canonical.{value_text, parameters_text, dictionary_member_text, canonical};
 ghost use Rattle.sfv_spec.specs.Statements.{IsValue, IsWrittenAs};
-ghost use Rattle.sfv_text.specs.BareItems.{bare_value};
+ghost use Rattle.sfv_bare.specs.BareItems.{bare_value};
 ghost use Rattle.sfv_tree.specs.Trees.{pairs_tree, item_tree, member_tree, dictionary_tree};
 ghost use Rattle.sfv.specs.Written.{Extends};
 
@@ -95,7 +95,7 @@ pub(crate) fn dictionary_text(
 #[cfg(test)]
 mod tests {
     use super::*;
-    use sfv_text::bare::BareItem;
+    use sfv_bare::bare::BareItem;
     use sfv_text::shorthand::key_ref;
     use sfv_tree::parsed::{InnerList, Parameters};
     use std::test::Fail;

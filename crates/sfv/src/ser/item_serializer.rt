@@ -3,13 +3,13 @@
 ghost use Rattle.std.specs.Prelude.{◌≡◌, ◌++◌, IfOk, string_bytes};
 ghost use Rattle.std.specs.Borrow.{sem, RestsIfErr};
 ghost use Rattle.sfv_spec.specs.Canonical.{bare_text};
-ghost use Rattle.sfv_text.specs.BareItems.{ref_value};
+ghost use Rattle.sfv_bare.specs.BareItems.{ref_value};
 ghost use Rattle.sfv.specs.Serializers.{text_row, item_buffer, params_sink};
 
 use crate::ser::append::append_bare_item;
 use crate::ser::parameter_serializer::ParameterSerializer;
+use sfv_bare::bare::RefBareItem;
 use sfv_base::error::OutOfMemory;
-use sfv_text::bare::RefBareItem;
 use std::string::String as StdString;
 
 /// Writes an item at the end of a lent text (RFC 9651, section 4.1.3): first its bare item, and

@@ -105,7 +105,7 @@ pub(crate) fn list_text(list: &List, alloc: Global) -> Result<Option<StdString>,
 #[cfg(test)]
 mod tests {
     use super::*;
-    use sfv_text::bare::BareItem;
+    use sfv_bare::bare::BareItem;
     use sfv_text::shorthand::key_ref;
     use sfv_tree::parsed::Parameters;
     use std::test::Fail;

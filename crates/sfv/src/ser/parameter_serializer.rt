@@ -4,14 +4,14 @@ ghost use Rattle.std.specs.Prelude.{◌≡◌, ◌++◌, List, IfOk, codes, stri
 ghost use Rattle.std.specs.Borrow.{sem, RestsIfErr};
 ghost use Rattle.std.specs.Iterator.{IsFinite, Drains};
 ghost use Rattle.sfv_spec.specs.Canonical.{value_text, parameters_text};
-ghost use Rattle.sfv_text.specs.BareItems.{ref_value};
+ghost use Rattle.sfv_bare.specs.BareItems.{ref_value};
 ghost use Rattle.sfv_text.specs.KeyText.{key_text};
 ghost use Rattle.sfv.specs.Written.{lent_pairs};
 ghost use Rattle.sfv.specs.Serializers.{text_row, params_sink};
 
 use crate::ser::append::{append_parameter, append_parameters};
+use sfv_bare::bare::{BareItem, RefBareItem};
 use sfv_base::error::OutOfMemory;
-use sfv_text::bare::{BareItem, RefBareItem};
 use sfv_text::key::Key;
 use sfv_text::key_ref::KeyRef;
 use std::string::String as StdString;

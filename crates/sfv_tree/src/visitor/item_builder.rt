@@ -3,7 +3,7 @@
 ghost use Rattle.std.specs.Prelude.{◌≡◌, OnOk};
 ghost use Rattle.sfv_spec.specs.Values.{RawItem};
 ghost use Rattle.sfv_spec.specs.Events as tree;
-ghost use Rattle.sfv_text.specs.BareItems.{input_value};
+ghost use Rattle.sfv_bare.specs.BareItems.{input_value};
 ghost use Rattle.sfv_text.specs.KeyText.{key_text};
 ghost use Rattle.sfv_tree.specs.Trees.{item_tree};
 ghost use Rattle.sfv_tree.specs.Events.{event_of};
@@ -13,8 +13,8 @@ ghost use Rattle.sfv_tree.specs.declared.visitor.ItemFault.TheVariants as faults
 use crate::parsed::Item;
 use crate::visitor::parameters::enter;
 use crate::visitor::{Event, ItemFault, Visitor};
+use sfv_bare::bare::BareItemFromInput;
 use sfv_base::error::OutOfMemory;
-use sfv_text::bare::BareItemFromInput;
 use sfv_text::key_ref::KeyRef;
 use std::alloc::Global;
 

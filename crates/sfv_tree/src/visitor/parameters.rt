@@ -2,13 +2,13 @@
 
 ghost use Rattle.std.specs.Prelude.{◌≡◌, OnOk, bytes_eq};
 ghost use Rattle.indexmap.specs.IndexMap.{insert_entry};
-ghost use Rattle.sfv_text.specs.BareItems.{input_value};
+ghost use Rattle.sfv_bare.specs.BareItems.{input_value};
 ghost use Rattle.sfv_text.specs.KeyText.{key_text};
 ghost use Rattle.sfv_tree.specs.Trees.{pairs_tree};
 
 use crate::parsed::Parameters;
+use sfv_bare::bare::BareItemFromInput;
 use sfv_base::error::OutOfMemory;
-use sfv_text::bare::BareItemFromInput;
 use sfv_text::key_ref::KeyRef;
 use std::alloc::Global;
 

@@ -2,7 +2,7 @@
 
 ghost use Rattle.std.specs.Prelude.{◌≡◌, IfOk};
 ghost use Rattle.sfv_spec.specs.Events as tree;
-ghost use Rattle.sfv_text.specs.BareItems.{input_value};
+ghost use Rattle.sfv_bare.specs.BareItems.{input_value};
 ghost use Rattle.sfv_text.specs.KeyText.{key_text};
 ghost use Rattle.sfv_tree.specs.Events.{event_of};
 ghost use Rattle.sfv_tree.specs.Builders.{member_step, member_place};
@@ -10,8 +10,8 @@ ghost use Rattle.sfv_tree.specs.Builders.{member_step, member_place};
 use crate::parsed::{InnerList, Item, ListEntry};
 use crate::visitor::Event;
 use crate::visitor::parameters::enter;
+use sfv_bare::bare::BareItemFromInput;
 use sfv_base::error::OutOfMemory;
-use sfv_text::bare::BareItemFromInput;
 use sfv_text::key_ref::KeyRef;
 use std::alloc::Global;
 

@@ -1,6 +1,6 @@
 use Rattle.std.proofs.Common.{rules, ◌≡◌, ◌++◌, ◌∙◌, string_bytes, ap, append_assoc}
 use Rattle.sfv_spec.specs.Canonical.{bare_text, item_text, parameters_text}
-use Rattle.sfv_text.specs.BareItems.{bare_value}
+use Rattle.sfv_bare.specs.BareItems.{bare_value}
 use Rattle.sfv_tree.specs.Trees.{pairs_tree, item_tree}
 use Rattle.sfv.specs.Written.{lent_pairs}
 use Rattle.sfv.proofs.Lent.{lent_all}

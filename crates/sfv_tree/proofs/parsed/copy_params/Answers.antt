@@ -1,4 +1,4 @@
-use Rattle.sfv_text.proofs.Copies.{copied_value}
+use Rattle.sfv_bare.proofs.Copies.{copied_value}
 use Rattle.sfv_tree.proofs.Clones.{pairs_cloned}
 use Rattle.sfv_tree.proofs.parsed.copy_params.Goals as goal
 

@@ -1,7 +1,7 @@
 use Rattle.std.proofs.Common.{Err, refl, sym, ap, ◌∙◌, flat_map}
 use Rattle.std.proofs.lemmas.Result.{err_from_is_err_and}
 use Rattle.sfv_spec.specs.Values.{list_field}
-use Rattle.sfv_text.specs.BareItems.{edition_of}
+use Rattle.sfv_bare.specs.BareItems.{edition_of}
 use Rattle.sfv_spec.specs.Events.{events}
 use Rattle.sfv_reading.specs.Members.{entry_events, entry_at}
 use Rattle.sfv_reading.specs.Fields.{members_at, whole_field_at}

@@ -1,7 +1,7 @@
 use Rattle.std.proofs.Common.{◌≡◌, ◌++◌, ◌∙◌, string_bytes, ap, append_assoc, subst}
 use Rattle.sfv_spec.specs.Values.{IsBareValue, AreParameters}
 use Rattle.sfv_spec.specs.Canonical.{bare_text, parameters_text}
-use Rattle.sfv_text.specs.BareItems.{bare_value}
+use Rattle.sfv_bare.specs.BareItems.{bare_value}
 use Rattle.sfv_tree.specs.Trees.{pairs_tree}
 use Rattle.sfv.specs.Written.{lent_pairs}
 use Rattle.sfv.proofs.Lent.{lent_all}

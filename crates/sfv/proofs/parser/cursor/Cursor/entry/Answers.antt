@@ -1,7 +1,7 @@
 use Rattle.std.proofs.Common.{refl}
 use Rattle.std.proofs.lemmas.Result.{err_from_is_err_and}
 use Rattle.sfv_spec.specs.Events.{entry, member_events}
-use Rattle.sfv_text.specs.BareItems.{edition_of}
+use Rattle.sfv_bare.specs.BareItems.{edition_of}
 use Rattle.sfv_reading.specs.Members.{member_at, entry_at}
 use Rattle.sfv.proofs.Telling.{led_tells, led_fails}
 use Rattle.sfv.proofs.parser.cursor.Cursor.entry.Goals as goal

@@ -1,6 +1,6 @@
 use Rattle.std.proofs.Common.{◌∙◌, ap, not, sym, subst, refl, []}
 use Rattle.std.proofs.lemmas.Result.{err_from_is_err_and}
-use Rattle.sfv_text.specs.BareItems.{edition_of}
+use Rattle.sfv_bare.specs.BareItems.{edition_of}
 use Rattle.sfv_reading.specs.Members.{inner_item_events, inner_item_at, next_item_at}
 use Rattle.sfv_reading.proofs.Members.{Consumes-next_item}
 use Rattle.sfv.specs.Cursor.{rest}

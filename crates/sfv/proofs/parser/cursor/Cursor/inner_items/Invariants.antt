@@ -1,5 +1,5 @@
 use Rattle.std.proofs.Common.{◌≡◌, length}
-use Rattle.sfv_text.specs.BareItems.{edition_of}
+use Rattle.sfv_bare.specs.BareItems.{edition_of}
 use Rattle.sfv_reading.specs.Members.{inner_item_events, next_item_at, inner_items_at}
 use Rattle.sfv.specs.Cursor.{rest}
 use Rattle.sfv.proofs.Loops.{ToldSoFar}

@@ -1,6 +1,6 @@
 use Rattle.std.proofs.Common.{refl}
 use Rattle.std.proofs.lemmas.Result.{err_from_is_err_and}
-use Rattle.sfv_text.specs.BareItems.{edition_of}
+use Rattle.sfv_bare.specs.BareItems.{edition_of}
 use Rattle.sfv.proofs.InnerLists.{items_fail, end_fails, inner_list_tells}
 use Rattle.sfv.proofs.parser.cursor.Cursor.inner_list.Goals as goal
 

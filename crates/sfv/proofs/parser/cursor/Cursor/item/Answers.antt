@@ -1,6 +1,6 @@
 use Rattle.std.proofs.Common.{refl}
 use Rattle.std.proofs.lemmas.Result.{err_from_is_err_and}
-use Rattle.sfv_text.specs.BareItems.{edition_of}
+use Rattle.sfv_bare.specs.BareItems.{edition_of}
 use Rattle.sfv_reading.specs.Bare.{bare_at}
 use Rattle.sfv.proofs.Errors.{ErrorOf-part}
 use Rattle.sfv.proofs.Steps.{item_is}

@@ -1,6 +1,6 @@
 use Rattle.std.proofs.Common.{◌∙◌, ap, not, sym, subst, refl, []}
 use Rattle.std.proofs.lemmas.Result.{err_from_is_err_and}
-use Rattle.sfv_text.specs.BareItems.{edition_of}
+use Rattle.sfv_bare.specs.BareItems.{edition_of}
 use Rattle.sfv_reading.specs.Members.{keyed_events, keyed_at}
 use Rattle.sfv_reading.specs.Fields.{next_at}
 use Rattle.sfv_spec.specs.Grammar.{IsDictionaryMemberText}

@@ -1,5 +1,5 @@
 use Rattle.std.proofs.Common.{◌≡◌, length}
-use Rattle.sfv_text.specs.BareItems.{edition_of}
+use Rattle.sfv_bare.specs.BareItems.{edition_of}
 use Rattle.sfv_reading.specs.Members.{keyed_events, keyed_at}
 use Rattle.sfv_reading.specs.Fields.{next_at, members_at}
 use Rattle.sfv.specs.Cursor.{rest}

@@ -1,6 +1,6 @@
 use Rattle.std.proofs.Common.{refl}
 use Rattle.std.proofs.lemmas.Result.{err_from_is_err_and}
-use Rattle.sfv_text.specs.BareItems.{edition_of}
+use Rattle.sfv_bare.specs.BareItems.{edition_of}
 use Rattle.sfv.proofs.Errors.{ErrorOf-fault}
 use Rattle.sfv.proofs.Keyed.{key_fails, keyed_fails, keyed_tells}
 use Rattle.sfv.proofs.parser.cursor.Cursor.keyed_entry.Goals as goal

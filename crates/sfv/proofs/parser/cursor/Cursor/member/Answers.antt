@@ -1,5 +1,5 @@
 use Rattle.std.proofs.lemmas.Result.{err_from_is_err_and}
-use Rattle.sfv_text.specs.BareItems.{edition_of}
+use Rattle.sfv_bare.specs.BareItems.{edition_of}
 use Rattle.sfv.proofs.InnerLists.{list_member_tells, item_member_tells, list_begin_fails, item_begin_fails}
 use Rattle.sfv.proofs.parser.cursor.Cursor.member.Goals as goal
 

@@ -1,5 +1,5 @@
 use Rattle.std.proofs.lemmas.Result.{err_from_is_err_and}
-use Rattle.sfv_text.specs.BareItems.{edition_of}
+use Rattle.sfv_bare.specs.BareItems.{edition_of}
 use Rattle.sfv.proofs.Keyed.{value_tells, true_begin_fails, true_bare_fails, true_tells}
 use Rattle.sfv.proofs.parser.cursor.Cursor.member_value.Goals as goal
 

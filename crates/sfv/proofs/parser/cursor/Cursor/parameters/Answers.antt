@@ -1,6 +1,6 @@
 use Rattle.std.proofs.Common.{◌∙◌, refl}
 use Rattle.std.proofs.lemmas.Result.{err_from_is_err_and}
-use Rattle.sfv_text.specs.BareItems.{edition_of}
+use Rattle.sfv_bare.specs.BareItems.{edition_of}
 use Rattle.sfv_reading.proofs.Items.{Consumes-parameter}
 use Rattle.sfv.specs.Cursor.{rest}
 use Rattle.sfv.proofs.Told.{told_none, told_more, told_all, told_error, told_refused, told_end_refused}

@@ -1,5 +1,5 @@
 use Rattle.std.proofs.Common.{◌≡◌, length}
-use Rattle.sfv_text.specs.BareItems.{edition_of}
+use Rattle.sfv_bare.specs.BareItems.{edition_of}
 use Rattle.sfv.specs.Cursor.{rest}
 use Rattle.sfv.proofs.Told.{ToldParameters}
 use Rattle.sfv.proofs.parser.cursor.Cursor.parameters.Given as goal

@@ -5,16 +5,16 @@ ghost use Rattle.std.specs.Cmp.Lexicographic.{pointwise, nat_list_eq_equiv};
 ghost use Rattle.std.specs.Cmp;
 ghost use Rattle.std.specs.Cmp.{on_per, on_equiv};
 ghost use Rattle.sfv_spec.specs.Values as values;
-ghost use Rattle.sfv_text.specs.BareItems.{GivesPart, read_text, bare_value, ref_value, input_value};
+ghost use Rattle.sfv_bare.specs.BareItems.{GivesPart, read_text, bare_value, ref_value, input_value};
 ghost use Rattle.sfv_text.specs.StringText.{string_text};
 ghost use Rattle.sfv_text.specs.TokenText.{token_text};
 
 use crate::bare::{BareItem, BareItemFromInput, GenericBareItem, RefBareItem, StringFromInput};
-use crate::string::String;
-use crate::string_ref::StringRef;
-use crate::token::Token;
-use crate::token_ref::TokenRef;
 use sfv_base::error::OutOfMemory;
+use sfv_text::string::String;
+use sfv_text::string_ref::StringRef;
+use sfv_text::token::Token;
+use sfv_text::token_ref::TokenRef;
 use std::alloc::{AllocError, Global};
 
 impl<'a> StringFromInput<'a> {

@@ -6,9 +6,9 @@ use Rattle.std.specs.declared.alloc.Global.{Global}
 use Rattle.std.specs.declared.vec.Vec.{Vec}
 use Rattle.std.specs.declared.string.String as std_string
 use Rattle.sfv_spec.specs.Values as values
-use Rattle.sfv_text.specs.BareItems.{IsCopyBy, bare_value}
-use Rattle.sfv_text.specs.declared.bare.GenericBareItem.{GenericBareItem}
-use Rattle.sfv_text.specs.declared.bare.GenericBareItem.TheVariants as bare
+use Rattle.sfv_bare.specs.BareItems.{IsCopyBy, bare_value}
+use Rattle.sfv_bare.specs.declared.bare.GenericBareItem.{GenericBareItem}
+use Rattle.sfv_bare.specs.declared.bare.GenericBareItem.TheVariants as bare
 
 -- what holds of a copy of the bytes, whatever else does
 pub copied_value :

@@ -1,7 +1,7 @@
 //! What a bare item holds, if it is of a kind.
 
-ghost use Rattle.sfv_text.specs.BareItems.{GivesPart};
-ghost use Rattle.sfv_text.specs.declared.bare.GenericBareItem.TheVariants as code;
+ghost use Rattle.sfv_bare.specs.BareItems.{GivesPart};
+ghost use Rattle.sfv_bare.specs.declared.bare.GenericBareItem.TheVariants as code;
 
 use crate::bare::GenericBareItem;
 use sfv_base::date::Date;

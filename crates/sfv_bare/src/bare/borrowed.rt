@@ -2,16 +2,16 @@
 
 ghost use Rattle.std.specs.Prelude.{◌≡◌, IfOk};
 ghost use Rattle.sfv_spec.specs.Values as values;
-ghost use Rattle.sfv_text.specs.BareItems.{GivesPart, bare_value, ref_value};
+ghost use Rattle.sfv_bare.specs.BareItems.{GivesPart, bare_value, ref_value};
 ghost use Rattle.sfv_text.specs.StringText.{string_text};
 ghost use Rattle.sfv_text.specs.TokenText.{token_text};
 
 use crate::bare::{BareItem, GenericBareItem, RefBareItem};
-use crate::string::String;
-use crate::string_ref::StringRef;
-use crate::token::Token;
-use crate::token_ref::TokenRef;
 use sfv_base::error::OutOfMemory;
+use sfv_text::string::String;
+use sfv_text::string_ref::StringRef;
+use sfv_text::token::Token;
+use sfv_text::token_ref::TokenRef;
 use std::alloc::Global;
 use std::string::String as StdString;
 

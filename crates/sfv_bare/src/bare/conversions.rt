@@ -3,7 +3,7 @@
 ghost use Rattle.std.specs.Prelude.{◌≡◌, pos};
 ghost use Rattle.sfv_spec.specs.Values.{IsInRange};
 ghost use Rattle.sfv_base.specs.Conversions.{GivesIf};
-ghost use Rattle.sfv_text.specs.declared.bare.GenericBareItem.TheVariants as code;
+ghost use Rattle.sfv_bare.specs.declared.bare.GenericBareItem.TheVariants as code;
 
 use crate::bare::GenericBareItem;
 use sfv_base::date::Date;

@@ -12,12 +12,12 @@ use Rattle.sfv_text.specs.declared.token_ref.TokenRef.{TokenRef}
 use Rattle.sfv_text.specs.declared.string_ref.StringRef.{StringRef}
 use Rattle.sfv_text.specs.TokenText.{token_text}
 use Rattle.sfv_text.specs.StringText.{string_text}
-use Rattle.sfv_text.specs.declared.bare.GenericBareItem.{GenericBareItem}
-use Rattle.sfv_text.specs.declared.bare.GenericBareItem.TheVariants as bare
-use Rattle.sfv_text.specs.declared.bare.StringFromInput.{StringFromInput}
-use Rattle.sfv_text.specs.declared.bare.StringFromInput.TheVariants as input
-use Rattle.sfv_text.specs.declared.bare.Version.{Version}
-use Rattle.sfv_text.specs.declared.bare.Version.TheVariants as version
+use Rattle.sfv_bare.specs.declared.bare.GenericBareItem.{GenericBareItem}
+use Rattle.sfv_bare.specs.declared.bare.GenericBareItem.TheVariants as bare
+use Rattle.sfv_bare.specs.declared.bare.StringFromInput.{StringFromInput}
+use Rattle.sfv_bare.specs.declared.bare.StringFromInput.TheVariants as input
+use Rattle.sfv_bare.specs.declared.bare.Version.{Version}
+use Rattle.sfv_bare.specs.declared.bare.Version.TheVariants as version
 
 -- the value of a bare item, given the bytes of its texts
 abbrev pub value_by : {S B T D : Type 0} → (S → List ℕ) → (B → List ℕ) → (T → List ℕ) → (D → List ℕ) → GenericBareItem S B T D → BareValue

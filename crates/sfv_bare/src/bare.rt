@@ -1,7 +1,7 @@
 //! Bare items (RFC 9651, section 3.3), and the versions of the standard.
 
 ghost use Rattle.std.specs.Prelude.{◌≡◌, Some};
-ghost use Rattle.sfv_text.specs.BareItems.{IsCopyBy, version_text};
+ghost use Rattle.sfv_bare.specs.BareItems.{IsCopyBy, version_text};
 
 mod accessors;
 mod borrowed;
@@ -9,13 +9,13 @@ mod conversions;
 mod from_input;
 mod owned;
 
-use crate::string::String;
-use crate::string_ref::StringRef;
-use crate::token::Token;
-use crate::token_ref::TokenRef;
 use sfv_base::date::Date;
 use sfv_base::decimal::Decimal;
 use sfv_base::integer::Integer;
+use sfv_text::string::String;
+use sfv_text::string_ref::StringRef;
+use sfv_text::token::Token;
+use sfv_text::token_ref::TokenRef;
 use std::alloc::AllocError;
 use std::borrow::CowStr;
 use std::fmt;
