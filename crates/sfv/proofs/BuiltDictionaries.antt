@@ -23,7 +23,7 @@ use Rattle.sfv_tree.specs.declared.visitor.dictionary_builder.DictionaryBuilder.
 use Rattle.sfv.specs.Parsers.{IsAnswerOf}
 use Rattle.sfv.proofs.Built.{insert_entry-entered}
 use Rattle.sfv.proofs.BuiltMembers.{IsOpen, member_built, runs_fold}
-use Rattle.sfv.proofs.Params.{no_repeats-distinct}
+use Rattle.sfv_ser.proofs.Params.{no_repeats-distinct}
 
 -- values that are changed one by one are collapsed before or after
 module _ {A B : Type 0} (f : A → B) where

@@ -6,25 +6,15 @@ use Rattle.std.proofs.lemmas.List.{append-nil, length-map, length-take-le, lengt
 use Rattle.std.proofs.lemmas.List.Folds.{list_all_at, list_all-append}
 use Rattle.std.proofs.Math.Nat.{div-mul-le_self}
 use Rattle.base64.specs.Rfc4648.{encode_symbols}
-use Rattle.base64.specs.Engines.{standard, standard_no_pad}
+use Rattle.base64.specs.Engines.{standard_no_pad}
 use Rattle.base64.specs.GeneralPurpose.{encode_of, decode_of, IsBytes}
 use Rattle.base64.proofs.EngineFacts.{decode_of-encode_of}
 use Rattle.sfv_spec.specs.Values.{is_byte}
-use Rattle.sfv_spec.specs.Base64.{symbols, symbol, base64_text}
+use Rattle.sfv_spec.specs.Base64.{symbols, symbol}
 use Rattle.sfv_reading.specs.Content.{is_symbol, symbol_value, bytes_from}
 use Rattle.sfv.specs.Zeros.{HasZeros, decoded_symbols}
 use Rattle.sfv_reading.proofs.Bits.{is_value, head_value, bytes_within}
 use Rattle.sfv_reading.proofs.Shape.{are_values, symbols-values, value_within, symbol-value, value-symbol, symbol-is_symbol}
-
--- what is written
-pub encoded : (bytes : List ℕ) → encode_of standard bytes ≡ base64_text bytes
-unfolding encode_symbols base64_text
-encoded [] = refl
-encoded (a ∷ []) = refl
-encoded (a ∷ b ∷ []) = refl
-encoded (a ∷ b ∷ c ∷ rest) =
-    let e : suc (suc (suc (length rest))) % 3 ≡ length rest % 3 = omega arith in
-    rw (e) (cc (encoded rest))
 
 -- bytes, place by place
 are_bytes : (bs : List ℕ) → list_all is_byte bs ≡ true → IsBytes bs

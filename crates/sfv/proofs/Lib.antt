@@ -10,11 +10,7 @@ pub mod BuiltLists
 pub mod BuiltDictionaries
 pub mod Whole
 pub mod Parsed
-pub mod Decimals
-pub mod Written
 pub mod Escapes
-pub mod Params
-pub mod Lent
 pub mod Told
 pub mod Visited
 pub mod Delimiters
@@ -22,5 +18,3 @@ pub mod Telling
 pub mod Loops
 pub mod InnerLists
 pub mod Keyed
-pub mod Rows
-pub mod Members

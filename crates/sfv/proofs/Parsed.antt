@@ -1,16 +1,13 @@
 -- What an answer of the reading says of the text, in the words of the definitions.
 use Rattle.std.proofs.Common.{◌≡◌, ℕ, ◌≤◌, Bool, true, false, List, length, drop, Option, Some, None, Result, Ok, Err, refl, sym, ap, subst, ◌∙◌, inl, inr, arith}
-use Rattle.std.specs.Prelude.{MatchOption, IfOk, IfErr}
+use Rattle.std.specs.Prelude.{MatchOption}
 use Rattle.std.proofs.lemmas.List.{length-drop}
 use Rattle.std.proofs.lemmas.Bool.{true≢false}
-use Rattle.sfv_spec.specs.Values.{Edition, rfc9651, FieldKind, RawField}
+use Rattle.sfv_spec.specs.Values.{Edition, FieldKind, RawField}
 use Rattle.sfv_spec.specs.Faults.{has_rule, IsRefusedAt}
 use Rattle.sfv_spec.specs.Reach.{IsReach}
 use Rattle.sfv_spec.specs.Ordered.{ordered}
-use Rattle.sfv_spec.specs.Statements.{IsParsedAs, IsValue, IsWrittenAs}
-use Rattle.sfv_spec.specs.Grammar.{IsFieldText}
-use Rattle.sfv_spec.specs.Canonical.{canonical}
-use Rattle.sfv_spec.proofs.Laws.{round_trip_lem}
+use Rattle.sfv_spec.specs.Statements.{IsParsedAs}
 use Rattle.sfv_spec.proofs.Structure.{one_field_lem}
 use Rattle.sfv_base.specs.declared.error.Error.{Error}
 use Rattle.sfv_base.specs.declared.error.ErrorKind.{ErrorKind}
@@ -74,14 +71,3 @@ reader_fault edition kind t e = on e.index refl
           inr (record { fault = f.0; index = index; answered = f.1; error = same; here = sym f.3 }),
           inr (record { fault = f.0.kind; index = index; error = same; refused = refused_at edition kind t f.0 index f.1 (sym f.3) h.1 }),
         )
-
--- the canonical text of a value is read back as it
-pub written : (kind : FieldKind) (value : RawField kind) (t : List ℕ) → IsValue kind value → t ≡ canonical kind value → IsWrittenAs kind value t
-written kind value t v e =
-    let back = round_trip_lem kind value v in
-    let accepted : IsFieldText rfc9651 kind value t = subst (λ (s : List ℕ). IsFieldText rfc9651 kind value s) (sym e) back.0 in
-    record {
-      is_value = v;
-      text = e;
-      read_back = record { raw = value; accepted = accepted; only = λ other h. one_field_lem rfc9651 kind t other value h accepted; ordered_value = sym back.1 };
-    }

@@ -7,7 +7,5 @@ pub mod Items
 pub mod Fields
 pub mod Parsers
 pub mod Quoted
-pub mod Written
-pub mod Serializers
 pub mod Visits
 pub mod Members

@@ -7,8 +7,8 @@ ghost use Rattle.sfv_tree.specs.Trees.{item_tree, list_tree, dictionary_tree};
 ghost use Rattle.sfv.specs.Parsers.{input_of, parser_edition, IsParseError, IsReaderFault};
 
 use crate::parser::Parser;
-use crate::ser::{dictionary_text, list_text, serialize_item};
 use sfv_base::error::{Error, OutOfMemory, ParseError};
+use sfv_ser::ser::{dictionary_text, list_text, serialize_item};
 use sfv_tree::parsed::{Dictionary, Item, List};
 use sfv_tree::visitor::{DictionaryBuilder, ItemBuilder, ListBuilder};
 use std::alloc::Global;

@@ -6,12 +6,9 @@
 
 mod field_type;
 mod parser;
-mod quoted;
-mod ser;
 
 pub use field_type::FieldType;
 pub use parser::Parser;
-pub use ser::{ItemSerializer, ParameterSerializer};
 pub use sfv_bare::bare::{
     BareItem, BareItemFromInput, GenericBareItem, RefBareItem, StringFromInput, Version,
 };
@@ -20,6 +17,7 @@ pub use sfv_base::decimal::Decimal;
 pub use sfv_base::error::{Error, ErrorKind, OutOfMemory, ParseError};
 pub use sfv_base::integer::Integer;
 pub use sfv_base::shorthand::integer;
+pub use sfv_ser::ser::{ItemSerializer, ParameterSerializer};
 pub use sfv_text::key::Key;
 pub use sfv_text::key_ref::KeyRef;
 pub use sfv_text::shorthand::{key_ref, string_ref, token_ref};

@@ -10,9 +10,9 @@ ghost use Rattle.sfv.specs.Cursor.{ReadsAt};
 ghost use Rattle.sfv.specs.Quoted.{ReadsEscape, ReadsDigit, GivesText};
 ghost use Rattle.sfv.specs.Texts.{is_borrowed_text, vec_bytes};
 
-use crate::quoted::in_display_string::plain_end;
 use sfv_base::error::{Error, ErrorKind};
 use sfv_base::utils::is_lower_hexadecimal_digit;
+use sfv_ser::quoted::in_display_string::plain_end;
 use std::alloc::Global;
 use std::borrow::CowStr;
 

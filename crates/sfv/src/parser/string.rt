@@ -8,9 +8,9 @@ ghost use Rattle.sfv.specs.Cursor.{ReadsAt};
 ghost use Rattle.sfv.specs.Quoted.{ReadsEscape};
 ghost use Rattle.sfv.specs.Texts.{is_borrowed_string, vec_bytes};
 
-use crate::quoted::in_string::{is_escaped, plain_end};
 use sfv_bare::bare::StringFromInput;
 use sfv_base::error::{Error, ErrorKind};
+use sfv_ser::quoted::in_string::{is_escaped, plain_end};
 use sfv_text::string::String;
 use sfv_text::string_ref::StringRef;
 use std::alloc::Global;

@@ -2,8 +2,8 @@ use Rattle.std.proofs.Common.{rules, ◌≡◌, ◌++◌, ◌∙◌, string_byte
 use Rattle.sfv_spec.specs.Canonical.{bare_text, item_text, parameters_text}
 use Rattle.sfv_bare.specs.BareItems.{bare_value}
 use Rattle.sfv_tree.specs.Trees.{pairs_tree, item_tree}
-use Rattle.sfv.specs.Written.{lent_pairs}
-use Rattle.sfv.proofs.Lent.{lent_all}
+use Rattle.sfv_ser.specs.Written.{lent_pairs}
+use Rattle.sfv_ser.proofs.Lent.{lent_all}
 use Rattle.sfv_tests.proofs.callers.write_parts.Goals as goal
 
 pub returns : goal.returns

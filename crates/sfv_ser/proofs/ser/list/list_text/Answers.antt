@@ -1,0 +1,20 @@
+use Rattle.std.proofs.Common.{◌++◌, ◌<◌, ◌∙◌, List, ℕ, length, ap, rules}
+use Rattle.sfv_spec.specs.Values.{HasMember, list_field}
+use Rattle.sfv_spec.specs.Canonical.{canonical}
+use Rattle.sfv_tree.specs.Trees.{member_tree, list_tree}
+use Rattle.sfv_ser.proofs.ReadBack.{written}
+use Rattle.sfv_ser.proofs.Rows.{first_of_some, anyway}
+use Rattle.sfv_ser.proofs.ser.list.list_text.Goals as goal
+
+pub returns-in_err-serialize_list-clause-empty : goal.returns-in_err-serialize_list-clause-empty
+returns-in_err-serialize_list-clause-empty c =
+    let some : 0 < length c.args.list.now.items = search rules in
+    anyway (HasMember list_field (list_tree c.args.list.now.items)) c.from_residual.result (first_of_some member_tree c.args.list.now.items some)
+
+pub returns-clause-text : goal.returns-clause-text
+returns-clause-text c =
+    let members = list_tree c.args.list.now.items in
+    let some : 0 < length c.args.list.now.items = search rules in (
+      first_of_some member_tree c.args.list.now.items some,
+      written list_field members _ c.in_ok-serialize_list.ensures.value (c.in_ok-serialize_list.ensures.ok ∙ ap (λ (s : List ℕ). s ++ canonical list_field members) c.new-text.ensures.bytes),
+    )

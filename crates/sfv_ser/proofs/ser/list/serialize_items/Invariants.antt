@@ -1,0 +1,11 @@
+use Rattle.std.proofs.Common.{map, take, codes, string_bytes}
+use Rattle.sfv_spec.specs.Values.{IsItem}
+use Rattle.sfv_spec.specs.Ordered.{IsOrderedItem}
+use Rattle.sfv_spec.specs.Canonical.{item_text}
+use Rattle.sfv_tree.specs.Trees.{item_tree}
+use Rattle.sfv_ser.proofs.Rows.{IsRow}
+use Rattle.sfv_ser.proofs.ser.list.serialize_items.Given as goal
+
+abbrev pub invariant-loop-item : goal.invariant-loop-item
+invariant-loop-item g l =
+    IsRow item_text (λ i. IsItem i × IsOrderedItem i) (codes " ") (map item_tree (take l.item-index l.items)) l.is_first (string_bytes l.fn.output) (string_bytes l.output)

@@ -1,0 +1,42 @@
+//! Writing byte sequences (RFC 9651, section 4.1.8).
+
+ghost use Rattle.std.specs.Prelude.{◌≡◌, ◌++◌, OnOk, OnErr, string_bytes};
+ghost use Rattle.sfv_spec.specs.Texts.{RunOf};
+ghost use Rattle.sfv_spec.specs.Values.{is_byte, byte_sequence};
+ghost use Rattle.sfv_spec.specs.Canonical.{bare_text};
+ghost use Rattle.sfv_ser.specs.Written.{Extends};
+
+use base64::engine::general_purpose::STANDARD;
+use sfv_base::error::OutOfMemory;
+use std::alloc::Allocator;
+use std::string::String;
+
+/// Appends a byte sequence: its Base64 between colons.
+#[tactic(auto, using(crate::proofs::Params::run_of_bytes))]
+pub(crate) fn serialize_byte_sequence<A: Allocator>(
+    value: &[u8],
+    output: &mut String<A>,
+) -> Result<(), OutOfMemory>
+    ensures ok { OnOk result (string_bytes output.new ≡ string_bytes output.old ++ bare_text (byte_sequence value.now)) }
+    ensures err { OnErr result (Extends (string_bytes output.old) (string_bytes output.new)) }
+    ensures bytes { RunOf is_byte value.now }
+{
+    output.push(':')?;
+    STANDARD.encode_string(value, output)?;
+    output.push(':')?;
+    Ok(())
+}
+
+#[cfg(test)]
+mod tests {
+    use super::*;
+    use std::test::Fail;
+
+    #[test]
+    fn text(rt: HostRuntime) -> Result<(), Fail> {
+        let mut output = String::from_str(rt.alloc(), "a=")?;
+        serialize_byte_sequence(b"hello", &mut output)?;
+        assert_eq!(rt; output.as_str(), "a=:aGVsbG8=:");
+        Ok(())
+    }
+}

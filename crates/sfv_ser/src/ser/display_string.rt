@@ -1,0 +1,80 @@
+//! Writing display strings (RFC 9651, section 4.1.11).
+
+ghost use Rattle.std.specs.Prelude.{◌≡◌, ◌++◌, ◌<◌, OnOk, OnErr, string_bytes};
+ghost use Rattle.sfv_spec.specs.Values.{display_string};
+ghost use Rattle.sfv_spec.specs.Canonical.{hexadecimal_digit, display_piece, bare_text};
+ghost use Rattle.sfv_ser.specs.Written.{Extends};
+
+use crate::quoted::in_display_string::{is_plain, plain_end};
+use sfv_base::error::OutOfMemory;
+use std::alloc::{AllocError, Allocator};
+
+/// The digit of a number below 16.
+fn digit_of(value: u8) -> char
+    requires { value < 16 }
+    ensures digit { result ≡ hexadecimal_digit value }
+    ensures ascii { result < 128 }
+{
+    if value < 10 {
+        (b'0' + value) as char
+    } else {
+        (b'a' + (value - 10)) as char
+    }
+}
+
+/// Adds a byte of a display string, or a part of its escape.
+fn push_byte<A: Allocator>(output: &mut String<A>, byte: u8) -> Result<(), AllocError>
+    ensures ok { OnOk result (string_bytes output.new ≡ string_bytes output.old ++ display_piece byte) }
+    ensures err { OnErr result (Extends (string_bytes output.old) (string_bytes output.new)) }
+{
+    if is_plain(byte) {
+        return output.push(byte as char);
+    }
+    output.push('%')?;
+    output.push(digit_of(byte / 16))?;
+    output.push(digit_of(byte % 16))
+}
+
+/// Adds a display string, or a part of it.
+fn push_display_string<A: Allocator>(output: &mut String<A>, text: &str) -> Result<(), AllocError>
+    ensures ok { OnOk result (string_bytes output.new ≡ string_bytes output.old ++ bare_text (display_string text.now)) }
+    ensures err { OnErr result (Extends (string_bytes output.old) (string_bytes output.new)) }
+{
+    output.push_str("%\"")?;
+    let bytes = text.as_bytes();
+    let mut at = 0;
+    loop {
+        let end = plain_end(bytes, at);
+        // Plain bytes are ASCII, so a run of them can be cut out of a text.
+        output.push_str(unsafe { std::str::from_utf8_unchecked(&bytes[at..end]) })?;
+        if end >= bytes.len() {
+            return output.push('"');
+        }
+        push_byte(output, bytes[end])?;
+        at = end + 1;
+    }
+}
+
+/// Appends a display string.
+pub(crate) fn serialize_display_string<A: Allocator>(
+    value: &str,
+    output: &mut String<A>,
+) -> Result<(), OutOfMemory>
+    ensures ok { OnOk result (string_bytes output.new ≡ string_bytes output.old ++ bare_text (display_string value.now)) }
+    ensures err { OnErr result (Extends (string_bytes output.old) (string_bytes output.new)) }
+{
+    push_display_string(output, value)?;
+    Ok(())
+}
+
+#[cfg(test)]
+mod tests {
+    use super::serialize_display_string;
+
+    #[test]
+    fn written(rt: HostRuntime) {
+        let mut output = String::from_str(rt.alloc(), "=").expect(&rt, "memory");
+        serialize_display_string("50% \"\u{fc}\u{7f}\\", &mut output).expect(&rt, "memory");
+        assert!(rt; output.as_str() == "=%\"50%25 %22%c3%bc%7f\\\"");
+    }
+}

@@ -1,0 +1,72 @@
+//! Writing strings (RFC 9651, section 4.1.6).
+
+ghost use Rattle.std.specs.Prelude.{◌≡◌, ◌++◌, ◌<◌, OnOk, OnErr, string_bytes};
+ghost use Rattle.sfv_spec.specs.Texts.{RunOf};
+ghost use Rattle.sfv_spec.specs.Classes.{is_string_byte};
+ghost use Rattle.sfv_spec.specs.Values.{string};
+ghost use Rattle.sfv_spec.specs.Canonical.{string_piece, bare_text};
+ghost use Rattle.sfv_text.specs.StringText.{string_text};
+ghost use Rattle.sfv_ser.specs.Written.{Extends};
+
+use crate::quoted::in_string::{is_escaped, plain_end};
+use sfv_base::error::OutOfMemory;
+use sfv_text::string_ref::StringRef;
+use std::alloc::{AllocError, Allocator};
+
+/// Adds a byte of a string, or a part of its escape.
+fn push_byte<A: Allocator>(output: &mut String<A>, byte: u8) -> Result<(), AllocError>
+    requires { byte < 128 }
+    ensures ok { OnOk result (string_bytes output.new ≡ string_bytes output.old ++ string_piece byte) }
+    ensures err { OnErr result (Extends (string_bytes output.old) (string_bytes output.new)) }
+{
+    if is_escaped(byte) {
+        output.push('\\')?;
+    }
+    output.push(byte as char)
+}
+
+/// Adds a string, or a part of it.
+fn push_string<A: Allocator>(output: &mut String<A>, text: &str) -> Result<(), AllocError>
+    requires { RunOf is_string_byte text.now }
+    ensures ok { OnOk result (string_bytes output.new ≡ string_bytes output.old ++ bare_text (string text.now)) }
+    ensures err { OnErr result (Extends (string_bytes output.old) (string_bytes output.new)) }
+{
+    output.push('"')?;
+    let bytes = text.as_bytes();
+    let mut at = 0;
+    loop {
+        let end = plain_end(bytes, at);
+        // Plain bytes are ASCII, so a run of them can be cut out of a text.
+        output.push_str(unsafe { std::str::from_utf8_unchecked(&bytes[at..end]) })?;
+        if end >= bytes.len() {
+            return output.push('"');
+        }
+        push_byte(output, bytes[end])?;
+        at = end + 1;
+    }
+}
+
+/// Appends a string.
+pub(crate) fn serialize_string<A: Allocator>(
+    value: StringRef<'_>,
+    output: &mut String<A>,
+) -> Result<(), OutOfMemory>
+    ensures ok { OnOk result (string_bytes output.new ≡ string_bytes output.old ++ bare_text (string (string_text value.entry))) }
+    ensures err { OnErr result (Extends (string_bytes output.old) (string_bytes output.new)) }
+{
+    push_string(output, value.as_str())?;
+    Ok(())
+}
+
+#[cfg(test)]
+mod tests {
+    use super::serialize_string;
+    use sfv_text::string_ref::StringRef;
+
+    #[test]
+    fn written(rt: HostRuntime) {
+        let mut output = String::from_str(rt.alloc(), "=").expect(&rt, "memory");
+        serialize_string(StringRef::constant("a\"b\\"), &mut output).expect(&rt, "memory");
+        assert!(rt; output.as_str() == "=\"a\\\"b\\\\\"");
+    }
+}
