@@ -1,9 +1,7 @@
 -- The builder of a dictionary: behind all events of a tree each key that it was given or that stands in the tree is there once,
 -- at its first place, with its last member.
 use Rattle.std.proofs.Common.{◌≡◌, ℕ, Bool, true, false, cond, List, [], ◌∷◌, ◌++◌, map, refl, sym, ap, ◌∙◌, append_assoc}
-use Rattle.std.specs.Prelude.{bytes_eq, fold, IsTrue}
-use Rattle.std.specs.List.{IsDistinct}
-use Rattle.std.specs.Map.{keys_of}
+use Rattle.std.specs.Prelude.{bytes_eq, fold}
 use Rattle.std.proofs.lemmas.List.{append-nil, map-append}
 use Rattle.std.proofs.lemmas.List.Sums.{fold-append}
 use Rattle.indexmap.specs.IndexMap.{IndexMap}
@@ -23,7 +21,6 @@ use Rattle.sfv_tree.specs.declared.visitor.dictionary_builder.DictionaryBuilder.
 use Rattle.sfv.specs.Parsers.{IsAnswerOf}
 use Rattle.sfv.proofs.Built.{insert_entry-entered}
 use Rattle.sfv.proofs.BuiltMembers.{IsOpen, member_built, runs_fold}
-use Rattle.sfv_ser.proofs.Params.{no_repeats-distinct}
 
 -- values that are changed one by one are collapsed before or after
 module _ {A B : Type 0} (f : A → B) where

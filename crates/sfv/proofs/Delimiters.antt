@@ -7,7 +7,7 @@ use Rattle.sfv_spec.specs.Values.{Edition, RawItem}
 use Rattle.sfv_spec.specs.Events.{TreeEvent}
 use Rattle.sfv_spec.specs.Faults.{trailing_comma, trailing_characters_after_member, expected_inner_list_delimiter, unterminated_inner_list}
 use Rattle.sfv_base.specs.declared.error.ErrorKind.TheVariants.{ExpectedInnerListDelimiter, UnterminatedInnerList, TrailingCharactersAfterMember, TrailingComma}
-use Rattle.sfv_reading.specs.Reader.{Answer, Reader, first, byte, any, give, fail, at_start, back, ahead, branch, and_then, bind, span, led, many, ◌>>=◌}
+use Rattle.sfv_reading.specs.Reader.{Answer, Reader, first, byte, any, give, fail, back, ahead, branch, and_then, bind, span, led, many, ◌>>=◌}
 use Rattle.sfv_reading.specs.Members.{inner_item_events, inner_item_at, next_item_at, inner_items_at}
 use Rattle.sfv_reading.specs.Fields.{comma_at, next_at, members_at}
 use Rattle.sfv_reading.proofs.Again.{bind_again}

@@ -12,7 +12,7 @@ use Rattle.sfv_reading.specs.Items.{parameters_at, item_at}
 use Rattle.sfv_reading.specs.Members.{inner_item_events, inner_items_at, inner_of, closed_events, inner_at, member_at}
 use Rattle.sfv_reading.specs.Visits.{Refused}
 use Rattle.sfv.specs.declared.parser.cursor.Cursor.{Cursor}
-use Rattle.sfv.specs.Cursor.{rest, Takes}
+use Rattle.sfv.specs.Cursor.{Takes}
 use Rattle.sfv.specs.Members.{behind_begin}
 use Rattle.sfv.specs.Visits.{Tells, IsToldRefusal}
 use Rattle.sfv.proofs.Errors.{ErrorOf-part}

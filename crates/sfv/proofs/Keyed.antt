@@ -13,7 +13,7 @@ use Rattle.sfv_reading.specs.Items.{key_at, parameters_at}
 use Rattle.sfv_reading.specs.Members.{member_at, member_value_at, keyed_events, keyed_at}
 use Rattle.sfv_reading.proofs.Handed.{handed_then}
 use Rattle.sfv.specs.declared.parser.cursor.Cursor.{Cursor}
-use Rattle.sfv.specs.Cursor.{rest, Takes, IsErrorOf}
+use Rattle.sfv.specs.Cursor.{Takes, IsErrorOf}
 use Rattle.sfv.specs.Visits.{Tells, IsToldRefusal}
 use Rattle.sfv.proofs.Errors.{ErrorOf-part}
 use Rattle.sfv.proofs.Steps.{branch_true, branch_false}

@@ -1,5 +1,5 @@
 -- Readings one by one, each behind a delimiter: the loops of inner lists and of members.
-use Rattle.std.proofs.Common.{◌≡◌, ℕ, ◌<◌, ◌≤◌, Bool, true, false, List, [], ◌∷◌, ◌++◌, length, drop, Option, Some, None, Ok, Err, refl, sym, ap, subst, ◌∙◌, append_assoc}
+use Rattle.std.proofs.Common.{◌≡◌, ℕ, ◌<◌, ◌≤◌, Bool, true, false, List, [], ◌∷◌, ◌++◌, length, drop, Option, Some, None, Ok, Err, refl, sym, ap, subst, ◌∙◌}
 use Rattle.std.specs.Prelude.{MatchOption, flat_map}
 use Rattle.std.specs.Borrow.{Bor}
 use Rattle.std.proofs.lemmas.List.{append-nil}
@@ -9,11 +9,11 @@ use Rattle.sfv_spec.specs.Visiting.{RunsTo}
 use Rattle.sfv_base.specs.declared.error.Error.{Error}
 use Rattle.sfv_base.specs.declared.error.ErrorKind.{ErrorKind}
 use Rattle.sfv_base.specs.declared.error.ErrorKind.TheVariants.{OutOfMemory}
-use Rattle.sfv_reading.specs.Reader.{Answer, Reader, Fault, handed, and_then, bind, give, led_answer, led, many, go_on, ◌>>=◌}
+use Rattle.sfv_reading.specs.Reader.{Answer, Reader, handed, and_then, bind, give, led, many, ◌>>=◌}
 use Rattle.sfv_reading.specs.Visits.{Refused}
 use Rattle.sfv_reading.proofs.Many.{Consumes, put, in_front, starts, regroup, many_is, goes_on, is_done, is_faulty}
 use Rattle.sfv_reading.proofs.Handed.{handed_in_front, refused_within}
-use Rattle.sfv_reading.proofs.Again.{bind_again, led_again}
+use Rattle.sfv_reading.proofs.Again.{bind_again}
 use Rattle.sfv_base.specs.declared.error.ParseError.{ParseError}
 use Rattle.sfv_base.specs.declared.error.ParseError.TheVariants.{Syntax, Visitor}
 use Rattle.sfv.specs.declared.parser.cursor.Cursor.{Cursor}

@@ -1,4 +1,4 @@
-use Rattle.sfv_spec.specs.Values.{Edition, rfc9651, dictionary_field}
+use Rattle.sfv_spec.specs.Values.{rfc9651, dictionary_field}
 use Rattle.sfv_spec.specs.Statements.{IsParsedAs}
 use Rattle.sfv_tree.specs.Trees.{dictionary_tree}
 use Rattle.sfv.specs.Parsers.{input_of, parser_edition}
