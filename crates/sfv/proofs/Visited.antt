@@ -1,6 +1,6 @@
 -- What a visitor is told of a whole field.
 use Rattle.std.proofs.Common.{◌≡◌, ℕ, ◌≤◌, List, [], ◌∷◌, ◌++◌, length, drop, Option, Some, None, Result, Ok, Err, refl, sym, ap, subst, ◌∙◌, inl, inr}
-use Rattle.std.specs.Prelude.{⊤, MatchOption, IfOk, IfErr}
+use Rattle.std.specs.Prelude.{⊤, MatchOption, IfOk, IfErr, ◌⊎◌}
 use Rattle.std.specs.Borrow.{Bor}
 use Rattle.sfv_spec.specs.Classes.{is_space}
 use Rattle.sfv_spec.specs.Values.{Edition, FieldKind, item_field, list_field, dictionary_field, RawField, RawItem, IsFieldValue}
@@ -178,6 +178,11 @@ asked_of_item item_field q asked none = refl
 asked_of_item list_field q asked none = absurd (none asked)
 asked_of_item dictionary_field q asked none = absurd (none asked)
 
+-- an item's, by what is known or by what follows
+an_item : {kind : FieldKind} {A : Type 0} → (kind ≡ item_field) ⊎ A → (A → kind ≡ item_field) → kind ≡ item_field
+an_item (inl same) h = same
+an_item (inr a) h = h a
+
 module _ {S O E : Type 0} (takes : S → TreeEvent → S → Type 0) (refuses : S → TreeEvent → E → Type 0) (finishes : S → O → Type 0) (finish_refuses : S → E → Type 0) (edition : Edition) (kind : FieldKind) (t : List ℕ) (from : S) where
   refused_on_accepted : (f : E) → Visits takes refuses finishes finish_refuses edition kind t from (Err (Visitor f)) → (raw : RawField kind) → IsFieldText edition kind raw t → IsRefused takes refuses finish_refuses from (events kind raw) f
   refused_on_accepted f (inl r) raw h =
@@ -187,13 +192,13 @@ module _ {S O E : Type 0} (takes : S → TreeEvent → S → Type 0) (refuses : 
       let same = same_value (whole_field_at edition kind t) x.0 raw x.1 [] x.3 (whole_accepted edition kind t raw h) in
       inr (x.2, subst (λ (i : RawField kind). RunsTo takes from (events kind i) x.2) same x.4, x.5)
 
-  refused_early : (f : E) → Visits takes refuses finishes finish_refuses edition kind t from (Err (Visitor f)) → ((raw : RawField kind) → IsFieldText edition kind raw t → ⊥) → IsRefusedEarly takes refuses finish_refuses kind from f
+  refused_early : (f : E) → Visits takes refuses finishes finish_refuses edition kind t from (Err (Visitor f)) → (kind ≡ item_field) ⊎ ((raw : RawField kind) → IsFieldText edition kind raw t → ⊥) → IsRefusedEarly takes refuses finish_refuses kind from f
   refused_early f (inl r) none =
       let begins = handed_begins edition kind t in
       inl (r.before, r.e, r.s, refused_begins kind (handed (events kind) (whole_field_at edition kind t)) r.before r.e r.after begins r.all, r.taken, r.refused)
   refused_early f (inr x) none =
       let accepted : x.1 ≡ [] → IsFieldText edition kind x.0 t = λ end. (read_is_accepted edition kind t x.0).0 (whole_read edition kind t x.1 x.0 x.3 end) in
-      inr (asked_of_item kind x.1 x.6 (λ end. none x.0 (accepted end)), x.0, x.2, whole_value edition kind t x.1 x.0 x.3, x.4, x.5)
+      inr (an_item none (λ n. asked_of_item kind x.1 x.6 (λ end. n x.0 (accepted end))), x.0, x.2, whole_value edition kind t x.1 x.0 x.3, x.4, x.5)
 
   pub visits_answer : (r : Result O (ParseError E)) → Visits takes refuses finishes finish_refuses edition kind t from r → IfOk r (IsAnswerOf takes finishes edition kind t from)
   visits_answer (Ok out) h = (h.0, (read_is_accepted edition kind t h.0).0 h.1, h.2)

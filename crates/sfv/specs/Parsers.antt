@@ -1,6 +1,6 @@
 -- What a parser reads, and what it answers with an error.
 use Rattle.std.specs.Prelude.{◌≡◌, ⊤, ℕ, List, drop, Some, Err, ◌⊎◌}
-use Rattle.sfv_spec.specs.Values.{Edition, FieldKind, RawField}
+use Rattle.sfv_spec.specs.Values.{Edition, FieldKind, item_field, RawField}
 use Rattle.sfv_spec.specs.Grammar.{IsFieldText}
 use Rattle.sfv_spec.specs.Events.{TreeEvent, events}
 use Rattle.sfv_spec.specs.Visiting.{IsVisited, IsRefused, IsRefusedEarly}
@@ -54,9 +54,10 @@ abbrev pub IsSyntaxOf : {S O E : Type 0} → (S → TreeEvent → S → Type 0) 
 IsSyntaxOf takes finishes edition kind t from (Syntax e) = IsParseError edition kind t e × IsReaderFault edition kind t e × IsFinishedFirst takes finishes edition kind t from e
 IsSyntaxOf takes finishes edition kind t from (Visitor fault) = ⊤
 
--- A refusal of the visitor comes behind exactly the events before it; on a text that isn't accepted, behind those of some field.
+-- A refusal of the visitor comes on an accepted text behind exactly the events before it; on a text that isn't accepted, and
+-- for an item on every text, behind those of some field.
 abbrev pub IsRefusalOf : {S E : Type 0} → (S → TreeEvent → S → Type 0) → (S → TreeEvent → E → Type 0) → (S → E → Type 0) → Edition → FieldKind → List ℕ → S → ParseError E → Type 0
 IsRefusalOf takes refuses finish_refuses edition kind t from (Syntax e) = ⊤
 IsRefusalOf takes refuses finish_refuses edition kind t from (Visitor fault) =
     ((raw : RawField kind) → IsFieldText edition kind raw t → IsRefused takes refuses finish_refuses from (events kind raw) fault)
-    × (((raw : RawField kind) → IsFieldText edition kind raw t → ⊥) → IsRefusedEarly takes refuses finish_refuses kind from fault)
+    × ((kind ≡ item_field) ⊎ ((raw : RawField kind) → IsFieldText edition kind raw t → ⊥) → IsRefusedEarly takes refuses finish_refuses kind from fault)
