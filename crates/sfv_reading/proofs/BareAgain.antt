@@ -14,10 +14,10 @@ use Rattle.sfv_reading.specs.Content.{IsBytesEnd}
 use Rattle.sfv_reading.specs.Quoted.{IsStringEnd, IsDisplayEnd}
 use Rattle.sfv_reading.specs.Bare.{is_number_start, number_at, boolean_at, token_at, date_at, quoted_at, bare_at}
 use Rattle.sfv_reading.proofs.Sound.{run_head}
-use Rattle.sfv_reading.proofs.Again.{Apart-cons, branch_past, branch_take, ahead_past, ahead_take, bind_again, back_again, span_again}
-use Rattle.sfv_reading.proofs.ByteSequences.{bytes_again}
-use Rattle.sfv_reading.proofs.Quoted.{string_again, display_again}
-use Rattle.sfv_reading.proofs.Numbers.{goes_on, digit_apart, integer_again, decimal_again}
+use Rattle.sfv_reading.proofs.Again.{Apart-cons, branch_past, branch_take, ahead_past, ahead_take, bind_complete, back_complete, span_complete}
+use Rattle.sfv_reading.proofs.ByteSequences.{bytes_complete}
+use Rattle.sfv_reading.proofs.Quoted.{string_complete, display_complete}
+use Rattle.sfv_reading.proofs.Numbers.{goes_on, digit_apart, integer_complete, decimal_complete}
 
 -- ---- how the readers of bare items are chosen, by the first byte
 
@@ -31,7 +31,7 @@ bare_boolean edition r = branch_take _ _ _ 0x3f r refl
 
 bare_string : (edition : Edition) (s t q : List ℕ) → IsStringEnd s t → bare_at edition (0x22 ∷ (t ++ q)) ≡ Ok (string s, q)
 unfolding bare_at give
-bare_string edition s t q h = branch_past _ _ _ (0x22 ∷ (t ++ q)) (Apart-cons (byte 0x3f) 0x22 (t ++ q) refl) ∙ branch_take _ _ _ 0x22 (t ++ q) refl ∙ bind_again _ _ _ _ _ (string_again s t q h)
+bare_string edition s t q h = branch_past _ _ _ (0x22 ∷ (t ++ q)) (Apart-cons (byte 0x3f) 0x22 (t ++ q) refl) ∙ branch_take _ _ _ 0x22 (t ++ q) refl ∙ bind_complete _ _ _ _ _ (string_complete s t q h)
 
 number_no_token : (c : ℕ) → is_number_start c ≡ true → is_token_start c ≡ false
 number_no_token c e = elim (or_cases (is_digit c) (eqb c 0x2d) e) [
@@ -66,16 +66,16 @@ bare_colon : (edition : Edition) (bytes t q : List ℕ) → IsBytesEnd bytes t �
 unfolding bare_at give
 bare_colon edition bytes t q h =
     branch_past _ _ _ (0x3a ∷ (t ++ q)) (Apart-cons (byte 0x3f) 0x3a (t ++ q) refl) ∙ branch_past _ _ _ (0x3a ∷ (t ++ q)) (Apart-cons (byte 0x22) 0x3a (t ++ q) refl)
-    ∙ branch_take _ _ _ 0x3a (t ++ q) refl ∙ bind_again _ _ _ _ _ (bytes_again bytes t q h)
+    ∙ branch_take _ _ _ 0x3a (t ++ q) refl ∙ bind_complete _ _ _ _ _ (bytes_complete bytes t q h)
 
 bare_date : (r : List ℕ) → bare_at rfc9651 (0x40 ∷ r) ≡ date_at rfc9651 (0x40 ∷ r)
 unfolding bare_at
 bare_date r = branch_past _ _ _ (0x40 ∷ r) (Apart-cons (byte 0x3f) 0x40 r refl) ∙ branch_past _ _ _ (0x40 ∷ r) (Apart-cons (byte 0x22) 0x40 r refl)
     ∙ branch_past _ _ _ (0x40 ∷ r) (Apart-cons (byte 0x3a) 0x40 r refl) ∙ ahead_take _ _ _ 0x40 r refl
 
-date_again : (z : ℤ) (t q : List ℕ) → IsIntegerText z t → Apart goes_on q → date_at rfc9651 (0x40 ∷ (t ++ q)) ≡ Ok (date z, q)
+date_complete : (z : ℤ) (t q : List ℕ) → IsIntegerText z t → Apart goes_on q → date_at rfc9651 (0x40 ∷ (t ++ q)) ≡ Ok (date z, q)
 unfolding date_at give
-date_again z t q i h = back_again _ _ _ _ _ (branch_take _ _ _ 0x40 (t ++ q) refl ∙ bind_again _ _ _ _ _ (integer_again true t q z i h))
+date_complete z t q i h = back_complete _ _ _ _ _ (branch_take _ _ _ 0x40 (t ++ q) refl ∙ bind_complete _ _ _ _ _ (integer_complete true t q z i h))
 
 bare_quoted : (s t q : List ℕ) → IsDisplayEnd s t → bare_at rfc9651 (0x25 ∷ 0x22 ∷ (t ++ q)) ≡ Ok (display_string s, q)
 unfolding bare_at quoted_at give
@@ -83,19 +83,19 @@ bare_quoted s t q h =
     let r : List ℕ = 0x22 ∷ (t ++ q) in
     branch_past _ _ _ (0x25 ∷ r) (Apart-cons (byte 0x3f) 0x25 r refl) ∙ branch_past _ _ _ (0x25 ∷ r) (Apart-cons (byte 0x22) 0x25 r refl)
     ∙ branch_past _ _ _ (0x25 ∷ r) (Apart-cons (byte 0x3a) 0x25 r refl) ∙ ahead_past _ _ _ (0x25 ∷ r) (Apart-cons (byte 0x40) 0x25 r refl) ∙ ahead_take _ _ _ 0x25 r refl
-    ∙ branch_take _ _ _ 0x25 r refl ∙ branch_take _ _ _ 0x22 (t ++ q) refl ∙ bind_again _ _ _ _ _ (display_again s t q h)
+    ∙ branch_take _ _ _ 0x25 r refl ∙ branch_take _ _ _ 0x22 (t ++ q) refl ∙ bind_complete _ _ _ _ _ (display_complete s t q h)
 
-boolean_again : (edition : Edition) (b : Bool) (q : List ℕ) → bare_at edition (boolean_text b ++ q) ≡ Ok (boolean b, q)
+boolean_complete : (edition : Edition) (b : Bool) (q : List ℕ) → bare_at edition (boolean_text b ++ q) ≡ Ok (boolean b, q)
 unfolding boolean_at give
-boolean_again edition true q = bare_boolean edition (0x31 ∷ q) ∙ branch_past _ _ _ (0x31 ∷ q) (Apart-cons (byte 0x30) 0x31 q refl) ∙ branch_take _ _ _ 0x31 q refl
-boolean_again edition false q = bare_boolean edition (0x30 ∷ q) ∙ branch_take _ _ _ 0x30 q refl
+boolean_complete edition true q = bare_boolean edition (0x31 ∷ q) ∙ branch_past _ _ _ (0x31 ∷ q) (Apart-cons (byte 0x30) 0x31 q refl) ∙ branch_take _ _ _ 0x31 q refl
+boolean_complete edition false q = bare_boolean edition (0x30 ∷ q) ∙ branch_take _ _ _ 0x30 q refl
 
-token_again : (edition : Edition) (s q : List ℕ) → IsTrue (is_token s) → Apart is_token_inner q → bare_at edition (s ++ q) ≡ Ok (token s, q)
+token_complete : (edition : Edition) (s q : List ℕ) → IsTrue (is_token s) → Apart is_token_inner q → bare_at edition (s ++ q) ≡ Ok (token s, q)
 unfolding token_at give
-token_again edition [] q h a = absurd (true≢false (sym h))
-token_again edition (c ∷ s) q h a =
+token_complete edition [] q h a = absurd (true≢false (sym h))
+token_complete edition (c ∷ s) q h a =
     let p = and_parts (is_token_start c) (list_all is_token_inner s) h in
-    bare_token_start edition c (s ++ q) p.0 ∙ branch_take _ _ _ c (s ++ q) p.0 ∙ bind_again _ _ _ _ _ (span_again is_token_inner s q p.1 a)
+    bare_token_start edition c (s ++ q) p.0 ∙ branch_take _ _ _ c (s ++ q) p.0 ∙ bind_complete _ _ _ _ _ (span_complete is_token_inner s q p.1 a)
 
 -- how a number begins
 abbrev NumberFront : List ℕ → Type 0
@@ -119,22 +119,22 @@ decimal_front t q z i = subst NumberFront (sym (ap (λ (l : List ℕ). l ++ q) i
 number_ends : (q : List ℕ) → Apart is_token_inner q → Apart goes_on q
 number_ends q h = record { apart = λ c e. let n = h.apart c e in or_from (is_digit c) (eqb c 0x2e) (no_digit (c ∷ []) n) (no_point (c ∷ []) n) }
 
-pub bare_again : (edition : Edition) (v : BareValue) (t q : List ℕ) → IsBareText edition v t → Apart is_token_inner q → bare_at edition (t ++ q) ≡ Ok (v, q)
-bare_again edition (integer z) t q i h = number_from edition (t ++ q) (integer_front t q z i) ∙ integer_again false t q z i (number_ends q h)
-bare_again edition (decimal z) t q i h = number_from edition (t ++ q) (decimal_front t q z i) ∙ decimal_again false t q z i (digit_apart q (number_ends q h))
-bare_again edition (string s) t q i h =
+pub bare_complete : (edition : Edition) (v : BareValue) (t q : List ℕ) → IsBareText edition v t → Apart is_token_inner q → bare_at edition (t ++ q) ≡ Ok (v, q)
+bare_complete edition (integer z) t q i h = number_from edition (t ++ q) (integer_front t q z i) ∙ integer_complete false t q z i (number_ends q h)
+bare_complete edition (decimal z) t q i h = number_from edition (t ++ q) (decimal_front t q z i) ∙ decimal_complete false t q z i (digit_apart q (number_ends q h))
+bare_complete edition (string s) t q i h =
     let all : t ++ q ≡ 0x22 ∷ (i.back ++ q) = ap (λ (l : List ℕ). l ++ q) (i.text ∙ ap (λ (l : List ℕ). l ++ i.back) i.first) in
     ap (bare_at edition) all ∙ bare_string edition s i.back q i.second
-bare_again edition (token s) t q i h = ap (λ (l : List ℕ). bare_at edition (l ++ q)) i.1 ∙ token_again edition s q i.0 h
-bare_again edition (byte_sequence s) t q i h =
+bare_complete edition (token s) t q i h = ap (λ (l : List ℕ). bare_at edition (l ++ q)) i.1 ∙ token_complete edition s q i.0 h
+bare_complete edition (byte_sequence s) t q i h =
     let all : t ++ q ≡ 0x3a ∷ (i.back ++ q) = ap (λ (l : List ℕ). l ++ q) (i.text ∙ ap (λ (l : List ℕ). l ++ i.back) i.first) in
     ap (bare_at edition) all ∙ bare_colon edition s i.back q i.second
-bare_again edition (boolean b) t q i h = ap (λ (l : List ℕ). bare_at edition (l ++ q)) i ∙ boolean_again edition b q
-bare_again edition (date z) t q i h =
+bare_complete edition (boolean b) t q i h = ap (λ (l : List ℕ). bare_at edition (l ++ q)) i ∙ boolean_complete edition b q
+bare_complete edition (date z) t q i h =
     let d = i.1 in
     let all : t ++ q ≡ 0x40 ∷ (d.back ++ q) = ap (λ (l : List ℕ). l ++ q) (d.text ∙ ap (λ (l : List ℕ). l ++ d.back) d.first) in
-    ap (λ e. bare_at e (t ++ q)) i.0 ∙ ap (bare_at rfc9651) all ∙ bare_date (d.back ++ q) ∙ date_again z d.back q d.second (number_ends q h)
-bare_again edition (display_string s) t q i h =
+    ap (λ e. bare_at e (t ++ q)) i.0 ∙ ap (bare_at rfc9651) all ∙ bare_date (d.back ++ q) ∙ date_complete z d.back q d.second (number_ends q h)
+bare_complete edition (display_string s) t q i h =
     let d = i.1 in
     let all : t ++ q ≡ 0x25 ∷ 0x22 ∷ (d.back ++ q) = ap (λ (l : List ℕ). l ++ q) (d.text ∙ ap (λ (l : List ℕ). l ++ d.back) d.first) in
     ap (λ e. bare_at e (t ++ q)) i.0 ∙ ap (bare_at rfc9651) all ∙ bare_quoted s d.back q d.second

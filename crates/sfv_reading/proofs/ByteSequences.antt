@@ -12,7 +12,7 @@ use Rattle.sfv_reading.specs.Judgements.{Reached, Sound, Mute, Quiet, IsFault, L
 use Rattle.sfv_reading.specs.Content.{is_symbol, most_padding, padding_in, valid_from, bytes_of, fault_place, IsBytesEnd, is_colon, HasNoColon, content_in, content_fault, closed_by, bytes_at, IsBytesAt, IsInvalidAt}
 use Rattle.sfv_reading.specs.Claims.{IsBytesFault, BytesRead, ShunsMark, ShunsMarks}
 use Rattle.sfv_reading.proofs.Shape.{valid_local, are_symbols}
-use Rattle.sfv_reading.proofs.Contents.{gives_the_bytes, longest_valid, refused_at}
+use Rattle.sfv_reading.proofs.Contents.{gives_the_bytes, longest_valid, rejected_at}
 
 -- no colon among symbols, nor in padding
 symbol_apart : (c : ℕ) → is_symbol c ≡ true → not (c == 0x3a) ≡ true
@@ -88,8 +88,8 @@ text_apart bytes content h = subst HasNoColon (sym h.text) (both_apart (map symb
 pub reads_its_texts : (bytes content rest : List ℕ) → IsBase64Text bytes content → bytes_at (content ++ 0x3a ∷ rest) ≡ Ok (bytes, rest)
 reads_its_texts bytes content rest h = read_value content rest bytes (text_apart bytes content h) ((gives_the_bytes content bytes).0 h)
 
-pub bytes_again : (bytes t q : List ℕ) → IsBytesEnd bytes t → bytes_at (t ++ q) ≡ Ok (bytes, q)
-bytes_again bytes t q h =
+pub bytes_complete : (bytes t q : List ℕ) → IsBytesEnd bytes t → bytes_at (t ++ q) ≡ Ok (bytes, q)
+bytes_complete bytes t q h =
     let all : t ++ q ≡ h.front ++ 0x3a ∷ q = ap (λ (l : List ℕ). l ++ q) (h.text ∙ ap (λ (l : List ℕ). h.front ++ l) h.second) ∙ append_assoc h.front (0x3a ∷ []) q in
     ap bytes_at all ∙ reads_its_texts bytes h.front q h.first
 
@@ -156,8 +156,8 @@ apart_front m content h =
     (and_parts (list_all (λ c. not (is_colon c)) (take m content)) _ (sym (list_all-append (λ c. not (is_colon c)) (take m content) (drop m content)) ∙ both)).0
 
 -- what begins with a malformed content is at fault
-fault_again : (content r : List ℕ) → HasNoColon content → valid_from 0 content < length content → IsFault (bytes_at (take (valid_from 0 content + 1) content ++ r))
-fault_again content r h lt =
+fault_complete : (content r : List ℕ) → HasNoColon content → valid_from 0 content < length content → IsFault (bytes_at (take (valid_from 0 content + 1) content ++ r))
+fault_complete content r h lt =
     let m : ℕ = valid_from 0 content in
     let front : List ℕ = take (m + 1) content in
     let size : length front ≡ m + 1 = length-take-le (m + 1) content (omega arith) in
@@ -165,11 +165,11 @@ fault_again content r h lt =
     let grown : next ≡ front ++ content_in r = content_on front r (apart_front (m + 1) content h) in
     let valid : valid_from 0 next ≡ m = rw grown (valid_local 0 content (m + 1) (content_in r) (omega arith) (omega arith)) in
     let longer : m < length next = omega (arith, ap (length {A = ℕ}) grown, length-append front (content_in r), size) in
-    let refused = refused_at next m valid longer in
+    let rejected = rejected_at next m valid longer in
     elim (cases_Bool (list_any is_colon (front ++ r))) [
       | inl y ↦
           let s = content_split (front ++ r) y in
-          (_, ap bytes_at s.1 ∙ read_fault next s.0 s.2 refused.0)
+          (_, ap bytes_at s.1 ∙ read_fault next s.0 s.2 rejected.0)
       | inr n ↦ (_, read_unclosed (front ++ r) n)
     ]
 
@@ -196,7 +196,7 @@ lasts_closed content rest None h e = λ l.
             let j = rw behind at i in
             let same : c ≡ d = cc in
             let whole : take (fault_place content) t ++ c ∷ u ≡ take (m + 1) content ++ u = rw (p, same, more) (sym (append_assoc (take m content) (d ∷ []) u)) in
-            subst (λ (x : List ℕ). IsFault (bytes_at x)) (sym whole) (fault_again content u h f.0)
+            subst (λ (x : List ℕ). IsFault (bytes_at x)) (sym whole) (fault_complete content u h f.0)
       ] i,
     )
 
@@ -247,7 +247,7 @@ bytes_faulty t e (inr h) =
     ap bytes_at h.2 ∙ read_fault h.0 h.1 h.3 h.4 ∙ ap (λ (t : List ℕ). Err (content_fault h.0 (drop (fault_place h.0) t))) (sym h.2) ∙ ap (λ (e : Fault). Err e) (sym h.5)
 
 pub bytes_read : BytesRead
-bytes_read = (Sound-bytes, bytes_again, λ t e. (bytes_fault t e, bytes_faulty t e), Local-bytes)
+bytes_read = (Sound-bytes, bytes_complete, λ t e. (bytes_fault t e, bytes_faulty t e), Local-bytes)
 
 -- what a reading from a place answers, as the reader says it
 pub gives_value : (input bytes : List ℕ) (start end : ℕ) → IsBytesAt input start bytes end → bytes_at (drop start input) ≡ Ok (bytes, drop (end + 1) input)
@@ -289,9 +289,9 @@ mark_fault u none c =
     let grown : content ≡ u ++ 0x3f ∷ content_in c = content_on u (0x3f ∷ c) (no_colon u none) in
     let size : length content ≡ length u + suc (length (content_in c)) = ap (length {A = ℕ}) grown ∙ length-append u (0x3f ∷ content_in c) in
     let low : valid_from 0 content ≤ length u = rw grown (valid_stop 0 u (content_in c)) in
-    let refused = refused_at content (valid_from 0 content) refl (omega (arith, size, low)) in
+    let rejected = rejected_at content (valid_from 0 content) refl (omega (arith, size, low)) in
     elim (cases_Bool (list_any is_colon t)) [
-      | inl y ↦ let s = content_split t y in (_, ap bytes_at s.1 ∙ read_fault content s.0 s.2 refused.0)
+      | inl y ↦ let s = content_split t y in (_, ap bytes_at s.1 ∙ read_fault content s.0 s.2 rejected.0)
       | inr n ↦ (_, read_unclosed t n)
     ]
 

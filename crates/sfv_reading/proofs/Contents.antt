@@ -96,9 +96,9 @@ bytes_accepted : (content : List ℕ) → accepted content ≡ true → bytes_of
 unfolding bytes_of
 bytes_accepted content h = rw h refl
 
-bytes_refused : (content : List ℕ) → accepted content ≡ false → bytes_of content ≡ None
+bytes_rejected : (content : List ℕ) → accepted content ≡ false → bytes_of content ≡ None
 unfolding bytes_of
-bytes_refused content h = rw h refl
+bytes_rejected content h = rw h refl
 
 -- what is accepted is Base64
 accepted_text : (content : List ℕ) → accepted content ≡ true → IsBase64Text (bytes_from (values_in content)) content
@@ -136,7 +136,7 @@ gives_the_bytes content bytes = (
         let q = sym (bytes_accepted content a) ∙ e in
         let same : bytes_from (values_in content) ≡ bytes = cc in
         subst (λ (b : List ℕ). IsBase64Text b content) same (accepted_text content a)
-    | inr a ↦ let q = sym (bytes_refused content a) ∙ e in absurd (cc)
+    | inr a ↦ let q = sym (bytes_rejected content a) ∙ e in absurd (cc)
   ],
 )
 
@@ -183,9 +183,9 @@ unfolding fault_place
 gives_the_fault content h = record { valid = valid_from 0 content; longest = longest_valid content; here = refl }
 
 -- a content that is at fault before its end
-pub refused_at : (content : List ℕ) (e : ℕ) → valid_from 0 content ≡ e → e < length content → (bytes_of content ≡ None) × (fault_place content ≡ e)
+pub rejected_at : (content : List ℕ) (e : ℕ) → valid_from 0 content ≡ e → e < length content → (bytes_of content ≡ None) × (fault_place content ≡ e)
 unfolding bytes_of fault_place
-refused_at content e v l =
+rejected_at content e v l =
     let n : (valid_from 0 content == length content) ≡ false = ne_eqb _ _ (λ q. absurd (omega (arith, q, v, l))) in
     (rw n refl, rw n v)
 

@@ -57,7 +57,7 @@ Sound-value edition = Sound-byte _ _ _ _ _ _
     (λ es g. (0x3d ∷ g.0, (g.1.0, value_of edition g.1.0 g.0 g.1.1, g.1.2))))
     (Sound-give _ _ _ _ (true_value edition))
 
--- nothing is handed out before the value is read
+-- nothing is visited before the value is read
 none_yet : (p : List ℕ × BareValue) (es : List TreeEvent) → es ≡ [] → Begins (parameter_event p) es
 none_yet p es e = (parameter_event p, ap (λ (l : List TreeEvent). l ++ parameter_event p) (sym e))
 

@@ -21,7 +21,7 @@ pub record Consumes {A : Type 0} (step : Reader (Option A)) : Type 0 where
 
 -- ---- sound
 
--- a step behind the pieces of some values, whose events were handed out
+-- a step behind the pieces of some values, whose events were visited
 abbrev pub Behind : {A : Type 0} → (A → List TreeEvent) → (List ℕ → List TreeEvent → Type 0) → List ℕ → List A → List ℕ → List TreeEvent → Type 0
 Behind parts W s vs u es = W (s ++ u) (flat_map parts vs ++ es)
 
@@ -150,13 +150,13 @@ module _ {A : Type 0} (parts : A → List TreeEvent) (step : Reader (Option A)) 
 
   -- ---- pieces are read again
 
-  pub many_again : (P : A → List ℕ → Type 0) (E : List ℕ → Type 0) (F : List ℕ → Type 0) (q : List ℕ)
+  pub many_complete : (P : A → List ℕ → Type 0) (E : List ℕ → Type 0) (F : List ℕ → Type 0) (q : List ℕ)
       → ((v : A) (a : List ℕ) (q : List ℕ) → P v a → F q → (step (a ++ q) ≡ Ok (Some v, q)) × F (a ++ q))
       → ((e : List ℕ) → E e → (step (e ++ q) ≡ Ok (None, q)) × F (e ++ q)) → (vs : List A) (s : List ℕ) → Joined P E vs s → (many parts step (s ++ q) ≡ Ok (vs, q)) × F (s ++ q)
   unfolding bind give led
-  many_again P E F q again stop [] s e = let w = stop s e in (many_is (s ++ q) ∙ rw w.0 refl, w.1)
-  many_again P E F q again stop (v ∷ vs) s j =
-      let rest = many_again P E F q again stop vs j.back j.second in
+  many_complete P E F q again stop [] s e = let w = stop s e in (many_is (s ++ q) ∙ rw w.0 refl, w.1)
+  many_complete P E F q again stop (v ∷ vs) s j =
+      let rest = many_complete P E F q again stop vs j.back j.second in
       let one = again v j.front (j.back ++ q) j.first rest.1 in
       let all : s ++ q ≡ j.front ++ (j.back ++ q) = ap (λ (l : List ℕ). l ++ q) j.text ∙ append_assoc j.front j.back q in
       (ap (many parts step) all ∙ many_is (j.front ++ (j.back ++ q)) ∙ rw (one.0, rest.0) refl, subst F (sym all) one.1)

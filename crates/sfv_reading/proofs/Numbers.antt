@@ -12,7 +12,7 @@ use Rattle.sfv_reading.specs.Reader.{Apart, byte, give, ◌>>=◌, up_to}
 use Rattle.sfv_reading.specs.Bare.{sign_at, long_at, decimal_at, fraction_at, point_at, whole_at, number_at}
 use Rattle.sfv_reading.proofs.Sound.{Found, Sound-give, Sound-fail, Sound-ruled, Sound-branch, Sound-ahead, Sound-cond, Sound-bind, Sound-back, Sound-up_to}
 use Rattle.sfv_reading.proofs.Local.{local_rules}
-use Rattle.sfv_reading.proofs.Again.{Apart-cons, branch_past, branch_take, ahead_past, ahead_take, bind_again, back_again, up_to_again}
+use Rattle.sfv_reading.proofs.Again.{Apart-cons, branch_past, branch_take, ahead_past, ahead_take, bind_complete, back_complete, up_to_complete}
 
 -- the text of a number
 abbrev pub IsNumber : BareValue → List ℕ → Type 0
@@ -119,41 +119,41 @@ minus_apart : (ds q : List ℕ) → AreDigits 1 15 ds → Apart (byte 0x2d) (ds 
 minus_apart [] q counted = absurd (omega (arith, counted.0))
 minus_apart (d ∷ ds) q counted = Apart-cons (byte 0x2d) d (ds ++ q) (ne_eqb d 0x2d (λ e. omega (arith, digit_within d (and_parts (is_digit d) _ counted.2).0)))
 
-sign_again : (negative : Bool) (q : List ℕ) → Apart (byte 0x2d) q → sign_at (minus_text negative ++ q) ≡ Ok (negative, q)
+sign_complete : (negative : Bool) (q : List ℕ) → Apart (byte 0x2d) q → sign_at (minus_text negative ++ q) ≡ Ok (negative, q)
 unfolding sign_at give
-sign_again true q h = branch_take (byte 0x2d) (λ _. give true) (give false) 0x2d q refl
-sign_again false q h = branch_past (byte 0x2d) (λ _. give true) (give false) q h
+sign_complete true q h = branch_take (byte 0x2d) (λ _. give true) (give false) 0x2d q refl
+sign_complete false q h = branch_past (byte 0x2d) (λ _. give true) (give false) q h
 
 -- the sign and the whole part
-pub start_again : (dated negative : Bool) (whole q : List ℕ) → AreDigits 1 15 whole → Apart is_digit q → number_at dated (minus_text negative ++ (whole ++ q)) ≡ whole_at dated negative whole q
+pub start_complete : (dated negative : Bool) (whole q : List ℕ) → AreDigits 1 15 whole → Apart is_digit q → number_at dated (minus_text negative ++ (whole ++ q)) ≡ whole_at dated negative whole q
 unfolding number_at
-start_again dated negative whole q counted h =
-    bind_again _ _ _ _ _ (sign_again negative (whole ++ q) (minus_apart whole q counted))
-    ∙ bind_again _ _ _ _ _ (up_to_again is_digit 15 whole q counted.2 counted.1 h)
+start_complete dated negative whole q counted h =
+    bind_complete _ _ _ _ _ (sign_complete negative (whole ++ q) (minus_apart whole q counted))
+    ∙ bind_complete _ _ _ _ _ (up_to_complete is_digit 15 whole q counted.2 counted.1 h)
 
 pub some_eqb : (n : ℕ) → 1 ≤ n → eqb n 0 ≡ false
 some_eqb n h = ne_eqb n 0 (λ e. omega arith)
 
-pub integer_again : (dated : Bool) (t q : List ℕ) (z : ℤ) → IsIntegerText z t → Apart goes_on q → number_at dated (t ++ q) ≡ Ok (integer z, q)
+pub integer_complete : (dated : Bool) (t q : List ℕ) (z : ℤ) → IsIntegerText z t → Apart goes_on q → number_at dated (t ++ q) ≡ Ok (integer z, q)
 unfolding whole_at give
-integer_again dated t q z i h =
+integer_complete dated t q z i h =
     ap (λ (l : List ℕ). number_at dated (l ++ q)) i.text ∙ ap (number_at dated) (append_assoc (minus_text i.negative) i.digits q)
-    ∙ start_again dated i.negative i.digits q i.counted (digit_apart q h)
+    ∙ start_complete dated i.negative i.digits q i.counted (digit_apart q h)
     ∙ rw (some_eqb (length i.digits) i.counted.0) (ahead_past _ _ _ q (digit_apart q h) ∙ ahead_past _ _ _ q (point_apart q h) ∙ ap (λ (z : ℤ). Ok (integer z, q)) (sym i.value))
 
-fraction_again : (dated negative : Bool) (whole fraction q : List ℕ) → AreDigits 1 3 fraction → Apart is_digit q → fraction_at dated negative whole (fraction ++ q) ≡ Ok (Some (decimal (signed negative (thousandths whole fraction))), q)
+fraction_complete : (dated negative : Bool) (whole fraction q : List ℕ) → AreDigits 1 3 fraction → Apart is_digit q → fraction_at dated negative whole (fraction ++ q) ≡ Ok (Some (decimal (signed negative (thousandths whole fraction))), q)
 unfolding fraction_at decimal_at give
-fraction_again dated negative whole fraction q counted h =
-    bind_again _ _ _ _ _ (up_to_again is_digit 3 fraction q counted.2 counted.1 h) ∙ rw (some_eqb (length fraction) counted.0) (ahead_past _ _ _ q h)
+fraction_complete dated negative whole fraction q counted h =
+    bind_complete _ _ _ _ _ (up_to_complete is_digit 3 fraction q counted.2 counted.1 h) ∙ rw (some_eqb (length fraction) counted.0) (ahead_past _ _ _ q h)
 
-pub decimal_again : (dated : Bool) (t q : List ℕ) (z : ℤ) → IsDecimalText z t → Apart is_digit q → number_at dated (t ++ q) ≡ Ok (decimal z, q)
+pub decimal_complete : (dated : Bool) (t q : List ℕ) (z : ℤ) → IsDecimalText z t → Apart is_digit q → number_at dated (t ++ q) ≡ Ok (decimal z, q)
 unfolding whole_at point_at
-decimal_again dated t q z i h =
+decimal_complete dated t q z i h =
     let all : t ++ q ≡ minus_text i.negative ++ (i.whole ++ 0x2e ∷ (i.fraction ++ q)) = ap (λ (l : List ℕ). l ++ q) i.text ∙ simp append_assoc in
     let counted : AreDigits 1 15 i.whole = (i.counted.0.0, omega (arith, i.counted.0.1), i.counted.0.2) in
     let point : Apart is_digit (0x2e ∷ (i.fraction ++ q)) = Apart-cons is_digit 0x2e _ refl in
     ap (number_at dated) all
-    ∙ start_again dated i.negative i.whole (0x2e ∷ (i.fraction ++ q)) counted point
+    ∙ start_complete dated i.negative i.whole (0x2e ∷ (i.fraction ++ q)) counted point
     ∙ rw (some_eqb (length i.whole) counted.0) (ahead_past _ _ _ (0x2e ∷ (i.fraction ++ q)) point ∙ ahead_take _ _ _ 0x2e (i.fraction ++ q) refl
-    ∙ rw (le-ltb 12 (length i.whole) i.counted.0.1) (back_again _ _ _ _ _ (branch_take _ _ _ 0x2e (i.fraction ++ q) refl ∙ fraction_again dated i.negative i.whole i.fraction q i.counted.1 h)
+    ∙ rw (le-ltb 12 (length i.whole) i.counted.0.1) (back_complete _ _ _ _ _ (branch_take _ _ _ 0x2e (i.fraction ++ q) refl ∙ fraction_complete dated i.negative i.whole i.fraction q i.counted.1 h)
     ∙ ap (λ (z : ℤ). Ok (decimal z, q)) (sym i.value)))

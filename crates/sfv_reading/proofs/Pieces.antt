@@ -121,8 +121,8 @@ display_stops _ left there h = absurd h
 
 -- ---- a fault rests on the bytes before its place, and on the one that stands there
 
-abbrev pub StopsAgain : (SyntaxFault → List ℕ → List ℕ → Type 0) → SyntaxFault → List ℕ → List ℕ → Type 0
-StopsAgain Stops k left there = (h : List ℕ) × (left ≡ h ++ there) × ((r : List ℕ) → first r ≡ first there → Stops k (h ++ r) r)
+abbrev pub StopsWhole : (SyntaxFault → List ℕ → List ℕ → Type 0) → SyntaxFault → List ℕ → List ℕ → Type 0
+StopsWhole Stops k left there = (h : List ℕ) × (left ≡ h ++ there) × ((r : List ℕ) → first r ≡ first there → Stops k (h ++ r) r)
 
 no_first : (r : List ℕ) → first r ≡ first [] → r ≡ []
 no_first [] e = refl
@@ -133,19 +133,19 @@ same_first : (w : ℕ) (more r : List ℕ) → first r ≡ first (w ∷ more) �
 same_first w more [] e = absurd cc
 same_first w more (c ∷ r) e = let same : c ≡ w = cc in (r, ap (λ (c : ℕ). c ∷ r) same)
 
-pub string_stops_again : (k : SyntaxFault) (left there : List ℕ) → StringStops k left there → StopsAgain StringStops k left there
-string_stops_again unterminated_string left there h = ([], h.0 ∙ sym h.1, λ r e. let n : r ≡ [] = no_first r (e ∙ ap first h.1) in (n, n))
-string_stops_again unterminated_escape_sequence left there h = (0x5c ∷ [], h.0 ∙ ap (λ (l : List ℕ). 0x5c ∷ l) (sym h.1), λ r e. let n : r ≡ [] = no_first r (e ∙ ap first h.1) in (ap (λ (l : List ℕ). 0x5c ∷ l) n, n))
-string_stops_again invalid_escape_sequence left there h = (0x5c ∷ [], h.2 ∙ ap (λ (l : List ℕ). 0x5c ∷ l) (sym h.3), λ r e. let s = same_first h.0 h.1 r (e ∙ ap first h.3) in (h.0, s.0, ap (λ (l : List ℕ). 0x5c ∷ l) s.1, s.1, h.4))
-string_stops_again invalid_string_character left there h = ([], h.2 ∙ sym h.3, λ r e. let s = same_first h.0 h.1 r (e ∙ ap first h.3) in (h.0, s.0, s.1, s.1, h.4))
-string_stops_again _ left there h = absurd h
+pub string_stops_whole : (k : SyntaxFault) (left there : List ℕ) → StringStops k left there → StopsWhole StringStops k left there
+string_stops_whole unterminated_string left there h = ([], h.0 ∙ sym h.1, λ r e. let n : r ≡ [] = no_first r (e ∙ ap first h.1) in (n, n))
+string_stops_whole unterminated_escape_sequence left there h = (0x5c ∷ [], h.0 ∙ ap (λ (l : List ℕ). 0x5c ∷ l) (sym h.1), λ r e. let n : r ≡ [] = no_first r (e ∙ ap first h.1) in (ap (λ (l : List ℕ). 0x5c ∷ l) n, n))
+string_stops_whole invalid_escape_sequence left there h = (0x5c ∷ [], h.2 ∙ ap (λ (l : List ℕ). 0x5c ∷ l) (sym h.3), λ r e. let s = same_first h.0 h.1 r (e ∙ ap first h.3) in (h.0, s.0, ap (λ (l : List ℕ). 0x5c ∷ l) s.1, s.1, h.4))
+string_stops_whole invalid_string_character left there h = ([], h.2 ∙ sym h.3, λ r e. let s = same_first h.0 h.1 r (e ∙ ap first h.3) in (h.0, s.0, s.1, s.1, h.4))
+string_stops_whole _ left there h = absurd h
 
-pub display_stops_again : (k : SyntaxFault) (left there : List ℕ) → DisplayStops k left there → StopsAgain DisplayStops k left there
-display_stops_again unterminated_display_string left there h = ([], h.0 ∙ sym h.1, λ r e. let n : r ≡ [] = no_first r (e ∙ ap first h.1) in (n, n))
-display_stops_again unterminated_escape_sequence left there h = (0x25 ∷ h.0, rw (h.1, h.2) (ap (λ (l : List ℕ). 0x25 ∷ l) (sym (append-nil h.0))), λ r e. let n : r ≡ [] = no_first r (e ∙ ap first h.2) in (h.0, rw n (ap (λ (l : List ℕ). 0x25 ∷ l) (append-nil h.0)), n, h.3, h.4))
-display_stops_again invalid_escape_sequence left there h = (0x25 ∷ h.0, rw (h.3, h.4) refl, λ r e. let s = same_first h.1 h.2 r (e ∙ ap first h.4) in (h.0, h.1, s.0, ap (λ (l : List ℕ). 0x25 ∷ (h.0 ++ l)) s.1, s.1, h.5, h.6, h.7))
-display_stops_again invalid_display_string_character left there h = ([], h.2 ∙ sym h.3, λ r e. let s = same_first h.0 h.1 r (e ∙ ap first h.3) in (h.0, s.0, s.1, s.1, h.4))
-display_stops_again _ left there h = absurd h
+pub display_stops_whole : (k : SyntaxFault) (left there : List ℕ) → DisplayStops k left there → StopsWhole DisplayStops k left there
+display_stops_whole unterminated_display_string left there h = ([], h.0 ∙ sym h.1, λ r e. let n : r ≡ [] = no_first r (e ∙ ap first h.1) in (n, n))
+display_stops_whole unterminated_escape_sequence left there h = (0x25 ∷ h.0, rw (h.1, h.2) (ap (λ (l : List ℕ). 0x25 ∷ l) (sym (append-nil h.0))), λ r e. let n : r ≡ [] = no_first r (e ∙ ap first h.2) in (h.0, rw n (ap (λ (l : List ℕ). 0x25 ∷ l) (append-nil h.0)), n, h.3, h.4))
+display_stops_whole invalid_escape_sequence left there h = (0x25 ∷ h.0, rw (h.3, h.4) refl, λ r e. let s = same_first h.1 h.2 r (e ∙ ap first h.4) in (h.0, h.1, s.0, ap (λ (l : List ℕ). 0x25 ∷ (h.0 ++ l)) s.1, s.1, h.5, h.6, h.7))
+display_stops_whole invalid_display_string_character left there h = ([], h.2 ∙ sym h.3, λ r e. let s = same_first h.0 h.1 r (e ∙ ap first h.3) in (h.0, s.0, s.1, s.1, h.4))
+display_stops_whole _ left there h = absurd h
 
 pub display_ruled : (k : SyntaxFault) (left there : List ℕ) → DisplayStops k left there → has_rule k ≡ true
 display_ruled unterminated_display_string left there h = refl

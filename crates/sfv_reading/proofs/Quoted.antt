@@ -14,7 +14,7 @@ use Rattle.sfv_reading.specs.Judgements.{GoesOn, Reached, Sound, Mute, Quiet, La
 use Rattle.sfv_reading.specs.Quoted.{behind_bytes, IsStringEnd, IsDisplayEnd, string_at, outside, pieces_from, behind_pieces, checked, display_at, StringStops, DisplayStops, Traced, IsStringFault, IsDisplayFault}
 use Rattle.sfv_reading.specs.Claims.{Faults, StringRead, DisplayRead}
 use Rattle.sfv_reading.proofs.Traces.{Ends, trace_of_string, trace_of_display}
-use Rattle.sfv_reading.proofs.Pieces.{past_string, past_display, quote_string, quote_display, string_stops, display_stops, string_stops_again, display_stops_again, display_ruled}
+use Rattle.sfv_reading.proofs.Pieces.{past_string, past_display, quote_string, quote_display, string_stops, display_stops, string_stops_whole, display_stops_whole, display_ruled}
 
 -- where a reader stopped, without how its fault is placed
 stopped_at : (exact : Bool) (P : ℕ → List ℕ → Type 0) (Stops : SyntaxFault → List ℕ → List ℕ → Type 0) (t : List ℕ) (e : Fault) → Traced P t (Ends exact Stops (Err e)) → Traced P t (λ bytes left. Stops e.kind left e.rest)
@@ -73,8 +73,8 @@ pub Sound-string : Sound string_at IsStringEnd (Mute IsStringEnd) Quiet
 Sound-string = record { sound = λ t. string_reached t (string_at t) (trace_of_string t) }
 
 -- Each String is read, whatever follows it.
-pub string_again : (s t q : List ℕ) → IsStringEnd s t → string_at (t ++ q) ≡ Ok (s, q)
-string_again s t q h =
+pub string_complete : (s t q : List ℕ) → IsStringEnd s t → string_at (t ++ q) ≡ Ok (s, q)
+string_complete s t q h =
     let pieces = h.first.pieces in
     let whole : t ++ q ≡ concat pieces ++ 0x22 ∷ q = ap (λ (l : List ℕ). l ++ q) (h.text ∙ ap (λ (l : List ℕ). l ++ h.back) h.first.text ∙ ap (λ (l : List ℕ). concat pieces ++ l) h.second) ∙ append_assoc (concat pieces) (0x22 ∷ []) q in
     ap string_at whole ∙ past_string s pieces (0x22 ∷ q) h.first.each ∙ ap (behind_bytes s) (quote_string q) ∙ ap (λ (l : List ℕ). Ok (l, q)) (append-nil s)
@@ -122,14 +122,14 @@ lasts_from f t (Ok x) h = (h.0, h.1, λ r e. h.2 r)
 lasts_from f t (Err e) h = λ l. (h.0, h.1, λ r i. (with_rest e r, h.2 r i))
 
 pub string_stays : (t : List ℕ) → Stays string_at t (string_at t)
-string_stays t = stays true IsStringPiece StringStops string_at past_string quote_string string_stops string_stops_again t (string_at t) (trace_of_string t)
+string_stays t = stays true IsStringPiece StringStops string_at past_string quote_string string_stops string_stops_whole t (string_at t) (trace_of_string t)
 
 -- An answer rests on the bytes up to its place, and on the one that stands there.
 pub Local-string : Local string_at
 Local-string = record { lasts = λ t. lasts_from string_at t (string_at t) (string_stays t) }
 
 pub string_read : StringRead
-string_read = (Sound-string, string_again, string_faults, Local-string)
+string_read = (Sound-string, string_complete, string_faults, Local-string)
 
 -- ---- display strings
 
@@ -165,9 +165,9 @@ pub passes : (t : List ℕ) (s r : List ℕ) → IsUtf8 s → checked t (Ok (s, 
 passes t s r u = rw (is_utf8-from_IsUtf8 s u) refl
 
 -- Each Display String is read, whatever follows it.
-pub display_again : (s t q : List ℕ) → IsDisplayEnd s t → display_at (t ++ q) ≡ Ok (s, q)
+pub display_complete : (s t q : List ℕ) → IsDisplayEnd s t → display_at (t ++ q) ≡ Ok (s, q)
 unfolding display_at
-display_again s t q h =
+display_complete s t q h =
     let pieces = h.first.0.pieces in
     let whole : t ++ q ≡ concat pieces ++ 0x22 ∷ q = ap (λ (l : List ℕ). l ++ q) (h.text ∙ ap (λ (l : List ℕ). l ++ h.back) h.first.0.text ∙ ap (λ (l : List ℕ). concat pieces ++ l) h.second) ∙ append_assoc (concat pieces) (0x22 ∷ []) q in
     let read : pieces_from outside (t ++ q) ≡ Ok (s, q) = ap (pieces_from outside) whole ∙ past_display s pieces (0x22 ∷ q) h.first.0.each ∙ ap (behind_bytes s) (quote_display q) ∙ ap (λ (l : List ℕ). Ok (l, q)) (append-nil s) in
@@ -233,7 +233,7 @@ display_faults t e = (
 
 -- the pieces, without the look at UTF-8
 pub pieces_stay : (t : List ℕ) → Stays (pieces_from outside) t (pieces_from outside t)
-pieces_stay t = stays false IsDisplayPiece DisplayStops (pieces_from outside) past_display quote_display display_stops display_stops_again t (pieces_from outside t) (trace_of_display t)
+pieces_stay t = stays false IsDisplayPiece DisplayStops (pieces_from outside) past_display quote_display display_stops display_stops_whole t (pieces_from outside t) (trace_of_display t)
 
 display_stays_on : (t : List ℕ) (a : Answer (List ℕ)) → Stays (pieces_from outside) t a → StaysButText display_at t (checked t a)
 unfolding display_at
@@ -258,4 +258,4 @@ pub Local-display : Local display_at
 Local-display = record { lasts = λ t. display_lasts t (display_at t) (display_stays t) (λ e i. ap (λ (e : Fault). e.exact) (display_fault t e i).1) }
 
 pub display_read : DisplayRead
-display_read = (Sound-display, display_again, display_faults, Local-display, display_stays)
+display_read = (Sound-display, display_complete, display_faults, Local-display, display_stays)

@@ -15,7 +15,7 @@ use Rattle.sfv_reading.specs.Members.{entry_events, entry_at, keyed_events, keye
 use Rattle.sfv_reading.specs.Fields.{comma_at, next_at, members_at, whole_field_at, ending, read_field}
 use Rattle.sfv_reading.specs.Claims.{Origin, CommaAt, RuledComes}
 use Rattle.sfv_reading.proofs.Sound.{Sound-back, Sound-steady, Steady-span, IsSpan, Reads, Somewhere, Goes}
-use Rattle.sfv_reading.proofs.Again.{branch_take, bind_again}
+use Rattle.sfv_reading.proofs.Again.{branch_take, bind_complete}
 use Rattle.sfv_reading.proofs.Joining.{joined_split}
 use Rattle.sfv_reading.proofs.Steps.{Sound-steps}
 use Rattle.sfv_reading.proofs.Items.{Sound-item}
@@ -30,7 +30,7 @@ comma_none : (r q : List ℕ) → comma_at (0x2c ∷ r) ≡ Ok (None, q) → Run
 unfolding comma_at give ahead
 comma_none r q i =
     let m = (Steady-span is_space_or_tab).steady r in
-    let whole : comma_at (0x2c ∷ r) ≡ ahead any (give (Some tt)) (give None) m.2 = branch_take _ _ _ 0x2c r refl ∙ bind_again _ _ _ _ _ m.3 in
+    let whole : comma_at (0x2c ∷ r) ≡ ahead any (give (Some tt)) (give None) m.2 = branch_take _ _ _ 0x2c r refl ∙ bind_complete _ _ _ _ _ m.3 in
     let on : (p : List ℕ) → r ≡ m.0 ++ p → ahead any (give (Some tt)) (give None) p ≡ Ok (None, q) → RunOf is_space_or_tab r = λ p. elim p as (λ (p : List ℕ). r ≡ m.0 ++ p → ahead any (give (Some tt)) (give None) p ≡ Ok (None, q) → RunOf is_space_or_tab r) [
       | [] ↦ λ e j. subst (RunOf is_space_or_tab) (sym (e ∙ append-nil m.0 ∙ m.5.0)) m.5.1
       | c ∷ p ↦ λ e j.

@@ -13,9 +13,9 @@ use Rattle.sfv_reading.specs.Reader.{Fault, Reader, Apart, any, at_start, back, 
 use Rattle.sfv_reading.specs.Fields.{comma_at, next_at, members_at}
 use Rattle.sfv_reading.proofs.Sound.{run_head, Found, Sound-give, Sound-fail, Sound-led, Sound-byte, Sound-ahead, Sound-bind, Sound-map, Sound-back, Sound-within, Sound-span, Reads, Somewhere, Goes, begins_behind, begins_longer}
 use Rattle.sfv_reading.proofs.Local.{Local-give, Local-fail, Local-led, Local-bind, Local-ahead, Local-back, Local-span, local_rules}
-use Rattle.sfv_reading.proofs.Again.{Apart-nil, Apart-cons, branch_take, ahead_past, ahead_take, ahead_any, bind_again, back_again, led_again, span_again}
+use Rattle.sfv_reading.proofs.Again.{Apart-nil, Apart-cons, branch_take, ahead_past, ahead_take, ahead_any, bind_complete, back_complete, led_complete, span_complete}
 use Rattle.sfv_reading.proofs.Joining.{Joined, split_joined, joined_split}
-use Rattle.sfv_reading.proofs.Many.{Step, Consumes, Consumes-from, Local-many, many_again}
+use Rattle.sfv_reading.proofs.Many.{Step, Consumes, Consumes-from, Local-many, many_complete}
 use Rattle.sfv_reading.proofs.Steps.{StepGoes, Sound-steps}
 use Rattle.sfv_reading.proofs.Items.{as_it_stands}
 use Rattle.sfv_reading.proofs.UpToFault.{bind_met, led_met, many_met}
@@ -108,9 +108,9 @@ module _ {A : Type 0} (P : A → List ℕ → Type 0) (parts : A → List TreeEv
 
   -- ---- members are read again
 
-  comma_again : (behind q : List ℕ) → RunOf is_space_or_tab behind → Apart is_space_or_tab q → 1 ≤ length q → back trailing_comma comma_at (0x2c ∷ (behind ++ q)) ≡ Ok (tt, q)
+  comma_complete : (behind q : List ℕ) → RunOf is_space_or_tab behind → Apart is_space_or_tab q → 1 ≤ length q → back trailing_comma comma_at (0x2c ∷ (behind ++ q)) ≡ Ok (tt, q)
   unfolding comma_at give
-  comma_again behind q each h some = back_again _ _ _ _ _ (branch_take _ _ _ 0x2c (behind ++ q) refl ∙ bind_again _ _ _ _ _ (span_again is_space_or_tab behind q each h) ∙ ahead_any _ _ q some)
+  comma_complete behind q each h some = back_complete _ _ _ _ _ (branch_take _ _ _ 0x2c (behind ++ q) refl ∙ bind_complete _ _ _ _ _ (span_complete is_space_or_tab behind q each h) ∙ ahead_any _ _ q some)
 
   -- F: what may stand behind a member
   module _ (F : List ℕ → Type 0) (again : (m : A) (t q : List ℕ) → P m t → F q → one (t ++ q) ≡ Ok (m, q)) (fresh : (m : A) (t q : List ℕ) → P m t → Apart is_space_or_tab (t ++ q) × (1 ≤ length (t ++ q)))
@@ -122,48 +122,48 @@ module _ {A : Type 0} (P : A → List ℕ → Type 0) (parts : A → List TreeEv
     comma_no_blank : (q : List ℕ) → Apart is_space_or_tab (0x2c ∷ q)
     comma_no_blank q = Apart-cons is_space_or_tab 0x2c q refl
 
-    next_again : (m : A) (t q : List ℕ) → IsNext m t → F q → (next_at one (t ++ q) ≡ Ok (Some m, q)) × F (t ++ q)
+    next_complete : (m : A) (t q : List ℕ) → IsNext m t → F q → (next_at one (t ++ q) ≡ Ok (Some m, q)) × F (t ++ q)
     unfolding next_at give
-    next_again m t q h f =
+    next_complete m t q h f =
         let b : List ℕ = h.first.front in
         let c = h.first.second in
         let all : t ++ q ≡ b ++ 0x2c ∷ (c.back ++ (h.back ++ q)) = ap (λ (l : List ℕ). l ++ q) (h.text ∙ ap (λ (l : List ℕ). l ++ h.back) (h.first.text ∙ ap (λ (l : List ℕ). b ++ l) (c.text ∙ ap (λ (l : List ℕ). l ++ c.back) c.first))) ∙ simp append_assoc in
         let n = fresh m h.back q h.second in (
-          ap (next_at one) all ∙ bind_again _ _ _ _ _ (span_again is_space_or_tab b (0x2c ∷ (c.back ++ (h.back ++ q))) h.first.first (comma_no_blank _))
+          ap (next_at one) all ∙ bind_complete _ _ _ _ _ (span_complete is_space_or_tab b (0x2c ∷ (c.back ++ (h.back ++ q))) h.first.first (comma_no_blank _))
               ∙ ahead_any _ _ _ (omega arith) ∙ ahead_take _ _ _ 0x2c (c.back ++ (h.back ++ q)) refl
-              ∙ bind_again _ _ _ _ _ (comma_again c.back (h.back ++ q) c.second n.0 n.1)
-              ∙ bind_again _ _ _ _ _ (again m h.back q h.second f),
+              ∙ bind_complete _ _ _ _ _ (comma_complete c.back (h.back ++ q) c.second n.0 n.1)
+              ∙ bind_complete _ _ _ _ _ (again m h.back q h.second f),
           subst F (sym all) (blank_ends b (0x2c ∷ (c.back ++ (h.back ++ q))) h.first.first (comma _)),
         )
 
-    end_again : (e : List ℕ) → RunOf is_space_or_tab e → (next_at one (e ++ []) ≡ Ok (None, [])) × F (e ++ [])
+    end_complete : (e : List ℕ) → RunOf is_space_or_tab e → (next_at one (e ++ []) ≡ Ok (None, [])) × F (e ++ [])
     unfolding next_at give
-    end_again e each = (bind_again _ _ _ _ _ (span_again is_space_or_tab e [] each (Apart-nil is_space_or_tab)) ∙ ahead_past _ _ _ [] (Apart-nil any), blank_ends e [] each end)
+    end_complete e each = (bind_complete _ _ _ _ _ (span_complete is_space_or_tab e [] each (Apart-nil is_space_or_tab)) ∙ ahead_past _ _ _ [] (Apart-nil any), blank_ends e [] each end)
 
     no_space : (q : List ℕ) → Apart is_space_or_tab q → Apart is_space q
     no_space q h = record { apart = λ c e. (or_parts (is_space c) (eqb c 0x09) (h.apart c e)).0 }
 
-    pub members_again : Reads one P (Goes P parts) → (ms : List A) (t : List ℕ) → AreMembersText P ms t → members_at parts one t ≡ Ok (ms, [])
+    pub members_complete : Reads one P (Goes P parts) → (ms : List A) (t : List ℕ) → AreMembersText P ms t → members_at parts one t ≡ Ok (ms, [])
     unfolding members_at give
-    members_again r [] t h = ap (members_at parts one) (sym (append-nil t)) ∙ bind_again _ _ _ _ _ (span_again is_space t [] h (Apart-nil is_space)) ∙ ahead_past _ _ _ [] (Apart-nil any)
-    members_again r (m ∷ ms) t h =
+    members_complete r [] t h = ap (members_at parts one) (sym (append-nil t)) ∙ bind_complete _ _ _ _ _ (span_complete is_space t [] h (Apart-nil is_space)) ∙ ahead_past _ _ _ [] (Apart-nil any)
+    members_complete r (m ∷ ms) t h =
         let o = h.second.first in
         let rest : List ℕ = o.back ++ h.second.back in
-        let more = many_again parts (next_at one) (Consumes-next r) IsNext OptionalWhitespace F [] (λ v a q p f. next_again v a q p f) (λ e c. end_again e c) ms rest (joined_split IsNext OptionalWhitespace ms o.back h.second.back o.second h.second.second) in
+        let more = many_complete parts (next_at one) (Consumes-next r) IsNext OptionalWhitespace F [] (λ v a q p f. next_complete v a q p f) (λ e c. end_complete e c) ms rest (joined_split IsNext OptionalWhitespace ms o.back h.second.back o.second h.second.second) in
         let all : t ≡ h.front ++ (o.front ++ (rest ++ [])) =
         h.text ∙ ap (λ (l : List ℕ). h.front ++ l) (h.second.text ∙ ap (λ (l : List ℕ). l ++ h.second.back) o.text ∙ append_assoc o.front o.back h.second.back ∙ ap (λ (l : List ℕ). o.front ++ l) (sym (append-nil rest))) in
         let n = fresh m o.front (rest ++ []) o.first in
-        ap (members_at parts one) all ∙ bind_again _ _ _ _ _ (span_again is_space h.front (o.front ++ (rest ++ [])) h.first (no_space _ n.0)) ∙ ahead_any _ _ (o.front ++ (rest ++ [])) n.1
-        ∙ bind_again _ _ _ _ _ (again m o.front (rest ++ []) o.first more.1) ∙ led_again _ _ _ _ _ (bind_again _ _ _ _ _ more.0)
+        ap (members_at parts one) all ∙ bind_complete _ _ _ _ _ (span_complete is_space h.front (o.front ++ (rest ++ [])) h.first (no_space _ n.0)) ∙ ahead_any _ _ (o.front ++ (rest ++ [])) n.1
+        ∙ bind_complete _ _ _ _ _ (again m o.front (rest ++ []) o.first more.1) ∙ led_complete _ _ _ _ _ (bind_complete _ _ _ _ _ more.0)
 
     -- ---- and a comma behind the last
 
     comma_met : (z w : List ℕ) → RunOf is_space_or_tab z → RunOf is_space_or_tab w → (next_at one (z ++ 0x2c ∷ w) ≡ Err (record { kind = trailing_comma; exact = false; rest = 0x2c ∷ w; events = [] }))
     unfolding next_at comma_at back give
     comma_met z w each each' =
-        let end : span is_space_or_tab w ≡ Ok (w, []) = ap (span is_space_or_tab) (sym (append-nil w)) ∙ span_again is_space_or_tab w [] each' (Apart-nil is_space_or_tab) in
-        bind_again _ _ _ _ _ (span_again is_space_or_tab z (0x2c ∷ w) each (comma_no_blank w)) ∙ ahead_any _ _ _ (omega arith) ∙ ahead_take _ _ _ 0x2c w refl
-        ∙ bind_met _ _ _ _ (ap (at_start trailing_comma (0x2c ∷ w)) (branch_take _ _ _ 0x2c w refl ∙ bind_again _ _ _ _ _ end ∙ ahead_past _ _ _ [] (Apart-nil any)))
+        let end : span is_space_or_tab w ≡ Ok (w, []) = ap (span is_space_or_tab) (sym (append-nil w)) ∙ span_complete is_space_or_tab w [] each' (Apart-nil is_space_or_tab) in
+        bind_complete _ _ _ _ _ (span_complete is_space_or_tab z (0x2c ∷ w) each (comma_no_blank w)) ∙ ahead_any _ _ _ (omega arith) ∙ ahead_take _ _ _ 0x2c w refl
+        ∙ bind_met _ _ _ _ (ap (at_start trailing_comma (0x2c ∷ w)) (branch_take _ _ _ 0x2c w refl ∙ bind_complete _ _ _ _ _ end ∙ ahead_past _ _ _ [] (Apart-nil any)))
 
     pub members_met : Reads one P (Goes P parts) → (m : A) (ms : List A) (t w : List ℕ) → AreMembersText P (m ∷ ms) t → RunOf is_space_or_tab w
         → members_at parts one (t ++ 0x2c ∷ w) ≡ Err (record { kind = trailing_comma; exact = false; rest = 0x2c ∷ w; events = flat_map parts (m ∷ ms) })
@@ -173,9 +173,9 @@ module _ {A : Type 0} (P : A → List ℕ → Type 0) (parts : A → List TreeEv
         let z : List ℕ = h.second.back in
         let q : List ℕ = z ++ 0x2c ∷ w in
         let e : Fault = record { kind = trailing_comma; exact = false; rest = 0x2c ∷ w; events = [] } in
-        let more = many_met parts (next_at one) (Consumes-next r) IsNext F (λ v a q p f. next_again v a q p f) q e (comma_met z w h.second.second each) (blank_ends z (0x2c ∷ w) h.second.second (comma w)) ms o.back o.second in
+        let more = many_met parts (next_at one) (Consumes-next r) IsNext F (λ v a q p f. next_complete v a q p f) q e (comma_met z w h.second.second each) (blank_ends z (0x2c ∷ w) h.second.second (comma w)) ms o.back o.second in
         let all : t ++ 0x2c ∷ w ≡ h.front ++ (o.front ++ (o.back ++ q)) = ap (λ (l : List ℕ). l ++ 0x2c ∷ w) (h.text ∙ ap (λ (l : List ℕ). h.front ++ l) (h.second.text ∙ ap (λ (l : List ℕ). l ++ z) o.text)) ∙ simp append_assoc in
         let n = fresh m o.front (o.back ++ q) o.first in
-        ap (members_at parts one) all ∙ bind_again _ _ _ _ _ (span_again is_space h.front (o.front ++ (o.back ++ q)) h.first (no_space _ n.0)) ∙ ahead_any _ _ (o.front ++ (o.back ++ q)) n.1
-        ∙ bind_again _ _ _ _ _ (again m o.front (o.back ++ q) o.first more.1) ∙ led_met _ _ _ _ (bind_met _ _ _ _ more.0)
+        ap (members_at parts one) all ∙ bind_complete _ _ _ _ _ (span_complete is_space h.front (o.front ++ (o.back ++ q)) h.first (no_space _ n.0)) ∙ ahead_any _ _ (o.front ++ (o.back ++ q)) n.1
+        ∙ bind_complete _ _ _ _ _ (again m o.front (o.back ++ q) o.first more.1) ∙ led_met _ _ _ _ (bind_met _ _ _ _ more.0)
         ∙ ap (λ (l : List TreeEvent). Err (record { kind = trailing_comma; exact = false; rest = 0x2c ∷ w; events = parts m ++ l })) (append-nil (flat_map parts ms))

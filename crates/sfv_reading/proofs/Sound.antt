@@ -226,7 +226,7 @@ pub begins_none : (es : List TreeEvent) → Begins [] es → es ≡ []
 begins_none [] b = refl
 begins_none (e ∷ es) b = let h = b.1 in absurd cc
 
--- A reader where another has begun: at shows where its texts stand, out what was handed out before.
+-- A reader where another has begun: at shows where its texts stand, out what was visited before.
 pub Sound-within : {A : Type 0} (at : List ℕ → List ℕ) (out : List TreeEvent → List TreeEvent) (f : Reader A) (P : A → List ℕ → Type 0) (U : List ℕ → List TreeEvent → Type 0) (Q : A → List ℕ → Type 0) (W : List ℕ → List TreeEvent → Type 0)
     → Reads f P U → ((v : A) (s : List ℕ) → P v s → Q v s) → ((u : List ℕ) (es : List TreeEvent) → U u es → (d : List ℕ) × W (at (u ++ d)) (out es)) → Sound f Q (λ u es. W (at u) (out es)) (λ es. Somewhere W (out es))
 Sound-within at out f P U Q W h k l = Sound-weaker P U (Somewhere U) f Q (λ u es. W (at u) (out es)) (λ es. Somewhere W (out es)) h k l (λ es g. let m = l g.0 es g.1 in (at (g.0 ++ m.0), m.1))

@@ -9,14 +9,14 @@ use Rattle.sfv_spec.specs.Reach.{IsReach}
 use Rattle.sfv_spec.specs.Visiting.{BeginsEvents}
 use Rattle.sfv_spec.specs.Base64.{IsBase64Text, symbols}
 use Rattle.sfv_spec.specs.Faults.{has_rule, SyntaxFault, trailing_comma, unterminated_byte_sequence, invalid_byte_sequence, unterminated_escape_sequence, invalid_escape_sequence, unterminated_display_string, invalid_display_string_character, invalid_utf8_in_display_string, IsTrailingComma, WantsBetween, IsUnterminatedByteSequence, IsLoneSymbol, IsUnterminatedDisplay, IsUnterminatedEscape, IsInvalidEscape, IsInvalidDisplayByte, IsInvalidUtf8, IsBase64FaultPlace}
-use Rattle.sfv_reading.specs.Reader.{Fault, Reader, by_rule, handed}
+use Rattle.sfv_reading.specs.Reader.{Fault, Reader, by_rule, visited}
 use Rattle.sfv_reading.specs.Judgements.{Sound, Mute, Quiet, IsFault, Local, Complete, StaysButText}
 use Rattle.sfv_reading.specs.Content.{valid_from, bytes_of, fault_place, IsBytesEnd, HasNoColon, content_fault, bytes_at}
 use Rattle.sfv_reading.specs.Quoted.{IsStringEnd, string_at, IsStringFault, IsDisplayEnd, display_at, IsDisplayFault}
 use Rattle.sfv_reading.specs.Bare.{bare_at}
 use Rattle.sfv_reading.specs.Fields.{whole_field_at, read_field}
 
--- A fault stands at the reach, or its place has a rule; what was handed out begins some field's events.
+-- A fault stands at the reach, or its place has a rule; what was visited begins some field's events.
 pub record IsFaultOf (edition : Edition) (kind : FieldKind) (t : List ℕ) (e : Fault) : Type 0 where
   pub told : BeginsEvents kind e.events
   pub exact : e.exact ≡ true → (n : ℕ) × (drop n t ≡ e.rest) × IsReach edition kind t n
@@ -30,13 +30,13 @@ ReadIsAccepted = (edition : Edition) (kind : FieldKind) (t : List ℕ) (raw : Ra
 abbrev pub FaultIsPlaced : Type 0
 FaultIsPlaced = (edition : Edition) (kind : FieldKind) (t : List ℕ) (e : Fault) → read_field edition kind t ≡ Err e → IsFaultOf edition kind t e
 
--- what is handed out by an answer, a success or a fault, begins some field's events
-abbrev pub HandedBegins : Type 0
-HandedBegins = (edition : Edition) (kind : FieldKind) (t : List ℕ) → BeginsEvents kind (handed (events kind) (whole_field_at edition kind t))
+-- what is visited by an answer, a success or a fault, begins some field's events
+abbrev pub VisitedBegins : Type 0
+VisitedBegins = (edition : Edition) (kind : FieldKind) (t : List ℕ) → BeginsEvents kind (visited (events kind) (whole_field_at edition kind t))
 
--- so does what a visitor took before it refused, with what it refused
-abbrev pub RefusedBegins : Type 0
-RefusedBegins = (kind : FieldKind) (es before : List TreeEvent) (e : TreeEvent) (after : List TreeEvent) → BeginsEvents kind es → es ≡ before ++ e ∷ after → BeginsEvents kind (before ++ e ∷ [])
+-- so does what a visitor took before it rejected, with what it rejected
+abbrev pub FailedBegins : Type 0
+FailedBegins = (kind : FieldKind) (es before : List TreeEvent) (e : TreeEvent) (after : List TreeEvent) → BeginsEvents kind es → es ≡ before ++ e ∷ after → BeginsEvents kind (before ++ e ∷ [])
 
 -- what is accepted as an item is a value
 abbrev pub ItemIsValue : Type 0
@@ -150,7 +150,7 @@ ShunsMark u =
 abbrev pub ShunsMarks : Type 0
 ShunsMarks = (u : List ℕ) → ShunsMark u
 
--- exactly these faults are given, all of them exact or none, and nothing is handed out
+-- exactly these faults are given, all of them exact or none, and nothing is visited
 abbrev pub Faults : Bool → Reader (List ℕ) → (List ℕ → SyntaxFault → List ℕ → Type 0) → Type 0
 Faults exact f P = (t : List ℕ) (e : Fault) → (f t ≡ Err e) ↔ (P t e.kind e.rest × (e.exact ≡ exact) × (e.events ≡ []))
 

@@ -1,12 +1,12 @@
 use Rattle.std.proofs.Common.{◌∙◌, sym}
 use Rattle.sfv.proofs.Errors.{FaultOf-here}
 use Rattle.sfv.proofs.Delimiters.{parted_item, closed_item, undelimited_item, unended_item}
-use Rattle.sfv.proofs.parser.cursor.Cursor.wants_item.Goals as goal
+use Rattle.sfv.proofs.parser.cursor.Cursor.consume_item_delimiter.Goals as goal
 
 pub returns-then-take_if : goal.returns-then-take_if
 returns-then-take_if c = (
-  parted_item c.take_if-then-take_if.result _ _ _ _ _ c.if-take_if.ensures.takes c.spaces.ensures.spaces.1 c.take_if-then-take_if.ensures.takes,
-  c.take_if-then-take_if.ensures.input ∙ c.spaces.ensures.input ∙ c.take_if.ensures.input,
+  parted_item c.take_if-then-take_if.result _ _ _ _ _ c.if-take_if.ensures.takes c.skip_sp.ensures.skipped.1 c.take_if-then-take_if.ensures.takes,
+  c.take_if-then-take_if.ensures.input ∙ c.skip_sp.ensures.input ∙ c.take_if.ensures.input,
 )
 
 pub returns-then-take_if-2 : goal.returns-then-take_if-2
