@@ -5,6 +5,7 @@ use Rattle.std.specs.List.{list_all, list_any}
 use Rattle.std.proofs.lemmas.Bool.{and_parts, eqb-true, eqb-false, cases_Bool, cases_lt, true≢false}
 use Rattle.std.proofs.lemmas.List.{length-append, take_more, drop_more, drop-append-le, take-append-le, drop_at, length-take-le, take-append-drop, drop-drop}
 use Rattle.std.proofs.lemmas.List.Folds.{list_all-append}
+use Rattle.sfv_spec.specs.Ascii.{colon, equals_sign, question_mark}
 use Rattle.sfv_spec.specs.Base64.{IsBase64Text, symbol}
 use Rattle.sfv_spec.specs.Faults.{unterminated_byte_sequence}
 use Rattle.sfv_reading.specs.Reader.{first, Fault, by_rule}
@@ -15,33 +16,33 @@ use Rattle.sfv_reading.proofs.Shape.{valid_local, are_symbols}
 use Rattle.sfv_reading.proofs.Contents.{gives_the_bytes, longest_valid, rejected_at}
 
 -- no colon among symbols, nor in padding
-symbol_apart : (c : ℕ) → is_symbol c ≡ true → not (c == 0x3a) ≡ true
+symbol_apart : (c : ℕ) → is_symbol c ≡ true → not (c == colon) ≡ true
 unfolding is_symbol
-symbol_apart c h = elim (cases_Bool (c == 0x3a)) [
-  | inl p ↦ let e : c ≡ 0x3a = eqb-true c 0x3a p in absurd (true≢false (sym (rw e at h)))
+symbol_apart c h = elim (cases_Bool (c == colon)) [
+  | inl p ↦ let e : c ≡ colon = eqb-true c colon p in absurd (true≢false (sym (rw e at h)))
   | inr p ↦ rw p refl
 ]
 
-pub symbols_apart : (cs : List ℕ) → list_all is_symbol cs ≡ true → list_all (λ c. not (c == 0x3a)) cs ≡ true
+pub symbols_apart : (cs : List ℕ) → list_all is_symbol cs ≡ true → list_all (λ c. not (c == colon)) cs ≡ true
 symbols_apart [] h = refl
 symbols_apart (c ∷ cs) h = let p = and_parts (is_symbol c) (list_all is_symbol cs) h in rw (symbol_apart c p.0) (symbols_apart cs p.1)
 
-pub padding_apart : (n : ℕ) → list_all (λ c. not (c == 0x3a)) (replicate n 0x3d) ≡ true
+pub padding_apart : (n : ℕ) → list_all (λ c. not (c == colon)) (replicate n equals_sign) ≡ true
 padding_apart zero = refl
 padding_apart (suc n) = padding_apart n
 
-pub both_apart : (x y : List ℕ) → list_all (λ c. not (c == 0x3a)) x ≡ true → list_all (λ c. not (c == 0x3a)) y ≡ true → HasNoColon (x ++ y)
-both_apart x y h k = list_all-append (λ c. not (c == 0x3a)) x y ∙ rw (h, k) refl
+pub both_apart : (x y : List ℕ) → list_all (λ c. not (c == colon)) x ≡ true → list_all (λ c. not (c == colon)) y ≡ true → HasNoColon (x ++ y)
+both_apart x y h k = list_all-append (λ c. not (c == colon)) x y ∙ rw (h, k) refl
 
-pub no_colon : (u : List ℕ) → list_any (λ c. c == 0x3a) u ≡ false → list_all (λ c. not (c == 0x3a)) u ≡ true
+pub no_colon : (u : List ℕ) → list_any (λ c. c == colon) u ≡ false → list_all (λ c. not (c == colon)) u ≡ true
 no_colon [] h = refl
-no_colon (c ∷ u) h = elim (cases_Bool (c == 0x3a)) [
+no_colon (c ∷ u) h = elim (cases_Bool (c == colon)) [
   | inl p ↦ absurd (true≢false (rw p at h))
   | inr p ↦ rw p (no_colon u (rw p at h))
 ]
 
 -- the content in front of a colon
-pub content_is : (content rest : List ℕ) → HasNoColon content → (content_in (content ++ 0x3a ∷ rest) ≡ content) × (list_any is_colon (content ++ 0x3a ∷ rest) ≡ true)
+pub content_is : (content rest : List ℕ) → HasNoColon content → (content_in (content ++ colon ∷ rest) ≡ content) × (list_any is_colon (content ++ colon ∷ rest) ≡ true)
 unfolding content_in
 content_is [] rest h = (refl, refl)
 content_is (c ∷ content) rest h =
@@ -51,29 +52,29 @@ content_is (c ∷ content) rest h =
     rw no (ap (λ (t : List ℕ). c ∷ t) r.0, r.1)
 
 -- and the other way round
-pub content_split : (t : List ℕ) → list_any is_colon t ≡ true → (rest : List ℕ) × (t ≡ content_in t ++ 0x3a ∷ rest) × HasNoColon (content_in t)
+pub content_split : (t : List ℕ) → list_any is_colon t ≡ true → (rest : List ℕ) × (t ≡ content_in t ++ colon ∷ rest) × HasNoColon (content_in t)
 unfolding content_in
 content_split [] h = absurd (true≢false (sym h))
 content_split (c ∷ t) h = elim (cases_Bool (is_colon c)) [
-  | inl y ↦ let e : c ≡ 0x3a = eqb-true c 0x3a y in rw y (t, cc (e), refl)
+  | inl y ↦ let e : c ≡ colon = eqb-true c colon y in rw y (t, cc (e), refl)
   | inr n ↦
       let r = content_split t (rw n at h) in
       rw n (r.0, cc (r.1), rw n r.2)
 ]
 
 -- what stands behind the colon
-behind_colon : (content rest : List ℕ) → drop (length content + 1) (content ++ 0x3a ∷ rest) ≡ rest
-behind_colon content rest = sym (drop-drop 1 (length content) (content ++ 0x3a ∷ rest)) ∙ rw (drop_at content (0x3a ∷ rest) (length content) refl) refl
+behind_colon : (content rest : List ℕ) → drop (length content + 1) (content ++ colon ∷ rest) ≡ rest
+behind_colon content rest = sym (drop-drop 1 (length content) (content ++ colon ∷ rest)) ∙ rw (drop_at content (colon ∷ rest) (length content) refl) refl
 
 -- on a content and a colon
-pub read_closed : (content rest : List ℕ) → HasNoColon content → bytes_at (content ++ 0x3a ∷ rest) ≡ closed_by (content ++ 0x3a ∷ rest) content (bytes_of content)
+pub read_closed : (content rest : List ℕ) → HasNoColon content → bytes_at (content ++ colon ∷ rest) ≡ closed_by (content ++ colon ∷ rest) content (bytes_of content)
 unfolding bytes_at
 read_closed content rest h = let c = content_is content rest h in rw (c.1, c.0) refl
 
-pub read_value : (content rest bytes : List ℕ) → HasNoColon content → bytes_of content ≡ Some bytes → bytes_at (content ++ 0x3a ∷ rest) ≡ Ok (bytes, rest)
+pub read_value : (content rest bytes : List ℕ) → HasNoColon content → bytes_of content ≡ Some bytes → bytes_at (content ++ colon ∷ rest) ≡ Ok (bytes, rest)
 read_value content rest bytes h e = read_closed content rest h ∙ rw e (rw (behind_colon content rest) refl)
 
-pub read_fault : (content rest : List ℕ) → HasNoColon content → bytes_of content ≡ None → bytes_at (content ++ 0x3a ∷ rest) ≡ Err (content_fault content (drop (fault_place content) (content ++ 0x3a ∷ rest)))
+pub read_fault : (content rest : List ℕ) → HasNoColon content → bytes_of content ≡ None → bytes_at (content ++ colon ∷ rest) ≡ Err (content_fault content (drop (fault_place content) (content ++ colon ∷ rest)))
 read_fault content rest h e = read_closed content rest h ∙ rw e refl
 
 pub read_unclosed : (t : List ℕ) → list_any is_colon t ≡ false → bytes_at t ≡ Err (by_rule unterminated_byte_sequence [])
@@ -82,15 +83,15 @@ read_unclosed t h = rw h refl
 
 -- a text of Base64 has no colon
 pub text_apart : (bytes content : List ℕ) → IsBase64Text bytes content → HasNoColon content
-text_apart bytes content h = subst HasNoColon (sym h.text) (both_apart (map symbol h.values) (replicate h.padding 0x3d) (symbols_apart (map symbol h.values) (are_symbols h.values h.in_range.0)) (padding_apart h.padding))
+text_apart bytes content h = subst HasNoColon (sym h.text) (both_apart (map symbol h.values) (replicate h.padding equals_sign) (symbols_apart (map symbol h.values) (are_symbols h.values h.in_range.0)) (padding_apart h.padding))
 
 -- Each Byte Sequence is read, whatever follows it.
-pub reads_its_texts : (bytes content rest : List ℕ) → IsBase64Text bytes content → bytes_at (content ++ 0x3a ∷ rest) ≡ Ok (bytes, rest)
+pub reads_its_texts : (bytes content rest : List ℕ) → IsBase64Text bytes content → bytes_at (content ++ colon ∷ rest) ≡ Ok (bytes, rest)
 reads_its_texts bytes content rest h = read_value content rest bytes (text_apart bytes content h) ((gives_the_bytes content bytes).0 h)
 
 pub bytes_complete : (bytes t q : List ℕ) → IsBytesEnd bytes t → bytes_at (t ++ q) ≡ Ok (bytes, q)
 bytes_complete bytes t q h =
-    let all : t ++ q ≡ h.front ++ 0x3a ∷ q = ap (λ (l : List ℕ). l ++ q) (h.text ∙ ap (λ (l : List ℕ). h.front ++ l) h.second) ∙ append_assoc h.front (0x3a ∷ []) q in
+    let all : t ++ q ≡ h.front ++ colon ∷ q = ap (λ (l : List ℕ). l ++ q) (h.text ∙ ap (λ (l : List ℕ). h.front ++ l) h.second) ∙ append_assoc h.front (colon ∷ []) q in
     ap bytes_at all ∙ reads_its_texts bytes h.front q h.first
 
 -- a malformed content: its place
@@ -109,20 +110,20 @@ fault_at content h =
 front_of : (m : ℕ) (content rest : List ℕ) → m ≤ length content → take m (content ++ rest) ≡ take m content
 front_of m content rest l = take-append-le m content rest l
 
-sound_closed : (content rest : List ℕ) (value : Option (List ℕ)) → bytes_of content ≡ value → Reached IsBytesEnd (Mute IsBytesEnd) Quiet (content ++ 0x3a ∷ rest) (closed_by (content ++ 0x3a ∷ rest) content value)
+sound_closed : (content rest : List ℕ) (value : Option (List ℕ)) → bytes_of content ≡ value → Reached IsBytesEnd (Mute IsBytesEnd) Quiet (content ++ colon ∷ rest) (closed_by (content ++ colon ∷ rest) content value)
 sound_closed content rest (Some bytes) e =
-    (content ++ 0x3a ∷ [], rw (behind_colon content rest) (sym (append_assoc content (0x3a ∷ []) rest)), record { front = content; back = 0x3a ∷ []; text = refl; first = (gives_the_bytes content bytes).1 e; second = refl })
+    (content ++ colon ∷ [], rw (behind_colon content rest) (sym (append_assoc content (colon ∷ []) rest)), record { front = content; back = colon ∷ []; text = refl; first = (gives_the_bytes content bytes).1 e; second = refl })
 sound_closed content rest None e =
-    let t : List ℕ = content ++ 0x3a ∷ rest in (
+    let t : List ℕ = content ++ colon ∷ rest in (
       λ l.
           let f = fault_at content l in
           let b = (longest_valid content).holds in
-          let p : take (fault_place content) t ≡ take (valid_from 0 content) content = rw f.1 (front_of (valid_from 0 content) content (0x3a ∷ rest) (omega (arith, f.0))) in
+          let p : take (fault_place content) t ≡ take (valid_from 0 content) content = rw f.1 (front_of (valid_from 0 content) content (colon ∷ rest) (omega (arith, f.0))) in
           record {
             front = take (fault_place content) t;
-            more = b.0 ++ 0x3a ∷ [];
+            more = b.0 ++ colon ∷ [];
             parts = sym (take-append-drop (fault_place content) t);
-            holds = (b.1, record { front = take (valid_from 0 content) content ++ b.0; back = 0x3a ∷ []; text = rw p (sym (append_assoc (take (valid_from 0 content) content) b.0 (0x3a ∷ []))); first = b.2; second = refl }, refl);
+            holds = (b.1, record { front = take (valid_from 0 content) content ++ b.0; back = colon ∷ []; text = rw p (sym (append_assoc (take (valid_from 0 content) content) b.0 (colon ∷ []))); first = b.2; second = refl }, refl);
           },
       λ l. (refl, refl),
     )
@@ -134,8 +135,8 @@ Sound-bytes = record {
     | inl y ↦
         let s = content_split t y in
         let content : List ℕ = content_in t in
-        let r : Reached IsBytesEnd (Mute IsBytesEnd) Quiet (content ++ 0x3a ∷ s.0) (bytes_at (content ++ 0x3a ∷ s.0)) =
-        subst (λ a. Reached IsBytesEnd (Mute IsBytesEnd) Quiet (content ++ 0x3a ∷ s.0) a) (sym (read_closed content s.0 s.2)) (sound_closed content s.0 (bytes_of content) refl) in
+        let r : Reached IsBytesEnd (Mute IsBytesEnd) Quiet (content ++ colon ∷ s.0) (bytes_at (content ++ colon ∷ s.0)) =
+        subst (λ a. Reached IsBytesEnd (Mute IsBytesEnd) Quiet (content ++ colon ∷ s.0) a) (sym (read_closed content s.0 s.2)) (sound_closed content s.0 (bytes_of content) refl) in
         subst (λ (t : List ℕ). Reached IsBytesEnd (Mute IsBytesEnd) Quiet t (bytes_at t)) (sym s.1) r
     | inr n ↦ subst (λ a. Reached IsBytesEnd (Mute IsBytesEnd) Quiet t a) (sym (read_unclosed t n)) (λ l. absurd (true≢false (sym l)), λ l. (refl, refl))
   ];
@@ -173,21 +174,21 @@ fault_complete content r h lt =
       | inr n ↦ (_, read_unclosed (front ++ r) n)
     ]
 
-lasts_closed : (content rest : List ℕ) (value : Option (List ℕ)) → HasNoColon content → bytes_of content ≡ value → Lasts bytes_at (content ++ 0x3a ∷ rest) (closed_by (content ++ 0x3a ∷ rest) content value)
+lasts_closed : (content rest : List ℕ) (value : Option (List ℕ)) → HasNoColon content → bytes_of content ≡ value → Lasts bytes_at (content ++ colon ∷ rest) (closed_by (content ++ colon ∷ rest) content value)
 lasts_closed content rest (Some bytes) h e = (
-  content ++ 0x3a ∷ [],
-  rw (behind_colon content rest) (sym (append_assoc content (0x3a ∷ []) rest)),
+  content ++ colon ∷ [],
+  rw (behind_colon content rest) (sym (append_assoc content (colon ∷ []) rest)),
   λ r i.
-      rw (append_assoc content (0x3a ∷ []) r) (read_value content r bytes h e),
+      rw (append_assoc content (colon ∷ []) r) (read_value content r bytes h e),
 )
 lasts_closed content rest None h e = λ l.
-    let t : List ℕ = content ++ 0x3a ∷ rest in
+    let t : List ℕ = content ++ colon ∷ rest in
     let f = fault_at content l in
     let m : ℕ = valid_from 0 content in
     let d : ℕ = get_or content m 0 in
-    let p : take (fault_place content) t ≡ take m content = rw f.1 (front_of m content (0x3a ∷ rest) (omega (arith, f.0))) in
+    let p : take (fault_place content) t ≡ take m content = rw f.1 (front_of m content (colon ∷ rest) (omega (arith, f.0))) in
     let more : take (m + 1) content ≡ take m content ++ d ∷ [] = take_more content m 0 f.0 in
-    let behind : drop (fault_place content) t ≡ d ∷ (drop (m + 1) content ++ 0x3a ∷ rest) = rw f.1 (drop-append-le m content (0x3a ∷ rest) (omega (arith, f.0)) ∙ ap (λ (u : List ℕ). u ++ 0x3a ∷ rest) (drop_more content m 0 f.0)) in (
+    let behind : drop (fault_place content) t ≡ d ∷ (drop (m + 1) content ++ colon ∷ rest) = rw f.1 (drop-append-le m content (colon ∷ rest) (omega (arith, f.0)) ∙ ap (λ (u : List ℕ). u ++ colon ∷ rest) (drop_more content m 0 f.0)) in (
       take (fault_place content) t,
       sym (take-append-drop (fault_place content) t),
       λ r i. elim r as (λ (r : List ℕ). first r ≡ first (drop (fault_place content) t) → IsFault (bytes_at (take (fault_place content) t ++ r))) [
@@ -207,8 +208,8 @@ Local-bytes = record {
     | inl y ↦
         let s = content_split t y in
         let content : List ℕ = content_in t in
-        let r : Lasts bytes_at (content ++ 0x3a ∷ s.0) (bytes_at (content ++ 0x3a ∷ s.0)) =
-        subst (λ a. Lasts bytes_at (content ++ 0x3a ∷ s.0) a) (sym (read_closed content s.0 s.2)) (lasts_closed content s.0 (bytes_of content) s.2 refl) in
+        let r : Lasts bytes_at (content ++ colon ∷ s.0) (bytes_at (content ++ colon ∷ s.0)) =
+        subst (λ a. Lasts bytes_at (content ++ colon ∷ s.0) a) (sym (read_closed content s.0 s.2)) (lasts_closed content s.0 (bytes_of content) s.2 refl) in
         subst (λ (t : List ℕ). Lasts bytes_at t (bytes_at t)) (sym s.1) r
     | inr n ↦ subst (λ a. Lasts bytes_at t a) (sym (read_unclosed t n)) (λ l. absurd (true≢false (sym l)))
   ];
@@ -223,10 +224,10 @@ no_colon_any (c ∷ u) h =
     rw no (no_colon_any u p.1)
 
 -- Exactly these faults are given.
-closed_fault : (content rest : List ℕ) (e : Fault) (value : Option (List ℕ)) → HasNoColon content → bytes_of content ≡ value → closed_by (content ++ 0x3a ∷ rest) content value ≡ Err e → IsBytesFault (content ++ 0x3a ∷ rest) e
+closed_fault : (content rest : List ℕ) (e : Fault) (value : Option (List ℕ)) → HasNoColon content → bytes_of content ≡ value → closed_by (content ++ colon ∷ rest) content value ≡ Err e → IsBytesFault (content ++ colon ∷ rest) e
 closed_fault content rest e (Some bytes) h v i = absurd cc
 closed_fault content rest e None h v i =
-    let same : content_fault content (drop (fault_place content) (content ++ 0x3a ∷ rest)) ≡ e = cc in
+    let same : content_fault content (drop (fault_place content) (content ++ colon ∷ rest)) ≡ e = cc in
     inr (content, rest, refl, h, v, sym same)
 
 pub bytes_fault : (t : List ℕ) (e : Fault) → bytes_at t ≡ Err e → IsBytesFault t e
@@ -264,16 +265,16 @@ pub gives_unclosed : (input : List ℕ) (start : ℕ) → HasNoColon (drop start
 gives_unclosed input start h = read_unclosed (drop start input) (no_colon_any (drop start input) h)
 
 -- no content goes on over a question mark
-padding_stop : (k : ℕ) (u w : List ℕ) → padding_in k (u ++ 0x3f ∷ w) ≤ length u
+padding_stop : (k : ℕ) (u w : List ℕ) → padding_in k (u ++ question_mark ∷ w) ≤ length u
 unfolding padding_in
 padding_stop zero u w = omega arith
 padding_stop (suc k) [] w = omega arith
-padding_stop (suc k) (c ∷ u) w = elim (cases_Bool (c == 0x3d)) [
+padding_stop (suc k) (c ∷ u) w = elim (cases_Bool (c == equals_sign)) [
   | inl y ↦ let r = padding_stop k u w in rw y (omega (arith, r))
   | inr n ↦ rw n (omega arith)
 ]
 
-valid_stop : (n : ℕ) (u w : List ℕ) → valid_from n (u ++ 0x3f ∷ w) ≤ length u
+valid_stop : (n : ℕ) (u w : List ℕ) → valid_from n (u ++ question_mark ∷ w) ≤ length u
 unfolding valid_from is_symbol
 valid_stop n [] w = padding_stop (most_padding n) [] w
 valid_stop n (c ∷ u) w = elim (cases_Bool (is_symbol c)) [
@@ -281,13 +282,13 @@ valid_stop n (c ∷ u) w = elim (cases_Bool (is_symbol c)) [
   | inr m ↦ rw m (padding_stop (most_padding n) (c ∷ u) w)
 ]
 
-mark_fault : (u : List ℕ) → list_any is_colon u ≡ false → (c : List ℕ) → IsFault (bytes_at (u ++ 0x3f ∷ c))
+mark_fault : (u : List ℕ) → list_any is_colon u ≡ false → (c : List ℕ) → IsFault (bytes_at (u ++ question_mark ∷ c))
 unfolding content_in
 mark_fault u none c =
-    let t : List ℕ = u ++ 0x3f ∷ c in
+    let t : List ℕ = u ++ question_mark ∷ c in
     let content : List ℕ = content_in t in
-    let grown : content ≡ u ++ 0x3f ∷ content_in c = content_on u (0x3f ∷ c) (no_colon u none) in
-    let size : length content ≡ length u + suc (length (content_in c)) = ap (length {A = ℕ}) grown ∙ length-append u (0x3f ∷ content_in c) in
+    let grown : content ≡ u ++ question_mark ∷ content_in c = content_on u (question_mark ∷ c) (no_colon u none) in
+    let size : length content ≡ length u + suc (length (content_in c)) = ap (length {A = ℕ}) grown ∙ length-append u (question_mark ∷ content_in c) in
     let low : valid_from 0 content ≤ length u = rw grown (valid_stop 0 u (content_in c)) in
     let rejected = rejected_at content (valid_from 0 content) refl (omega (arith, size, low)) in
     elim (cases_Bool (list_any is_colon t)) [
@@ -295,9 +296,9 @@ mark_fault u none c =
       | inr n ↦ (_, read_unclosed t n)
     ]
 
-mark_closed : (content rest : List ℕ) (value : Option (List ℕ)) → HasNoColon content → bytes_of content ≡ value → ShunsMark (content ++ 0x3a ∷ rest)
-mark_closed content rest (Some bytes) h e = inr (rest, bytes, λ c. rw (append_assoc content (0x3a ∷ rest) (0x3f ∷ c)) (read_value content (rest ++ 0x3f ∷ c) bytes h e))
-mark_closed content rest None h e = inl (λ c. (_, ap bytes_at (append_assoc content (0x3a ∷ rest) (0x3f ∷ c)) ∙ read_fault content (rest ++ 0x3f ∷ c) h e))
+mark_closed : (content rest : List ℕ) (value : Option (List ℕ)) → HasNoColon content → bytes_of content ≡ value → ShunsMark (content ++ colon ∷ rest)
+mark_closed content rest (Some bytes) h e = inr (rest, bytes, λ c. rw (append_assoc content (colon ∷ rest) (question_mark ∷ c)) (read_value content (rest ++ question_mark ∷ c) bytes h e))
+mark_closed content rest None h e = inl (λ c. (_, ap bytes_at (append_assoc content (colon ∷ rest) (question_mark ∷ c)) ∙ read_fault content (rest ++ question_mark ∷ c) h e))
 
 pub shuns_bytes : ShunsMarks
 shuns_bytes u = elim (cases_Bool (list_any is_colon u)) [

@@ -3,6 +3,7 @@ use Rattle.std.proofs.Common.{◌≡◌, ℕ, ◌+◌, true, List, [], ◌∷◌
 use Rattle.std.specs.Prelude.{◌==◌, not, codes}
 use Rattle.std.proofs.lemmas.Bool.{eqb-true, eq-eqb, cases_Bool, true≢false}
 use Rattle.std.proofs.lemmas.List.{length-append, length-drop}
+use Rattle.sfv_spec.specs.Ascii.{colon}
 use Rattle.sfv_spec.specs.Values.{Edition, FieldKind}
 use Rattle.sfv_spec.specs.Faults.{unterminated_byte_sequence, invalid_byte_sequence, WantsBetween, IsUnterminatedByteSequence, IsLoneSymbol}
 use Rattle.sfv_reading.specs.Reader.{Fault, by_rule, placed}
@@ -45,20 +46,20 @@ lone_from edition kind whole index h (inr f) =
       before = h.before;
       content = content;
       rest = rest;
-      place = subst (λ (t : List ℕ). WantsBetween edition kind whole h.before t) (ap (λ (t : List ℕ). 0x3a ∷ t) f.2 ∙ ap (λ (t : List ℕ). 0x3a ∷ t) (sym (append_assoc content (0x3a ∷ []) rest))) h.place;
+      place = subst (λ (t : List ℕ). WantsBetween edition kind whole h.before t) (ap (λ (t : List ℕ). colon ∷ t) f.2 ∙ ap (λ (t : List ℕ). colon ∷ t) (sym (append_assoc content (colon ∷ []) rest))) h.place;
       only_symbols = l.0;
       one_left = l.1;
-      here = omega (arith, h.here, n, m, inside, l.2, length-drop (fault_place content) h.inside, length-append content (0x3a ∷ rest), length-append (h.before ++ codes ":") content, length-append h.before (codes ":"));
+      here = omega (arith, h.here, n, m, inside, l.2, length-drop (fault_place content) h.inside, length-append content (colon ∷ rest), length-append (h.before ++ codes ":") content, length-append h.before (codes ":"));
     }
 
 lone_is : (edition : Edition) (kind : FieldKind) (whole : List ℕ) (index : ℕ) → IsLoneSymbol edition kind whole index → IsFaultOfBytes edition kind whole invalid_byte_sequence index
 lone_is edition kind whole index h =
-    let inside : List ℕ = h.content ++ 0x3a ∷ h.rest in
+    let inside : List ℕ = h.content ++ colon ∷ h.rest in
     let there : List ℕ = drop (fault_place h.content) inside in
     let none = is_left_over h.content h.only_symbols h.one_left in
     let all : (valid_from 0 h.content == length h.content) ≡ true = eq-eqb _ _ ((leaves_one_over h.content none.0).1 (h.only_symbols, h.one_left)) in
     let apart : HasNoColon h.content = symbols_apart h.content (symbols_of_run h.content h.only_symbols) in
-    let place : WantsBetween edition kind whole h.before (codes ":" ++ inside) = subst (λ (t : List ℕ). WantsBetween edition kind whole h.before t) (ap (λ (t : List ℕ). 0x3a ∷ t) (append_assoc h.content (0x3a ∷ []) h.rest)) h.place in
+    let place : WantsBetween edition kind whole h.before (codes ":" ++ inside) = subst (λ (t : List ℕ). WantsBetween edition kind whole h.before t) (ap (λ (t : List ℕ). colon ∷ t) (append_assoc h.content (colon ∷ []) h.rest)) h.place in
     let n = long edition kind whole h.before inside place in
     record {
       before = h.before;
@@ -66,7 +67,7 @@ lone_is edition kind whole index h =
       there = there;
       place = place;
       fault = read_fault h.content h.rest apart none.0 ∙ ap (λ b. Err (placed (not b) invalid_byte_sequence there)) all;
-      here = omega (arith, h.here, n, none.1, length-drop (fault_place h.content) inside, length-append h.content (0x3a ∷ h.rest), length-append (h.before ++ codes ":") h.content, length-append h.before (codes ":"));
+      here = omega (arith, h.here, n, none.1, length-drop (fault_place h.content) inside, length-append h.content (colon ∷ h.rest), length-append (h.before ++ codes ":") h.content, length-append h.before (codes ":"));
     }
 
 pub bytes_rules : BytesRules

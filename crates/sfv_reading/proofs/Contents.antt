@@ -5,6 +5,7 @@ use Rattle.std.specs.List.{list_all}
 use Rattle.std.proofs.lemmas.Bool.{and_parts, eqb-true, eqb-false, not-true, both_ways, eq-eqb, ne_eqb, cases_Bool}
 use Rattle.std.proofs.lemmas.List.{length-append, length-map, length-replicate, append-nil, nil_from_length, take_at, length-take-le}
 use Rattle.std.proofs.lemmas.List.Folds.{list_all-append}
+use Rattle.sfv_spec.specs.Ascii.{colon, equals_sign, upper_a}
 use Rattle.sfv_spec.specs.Texts.{IsLongestBeginning}
 use Rattle.sfv_spec.specs.Base64.{symbol, bits, IsBase64Text}
 use Rattle.sfv_spec.specs.Faults.{BeginsBase64}
@@ -23,7 +24,7 @@ few_spare n = elim (cases_Bool (n % 4 == 2)) [
 
 -- symbols and padding that are Base64
 pub well_formed : (run : List ℕ) (padding : ℕ) → list_all is_symbol run ≡ true → padding ≤ most_padding (length run) → ¬ (length run % 4 ≡ 1)
-    → IsBase64Text (bytes_from (map symbol_value run)) (run ++ replicate padding 0x3d)
+    → IsBase64Text (bytes_from (map symbol_value run)) (run ++ replicate padding equals_sign)
 well_formed run padding h most one =
     let vs : List ℕ = map symbol_value run in
     let same : length vs ≡ length run = length-map run symbol_value in
@@ -35,7 +36,7 @@ well_formed run padding h most one =
       values = vs;
       padding = padding;
       spare = spare_of vs;
-      text = ap (λ (t : List ℕ). t ++ replicate padding 0x3d) (sym (symbols-values run h));
+      text = ap (λ (t : List ℕ). t ++ replicate padding equals_sign) (sym (symbols-values run h));
       in_range = (in_range, bytes_within vs in_range);
       same_bits = same_bits vs in_range lone;
       few_spare = omega (arith, counted, few_spare (length run));
@@ -70,7 +71,7 @@ counted bytes t h =
       ],
     )
 
-no_symbol : (n : ℕ) → NotBegun is_symbol (replicate n 0x3d ++ [])
+no_symbol : (n : ℕ) → NotBegun is_symbol (replicate n equals_sign ++ [])
 unfolding is_symbol
 no_symbol zero = refl
 no_symbol (suc n) = refl
@@ -81,11 +82,11 @@ read_back bytes t h =
     let run : List ℕ = map symbol h.values in
     let many : length run ≡ length h.values = length-map h.values symbol in
     let most : h.padding ≤ most_padding (0 + length run) = let z : 0 + length run ≡ length h.values = omega (arith, many) in rw z (counted bytes t h).1 in
-    let text : t ≡ run ++ (replicate h.padding 0x3d ++ []) = h.text ∙ ap (λ (u : List ℕ). run ++ u) (sym (append-nil (replicate h.padding 0x3d))) in
-    let apart : NotBegun is_symbol (replicate h.padding 0x3d ++ []) = no_symbol h.padding in
-    let v = valid_run 0 run (replicate h.padding 0x3d ++ []) (are_symbols h.values h.in_range.0) apart in
+    let text : t ≡ run ++ (replicate h.padding equals_sign ++ []) = h.text ∙ ap (λ (u : List ℕ). run ++ u) (sym (append-nil (replicate h.padding equals_sign))) in
+    let apart : NotBegun is_symbol (replicate h.padding equals_sign ++ []) = no_symbol h.padding in
+    let v = valid_run 0 run (replicate h.padding equals_sign ++ []) (are_symbols h.values h.in_range.0) apart in
     let p = padding-padded (most_padding (0 + length run)) h.padding [] most (inr refl) in
-    let size : length t ≡ length run + h.padding = ap (length {A = ℕ}) h.text ∙ length-append run (replicate h.padding 0x3d) ∙ ap (λ n. length run + n) (length-replicate h.padding 0x3d) in
+    let size : length t ≡ length run + h.padding = ap (length {A = ℕ}) h.text ∙ length-append run (replicate h.padding equals_sign) ∙ ap (λ n. length run + n) (length-replicate h.padding equals_sign) in
     (ap (valid_from 0) text ∙ v.0 ∙ ap (λ n. length run + n) p ∙ sym size, ap values_in text ∙ v.1 ∙ values-symbols h.values h.in_range.0)
 
 -- the two tests of a content
@@ -109,13 +110,13 @@ accepted_text content h =
     let size : length content ≡ length s.run + (s.padding + length s.rest) = ap (length {A = ℕ}) s.text ∙ simp (length-append, length-replicate) in
     let whole : length s.rest ≡ 0 = omega (arith, eqb-true (valid_from 0 content) (length content) p.0, v.0, size) in
     let none : s.rest ≡ [] = nil_from_length s.rest whole in
-    let text : content ≡ s.run ++ replicate s.padding 0x3d = s.text ∙ rw (none, append-nil) refl in
+    let text : content ≡ s.run ++ replicate s.padding equals_sign = s.text ∙ rw (none, append-nil) refl in
     let many : length (values_in content) ≡ length s.run = ap (length {A = ℕ}) v.1 ∙ length-map s.run symbol_value in
     let lone : ¬ (length s.run % 4 ≡ 1) = λ e. both_ways (length (values_in content) % 4 == 1) (not-true _ p.1) (eq-eqb _ 1 (omega (arith, many, e))) in
     let z : 0 + length s.run ≡ length s.run = omega arith in
     let most : s.padding ≤ most_padding (length s.run) = rw z at s.within in
     subst (λ (t : List ℕ). IsBase64Text (bytes_from (values_in content)) t) (sym text)
-    (subst (λ (vs : List ℕ). IsBase64Text (bytes_from vs) (s.run ++ replicate s.padding 0x3d)) (sym v.1) (well_formed s.run s.padding s.symbols most lone))
+    (subst (λ (vs : List ℕ). IsBase64Text (bytes_from vs) (s.run ++ replicate s.padding equals_sign)) (sym v.1) (well_formed s.run s.padding s.symbols most lone))
 
 -- what is Base64 is accepted
 text_accepted : (bytes content : List ℕ) → IsBase64Text bytes content → accepted content ≡ true
@@ -126,7 +127,7 @@ text_accepted bytes content h =
     rw (eq-eqb (valid_from 0 content) (length content) r.0, n) refl
 
 one_meaning : (x y content : List ℕ) → IsBase64Text x content → IsBase64Text y content → x ≡ y
-one_meaning x y content h k = let same = bytes_settle x y content content (0x3a ∷ []) (0x3a ∷ []) h k refl refl refl in same.values
+one_meaning x y content h k = let same = bytes_settle x y content content (colon ∷ []) (colon ∷ []) h k refl refl refl in same.values
 
 pub gives_the_bytes : GivesTheBytes
 gives_the_bytes content bytes = (
@@ -141,20 +142,20 @@ gives_the_bytes content bytes = (
 )
 
 -- some Base64 text begins with symbols and padding
-begins_so : (run : List ℕ) (padding : ℕ) → list_all is_symbol run ≡ true → padding ≤ most_padding (length run) → BeginsBase64 (run ++ replicate padding 0x3d)
+begins_so : (run : List ℕ) (padding : ℕ) → list_all is_symbol run ≡ true → padding ≤ most_padding (length run) → BeginsBase64 (run ++ replicate padding equals_sign)
 unfolding is_symbol
 begins_so run padding h most = elim (cases_Bool (length run % 4 == 1)) [
   | inl one ↦
       let e : length run % 4 ≡ 1 = eqb-true (length run % 4) 1 one in
       let none : padding ≡ 0 = omega (arith, rw e at most) in
-      let more : List ℕ = run ++ (0x41 ∷ []) in
-      let many : length more ≡ length run + 1 = length-append run (0x41 ∷ []) in
+      let more : List ℕ = run ++ (upper_a ∷ []) in
+      let many : length more ≡ length run + 1 = length-append run (upper_a ∷ []) in
       let lone : ¬ (length more % 4 ≡ 1) = λ f. absurd (omega (arith, e, f, many)) in
-      let all : list_all is_symbol more ≡ true = list_all-append is_symbol run (0x41 ∷ []) ∙ rw h refl in
-      let text : more ++ [] ≡ (run ++ replicate padding 0x3d) ++ (0x41 ∷ []) = append-nil more ∙ rw (none, append-nil run) refl in
-      (0x41 ∷ [], bytes_from (map symbol_value more), subst (λ (t : List ℕ). IsBase64Text (bytes_from (map symbol_value more)) t) text (well_formed more 0 all (omega arith) lone))
+      let all : list_all is_symbol more ≡ true = list_all-append is_symbol run (upper_a ∷ []) ∙ rw h refl in
+      let text : more ++ [] ≡ (run ++ replicate padding equals_sign) ++ (upper_a ∷ []) = append-nil more ∙ rw (none, append-nil run) refl in
+      (upper_a ∷ [], bytes_from (map symbol_value more), subst (λ (t : List ℕ). IsBase64Text (bytes_from (map symbol_value more)) t) text (well_formed more 0 all (omega arith) lone))
   | inr two ↦
-      ([], bytes_from (map symbol_value run), subst (λ (t : List ℕ). IsBase64Text (bytes_from (map symbol_value run)) t) (sym (append-nil (run ++ replicate padding 0x3d))) (well_formed run padding h most (eqb-false (length run % 4) 1 two)))
+      ([], bytes_from (map symbol_value run), subst (λ (t : List ℕ). IsBase64Text (bytes_from (map symbol_value run)) t) (sym (append-nil (run ++ replicate padding equals_sign))) (well_formed run padding h most (eqb-false (length run % 4) 1 two)))
 ]
 
 -- how far some Base64 text goes on
@@ -162,9 +163,9 @@ pub longest_valid : (content : List ℕ) → IsLongestBeginning BeginsBase64 con
 longest_valid content =
     let s = shape_of 0 content in
     let v = shape_valid 0 content s in
-    let front : List ℕ = s.run ++ replicate s.padding 0x3d in
-    let text : content ≡ front ++ s.rest = s.text ∙ sym (append_assoc s.run (replicate s.padding 0x3d) s.rest) in
-    let size : length front ≡ valid_from 0 content = length-append s.run (replicate s.padding 0x3d) ∙ ap (λ n. length s.run + n) (length-replicate s.padding 0x3d) ∙ sym v.0 in
+    let front : List ℕ = s.run ++ replicate s.padding equals_sign in
+    let text : content ≡ front ++ s.rest = s.text ∙ sym (append_assoc s.run (replicate s.padding equals_sign) s.rest) in
+    let size : length front ≡ valid_from 0 content = length-append s.run (replicate s.padding equals_sign) ∙ ap (λ n. length s.run + n) (length-replicate s.padding equals_sign) ∙ sym v.0 in
     let taken : take (valid_from 0 content) content ≡ front = ap (take {A = ℕ} (valid_from 0 content)) text ∙ take_at front s.rest (valid_from 0 content) size in
     let z : 0 + length s.run ≡ length s.run = omega arith in
     let most : s.padding ≤ most_padding (length s.run) = rw z at s.within in

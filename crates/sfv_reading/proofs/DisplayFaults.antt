@@ -6,6 +6,7 @@ use Rattle.std.specs.Str.Lossy.{utf8_valid_len}
 use Rattle.std.proofs.lemmas.Bool.{and_parts, or_parts, not-true, both_ways}
 use Rattle.std.proofs.lemmas.List.{length-append, take_at}
 use Rattle.std.proofs.lemmas.Str.{utf8_valid_len_le}
+use Rattle.sfv_spec.specs.Ascii.{double_quote, percent_sign}
 use Rattle.sfv_spec.specs.Texts.{IsLongestBeginning}
 use Rattle.sfv_spec.specs.Classes.{is_string_byte}
 use Rattle.sfv_spec.specs.Values.{Edition, rfc9651, FieldKind}
@@ -47,8 +48,8 @@ begun edition kind whole before t left bytes pieces known place e h k = record {
 
 drop_one : (p r : List ℕ) (b : ℕ) → IsDisplayPiece b p → (n : ℕ) → behind_pieces (suc n) (p ++ r) ≡ behind_pieces n r
 drop_one p r b (inl h) n =
-    let a = and_parts (is_string_byte b) (not ((b == 0x25) || (b == 0x22))) h.0 in
-    let o = or_parts (b == 0x25) (b == 0x22) (not-true ((b == 0x25) || (b == 0x22)) a.1) in
+    let a = and_parts (is_string_byte b) (not ((b == percent_sign) || (b == double_quote))) h.0 in
+    let o = or_parts (b == percent_sign) (b == double_quote) (not-true ((b == percent_sign) || (b == double_quote)) a.1) in
     ap (λ (l : List ℕ). behind_pieces (suc n) (l ++ r)) h.1 ∙ ap (λ (x : Bool). behind_pieces n (cond x (drop 2 r) r)) o.0
 drop_one p r b (inr h) n = ap (λ (l : List ℕ). behind_pieces (suc n) (l ++ r)) h.4
 

@@ -5,6 +5,7 @@ use Rattle.std.specs.List.{concat, AllZip, list_all}
 use Rattle.std.specs.Str.Lossy.{utf8_valid_len}
 use Rattle.std.proofs.lemmas.Bool.{and_parts, and_from, cases_order}
 use Rattle.std.proofs.lemmas.List.{length-append, append-nil, take_at}
+use Rattle.sfv_spec.specs.Ascii.{double_quote, percent_sign}
 use Rattle.sfv_spec.specs.Texts.{RunOf, IsLongestBeginning}
 use Rattle.sfv_spec.specs.Classes.{is_lower_hexadecimal}
 use Rattle.sfv_spec.specs.Values.{Edition, FieldKind}
@@ -28,17 +29,17 @@ same_longest P t n m a b = elim (cases_order n m) as (λ x. n ≡ m) [
 ]
 
 -- an escape that is left over has one digit at most, or it would be a piece
-few_digits : (bytes : List ℕ) (pieces : List (List ℕ)) (digits rest : List ℕ) → AllZip IsDisplayPiece bytes pieces → IsLongestBeginning (λ d. (any : List ℕ) × AreDisplayPieces any d) (concat pieces ++ (0x25 ∷ (digits ++ rest))) (length (concat pieces)) → RunOf is_lower_hexadecimal digits → length digits ≤ 1
+few_digits : (bytes : List ℕ) (pieces : List (List ℕ)) (digits rest : List ℕ) → AllZip IsDisplayPiece bytes pieces → IsLongestBeginning (λ d. (any : List ℕ) × AreDisplayPieces any d) (concat pieces ++ (percent_sign ∷ (digits ++ rest))) (length (concat pieces)) → RunOf is_lower_hexadecimal digits → length digits ≤ 1
 few_digits bytes pieces [] rest h l r = omega arith
 few_digits bytes pieces (a ∷ []) rest h l r = omega arith
 few_digits bytes pieces (a ∷ b ∷ ds) rest h l r =
     let p = and_parts (is_lower_hexadecimal a) (is_lower_hexadecimal b && list_all is_lower_hexadecimal ds) r in
     let q = and_parts (is_lower_hexadecimal b) (list_all is_lower_hexadecimal ds) p.1 in
-    let piece : List ℕ = 0x25 ∷ a ∷ b ∷ [] in
+    let piece : List ℕ = percent_sign ∷ a ∷ b ∷ [] in
     let n : ℕ = length (concat pieces ++ piece) in
     let len = length-append (concat pieces) piece in
-    let all = length-append (concat pieces) (0x25 ∷ (a ∷ b ∷ ds ++ rest)) in
-    let front : take n (concat pieces ++ (0x25 ∷ (a ∷ b ∷ ds ++ rest))) ≡ concat (pieces ++ piece ∷ []) =
+    let all = length-append (concat pieces) (percent_sign ∷ (a ∷ b ∷ ds ++ rest)) in
+    let front : take n (concat pieces ++ (percent_sign ∷ (a ∷ b ∷ ds ++ rest))) ≡ concat (pieces ++ piece ∷ []) =
     ap (take n) (sym (append_assoc (concat pieces) piece (ds ++ rest))) ∙ take_at (concat pieces ++ piece) (ds ++ rest) n refl ∙ sym (concat_more pieces piece) in
     absurd (l.longest n (omega (arith, len)) (omega (arith, len, all)) (
       bytes ++ (16 * hexadecimal_value a + hexadecimal_value b) ∷ [],
@@ -62,29 +63,29 @@ open_is edition kind whole index h = record {
 pub open_escape_is : (edition : Edition) (kind : FieldKind) (whole : List ℕ) (index : ℕ) → IsUnterminatedEscape edition kind whole index → IsFaultOfDisplay edition kind whole unterminated_escape_sequence index
 open_escape_is edition kind whole index h =
     let none : h.digits ++ [] ≡ h.digits = append-nil h.digits in
-    let few = few_digits h.bytes h.pieces h.digits [] h.begun.content (subst (λ (l : List ℕ). IsLongestBeginning (λ d. (any : List ℕ) × AreDisplayPieces any d) (concat h.pieces ++ (0x25 ∷ l)) (length (concat h.pieces))) (sym none) h.begun.longest) h.hexadecimal in
+    let few = few_digits h.bytes h.pieces h.digits [] h.begun.content (subst (λ (l : List ℕ). IsLongestBeginning (λ d. (any : List ℕ) × AreDisplayPieces any d) (concat h.pieces ++ (percent_sign ∷ l)) (length (concat h.pieces))) (sym none) h.begun.longest) h.hexadecimal in
     record {
       known = h.begun.known;
       before = h.before;
-      inside = concat h.pieces ++ (0x25 ∷ h.digits);
+      inside = concat h.pieces ++ (percent_sign ∷ h.digits);
       there = [];
       place = h.begun.place;
-      fault = display_faulty _ [] unterminated_escape_sequence (record { bytes = h.bytes; pieces = h.pieces; left = 0x25 ∷ h.digits; text = refl; content = h.begun.content; ends = (h.digits, refl, refl, h.hexadecimal, few) });
+      fault = display_faulty _ [] unterminated_escape_sequence (record { bytes = h.bytes; pieces = h.pieces; left = percent_sign ∷ h.digits; text = refl; content = h.begun.content; ends = (h.digits, refl, refl, h.hexadecimal, few) });
       here = omega (arith, h.here);
     }
 
 pub wrong_escape_is : (edition : Edition) (kind : FieldKind) (whole : List ℕ) (index : ℕ) → IsInvalidEscape edition kind whole index → IsFaultOfDisplay edition kind whole invalid_escape_sequence index
 wrong_escape_is edition kind whole index h =
     let few = few_digits h.bytes h.pieces h.digits (h.wrong ∷ h.rest) h.begun.content h.begun.longest h.hexadecimal in
-    let n = long edition kind whole h.before (concat h.pieces ++ (0x25 ∷ (h.digits ++ h.wrong ∷ h.rest))) h.begun.place in
+    let n = long edition kind whole h.before (concat h.pieces ++ (percent_sign ∷ (h.digits ++ h.wrong ∷ h.rest))) h.begun.place in
     record {
       known = h.begun.known;
       before = h.before;
-      inside = concat h.pieces ++ (0x25 ∷ (h.digits ++ h.wrong ∷ h.rest));
+      inside = concat h.pieces ++ (percent_sign ∷ (h.digits ++ h.wrong ∷ h.rest));
       there = h.wrong ∷ h.rest;
       place = h.begun.place;
-      fault = display_faulty _ (h.wrong ∷ h.rest) invalid_escape_sequence (record { bytes = h.bytes; pieces = h.pieces; left = 0x25 ∷ (h.digits ++ h.wrong ∷ h.rest); text = refl; content = h.begun.content; ends = (h.digits, h.wrong, h.rest, refl, refl, h.hexadecimal, few, h.not_hexadecimal) });
-      here = omega (arith, h.here, n, length-append (concat h.pieces) (0x25 ∷ (h.digits ++ h.wrong ∷ h.rest)), length-append h.digits (h.wrong ∷ h.rest), length-append (h.before ++ codes "%\"" ++ concat h.pieces ++ codes "%") h.digits, length-append (h.before ++ codes "%\"" ++ concat h.pieces) (codes "%"), length-append (h.before ++ codes "%\"") (concat h.pieces), length-append h.before (codes "%\""));
+      fault = display_faulty _ (h.wrong ∷ h.rest) invalid_escape_sequence (record { bytes = h.bytes; pieces = h.pieces; left = percent_sign ∷ (h.digits ++ h.wrong ∷ h.rest); text = refl; content = h.begun.content; ends = (h.digits, h.wrong, h.rest, refl, refl, h.hexadecimal, few, h.not_hexadecimal) });
+      here = omega (arith, h.here, n, length-append (concat h.pieces) (percent_sign ∷ (h.digits ++ h.wrong ∷ h.rest)), length-append h.digits (h.wrong ∷ h.rest), length-append (h.before ++ codes "%\"" ++ concat h.pieces ++ codes "%") h.digits, length-append (h.before ++ codes "%\"" ++ concat h.pieces) (codes "%"), length-append (h.before ++ codes "%\"") (concat h.pieces), length-append h.before (codes "%\""));
     }
 
 pub wrong_byte_is : (edition : Edition) (kind : FieldKind) (whole : List ℕ) (index : ℕ) → IsInvalidDisplayByte edition kind whole index → IsFaultOfDisplay edition kind whole invalid_display_string_character index
@@ -102,11 +103,11 @@ wrong_byte_is edition kind whole index h =
 
 pub wrong_utf8_is : (edition : Edition) (kind : FieldKind) (whole : List ℕ) (index : ℕ) → IsInvalidUtf8 edition kind whole index → IsFaultOfDisplay edition kind whole invalid_utf8_in_display_string index
 wrong_utf8_is edition kind whole index h =
-    let t : List ℕ = concat h.pieces ++ 0x22 ∷ h.rest in
+    let t : List ℕ = concat h.pieces ++ double_quote ∷ h.rest in
     let there : List ℕ = behind_pieces (utf8_valid_len h.bytes) t in
     let valid : h.valid ≡ utf8_valid_len h.bytes = same_longest IsUtf8 h.bytes h.valid (utf8_valid_len h.bytes) h.longest (longest_text h.bytes) in
     let n = long edition kind whole h.before t h.begun.place in
-    let s = ap (length {A = ℕ}) (behind_split_at (utf8_valid_len h.bytes) h.bytes h.pieces (0x22 ∷ h.rest) h.begun.content (utf8_valid_len_le h.bytes)) in
+    let s = ap (length {A = ℕ}) (behind_split_at (utf8_valid_len h.bytes) h.bytes h.pieces (double_quote ∷ h.rest) h.begun.content (utf8_valid_len_le h.bytes)) in
     let here : index ≡ length (h.before ++ codes "%\"" ++ concat (take (utf8_valid_len h.bytes) h.pieces)) = h.here ∙ ap (λ (n : ℕ). length (h.before ++ codes "%\"" ++ concat (take n h.pieces))) valid in
     record {
       known = h.begun.known;
@@ -114,7 +115,7 @@ wrong_utf8_is edition kind whole index h =
       inside = t;
       there = there;
       place = h.begun.place;
-      fault = display_faulty _ there invalid_utf8_in_display_string (record { bytes = h.bytes; pieces = h.pieces; left = 0x22 ∷ h.rest; text = refl; content = h.begun.content; ends = (h.rest, refl, h.not_text, refl) });
+      fault = display_faulty _ there invalid_utf8_in_display_string (record { bytes = h.bytes; pieces = h.pieces; left = double_quote ∷ h.rest; text = refl; content = h.begun.content; ends = (h.rest, refl, h.not_text, refl) });
       here = omega (arith, here, n, s, length-append (concat (take (utf8_valid_len h.bytes) h.pieces)) there, length-append (h.before ++ codes "%\"") (concat (take (utf8_valid_len h.bytes) h.pieces)), length-append h.before (codes "%\""));
     }
 

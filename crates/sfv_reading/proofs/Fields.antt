@@ -2,6 +2,7 @@
 use Rattle.std.proofs.Common.{◌≡◌, ℕ, List, [], ◌∷◌, ◌++◌, Ok, refl, sym, ap, subst, ◌∙◌}
 use Rattle.std.proofs.lemmas.List.{append-nil}
 use Rattle.std.proofs.lemmas.Bool.{eqb-true}
+use Rattle.sfv_spec.specs.Ascii.{space, comma}
 use Rattle.sfv_spec.specs.Texts.{RunOf}
 use Rattle.sfv_spec.specs.Classes.{is_space}
 use Rattle.sfv_spec.specs.Values.{Edition, FieldKind, item_field, list_field, dictionary_field, RawField, RawItem}
@@ -49,7 +50,7 @@ Local-field edition dictionary_field = Local-members (IsDictionaryMemberText edi
 
 spaces_end : (s : List ℕ) → RunOf is_space s → Apart lengthens_item s
 spaces_end [] each = Apart-nil lengthens_item
-spaces_end (c ∷ s) each = subst (λ (c : ℕ). Apart lengthens_item (c ∷ s)) (sym (eqb-true c 0x20 (run_head is_space c s each))) (space_ends s)
+spaces_end (c ∷ s) each = subst (λ (c : ℕ). Apart lengthens_item (c ∷ s)) (sym (eqb-true c space (run_head is_space c s each))) (space_ends s)
 
 item_field_complete : (edition : Edition) (i : RawItem) (t : List ℕ) → IsFieldText edition item_field i t → whole_field_at edition item_field t ≡ Ok (i, [])
 unfolding whole_field_at give
@@ -57,11 +58,11 @@ item_field_complete edition i t h =
     let o = h.second in
     let end : span is_space o.back ≡ Ok (o.back, []) = ap (span is_space) (sym (append-nil o.back)) ∙ span_complete is_space o.back [] o.second (Apart-nil is_space) in
     ap (whole_field_at edition item_field) (h.text ∙ ap (λ (l : List ℕ). h.front ++ l) o.text)
-    ∙ bind_complete _ _ _ _ _ (span_complete is_space h.front (o.front ++ o.back) h.first (item_no 0x20 edition i o.front o.back refl o.first))
+    ∙ bind_complete _ _ _ _ _ (span_complete is_space h.front (o.front ++ o.back) h.first (item_no space edition i o.front o.back refl o.first))
     ∙ bind_complete _ _ _ _ _ (item_complete edition i o.front o.back o.first (spaces_end o.back o.second)) ∙ bind_complete _ _ _ _ _ end
 
-pub comma_ends : (q : List ℕ) → Apart lengthens_item (0x2c ∷ q)
-comma_ends q = Apart-cons lengthens_item 0x2c q refl
+pub comma_ends : (q : List ℕ) → Apart lengthens_item (comma ∷ q)
+comma_ends q = Apart-cons lengthens_item comma q refl
 
 pub field_complete : (edition : Edition) (kind : FieldKind) (raw : RawField kind) (t : List ℕ) → IsFieldText edition kind raw t → whole_field_at edition kind t ≡ Ok (raw, [])
 unfolding whole_field_at

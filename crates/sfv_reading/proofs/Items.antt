@@ -3,6 +3,7 @@ use Rattle.std.proofs.Common.{◌≡◌, ℕ, ◌≤◌, true, List, [], ◌∷�
 use Rattle.std.specs.Prelude.{flat_map, map}
 use Rattle.std.proofs.lemmas.List.{append-nil, length-append}
 use Rattle.std.proofs.lemmas.Bool.{and_from}
+use Rattle.sfv_spec.specs.Ascii.{semicolon, equals_sign, lower_a}
 use Rattle.sfv_spec.specs.Texts.{Exactly, RunOf}
 use Rattle.sfv_spec.specs.Classes.{is_space, is_key, is_key_start}
 use Rattle.sfv_spec.specs.Values.{Edition, BareValue, boolean, RawParameters}
@@ -27,14 +28,14 @@ pub Sound-key : Reads key_at IsKeyText KeyGoes
 unfolding key_at
 Sound-key = Sound-branch _ _ _ _ _ _
     (λ c e. Sound-span _ _ _ _ _ (λ cs each. Sound-give _ _ _ _ (and_from (is_key_start c) _ e each, ap (λ (l : List ℕ). c ∷ l) (append-nil cs))))
-    (Sound-fail _ _ _ _ (0x61 ∷ []) (0x61 ∷ [], (refl, refl), refl))
+    (Sound-fail _ _ _ _ (lower_a ∷ []) (lower_a ∷ [], (refl, refl), refl))
 
 -- ---- parameters
 
 -- *SP key, and a value, behind the semicolon
-parameter_of : (edition : Edition) (spaces k key t : List ℕ) (v : BareValue) → RunOf is_space spaces → IsKeyText key k → IsValueText edition v t → IsParameterText edition (key, v) (0x3b ∷ (spaces ++ (k ++ t)))
+parameter_of : (edition : Edition) (spaces k key t : List ℕ) (v : BareValue) → RunOf is_space spaces → IsKeyText key k → IsValueText edition v t → IsParameterText edition (key, v) (semicolon ∷ (spaces ++ (k ++ t)))
 parameter_of edition spaces k key t v each is_key is_value = record {
-  front = 0x3b ∷ [];
+  front = semicolon ∷ [];
   back = spaces ++ (k ++ t);
   text = refl;
   first = refl;
@@ -47,14 +48,14 @@ ParameterGoes edition = StepGoes (IsParameterText edition) (Exactly []) paramete
 true_value : (edition : Edition) → IsValueText edition (boolean true) []
 true_value edition = inl (refl, refl)
 
-value_of : (edition : Edition) (v : BareValue) (t : List ℕ) → IsBareText edition v t → IsValueText edition v (0x3d ∷ t)
-value_of edition v t h = inr (record { front = 0x3d ∷ []; back = t; text = refl; first = refl; second = h })
+value_of : (edition : Edition) (v : BareValue) (t : List ℕ) → IsBareText edition v t → IsValueText edition v (equals_sign ∷ t)
+value_of edition v t h = inr (record { front = equals_sign ∷ []; back = t; text = refl; first = refl; second = h })
 
 pub Sound-value : (edition : Edition) → Reads (value_at edition) (IsValueText edition) (Mute (IsValueText edition))
 unfolding value_at
 Sound-value edition = Sound-byte _ _ _ _ _ _
-    (Sound-weaker _ _ _ _ _ _ _ (Sound-bare edition) (λ v t h. value_of edition v t h) (λ u es g. ([], (g.0, subst (λ (l : List ℕ). IsValueText edition g.0 (0x3d ∷ l)) (sym (append-nil u)) (value_of edition g.0 u g.1), g.2)))
-    (λ es g. (0x3d ∷ g.0, (g.1.0, value_of edition g.1.0 g.0 g.1.1, g.1.2))))
+    (Sound-weaker _ _ _ _ _ _ _ (Sound-bare edition) (λ v t h. value_of edition v t h) (λ u es g. ([], (g.0, subst (λ (l : List ℕ). IsValueText edition g.0 (equals_sign ∷ l)) (sym (append-nil u)) (value_of edition g.0 u g.1), g.2)))
+    (λ es g. (equals_sign ∷ g.0, (g.1.0, value_of edition g.1.0 g.0 g.1.1, g.1.2))))
     (Sound-give _ _ _ _ (true_value edition))
 
 -- nothing is visited before the value is read
@@ -67,12 +68,12 @@ Sound-parameter edition = Sound-byte _ _ _ _ _ _
     (Sound-span _ _ _ _ _ (λ spaces each.
     Sound-bind IsKeyText key_at _ _ _ _
     (Sound-weaker _ _ _ _ _ _ _ Sound-key (λ v t h. h)
-    (λ u es g. ([], (Some (g.0, boolean true), subst (λ (l : List ℕ). IsParameterText edition (g.0, boolean true) (0x3b ∷ (spaces ++ l))) refl (parameter_of edition spaces u g.0 [] (boolean true) each g.1 (true_value edition)), none_yet (g.0, boolean true) es g.2)))
-    (λ es g. (0x3b ∷ ([] ++ (g.0 ++ [])), (Some (g.1.0, boolean true), parameter_of edition [] g.0 g.1.0 [] (boolean true) refl g.1.1 (true_value edition), none_yet (g.1.0, boolean true) es g.1.2))))
+    (λ u es g. ([], (Some (g.0, boolean true), subst (λ (l : List ℕ). IsParameterText edition (g.0, boolean true) (semicolon ∷ (spaces ++ l))) refl (parameter_of edition spaces u g.0 [] (boolean true) each g.1 (true_value edition)), none_yet (g.0, boolean true) es g.2)))
+    (λ es g. (semicolon ∷ ([] ++ (g.0 ++ [])), (Some (g.1.0, boolean true), parameter_of edition [] g.0 g.1.0 [] (boolean true) refl g.1.1 (true_value edition), none_yet (g.1.0, boolean true) es g.1.2))))
     (λ k key is_key. Sound-map (value_at edition) (λ v. Some (key, v)) _ _ _
     (Sound-weaker _ _ _ _ _ _ _ (Sound-value edition) (λ v t h. parameter_of edition spaces k key t v each is_key h)
-    (λ u es g. ([], (Some (key, g.0), subst (λ (l : List ℕ). IsParameterText edition (key, g.0) (0x3b ∷ (spaces ++ (k ++ l)))) (sym (append-nil u)) (parameter_of edition spaces k key u g.0 each is_key g.1), none_yet (key, g.0) es g.2)))
-    (λ es g. (0x3b ∷ ([] ++ (k ++ g.0)), (Some (key, g.1.0), parameter_of edition [] k key g.0 g.1.0 refl is_key g.1.1, none_yet (key, g.1.0) es g.1.2)))))))
+    (λ u es g. ([], (Some (key, g.0), subst (λ (l : List ℕ). IsParameterText edition (key, g.0) (semicolon ∷ (spaces ++ (k ++ l)))) (sym (append-nil u)) (parameter_of edition spaces k key u g.0 each is_key g.1), none_yet (key, g.0) es g.2)))
+    (λ es g. (semicolon ∷ ([] ++ (k ++ g.0)), (Some (key, g.1.0), parameter_of edition [] k key g.0 g.1.0 refl is_key g.1.1, none_yet (key, g.1.0) es g.1.2)))))))
     (Sound-give _ _ _ _ refl)
 
 parameter_takes : (edition : Edition) (p : List ℕ × BareValue) (t : List ℕ) → IsParameterText edition p t → 1 ≤ length t

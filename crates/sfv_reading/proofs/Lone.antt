@@ -4,6 +4,7 @@ use Rattle.std.specs.Prelude.{◌==◌}
 use Rattle.std.specs.List.{list_all}
 use Rattle.std.proofs.lemmas.Bool.{and_parts, eqb-true, eqb-false, cases_Bool, true≢false}
 use Rattle.std.proofs.lemmas.List.{length-append, append-nil, length-replicate, nil_from_length}
+use Rattle.sfv_spec.specs.Ascii.{equals_sign}
 use Rattle.sfv_spec.specs.Texts.{RunOf}
 use Rattle.sfv_spec.specs.Classes.{is_one_of}
 use Rattle.sfv_spec.specs.Base64.{symbols}
@@ -49,7 +50,7 @@ left_over_is content none all =
     let size : length content ≡ length s.run + (s.padding + length s.rest) = ap (length {A = ℕ}) s.text ∙ simp (length-append, length-replicate) in
     let whole : length s.rest ≡ 0 = omega (arith, all, v.0, size) in
     let gone : s.rest ≡ [] = nil_from_length s.rest whole in
-    let text : content ≡ s.run ++ replicate s.padding 0x3d = s.text ∙ rw (gone, append-nil) refl in
+    let text : content ≡ s.run ++ replicate s.padding equals_sign = s.text ∙ rw (gone, append-nil) refl in
     let z : 0 + length s.run ≡ length s.run = omega arith in
     let most : s.padding ≤ most_padding (length s.run) = rw z at s.within in
     elim (cases_Bool (length s.run % 4 == 1)) [

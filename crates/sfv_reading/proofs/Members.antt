@@ -1,6 +1,7 @@
 -- What is read as an inner list, as a member of a list or of a dictionary, is one.
 use Rattle.std.proofs.Common.{◌≡◌, ℕ, ◌≤◌, true, List, [], ◌∷◌, ◌++◌, length, Some, None, refl, sym, ap, subst, ◌∙◌, append_assoc, arith, inl, inr}
 use Rattle.std.specs.Prelude.{codes, flat_map}
+use Rattle.sfv_spec.specs.Ascii.{space, left_parenthesis, right_parenthesis, equals_sign}
 use Rattle.sfv_spec.specs.Texts.{Exactly, RunOf, ◌⨾◌}
 use Rattle.sfv_spec.specs.Classes.{is_space}
 use Rattle.sfv_spec.specs.Values.{Edition, boolean, RawParameters, RawItem, RawMember, item}
@@ -38,31 +39,31 @@ IsClosed = Spaces ⨾ Exactly (codes ")")
 abbrev pub IsNextItem : Edition → RawItem → List ℕ → Type 0
 IsNextItem edition i = SomeSpaces ⨾ IsItemText edition i
 
-pub closed : (spaces : List ℕ) → RunOf is_space spaces → IsClosed (spaces ++ 0x29 ∷ [])
-closed spaces each = record { front = spaces; back = 0x29 ∷ []; text = refl; first = each; second = refl }
+pub closed : (spaces : List ℕ) → RunOf is_space spaces → IsClosed (spaces ++ right_parenthesis ∷ [])
+closed spaces each = record { front = spaces; back = right_parenthesis ∷ []; text = refl; first = each; second = refl }
 
-pub next_item : (edition : Edition) (spaces t : List ℕ) (i : RawItem) → RunOf is_space spaces → IsItemText edition i t → IsNextItem edition i (0x20 ∷ (spaces ++ t))
-next_item edition spaces t i each h = record { front = 0x20 ∷ spaces; back = t; text = refl; first = record { front = 0x20 ∷ []; back = spaces; text = refl; first = refl; second = each }; second = h }
+pub next_item : (edition : Edition) (spaces t : List ℕ) (i : RawItem) → RunOf is_space spaces → IsItemText edition i t → IsNextItem edition i (space ∷ (spaces ++ t))
+next_item edition spaces t i each h = record { front = space ∷ spaces; back = t; text = refl; first = record { front = space ∷ []; back = spaces; text = refl; first = refl; second = each }; second = h }
 
 abbrev pub NextItemGoes : Edition → List ℕ → List TreeEvent → Type 0
 NextItemGoes edition = StepGoes (IsNextItem edition) IsClosed inner_item_events
 
-at_bracket : (edition : Edition) → NextItemGoes edition (0x29 ∷ []) []
+at_bracket : (edition : Edition) → NextItemGoes edition (right_parenthesis ∷ []) []
 at_bracket edition = (None, closed [] refl, ([], refl))
 
 pub Sound-next_item : (edition : Edition) → Reads (next_item_at edition) (Step (IsNextItem edition) IsClosed) (NextItemGoes edition)
 unfolding next_item_at
-Sound-next_item edition = Sound-byte 0x20 _ _ _ _ _
+Sound-next_item edition = Sound-byte space _ _ _ _ _
     (Sound-span _ _ _ _ _ (λ spaces each.
     Sound-byte _ _ _ _ _ _
-    (Sound-give _ _ _ _ (closed (0x20 ∷ spaces) each))
+    (Sound-give _ _ _ _ (closed (space ∷ spaces) each))
     (Sound-map (inner_item_at edition) (λ i. Some i) _ _ _
-    (Sound-within (λ u. 0x20 ∷ (spaces ++ u)) (λ es. es) (inner_item_at edition) (IsItemText edition) (InnerItemGoes edition) _ (NextItemGoes edition) (Sound-inner_item edition)
+    (Sound-within (λ u. space ∷ (spaces ++ u)) (λ es. es) (inner_item_at edition) (IsItemText edition) (InnerItemGoes edition) _ (NextItemGoes edition) (Sound-inner_item edition)
     (λ i t h. next_item edition spaces t i each h)
-    (λ u es g. as_it_stands (λ l fs. NextItemGoes edition (0x20 ∷ (spaces ++ l)) fs) u es (Some g.0, next_item edition spaces u g.0 each g.1, g.2))))))
+    (λ u es g. as_it_stands (λ l fs. NextItemGoes edition (space ∷ (spaces ++ l)) fs) u es (Some g.0, next_item edition spaces u g.0 each g.1, g.2))))))
     (Sound-byte _ _ _ _ _ _
     (Sound-give _ _ _ _ (closed [] refl))
-    (Sound-ahead _ _ _ _ _ _ (Sound-fail _ _ _ _ (0x29 ∷ []) (at_bracket edition)) (Sound-fail _ _ _ _ (0x29 ∷ []) (at_bracket edition))))
+    (Sound-ahead _ _ _ _ _ _ (Sound-fail _ _ _ _ (right_parenthesis ∷ []) (at_bracket edition)) (Sound-fail _ _ _ _ (right_parenthesis ∷ []) (at_bracket edition))))
 
 next_item_takes : (edition : Edition) (i : RawItem) (t : List ℕ) → IsNextItem edition i t → 1 ≤ length t
 next_item_takes edition i t h = rw (h.text, h.first.text, h.first.first) (omega arith)
@@ -81,7 +82,7 @@ ItemsGo edition = Goes (IsItems edition) (λ is. flat_map inner_item_events is)
 items_with : (edition : Edition) (spaces s t : List ℕ) (i : RawItem) (is : List RawItem) → RunOf is_space spaces → IsItemText edition i s → Joined (IsNextItem edition) IsClosed is t → IsItems edition (i ∷ is) (spaces ++ (s ++ t))
 items_with edition spaces s t i is each h k = record { front = spaces; back = s ++ t; text = refl; first = each; second = record { front = s; back = t; text = refl; first = h; second = k } }
 
-pub bracket : IsClosed (0x29 ∷ [])
+pub bracket : IsClosed (right_parenthesis ∷ [])
 bracket = closed [] refl
 
 pub Sound-items : (edition : Edition) → Reads (inner_items_at edition) (IsItems edition) (ItemsGo edition)
@@ -92,53 +93,53 @@ Sound-items edition = Sound-ahead _ _ _ _ _ _
     (Sound-give _ _ _ _ (closed spaces each))
     (Sound-bind (IsItemText edition) (inner_item_at edition) _ _ _ _
     (Sound-within (λ u. spaces ++ u) (λ es. es) (inner_item_at edition) (IsItemText edition) (InnerItemGoes edition) _ (ItemsGo edition) (Sound-inner_item edition) (λ v t h. h)
-    (λ u es g. (0x29 ∷ [], (g.0 ∷ [], items_with edition spaces u (0x29 ∷ []) g.0 [] each g.1 bracket, begins_longer (inner_item_events g.0) es [] g.2))))
+    (λ u es g. (right_parenthesis ∷ [], (g.0 ∷ [], items_with edition spaces u (right_parenthesis ∷ []) g.0 [] each g.1 bracket, begins_longer (inner_item_events g.0) es [] g.2))))
     (λ s i h. Sound-led _ _ _ _ _ (Sound-map (many inner_item_events (next_item_at edition)) (λ is. i ∷ is) _ _ _
     (Sound-within (λ u. spaces ++ (s ++ u)) (λ es. inner_item_events i ++ es) _ _ _ _ (ItemsGo edition)
-    (Sound-steps (IsNextItem edition) IsClosed inner_item_events (0x29 ∷ []) bracket (next_item_at edition) (Sound-next_item edition))
+    (Sound-steps (IsNextItem edition) IsClosed inner_item_events (right_parenthesis ∷ []) bracket (next_item_at edition) (Sound-next_item edition))
     (λ is t k. items_with edition spaces s t i is each h k)
     (λ u es g. as_it_stands (λ l fs. ItemsGo edition (spaces ++ (s ++ l)) (inner_item_events i ++ fs)) u es
     (i ∷ g.0, items_with edition spaces s u i g.0 each h g.1, begins_behind (inner_item_events i) (flat_map inner_item_events g.0) es g.2))))))))
-    (Sound-fail _ _ _ _ (0x29 ∷ []) ([], bracket, ([], refl)))
+    (Sound-fail _ _ _ _ (right_parenthesis ∷ []) ([], bracket, ([], refl)))
 
 -- ---- inner lists
 
 -- in the form of the grammar
-pub inner_text : (edition : Edition) (is : List RawItem) (ps : RawParameters) (s t : List ℕ) → IsItems edition is s → IsParametersText edition ps t → IsMemberText edition (inner_of is ps) (0x28 ∷ (s ++ t))
+pub inner_text : (edition : Edition) (is : List RawItem) (ps : RawParameters) (s t : List ℕ) → IsItems edition is s → IsParametersText edition ps t → IsMemberText edition (inner_of is ps) (left_parenthesis ∷ (s ++ t))
 inner_text edition [] ps s t h k = record {
-  front = 0x28 ∷ [];
+  front = left_parenthesis ∷ [];
   back = s ++ t;
   text = refl;
   first = refl;
   second = record {
     front = h.front;
-    back = 0x29 ∷ t;
-    text = ap (λ (l : List ℕ). l ++ t) (h.text ∙ ap (λ (l : List ℕ). h.front ++ l) h.second) ∙ append_assoc h.front (0x29 ∷ []) t;
+    back = right_parenthesis ∷ t;
+    text = ap (λ (l : List ℕ). l ++ t) (h.text ∙ ap (λ (l : List ℕ). h.front ++ l) h.second) ∙ append_assoc h.front (right_parenthesis ∷ []) t;
     first = h.first;
-    second = record { front = []; back = 0x29 ∷ t; text = refl; first = refl; second = record { front = 0x29 ∷ []; back = t; text = refl; first = refl; second = k } };
+    second = record { front = []; back = right_parenthesis ∷ t; text = refl; first = refl; second = record { front = right_parenthesis ∷ []; back = t; text = refl; first = refl; second = k } };
   };
 }
 inner_text edition (i ∷ is) ps s t h k =
     let m = split_joined (IsNextItem edition) IsClosed is h.second.back h.second.second in
     let z = m.second in
-    let whole : s ++ t ≡ h.front ++ (((h.second.front ++ m.front) ++ z.front) ++ (0x29 ∷ t)) =
+    let whole : s ++ t ≡ h.front ++ (((h.second.front ++ m.front) ++ z.front) ++ (right_parenthesis ∷ t)) =
     ap (λ (l : List ℕ). l ++ t) (h.text ∙ ap (λ (l : List ℕ). h.front ++ l) (h.second.text ∙ ap (λ (l : List ℕ). h.second.front ++ l) (m.text ∙ ap (λ (l : List ℕ). m.front ++ l) (z.text ∙ ap (λ (l : List ℕ). z.front ++ l) z.second)))) ∙ simp append_assoc in
     record {
-      front = 0x28 ∷ [];
+      front = left_parenthesis ∷ [];
       back = s ++ t;
       text = refl;
       first = refl;
       second = record {
         front = h.front;
-        back = ((h.second.front ++ m.front) ++ z.front) ++ (0x29 ∷ t);
+        back = ((h.second.front ++ m.front) ++ z.front) ++ (right_parenthesis ∷ t);
         text = whole;
         first = h.first;
         second = record {
           front = (h.second.front ++ m.front) ++ z.front;
-          back = 0x29 ∷ t;
+          back = right_parenthesis ∷ t;
           text = refl;
           first = record { front = h.second.front ++ m.front; back = z.front; text = refl; first = record { front = h.second.front; back = m.front; text = refl; first = h.second.first; second = m.first }; second = z.first };
-          second = record { front = 0x29 ∷ []; back = t; text = refl; first = refl; second = k };
+          second = record { front = right_parenthesis ∷ []; back = t; text = refl; first = refl; second = k };
         };
       };
     }
@@ -150,7 +151,7 @@ inner_all : (is : List RawItem) (ps : RawParameters) → member_events (inner_of
 inner_all is ps = ap (λ (l : List TreeEvent). begins_inner_list ∷ l) (sym (append_assoc (flat_map inner_item_events is) (inner_list_end ∷ []) (parameters_events ps)))
 
 -- all items, and a beginning of the events of the parameters
-behind_items : (edition : Edition) (is : List RawItem) (s : List ℕ) → IsItems edition is s → (u : List ℕ) (es : List TreeEvent) → ParametersGo edition u es → MemberGoes edition (0x28 ∷ (s ++ u)) (begins_inner_list ∷ (closed_events is ++ es))
+behind_items : (edition : Edition) (is : List RawItem) (s : List ℕ) → IsItems edition is s → (u : List ℕ) (es : List TreeEvent) → ParametersGo edition u es → MemberGoes edition (left_parenthesis ∷ (s ++ u)) (begins_inner_list ∷ (closed_events is ++ es))
 behind_items edition is s h u es g = (
   inner_of is g.0,
   inner_text edition is g.0 s u h g.1,
@@ -158,7 +159,7 @@ behind_items edition is s h u es g = (
       (begins_behind (begins_inner_list ∷ []) (closed_events is ++ parameters_events g.0) (closed_events is ++ es) (begins_behind (closed_events is) (parameters_events g.0) es g.2)),
 )
 
-items_go : (edition : Edition) (u : List ℕ) (es : List TreeEvent) → ItemsGo edition u es → MemberGoes edition (0x28 ∷ (u ++ [])) (begins_inner_list ∷ es)
+items_go : (edition : Edition) (u : List ℕ) (es : List TreeEvent) → ItemsGo edition u es → MemberGoes edition (left_parenthesis ∷ (u ++ [])) (begins_inner_list ∷ es)
 items_go edition u es g = (
   inner_of g.0 [],
   inner_text edition g.0 [] u [] g.1 (joining_none (IsParameterText edition)),
@@ -166,14 +167,14 @@ items_go edition u es g = (
       (begins_behind (begins_inner_list ∷ []) (closed_events g.0 ++ parameters_events []) es (begins_longer (closed_events g.0) es (parameters_events []) (begins_longer (flat_map inner_item_events g.0) es (inner_list_end ∷ []) g.2))),
 )
 
-Sound-inner : (edition : Edition) → Sound (inner_at edition) (λ m s. IsMemberText edition m (0x28 ∷ s)) (λ s es. MemberGoes edition (0x28 ∷ s) (begins_inner_list ∷ es)) (λ es. Somewhere (MemberGoes edition) (begins_inner_list ∷ es))
+Sound-inner : (edition : Edition) → Sound (inner_at edition) (λ m s. IsMemberText edition m (left_parenthesis ∷ s)) (λ s es. MemberGoes edition (left_parenthesis ∷ s) (begins_inner_list ∷ es)) (λ es. Somewhere (MemberGoes edition) (begins_inner_list ∷ es))
 unfolding inner_at
 Sound-inner edition = Sound-bind (IsItems edition) (inner_items_at edition) _ _ _ _
-    (Sound-within (λ u. 0x28 ∷ u) (λ es. begins_inner_list ∷ es) (inner_items_at edition) (IsItems edition) (ItemsGo edition) _ (MemberGoes edition) (Sound-items edition) (λ v t h. h) (λ u es g. ([], items_go edition u es g)))
+    (Sound-within (λ u. left_parenthesis ∷ u) (λ es. begins_inner_list ∷ es) (inner_items_at edition) (IsItems edition) (ItemsGo edition) _ (MemberGoes edition) (Sound-items edition) (λ v t h. h) (λ u es g. ([], items_go edition u es g)))
     (λ s is h. Sound-led _ _ _ _ _ (Sound-map (parameters_at edition) (inner_of is) _ _ _
-    (Sound-within (λ u. 0x28 ∷ (s ++ u)) (λ es. begins_inner_list ∷ (closed_events is ++ es)) (parameters_at edition) (IsParametersText edition) (ParametersGo edition) _ (MemberGoes edition) (Sound-parameters edition)
+    (Sound-within (λ u. left_parenthesis ∷ (s ++ u)) (λ es. begins_inner_list ∷ (closed_events is ++ es)) (parameters_at edition) (IsParametersText edition) (ParametersGo edition) _ (MemberGoes edition) (Sound-parameters edition)
     (λ ps t k. inner_text edition is ps s t h k)
-    (λ u es g. as_it_stands (λ l fs. MemberGoes edition (0x28 ∷ (s ++ l)) (begins_inner_list ∷ (closed_events is ++ fs))) u es (behind_items edition is s h u es g)))))
+    (λ u es g. as_it_stands (λ l fs. MemberGoes edition (left_parenthesis ∷ (s ++ l)) (begins_inner_list ∷ (closed_events is ++ fs))) u es (behind_items edition is s h u es g)))))
 
 -- ---- members
 
@@ -204,8 +205,8 @@ KeyedGoes edition = Goes (IsDictionaryMemberText edition) keyed_events
 abbrev pub ValueGoes : Edition → List ℕ → List TreeEvent → Type 0
 ValueGoes edition = Goes (IsMemberValueText edition) member_events
 
-given : (edition : Edition) (m : RawMember) (t : List ℕ) → IsMemberText edition m t → IsMemberValueText edition m (0x3d ∷ t)
-given edition m t h = inl (record { front = 0x3d ∷ []; back = t; text = refl; first = refl; second = h })
+given : (edition : Edition) (m : RawMember) (t : List ℕ) → IsMemberText edition m t → IsMemberValueText edition m (equals_sign ∷ t)
+given edition m t h = inl (record { front = equals_sign ∷ []; back = t; text = refl; first = refl; second = h })
 
 left_out : (edition : Edition) (ps : RawParameters) (t : List ℕ) → IsParametersText edition ps t → IsMemberValueText edition (true_with ps) t
 left_out edition ps t h = inr (ps, refl, h)
@@ -213,8 +214,8 @@ left_out edition ps t h = inr (ps, refl, h)
 pub Sound-member_value : (edition : Edition) → Reads (member_value_at edition) (IsMemberValueText edition) (ValueGoes edition)
 unfolding member_value_at
 Sound-member_value edition = Sound-byte _ _ _ _ _ _
-    (Sound-within (λ u. 0x3d ∷ u) (λ es. es) (member_at edition) (IsMemberText edition) (MemberGoes edition) _ (ValueGoes edition) (Sound-member edition) (λ m t h. given edition m t h)
-    (λ u es g. as_it_stands (λ l fs. ValueGoes edition (0x3d ∷ l) fs) u es (g.0, given edition g.0 u g.1, g.2)))
+    (Sound-within (λ u. equals_sign ∷ u) (λ es. es) (member_at edition) (IsMemberText edition) (MemberGoes edition) _ (ValueGoes edition) (Sound-member edition) (λ m t h. given edition m t h)
+    (λ u es g. as_it_stands (λ l fs. ValueGoes edition (equals_sign ∷ l) fs) u es (g.0, given edition g.0 u g.1, g.2)))
     (Sound-led _ _ _ _ _ (Sound-map (parameters_at edition) true_with _ _ _
     (Sound-within (λ u. u) (λ es. begins_item ∷ bare_item (boolean true) ∷ es) (parameters_at edition) (IsParametersText edition) (ParametersGo edition) _ (ValueGoes edition) (Sound-parameters edition) (λ ps t h. left_out edition ps t h)
     (λ u es g. as_it_stands (λ l fs. ValueGoes edition l (begins_item ∷ bare_item (boolean true) ∷ fs)) u es

@@ -2,6 +2,7 @@
 use Rattle.std.proofs.Common.{◌≡◌, ℕ, ◌+◌, ◌*◌, ◌-◌, ◌^◌, ◌≤◌, Bool, true, false, eqb, leb, ◌||◌, ℤ, List, [], ◌∷◌, ◌++◌, length, Some, Ok, refl, sym, ap, subst, ◌∙◌, append_assoc, arith}
 use Rattle.std.proofs.lemmas.List.{append-nil, nil_from_length}
 use Rattle.std.proofs.lemmas.Bool.{and_parts, or_parts, leb-true, ne_eqb, le-ltb, eqb-true, eqb-false, ltb-false}
+use Rattle.sfv_spec.specs.Ascii.{minus_sign, dot, digit_zero, digit_nine}
 use Rattle.sfv_spec.specs.Texts.{RunOf}
 use Rattle.sfv_spec.specs.Classes.{is_digit}
 use Rattle.sfv_spec.specs.Values.{BareValue, integer, decimal}
@@ -31,27 +32,27 @@ abbrev AtWhole : Bool → List ℕ → BareValue → List ℕ → Type 0
 AtWhole negative whole n u = IsNumber n (Whole negative whole u)
 
 abbrev Fraction : Bool → List ℕ → List ℕ → List ℕ → List ℕ
-Fraction negative whole fraction u = Whole negative whole (0x2e ∷ (fraction ++ u))
+Fraction negative whole fraction u = Whole negative whole (dot ∷ (fraction ++ u))
 
 integer_here : (negative : Bool) (whole : List ℕ) → AreDigits 1 15 whole → IsIntegerText (signed negative (place_value whole)) (Whole negative whole [])
 integer_here negative whole counted = record { negative = negative; digits = whole; counted = counted; text = ap (λ (l : List ℕ). minus_text negative ++ l) (append-nil whole); value = refl }
 
 decimal_here : (negative : Bool) (whole fraction : List ℕ) → AreDigits 1 12 whole → AreDigits 1 3 fraction → IsDecimalText (signed negative (thousandths whole fraction)) (Fraction negative whole fraction [])
-decimal_here negative whole fraction counted counted' = record { negative = negative; whole = whole; fraction = fraction; counted = (counted, counted'); text = ap (λ (l : List ℕ). Whole negative whole (0x2e ∷ l)) (append-nil fraction) ∙ simp append_assoc; value = refl }
+decimal_here negative whole fraction counted counted' = record { negative = negative; whole = whole; fraction = fraction; counted = (counted, counted'); text = ap (λ (l : List ℕ). Whole negative whole (dot ∷ l)) (append-nil fraction) ∙ simp append_assoc; value = refl }
 
 Sound-sign : (W : List ℕ → List TreeEvent → Type 0) (V : List TreeEvent → Type 0) → Sound sign_at (λ n s. s ≡ minus_text n) W V
 unfolding sign_at
-Sound-sign W V = Sound-branch _ _ _ _ _ _ (λ c e. Sound-give _ _ _ _ (ap (λ (b : ℕ). b ∷ []) (eqb-true c 0x2d e))) (Sound-give _ _ _ _ refl)
+Sound-sign W V = Sound-branch _ _ _ _ _ _ (λ c e. Sound-give _ _ _ _ (ap (λ (b : ℕ). b ∷ []) (eqb-true c minus_sign e))) (Sound-give _ _ _ _ refl)
 
 -- W holds of the texts of integers, and V without events; a Decimal is looked for where no Date is
 module _ (dated : Bool) (W : List ℕ → List TreeEvent → Type 0) (V : List TreeEvent → Type 0) (i : (z : ℤ) (t : List ℕ) → IsIntegerText z t → W t []) (d : dated ≡ false → (z : ℤ) (t : List ℕ) → IsDecimalText z t → W t []) (v : V []) where
-  Sound-long : (b : Bool) → dated ≡ b → (negative : Bool) (whole fraction : List ℕ) → AreDigits 1 12 whole → AreDigits 1 3 fraction → Sound (long_at b) (λ o u. Found (AtWhole negative whole) o (0x2e ∷ (fraction ++ u))) (λ u es. W (Fraction negative whole fraction u) es) V
+  Sound-long : (b : Bool) → dated ≡ b → (negative : Bool) (whole fraction : List ℕ) → AreDigits 1 12 whole → AreDigits 1 3 fraction → Sound (long_at b) (λ o u. Found (AtWhole negative whole) o (dot ∷ (fraction ++ u))) (λ u es. W (Fraction negative whole fraction u) es) V
   unfolding long_at
   Sound-long true e negative whole fraction counted counted' = Sound-ruled _ _ _ _ refl v
   Sound-long false e negative whole fraction counted counted' = Sound-fail _ _ _ _ [] (d e _ _ (decimal_here negative whole fraction counted counted'))
 
   Sound-decimal : (negative : Bool) (whole fraction : List ℕ) → AreDigits 1 12 whole → RunOf is_digit fraction → length fraction ≤ 3
-      → Sound (decimal_at dated negative whole fraction) (λ o u. Found (AtWhole negative whole) o (0x2e ∷ (fraction ++ u))) (λ u es. W (Fraction negative whole fraction u) es) V
+      → Sound (decimal_at dated negative whole fraction) (λ o u. Found (AtWhole negative whole) o (dot ∷ (fraction ++ u))) (λ u es. W (Fraction negative whole fraction u) es) V
   unfolding decimal_at
   Sound-decimal negative whole fraction counted each most =
       Sound-cond (eqb (length fraction) 0) _ _ _ _ _ (λ e. Sound-give _ _ _ _ tt)
@@ -59,7 +60,7 @@ module _ (dated : Bool) (W : List ℕ → List TreeEvent → Type 0) (V : List T
       let counted' : AreDigits 1 3 fraction = (some, most, each) in
       Sound-ahead _ _ _ _ _ _ (Sound-long dated refl negative whole fraction counted counted') (Sound-give _ _ _ _ (decimal_here negative whole fraction counted counted')))
 
-  Sound-fraction : (negative : Bool) (whole : List ℕ) → AreDigits 1 12 whole → Sound (fraction_at dated negative whole) (λ o u. Found (AtWhole negative whole) o (0x2e ∷ u)) (λ u es. W (Whole negative whole (0x2e ∷ u)) es) V
+  Sound-fraction : (negative : Bool) (whole : List ℕ) → AreDigits 1 12 whole → Sound (fraction_at dated negative whole) (λ o u. Found (AtWhole negative whole) o (dot ∷ u)) (λ u es. W (Whole negative whole (dot ∷ u)) es) V
   unfolding fraction_at
   Sound-fraction negative whole counted = Sound-up_to _ _ _ _ _ _ (λ fraction each most. Sound-decimal negative whole fraction counted each most)
 
@@ -67,7 +68,7 @@ module _ (dated : Bool) (W : List ℕ → List TreeEvent → Type 0) (V : List T
   unfolding point_at
   Sound-point negative whole counted =
       Sound-back _ _ _ _ _ refl v (Sound-branch _ _ _ _ _ _
-      (λ c is. subst (λ (c : ℕ). Sound (fraction_at dated negative whole) (λ o u. Found (AtWhole negative whole) o (c ∷ u)) (λ u es. W (Whole negative whole (c ∷ u)) es) V) (sym (eqb-true c 0x2e is)) (Sound-fraction negative whole counted))
+      (λ c is. subst (λ (c : ℕ). Sound (fraction_at dated negative whole) (λ o u. Found (AtWhole negative whole) o (c ∷ u)) (λ u es. W (Whole negative whole (c ∷ u)) es) V) (sym (eqb-true c dot is)) (Sound-fraction negative whole counted))
       (Sound-give _ _ _ _ tt))
 
   Sound-whole : (negative : Bool) (whole : List ℕ) → RunOf is_digit whole → length whole ≤ 15 → Sound (whole_at dated negative whole) (AtWhole negative whole) (λ u es. W (Whole negative whole u) es) V
@@ -75,7 +76,7 @@ module _ (dated : Bool) (W : List ℕ → List TreeEvent → Type 0) (V : List T
   Sound-whole negative whole each most =
       Sound-cond _ _ _ _ _ _
       (λ e. let nothing : whole ≡ [] = nil_from_length whole (eqb-true _ _ e) in
-      Sound-fail _ _ _ _ (0x30 ∷ []) (rw nothing (i (signed negative 0) (Whole negative (0x30 ∷ []) []) (integer_here negative (0x30 ∷ []) (omega arith, omega arith, refl)))))
+      Sound-fail _ _ _ _ (digit_zero ∷ []) (rw nothing (i (signed negative 0) (Whole negative (digit_zero ∷ []) []) (integer_here negative (digit_zero ∷ []) (omega arith, omega arith, refl)))))
       (λ e. let some : 1 ≤ length whole = omega (arith, eqb-false _ _ e) in
       let counted : AreDigits 1 15 whole = (some, most, each) in
       let here = integer_here negative whole counted in
@@ -102,27 +103,27 @@ Local-number dated = search (local_rules, Local-long) depth 40
 
 -- ---- a number is read again
 
-pub digit_within : (b : ℕ) → is_digit b ≡ true → (0x30 ≤ b) × (b ≤ 0x39)
-digit_within b e = let h = and_parts (leb 0x30 b) (leb b 0x39) e in (leb-true 0x30 b h.0, leb-true b 0x39 h.1)
+pub digit_within : (b : ℕ) → is_digit b ≡ true → (digit_zero ≤ b) × (b ≤ digit_nine)
+digit_within b e = let h = and_parts (leb digit_zero b) (leb b digit_nine) e in (leb-true digit_zero b h.0, leb-true b digit_nine h.1)
 
 -- neither a digit nor a point, which would go on
 abbrev pub goes_on : ℕ → Bool
-goes_on b = is_digit b || eqb b 0x2e
+goes_on b = is_digit b || eqb b dot
 
 pub digit_apart : (q : List ℕ) → Apart goes_on q → Apart is_digit q
-digit_apart q h = record { apart = λ c e. (or_parts (is_digit c) (eqb c 0x2e) (h.apart c e)).0 }
+digit_apart q h = record { apart = λ c e. (or_parts (is_digit c) (eqb c dot) (h.apart c e)).0 }
 
-point_apart : (q : List ℕ) → Apart goes_on q → Apart (byte 0x2e) q
-point_apart q h = record { apart = λ c e. (or_parts (is_digit c) (eqb c 0x2e) (h.apart c e)).1 }
+point_apart : (q : List ℕ) → Apart goes_on q → Apart (byte dot) q
+point_apart q h = record { apart = λ c e. (or_parts (is_digit c) (eqb c dot) (h.apart c e)).1 }
 
-minus_apart : (ds q : List ℕ) → AreDigits 1 15 ds → Apart (byte 0x2d) (ds ++ q)
+minus_apart : (ds q : List ℕ) → AreDigits 1 15 ds → Apart (byte minus_sign) (ds ++ q)
 minus_apart [] q counted = absurd (omega (arith, counted.0))
-minus_apart (d ∷ ds) q counted = Apart-cons (byte 0x2d) d (ds ++ q) (ne_eqb d 0x2d (λ e. omega (arith, digit_within d (and_parts (is_digit d) _ counted.2).0)))
+minus_apart (d ∷ ds) q counted = Apart-cons (byte minus_sign) d (ds ++ q) (ne_eqb d minus_sign (λ e. omega (arith, digit_within d (and_parts (is_digit d) _ counted.2).0)))
 
-sign_complete : (negative : Bool) (q : List ℕ) → Apart (byte 0x2d) q → sign_at (minus_text negative ++ q) ≡ Ok (negative, q)
+sign_complete : (negative : Bool) (q : List ℕ) → Apart (byte minus_sign) q → sign_at (minus_text negative ++ q) ≡ Ok (negative, q)
 unfolding sign_at give
-sign_complete true q h = branch_take (byte 0x2d) (λ _. give true) (give false) 0x2d q refl
-sign_complete false q h = branch_past (byte 0x2d) (λ _. give true) (give false) q h
+sign_complete true q h = branch_take (byte minus_sign) (λ _. give true) (give false) minus_sign q refl
+sign_complete false q h = branch_past (byte minus_sign) (λ _. give true) (give false) q h
 
 -- the sign and the whole part
 pub start_complete : (dated negative : Bool) (whole q : List ℕ) → AreDigits 1 15 whole → Apart is_digit q → number_at dated (minus_text negative ++ (whole ++ q)) ≡ whole_at dated negative whole q
@@ -149,11 +150,11 @@ fraction_complete dated negative whole fraction q counted h =
 pub decimal_complete : (dated : Bool) (t q : List ℕ) (z : ℤ) → IsDecimalText z t → Apart is_digit q → number_at dated (t ++ q) ≡ Ok (decimal z, q)
 unfolding whole_at point_at
 decimal_complete dated t q z i h =
-    let all : t ++ q ≡ minus_text i.negative ++ (i.whole ++ 0x2e ∷ (i.fraction ++ q)) = ap (λ (l : List ℕ). l ++ q) i.text ∙ simp append_assoc in
+    let all : t ++ q ≡ minus_text i.negative ++ (i.whole ++ dot ∷ (i.fraction ++ q)) = ap (λ (l : List ℕ). l ++ q) i.text ∙ simp append_assoc in
     let counted : AreDigits 1 15 i.whole = (i.counted.0.0, omega (arith, i.counted.0.1), i.counted.0.2) in
-    let point : Apart is_digit (0x2e ∷ (i.fraction ++ q)) = Apart-cons is_digit 0x2e _ refl in
+    let point : Apart is_digit (dot ∷ (i.fraction ++ q)) = Apart-cons is_digit dot _ refl in
     ap (number_at dated) all
-    ∙ start_complete dated i.negative i.whole (0x2e ∷ (i.fraction ++ q)) counted point
-    ∙ rw (some_eqb (length i.whole) counted.0) (ahead_past _ _ _ (0x2e ∷ (i.fraction ++ q)) point ∙ ahead_take _ _ _ 0x2e (i.fraction ++ q) refl
-    ∙ rw (le-ltb 12 (length i.whole) i.counted.0.1) (back_complete _ _ _ _ _ (branch_take _ _ _ 0x2e (i.fraction ++ q) refl ∙ fraction_complete dated i.negative i.whole i.fraction q i.counted.1 h)
+    ∙ start_complete dated i.negative i.whole (dot ∷ (i.fraction ++ q)) counted point
+    ∙ rw (some_eqb (length i.whole) counted.0) (ahead_past _ _ _ (dot ∷ (i.fraction ++ q)) point ∙ ahead_take _ _ _ dot (i.fraction ++ q) refl
+    ∙ rw (le-ltb 12 (length i.whole) i.counted.0.1) (back_complete _ _ _ _ _ (branch_take _ _ _ dot (i.fraction ++ q) refl ∙ fraction_complete dated i.negative i.whole i.fraction q i.counted.1 h)
     ∙ ap (λ (z : ℤ). Ok (decimal z, q)) (sym i.value)))

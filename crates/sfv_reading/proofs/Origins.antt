@@ -1,6 +1,7 @@
 -- A fault whose place has a rule of its own is that of a bare item, or a comma's.
 use Rattle.std.proofs.Common.{ℕ, Bool, List, [], ◌∷◌, ◌++◌, Option, refl, sym, ap, ◌∙◌, append_assoc}
 use Rattle.std.specs.Prelude.{flat_map}
+use Rattle.sfv_spec.specs.Ascii.{right_parenthesis}
 use Rattle.sfv_spec.specs.Values.{Edition}
 use Rattle.sfv_spec.specs.Events.{TreeEvent}
 use Rattle.sfv_reading.specs.Judgements.{Sound}
@@ -87,7 +88,7 @@ comes_items edition = Rules-ahead _ _ _ _
     (comes_bind edition _ _ _ (inner_item_at edition) _ (Sound-inner_item edition) (comes_inner_item edition)
     (λ i. comes_led edition _ _
     (comes_bind edition _ _ _ (many inner_item_events (next_item_at edition)) _
-    (Sound-steps (IsNextItem edition) IsClosed inner_item_events (0x29 ∷ []) bracket (next_item_at edition) (Sound-next_item edition))
+    (Sound-steps (IsNextItem edition) IsClosed inner_item_events (right_parenthesis ∷ []) bracket (next_item_at edition) (Sound-next_item edition))
     (comes_many edition _ _ _ _ inner_item_events (next_item_at edition) (Consumes-next_item edition) (Sound-next_item edition) (comes_next_item edition)) (λ is. Rules-give _ _))))))
     (Rules-fail _ _)
 

@@ -4,6 +4,7 @@ use Rattle.std.specs.Prelude.{◌==◌}
 use Rattle.std.specs.List.{concat, AllZip}
 use Rattle.std.proofs.lemmas.Bool.{and_parts, and_left, ne_eqb, or_parts, not-true, both_ways}
 use Rattle.std.proofs.lemmas.List.{append-nil}
+use Rattle.sfv_spec.specs.Ascii.{double_quote, percent_sign, backslash}
 use Rattle.sfv_spec.specs.Texts.{RunOf}
 use Rattle.sfv_spec.specs.Classes.{is_string_byte, is_lower_hexadecimal}
 use Rattle.sfv_spec.specs.Strings.{is_escaped_in_string, is_plain_in_display, IsStringPiece, IsDisplayPiece}
@@ -37,15 +38,15 @@ pub step_string : (c : ℕ) (p t : List ℕ) → IsStringPiece c p → string_fr
 unfolding string_from
 step_string c p t (inl h) =
     let a = and_parts (is_string_byte c) (not (is_escaped_in_string c)) h.0 in
-    let o = or_parts (c == 0x22) (c == 0x5c) (not-true (is_escaped_in_string c) a.1) in
+    let o = or_parts (c == double_quote) (c == backslash) (not-true (is_escaped_in_string c) a.1) in
     ap (λ (l : List ℕ). string_from false (l ++ t)) h.1 ∙ rw (o.0, o.1, a.0) refl
 step_string c p t (inr h) = ap (λ (l : List ℕ). string_from false (l ++ t)) h.1 ∙ rw h.0 refl
 
 pub step_display : (c : ℕ) (p t : List ℕ) → IsDisplayPiece c p → pieces_from outside (p ++ t) ≡ behind_bytes (c ∷ []) (pieces_from outside t)
 unfolding pieces_from
 step_display c p t (inl h) =
-    let a = and_parts (is_string_byte c) (not ((c == 0x25) || (c == 0x22))) h.0 in
-    let o = or_parts (c == 0x25) (c == 0x22) (not-true ((c == 0x25) || (c == 0x22)) a.1) in
+    let a = and_parts (is_string_byte c) (not ((c == percent_sign) || (c == double_quote))) h.0 in
+    let o = or_parts (c == percent_sign) (c == double_quote) (not-true ((c == percent_sign) || (c == double_quote)) a.1) in
     ap (λ (l : List ℕ). pieces_from outside (l ++ t)) h.1 ∙ rw (o.1, o.0, a.0) refl
 step_display c p t (inr h) =
     let a = and_parts (is_lower_hexadecimal h.0) (is_lower_hexadecimal h.1) h.2 in
@@ -67,11 +68,11 @@ past_display = past_pieces IsDisplayPiece (pieces_from outside) step_display
 
 -- ---- the closing quote, and the faults
 
-pub quote_string : (t : List ℕ) → string_from false (0x22 ∷ t) ≡ Ok ([], t)
+pub quote_string : (t : List ℕ) → string_from false (double_quote ∷ t) ≡ Ok ([], t)
 unfolding string_from
 quote_string t = refl
 
-pub quote_display : (t : List ℕ) → pieces_from outside (0x22 ∷ t) ≡ Ok ([], t)
+pub quote_display : (t : List ℕ) → pieces_from outside (double_quote ∷ t) ≡ Ok ([], t)
 unfolding pieces_from
 quote_display t = refl
 
@@ -81,13 +82,13 @@ not_byte w n h k = ne_eqb w n (λ e. both_ways (is_string_byte n) (subst (λ (c 
 
 wrong_string : (w : ℕ) (more : List ℕ) → is_string_byte w ≡ false → string_from false (w ∷ more) ≡ Err (at_reach invalid_string_character (w ∷ more))
 unfolding string_from
-wrong_string w more h = rw (not_byte w 0x22 h refl, not_byte w 0x5c h refl, h) refl
+wrong_string w more h = rw (not_byte w double_quote h refl, not_byte w backslash h refl, h) refl
 
 wrong_display : (w : ℕ) (more : List ℕ) → is_string_byte w ≡ false → pieces_from outside (w ∷ more) ≡ Err (by_rule invalid_display_string_character (w ∷ more))
 unfolding pieces_from
-wrong_display w more h = rw (not_byte w 0x22 h refl, not_byte w 0x25 h refl, h) refl
+wrong_display w more h = rw (not_byte w double_quote h refl, not_byte w percent_sign h refl, h) refl
 
-wrong_escape : (w : ℕ) (more : List ℕ) → is_escaped_in_string w ≡ false → string_from false (0x5c ∷ w ∷ more) ≡ Err (at_reach invalid_escape_sequence (w ∷ more))
+wrong_escape : (w : ℕ) (more : List ℕ) → is_escaped_in_string w ≡ false → string_from false (backslash ∷ w ∷ more) ≡ Err (at_reach invalid_escape_sequence (w ∷ more))
 unfolding string_from
 wrong_escape w more h = rw h refl
 
@@ -99,13 +100,13 @@ string_stops invalid_escape_sequence left there h = rw (h.2, h.3) (wrong_escape 
 string_stops invalid_string_character left there h = rw (h.2, h.3) (wrong_string h.0 h.1 h.4)
 string_stops _ left there h = absurd h
 
-cut_percent : (digits : List ℕ) → RunOf is_lower_hexadecimal digits → length digits ≤ 1 → pieces_from outside (0x25 ∷ digits) ≡ Err (by_rule unterminated_escape_sequence [])
+cut_percent : (digits : List ℕ) → RunOf is_lower_hexadecimal digits → length digits ≤ 1 → pieces_from outside (percent_sign ∷ digits) ≡ Err (by_rule unterminated_escape_sequence [])
 unfolding pieces_from
 cut_percent [] h l = refl
 cut_percent (d ∷ []) h l = rw (and_parts (is_lower_hexadecimal d) true h).0 refl
 cut_percent (d ∷ e ∷ ds) h l = absurd (omega (arith, l))
 
-wrong_percent : (digits : List ℕ) (w : ℕ) (more : List ℕ) → RunOf is_lower_hexadecimal digits → length digits ≤ 1 → is_lower_hexadecimal w ≡ false → pieces_from outside (0x25 ∷ (digits ++ w ∷ more)) ≡ Err (by_rule invalid_escape_sequence (w ∷ more))
+wrong_percent : (digits : List ℕ) (w : ℕ) (more : List ℕ) → RunOf is_lower_hexadecimal digits → length digits ≤ 1 → is_lower_hexadecimal w ≡ false → pieces_from outside (percent_sign ∷ (digits ++ w ∷ more)) ≡ Err (by_rule invalid_escape_sequence (w ∷ more))
 unfolding pieces_from
 wrong_percent [] w more h l n = rw n refl
 wrong_percent (d ∷ []) w more h l n = rw ((and_parts (is_lower_hexadecimal d) true h).0, n) refl
@@ -135,15 +136,15 @@ same_first w more (c ∷ r) e = let same : c ≡ w = cc in (r, ap (λ (c : ℕ).
 
 pub string_stops_whole : (k : SyntaxFault) (left there : List ℕ) → StringStops k left there → StopsWhole StringStops k left there
 string_stops_whole unterminated_string left there h = ([], h.0 ∙ sym h.1, λ r e. let n : r ≡ [] = no_first r (e ∙ ap first h.1) in (n, n))
-string_stops_whole unterminated_escape_sequence left there h = (0x5c ∷ [], h.0 ∙ ap (λ (l : List ℕ). 0x5c ∷ l) (sym h.1), λ r e. let n : r ≡ [] = no_first r (e ∙ ap first h.1) in (ap (λ (l : List ℕ). 0x5c ∷ l) n, n))
-string_stops_whole invalid_escape_sequence left there h = (0x5c ∷ [], h.2 ∙ ap (λ (l : List ℕ). 0x5c ∷ l) (sym h.3), λ r e. let s = same_first h.0 h.1 r (e ∙ ap first h.3) in (h.0, s.0, ap (λ (l : List ℕ). 0x5c ∷ l) s.1, s.1, h.4))
+string_stops_whole unterminated_escape_sequence left there h = (backslash ∷ [], h.0 ∙ ap (λ (l : List ℕ). backslash ∷ l) (sym h.1), λ r e. let n : r ≡ [] = no_first r (e ∙ ap first h.1) in (ap (λ (l : List ℕ). backslash ∷ l) n, n))
+string_stops_whole invalid_escape_sequence left there h = (backslash ∷ [], h.2 ∙ ap (λ (l : List ℕ). backslash ∷ l) (sym h.3), λ r e. let s = same_first h.0 h.1 r (e ∙ ap first h.3) in (h.0, s.0, ap (λ (l : List ℕ). backslash ∷ l) s.1, s.1, h.4))
 string_stops_whole invalid_string_character left there h = ([], h.2 ∙ sym h.3, λ r e. let s = same_first h.0 h.1 r (e ∙ ap first h.3) in (h.0, s.0, s.1, s.1, h.4))
 string_stops_whole _ left there h = absurd h
 
 pub display_stops_whole : (k : SyntaxFault) (left there : List ℕ) → DisplayStops k left there → StopsWhole DisplayStops k left there
 display_stops_whole unterminated_display_string left there h = ([], h.0 ∙ sym h.1, λ r e. let n : r ≡ [] = no_first r (e ∙ ap first h.1) in (n, n))
-display_stops_whole unterminated_escape_sequence left there h = (0x25 ∷ h.0, rw (h.1, h.2) (ap (λ (l : List ℕ). 0x25 ∷ l) (sym (append-nil h.0))), λ r e. let n : r ≡ [] = no_first r (e ∙ ap first h.2) in (h.0, rw n (ap (λ (l : List ℕ). 0x25 ∷ l) (append-nil h.0)), n, h.3, h.4))
-display_stops_whole invalid_escape_sequence left there h = (0x25 ∷ h.0, rw (h.3, h.4) refl, λ r e. let s = same_first h.1 h.2 r (e ∙ ap first h.4) in (h.0, h.1, s.0, ap (λ (l : List ℕ). 0x25 ∷ (h.0 ++ l)) s.1, s.1, h.5, h.6, h.7))
+display_stops_whole unterminated_escape_sequence left there h = (percent_sign ∷ h.0, rw (h.1, h.2) (ap (λ (l : List ℕ). percent_sign ∷ l) (sym (append-nil h.0))), λ r e. let n : r ≡ [] = no_first r (e ∙ ap first h.2) in (h.0, rw n (ap (λ (l : List ℕ). percent_sign ∷ l) (append-nil h.0)), n, h.3, h.4))
+display_stops_whole invalid_escape_sequence left there h = (percent_sign ∷ h.0, rw (h.3, h.4) refl, λ r e. let s = same_first h.1 h.2 r (e ∙ ap first h.4) in (h.0, h.1, s.0, ap (λ (l : List ℕ). percent_sign ∷ (h.0 ++ l)) s.1, s.1, h.5, h.6, h.7))
 display_stops_whole invalid_display_string_character left there h = ([], h.2 ∙ sym h.3, λ r e. let s = same_first h.0 h.1 r (e ∙ ap first h.3) in (h.0, s.0, s.1, s.1, h.4))
 display_stops_whole _ left there h = absurd h
 
@@ -158,7 +159,7 @@ display_ruled _ left there h = absurd h
 
 unfoldable pub closed : Place → List ℕ → Bool
 closed outside [] = true
-closed outside (c ∷ r) = cond (c == 0x25) (closed percent r) (is_plain_in_display c && closed outside r)
+closed outside (c ∷ r) = cond (c == percent_sign) (closed percent r) (is_plain_in_display c && closed outside r)
 closed percent [] = false
 closed percent (c ∷ r) = is_lower_hexadecimal c && closed (digit c) r
 closed (digit d) [] = false
@@ -167,8 +168,8 @@ closed (digit d) (c ∷ r) = is_lower_hexadecimal c && closed outside r
 closed_piece : (c : ℕ) (p t : List ℕ) → IsDisplayPiece c p → closed outside (p ++ t) ≡ closed outside t
 unfolding closed
 closed_piece c p t (inl h) =
-    let a = and_parts (is_string_byte c) (not ((c == 0x25) || (c == 0x22))) h.0 in
-    let o = or_parts (c == 0x25) (c == 0x22) (not-true ((c == 0x25) || (c == 0x22)) a.1) in
+    let a = and_parts (is_string_byte c) (not ((c == percent_sign) || (c == double_quote))) h.0 in
+    let o = or_parts (c == percent_sign) (c == double_quote) (not-true ((c == percent_sign) || (c == double_quote)) a.1) in
     ap (λ (l : List ℕ). closed outside (l ++ t)) h.1 ∙ rw (o.0, o.1, a.0) refl
 closed_piece c p t (inr h) =
     let a = and_parts (is_lower_hexadecimal h.0) (is_lower_hexadecimal h.1) h.2 in
@@ -188,14 +189,14 @@ closed_pieces bytes pieces h = ap (closed outside) (sym (append-nil (concat piec
 abbrev pub IsStuck : List ℕ → Type 0
 IsStuck left = (n : ℕ) → suc n ≤ length left → closed outside (take (suc n) left) ≡ false
 
-stuck_byte : (c : ℕ) (r : List ℕ) → (c == 0x25) ≡ false → is_plain_in_display c ≡ false → IsStuck (c ∷ r)
+stuck_byte : (c : ℕ) (r : List ℕ) → (c == percent_sign) ≡ false → is_plain_in_display c ≡ false → IsStuck (c ∷ r)
 unfolding closed
 stuck_byte c r h k n l = rw (k, h) refl
 
-pub stuck_quote : (r : List ℕ) → IsStuck (0x22 ∷ r)
-stuck_quote r = stuck_byte 0x22 r refl refl
+pub stuck_quote : (r : List ℕ) → IsStuck (double_quote ∷ r)
+stuck_quote r = stuck_byte double_quote r refl refl
 
-stuck_cut : (digits : List ℕ) → RunOf is_lower_hexadecimal digits → length digits ≤ 1 → IsStuck (0x25 ∷ digits)
+stuck_cut : (digits : List ℕ) → RunOf is_lower_hexadecimal digits → length digits ≤ 1 → IsStuck (percent_sign ∷ digits)
 unfolding closed
 stuck_cut [] h l zero m = refl
 stuck_cut [] h l (suc n) m = refl
@@ -204,7 +205,7 @@ stuck_cut (d ∷ []) h l (suc zero) m = rw (and_parts (is_lower_hexadecimal d) t
 stuck_cut (d ∷ []) h l (suc (suc n)) m = absurd (omega (arith, m))
 stuck_cut (d ∷ e ∷ ds) h l n m = absurd (omega (arith, l))
 
-stuck_wrong : (digits : List ℕ) (w : ℕ) (more : List ℕ) → RunOf is_lower_hexadecimal digits → length digits ≤ 1 → is_lower_hexadecimal w ≡ false → IsStuck (0x25 ∷ (digits ++ w ∷ more))
+stuck_wrong : (digits : List ℕ) (w : ℕ) (more : List ℕ) → RunOf is_lower_hexadecimal digits → length digits ≤ 1 → is_lower_hexadecimal w ≡ false → IsStuck (percent_sign ∷ (digits ++ w ∷ more))
 unfolding closed
 stuck_wrong [] w more h l k zero m = refl
 stuck_wrong [] w more h l k (suc n) m = rw k refl
@@ -217,5 +218,5 @@ pub stuck : (k : SyntaxFault) (left there : List ℕ) → DisplayStops k left th
 stuck unterminated_display_string left there h = subst IsStuck (sym h.0) (λ n m. absurd (omega (arith, m)))
 stuck unterminated_escape_sequence left there h = subst IsStuck (sym h.1) (stuck_cut h.0 h.3 h.4)
 stuck invalid_escape_sequence left there h = subst IsStuck (sym h.3) (stuck_wrong h.0 h.1 h.2 h.5 h.6 h.7)
-stuck invalid_display_string_character left there h = subst IsStuck (sym h.2) (stuck_byte h.0 h.1 (not_byte h.0 0x25 h.4 refl) (and_left (is_string_byte h.0) _ h.4))
+stuck invalid_display_string_character left there h = subst IsStuck (sym h.2) (stuck_byte h.0 h.1 (not_byte h.0 percent_sign h.4 refl) (and_left (is_string_byte h.0) _ h.4))
 stuck _ left there h = absurd h

@@ -7,6 +7,7 @@ use Rattle.std.specs.Str.Lossy.{utf8_valid_len}
 use Rattle.std.proofs.lemmas.Bool.{both_ways, true≢false}
 use Rattle.std.proofs.lemmas.List.{append-nil}
 use Rattle.std.proofs.lemmas.Str.{IsUtf8-from_is_utf8, is_utf8-from_IsUtf8}
+use Rattle.sfv_spec.specs.Ascii.{double_quote, backslash}
 use Rattle.sfv_spec.specs.Strings.{IsStringPiece, IsDisplayPiece}
 use Rattle.sfv_spec.specs.Faults.{SyntaxFault, invalid_string_character, unterminated_string, unterminated_escape_sequence, invalid_escape_sequence, invalid_utf8_in_display_string}
 use Rattle.sfv_reading.specs.Reader.{first, Fault, Answer, Reader, placed, at_reach, by_rule}
@@ -27,8 +28,8 @@ placed_by exact e x n = ap (λ (b : Bool). placed b e.kind e.rest) (sym x) ∙ a
 -- ---- strings
 
 -- a beginning up to a fault can be completed
-completed : (bytes : List ℕ) (pieces : List (List ℕ)) (p : List ℕ) → AllZip IsStringPiece bytes pieces → p ≡ concat pieces → IsStringEnd bytes (p ++ 0x22 ∷ [])
-completed bytes pieces p h e = record { front = p; back = 0x22 ∷ []; text = refl; first = record { pieces = pieces; text = e; each = h }; second = refl }
+completed : (bytes : List ℕ) (pieces : List (List ℕ)) (p : List ℕ) → AllZip IsStringPiece bytes pieces → p ≡ concat pieces → IsStringEnd bytes (p ++ double_quote ∷ [])
+completed bytes pieces p h e = record { front = p; back = double_quote ∷ []; text = refl; first = record { pieces = pieces; text = e; each = h }; second = refl }
 
 -- one more piece at the end
 pub zip_more : (P : ℕ → List ℕ → Type 0) (bytes : List ℕ) (pieces : List (List ℕ)) (c : ℕ) (p : List ℕ) → AllZip P bytes pieces → P c p → AllZip P (bytes ++ c ∷ []) (pieces ++ p ∷ [])
@@ -41,27 +42,27 @@ pub concat_more : (pieces : List (List ℕ)) (p : List ℕ) → concat (pieces +
 concat_more [] p = append-nil p
 concat_more (x ∷ pieces) p = ap (λ (l : List ℕ). x ++ l) (concat_more pieces p) ∙ sym (append_assoc x (concat pieces) p)
 
-escape_completed : (bytes : List ℕ) (pieces : List (List ℕ)) → AllZip IsStringPiece bytes pieces → IsStringEnd (bytes ++ 0x22 ∷ []) (concat pieces ++ 0x5c ∷ [] ++ 0x22 ∷ 0x22 ∷ [])
+escape_completed : (bytes : List ℕ) (pieces : List (List ℕ)) → AllZip IsStringPiece bytes pieces → IsStringEnd (bytes ++ double_quote ∷ []) (concat pieces ++ backslash ∷ [] ++ double_quote ∷ double_quote ∷ [])
 escape_completed bytes pieces h = record {
-  front = concat pieces ++ 0x5c ∷ 0x22 ∷ [];
-  back = 0x22 ∷ [];
+  front = concat pieces ++ backslash ∷ double_quote ∷ [];
+  back = double_quote ∷ [];
   text = simp append_assoc;
-  first = record { pieces = pieces ++ (0x5c ∷ 0x22 ∷ []) ∷ []; text = sym (concat_more pieces (0x5c ∷ 0x22 ∷ [])); each = zip_more IsStringPiece bytes pieces 0x22 (0x5c ∷ 0x22 ∷ []) h (inr (refl, refl)) };
+  first = record { pieces = pieces ++ (backslash ∷ double_quote ∷ []) ∷ []; text = sym (concat_more pieces (backslash ∷ double_quote ∷ [])); each = zip_more IsStringPiece bytes pieces double_quote (backslash ∷ double_quote ∷ []) h (inr (refl, refl)) };
   second = refl;
 }
 
 string_completed : (k : SyntaxFault) (left there : List ℕ) (t : List ℕ) (bytes : List ℕ) (pieces : List (List ℕ)) → t ≡ concat pieces ++ left → AllZip IsStringPiece bytes pieces → StringStops k left there → GoesOn (Mute IsStringEnd) t (at_reach k there)
-string_completed unterminated_string left there t bytes pieces e h s = record { front = concat pieces; more = 0x22 ∷ []; parts = rw (e, s.0, s.1) refl; holds = (bytes, completed bytes pieces (concat pieces) h refl, refl) }
-string_completed unterminated_escape_sequence left there t bytes pieces e h s = record { front = concat pieces ++ 0x5c ∷ []; more = 0x22 ∷ 0x22 ∷ []; parts = rw (e, s.0, s.1) (sym (append-nil _)); holds = (bytes ++ 0x22 ∷ [], escape_completed bytes pieces h, refl) }
-string_completed invalid_escape_sequence left there t bytes pieces e h s = record { front = concat pieces ++ 0x5c ∷ []; more = 0x22 ∷ 0x22 ∷ []; parts = rw (e, s.2, s.3) (sym (append_assoc (concat pieces) (0x5c ∷ []) (s.0 ∷ s.1))); holds = (bytes ++ 0x22 ∷ [], escape_completed bytes pieces h, refl) }
-string_completed invalid_string_character left there t bytes pieces e h s = record { front = concat pieces; more = 0x22 ∷ []; parts = rw (e, s.2, s.3) refl; holds = (bytes, completed bytes pieces (concat pieces) h refl, refl) }
+string_completed unterminated_string left there t bytes pieces e h s = record { front = concat pieces; more = double_quote ∷ []; parts = rw (e, s.0, s.1) refl; holds = (bytes, completed bytes pieces (concat pieces) h refl, refl) }
+string_completed unterminated_escape_sequence left there t bytes pieces e h s = record { front = concat pieces ++ backslash ∷ []; more = double_quote ∷ double_quote ∷ []; parts = rw (e, s.0, s.1) (sym (append-nil _)); holds = (bytes ++ double_quote ∷ [], escape_completed bytes pieces h, refl) }
+string_completed invalid_escape_sequence left there t bytes pieces e h s = record { front = concat pieces ++ backslash ∷ []; more = double_quote ∷ double_quote ∷ []; parts = rw (e, s.2, s.3) (sym (append_assoc (concat pieces) (backslash ∷ []) (s.0 ∷ s.1))); holds = (bytes ++ double_quote ∷ [], escape_completed bytes pieces h, refl) }
+string_completed invalid_string_character left there t bytes pieces e h s = record { front = concat pieces; more = double_quote ∷ []; parts = rw (e, s.2, s.3) refl; holds = (bytes, completed bytes pieces (concat pieces) h refl, refl) }
 string_completed _ left there t bytes pieces e h s = absurd s
 
 string_reached : (t : List ℕ) (a : Answer (List ℕ)) → Traced IsStringPiece t (Ends true StringStops a) → Reached IsStringEnd (Mute IsStringEnd) Quiet t a
 string_reached t (Ok x) h = (
-  concat h.pieces ++ 0x22 ∷ [],
-  h.text ∙ ap (λ (l : List ℕ). concat h.pieces ++ l) h.ends.1 ∙ sym (append_assoc (concat h.pieces) (0x22 ∷ []) x.1),
-  subst (λ (s : List ℕ). IsStringEnd s (concat h.pieces ++ 0x22 ∷ [])) (sym h.ends.0) (completed h.bytes h.pieces (concat h.pieces) h.content refl),
+  concat h.pieces ++ double_quote ∷ [],
+  h.text ∙ ap (λ (l : List ℕ). concat h.pieces ++ l) h.ends.1 ∙ sym (append_assoc (concat h.pieces) (double_quote ∷ []) x.1),
+  subst (λ (s : List ℕ). IsStringEnd s (concat h.pieces ++ double_quote ∷ [])) (sym h.ends.0) (completed h.bytes h.pieces (concat h.pieces) h.content refl),
 )
 string_reached t (Err e) h = (
   λ _. subst (λ (e : Fault). GoesOn (Mute IsStringEnd) t e) (sym h.ends.0) (string_completed e.kind h.left e.rest t h.bytes h.pieces h.text h.content h.ends.1),
@@ -76,8 +77,8 @@ Sound-string = record { sound = λ t. string_reached t (string_at t) (trace_of_s
 pub string_complete : (s t q : List ℕ) → IsStringEnd s t → string_at (t ++ q) ≡ Ok (s, q)
 string_complete s t q h =
     let pieces = h.first.pieces in
-    let whole : t ++ q ≡ concat pieces ++ 0x22 ∷ q = ap (λ (l : List ℕ). l ++ q) (h.text ∙ ap (λ (l : List ℕ). l ++ h.back) h.first.text ∙ ap (λ (l : List ℕ). concat pieces ++ l) h.second) ∙ append_assoc (concat pieces) (0x22 ∷ []) q in
-    ap string_at whole ∙ past_string s pieces (0x22 ∷ q) h.first.each ∙ ap (behind_bytes s) (quote_string q) ∙ ap (λ (l : List ℕ). Ok (l, q)) (append-nil s)
+    let whole : t ++ q ≡ concat pieces ++ double_quote ∷ q = ap (λ (l : List ℕ). l ++ q) (h.text ∙ ap (λ (l : List ℕ). l ++ h.back) h.first.text ∙ ap (λ (l : List ℕ). concat pieces ++ l) h.second) ∙ append_assoc (concat pieces) (double_quote ∷ []) q in
+    ap string_at whole ∙ past_string s pieces (double_quote ∷ q) h.first.each ∙ ap (behind_bytes s) (quote_string q) ∙ ap (λ (l : List ℕ). Ok (l, q)) (append-nil s)
 
 -- Exactly such a fault is given.
 pub string_faulty : (t there : List ℕ) (k : SyntaxFault) → IsStringFault t k there → string_at t ≡ Err (at_reach k there)
@@ -97,15 +98,15 @@ string_faults t e = (
 -- a reading with the same front, and a rest that begins alike
 stays : (exact : Bool) (P : ℕ → List ℕ → Type 0) (Stops : SyntaxFault → List ℕ → List ℕ → Type 0) (f : Reader (List ℕ))
     → ((bytes : List ℕ) (pieces : List (List ℕ)) (t : List ℕ) → AllZip P bytes pieces → f (concat pieces ++ t) ≡ behind_bytes bytes (f t))
-    → ((t : List ℕ) → f (0x22 ∷ t) ≡ Ok ([], t))
+    → ((t : List ℕ) → f (double_quote ∷ t) ≡ Ok ([], t))
     → ((k : SyntaxFault) (left there : List ℕ) → Stops k left there → f left ≡ Err (placed exact k there))
     → ((k : SyntaxFault) (left there : List ℕ) → Stops k left there → (h : List ℕ) × (left ≡ h ++ there) × ((r : List ℕ) → first r ≡ first there → Stops k (h ++ r) r))
     → (t : List ℕ) (a : Answer (List ℕ)) → Traced P t (Ends exact Stops a) → Stays f t a
 stays exact P Stops f past quote stop again t (Ok x) h = (
-  concat h.pieces ++ 0x22 ∷ [],
-  h.text ∙ ap (λ (l : List ℕ). concat h.pieces ++ l) h.ends.1 ∙ sym (append_assoc (concat h.pieces) (0x22 ∷ []) x.1),
+  concat h.pieces ++ double_quote ∷ [],
+  h.text ∙ ap (λ (l : List ℕ). concat h.pieces ++ l) h.ends.1 ∙ sym (append_assoc (concat h.pieces) (double_quote ∷ []) x.1),
   λ r.
-      ap f (append_assoc (concat h.pieces) (0x22 ∷ []) r) ∙ past h.bytes h.pieces (0x22 ∷ r) h.content ∙ ap (behind_bytes h.bytes) (quote r)
+      ap f (append_assoc (concat h.pieces) (double_quote ∷ []) r) ∙ past h.bytes h.pieces (double_quote ∷ r) h.content ∙ ap (behind_bytes h.bytes) (quote r)
       ∙ ap (λ (l : List ℕ). Ok (l, r)) (append-nil h.bytes ∙ sym h.ends.0),
 )
 stays exact P Stops f past quote stop again t (Err e) h =
@@ -138,11 +139,11 @@ display_reached t (Ok x) h =
     let wrong : Answer (List ℕ) = Err (by_rule invalid_utf8_in_display_string (behind_pieces (utf8_valid_len x.0) t)) in
     let on : (b : Bool) → is_utf8 x.0 ≡ b → Reached IsDisplayEnd (Mute IsDisplayEnd) Quiet t (cond b (Ok x) wrong) = λ b. elim b as (λ (b : Bool). is_utf8 x.0 ≡ b → Reached IsDisplayEnd (Mute IsDisplayEnd) Quiet t (cond b (Ok x) wrong)) [
       | true ↦ λ e. (
-        concat h.pieces ++ 0x22 ∷ [],
-        h.text ∙ ap (λ (l : List ℕ). concat h.pieces ++ l) h.ends.1 ∙ sym (append_assoc (concat h.pieces) (0x22 ∷ []) x.1),
+        concat h.pieces ++ double_quote ∷ [],
+        h.text ∙ ap (λ (l : List ℕ). concat h.pieces ++ l) h.ends.1 ∙ sym (append_assoc (concat h.pieces) (double_quote ∷ []) x.1),
         record {
           front = concat h.pieces;
-          back = 0x22 ∷ [];
+          back = double_quote ∷ [];
           text = refl;
           first = (record { pieces = h.pieces; text = refl; each = subst (λ (s : List ℕ). AllZip IsDisplayPiece s h.pieces) (sym h.ends.0) h.content }, IsUtf8-from_is_utf8 x.0 e);
           second = refl;
@@ -169,8 +170,8 @@ pub display_complete : (s t q : List ℕ) → IsDisplayEnd s t → display_at (t
 unfolding display_at
 display_complete s t q h =
     let pieces = h.first.0.pieces in
-    let whole : t ++ q ≡ concat pieces ++ 0x22 ∷ q = ap (λ (l : List ℕ). l ++ q) (h.text ∙ ap (λ (l : List ℕ). l ++ h.back) h.first.0.text ∙ ap (λ (l : List ℕ). concat pieces ++ l) h.second) ∙ append_assoc (concat pieces) (0x22 ∷ []) q in
-    let read : pieces_from outside (t ++ q) ≡ Ok (s, q) = ap (pieces_from outside) whole ∙ past_display s pieces (0x22 ∷ q) h.first.0.each ∙ ap (behind_bytes s) (quote_display q) ∙ ap (λ (l : List ℕ). Ok (l, q)) (append-nil s) in
+    let whole : t ++ q ≡ concat pieces ++ double_quote ∷ q = ap (λ (l : List ℕ). l ++ q) (h.text ∙ ap (λ (l : List ℕ). l ++ h.back) h.first.0.text ∙ ap (λ (l : List ℕ). concat pieces ++ l) h.second) ∙ append_assoc (concat pieces) (double_quote ∷ []) q in
+    let read : pieces_from outside (t ++ q) ≡ Ok (s, q) = ap (pieces_from outside) whole ∙ past_display s pieces (double_quote ∷ q) h.first.0.each ∙ ap (behind_bytes s) (quote_display q) ∙ ap (λ (l : List ℕ). Ok (l, q)) (append-nil s) in
     ap (checked (t ++ q)) read ∙ passes (t ++ q) s q h.first.1
 
 -- bytes that aren't UTF-8
@@ -189,7 +190,7 @@ fault_read t there k h = ap (checked t) (ap (pieces_from outside) h.text ∙ pas
 pub display_faulty : (t there : List ℕ) (k : SyntaxFault) → IsDisplayFault t k there → display_at t ≡ Err (by_rule k there)
 unfolding display_at
 display_faulty t there invalid_utf8_in_display_string h =
-    let read : pieces_from outside t ≡ Ok (h.bytes, h.ends.0) = ap (pieces_from outside) (h.text ∙ ap (λ (l : List ℕ). concat h.pieces ++ l) h.ends.1) ∙ past_display h.bytes h.pieces (0x22 ∷ h.ends.0) h.content ∙ ap (behind_bytes h.bytes) (quote_display h.ends.0) ∙ ap (λ (l : List ℕ). Ok (l, h.ends.0)) (append-nil h.bytes) in
+    let read : pieces_from outside t ≡ Ok (h.bytes, h.ends.0) = ap (pieces_from outside) (h.text ∙ ap (λ (l : List ℕ). concat h.pieces ++ l) h.ends.1) ∙ past_display h.bytes h.pieces (double_quote ∷ h.ends.0) h.content ∙ ap (behind_bytes h.bytes) (quote_display h.ends.0) ∙ ap (λ (l : List ℕ). Ok (l, h.ends.0)) (append-nil h.bytes) in
     ap (checked t) read ∙ rw (not_text h.bytes h.ends.2) (ap (λ (l : List ℕ). Err (by_rule invalid_utf8_in_display_string l)) (sym h.ends.3))
 display_faulty t there k h = fault_read t there k h
 

@@ -3,6 +3,7 @@ use Rattle.std.proofs.Common.{◌≡◌, ℕ, true, false, List, [], ◌∷◌, 
 use Rattle.std.specs.Prelude.{flat_map}
 use Rattle.std.proofs.lemmas.List.{append-nil, drop_at}
 use Rattle.std.proofs.lemmas.Bool.{eqb-true, true≢false}
+use Rattle.sfv_spec.specs.Ascii.{comma}
 use Rattle.sfv_spec.specs.Texts.{RunOf, IsJoining}
 use Rattle.sfv_spec.specs.Classes.{is_space, is_space_or_tab}
 use Rattle.sfv_spec.specs.Values.{Edition, FieldKind, item_field, list_field, dictionary_field, RawField}
@@ -26,11 +27,11 @@ use Rattle.sfv_reading.proofs.RulesMany.{Rules-many}
 use Rattle.sfv_reading.proofs.Origins.{Comes, origin_behind, origin_led, comes_bind, comes_span, comes_item, comes_entry, comes_keyed}
 
 -- no member behind the comma: the text ends
-comma_none : (r q : List ℕ) → comma_at (0x2c ∷ r) ≡ Ok (None, q) → RunOf is_space_or_tab r
+comma_none : (r q : List ℕ) → comma_at (comma ∷ r) ≡ Ok (None, q) → RunOf is_space_or_tab r
 unfolding comma_at give ahead
 comma_none r q i =
     let m = (Steady-span is_space_or_tab).steady r in
-    let whole : comma_at (0x2c ∷ r) ≡ ahead any (give (Some tt)) (give None) m.2 = branch_take _ _ _ 0x2c r refl ∙ bind_complete _ _ _ _ _ m.3 in
+    let whole : comma_at (comma ∷ r) ≡ ahead any (give (Some tt)) (give None) m.2 = branch_take _ _ _ comma r refl ∙ bind_complete _ _ _ _ _ m.3 in
     let on : (p : List ℕ) → r ≡ m.0 ++ p → ahead any (give (Some tt)) (give None) p ≡ Ok (None, q) → RunOf is_space_or_tab r = λ p. elim p as (λ (p : List ℕ). r ≡ m.0 ++ p → ahead any (give (Some tt)) (give None) p ≡ Ok (None, q) → RunOf is_space_or_tab r) [
       | [] ↦ λ e j. subst (RunOf is_space_or_tab) (sym (e ∙ append-nil m.0 ∙ m.5.0)) m.5.1
       | c ∷ p ↦ λ e j.
@@ -62,7 +63,7 @@ module _ {A : Type 0} (edition : Edition) (P : A → List ℕ → Type 0) (parts
     here : (z x : List ℕ) (e : Fault) → Origin edition x e → Here z x e
     here z x e o = inl (origin_behind edition s _ e (origin_behind edition t _ e (origin_behind edition u _ e (origin_behind edition z x e o))))
 
-    met : (z r : List ℕ) → RunOf is_space_or_tab z → RunOf is_space_or_tab r → Here z (0x2c ∷ r) (record { kind = trailing_comma; exact = false; rest = 0x2c ∷ r; events = [] })
+    met : (z r : List ℕ) → RunOf is_space_or_tab z → RunOf is_space_or_tab r → Here z (comma ∷ r) (record { kind = trailing_comma; exact = false; rest = comma ∷ r; events = [] })
     met z r blank blank' = inr (record {
       before = s ++ (t ++ (u ++ z));
       whitespace = r;
@@ -75,7 +76,7 @@ module _ {A : Type 0} (edition : Edition) (P : A → List ℕ → Type 0) (parts
       rest = refl;
     })
 
-    at_comma : (z : List ℕ) → RunOf is_space_or_tab z → Rules (back trailing_comma comma_at >>= λ _. one >>= λ m. give (Some m)) (λ x e. (r : List ℕ) → x ≡ 0x2c ∷ r → Here z x e)
+    at_comma : (z : List ℕ) → RunOf is_space_or_tab z → Rules (back trailing_comma comma_at >>= λ _. one >>= λ m. give (Some m)) (λ x e. (r : List ℕ) → x ≡ comma ∷ r → Here z x e)
     at_comma z blank = Rules-bind IsComma (λ _ _. Unit {0}) (λ _. Unit {0}) (back trailing_comma comma_at) _ _ (Sound-back _ _ _ _ _ refl tt (Sound-comma _ _))
         (Rules-back trailing_comma comma_at _ (λ x q i r e. subst (λ (x : List ℕ). Here z x (record { kind = trailing_comma; exact = false; rest = x; events = [] })) (sym e) (met z r blank (comma_none r q (ap comma_at (sym e) ∙ i)))) (comma_rules _))
         (λ c w i. Rules-weaker (one >>= λ m. give (Some m)) (Origin edition) _ (comes_bind edition _ _ _ one _ h comes (λ m. Rules-give _ _)) (λ x e o r q. here z (c ++ x) e (origin_behind edition c x e o)))
@@ -85,7 +86,7 @@ module _ {A : Type 0} (edition : Edition) (P : A → List ℕ → Type 0) (parts
     next_rules =
         Rules-bind (IsSpan is_space_or_tab) (λ _ _. Unit {0}) (λ _. Unit {0}) (span is_space_or_tab) _ _ (Sound-steady _ _ _ _ (Steady-span is_space_or_tab)) (Rules-steady _ _ _ (Steady-span is_space_or_tab)) (λ z v i.
         Rules-ahead any _ _ _
-        (Rules-ahead_at (byte 0x2c) _ _ _ (λ c r e is met inexact. (at_comma z (subst (RunOf is_space_or_tab) (sym i.0) i.1)).rules (c ∷ r) e met inexact r (ap (λ (b : ℕ). b ∷ r) (eqb-true c 0x2c is))) (Rules-fail _ _))
+        (Rules-ahead_at (byte comma) _ _ _ (λ c r e is met inexact. (at_comma z (subst (RunOf is_space_or_tab) (sym i.0) i.1)).rules (c ∷ r) e met inexact r (ap (λ (b : ℕ). b ∷ r) (eqb-true c comma is))) (Rules-fail _ _))
         (Rules-give _ _))
 
   ruled_led : (ds : List TreeEvent) (t : List ℕ) (e : Fault) → Ruled t e → Ruled t (behind_events ds e)
@@ -113,7 +114,7 @@ CommaOf edition kind t e = (index : ℕ) × (drop index t ≡ e.rest) × (e.kind
 list_comma : (edition : Edition) (t : List ℕ) (e : Fault) → CommaAt (IsMemberText edition) t e → CommaOf edition list_field t e
 list_comma edition t e c = (
   length c.before,
-  ap (drop (length c.before)) c.text ∙ drop_at c.before (0x2c ∷ c.whitespace) _ refl ∙ sym c.rest,
+  ap (drop (length c.before)) c.text ∙ drop_at c.before (comma ∷ c.whitespace) _ refl ∙ sym c.rest,
   c.kind,
   record { many = tt; before = c.before; whitespace = c.whitespace; raw = c.m ∷ c.ms; text = c.text ∙ simp append_assoc; blank = c.blank; accepted = c.accepted; member = (c.m, c.ms, refl); here = refl },
 )
@@ -121,7 +122,7 @@ list_comma edition t e c = (
 dictionary_comma : (edition : Edition) (t : List ℕ) (e : Fault) → CommaAt (IsDictionaryMemberText edition) t e → CommaOf edition dictionary_field t e
 dictionary_comma edition t e c = (
   length c.before,
-  ap (drop (length c.before)) c.text ∙ drop_at c.before (0x2c ∷ c.whitespace) _ refl ∙ sym c.rest,
+  ap (drop (length c.before)) c.text ∙ drop_at c.before (comma ∷ c.whitespace) _ refl ∙ sym c.rest,
   c.kind,
   record { many = tt; before = c.before; whitespace = c.whitespace; raw = c.m ∷ c.ms; text = c.text ∙ simp append_assoc; blank = c.blank; accepted = c.accepted; member = (c.m, c.ms, refl); here = refl },
 )

@@ -3,6 +3,7 @@ use Rattle.std.proofs.Common.{◌≡◌, ℕ, ◌≤◌, true, false, eqb, List,
 use Rattle.std.specs.Prelude.{codes, flat_map}
 use Rattle.std.proofs.lemmas.List.{append-nil, length-append}
 use Rattle.std.proofs.lemmas.Bool.{or_parts}
+use Rattle.sfv_spec.specs.Ascii.{tab, comma}
 use Rattle.sfv_spec.specs.Texts.{Exactly, RunOf, ◌⨾◌}
 use Rattle.sfv_spec.specs.Classes.{is_space, is_space_or_tab}
 use Rattle.sfv_spec.specs.Grammar.{Spaces, OptionalWhitespace, Comma, AreMembersText}
@@ -28,7 +29,7 @@ pub Sound-comma : (W : List ℕ → List TreeEvent → Type 0) (V : List TreeEve
 unfolding comma_at
 Sound-comma W V = Sound-byte _ _ _ _ _ _
     (Sound-span _ _ _ _ _ (λ s each. Sound-ahead _ _ _ _ _ _
-    (Sound-give _ _ _ _ (record { front = 0x2c ∷ []; back = s; text = ap (λ (l : List ℕ). 0x2c ∷ l) (append-nil s); first = refl; second = each }))
+    (Sound-give _ _ _ _ (record { front = comma ∷ []; back = s; text = ap (λ (l : List ℕ). comma ∷ l) (append-nil s); first = refl; second = each }))
     (Sound-give _ _ _ _ tt)))
     (Sound-give _ _ _ _ tt)
 
@@ -108,32 +109,32 @@ module _ {A : Type 0} (P : A → List ℕ → Type 0) (parts : A → List TreeEv
 
   -- ---- members are read again
 
-  comma_complete : (behind q : List ℕ) → RunOf is_space_or_tab behind → Apart is_space_or_tab q → 1 ≤ length q → back trailing_comma comma_at (0x2c ∷ (behind ++ q)) ≡ Ok (tt, q)
+  comma_complete : (behind q : List ℕ) → RunOf is_space_or_tab behind → Apart is_space_or_tab q → 1 ≤ length q → back trailing_comma comma_at (comma ∷ (behind ++ q)) ≡ Ok (tt, q)
   unfolding comma_at give
-  comma_complete behind q each h some = back_complete _ _ _ _ _ (branch_take _ _ _ 0x2c (behind ++ q) refl ∙ bind_complete _ _ _ _ _ (span_complete is_space_or_tab behind q each h) ∙ ahead_any _ _ q some)
+  comma_complete behind q each h some = back_complete _ _ _ _ _ (branch_take _ _ _ comma (behind ++ q) refl ∙ bind_complete _ _ _ _ _ (span_complete is_space_or_tab behind q each h) ∙ ahead_any _ _ q some)
 
   -- F: what may stand behind a member
   module _ (F : List ℕ → Type 0) (again : (m : A) (t q : List ℕ) → P m t → F q → one (t ++ q) ≡ Ok (m, q)) (fresh : (m : A) (t q : List ℕ) → P m t → Apart is_space_or_tab (t ++ q) × (1 ≤ length (t ++ q)))
-      (ends : (c : ℕ) (q : List ℕ) → is_space_or_tab c ≡ true → F (c ∷ q)) (comma : (q : List ℕ) → F (0x2c ∷ q)) (end : F []) where
+      (ends : (c : ℕ) (q : List ℕ) → is_space_or_tab c ≡ true → F (c ∷ q)) (comma_ends : (q : List ℕ) → F (comma ∷ q)) (end : F []) where
     blank_ends : (s q : List ℕ) → RunOf is_space_or_tab s → F q → F (s ++ q)
     blank_ends [] q each f = f
     blank_ends (c ∷ s) q each f = ends c (s ++ q) (run_head is_space_or_tab c s each)
 
-    comma_no_blank : (q : List ℕ) → Apart is_space_or_tab (0x2c ∷ q)
-    comma_no_blank q = Apart-cons is_space_or_tab 0x2c q refl
+    comma_no_blank : (q : List ℕ) → Apart is_space_or_tab (comma ∷ q)
+    comma_no_blank q = Apart-cons is_space_or_tab comma q refl
 
     next_complete : (m : A) (t q : List ℕ) → IsNext m t → F q → (next_at one (t ++ q) ≡ Ok (Some m, q)) × F (t ++ q)
     unfolding next_at give
     next_complete m t q h f =
         let b : List ℕ = h.first.front in
         let c = h.first.second in
-        let all : t ++ q ≡ b ++ 0x2c ∷ (c.back ++ (h.back ++ q)) = ap (λ (l : List ℕ). l ++ q) (h.text ∙ ap (λ (l : List ℕ). l ++ h.back) (h.first.text ∙ ap (λ (l : List ℕ). b ++ l) (c.text ∙ ap (λ (l : List ℕ). l ++ c.back) c.first))) ∙ simp append_assoc in
+        let all : t ++ q ≡ b ++ comma ∷ (c.back ++ (h.back ++ q)) = ap (λ (l : List ℕ). l ++ q) (h.text ∙ ap (λ (l : List ℕ). l ++ h.back) (h.first.text ∙ ap (λ (l : List ℕ). b ++ l) (c.text ∙ ap (λ (l : List ℕ). l ++ c.back) c.first))) ∙ simp append_assoc in
         let n = fresh m h.back q h.second in (
-          ap (next_at one) all ∙ bind_complete _ _ _ _ _ (span_complete is_space_or_tab b (0x2c ∷ (c.back ++ (h.back ++ q))) h.first.first (comma_no_blank _))
-              ∙ ahead_any _ _ _ (omega arith) ∙ ahead_take _ _ _ 0x2c (c.back ++ (h.back ++ q)) refl
+          ap (next_at one) all ∙ bind_complete _ _ _ _ _ (span_complete is_space_or_tab b (comma ∷ (c.back ++ (h.back ++ q))) h.first.first (comma_no_blank _))
+              ∙ ahead_any _ _ _ (omega arith) ∙ ahead_take _ _ _ comma (c.back ++ (h.back ++ q)) refl
               ∙ bind_complete _ _ _ _ _ (comma_complete c.back (h.back ++ q) c.second n.0 n.1)
               ∙ bind_complete _ _ _ _ _ (again m h.back q h.second f),
-          subst F (sym all) (blank_ends b (0x2c ∷ (c.back ++ (h.back ++ q))) h.first.first (comma _)),
+          subst F (sym all) (blank_ends b (comma ∷ (c.back ++ (h.back ++ q))) h.first.first (comma_ends _)),
         )
 
     end_complete : (e : List ℕ) → RunOf is_space_or_tab e → (next_at one (e ++ []) ≡ Ok (None, [])) × F (e ++ [])
@@ -141,7 +142,7 @@ module _ {A : Type 0} (P : A → List ℕ → Type 0) (parts : A → List TreeEv
     end_complete e each = (bind_complete _ _ _ _ _ (span_complete is_space_or_tab e [] each (Apart-nil is_space_or_tab)) ∙ ahead_past _ _ _ [] (Apart-nil any), blank_ends e [] each end)
 
     no_space : (q : List ℕ) → Apart is_space_or_tab q → Apart is_space q
-    no_space q h = record { apart = λ c e. (or_parts (is_space c) (eqb c 0x09) (h.apart c e)).0 }
+    no_space q h = record { apart = λ c e. (or_parts (is_space c) (eqb c tab) (h.apart c e)).0 }
 
     pub members_complete : Reads one P (Goes P parts) → (ms : List A) (t : List ℕ) → AreMembersText P ms t → members_at parts one t ≡ Ok (ms, [])
     unfolding members_at give
@@ -158,24 +159,24 @@ module _ {A : Type 0} (P : A → List ℕ → Type 0) (parts : A → List TreeEv
 
     -- ---- and a comma behind the last
 
-    comma_met : (z w : List ℕ) → RunOf is_space_or_tab z → RunOf is_space_or_tab w → (next_at one (z ++ 0x2c ∷ w) ≡ Err (record { kind = trailing_comma; exact = false; rest = 0x2c ∷ w; events = [] }))
+    comma_met : (z w : List ℕ) → RunOf is_space_or_tab z → RunOf is_space_or_tab w → (next_at one (z ++ comma ∷ w) ≡ Err (record { kind = trailing_comma; exact = false; rest = comma ∷ w; events = [] }))
     unfolding next_at comma_at back give
     comma_met z w each each' =
         let end : span is_space_or_tab w ≡ Ok (w, []) = ap (span is_space_or_tab) (sym (append-nil w)) ∙ span_complete is_space_or_tab w [] each' (Apart-nil is_space_or_tab) in
-        bind_complete _ _ _ _ _ (span_complete is_space_or_tab z (0x2c ∷ w) each (comma_no_blank w)) ∙ ahead_any _ _ _ (omega arith) ∙ ahead_take _ _ _ 0x2c w refl
-        ∙ bind_met _ _ _ _ (ap (at_start trailing_comma (0x2c ∷ w)) (branch_take _ _ _ 0x2c w refl ∙ bind_complete _ _ _ _ _ end ∙ ahead_past _ _ _ [] (Apart-nil any)))
+        bind_complete _ _ _ _ _ (span_complete is_space_or_tab z (comma ∷ w) each (comma_no_blank w)) ∙ ahead_any _ _ _ (omega arith) ∙ ahead_take _ _ _ comma w refl
+        ∙ bind_met _ _ _ _ (ap (at_start trailing_comma (comma ∷ w)) (branch_take _ _ _ comma w refl ∙ bind_complete _ _ _ _ _ end ∙ ahead_past _ _ _ [] (Apart-nil any)))
 
     pub members_met : Reads one P (Goes P parts) → (m : A) (ms : List A) (t w : List ℕ) → AreMembersText P (m ∷ ms) t → RunOf is_space_or_tab w
-        → members_at parts one (t ++ 0x2c ∷ w) ≡ Err (record { kind = trailing_comma; exact = false; rest = 0x2c ∷ w; events = flat_map parts (m ∷ ms) })
+        → members_at parts one (t ++ comma ∷ w) ≡ Err (record { kind = trailing_comma; exact = false; rest = comma ∷ w; events = flat_map parts (m ∷ ms) })
     unfolding members_at
     members_met r m ms t w h each =
         let o = h.second.first in
         let z : List ℕ = h.second.back in
-        let q : List ℕ = z ++ 0x2c ∷ w in
-        let e : Fault = record { kind = trailing_comma; exact = false; rest = 0x2c ∷ w; events = [] } in
-        let more = many_met parts (next_at one) (Consumes-next r) IsNext F (λ v a q p f. next_complete v a q p f) q e (comma_met z w h.second.second each) (blank_ends z (0x2c ∷ w) h.second.second (comma w)) ms o.back o.second in
-        let all : t ++ 0x2c ∷ w ≡ h.front ++ (o.front ++ (o.back ++ q)) = ap (λ (l : List ℕ). l ++ 0x2c ∷ w) (h.text ∙ ap (λ (l : List ℕ). h.front ++ l) (h.second.text ∙ ap (λ (l : List ℕ). l ++ z) o.text)) ∙ simp append_assoc in
+        let q : List ℕ = z ++ comma ∷ w in
+        let e : Fault = record { kind = trailing_comma; exact = false; rest = comma ∷ w; events = [] } in
+        let more = many_met parts (next_at one) (Consumes-next r) IsNext F (λ v a q p f. next_complete v a q p f) q e (comma_met z w h.second.second each) (blank_ends z (comma ∷ w) h.second.second (comma_ends w)) ms o.back o.second in
+        let all : t ++ comma ∷ w ≡ h.front ++ (o.front ++ (o.back ++ q)) = ap (λ (l : List ℕ). l ++ comma ∷ w) (h.text ∙ ap (λ (l : List ℕ). h.front ++ l) (h.second.text ∙ ap (λ (l : List ℕ). l ++ z) o.text)) ∙ simp append_assoc in
         let n = fresh m o.front (o.back ++ q) o.first in
         ap (members_at parts one) all ∙ bind_complete _ _ _ _ _ (span_complete is_space h.front (o.front ++ (o.back ++ q)) h.first (no_space _ n.0)) ∙ ahead_any _ _ (o.front ++ (o.back ++ q)) n.1
         ∙ bind_complete _ _ _ _ _ (again m o.front (o.back ++ q) o.first more.1) ∙ led_met _ _ _ _ (bind_met _ _ _ _ more.0)
-        ∙ ap (λ (l : List TreeEvent). Err (record { kind = trailing_comma; exact = false; rest = 0x2c ∷ w; events = parts m ++ l })) (append-nil (flat_map parts ms))
+        ∙ ap (λ (l : List TreeEvent). Err (record { kind = trailing_comma; exact = false; rest = comma ∷ w; events = parts m ++ l })) (append-nil (flat_map parts ms))

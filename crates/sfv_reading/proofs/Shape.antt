@@ -1,6 +1,7 @@
 -- A text is symbols, padding, and what no Base64 text goes on with.
 use Rattle.std.proofs.Common.{◌≡◌, ℕ, zero, suc, ◌<◌, ◌≤◌, ◌+◌, List, [], ◌∷◌, ◌++◌, length, map, take, replicate, refl, sym, ◌∙◌, ap, Bool, true, false, arith, ◌⊎◌, inl, inr}
 use Rattle.std.specs.Prelude.{◌==◌, ◌||◌}
+use Rattle.sfv_spec.specs.Ascii.{plus_sign, slash, digit_zero, digit_nine, equals_sign, upper_a, upper_z, lower_a, lower_z}
 use Rattle.sfv_spec.specs.Classes.{is_between}
 use Rattle.std.specs.List.{list_all}
 use Rattle.std.proofs.lemmas.Bool.{and_parts, eqb-true, ltb-true, cases_Bool, true≢false, or_cases}
@@ -11,7 +12,7 @@ use Rattle.sfv_reading.specs.Content.{is_symbol, symbol_value, most_padding, pad
 use Rattle.sfv_reading.proofs.Bits.{is_value}
 
 abbrev pub is_equals : ℕ → Bool
-is_equals c = c == 0x3d
+is_equals c = c == equals_sign
 
 below_128 : (v : ℕ) → is_value v ≡ true → v < 128
 below_128 v h = omega (arith, ltb-true v 64 h)
@@ -26,18 +27,18 @@ value-symbol v h = eqb-true (symbol_value (symbol v)) v (implied is_value (λ v.
 
 pub symbol_below : (c : ℕ) → is_symbol c ≡ true → c < 128
 unfolding is_symbol
-symbol_below c h = elim (or_cases (is_between 0x41 0x5a c || is_between 0x61 0x7a c || is_between 0x30 0x39 c || c == 0x2b) (c == 0x2f) h) [
-  | inl g ↦ elim (or_cases (is_between 0x41 0x5a c || is_between 0x61 0x7a c || is_between 0x30 0x39 c) (c == 0x2b) g) [
-    | inl f ↦ elim (or_cases (is_between 0x41 0x5a c || is_between 0x61 0x7a c) (is_between 0x30 0x39 c) f) [
-      | inl e ↦ elim (or_cases (is_between 0x41 0x5a c) (is_between 0x61 0x7a c) e) [
-        | inl d ↦ between_below 0x41 0x5a c (omega arith) d
-        | inr d ↦ between_below 0x61 0x7a c (omega arith) d
+symbol_below c h = elim (or_cases (is_between upper_a upper_z c || is_between lower_a lower_z c || is_between digit_zero digit_nine c || c == plus_sign) (c == slash) h) [
+  | inl g ↦ elim (or_cases (is_between upper_a upper_z c || is_between lower_a lower_z c || is_between digit_zero digit_nine c) (c == plus_sign) g) [
+    | inl f ↦ elim (or_cases (is_between upper_a upper_z c || is_between lower_a lower_z c) (is_between digit_zero digit_nine c) f) [
+      | inl e ↦ elim (or_cases (is_between upper_a upper_z c) (is_between lower_a lower_z c) e) [
+        | inl d ↦ between_below upper_a upper_z c (omega arith) d
+        | inr d ↦ between_below lower_a lower_z c (omega arith) d
       ]
-      | inr e ↦ between_below 0x30 0x39 c (omega arith) e
+      | inr e ↦ between_below digit_zero digit_nine c (omega arith) e
     ]
-    | inr f ↦ omega (arith, eqb-true c 0x2b f)
+    | inr f ↦ omega (arith, eqb-true c plus_sign f)
   ]
-  | inr g ↦ omega (arith, eqb-true c 0x2f g)
+  | inr g ↦ omega (arith, eqb-true c slash g)
 ]
 
 pub symbol-value : (c : ℕ) → is_symbol c ≡ true → symbol (symbol_value c) ≡ c
@@ -51,7 +52,7 @@ value_within c h = implied is_symbol (λ c. is_value (symbol_value c)) refl c (s
 pub equals_apart : (c : ℕ) → is_symbol c ≡ true → is_equals c ≡ false
 unfolding is_symbol
 equals_apart c h = elim (cases_Bool (is_equals c)) [
-  | inl p ↦ let e : c ≡ 0x3d = eqb-true c 0x3d p in absurd (true≢false (sym (rw e at h)))
+  | inl p ↦ let e : c ≡ equals_sign = eqb-true c equals_sign p in absurd (true≢false (sym (rw e at h)))
   | inr p ↦ p
 ]
 
@@ -76,7 +77,7 @@ are_values (c ∷ cs) h = let p = and_parts (is_symbol c) (list_all is_symbol cs
 pub record Padded (most : ℕ) (t : List ℕ) : Type 0 where
   pub padding : ℕ
   pub rest : List ℕ
-  pub text : t ≡ replicate padding 0x3d ++ rest
+  pub text : t ≡ replicate padding equals_sign ++ rest
   pub within : padding ≤ most
   pub ends : (padding ≡ most) ⊎ NotBegun is_equals rest
 
@@ -85,7 +86,7 @@ padded zero t = record { padding = 0; rest = t; text = refl; within = omega arit
 padded (suc k) [] = record { padding = 0; rest = []; text = refl; within = omega arith; ends = inr refl }
 padded (suc k) (c ∷ t) = elim (cases_Bool (is_equals c)) [
   | inl p ↦
-      let e : c ≡ 0x3d = eqb-true c 0x3d p in
+      let e : c ≡ equals_sign = eqb-true c equals_sign p in
       let h = padded k t in
       record {
         padding = suc h.padding;
@@ -97,7 +98,7 @@ padded (suc k) (c ∷ t) = elim (cases_Bool (is_equals c)) [
   | inr p ↦ record { padding = 0; rest = c ∷ t; text = refl; within = omega arith; ends = inr p }
 ]
 
-pub padding-padded : (most n : ℕ) (rest : List ℕ) → n ≤ most → (n ≡ most) ⊎ NotBegun is_equals rest → padding_in most (replicate n 0x3d ++ rest) ≡ n
+pub padding-padded : (most n : ℕ) (rest : List ℕ) → n ≤ most → (n ≡ most) ⊎ NotBegun is_equals rest → padding_in most (replicate n equals_sign ++ rest) ≡ n
 unfolding padding_in
 padding-padded zero zero rest h e = refl
 padding-padded zero (suc n) rest h e = absurd (omega arith)
@@ -111,11 +112,11 @@ pub record Shape (n : ℕ) (t : List ℕ) : Type 0 where
   pub run : List ℕ
   pub padding : ℕ
   pub rest : List ℕ
-  pub text : t ≡ run ++ (replicate padding 0x3d ++ rest)
+  pub text : t ≡ run ++ (replicate padding equals_sign ++ rest)
   pub symbols : list_all is_symbol run ≡ true
   pub within : padding ≤ most_padding (n + length run)
   pub ends : (padding ≡ most_padding (n + length run)) ⊎ NotBegun is_equals rest
-  pub apart : NotBegun is_symbol (replicate padding 0x3d ++ rest)
+  pub apart : NotBegun is_symbol (replicate padding equals_sign ++ rest)
 
 pub shape_of : (n : ℕ) (t : List ℕ) → Shape n t
 shape_of n [] = record { run = []; padding = 0; rest = []; text = refl; symbols = refl; within = omega arith; ends = inr refl; apart = refl }
@@ -175,7 +176,7 @@ valid_run n (c ∷ run) u h a =
 
 pub shape_valid : (n : ℕ) (t : List ℕ) (s : Shape n t) → (valid_from n t ≡ length s.run + s.padding) × (values_in t ≡ map symbol_value s.run)
 shape_valid n t s =
-    let v = valid_run n s.run (replicate s.padding 0x3d ++ s.rest) s.symbols s.apart in
+    let v = valid_run n s.run (replicate s.padding equals_sign ++ s.rest) s.symbols s.apart in
     rw (s.text) (v.0 ∙ ap (λ k. length s.run + k) (padding-padded (most_padding (n + length s.run)) s.padding s.rest s.within s.ends), v.1)
 
 -- an answer rests on the bytes up to its place, and on the one that stands there
