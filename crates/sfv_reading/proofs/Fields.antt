@@ -7,11 +7,11 @@ use Rattle.sfv_spec.specs.Texts.{RunOf}
 use Rattle.sfv_spec.specs.Classes.{is_space}
 use Rattle.sfv_spec.specs.Values.{Edition, FieldKind, item_field, list_field, dictionary_field, RawField, RawItem}
 use Rattle.sfv_spec.specs.Grammar.{IsItemText, IsMemberText, IsDictionaryMemberText, IsFieldText}
-use Rattle.sfv_spec.specs.Events.{TreeEvent, events}
+use Rattle.sfv_spec.specs.Events.{TreeEvent, events, entry_events, keyed_events}
 use Rattle.sfv_reading.specs.Judgements.{Local}
 use Rattle.sfv_reading.specs.Reader.{Apart, give, span}
 use Rattle.sfv_reading.specs.Items.{item_at}
-use Rattle.sfv_reading.specs.Members.{entry_events, entry_at, keyed_events, keyed_at}
+use Rattle.sfv_reading.specs.Members.{entry_at, keyed_at}
 use Rattle.sfv_reading.specs.Fields.{whole_field_at}
 use Rattle.sfv_reading.proofs.Sound.{run_head, Sound-give, Sound-bind, Sound-within, Sound-span, Reads, Goes}
 use Rattle.sfv_reading.proofs.Local.{local_rules}

@@ -6,11 +6,11 @@ use Rattle.sfv_spec.specs.Texts.{Exactly, RunOf, ◌⨾◌}
 use Rattle.sfv_spec.specs.Classes.{is_space}
 use Rattle.sfv_spec.specs.Values.{Edition, boolean, RawParameters, RawItem, RawMember, item}
 use Rattle.sfv_spec.specs.Grammar.{Spaces, SomeSpaces, IsKeyText, IsParameterText, IsParametersText, IsItemText, IsMemberText, true_with, IsMemberValueText, IsDictionaryMemberText}
-use Rattle.sfv_spec.specs.Events.{TreeEvent, entry, keyed_entry, begins_item, begins_inner_list, bare_item, inner_list_end, parameters_events, item_events, member_events}
+use Rattle.sfv_spec.specs.Events.{TreeEvent, entry, keyed_entry, begins_item, begins_inner_list, bare_item, inner_list_end, parameters_events, item_events, member_events, inner_item_events, entry_events, keyed_events}
 use Rattle.sfv_reading.specs.Judgements.{Sound, Local}
 use Rattle.sfv_reading.specs.Reader.{many}
 use Rattle.sfv_reading.specs.Items.{key_at, parameters_at, item_at}
-use Rattle.sfv_reading.specs.Members.{inner_item_events, inner_item_at, next_item_at, inner_items_at, inner_of, closed_events, inner_at, member_at, entry_events, entry_at, member_value_at, keyed_events, keyed_at}
+use Rattle.sfv_reading.specs.Members.{inner_item_at, next_item_at, inner_items_at, inner_of, closed_events, inner_at, member_at, entry_at, member_value_at, keyed_at}
 use Rattle.sfv_reading.proofs.Sound.{Sound-give, Sound-fail, Sound-led, Sound-byte, Sound-ahead, Sound-bind, Sound-map, Sound-within, Sound-span, Reads, Somewhere, Begins, Goes, begins_behind, begins_longer}
 use Rattle.sfv_reading.proofs.Local.{local_rules}
 use Rattle.sfv_reading.proofs.Joining.{joining_none, Joined, split_joined}

@@ -3,12 +3,12 @@ use Rattle.std.proofs.Common.{ℕ, Bool, List, [], ◌∷◌, ◌++◌, Option, 
 use Rattle.std.specs.Prelude.{flat_map}
 use Rattle.sfv_spec.specs.Ascii.{right_parenthesis}
 use Rattle.sfv_spec.specs.Values.{Edition}
-use Rattle.sfv_spec.specs.Events.{TreeEvent}
+use Rattle.sfv_spec.specs.Events.{TreeEvent, inner_item_events}
 use Rattle.sfv_reading.specs.Judgements.{Sound}
 use Rattle.sfv_reading.specs.Reader.{Fault, Reader, behind_events, ◌>>=◌, led, branch, span, many}
 use Rattle.sfv_reading.specs.Bare.{bare_at}
 use Rattle.sfv_reading.specs.Items.{key_at, value_at, parameter_at, parameter_event, parameters_at, item_at}
-use Rattle.sfv_reading.specs.Members.{inner_item_events, inner_item_at, next_item_at, inner_items_at, inner_at, member_at, entry_at, member_value_at, keyed_at}
+use Rattle.sfv_reading.specs.Members.{inner_item_at, next_item_at, inner_items_at, inner_at, member_at, entry_at, member_value_at, keyed_at}
 use Rattle.sfv_reading.specs.Claims.{Origin}
 use Rattle.sfv_reading.proofs.Sound.{Steady-span, Sound-steady}
 use Rattle.sfv_reading.proofs.Many.{Step, Consumes}

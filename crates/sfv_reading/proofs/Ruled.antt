@@ -8,11 +8,11 @@ use Rattle.sfv_spec.specs.Texts.{RunOf, IsJoining}
 use Rattle.sfv_spec.specs.Classes.{is_space, is_space_or_tab}
 use Rattle.sfv_spec.specs.Values.{Edition, FieldKind, item_field, list_field, dictionary_field, RawField}
 use Rattle.sfv_spec.specs.Grammar.{OptionalWhitespace, IsMemberText, IsDictionaryMemberText}
-use Rattle.sfv_spec.specs.Events.{TreeEvent, events}
+use Rattle.sfv_spec.specs.Events.{TreeEvent, events, entry_events, keyed_events}
 use Rattle.sfv_spec.specs.Faults.{trailing_comma, trailing_characters_after_parsed_value, IsTrailingComma}
 use Rattle.sfv_reading.specs.Reader.{Fault, Answer, Reader, byte, any, behind_events, ahead, back, many, span, ◌>>=◌, give}
 use Rattle.sfv_reading.specs.Items.{item_at}
-use Rattle.sfv_reading.specs.Members.{entry_events, entry_at, keyed_events, keyed_at}
+use Rattle.sfv_reading.specs.Members.{entry_at, keyed_at}
 use Rattle.sfv_reading.specs.Fields.{comma_at, next_at, members_at, whole_field_at, ending, read_field}
 use Rattle.sfv_reading.specs.Claims.{Origin, CommaAt, RuledComes}
 use Rattle.sfv_reading.proofs.Sound.{Sound-back, Sound-steady, Steady-span, IsSpan, Reads, Somewhere, Goes}

@@ -1,12 +1,12 @@
 //! Reading inner lists, and the members of lists and dictionaries (RFC 9651, sections 4.2.1 and 4.2.2).
 
 ghost use Rattle.std.specs.Prelude.{◌≡◌, [], OnOk, flat_map};
-ghost use Rattle.sfv_spec.specs.Events.{member_events};
+ghost use Rattle.sfv_spec.specs.Events.{member_events, inner_item_events, entry_events, keyed_events};
 ghost use Rattle.sfv_bare.specs.BareItems.{edition_of};
-ghost use Rattle.sfv_reading.specs.Members.{inner_item_events, inner_item_at, inner_items_at, inner_at, member_at, entry_events, entry_at, member_value_at, keyed_events, keyed_at};
+ghost use Rattle.sfv_reading.specs.Members.{inner_item_at, inner_items_at, inner_at, member_at, entry_at, member_value_at, keyed_at};
 ghost use Rattle.sfv_reading.specs.Fields.{members_at};
 ghost use Rattle.sfv.specs.Cursor.{rest, Reads};
-ghost use Rattle.sfv.specs.Members.{wants_item_at, wants_member_at, behind_begin};
+ghost use Rattle.sfv.specs.Members.{item_delimiter_at, member_delimiter_at, behind_begin};
 ghost use Rattle.sfv.specs.Visits.{Visits};
 
 use crate::parser::cursor::Cursor;
@@ -34,7 +34,7 @@ impl<'de> Cursor<'de> {
 
     /// Takes the spaces between two items of an inner list, or its closing parenthesis. Answers whether an item is wanted.
     fn consume_item_delimiter(&mut self) -> Result<bool, Error>
-        ensures { Reads (λ wants. wants) self.old.input self.new result (wants_item_at (rest self.old)) }
+        ensures { Reads (λ wants. wants) self.old.input self.new result (item_delimiter_at (rest self.old)) }
     {
         if self.take_if(b' ') {
             self.skip_sp();
@@ -130,7 +130,7 @@ impl<'de> Cursor<'de> {
     /// Takes the comma between two members, with the spaces and tabs around it. Answers whether a member is wanted, and not
     /// the end of the input.
     fn consume_comma(&mut self) -> Result<bool, Error>
-        ensures { Reads (λ wants. wants) self.old.input self.new result (wants_member_at (rest self.old)) }
+        ensures { Reads (λ wants. wants) self.old.input self.new result (member_delimiter_at (rest self.old)) }
     {
         self.skip_ows();
         if self.peek().is_none() {

@@ -2,8 +2,8 @@ use Rattle.std.proofs.Common.{Err, refl, sym, ap, ◌∙◌, flat_map}
 use Rattle.std.proofs.lemmas.Result.{err_from_is_err_and}
 use Rattle.sfv_spec.specs.Values.{dictionary_field}
 use Rattle.sfv_bare.specs.BareItems.{edition_of}
-use Rattle.sfv_spec.specs.Events.{events}
-use Rattle.sfv_reading.specs.Members.{keyed_events, keyed_at}
+use Rattle.sfv_spec.specs.Events.{events, keyed_events}
+use Rattle.sfv_reading.specs.Members.{keyed_at}
 use Rattle.sfv_reading.specs.Fields.{members_at, whole_field_at}
 use Rattle.sfv.specs.Cursor.{rest}
 use Rattle.sfv.proofs.Telling.{visits_as}

@@ -1,6 +1,7 @@
 use Rattle.std.proofs.Common.{◌≡◌, length}
 use Rattle.sfv_bare.specs.BareItems.{edition_of}
-use Rattle.sfv_reading.specs.Members.{entry_events, entry_at}
+use Rattle.sfv_spec.specs.Events.{entry_events}
+use Rattle.sfv_reading.specs.Members.{entry_at}
 use Rattle.sfv_reading.specs.Fields.{next_at, members_at}
 use Rattle.sfv.specs.Cursor.{rest}
 use Rattle.sfv.proofs.Loops.{VisitedSoFar}

@@ -1,6 +1,7 @@
 use Rattle.std.proofs.Common.{◌≡◌, length}
 use Rattle.sfv_bare.specs.BareItems.{edition_of}
-use Rattle.sfv_reading.specs.Members.{inner_item_events, next_item_at, inner_items_at}
+use Rattle.sfv_spec.specs.Events.{inner_item_events}
+use Rattle.sfv_reading.specs.Members.{next_item_at, inner_items_at}
 use Rattle.sfv.specs.Cursor.{rest}
 use Rattle.sfv.proofs.Loops.{VisitedSoFar}
 use Rattle.sfv.proofs.parser.cursor.Cursor.inner_items.Given as goal
