@@ -10,7 +10,7 @@ use Rattle.sfv_base.specs.declared.error.ErrorKind.TheVariants.{ExpectedInnerLis
 use Rattle.sfv_reading.specs.Reader.{Answer, Reader, first, byte, any, give, fail, back, ahead, branch, and_then, bind, span, led, many, ◌>>=◌}
 use Rattle.sfv_reading.specs.Members.{inner_item_at, next_item_at, inner_items_at}
 use Rattle.sfv_reading.specs.Fields.{comma_at, next_at, members_at}
-use Rattle.sfv_reading.proofs.Again.{bind_complete}
+use Rattle.sfv_reading.proofs.complete.Combinators.{bind_complete}
 use Rattle.sfv.specs.Cursor.{located, TakesIf}
 use Rattle.sfv.specs.Members.{item_delimiter_at, member_delimiter_at}
 use Rattle.sfv.proofs.Steps.{branch_true, branch_false}

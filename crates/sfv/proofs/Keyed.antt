@@ -11,7 +11,7 @@ use Rattle.sfv_base.specs.declared.error.ParseError.TheVariants.{Syntax, Visitor
 use Rattle.sfv_reading.specs.Reader.{Answer, Reader, byte, visited, led_answer, led, give, and_then, bind, ◌>>=◌}
 use Rattle.sfv_reading.specs.Items.{key_at, parameters_at}
 use Rattle.sfv_reading.specs.Members.{member_at, member_value_at, keyed_at}
-use Rattle.sfv_reading.proofs.Handed.{visited_then}
+use Rattle.sfv_reading.proofs.visits.Parts.{visited_then}
 use Rattle.sfv.specs.declared.parser.cursor.Cursor.{Cursor}
 use Rattle.sfv.specs.Cursor.{TakesIf, IsErrorOf}
 use Rattle.sfv.specs.Visits.{Visits, IsErrorOfVisit}

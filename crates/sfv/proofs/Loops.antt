@@ -11,9 +11,9 @@ use Rattle.sfv_base.specs.declared.error.ErrorKind.{ErrorKind}
 use Rattle.sfv_base.specs.declared.error.ErrorKind.TheVariants.{OutOfMemory}
 use Rattle.sfv_reading.specs.Reader.{Answer, Reader, visited, and_then, bind, give, led, many, ◌>>=◌}
 use Rattle.sfv_reading.specs.Visits.{VisitorFails}
-use Rattle.sfv_reading.proofs.Many.{Consumes, put, in_front, starts, regroup, many_is, goes_on, is_done, is_faulty}
-use Rattle.sfv_reading.proofs.Handed.{visited_in_front, failed_within}
-use Rattle.sfv_reading.proofs.Again.{bind_complete}
+use Rattle.sfv_reading.proofs.sound.Many.{Consumes, put, in_front, starts, regroup, many_is, goes_on, is_done, is_faulty}
+use Rattle.sfv_reading.proofs.visits.Parts.{visited_in_front, failed_within}
+use Rattle.sfv_reading.proofs.complete.Combinators.{bind_complete}
 use Rattle.sfv_base.specs.declared.error.ParseError.{ParseError}
 use Rattle.sfv_base.specs.declared.error.ParseError.TheVariants.{Syntax, Visitor}
 use Rattle.sfv.specs.declared.parser.cursor.Cursor.{Cursor}

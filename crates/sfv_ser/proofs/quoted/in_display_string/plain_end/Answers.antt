@@ -1,6 +1,6 @@
 use Rattle.std.proofs.Common.{◌∙◌, sym, arith}
 use Rattle.sfv_spec.specs.Strings.{is_plain_in_display}
-use Rattle.sfv_reading.proofs.Ranges.{run_more, run_join}
+use Rattle.sfv_reading.proofs.texts.Ranges.{run_more, run_join}
 use Rattle.sfv_ser.proofs.quoted.in_display_string.plain_end.Goals as goal
 
 pub loop-end-preserved : goal.loop-end-preserved

@@ -1,6 +1,6 @@
 use Rattle.std.proofs.Common.{rules, ◌≡◌, length, string_bytes}
 use Rattle.std.proofs.lemmas.Str.{IsUtf8-string_bytes}
-use Rattle.sfv_reading.proofs.Cuts.{cut}
+use Rattle.sfv_reading.proofs.texts.Cuts.{cut}
 use Rattle.sfv_ser.proofs.ser.append.append_bare_item.Goals as goal
 
 pub truncate-requires : goal.truncate-requires

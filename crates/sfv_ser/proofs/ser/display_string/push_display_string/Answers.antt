@@ -1,8 +1,8 @@
 use Rattle.std.proofs.Common.{◌++◌, codes, string_bytes, ap, append_assoc, arith, length, lit<}
 use Rattle.sfv_spec.specs.Strings.{is_plain_in_display}
 use Rattle.sfv_spec.specs.Canonical.{display_piece}
-use Rattle.sfv_reading.proofs.DisplaySteps.{plain_utf8}
-use Rattle.sfv_reading.proofs.Cuts.{on_ok_push}
+use Rattle.sfv_reading.proofs.quoted.DisplaySteps.{plain_utf8}
+use Rattle.sfv_reading.proofs.texts.Cuts.{on_ok_push}
 use Rattle.sfv_ser.proofs.Written.{display_itself, ran_on, ran_out}
 use Rattle.sfv_ser.proofs.ser.display_string.push_display_string.Goals as goal
 

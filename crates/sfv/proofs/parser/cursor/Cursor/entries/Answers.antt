@@ -5,8 +5,8 @@ use Rattle.sfv_spec.specs.Events.{entry_events}
 use Rattle.sfv_reading.specs.Members.{entry_at}
 use Rattle.sfv_reading.specs.Fields.{next_at}
 use Rattle.sfv_spec.specs.Grammar.{IsMemberText}
-use Rattle.sfv_reading.proofs.Members.{Sound-entry}
-use Rattle.sfv_reading.proofs.Separated.{Consumes-next}
+use Rattle.sfv_reading.proofs.sound.Members.{Sound-entry}
+use Rattle.sfv_reading.proofs.sound.Separated.{Consumes-next}
 use Rattle.sfv.specs.Cursor.{rest}
 use Rattle.sfv.specs.Members.{member_delimiter_at}
 use Rattle.sfv.proofs.Errors.{ErrorOf-fault}

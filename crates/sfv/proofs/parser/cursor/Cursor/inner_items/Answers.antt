@@ -3,7 +3,7 @@ use Rattle.std.proofs.lemmas.Result.{err_from_is_err_and}
 use Rattle.sfv_bare.specs.BareItems.{edition_of}
 use Rattle.sfv_spec.specs.Events.{inner_item_events}
 use Rattle.sfv_reading.specs.Members.{inner_item_at, next_item_at}
-use Rattle.sfv_reading.proofs.Members.{Consumes-next_item}
+use Rattle.sfv_reading.proofs.sound.Members.{Consumes-next_item}
 use Rattle.sfv.specs.Cursor.{rest}
 use Rattle.sfv.specs.Members.{item_delimiter_at}
 use Rattle.sfv.proofs.Errors.{ErrorOf-here, ErrorOf-fault}

@@ -1,7 +1,7 @@
 use Rattle.std.proofs.Common.{◌∙◌, refl}
 use Rattle.std.proofs.lemmas.Result.{err_from_is_err_and}
 use Rattle.sfv_bare.specs.BareItems.{edition_of}
-use Rattle.sfv_reading.proofs.Items.{Consumes-parameter}
+use Rattle.sfv_reading.proofs.sound.Items.{Consumes-parameter}
 use Rattle.sfv.specs.Cursor.{rest}
 use Rattle.sfv.proofs.Told.{visited_none, visited_more, visited_all, visited_error, located_failed, located_end_failed}
 use Rattle.sfv.proofs.parser.cursor.Cursor.parameters.Goals as goal
