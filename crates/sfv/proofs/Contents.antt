@@ -8,7 +8,8 @@ use Rattle.std.proofs.Math.Seq.{take-add}
 use Rattle.sfv_spec.proofs.Settled.{NotBegun}
 use Rattle.sfv_base.specs.declared.error.ErrorKind.TheVariants.{InvalidByteSequence, UnterminatedByteSequence}
 use Rattle.sfv_reading.specs.Reader.{Apart}
-use Rattle.sfv_reading.specs.Content.{is_symbol, most_padding, valid_from, fault_place, HasNoColon, bytes_at}
+use Rattle.sfv_spec.specs.Base64.{is_symbol}
+use Rattle.sfv_reading.specs.Content.{most_padding, valid_from, fault_place, HasNoColon, bytes_at}
 use Rattle.sfv_reading.proofs.Shape.{Shape, is_equals, shape_valid, valid_local}
 use Rattle.sfv_reading.proofs.Contents.{well_formed, gives_the_bytes, refused_at, lone_symbol}
 use Rattle.sfv_reading.proofs.ByteSequences.{symbols_apart, padding_apart, both_apart, no_colon, gives_value, gives_fault, gives_unclosed}

@@ -5,11 +5,11 @@ use Rattle.std.specs.List.{list_all, list_any}
 use Rattle.std.proofs.lemmas.Bool.{and_parts, eqb-true, eqb-false, cases_Bool, cases_lt, true≢false}
 use Rattle.std.proofs.lemmas.List.{length-append, take_more, drop_more, drop-append-le, take-append-le, drop_at, length-take-le, take-append-drop, drop-drop}
 use Rattle.std.proofs.lemmas.List.Folds.{list_all-append}
-use Rattle.sfv_spec.specs.Base64.{IsBase64Text, symbol}
+use Rattle.sfv_spec.specs.Base64.{IsBase64Text, symbol, is_symbol}
 use Rattle.sfv_spec.specs.Faults.{unterminated_byte_sequence}
 use Rattle.sfv_reading.specs.Reader.{first, Fault, by_rule}
 use Rattle.sfv_reading.specs.Judgements.{Reached, Sound, Mute, Quiet, IsFault, Lasts, Local}
-use Rattle.sfv_reading.specs.Content.{is_symbol, most_padding, padding_in, valid_from, bytes_of, fault_place, IsBytesEnd, is_colon, HasNoColon, content_in, content_fault, closed_by, bytes_at, IsBytesAt, IsInvalidAt}
+use Rattle.sfv_reading.specs.Content.{most_padding, padding_in, valid_from, bytes_of, fault_place, IsBytesEnd, is_colon, HasNoColon, content_in, content_fault, closed_by, bytes_at, IsBytesAt, IsInvalidAt}
 use Rattle.sfv_reading.specs.Claims.{IsBytesFault, BytesRead, ShunsMark, ShunsMarks}
 use Rattle.sfv_reading.proofs.Shape.{valid_local, are_symbols}
 use Rattle.sfv_reading.proofs.Contents.{gives_the_bytes, longest_valid, refused_at}

@@ -1,9 +1,9 @@
 -- Reading a Byte Sequence: its content from left to right, and the reader behind the opening colon.
-use Rattle.std.specs.Prelude.{◌≡◌, ◌++◌, ℕ, zero, suc, ◌+◌, ◌-◌, ◌*◌, ◌/◌, ◌%◌, ◌==◌, List, [], ◌∷◌, length, drop, Bool, not, ◌||◌, ◌&&◌, if◌then◌else◌, Option, Some, None, Ok, Err, codes}
+use Rattle.std.specs.Prelude.{◌≡◌, ◌++◌, ℕ, zero, suc, ◌+◌, ◌-◌, ◌*◌, ◌/◌, ◌%◌, ◌==◌, List, [], ◌∷◌, length, drop, Bool, not, ◌&&◌, if◌then◌else◌, Option, Some, None, Ok, Err, codes}
 use Rattle.std.specs.List.{list_any}
 use Rattle.sfv_spec.specs.Texts.{RunOf, Exactly, ◌⨾◌}
 use Rattle.sfv_spec.specs.Classes.{is_between}
-use Rattle.sfv_spec.specs.Base64.{IsBase64Text}
+use Rattle.sfv_spec.specs.Base64.{is_symbol, IsBase64Text}
 use Rattle.sfv_spec.specs.Faults.{unterminated_byte_sequence, invalid_byte_sequence}
 use Rattle.sfv_reading.specs.Reader.{Fault, Answer, Reader, placed, by_rule}
 
@@ -14,10 +14,6 @@ symbol_value c =
     else if is_between 0x61 0x7a c then c - 0x61 + 26
     else if is_between 0x30 0x39 c then c - 0x30 + 52
     else if c == 0x2b then 62 else 63
-
--- a symbol of Base64
-unfoldable pub is_symbol : ℕ → Bool
-is_symbol c = is_between 0x41 0x5a c || is_between 0x61 0x7a c || is_between 0x30 0x39 c || c == 0x2b || c == 0x2f
 
 -- how much padding may follow so many symbols
 abbrev pub most_padding : ℕ → ℕ

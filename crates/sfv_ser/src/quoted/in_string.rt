@@ -3,8 +3,7 @@
 ghost use Rattle.std.specs.Prelude.{◌≡◌, ◌≤◌, ◌<◌, length, slice_range, slice_index, IsFalse};
 ghost use Rattle.std.specs.List.{list_all};
 ghost use Rattle.sfv_spec.specs.Texts.{RunOf};
-ghost use Rattle.sfv_spec.specs.Strings.{is_escaped_in_string};
-ghost use Rattle.sfv_reading.specs.Quoted.{is_plain_in_string};
+ghost use Rattle.sfv_spec.specs.Strings.{is_escaped_in_string, is_plain_in_string};
 
 use sfv_base::utils::is_allowed_string_char;
 

@@ -1,5 +1,5 @@
 use Rattle.std.proofs.Common.{◌∙◌, sym, arith}
-use Rattle.sfv_reading.specs.Quoted.{is_plain_in_string}
+use Rattle.sfv_spec.specs.Strings.{is_plain_in_string}
 use Rattle.sfv_reading.proofs.Ranges.{run_more, run_join}
 use Rattle.sfv_ser.proofs.quoted.in_string.plain_end.Goals as goal
 

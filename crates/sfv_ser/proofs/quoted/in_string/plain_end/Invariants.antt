@@ -1,6 +1,6 @@
 use Rattle.std.proofs.Common.{length, ◌-◌, ◌≤◌, slice_range}
 use Rattle.sfv_spec.specs.Texts.{RunOf}
-use Rattle.sfv_reading.specs.Quoted.{is_plain_in_string}
+use Rattle.sfv_spec.specs.Strings.{is_plain_in_string}
 use Rattle.sfv_ser.proofs.quoted.in_string.plain_end.Given as goal
 
 abbrev pub invariant-loop-end : goal.invariant-loop-end

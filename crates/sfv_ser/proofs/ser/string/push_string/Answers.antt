@@ -1,6 +1,6 @@
 use Rattle.std.proofs.Common.{◌++◌, codes, string_bytes, ap, append_assoc, arith, length, lit<}
-use Rattle.sfv_reading.specs.Quoted.{is_plain_in_string}
 use Rattle.sfv_spec.specs.Canonical.{string_piece}
+use Rattle.sfv_spec.specs.Strings.{is_plain_in_string}
 use Rattle.sfv_reading.proofs.StringSteps.{plain_utf8}
 use Rattle.sfv_reading.proofs.Cuts.{on_ok_push}
 use Rattle.sfv_ser.proofs.Written.{string_itself, ran_on, ran_out}
