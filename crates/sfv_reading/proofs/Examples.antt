@@ -9,7 +9,8 @@ use Rattle.sfv_spec.specs.Grammar.{IsAccepted}
 use Rattle.sfv_reading.specs.Reader.{Fault, at_reach, by_rule, give, fail, ruled, bind, led, branch, ahead, back, up_to, span, many, many_within, visited}
 use Rattle.std.specs.Str.{is_utf8, chars}
 use Rattle.std.specs.Str.Lossy.{utf8_valid_len}
-use Rattle.sfv_reading.specs.Content.{symbol_value, is_symbol, padding_in, valid_from, values_in, bytes_from, bytes_of, fault_place, content_in, bytes_at}
+use Rattle.sfv_spec.specs.Base64.{is_symbol}
+use Rattle.sfv_reading.specs.Content.{symbol_value, padding_in, valid_from, values_in, bytes_from, bytes_of, fault_place, content_in, bytes_at}
 use Rattle.sfv_reading.specs.Quoted.{string_from, pieces_from, display_at}
 use Rattle.sfv_reading.specs.Bare.{sign_at, long_at, decimal_at, fraction_at, point_at, whole_at, number_at, boolean_at, token_at, date_at, quoted_at, bare_at}
 use Rattle.sfv_reading.specs.Items.{key_at, value_at, parameter_at, parameters_at, item_at}

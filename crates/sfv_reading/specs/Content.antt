@@ -1,10 +1,10 @@
 -- Reading a Byte Sequence: its content from left to right, and the reader behind the opening colon.
-use Rattle.std.specs.Prelude.{◌≡◌, ◌++◌, ℕ, zero, suc, ◌+◌, ◌-◌, ◌*◌, ◌/◌, ◌%◌, ◌==◌, List, [], ◌∷◌, length, drop, Bool, not, ◌||◌, ◌&&◌, if◌then◌else◌, Option, Some, None, Ok, Err, codes}
+use Rattle.std.specs.Prelude.{◌≡◌, ◌++◌, ℕ, zero, suc, ◌+◌, ◌-◌, ◌*◌, ◌/◌, ◌%◌, ◌==◌, List, [], ◌∷◌, length, drop, Bool, not, ◌&&◌, if◌then◌else◌, Option, Some, None, Ok, Err, codes}
 use Rattle.std.specs.List.{list_any}
 use Rattle.sfv_spec.specs.Ascii.{plus_sign, slash, digit_zero, digit_nine, colon, equals_sign, upper_a, upper_z, lower_a, lower_z}
 use Rattle.sfv_spec.specs.Texts.{RunOf, Exactly, ◌⨾◌}
 use Rattle.sfv_spec.specs.Classes.{is_between}
-use Rattle.sfv_spec.specs.Base64.{IsBase64Text}
+use Rattle.sfv_spec.specs.Base64.{is_symbol, IsBase64Text}
 use Rattle.sfv_spec.specs.Faults.{unterminated_byte_sequence, invalid_byte_sequence}
 use Rattle.sfv_reading.specs.Reader.{Fault, Answer, Reader, placed, by_rule}
 
@@ -15,10 +15,6 @@ symbol_value c =
     else if is_between lower_a lower_z c then c - lower_a + 26
     else if is_between digit_zero digit_nine c then c - digit_zero + 52
     else if c == plus_sign then 62 else 63
-
--- a symbol of Base64
-unfoldable pub is_symbol : ℕ → Bool
-is_symbol c = is_between upper_a upper_z c || is_between lower_a lower_z c || is_between digit_zero digit_nine c || c == plus_sign || c == slash
 
 -- how much padding may follow so many symbols
 abbrev pub most_padding : ℕ → ℕ

@@ -1,5 +1,5 @@
 -- Reading Strings and Display Strings: what stands behind the opening quote, from left to right.
-use Rattle.std.specs.Prelude.{◌≡◌, ℕ, zero, suc, ◌≤◌, ◌+◌, ◌*◌, Bool, true, false, not, ◌&&◌, List, [], ◌∷◌, ◌++◌, length, drop, Ok, Err, IsFalse, IsUtf8, ◌==◌, if◌then◌else◌, codes}
+use Rattle.std.specs.Prelude.{◌≡◌, ℕ, zero, suc, ◌≤◌, ◌+◌, ◌*◌, Bool, true, false, List, [], ◌∷◌, ◌++◌, length, drop, Ok, Err, IsFalse, IsUtf8, ◌==◌, if◌then◌else◌, codes}
 use Rattle.std.specs.List.{concat, AllZip}
 use Rattle.std.specs.Str.{is_utf8}
 use Rattle.std.specs.Str.Lossy.{utf8_valid_len}
@@ -17,10 +17,6 @@ IsStringEnd s t = (IsStringContent s ⨾ Exactly (codes "\"")) t
 -- the texts of a Display String behind its opening quote
 abbrev pub IsDisplayEnd : List ℕ → List ℕ → Type 0
 IsDisplayEnd s t = (IsDisplayContent s ⨾ Exactly (codes "\"")) t
-
--- a byte that a String writes for itself
-abbrev pub is_plain_in_string : ℕ → Bool
-is_plain_in_string c = is_string_byte c && not (is_escaped_in_string c)
 
 -- an answer behind bytes that were read before
 abbrev pub behind_bytes : List ℕ → Answer (List ℕ) → Answer (List ℕ)

@@ -6,9 +6,8 @@ use Rattle.std.proofs.lemmas.Bool.{and_parts, not-true}
 use Rattle.std.proofs.lemmas.List.{append-nil, take_more, take_all}
 use Rattle.sfv_spec.specs.Texts.{RunOf}
 use Rattle.sfv_spec.specs.Classes.{is_string_byte}
-use Rattle.sfv_spec.specs.Strings.{is_escaped_in_string, is_plain_in_display}
+use Rattle.sfv_spec.specs.Strings.{is_escaped_in_string, is_plain_in_display, is_plain_in_string}
 use Rattle.sfv_spec.specs.Canonical.{string_piece, display_piece}
-use Rattle.sfv_reading.specs.Quoted.{is_plain_in_string}
 
 flat_map_append : (f : ℕ → List ℕ) (xs ys : List ℕ) → flat_map f (xs ++ ys) ≡ flat_map f xs ++ flat_map f ys
 flat_map_append f [] ys = refl

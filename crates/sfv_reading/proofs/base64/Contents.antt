@@ -7,11 +7,11 @@ use Rattle.std.proofs.lemmas.List.{length-append, length-map, length-replicate, 
 use Rattle.std.proofs.lemmas.List.Folds.{list_all-append}
 use Rattle.sfv_spec.specs.Ascii.{colon, equals_sign, upper_a}
 use Rattle.sfv_spec.specs.Texts.{IsLongestBeginning}
-use Rattle.sfv_spec.specs.Base64.{symbol, bits, IsBase64Text}
+use Rattle.sfv_spec.specs.Base64.{symbol, bits, IsBase64Text, is_symbol}
 use Rattle.sfv_spec.specs.Faults.{BeginsBase64}
 use Rattle.sfv_spec.proofs.Settled.{NotBegun}
 use Rattle.sfv_spec.proofs.Bytes.{bytes_settle}
-use Rattle.sfv_reading.specs.Content.{is_symbol, symbol_value, most_padding, valid_from, values_in, bytes_from, bytes_of, fault_place}
+use Rattle.sfv_reading.specs.Content.{symbol_value, most_padding, valid_from, values_in, bytes_from, bytes_of, fault_place}
 use Rattle.sfv_reading.specs.Claims.{GivesTheBytes, GivesTheFault}
 use Rattle.sfv_reading.proofs.base64.Bits.{spare_of, same_bits, spare_length, bytes_within}
 use Rattle.sfv_reading.proofs.base64.Shape.{shape_of, shape_valid, are_symbols, are_values, symbols-values, values-symbols, valid_local, valid_run, padding-padded, padding-nil}

@@ -5,10 +5,10 @@ use Rattle.sfv_spec.specs.Ascii.{plus_sign, slash, digit_zero, digit_nine, equal
 use Rattle.sfv_spec.specs.Classes.{is_between}
 use Rattle.std.specs.List.{list_all}
 use Rattle.std.proofs.lemmas.Bool.{and_parts, eqb-true, ltb-true, cases_Bool, true≢false, or_cases}
-use Rattle.sfv_spec.specs.Base64.{symbol}
+use Rattle.sfv_spec.specs.Base64.{symbol, is_symbol}
 use Rattle.sfv_spec.proofs.Settled.{NotBegun}
 use Rattle.sfv_spec.proofs.Parts.{implied, between_below}
-use Rattle.sfv_reading.specs.Content.{is_symbol, symbol_value, most_padding, padding_in, valid_from, values_in}
+use Rattle.sfv_reading.specs.Content.{symbol_value, most_padding, padding_in, valid_from, values_in}
 use Rattle.sfv_reading.proofs.base64.Bits.{is_value}
 
 abbrev pub is_equals : ℕ → Bool

@@ -7,10 +7,10 @@ use Rattle.std.proofs.lemmas.List.{append-nil, drop-drop, drop_all, length-appen
 use Rattle.sfv_spec.specs.Ascii.{double_quote, backslash}
 use Rattle.sfv_spec.specs.Texts.{RunOf}
 use Rattle.sfv_spec.specs.Classes.{is_string_byte}
-use Rattle.sfv_spec.specs.Strings.{is_escaped_in_string, IsStringPiece}
+use Rattle.sfv_spec.specs.Strings.{is_escaped_in_string, IsStringPiece, is_plain_in_string}
 use Rattle.sfv_spec.specs.Faults.{SyntaxFault, unterminated_string, invalid_string_character}
 use Rattle.sfv_reading.specs.Reader.{Answer, at_reach}
-use Rattle.sfv_reading.specs.Quoted.{behind_bytes, is_plain_in_string, string_from, StringStops, Traced}
+use Rattle.sfv_reading.specs.Quoted.{behind_bytes, string_from, StringStops, Traced}
 use Rattle.sfv_reading.proofs.quoted.Traces.{Ends, trace_of_string}
 use Rattle.sfv_reading.proofs.quoted.Pieces.{behind_bytes_none, behind_bytes_more, behind_bytes_ok, past_string, quote_string, string_stops}
 use Rattle.sfv_reading.proofs.texts.Ranges.{byte_at, range_at, run_more, run_weaker, string_utf8, run_at}

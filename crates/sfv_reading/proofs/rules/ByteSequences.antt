@@ -8,7 +8,8 @@ use Rattle.sfv_spec.specs.Ascii.{colon, equals_sign, question_mark}
 use Rattle.sfv_spec.specs.Faults.{unterminated_byte_sequence}
 use Rattle.sfv_reading.specs.Reader.{Fault, by_rule}
 use Rattle.sfv_reading.specs.Judgements.{IsFault}
-use Rattle.sfv_reading.specs.Content.{is_symbol, most_padding, padding_in, valid_from, bytes_of, fault_place, is_colon, HasNoColon, content_in, content_fault, closed_by, bytes_at, IsBytesAt, IsInvalidAt}
+use Rattle.sfv_spec.specs.Base64.{is_symbol}
+use Rattle.sfv_reading.specs.Content.{most_padding, padding_in, valid_from, bytes_of, fault_place, is_colon, HasNoColon, content_in, content_fault, closed_by, bytes_at, IsBytesAt, IsInvalidAt}
 use Rattle.sfv_reading.specs.Claims.{IsBytesFault, BytesRead, ShunsMark, ShunsMarks}
 use Rattle.sfv_reading.proofs.base64.Contents.{rejected_at}
 use Rattle.sfv_reading.proofs.sound.ByteSequences.{no_colon, content_split, read_closed, read_value, read_fault, read_unclosed, Sound-bytes}

@@ -6,11 +6,11 @@ use Rattle.std.proofs.lemmas.Bool.{and_parts, eqb-true, eqb-false, cases_Bool, c
 use Rattle.std.proofs.lemmas.List.{take-append-le, drop_at, take-append-drop, drop-drop}
 use Rattle.std.proofs.lemmas.List.Folds.{list_all-append}
 use Rattle.sfv_spec.specs.Ascii.{colon, equals_sign}
-use Rattle.sfv_spec.specs.Base64.{IsBase64Text, symbol}
+use Rattle.sfv_spec.specs.Base64.{IsBase64Text, symbol, is_symbol}
 use Rattle.sfv_spec.specs.Faults.{unterminated_byte_sequence}
 use Rattle.sfv_reading.specs.Reader.{first, by_rule}
 use Rattle.sfv_reading.specs.Judgements.{Reached, Sound, Mute, Quiet}
-use Rattle.sfv_reading.specs.Content.{is_symbol, valid_from, bytes_of, fault_place, IsBytesEnd, is_colon, HasNoColon, content_in, content_fault, closed_by, bytes_at}
+use Rattle.sfv_reading.specs.Content.{valid_from, bytes_of, fault_place, IsBytesEnd, is_colon, HasNoColon, content_in, content_fault, closed_by, bytes_at}
 use Rattle.sfv_reading.proofs.base64.Shape.{are_symbols}
 use Rattle.sfv_reading.proofs.base64.Contents.{gives_the_bytes, longest_valid}
 

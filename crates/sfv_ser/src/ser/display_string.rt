@@ -5,8 +5,8 @@ ghost use Rattle.sfv_spec.specs.Values.{display_string};
 ghost use Rattle.sfv_spec.specs.Canonical.{hexadecimal_digit, display_piece, bare_text};
 ghost use Rattle.sfv_ser.specs.Written.{Extends};
 
-use crate::quoted::in_display_string::{is_plain, plain_end};
 use sfv_base::error::OutOfMemory;
+use sfv_base::runs::{PlainInDisplayString, is_of, run_end_from};
 use std::alloc::{AllocError, Allocator};
 
 /// The digit of a number below 16.
@@ -27,7 +27,7 @@ fn push_byte<A: Allocator>(output: &mut String<A>, byte: u8) -> Result<(), Alloc
     ensures ok { OnOk result (string_bytes output.new ≡ string_bytes output.old ++ display_piece byte) }
     ensures err { OnErr result (Extends (string_bytes output.old) (string_bytes output.new)) }
 {
-    if is_plain(byte) {
+    if is_of::<PlainInDisplayString>(byte) {
         return output.push(byte as char);
     }
     output.push('%')?;
@@ -44,7 +44,7 @@ fn push_display_string<A: Allocator>(output: &mut String<A>, text: &str) -> Resu
     let bytes = text.as_bytes();
     let mut at = 0;
     loop {
-        let end = plain_end(bytes, at);
+        let end = run_end_from::<PlainInDisplayString>(bytes, at);
         // Plain bytes are ASCII, so a run of them can be cut out of a text.
         output.push_str(unsafe { std::str::from_utf8_unchecked(&bytes[at..end]) })?;
         if end >= bytes.len() {

@@ -8,8 +8,9 @@ ghost use Rattle.sfv_spec.specs.Canonical.{string_piece, bare_text};
 ghost use Rattle.sfv_text.specs.StringText.{string_text};
 ghost use Rattle.sfv_ser.specs.Written.{Extends};
 
-use crate::quoted::in_string::{is_escaped, plain_end};
 use sfv_base::error::OutOfMemory;
+use sfv_base::runs::{PlainInString, run_end_from};
+use sfv_base::utils::is_escaped_in_string;
 use sfv_text::string_ref::StringRef;
 use std::alloc::{AllocError, Allocator};
 
@@ -19,7 +20,7 @@ fn push_byte<A: Allocator>(output: &mut String<A>, byte: u8) -> Result<(), Alloc
     ensures ok { OnOk result (string_bytes output.new ≡ string_bytes output.old ++ string_piece byte) }
     ensures err { OnErr result (Extends (string_bytes output.old) (string_bytes output.new)) }
 {
-    if is_escaped(byte) {
+    if is_escaped_in_string(byte) {
         output.push('\\')?;
     }
     output.push(byte as char)
@@ -35,7 +36,7 @@ fn push_string<A: Allocator>(output: &mut String<A>, text: &str) -> Result<(), A
     let bytes = text.as_bytes();
     let mut at = 0;
     loop {
-        let end = plain_end(bytes, at);
+        let end = run_end_from::<PlainInString>(bytes, at);
         // Plain bytes are ASCII, so a run of them can be cut out of a text.
         output.push_str(unsafe { std::str::from_utf8_unchecked(&bytes[at..end]) })?;
         if end >= bytes.len() {
