@@ -1,4 +1,5 @@
 use Rattle.std.proofs.Common.{◌++◌, codes, string_bytes, ap, append_assoc, arith, length, lit<}
+use Rattle.sfv_spec.specs.Strings.{is_plain_in_string}
 use Rattle.sfv_spec.specs.Canonical.{string_piece}
 use Rattle.sfv_reading.proofs.quoted.StringSteps.{plain_utf8}
 use Rattle.sfv_reading.proofs.texts.Cuts.{on_ok_push}
