@@ -1,9 +1,9 @@
 //! Writing display strings (RFC 9651, section 4.1.11).
 
-ghost use Rattle.std.specs.Prelude.{◌≡◌, ◌++◌, ◌<◌, OnOk, OnErr, string_bytes};
+ghost use Rattle.std.specs.Prelude.{◌≡◌, ◌<◌};
 ghost use Rattle.sfv_spec.specs.Values.{display_string};
 ghost use Rattle.sfv_spec.specs.Canonical.{hexadecimal_digit, display_piece, bare_text};
-ghost use Rattle.sfv_ser.specs.Written.{Extends};
+ghost use Rattle.sfv_ser.specs.Written.{Appends};
 
 use sfv_base::error::OutOfMemory;
 use sfv_base::runs::{PlainInDisplayString, is_of, run_end_from};
@@ -22,10 +22,9 @@ fn digit_of(value: u8) -> char
     }
 }
 
-/// Adds a byte of a display string, or a part of its escape.
+/// Appends a byte of a display string, or a part of its escape.
 fn push_byte<A: Allocator>(output: &mut String<A>, byte: u8) -> Result<(), AllocError>
-    ensures ok { OnOk result (string_bytes output.new ≡ string_bytes output.old ++ display_piece byte) }
-    ensures err { OnErr result (Extends (string_bytes output.old) (string_bytes output.new)) }
+    ensures text { Appends output.old output.new (display_piece byte) result }
 {
     if is_of::<PlainInDisplayString>(byte) {
         return output.push(byte as char);
@@ -35,10 +34,9 @@ fn push_byte<A: Allocator>(output: &mut String<A>, byte: u8) -> Result<(), Alloc
     output.push(digit_of(byte % 16))
 }
 
-/// Adds a display string, or a part of it.
+/// Appends a display string, or a part of it.
 fn push_display_string<A: Allocator>(output: &mut String<A>, text: &str) -> Result<(), AllocError>
-    ensures ok { OnOk result (string_bytes output.new ≡ string_bytes output.old ++ bare_text (display_string text.now)) }
-    ensures err { OnErr result (Extends (string_bytes output.old) (string_bytes output.new)) }
+    ensures text { Appends output.old output.new (bare_text (display_string text.now)) result }
 {
     output.push_str("%\"")?;
     let bytes = text.as_bytes();
@@ -60,8 +58,7 @@ pub(crate) fn serialize_display_string<A: Allocator>(
     value: &str,
     output: &mut String<A>,
 ) -> Result<(), OutOfMemory>
-    ensures ok { OnOk result (string_bytes output.new ≡ string_bytes output.old ++ bare_text (display_string value.now)) }
-    ensures err { OnErr result (Extends (string_bytes output.old) (string_bytes output.new)) }
+    ensures text { Appends output.old output.new (bare_text (display_string value.now)) result }
 {
     push_display_string(output, value)?;
     Ok(())
