@@ -166,7 +166,8 @@ impl Clone for ListEntry {
     }
 }
 
-/// Returns the member of this key in a dictionary (RFC 9651, section 3.2), or `None` if there is none. It takes no memory.
+/// Returns the member of this key in a dictionary (RFC 9651, section 3.2), or `None` if there is none. It takes no
+/// memory.
 pub fn find_entry<'a>(dictionary: &'a Dictionary, key: KeyRef<'_>) -> Option<&'a ListEntry>
     ensures { option_copied result ≡ get bytes_eq dictionary.now (key_text key.entry) }
 {
@@ -178,7 +179,8 @@ pub fn find_entry<'a>(dictionary: &'a Dictionary, key: KeyRef<'_>) -> Option<&'a
     None
 }
 
-/// Returns the value of the parameter of this key (RFC 9651, section 3.1.2), or `None` if there is none. It takes no memory.
+/// Returns the value of the parameter of this key (RFC 9651, section 3.1.2), or `None` if there is none. It takes no
+/// memory.
 pub fn find_param<'a>(params: &'a Parameters, key: KeyRef<'_>) -> Option<&'a BareItem>
     ensures { option_copied result ≡ get bytes_eq params.now (key_text key.entry) }
 {
