@@ -8,10 +8,12 @@ use Rattle.std.proofs.Math.Seq.{take-add}
 use Rattle.sfv_spec.proofs.Settled.{NotBegun}
 use Rattle.sfv_base.specs.declared.error.ErrorKind.TheVariants.{InvalidByteSequence, UnterminatedByteSequence}
 use Rattle.sfv_reading.specs.Reader.{Apart}
-use Rattle.sfv_reading.specs.Content.{is_symbol, most_padding, valid_from, fault_place, HasNoColon, bytes_at}
-use Rattle.sfv_reading.proofs.Shape.{Shape, is_equals, shape_valid, valid_local}
-use Rattle.sfv_reading.proofs.Contents.{well_formed, gives_the_bytes, rejected_at, lone_symbol}
-use Rattle.sfv_reading.proofs.ByteSequences.{symbols_apart, padding_apart, both_apart, no_colon, gives_value, gives_fault, gives_unclosed}
+use Rattle.sfv_spec.specs.Base64.{is_symbol}
+use Rattle.sfv_reading.specs.Content.{most_padding, valid_from, fault_place, HasNoColon, bytes_at}
+use Rattle.sfv_reading.proofs.base64.Shape.{Shape, is_equals, shape_valid, valid_local}
+use Rattle.sfv_reading.proofs.base64.Contents.{well_formed, gives_the_bytes, rejected_at, lone_symbol}
+use Rattle.sfv_reading.proofs.sound.ByteSequences.{symbols_apart, padding_apart, both_apart, no_colon}
+use Rattle.sfv_reading.proofs.rules.ByteSequences.{gives_value, gives_fault, gives_unclosed}
 use Rattle.sfv_reading.specs.Content.{IsContentAt, IsBytesAt, IsInvalidAt}
 use Rattle.sfv.specs.Cursor.{located}
 use Rattle.sfv.specs.Runs.{IsSymbolRun, IsPaddingRun}

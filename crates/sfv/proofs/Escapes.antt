@@ -9,8 +9,8 @@ use Rattle.sfv_base.specs.declared.error.ErrorKind.TheVariants.{OutOfMemory, Unt
 use Rattle.sfv_base.specs.Errors.{kind_of, index_of}
 use Rattle.sfv_reading.specs.Reader.{Answer, Reader}
 use Rattle.sfv_reading.specs.Quoted.{behind_bytes, string_from, outside, percent, digit, pieces_from, checked, display_at}
-use Rattle.sfv_reading.proofs.Ranges.{byte_at}
-use Rattle.sfv_reading.proofs.Pieces.{behind_bytes_more}
+use Rattle.sfv_reading.proofs.texts.Ranges.{byte_at}
+use Rattle.sfv_reading.proofs.quoted.Pieces.{behind_bytes_more}
 use Rattle.sfv.specs.Cursor.{located, IsFaultOf, IsErrorOf}
 
 -- ---- a fault of one answer that is a fault of another

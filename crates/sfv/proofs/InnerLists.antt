@@ -3,13 +3,13 @@ use Rattle.std.proofs.Common.{◌≡◌, ℕ, true, false, List, [], ◌∷◌, 
 use Rattle.std.specs.Prelude.{Result}
 use Rattle.std.specs.declared.alloc.Global.{Global}
 use Rattle.sfv_spec.specs.Values.{Edition, RawParameters, RawItem, RawMember, item, inner_list}
-use Rattle.sfv_spec.specs.Events.{TreeEvent, begins_item, begins_inner_list, inner_list_end, parameters_events, item_events, member_events}
+use Rattle.sfv_spec.specs.Events.{TreeEvent, begins_item, begins_inner_list, inner_list_end, parameters_events, item_events, member_events, inner_item_events}
 use Rattle.sfv_spec.specs.Visiting.{RunsTo}
 use Rattle.sfv_base.specs.declared.error.ParseError.{ParseError}
 use Rattle.sfv_base.specs.declared.error.ParseError.TheVariants.{Syntax, Visitor}
 use Rattle.sfv_reading.specs.Reader.{Answer, Reader, byte, led_answer, led, give, and_then, bind, ◌>>=◌}
 use Rattle.sfv_reading.specs.Items.{parameters_at, item_at}
-use Rattle.sfv_reading.specs.Members.{inner_item_events, inner_items_at, inner_of, closed_events, inner_at, member_at}
+use Rattle.sfv_reading.specs.Members.{inner_items_at, inner_of, closed_events, inner_at, member_at}
 use Rattle.sfv_reading.specs.Visits.{VisitorFails}
 use Rattle.sfv.specs.declared.parser.Parser.{Parser}
 use Rattle.sfv.specs.declared.parser.cursor.Cursor.{Cursor}

@@ -3,14 +3,14 @@ use Rattle.std.proofs.Common.{◌≡◌, ℕ, true, false, List, [], ◌∷◌, 
 use Rattle.std.specs.Prelude.{Result}
 use Rattle.std.specs.declared.alloc.Global.{Global}
 use Rattle.sfv_spec.specs.Values.{Edition, boolean, RawParameters, RawMember}
-use Rattle.sfv_spec.specs.Events.{TreeEvent, keyed_entry, begins_item, bare_item, parameters_events, member_events}
+use Rattle.sfv_spec.specs.Events.{TreeEvent, keyed_entry, begins_item, bare_item, parameters_events, member_events, keyed_events}
 use Rattle.sfv_spec.specs.Grammar.{true_with}
 use Rattle.sfv_base.specs.declared.error.Error.{Error}
 use Rattle.sfv_base.specs.declared.error.ParseError.{ParseError}
 use Rattle.sfv_reading.specs.Reader.{Answer, Reader, byte, visited, led_answer, led, give, and_then, bind, ◌>>=◌}
 use Rattle.sfv_reading.specs.Items.{key_at, parameters_at}
-use Rattle.sfv_reading.specs.Members.{member_at, member_value_at, keyed_events, keyed_at}
-use Rattle.sfv_reading.proofs.Handed.{visited_then}
+use Rattle.sfv_reading.specs.Members.{member_at, member_value_at, keyed_at}
+use Rattle.sfv_reading.proofs.visits.Parts.{visited_then}
 use Rattle.sfv.specs.declared.parser.Parser.{Parser}
 use Rattle.sfv.specs.declared.parser.cursor.Cursor.{Cursor}
 use Rattle.sfv.specs.Cursor.{TakesIf, kept_input, IsErrorOf}

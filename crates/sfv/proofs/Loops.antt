@@ -6,26 +6,26 @@ use Rattle.std.proofs.lemmas.List.{append-nil}
 use Rattle.std.proofs.lemmas.List.Concat.{flat_map-append}
 use Rattle.sfv_spec.specs.Values.{Edition, RawItem}
 use Rattle.sfv_spec.specs.Grammar.{IsMemberText, IsDictionaryMemberText}
-use Rattle.sfv_spec.specs.Events.{TreeEvent}
+use Rattle.sfv_spec.specs.Events.{TreeEvent, inner_item_events, entry_events, keyed_events}
 use Rattle.sfv_spec.specs.Visiting.{RunsTo}
 use Rattle.sfv_base.specs.declared.error.Error.{Error}
 use Rattle.sfv_base.specs.declared.error.ErrorKind.{ErrorKind}
 use Rattle.sfv_base.specs.declared.error.ErrorKind.TheVariants.{OutOfMemory}
 use Rattle.sfv_reading.specs.Reader.{Answer, Reader, visited, and_then, bind, give, led, many, ◌>>=◌}
-use Rattle.sfv_reading.specs.Members.{inner_item_events, inner_item_at, next_item_at, entry_events, entry_at, keyed_events, keyed_at}
+use Rattle.sfv_reading.specs.Members.{inner_item_at, next_item_at, entry_at, keyed_at}
 use Rattle.sfv_reading.specs.Fields.{next_at}
 use Rattle.sfv_reading.specs.Visits.{VisitorFails}
-use Rattle.sfv_reading.proofs.Members.{Consumes-next_item, Sound-entry, Sound-keyed}
-use Rattle.sfv_reading.proofs.Separated.{Consumes-next}
-use Rattle.sfv_reading.proofs.Many.{Consumes, put, in_front, starts, regroup, many_is, goes_on, is_done, is_faulty}
-use Rattle.sfv_reading.proofs.Handed.{visited_in_front, failed_within}
-use Rattle.sfv_reading.proofs.Again.{bind_complete}
+use Rattle.sfv_reading.proofs.sound.Members.{Consumes-next_item, Sound-entry, Sound-keyed}
+use Rattle.sfv_reading.proofs.sound.Separated.{Consumes-next}
+use Rattle.sfv_reading.proofs.sound.Many.{Consumes, put, in_front, starts, regroup, many_is, goes_on, is_done, is_faulty}
+use Rattle.sfv_reading.proofs.visits.Parts.{visited_in_front, failed_within}
+use Rattle.sfv_reading.proofs.complete.Combinators.{bind_complete}
 use Rattle.sfv_base.specs.declared.error.ParseError.{ParseError}
 use Rattle.sfv_base.specs.declared.error.ParseError.TheVariants.{Syntax, Visitor}
 use Rattle.sfv.specs.declared.parser.Parser.{Parser}
 use Rattle.sfv.specs.declared.parser.cursor.Cursor.{Cursor}
 use Rattle.sfv.specs.Cursor.{kept, kept_input, edition, input, rest, located, IsFaultOf, IsErrorOf}
-use Rattle.sfv.specs.Members.{wants_item_at, wants_member_at, MemberValue, member_parts, one_member_at}
+use Rattle.sfv.specs.Members.{item_delimiter_at, member_delimiter_at, MemberValue, member_parts, one_member_at}
 use Rattle.sfv.specs.Visits.{VisitsAnswer, Visits}
 use Rattle.sfv.proofs.Errors.{ErrorOf-fault, ErrorOf-same, ErrorOf-part}
 use Rattle.sfv.proofs.Parameters.{runs_on}
@@ -224,7 +224,7 @@ module _ {A S E : Type 0} (takes : S → TreeEvent → S → Type 0) (fails : S 
 -- ---- the items of an inner list, and the members of lists and dictionaries
 
 abbrev pub items_loop : Loop RawItem
-items_loop = record { parts = inner_item_events; one = inner_item_at; delimiter = wants_item_at; next = next_item_at; consumes = Consumes-next_item; is_next = next_item_is }
+items_loop = record { parts = inner_item_events; one = inner_item_at; delimiter = item_delimiter_at; next = next_item_at; consumes = Consumes-next_item; is_next = next_item_is }
 
 pub consumes_member : (keyed : Bool) (edition : Edition) → Consumes (next_at (one_member_at keyed edition))
 consumes_member true edition = Consumes-next (IsDictionaryMemberText edition) keyed_events (keyed_at edition) (Sound-keyed edition)
@@ -234,7 +234,7 @@ abbrev pub members_loop : (keyed : Bool) → Loop (MemberValue keyed)
 members_loop keyed = record {
   parts = member_parts keyed;
   one = one_member_at keyed;
-  delimiter = wants_member_at;
+  delimiter = member_delimiter_at;
   next = λ edition. next_at (one_member_at keyed edition);
   consumes = consumes_member keyed;
   is_next = λ edition. next_member_is (one_member_at keyed edition);

@@ -13,9 +13,9 @@ use Rattle.sfv_reading.specs.Reader.{Answer, visited, and_then, bind, give, ◌>
 use Rattle.sfv_reading.specs.Bare.{bare_at}
 use Rattle.sfv_reading.specs.Items.{parameter_event, parameter_at, parameters_at, item_at, item_of}
 use Rattle.sfv_reading.specs.Visits.{VisitorFails}
-use Rattle.sfv_reading.proofs.Many.{in_front, starts, goes_on, is_done, is_faulty}
-use Rattle.sfv_reading.proofs.Items.{Consumes-parameter}
-use Rattle.sfv_reading.proofs.Handed.{visited_then}
+use Rattle.sfv_reading.proofs.sound.Many.{in_front, starts, goes_on, is_done, is_faulty}
+use Rattle.sfv_reading.proofs.sound.Items.{Consumes-parameter}
+use Rattle.sfv_reading.proofs.visits.Parts.{visited_then}
 use Rattle.sfv_base.specs.declared.error.ParseError.{ParseError}
 use Rattle.sfv_base.specs.declared.error.ParseError.TheVariants.{Syntax, Visitor}
 use Rattle.sfv.specs.declared.parser.Parser.{Parser}

@@ -9,7 +9,7 @@ use Rattle.sfv_spec.specs.Texts.{RunOf}
 use Rattle.sfv_spec.specs.Classes.{is_digit}
 use Rattle.sfv_spec.specs.Numbers.{place_value}
 use Rattle.sfv_reading.specs.Reader.{Apart, up_to, span}
-use Rattle.sfv_reading.proofs.Again.{Apart-nil, Apart-cons, up_to_taken, span_complete}
+use Rattle.sfv_reading.proofs.complete.Combinators.{Apart-nil, Apart-cons, up_to_taken, span_complete}
 
 -- one byte more of a run
 pub run_more : (class : ℕ → Bool) (xs : List ℕ) (i : ℕ) → i < length xs → RunOf class (take i xs) → class (get_or xs i 0) ≡ true → RunOf class (take (i + 1) xs)

@@ -19,11 +19,11 @@ use Rattle.sfv_reading.specs.Items.{item_at}
 use Rattle.sfv_reading.specs.Fields.{members_at, whole_field_at, ending, read_field}
 use Rattle.sfv_reading.specs.Judgements.{Reached}
 use Rattle.sfv_reading.specs.Visits.{VisitorFails}
-use Rattle.sfv_reading.proofs.Again.{bind_complete}
-use Rattle.sfv_reading.proofs.Sound.{Somewhere}
-use Rattle.sfv_reading.proofs.Fields.{FieldGoes, Sound-field}
+use Rattle.sfv_reading.proofs.complete.Combinators.{bind_complete}
+use Rattle.sfv_reading.proofs.sound.Combinators.{Somewhere}
+use Rattle.sfv_reading.proofs.sound.Fields.{FieldGoes, Sound-field}
 use Rattle.sfv_reading.proofs.Theorems.{read_is_accepted}
-use Rattle.sfv_reading.proofs.Told.{visited_begins, failed_begins}
+use Rattle.sfv_reading.proofs.visits.Fields.{visited_begins, failed_begins}
 use Rattle.sfv.specs.declared.parser.Parser.{Parser}
 use Rattle.sfv.specs.declared.parser.cursor.Cursor.{Cursor}
 use Rattle.sfv.specs.Cursor.{kept_input, located, IsErrorOf}

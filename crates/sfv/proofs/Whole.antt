@@ -11,7 +11,7 @@ use Rattle.sfv_base.specs.declared.error.ErrorKind.TheVariants.{OutOfMemory, Tra
 use Rattle.sfv_reading.specs.Reader.{Answer, Reader, first, give, ◌>>=◌, span}
 use Rattle.sfv_reading.specs.Items.{item_at}
 use Rattle.sfv_reading.specs.Fields.{whole_field_at, ending, read_field}
-use Rattle.sfv_reading.proofs.Again.{bind_complete}
+use Rattle.sfv_reading.proofs.complete.Combinators.{bind_complete}
 use Rattle.sfv.specs.declared.parser.Parser.{Parser}
 use Rattle.sfv.specs.declared.parser.cursor.Cursor.{Cursor}
 use Rattle.sfv.specs.Cursor.{kept, kept_input, rest, located, IsErrorOf}

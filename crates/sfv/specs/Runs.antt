@@ -1,8 +1,8 @@
 -- Runs of symbols of Base64, and of padding.
 use Rattle.std.specs.Prelude.{◌≡◌, ℕ, ◌≤◌, ◌⊎◌, List, length, take, drop, replicate}
 use Rattle.sfv_spec.specs.Texts.{RunOf}
+use Rattle.sfv_spec.specs.Base64.{is_symbol}
 use Rattle.sfv_reading.specs.Reader.{Apart, byte}
-use Rattle.sfv_reading.specs.Content.{is_symbol}
 
 -- the first n bytes, and no more, are symbols
 pub record IsSymbolRun (t : List ℕ) (n : ℕ) : Type 0 where

@@ -1,1 +1,4 @@
 pub mod DecimalText
+mod Masks
+mod Rows
+mod RunEnds

@@ -1,4 +1,6 @@
 pub mod Conversions
 pub mod Errors
+pub mod Lanes
 pub mod Messages
 pub mod ParseErrors
+pub mod Rows

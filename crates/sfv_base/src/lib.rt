@@ -1,11 +1,13 @@
-//! The values that other values of structured fields (RFC 9651) are made of: faults, classes of bytes
-//! and numbers.
+//! The values that other values of structured fields (RFC 9651) are made of: faults, numbers, and
+//! classes of bytes and where runs of them end.
 #![tactic(auto)]
 
 pub mod date;
 pub mod decimal;
 pub mod error;
 pub mod integer;
+mod lanes;
+pub mod runs;
 pub mod shorthand;
 #[cfg(test)]
 mod tests;

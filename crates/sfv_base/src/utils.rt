@@ -1,65 +1,140 @@
-//! The classes of bytes (RFC 9651, sections 3.1.2, 3.3.3, 3.3.4 and 3.3.8).
+//! The classes of bytes (RFC 9651, sections 3.1.2, 3.3.3, 3.3.4 and 3.3.8), as one table.
+#![tactic(auto, using(crate::proofs::Rows::class_bits))]
 
 ghost use Rattle.std.specs.Prelude.{◌≡◌};
-ghost use Rattle.sfv_spec.specs.Classes.{is_digit, is_space, is_string_byte, is_token_start, is_token_inner, is_key_start, is_key_inner, is_lower_hexadecimal};
+ghost use Rattle.sfv_spec.specs.Classes.{is_string_byte, is_token_start, is_token_inner, is_key_start, is_key_inner, is_lower_hexadecimal};
+ghost use Rattle.sfv_spec.specs.Strings.{is_escaped_in_string};
+ghost use Rattle.sfv_base.specs.Rows.{row_of};
+
+const STRING: u8 = 1;
+
+const TOKEN_START: u8 = 2;
+
+const TOKEN_INNER: u8 = 4;
+
+const KEY_START: u8 = 8;
+
+const KEY_INNER: u8 = 16;
+
+const LOWER_HEXADECIMAL: u8 = 32;
+
+/// The sum of the classes of each byte.
+#[rattlefmt::skip]
+static ROWS: [u8; 256] = [
+    0, 0, 0, 0, 0, 0, 0, 0, 0, 0, 0, 0, 0, 0, 0, 0,
+    0, 0, 0, 0, 0, 0, 0, 0, 0, 0, 0, 0, 0, 0, 0, 0,
+    1, 5, 1, 5, 5, 5, 5, 5, 1, 1, 31, 5, 1, 21, 21, 5,
+    53, 53, 53, 53, 53, 53, 53, 53, 53, 53, 5, 1, 1, 1, 1, 1,
+    1, 7, 7, 7, 7, 7, 7, 7, 7, 7, 7, 7, 7, 7, 7, 7,
+    7, 7, 7, 7, 7, 7, 7, 7, 7, 7, 7, 1, 1, 1, 5, 21,
+    5, 63, 63, 63, 63, 63, 63, 31, 31, 31, 31, 31, 31, 31, 31, 31,
+    31, 31, 31, 31, 31, 31, 31, 31, 31, 31, 31, 1, 5, 1, 5, 0,
+    0, 0, 0, 0, 0, 0, 0, 0, 0, 0, 0, 0, 0, 0, 0, 0,
+    0, 0, 0, 0, 0, 0, 0, 0, 0, 0, 0, 0, 0, 0, 0, 0,
+    0, 0, 0, 0, 0, 0, 0, 0, 0, 0, 0, 0, 0, 0, 0, 0,
+    0, 0, 0, 0, 0, 0, 0, 0, 0, 0, 0, 0, 0, 0, 0, 0,
+    0, 0, 0, 0, 0, 0, 0, 0, 0, 0, 0, 0, 0, 0, 0, 0,
+    0, 0, 0, 0, 0, 0, 0, 0, 0, 0, 0, 0, 0, 0, 0, 0,
+    0, 0, 0, 0, 0, 0, 0, 0, 0, 0, 0, 0, 0, 0, 0, 0,
+    0, 0, 0, 0, 0, 0, 0, 0, 0, 0, 0, 0, 0, 0, 0, 0,
+];
+
+#[inline(always)]
+fn row(byte: u8) -> u8
+    ensures { result ≡ row_of byte }
+{
+    ROWS[usize::from(byte)]
+}
 
 /// Whether a string may hold the byte: printable ASCII, from 0x20 to 0x7e.
+#[inline(always)]
 pub fn is_allowed_string_char(c: u8) -> bool
     ensures { result ≡ is_string_byte c }
 {
-    matches!(c, b' '..=b'~')
+    row(c) & STRING != 0
+}
+
+/// Whether a string writes the byte behind a backslash.
+#[inline(always)]
+pub fn is_escaped_in_string(c: u8) -> bool
+    ensures { result ≡ is_escaped_in_string c }
+{
+    matches!(c, b'"' | b'\\')
 }
 
 /// Whether a token may begin with the byte.
+#[inline(always)]
 pub fn is_allowed_start_token_char(c: u8) -> bool
     ensures { result ≡ is_token_start c }
 {
-    c.is_ascii_alphabetic() || c == b'*'
+    row(c) & TOKEN_START != 0
 }
 
 /// Whether the byte may stand in a token behind its first.
+#[inline(always)]
 pub fn is_allowed_inner_token_char(c: u8) -> bool
     ensures { result ≡ is_token_inner c }
 {
-    c.is_ascii_alphanumeric()
-        || matches!(
-            c,
-            b'!' | b'#'
-                | b'$'
-                | b'%'
-                | b'&'
-                | b'\''
-                | b'*'
-                | b'+'
-                | b'-'
-                | b'.'
-                | b'^'
-                | b'_'
-                | b'`'
-                | b'|'
-                | b'~'
-                | b':'
-                | b'/'
-        )
+    row(c) & TOKEN_INNER != 0
 }
 
 /// Whether a key may begin with the byte.
+#[inline(always)]
 pub fn is_allowed_start_key_char(c: u8) -> bool
     ensures { result ≡ is_key_start c }
 {
-    c.is_ascii_lowercase() || c == b'*'
+    row(c) & KEY_START != 0
 }
 
 /// Whether the byte may stand in a key behind its first.
+#[inline(always)]
 pub fn is_allowed_inner_key_char(c: u8) -> bool
     ensures { result ≡ is_key_inner c }
 {
-    c.is_ascii_lowercase() || c.is_ascii_digit() || matches!(c, b'_' | b'-' | b'.' | b'*')
+    row(c) & KEY_INNER != 0
 }
 
 /// Whether the byte is a digit of an escape in a display string.
+#[inline(always)]
 pub fn is_lower_hexadecimal_digit(c: u8) -> bool
     ensures { result ≡ is_lower_hexadecimal c }
 {
-    c.is_ascii_digit() || matches!(c, b'a'..=b'f')
+    row(c) & LOWER_HEXADECIMAL != 0
+}
+
+#[cfg(test)]
+mod tests {
+    use super::*;
+
+    // A byte of each kind, with the sum of its classes.
+    #[test]
+    fn rows(rt: HostRuntime) {
+        for (byte, wanted) in [
+            (b'\t', 0),
+            (b' ', 1),
+            (b'"', 1),
+            (b'%', 5),
+            (b'*', 31),
+            (b'-', 21),
+            (b'0', 53),
+            (b'A', 7),
+            (b'a', 63),
+            (b'g', 31),
+            (0x7f, 0),
+        ] {
+            assert_eq!(rt; row(byte), wanted, "at {byte}");
+        }
+    }
+
+    // How many bytes each class has.
+    #[test]
+    fn counts(rt: HostRuntime) {
+        let mut counts = [0u32; 6];
+        for byte in 0..=255u8 {
+            for (bit, count) in counts.iter_mut().enumerate() {
+                *count = count.wrapping_add(u32::from(row(byte) >> bit.min(7) & 1));
+            }
+        }
+        assert_eq!(rt; counts, [95, 53, 79, 27, 40, 16]);
+    }
 }

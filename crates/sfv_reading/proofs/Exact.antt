@@ -11,10 +11,11 @@ use Rattle.sfv_reading.specs.Judgements.{Reached, Lasts}
 use Rattle.sfv_reading.specs.Reader.{Apart, first}
 use Rattle.sfv_reading.specs.Bare.{bare_at}
 use Rattle.sfv_reading.specs.Claims.{BeginsWithBare, IsEnded, BareIsExact}
-use Rattle.sfv_reading.proofs.Sound.{Somewhere}
-use Rattle.sfv_reading.proofs.Again.{Apart-nil, Apart-cons}
-use Rattle.sfv_reading.proofs.Bare.{BareGoes, Sound-bare, Local-bare}
-use Rattle.sfv_reading.proofs.BareAgain.{bare_complete}
+use Rattle.sfv_reading.proofs.sound.Combinators.{Somewhere}
+use Rattle.sfv_reading.proofs.complete.Combinators.{Apart-nil, Apart-cons}
+use Rattle.sfv_reading.proofs.sound.Bare.{BareGoes, Sound-bare}
+use Rattle.sfv_reading.proofs.local.Bare.{Local-bare}
+use Rattle.sfv_reading.proofs.complete.Bare.{bare_complete}
 
 -- ---- the front
 

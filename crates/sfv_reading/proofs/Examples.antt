@@ -1,6 +1,7 @@
 -- Worked texts, computed.
 use Rattle.std.proofs.Common.{◌≡◌, ℕ, List, [], ◌∷◌, Ok, Err, refl, pos, true, false}
 use Rattle.std.specs.Prelude.{codes}
+use Rattle.sfv_spec.specs.Ascii.{lower_f}
 use Rattle.sfv_spec.specs.Values.{Edition, rfc8941, rfc9651, FieldKind, item_field, list_field, dictionary_field, integer, decimal, string, token, byte_sequence, boolean, display_string}
 use Rattle.sfv_spec.specs.Events.{entry, keyed_entry, begins_item, begins_inner_list, bare_item, parameter, parameters_end, inner_list_end, events}
 use Rattle.sfv_spec.specs.Faults.{trailing_comma, trailing_decimal_point, non_integer_date, rfc8941_date, expected_digit, too_many_digits, too_many_digits_after_decimal_point, expected_start_of_bare_item, trailing_characters_after_parsed_value, unterminated_inner_list, invalid_byte_sequence, unterminated_byte_sequence, invalid_escape_sequence, unterminated_escape_sequence, unterminated_string, invalid_utf8_in_display_string, rfc8941_display_string}
@@ -8,7 +9,8 @@ use Rattle.sfv_spec.specs.Grammar.{IsAccepted}
 use Rattle.sfv_reading.specs.Reader.{Fault, at_reach, by_rule, give, fail, ruled, bind, led, branch, ahead, back, up_to, span, many, many_within, visited}
 use Rattle.std.specs.Str.{is_utf8, chars}
 use Rattle.std.specs.Str.Lossy.{utf8_valid_len}
-use Rattle.sfv_reading.specs.Content.{symbol_value, is_symbol, padding_in, valid_from, values_in, bytes_from, bytes_of, fault_place, content_in, bytes_at}
+use Rattle.sfv_spec.specs.Base64.{is_symbol}
+use Rattle.sfv_reading.specs.Content.{symbol_value, padding_in, valid_from, values_in, bytes_from, bytes_of, fault_place, content_in, bytes_at}
 use Rattle.sfv_reading.specs.Quoted.{string_from, pieces_from, display_at}
 use Rattle.sfv_reading.specs.Bare.{sign_at, long_at, decimal_at, fraction_at, point_at, whole_at, number_at, boolean_at, token_at, date_at, quoted_at, bare_at}
 use Rattle.sfv_reading.specs.Items.{key_at, value_at, parameter_at, parameters_at, item_at}
@@ -84,7 +86,7 @@ open_string : read_field rfc9651 dictionary_field (codes "a=\"b") ≡ Err (recor
 unfolding content_in bytes_at string_from pieces_from display_at give fail ruled bind led branch ahead back up_to span many many_within sign_at long_at decimal_at fraction_at point_at whole_at number_at boolean_at token_at date_at quoted_at bare_at key_at value_at parameter_at parameters_at item_at inner_item_at next_item_at inner_items_at inner_at member_at entry_at member_value_at keyed_at comma_at next_at members_at whole_field_at read_field
 open_string = refl
 
-some_display : read_field rfc9651 item_field (codes "%\"f%c3%bcr\"") ≡ Ok (record { bare = display_string (0x66 ∷ 0xc3 ∷ 0xbc ∷ 0x72 ∷ []); parameters = [] })
+some_display : read_field rfc9651 item_field (codes "%\"f%c3%bcr\"") ≡ Ok (record { bare = display_string (lower_f ∷ 0xc3 ∷ 0xbc ∷ 0x72 ∷ []); parameters = [] })
 unfolding lib.Utf8.encode is_utf8 chars utf8_valid_len content_in bytes_at string_from pieces_from display_at give fail ruled bind led branch ahead back up_to span many many_within sign_at long_at decimal_at fraction_at point_at whole_at number_at boolean_at token_at date_at quoted_at bare_at key_at value_at parameter_at parameters_at item_at inner_item_at next_item_at inner_items_at inner_at member_at entry_at member_value_at keyed_at comma_at next_at members_at whole_field_at read_field
 some_display = refl
 

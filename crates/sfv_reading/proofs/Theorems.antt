@@ -13,8 +13,10 @@ use Rattle.sfv_reading.specs.Judgements.{Reached, Lasts, Local}
 use Rattle.sfv_reading.specs.Reader.{first, Fault, Answer, Reader}
 use Rattle.sfv_reading.specs.Fields.{whole_field_at, ending, read_field}
 use Rattle.sfv_reading.specs.Claims.{ReadIsAccepted, FaultIsPlaced}
-use Rattle.sfv_reading.proofs.Sound.{Somewhere, Goes, Reads}
-use Rattle.sfv_reading.proofs.Fields.{Sound-field, Local-field, field_complete}
+use Rattle.sfv_reading.proofs.sound.Combinators.{Somewhere, Goes, Reads}
+use Rattle.sfv_reading.proofs.sound.Fields.{Sound-field}
+use Rattle.sfv_reading.proofs.local.Fields.{Local-field}
+use Rattle.sfv_reading.proofs.complete.Fields.{field_complete}
 
 -- a beginning of a text of the grammar
 abbrev pub Starts : {A : Type 0} → (A → List ℕ → Type 0) → List ℕ → Type 0

@@ -1,5 +1,6 @@
 -- What the readers of fields have to do with the grammar.
 use Rattle.std.specs.Prelude.{◌≡◌, ◌↔◌, ℕ, ◌+◌, ◌≤◌, ◌%◌, Bool, List, [], ◌∷◌, ◌++◌, length, drop, true, false, IsTrue, ⊤, Some, None, Ok, Err, ◌⊎◌, codes}
+use Rattle.sfv_spec.specs.Ascii.{comma, colon, question_mark}
 use Rattle.sfv_spec.specs.Texts.{RunOf}
 use Rattle.sfv_spec.specs.Classes.{is_space_or_tab, is_one_of}
 use Rattle.sfv_spec.specs.Values.{Edition, rfc9651, FieldKind, item_field, RawField, BareValue, RawItem, IsFieldValue}
@@ -63,11 +64,11 @@ pub record CommaAt {A : Type 0} (P : A → List ℕ → Type 0) (t : List ℕ) (
   pub whitespace : List ℕ
   pub m : A
   pub ms : List A
-  pub text : t ≡ before ++ 0x2c ∷ whitespace
+  pub text : t ≡ before ++ comma ∷ whitespace
   pub blank : RunOf is_space_or_tab whitespace
   pub accepted : AreMembersText P (m ∷ ms) before
   pub kind : e.kind ≡ trailing_comma
-  pub rest : e.rest ≡ 0x2c ∷ whitespace
+  pub rest : e.rest ≡ comma ∷ whitespace
 
 -- a fault that isn't exact is that of a bare item, or of the comma at the end
 abbrev pub RuledComes : Type 0
@@ -118,7 +119,7 @@ LeavesOneOver = (content : List ℕ) → bytes_of content ≡ None
 abbrev pub IsBytesFault : List ℕ → Fault → Type 0
 IsBytesFault t e =
     (HasNoColon t × (e ≡ by_rule unterminated_byte_sequence []))
-    ⊎ ((content : List ℕ) × (rest : List ℕ) × (t ≡ content ++ 0x3a ∷ rest) × HasNoColon content × (bytes_of content ≡ None) × (e ≡ content_fault content (drop (fault_place content) t)))
+    ⊎ ((content : List ℕ) × (rest : List ℕ) × (t ≡ content ++ colon ∷ rest) × HasNoColon content × (bytes_of content ≡ None) × (e ≡ content_fault content (drop (fault_place content) t)))
 
 -- a Byte Sequence is read exactly, and exactly these are its faults
 abbrev pub BytesRead : Type 0
@@ -143,8 +144,8 @@ BytesRules =
 -- where a question mark comes, the reader of Byte Sequences faults, or it was done before
 abbrev pub ShunsMark : List ℕ → Type 0
 ShunsMark u =
-    ((c : List ℕ) → IsFault (bytes_at (u ++ 0x3f ∷ c)))
-    ⊎ ((rest : List ℕ) × (bytes : List ℕ) × ((c : List ℕ) → bytes_at (u ++ 0x3f ∷ c) ≡ Ok (bytes, rest ++ 0x3f ∷ c)))
+    ((c : List ℕ) → IsFault (bytes_at (u ++ question_mark ∷ c)))
+    ⊎ ((rest : List ℕ) × (bytes : List ℕ) × ((c : List ℕ) → bytes_at (u ++ question_mark ∷ c) ≡ Ok (bytes, rest ++ question_mark ∷ c)))
 
 -- a question mark stands in no Byte Sequence
 abbrev pub ShunsMarks : Type 0

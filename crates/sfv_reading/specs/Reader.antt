@@ -113,6 +113,10 @@ many_within parts (suc n) step = step >>= go_on parts (many_within parts n step)
 unfoldable pub many : {A : Type 0} → (A → List TreeEvent) → Reader (Option A) → Reader (List A)
 many parts step t = many_within parts (suc (length t)) step t
 
+-- one, and what the steps behind it give
+abbrev pub one_and_more : {A : Type 0} → (A → List TreeEvent) → Reader A → Reader (Option A) → Reader (List A)
+one_and_more parts one next = one >>= λ v. led (parts v) (many parts next >>= λ vs. give (v ∷ vs))
+
 -- the class of one byte
 abbrev pub byte : ℕ → ℕ → Bool
 byte c b = b == c

@@ -1,10 +1,9 @@
 -- Parts that are written in a row, with a separator between each two.
 use Rattle.std.proofs.Common.{◌≡◌, ℕ, ◌+◌, ◌<◌, Bool, true, false, cond, List, [], ◌∷◌, ◌++◌, length, get_or, map, take, refl, sym, ap, subst, ◌∙◌, append_assoc, Result, Ok, Err, arith}
-use Rattle.std.specs.Prelude.{IfErr}
+use Rattle.std.specs.Prelude.{IfErr, OnOk}
 use Rattle.std.specs.List.{AllByRecursion}
 use Rattle.std.proofs.lemmas.List.{take_more, map-append}
 use Rattle.sfv_spec.specs.Texts.{joined}
-use Rattle.sfv_ser.specs.Written.{Extends}
 
 -- whether there are none
 abbrev pub is_none : {A : Type 0} → List A → Bool
@@ -42,9 +41,9 @@ is_none-push [] x = refl
 is_none-push (y ∷ ys) x = refl
 
 -- one more part is written
-pub row_more : {A : Type 0} (text_of : A → List ℕ) (IsGood : A → Type 0) (s : List ℕ) (xs ys : List A) (is_first : Bool) (before output led new : List ℕ) (x : A)
-    → IsRow text_of IsGood s xs is_first before output → ys ≡ xs ++ x ∷ [] → led ≡ output ++ cond is_first [] s → new ≡ led ++ text_of x → IsGood x → IsRow text_of IsGood s ys false before new
-row_more {A} text_of IsGood s xs ys is_first before output led new x row y l n g =
+pub row_more : {A : Type 0} (text_of : A → List ℕ) (IsGood : A → Type 0) (s : List ℕ) (xs ys : List A) (is_first is_next : Bool) (before output led new : List ℕ) (x : A)
+    → IsRow text_of IsGood s xs is_first before output → is_next ≡ false → ys ≡ xs ++ x ∷ [] → led ≡ output ++ cond is_first [] s → new ≡ led ++ text_of x → IsGood x → IsRow text_of IsGood s ys is_next before new
+row_more {A} text_of IsGood s xs ys is_first is_next before output led new x row f y l n g =
     let so_far : List ℕ = joined s (map text_of xs) in
     let between : List ℕ = cond is_first [] s in
     let flag : is_first ≡ is_none (map text_of xs) = row.first ∙ sym (is_none-map text_of xs) in
@@ -52,7 +51,7 @@ row_more {A} text_of IsGood s xs ys is_first before output led new x row y l n g
     ap (λ (zs : List A). joined s (map text_of zs)) y ∙ ap (joined s) (map-append text_of xs (x ∷ [])) ∙ joined_push s (text_of x) (map text_of xs)
     ∙ ap (λ (b : Bool). (so_far ++ cond b [] s) ++ text_of x) (sym flag) in
     record {
-      first = sym (ap is_none y ∙ is_none-push xs x);
+      first = f ∙ sym (ap is_none y ∙ is_none-push xs x);
       text = n ∙ ap (λ (t : List ℕ). t ++ text_of x) (l ∙ ap (λ (t : List ℕ). t ++ between) row.text ∙ append_assoc before so_far between)
           ∙ append_assoc before (so_far ++ between) (text_of x)
           ∙ ap (λ (t : List ℕ). before ++ t) (sym more);
@@ -74,19 +73,17 @@ pub first_of_some : {A B : Type 0} (f : A → B) (xs : List A) → 0 < length xs
 first_of_some f [] h = absurd (omega (arith, h))
 first_of_some f (x ∷ xs) h = (f x, map f xs, refl)
 
+-- and an empty list has none
+pub first_of_none : {A B : Type 0} (f : A → B) (xs : List A) → length xs ≡ 0 → ¬ ((y : B) × (ys : List B) × (map f xs ≡ y ∷ ys))
+first_of_none f [] e = λ h. let e = h.2 in cc
+first_of_none f (x ∷ xs) e = absurd (omega (arith, e))
+
+-- what is known of the items of an inner list, and what its parameters are when they are written
+pub parts_on_ok : {T E P R : Type 0} (Q S : Type 0) (r : Result T E) → P → R → OnOk r Q → OnOk r S → OnOk r ((P × Q) × (R × S))
+parts_on_ok Q S (Ok x) p q h k = ((p, h), (q, k))
+parts_on_ok Q S (Err e) p q h k = tt
+
 -- what holds anyway holds of an error
 pub anyway : {A E : Type 0} (X : Type 0) (r : Result A E) → X → IfErr r (λ _. X)
 anyway X (Ok v) x = tt
 anyway X (Err e) x = x
-
--- a row between its brackets, and what stands behind them
-pub enclosed : (old opening row closing behind : List ℕ) → (((old ++ opening) ++ row) ++ closing) ++ behind ≡ old ++ (((opening ++ row) ++ closing) ++ behind)
-enclosed old opening row closing behind = simp append_assoc
-
--- a text in which the next part breaks off still begins with the old one
-pub broken_off : (before row between output led new : List ℕ) → output ≡ before ++ row → led ≡ output ++ between → Extends led new → Extends before new
-broken_off before row between output led new o l more = (
-  row ++ (between ++ more.0),
-  more.1 ∙ ap (λ (t : List ℕ). t ++ more.0) (l ∙ ap (λ (t : List ℕ). t ++ between) o)
-      ∙ append_assoc (before ++ row) between more.0 ∙ append_assoc before row (between ++ more.0),
-)

@@ -1,14 +1,19 @@
 -- A text is written run by run.
 use Rattle.std.proofs.Common.{◌≡◌, ℕ, ◌<◌, ◌≤◌, ◌+◌, ◌-◌, Bool, true, cond, not, List, [], ◌∷◌, ◌++◌, length, take, refl, sym, ap, ◌∙◌, append_assoc, take-add, arith}
-use Rattle.std.specs.Prelude.{slice_index, slice_range}
+use Rattle.std.specs.Prelude.{slice_index, slice_range, string_bytes, Result, Ok, Err, is_ok, OnErr}
+use Rattle.std.specs.Str.{IsCharBoundary}
+use Rattle.std.specs.declared.string.String.{String}
 use Rattle.std.specs.List.{flat_map, list_all}
 use Rattle.std.proofs.lemmas.Bool.{and_parts, not-true}
 use Rattle.std.proofs.lemmas.List.{append-nil, take_more, take_all}
+use Rattle.std.proofs.lemmas.Str.{IsUtf8-string_bytes}
+use Rattle.sfv_spec.specs.Ascii.{backslash}
 use Rattle.sfv_spec.specs.Texts.{RunOf}
 use Rattle.sfv_spec.specs.Classes.{is_string_byte}
-use Rattle.sfv_spec.specs.Strings.{is_escaped_in_string, is_plain_in_display}
+use Rattle.sfv_spec.specs.Strings.{is_escaped_in_string, is_plain_in_display, is_plain_in_string}
 use Rattle.sfv_spec.specs.Canonical.{string_piece, display_piece}
-use Rattle.sfv_reading.specs.Quoted.{is_plain_in_string}
+use Rattle.sfv_reading.proofs.texts.Cuts.{cut}
+use Rattle.sfv_ser.specs.Written.{Extends, Appends}
 
 flat_map_append : (f : ℕ → List ℕ) (xs ys : List ℕ) → flat_map f (xs ++ ys) ≡ flat_map f xs ++ flat_map f ys
 flat_map_append f [] ys = refl
@@ -48,4 +53,14 @@ pub display_itself : (c : ℕ) → is_plain_in_display c ≡ true → display_pi
 display_itself c e = rw e refl
 
 pub string_itself : (c : ℕ) → is_plain_in_string c ≡ true → string_piece c ≡ c ∷ []
-string_itself c e = ap (λ (b : Bool). cond b (0x5c ∷ c ∷ []) (c ∷ [])) (not-true (is_escaped_in_string c) (and_parts (is_string_byte c) (not (is_escaped_in_string c)) e).1)
+string_itself c e = ap (λ (b : Bool). cond b (backslash ∷ c ∷ []) (c ∷ [])) (not-true (is_escaped_in_string c) (and_parts (is_string_byte c) (not (is_escaped_in_string c)) e).1)
+
+-- a text that was added to may be cut where the old one ended
+pub cut_back : {Z T E : Type 0} (old new : String Z) (result : Result T E) (len : ℕ) → len ≡ length (string_bytes old) → OnErr result (Extends (string_bytes old) (string_bytes new)) → OnErr result (IsCharBoundary (string_bytes new) len)
+cut_back old new (Ok x) len is more = tt
+cut_back old new (Err e) len is more = cut (string_bytes old) (string_bytes new) len (IsUtf8-string_bytes old) (IsUtf8-string_bytes new) more is
+
+-- what is added last
+pub pushed_last : {Z E : Type 0} (old new : String Z) (r : Result (Unit {0}) E) (before more text : List ℕ) → string_bytes new ≡ cond (is_ok r) (before ++ more) before → before ++ more ≡ string_bytes old ++ text → Extends (string_bytes old) before → Appends old new text r
+pushed_last old new (Ok x) before more text e h extends = e ∙ h
+pushed_last old new (Err x) before more text e h extends = (extends.0, e ∙ extends.1)

@@ -1,12 +1,23 @@
 -- What a text holds to which another was added.
-use Rattle.std.specs.Prelude.{◌≡◌, ℕ, List, ◌++◌, map}
+use Rattle.std.specs.Prelude.{◌≡◌, ℕ, List, ◌++◌, map, Result, MatchResult, string_bytes}
 use Rattle.std.specs.Borrow.{Bor}
+use Rattle.std.specs.declared.string.String.{String}
 use Rattle.sfv_spec.specs.Values.{RawParameters}
 use Rattle.sfv_tree.specs.Trees.{OwnedBareItem, pairs_tree}
 
 -- something may stand behind the old text
 abbrev pub Extends : List ℕ → List ℕ → Type 0
 Extends old new = (more : List ℕ) × (new ≡ old ++ more)
+
+-- the text is added, or else the old text is still in front
+abbrev pub Appends : {Z T E : Type 0} → String Z → String Z → List ℕ → Result T E → Type 0
+Appends old new text result =
+    MatchResult result (λ _. string_bytes new ≡ string_bytes old ++ text) (λ _. Extends (string_bytes old) (string_bytes new))
+
+-- the text is added, or else the old text stands alone
+abbrev pub AppendsOrKeeps : {Z T E : Type 0} → String Z → String Z → List ℕ → Result T E → Type 0
+AppendsOrKeeps old new text result =
+    MatchResult result (λ _. string_bytes new ≡ string_bytes old ++ text) (λ _. string_bytes new ≡ string_bytes old)
 
 -- the pairs of parameters that are lent
 abbrev pub lent_pairs : List (Bor (List ℕ) × Bor OwnedBareItem) → RawParameters

@@ -1,3 +1,4 @@
+pub mod CheckedTexts
 pub mod KeyText
 pub mod TokenText
 pub mod StringText

@@ -144,7 +144,7 @@ pub enum BareItemType {
 }
 
 impl BareItemType {
-    // The name of the kind.
+    // Returns the name of the kind.
     fn name(self) -> &'static str
         ensures { result.now ≡ kind_text self }
     {

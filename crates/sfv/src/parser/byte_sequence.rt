@@ -6,7 +6,8 @@
 
 ghost use Rattle.std.specs.Prelude.{◌≡◌, ◌≤◌, ◌++◌, length, drop, IfOk, OnOk};
 ghost use Rattle.sfv_spec.specs.Texts.{RunOf};
-ghost use Rattle.sfv_reading.specs.Content.{is_symbol, bytes_at};
+ghost use Rattle.sfv_spec.specs.Base64.{is_symbol};
+ghost use Rattle.sfv_reading.specs.Content.{bytes_at};
 ghost use Rattle.sfv_base.specs.Errors.{error_of};
 ghost use Rattle.sfv.specs.Cursor.{ReadsOrOutOfMemoryAt};
 ghost use Rattle.sfv.specs.Texts.{vec_bytes};

@@ -1,11 +1,11 @@
 //! Reading inner lists, and the members of lists and dictionaries (RFC 9651, sections 4.2.1 and 4.2.2).
 
 ghost use Rattle.std.specs.Prelude.{◌≡◌, [], Bool, true, false, OnOk, flat_map};
-ghost use Rattle.sfv_spec.specs.Events.{member_events};
-ghost use Rattle.sfv_reading.specs.Members.{inner_item_events, inner_item_at, inner_items_at, inner_at, member_at, member_value_at};
+ghost use Rattle.sfv_spec.specs.Events.{member_events, inner_item_events};
+ghost use Rattle.sfv_reading.specs.Members.{inner_item_at, inner_items_at, inner_at, member_at, member_value_at};
 ghost use Rattle.sfv_reading.specs.Fields.{members_at};
 ghost use Rattle.sfv.specs.Cursor.{rest, Reads};
-ghost use Rattle.sfv.specs.Members.{wants_item_at, wants_member_at, behind_begin, member_parts, one_member_at};
+ghost use Rattle.sfv.specs.Members.{item_delimiter_at, member_delimiter_at, behind_begin, member_parts, one_member_at};
 ghost use Rattle.sfv.specs.Visits.{Visits};
 
 use crate::parser::cursor::Cursor;
@@ -27,7 +27,7 @@ impl<'de> Cursor<'de> {
 
     /// Takes the spaces between two items of an inner list, or its closing parenthesis. Answers whether an item is wanted.
     fn consume_item_delimiter(&mut self) -> Result<bool, Error>
-        ensures { Reads (λ wants. wants) self.old self.new result wants_item_at }
+        ensures { Reads (λ wants. wants) self.old self.new result item_delimiter_at }
     {
         if self.take_if(b' ') {
             self.skip_sp();
@@ -97,7 +97,7 @@ impl<'de> Cursor<'de> {
     /// Takes the comma between two members, with the spaces and tabs around it. Answers whether a member is wanted, and not
     /// the end of the input.
     fn consume_comma(&mut self) -> Result<bool, Error>
-        ensures { Reads (λ wants. wants) self.old self.new result wants_member_at }
+        ensures { Reads (λ wants. wants) self.old self.new result member_delimiter_at }
     {
         self.skip_ows();
         if self.peek().is_none() {

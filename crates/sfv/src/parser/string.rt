@@ -2,8 +2,9 @@
 
 ghost use Rattle.std.specs.Prelude.{◌≡◌, ◌≤◌, ◌<◌, ◌↔◌, length, drop, slice_range, not, ◌==◌, true, false, IfOk, IsTrue};
 ghost use Rattle.sfv_spec.specs.Texts.{RunOf};
+ghost use Rattle.sfv_spec.specs.Strings.{is_plain_in_string};
 ghost use Rattle.sfv_bare.specs.BareItems.{read_text};
-ghost use Rattle.sfv_reading.specs.Quoted.{is_plain_in_string, string_at, string_from};
+ghost use Rattle.sfv_reading.specs.Quoted.{string_at, string_from};
 ghost use Rattle.sfv.specs.Cursor.{ReadsOrOutOfMemoryAt};
 ghost use Rattle.sfv.specs.Quoted.{ReadsEscape};
 ghost use Rattle.sfv.specs.Texts.{is_borrowed_string, vec_bytes};

@@ -1,8 +1,8 @@
 //! The symbols of Base64 (RFC 4648, section 4), and runs of them.
 
 ghost use Rattle.std.specs.Prelude.{◌≡◌, ◌*◌, ◌/◌, ◌<◌, IsTrue};
-ghost use Rattle.sfv_spec.specs.Base64.{symbol};
-ghost use Rattle.sfv_reading.specs.Content.{is_symbol, symbol_value, most_padding};
+ghost use Rattle.sfv_spec.specs.Base64.{symbol, is_symbol};
+ghost use Rattle.sfv_reading.specs.Content.{symbol_value, most_padding};
 ghost use Rattle.sfv.specs.Runs.{IsSymbolRun, IsPaddingRun};
 
 /// The symbols in the order of their values.

@@ -1,5 +1,5 @@
 use Rattle.sfv_reading.proofs.visited_begins.Goals as goal
-use Rattle.sfv_reading.proofs.Told.{visited_begins}
+use Rattle.sfv_reading.proofs.visits.Fields.{visited_begins}
 
 pub returns : goal.returns
 returns c = visited_begins

@@ -1,11 +1,13 @@
 //! Appending a part of a field whole, or not at all.
+#![tactic(auto, using(crate::proofs::Written::cut_back))]
 
-ghost use Rattle.std.specs.Prelude.{◌≡◌, ◌++◌, List, OnOk, OnErr, codes, string_bytes};
+ghost use Rattle.std.specs.Prelude.{◌≡◌, ◌++◌, List, OnOk, OnErr, codes, take, string_bytes};
 ghost use Rattle.std.specs.Iterator.{IsFinite, Drains};
+ghost use Rattle.std.specs.Str.{IsCharBoundary};
 ghost use Rattle.sfv_spec.specs.Canonical.{bare_text, value_text, parameters_text};
 ghost use Rattle.sfv_bare.specs.BareItems.{ref_value};
 ghost use Rattle.sfv_text.specs.KeyText.{key_text};
-ghost use Rattle.sfv_ser.specs.Written.{lent_pairs};
+ghost use Rattle.sfv_ser.specs.Written.{AppendsOrKeeps, lent_pairs};
 
 use crate::ser::item::{serialize_bare_item, serialize_parameter, serialize_parameters};
 use sfv_bare::bare::{BareItem, RefBareItem};
@@ -15,45 +17,51 @@ use sfv_text::key_ref::KeyRef;
 use std::alloc::Allocator;
 use std::string::String as StdString;
 
-/// Appends a bare item; where memory is refused, the output keeps its text.
+/// Returns what was written, and after a write that was out of memory cuts the output back to its
+/// first `len` bytes.
+fn or_truncate<A: Allocator>(
+    written: Result<(), OutOfMemory>,
+    len: usize,
+    output: &mut StdString<A>,
+) -> Result<(), OutOfMemory>
+    requires { OnErr written (IsCharBoundary (string_bytes output.now) len) }
+    ensures written { result ≡ written }
+    ensures kept { OnOk result (string_bytes output.new ≡ string_bytes output.old) }
+    ensures cut { OnErr result (string_bytes output.new ≡ take len (string_bytes output.old)) }
+{
+    if written.is_err() {
+        output.truncate(len);
+    }
+    written
+}
+
+/// Appends a bare item; out of memory, the output keeps its text.
 pub(crate) fn append_bare_item<A: Allocator>(
     value: &RefBareItem<'_>,
     output: &mut StdString<A>,
 ) -> Result<(), OutOfMemory>
-    ensures ok { OnOk result (string_bytes output.new ≡ string_bytes output.old ++ bare_text (ref_value value.now)) }
-    ensures err { OnErr result (string_bytes output.new ≡ string_bytes output.old) }
+    ensures text { AppendsOrKeeps output.old output.new (bare_text (ref_value value.now)) result }
 {
     let len = output.len();
-    match serialize_bare_item(value, output) {
-        Ok(()) => Ok(()),
-        Err(refused) => {
-            output.truncate(len);
-            Err(refused)
-        }
-    }
+    let written = serialize_bare_item(value, output);
+    or_truncate(written, len, output)
 }
 
-/// Appends a parameter; where memory is refused, the output keeps its text.
+/// Appends a parameter; out of memory, the output keeps its text.
 pub(crate) fn append_parameter<A: Allocator>(
     key: KeyRef<'_>,
     value: &RefBareItem<'_>,
     output: &mut StdString<A>,
 ) -> Result<(), OutOfMemory>
-    ensures ok { OnOk result
-        (string_bytes output.new ≡ string_bytes output.old ++ codes ";" ++ key_text key.entry ++ value_text (ref_value value.now)) }
-    ensures err { OnErr result (string_bytes output.new ≡ string_bytes output.old) }
+    ensures text { AppendsOrKeeps output.old output.new
+        (codes ";" ++ key_text key.entry ++ value_text (ref_value value.now)) result }
 {
     let len = output.len();
-    match serialize_parameter(key, value, output) {
-        Ok(()) => Ok(()),
-        Err(refused) => {
-            output.truncate(len);
-            Err(refused)
-        }
-    }
+    let written = serialize_parameter(key, value, output);
+    or_truncate(written, len, output)
 }
 
-/// Appends parameters; where memory is refused, the output keeps its text.
+/// Appends parameters; out of memory, the output keeps its text.
 pub(crate) fn append_parameters<
     'k,
     A: Allocator,
@@ -61,18 +69,13 @@ pub(crate) fn append_parameters<
 >(params: I, output: &mut StdString<A>) -> Result<(), OutOfMemory>
     requires can { I.can_next params }
     requires ends { IsFinite (I.remaining params) }
-    ensures ok { OnOk result ((pairs : List _) × Drains I.next_gives params pairs
+    ensures text { OnOk result ((pairs : List _) × Drains I.next_gives params pairs
         × (string_bytes output.new ≡ string_bytes output.old ++ parameters_text (lent_pairs pairs))) }
-    ensures err { OnErr result (string_bytes output.new ≡ string_bytes output.old) }
+    ensures out_of_memory { OnErr result (string_bytes output.new ≡ string_bytes output.old) }
 {
     let len = output.len();
-    match serialize_parameters(params, output) {
-        Ok(()) => Ok(()),
-        Err(refused) => {
-            output.truncate(len);
-            Err(refused)
-        }
-    }
+    let written = serialize_parameters(params, output);
+    or_truncate(written, len, output)
 }
 
 #[cfg(test)]
@@ -88,7 +91,7 @@ mod tests {
     use std::process::Abort;
     use std::test::Fail;
 
-    // Sizes from none to enough for each text below, so that each request is refused at some size.
+    // Sizes from none to enough for each text below, so that each request fails at some size.
     const SIZES: std::ops::Range<usize> = 16..640;
 
     /// A value of each kind, and its text.
@@ -127,85 +130,90 @@ mod tests {
         ]
     }
 
-    /// Whether it was refused; the text is the old one then, and else that with this behind it.
-    fn refused(rt: &impl Abort, answer: Result<(), OutOfMemory>, text: &str, behind: &str) -> bool {
+    /// Whether it was out of memory; the text is the old one then, and else that with this behind it.
+    fn out_of_memory(
+        rt: &impl Abort,
+        written: Result<(), OutOfMemory>,
+        text: &str,
+        behind: &str,
+    ) -> bool {
         assert!(rt; text.starts_with("X: "));
-        let want = if answer.is_ok() { behind } else { "" };
+        let want = if written.is_ok() { behind } else { "" };
         assert_eq!(rt; &text[3..], want);
-        answer.is_err()
+        written.is_err()
     }
 
     #[test]
-    fn bare_items_are_written_or_refused(rt: HostRuntime) -> Result<(), Fail> {
+    fn bare_items_are_written_or_left_out(rt: HostRuntime) -> Result<(), Fail> {
         let values = values();
         for (value, behind) in values[..].iter() {
-            let (mut was_refused, mut was_written) = (false, false);
+            let (mut was_out_of_memory, mut was_written) = (false, false);
             for size in SIZES {
                 let heap = LocalHeap::new(rt.alloc(), size)?;
                 let Ok(mut text) = StdString::from_str(&heap, "X: ") else {
                     continue;
                 };
-                let answer = append_bare_item(value, &mut text);
-                if refused(&rt, answer, text.as_str(), behind) {
-                    was_refused = true;
+                let written = append_bare_item(value, &mut text);
+                if out_of_memory(&rt, written, text.as_str(), behind) {
+                    was_out_of_memory = true;
                 } else {
                     was_written = true;
                 }
             }
-            assert!(rt; was_refused && was_written, "{behind}");
+            assert!(rt; was_out_of_memory && was_written, "{behind}");
         }
         Ok(())
     }
 
     #[test]
-    fn parameters_are_written_or_refused_one_by_one(rt: HostRuntime) -> Result<(), Fail> {
+    fn parameters_are_written_or_left_out_one_by_one(rt: HostRuntime) -> Result<(), Fail> {
         let values = values();
         for (value, text_of_value) in values[..].iter() {
             let behind = match value {
                 GenericBareItem::Boolean(true) => StdString::from_str(rt.alloc(), ";a-key")?,
                 _ => format!(in rt.alloc(); ";a-key={text_of_value}")?,
             };
-            let (mut was_refused, mut was_written) = (false, false);
+            let (mut was_out_of_memory, mut was_written) = (false, false);
             for size in SIZES {
                 let heap = LocalHeap::new(rt.alloc(), size)?;
                 let Ok(mut text) = StdString::from_str(&heap, "X: ") else {
                     continue;
                 };
-                let answer = append_parameter(key_ref("a-key"), value, &mut text);
-                if refused(&rt, answer, text.as_str(), behind.as_str()) {
-                    was_refused = true;
+                let written = append_parameter(key_ref("a-key"), value, &mut text);
+                if out_of_memory(&rt, written, text.as_str(), behind.as_str()) {
+                    was_out_of_memory = true;
                 } else {
                     was_written = true;
                 }
             }
-            assert!(rt; was_refused && was_written, "{behind}");
+            assert!(rt; was_out_of_memory && was_written, "{behind}");
         }
         Ok(())
     }
 
     #[test]
-    fn parameters_are_written_or_refused_at_once(rt: HostRuntime) -> Result<(), Fail> {
+    fn parameters_are_written_or_left_out_at_once(rt: HostRuntime) -> Result<(), Fail> {
         let alloc = rt.alloc();
         let mut params = Parameters::new(alloc);
         for key in ["first", "second", "third"] {
             let value = GenericBareItem::Integer(integer(1_234_567));
             params.insert(key_ref(key).to_owned(alloc)?, value)?;
         }
-        let (mut was_refused, mut was_written) = (false, false);
+        let (mut was_out_of_memory, mut was_written) = (false, false);
         for size in SIZES {
             let heap = LocalHeap::new(alloc, size)?;
             let Ok(mut text) = StdString::from_str(&heap, "X: ") else {
                 continue;
             };
-            let answer = append_parameters(params.iter(), &mut text);
+            let written = append_parameters(params.iter(), &mut text);
             let behind = ";first=1234567;second=1234567;third=1234567";
-            if refused(&rt, answer, text.as_str(), behind) {
-                was_refused = true;
+            if out_of_memory(&rt, written, text.as_str(), behind) {
+                was_out_of_memory = true;
             } else {
                 was_written = true;
             }
         }
-        assert!(rt; was_refused && was_written);
+        assert!(rt; was_out_of_memory && was_written);
         Ok(())
     }
 }

@@ -1,10 +1,10 @@
 //! Writing byte sequences (RFC 9651, section 4.1.8).
 
-ghost use Rattle.std.specs.Prelude.{◌≡◌, ◌++◌, OnOk, OnErr, string_bytes};
+ghost use Rattle.std.specs.Prelude.{};
 ghost use Rattle.sfv_spec.specs.Texts.{RunOf};
 ghost use Rattle.sfv_spec.specs.Values.{is_byte, byte_sequence};
 ghost use Rattle.sfv_spec.specs.Canonical.{bare_text};
-ghost use Rattle.sfv_ser.specs.Written.{Extends};
+ghost use Rattle.sfv_ser.specs.Written.{Appends};
 
 use base64::engine::general_purpose::STANDARD;
 use sfv_base::error::OutOfMemory;
@@ -17,8 +17,7 @@ pub(crate) fn serialize_byte_sequence<A: Allocator>(
     value: &[u8],
     output: &mut String<A>,
 ) -> Result<(), OutOfMemory>
-    ensures ok { OnOk result (string_bytes output.new ≡ string_bytes output.old ++ bare_text (byte_sequence value.now)) }
-    ensures err { OnErr result (Extends (string_bytes output.old) (string_bytes output.new)) }
+    ensures text { Appends output.old output.new (bare_text (byte_sequence value.now)) result }
     ensures bytes { RunOf is_byte value.now }
 {
     output.push(':')?;

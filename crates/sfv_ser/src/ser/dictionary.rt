@@ -1,36 +1,34 @@
 //! Writing dictionaries (RFC 9651, section 4.1.2).
 
-ghost use Rattle.std.specs.Prelude.{◌≡◌, ◌++◌, [], OnOk, OnErr, IfOk, IfErr, IsTrue, MatchOption, string_bytes};
+ghost use Rattle.std.specs.Prelude.{◌++◌, OnOk, IfOk, IfErr, IsTrue, option_map, string_bytes};
 ghost use Rattle.sfv_spec.specs.Classes.{is_key};
 ghost use Rattle.sfv_spec.specs.Values.{IsMember, HasMember, item_field, dictionary_field};
 ghost use Rattle.sfv_spec.specs.Ordered.{IsOrderedMember};
 ghost use Rattle.sfv_spec.specs.Canonical.{value_text, parameters_text, dictionary_member_text, canonical};
-ghost use Rattle.sfv_spec.specs.Statements.{IsValue, IsWrittenAs};
+ghost use Rattle.sfv_spec.specs.Statements.{IsValue, IsSerializedAs};
 ghost use Rattle.sfv_bare.specs.BareItems.{bare_value};
 ghost use Rattle.sfv_tree.specs.Trees.{pairs_tree, item_tree, member_tree, dictionary_tree};
-ghost use Rattle.sfv_ser.specs.Written.{Extends};
+ghost use Rattle.sfv_ser.specs.Written.{Appends};
 
-use crate::ser::item::{serialize_parameters, serialize_value};
-use crate::ser::list::serialize_inner_list;
+use crate::ser::item::{serialize_all_parameters, serialize_key, serialize_value};
+use crate::ser::list::{serialize_inner_list, serialize_separator};
 use sfv_base::error::OutOfMemory;
 use sfv_text::key::Key;
 use sfv_tree::parsed::{Dictionary, Item, ListEntry};
 use std::alloc::{Allocator, Global};
 use std::string::String as StdString;
 
-/// Appends an item behind its key: a value that is true is left out.
-fn serialize_item_behind_key<A: Allocator>(
+/// Appends an item after its key: a value that is true is left out.
+fn serialize_item_after_key<A: Allocator>(
     item: &Item,
     output: &mut StdString<A>,
 ) -> Result<(), OutOfMemory>
-    ensures ok { OnOk result
-        (string_bytes output.new ≡ string_bytes output.old ++ value_text (bare_value item.now.bare_item) ++ parameters_text (pairs_tree item.now.params.entries)) }
-    ensures err { OnErr result (Extends (string_bytes output.old) (string_bytes output.new)) }
+    ensures text { Appends output.old output.new
+        (value_text (bare_value item.now.bare_item) ++ parameters_text (pairs_tree item.now.params.entries)) result }
     ensures value { OnOk result (IsValue item_field (item_tree item.now)) }
 {
     serialize_value(&item.bare_item.as_ref_item(), output)?;
-    serialize_parameters(item.params.iter(), output)?;
-    Ok(())
+    serialize_all_parameters(&item.params, output)
 }
 
 /// Appends a member of a dictionary.
@@ -39,14 +37,13 @@ fn serialize_dictionary_member<A: Allocator>(
     member: &ListEntry,
     output: &mut StdString<A>,
 ) -> Result<(), OutOfMemory>
-    ensures ok { OnOk result (string_bytes output.new ≡ string_bytes output.old ++ dictionary_member_text (key.now, member_tree member.now)) }
-    ensures err { OnErr result (Extends (string_bytes output.old) (string_bytes output.new)) }
+    ensures text { Appends output.old output.new (dictionary_member_text (key.now, member_tree member.now)) result }
     ensures key { OnOk result (IsTrue (is_key key.now)) }
     ensures value { OnOk result (IsMember (member_tree member.now) × IsOrderedMember (member_tree member.now)) }
 {
-    output.push_str(key.as_str())?;
+    serialize_key(key.as_key_ref(), output)?;
     match member {
-        ListEntry::Item(item) => serialize_item_behind_key(item, output),
+        ListEntry::Item(item) => serialize_item_after_key(item, output),
         ListEntry::InnerList(list) => {
             output.push('=')?;
             serialize_inner_list(list, output)
@@ -59,30 +56,27 @@ pub(crate) fn serialize_dictionary<A: Allocator>(
     dictionary: &Dictionary,
     output: &mut StdString<A>,
 ) -> Result<(), OutOfMemory>
-    ensures ok { OnOk result (string_bytes output.new ≡ string_bytes output.old ++ canonical dictionary_field (dictionary_tree dictionary.now.entries)) }
-    ensures err { OnErr result (Extends (string_bytes output.old) (string_bytes output.new)) }
+    ensures text { Appends output.old output.new
+        (canonical dictionary_field (dictionary_tree dictionary.now.entries)) result }
     ensures value { OnOk result (IsValue dictionary_field (dictionary_tree dictionary.now.entries)) }
 {
     let mut is_first = true;
     for (key, member) in dictionary.iter() {
-        if !is_first {
-            output.push_str(", ")?;
-        }
-        is_first = false;
+        serialize_separator(&mut is_first, ", ", output)?;
         serialize_dictionary_member(key, member, output)?;
     }
     Ok(())
 }
 
-/// The text of a dictionary, with memory from `alloc`, or `None` for a dictionary without members,
-/// of which nothing is written (RFC 9651, section 4.1).
+/// Returns the text of a dictionary, with memory from `alloc`, or `None` for a dictionary without
+/// members, of which nothing is written (RFC 9651, section 4.1).
 pub fn dictionary_text(
     dictionary: &Dictionary,
     alloc: Global,
 ) -> Result<Option<StdString>, OutOfMemory>
-    ensures text { IfOk result (λ text. MatchOption text (dictionary_tree dictionary.now.entries ≡ [])
-        (λ text. HasMember dictionary_field (dictionary_tree dictionary.now.entries) × IsWrittenAs dictionary_field (dictionary_tree dictionary.now.entries) (string_bytes text))) }
-    ensures empty { IfErr result (λ _. HasMember dictionary_field (dictionary_tree dictionary.now.entries)) }
+    ensures text { IfOk result (λ text.
+        IsSerializedAs dictionary_field (dictionary_tree dictionary.now.entries) (option_map string_bytes text)) }
+    ensures out_of_memory { IfErr result (λ _. HasMember dictionary_field (dictionary_tree dictionary.now.entries)) }
 {
     if dictionary.is_empty() {
         return Ok(None);

@@ -1,12 +1,12 @@
 //! Writing display strings (RFC 9651, section 4.1.11).
 
-ghost use Rattle.std.specs.Prelude.{◌≡◌, ◌++◌, ◌<◌, OnOk, OnErr, string_bytes};
+ghost use Rattle.std.specs.Prelude.{◌≡◌, ◌<◌};
 ghost use Rattle.sfv_spec.specs.Values.{display_string};
 ghost use Rattle.sfv_spec.specs.Canonical.{hexadecimal_digit, display_piece, bare_text};
-ghost use Rattle.sfv_ser.specs.Written.{Extends};
+ghost use Rattle.sfv_ser.specs.Written.{Appends};
 
-use crate::quoted::in_display_string::{is_plain, plain_end};
 use sfv_base::error::OutOfMemory;
+use sfv_base::runs::{PlainInDisplayString, is_of, run_end_from};
 use std::alloc::{AllocError, Allocator};
 
 /// The digit of a number below 16.
@@ -22,12 +22,11 @@ fn digit_of(value: u8) -> char
     }
 }
 
-/// Adds a byte of a display string, or a part of its escape.
+/// Appends a byte of a display string, or a part of its escape.
 fn push_byte<A: Allocator>(output: &mut String<A>, byte: u8) -> Result<(), AllocError>
-    ensures ok { OnOk result (string_bytes output.new ≡ string_bytes output.old ++ display_piece byte) }
-    ensures err { OnErr result (Extends (string_bytes output.old) (string_bytes output.new)) }
+    ensures text { Appends output.old output.new (display_piece byte) result }
 {
-    if is_plain(byte) {
+    if is_of::<PlainInDisplayString>(byte) {
         return output.push(byte as char);
     }
     output.push('%')?;
@@ -35,16 +34,15 @@ fn push_byte<A: Allocator>(output: &mut String<A>, byte: u8) -> Result<(), Alloc
     output.push(digit_of(byte % 16))
 }
 
-/// Adds a display string, or a part of it.
+/// Appends a display string, or a part of it.
 fn push_display_string<A: Allocator>(output: &mut String<A>, text: &str) -> Result<(), AllocError>
-    ensures ok { OnOk result (string_bytes output.new ≡ string_bytes output.old ++ bare_text (display_string text.now)) }
-    ensures err { OnErr result (Extends (string_bytes output.old) (string_bytes output.new)) }
+    ensures text { Appends output.old output.new (bare_text (display_string text.now)) result }
 {
     output.push_str("%\"")?;
     let bytes = text.as_bytes();
     let mut at = 0;
     loop {
-        let end = plain_end(bytes, at);
+        let end = run_end_from::<PlainInDisplayString>(bytes, at);
         // Plain bytes are ASCII, so a run of them can be cut out of a text.
         output.push_str(unsafe { std::str::from_utf8_unchecked(&bytes[at..end]) })?;
         if end >= bytes.len() {
@@ -60,8 +58,7 @@ pub(crate) fn serialize_display_string<A: Allocator>(
     value: &str,
     output: &mut String<A>,
 ) -> Result<(), OutOfMemory>
-    ensures ok { OnOk result (string_bytes output.new ≡ string_bytes output.old ++ bare_text (display_string value.now)) }
-    ensures err { OnErr result (Extends (string_bytes output.old) (string_bytes output.new)) }
+    ensures text { Appends output.old output.new (bare_text (display_string value.now)) result }
 {
     push_display_string(output, value)?;
     Ok(())

@@ -2,14 +2,17 @@
 
 ghost use Rattle.std.specs.Prelude.{◌≡◌, ◌++◌, List, true, OnOk, OnErr, MatchBool, IsTrue, codes, string_bytes};
 ghost use Rattle.std.specs.Iterator.{IsFinite, Drains};
-ghost use Rattle.sfv_spec.specs.Classes.{is_key};
+ghost use Rattle.sfv_spec.specs.Classes.{is_key, is_token};
 ghost use Rattle.sfv_spec.specs.Values.{IsBareValue, AreParameters, boolean, item_field};
+ghost use Rattle.sfv_spec.specs.Ordered.{keys, no_repeats};
+ghost use Rattle.sfv_spec.specs.Grammar.{boolean_text};
 ghost use Rattle.sfv_spec.specs.Canonical.{bare_text, value_text, parameters_text, item_text};
 ghost use Rattle.sfv_spec.specs.Statements.{IsValue};
 ghost use Rattle.sfv_bare.specs.BareItems.{ref_value};
 ghost use Rattle.sfv_text.specs.KeyText.{key_text};
-ghost use Rattle.sfv_tree.specs.Trees.{item_tree};
-ghost use Rattle.sfv_ser.specs.Written.{Extends, lent_pairs};
+ghost use Rattle.sfv_text.specs.TokenText.{token_text};
+ghost use Rattle.sfv_tree.specs.Trees.{pairs_tree, item_tree};
+ghost use Rattle.sfv_ser.specs.Written.{Appends, Extends, lent_pairs};
 
 use crate::ser::byte_sequence::serialize_byte_sequence;
 use crate::ser::display_string::serialize_display_string;
@@ -19,16 +22,40 @@ use sfv_bare::bare::{BareItem, GenericBareItem, RefBareItem};
 use sfv_base::error::OutOfMemory;
 use sfv_text::key::Key;
 use sfv_text::key_ref::KeyRef;
-use sfv_tree::parsed::Item;
+use sfv_text::token_ref::TokenRef;
+use sfv_tree::parsed::{Item, Parameters};
 use std::alloc::Allocator;
 use std::string::String as StdString;
 
-/// Appends a text that is written as it is.
-fn serialize_text<A: Allocator>(text: &str, output: &mut StdString<A>) -> Result<(), OutOfMemory>
-    ensures ok { OnOk result (string_bytes output.new ≡ string_bytes output.old ++ text.now) }
-    ensures err { OnErr result (Extends (string_bytes output.old) (string_bytes output.new)) }
+/// Appends a key.
+pub(crate) fn serialize_key<A: Allocator>(
+    key: KeyRef<'_>,
+    output: &mut StdString<A>,
+) -> Result<(), OutOfMemory>
+    ensures text { Appends output.old output.new (key_text key.entry) result }
+    ensures key { IsTrue (is_key (key_text key.entry)) }
 {
-    output.push_str(text)?;
+    output.push_str(key.as_str())?;
+    Ok(())
+}
+
+/// Appends a token.
+fn serialize_token<A: Allocator>(
+    value: TokenRef<'_>,
+    output: &mut StdString<A>,
+) -> Result<(), OutOfMemory>
+    ensures text { Appends output.old output.new (token_text value.entry) result }
+    ensures token { IsTrue (is_token (token_text value.entry)) }
+{
+    output.push_str(value.as_str())?;
+    Ok(())
+}
+
+/// Appends a Boolean.
+fn serialize_bool<A: Allocator>(value: bool, output: &mut StdString<A>) -> Result<(), OutOfMemory>
+    ensures text { Appends output.old output.new (boolean_text value) result }
+{
+    output.push_str(if value { "?1" } else { "?0" })?;
     Ok(())
 }
 
@@ -37,8 +64,7 @@ pub(crate) fn serialize_bare_item<A: Allocator>(
     value: &RefBareItem<'_>,
     output: &mut StdString<A>,
 ) -> Result<(), OutOfMemory>
-    ensures ok { OnOk result (string_bytes output.new ≡ string_bytes output.old ++ bare_text (ref_value value.now)) }
-    ensures err { OnErr result (Extends (string_bytes output.old) (string_bytes output.new)) }
+    ensures text { Appends output.old output.new (bare_text (ref_value value.now)) result }
     ensures value { IsBareValue (ref_value value.now) }
 {
     match value {
@@ -46,15 +72,14 @@ pub(crate) fn serialize_bare_item<A: Allocator>(
         GenericBareItem::Integer(value) => serialize_integer(*value, output),
         GenericBareItem::String(value) => serialize_string(*value, output),
         GenericBareItem::ByteSequence(value) => serialize_byte_sequence(value, output),
-        GenericBareItem::Boolean(true) => serialize_text("?1", output),
-        GenericBareItem::Boolean(false) => serialize_text("?0", output),
-        GenericBareItem::Token(value) => serialize_text(value.as_str(), output),
+        GenericBareItem::Boolean(value) => serialize_bool(*value, output),
+        GenericBareItem::Token(value) => serialize_token(*value, output),
         GenericBareItem::Date(value) => serialize_date(*value, output),
         GenericBareItem::DisplayString(value) => serialize_display_string(value, output),
     }
 }
 
-/// Whether the value is true, which stands behind no key.
+/// Whether the value is true, which isn't written after a key.
 fn is_true(value: &RefBareItem<'_>) -> bool
     ensures { MatchBool result (ref_value value.now ≡ boolean true)
         (value_text (ref_value value.now) ≡ codes "=" ++ bare_text (ref_value value.now)) }
@@ -62,13 +87,12 @@ fn is_true(value: &RefBareItem<'_>) -> bool
     matches!(value, GenericBareItem::Boolean(true))
 }
 
-/// Appends what stands behind a key: nothing for true, and else an equals sign and the value.
+/// Appends what stands after a key: nothing for true, and else an equals sign and the value.
 pub(crate) fn serialize_value<A: Allocator>(
     value: &RefBareItem<'_>,
     output: &mut StdString<A>,
 ) -> Result<(), OutOfMemory>
-    ensures ok { OnOk result (string_bytes output.new ≡ string_bytes output.old ++ value_text (ref_value value.now)) }
-    ensures err { OnErr result (Extends (string_bytes output.old) (string_bytes output.new)) }
+    ensures text { Appends output.old output.new (value_text (ref_value value.now)) result }
     ensures value { OnOk result (IsBareValue (ref_value value.now)) }
 {
     if is_true(value) {
@@ -84,18 +108,17 @@ pub(crate) fn serialize_parameter<A: Allocator>(
     value: &RefBareItem<'_>,
     output: &mut StdString<A>,
 ) -> Result<(), OutOfMemory>
-    ensures ok { OnOk result
-        (string_bytes output.new ≡ string_bytes output.old ++ codes ";" ++ key_text key.entry ++ value_text (ref_value value.now)) }
-    ensures err { OnErr result (Extends (string_bytes output.old) (string_bytes output.new)) }
+    ensures text { Appends output.old output.new
+        (codes ";" ++ key_text key.entry ++ value_text (ref_value value.now)) result }
     ensures key { IsTrue (is_key (key_text key.entry)) }
     ensures value { OnOk result (IsBareValue (ref_value value.now)) }
 {
     output.push(';')?;
-    output.push_str(key.as_str())?;
+    serialize_key(key, output)?;
     serialize_value(value, output)
 }
 
-/// Appends parameters.
+/// Appends the parameters that an iterator gives.
 pub(crate) fn serialize_parameters<
     'k,
     A: Allocator,
@@ -103,14 +126,27 @@ pub(crate) fn serialize_parameters<
 >(params: I, output: &mut StdString<A>) -> Result<(), OutOfMemory>
     requires can { I.can_next params }
     requires ends { IsFinite (I.remaining params) }
-    ensures ok { OnOk result ((pairs : List _) × Drains I.next_gives params pairs
+    ensures text { OnOk result ((pairs : List _) × Drains I.next_gives params pairs
         × (string_bytes output.new ≡ string_bytes output.old ++ parameters_text (lent_pairs pairs))
         × AreParameters (lent_pairs pairs)) }
-    ensures err { OnErr result (Extends (string_bytes output.old) (string_bytes output.new)) }
+    ensures out_of_memory { OnErr result (Extends (string_bytes output.old) (string_bytes output.new)) }
 {
     for (key, value) in params {
         serialize_parameter(key.as_key_ref(), &value.as_ref_item(), output)?;
     }
+    Ok(())
+}
+
+/// Appends the parameters of an item or an inner list.
+pub(crate) fn serialize_all_parameters<A: Allocator>(
+    params: &Parameters,
+    output: &mut StdString<A>,
+) -> Result<(), OutOfMemory>
+    ensures text { Appends output.old output.new (parameters_text (pairs_tree params.now.entries)) result }
+    ensures value { OnOk result (AreParameters (pairs_tree params.now.entries)) }
+    ensures distinct { OnOk result (IsTrue (no_repeats (keys (pairs_tree params.now.entries)))) }
+{
+    serialize_parameters(params.iter(), output)?;
     Ok(())
 }
 
@@ -119,11 +155,9 @@ pub fn serialize_item<A: Allocator>(
     item: &Item,
     output: &mut StdString<A>,
 ) -> Result<(), OutOfMemory>
-    ensures ok { OnOk result (string_bytes output.new ≡ string_bytes output.old ++ item_text (item_tree item.now)) }
-    ensures err { OnErr result (Extends (string_bytes output.old) (string_bytes output.new)) }
+    ensures text { Appends output.old output.new (item_text (item_tree item.now)) result }
     ensures value { OnOk result (IsValue item_field (item_tree item.now)) }
 {
     serialize_bare_item(&item.bare_item.as_ref_item(), output)?;
-    serialize_parameters(item.params.iter(), output)?;
-    Ok(())
+    serialize_all_parameters(&item.params, output)
 }

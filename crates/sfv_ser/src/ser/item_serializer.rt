@@ -1,10 +1,10 @@
 //! Writing an item part by part (RFC 9651, section 4.1.3).
 
-ghost use Rattle.std.specs.Prelude.{◌≡◌, ◌++◌, IfOk, string_bytes};
-ghost use Rattle.std.specs.Borrow.{sem, RestsIfErr};
+ghost use Rattle.std.specs.Prelude.{◌≡◌, IfOk, string_bytes};
+ghost use Rattle.std.specs.Borrow.{sem};
 ghost use Rattle.sfv_spec.specs.Canonical.{bare_text};
 ghost use Rattle.sfv_bare.specs.BareItems.{ref_value};
-ghost use Rattle.sfv_ser.specs.Serializers.{text_row, item_buffer, params_sink};
+ghost use Rattle.sfv_ser.specs.Serializers.{RestsIfOutOfMemory, HoldsMore, item_buffer, params_sink};
 
 use crate::ser::append::append_bare_item;
 use crate::ser::parameter_serializer::ParameterSerializer;
@@ -22,7 +22,7 @@ pub struct ItemSerializer<'a> {
 }
 
 impl<'a> ItemSerializer<'a> {
-    /// The serializer that writes behind what stands in the text.
+    /// Returns a serializer that writes after what stands in the text.
     pub fn with_buffer(buffer: &'a mut StdString) -> ItemSerializer<'a>
         ensures lent { (item_buffer result).ghost_name ≡ buffer.entry.ghost_name }
         ensures text { string_bytes (item_buffer result).now ≡ string_bytes buffer.old }
@@ -30,18 +30,18 @@ impl<'a> ItemSerializer<'a> {
         ItemSerializer { buffer }
     }
 
-    /// Writes the item's bare item, and answers the serializer of its parameters.
+    /// Writes the item's bare item, and returns the serializer of its parameters.
     ///
     /// # Errors
     ///
-    /// `OutOfMemory` where a request for memory is refused. The text is then as it was.
+    /// `OutOfMemory`; the text is then as it was.
     pub fn bare_item(
         self,
         bare_item: &RefBareItem<'_>,
     ) -> Result<ParameterSerializer<'a, StdString>, OutOfMemory>
-        ensures* refused { sem 𝓛 (RestsIfErr text_row (item_buffer self.entry) (λ p. (params_sink p).ghost_name) result (λ last. string_bytes last ≡ string_bytes (item_buffer self.entry).now)) }
+        ensures* out_of_memory { sem 𝓛 (RestsIfOutOfMemory (item_buffer self.entry) result) }
         ensures lent { IfOk result (λ p. (params_sink p).ghost_name ≡ (item_buffer self.entry).ghost_name) }
-        ensures text { IfOk result (λ p. string_bytes (params_sink p).now ≡ string_bytes (item_buffer self.entry).now ++ bare_text (ref_value bare_item.now)) }
+        ensures text { HoldsMore (item_buffer self.entry) (bare_text (ref_value bare_item.now)) result }
     {
         let ItemSerializer { buffer } = self;
         append_bare_item(bare_item, buffer)?;

@@ -1,36 +1,49 @@
 //! Writing inner lists and lists (RFC 9651, sections 4.1.1 and 4.1.1.1).
 
-ghost use Rattle.std.specs.Prelude.{◌≡◌, ◌++◌, [], OnOk, OnErr, IfOk, IfErr, MatchOption, map, codes, string_bytes};
+ghost use Rattle.std.specs.Prelude.{◌≡◌, [], false, OnOk, IfOk, IfErr, if◌then◌else◌, map, option_map, codes, string_bytes};
 ghost use Rattle.std.specs.List.{AllByRecursion};
 ghost use Rattle.sfv_spec.specs.Texts.{joined};
 ghost use Rattle.sfv_spec.specs.Values.{IsItem, IsMember, HasMember, inner_list, list_field};
 ghost use Rattle.sfv_spec.specs.Ordered.{IsOrderedItem, IsOrderedMember};
 ghost use Rattle.sfv_spec.specs.Canonical.{item_text, inner_list_text, member_text, canonical};
-ghost use Rattle.sfv_spec.specs.Statements.{IsValue, IsWrittenAs};
+ghost use Rattle.sfv_spec.specs.Statements.{IsValue, IsSerializedAs};
 ghost use Rattle.sfv_tree.specs.Trees.{item_tree, inner_list_tree, member_tree, list_tree};
-ghost use Rattle.sfv_ser.specs.Written.{Extends};
+ghost use Rattle.sfv_ser.specs.Written.{Appends};
 
-use crate::ser::item::{serialize_item, serialize_parameters};
+use crate::ser::item::{serialize_all_parameters, serialize_item};
 use sfv_base::error::OutOfMemory;
 use sfv_tree::parsed::{InnerList, Item, List, ListEntry};
 use std::alloc::{Allocator, Global};
 use std::string::String as StdString;
+
+/// Appends the separator that stands in front of each part but the first.
+pub(crate) fn serialize_separator<A: Allocator>(
+    is_first: &mut bool,
+    separator: &str,
+    output: &mut StdString<A>,
+) -> Result<(), OutOfMemory>
+    ensures text { Appends output.old output.new (if is_first.old then [] else separator.now) result }
+    ensures first { is_first.new ≡ false }
+{
+    if *is_first {
+        *is_first = false;
+        return Ok(());
+    }
+    output.push_str(separator)?;
+    Ok(())
+}
 
 /// Appends the items of an inner list, with a space between each two.
 fn serialize_items<A: Allocator>(
     items: &[Item],
     output: &mut StdString<A>,
 ) -> Result<(), OutOfMemory>
-    ensures ok { OnOk result (string_bytes output.new ≡ string_bytes output.old ++ joined (codes " ") (map item_text (map item_tree items.now))) }
-    ensures err { OnErr result (Extends (string_bytes output.old) (string_bytes output.new)) }
+    ensures text { Appends output.old output.new (joined (codes " ") (map item_text (map item_tree items.now))) result }
     ensures values { OnOk result (AllByRecursion (λ i. IsItem i × IsOrderedItem i) (map item_tree items.now)) }
 {
     let mut is_first = true;
     for item in items {
-        if !is_first {
-            output.push(' ')?;
-        }
-        is_first = false;
+        serialize_separator(&mut is_first, " ", output)?;
         serialize_item(item, output)?;
     }
     Ok(())
@@ -41,15 +54,14 @@ pub(crate) fn serialize_inner_list<A: Allocator>(
     list: &InnerList,
     output: &mut StdString<A>,
 ) -> Result<(), OutOfMemory>
-    ensures ok { OnOk result (string_bytes output.new ≡ string_bytes output.old ++ inner_list_text (inner_list_tree list.now)) }
-    ensures err { OnErr result (Extends (string_bytes output.old) (string_bytes output.new)) }
-    ensures value { OnOk result (IsMember (inner_list (inner_list_tree list.now)) × IsOrderedMember (inner_list (inner_list_tree list.now))) }
+    ensures text { Appends output.old output.new (inner_list_text (inner_list_tree list.now)) result }
+    ensures value { OnOk result (IsMember (inner_list (inner_list_tree list.now))
+        × IsOrderedMember (inner_list (inner_list_tree list.now))) }
 {
     output.push('(')?;
     serialize_items(&list.items, output)?;
     output.push(')')?;
-    serialize_parameters(list.params.iter(), output)?;
-    Ok(())
+    serialize_all_parameters(&list.params, output)
 }
 
 /// Appends a member of a list.
@@ -57,8 +69,7 @@ pub(crate) fn serialize_member<A: Allocator>(
     member: &ListEntry,
     output: &mut StdString<A>,
 ) -> Result<(), OutOfMemory>
-    ensures ok { OnOk result (string_bytes output.new ≡ string_bytes output.old ++ member_text (member_tree member.now)) }
-    ensures err { OnErr result (Extends (string_bytes output.old) (string_bytes output.new)) }
+    ensures text { Appends output.old output.new (member_text (member_tree member.now)) result }
     ensures value { OnOk result (IsMember (member_tree member.now) × IsOrderedMember (member_tree member.now)) }
 {
     match member {
@@ -72,27 +83,23 @@ pub(crate) fn serialize_list<A: Allocator>(
     list: &List,
     output: &mut StdString<A>,
 ) -> Result<(), OutOfMemory>
-    ensures ok { OnOk result (string_bytes output.new ≡ string_bytes output.old ++ canonical list_field (list_tree list.now.items)) }
-    ensures err { OnErr result (Extends (string_bytes output.old) (string_bytes output.new)) }
+    ensures text { Appends output.old output.new (canonical list_field (list_tree list.now.items)) result }
     ensures value { OnOk result (IsValue list_field (list_tree list.now.items)) }
 {
     let mut is_first = true;
     for member in list {
-        if !is_first {
-            output.push_str(", ")?;
-        }
-        is_first = false;
+        serialize_separator(&mut is_first, ", ", output)?;
         serialize_member(member, output)?;
     }
     Ok(())
 }
 
-/// The text of a list, with memory from `alloc`, or `None` for a list without members, of which
-/// nothing is written (RFC 9651, section 4.1).
+/// Returns the text of a list, with memory from `alloc`, or `None` for a list without members, of
+/// which nothing is written (RFC 9651, section 4.1).
 pub fn list_text(list: &List, alloc: Global) -> Result<Option<StdString>, OutOfMemory>
-    ensures text { IfOk result (λ text. MatchOption text (list_tree list.now.items ≡ [])
-        (λ text. HasMember list_field (list_tree list.now.items) × IsWrittenAs list_field (list_tree list.now.items) (string_bytes text))) }
-    ensures empty { IfErr result (λ _. HasMember list_field (list_tree list.now.items)) }
+    ensures text { IfOk result (λ text.
+        IsSerializedAs list_field (list_tree list.now.items) (option_map string_bytes text)) }
+    ensures out_of_memory { IfErr result (λ _. HasMember list_field (list_tree list.now.items)) }
 {
     if list.is_empty() {
         return Ok(None);

@@ -1,10 +1,10 @@
 //! Writing numbers (RFC 9651, sections 4.1.4, 4.1.5 and 4.1.10).
 
-ghost use Rattle.std.specs.Prelude.{◌≡◌, ◌++◌, ◌+◌, ◌<◌, OnOk, OnErr, codes, string_bytes};
+ghost use Rattle.std.specs.Prelude.{◌≡◌, ◌++◌, ◌+◌, ◌<◌, codes};
 ghost use Rattle.std.specs.Fmt.{signed_decimal};
 ghost use Rattle.sfv_spec.specs.Values.{IsInRange};
 ghost use Rattle.sfv_spec.specs.Canonical.{fraction_digits, decimal_text};
-ghost use Rattle.sfv_ser.specs.Written.{Extends};
+ghost use Rattle.sfv_ser.specs.Written.{Appends};
 
 use itoa::Buffer;
 use sfv_base::date::Date;
@@ -19,8 +19,7 @@ pub(crate) fn serialize_integer<A: Allocator>(
     value: Integer,
     output: &mut StdString<A>,
 ) -> Result<(), OutOfMemory>
-    ensures ok { OnOk result (string_bytes output.new ≡ string_bytes output.old ++ signed_decimal value) }
-    ensures err { OnErr result (Extends (string_bytes output.old) (string_bytes output.new)) }
+    ensures text { Appends output.old output.new (signed_decimal value) result }
     ensures range { IsInRange value }
 {
     let mut buffer = Buffer::new();
@@ -33,8 +32,7 @@ pub(crate) fn serialize_date<A: Allocator>(
     value: Date,
     output: &mut StdString<A>,
 ) -> Result<(), OutOfMemory>
-    ensures ok { OnOk result (string_bytes output.new ≡ string_bytes output.old ++ codes "@" ++ signed_decimal value) }
-    ensures err { OnErr result (Extends (string_bytes output.old) (string_bytes output.new)) }
+    ensures text { Appends output.old output.new (codes "@" ++ signed_decimal value) result }
     ensures range { IsInRange value }
 {
     output.push('@')?;
@@ -50,15 +48,14 @@ fn digit(value: u64) -> char
     (b'0' + value as u8) as char
 }
 
-/// Appends the digits of a fraction of thousandths: one at least, and no zero at the end behind it.
+/// Appends the digits of a fraction of thousandths: one at least, and no zero at the end after it.
 #[tactic(auto, using(crate::proofs::Decimals::fraction_steps))]
 fn serialize_fraction<A: Allocator>(
     thousandths: u64,
     output: &mut StdString<A>,
 ) -> Result<(), OutOfMemory>
     requires { thousandths < 1000 }
-    ensures ok { OnOk result (string_bytes output.new ≡ string_bytes output.old ++ fraction_digits thousandths) }
-    ensures err { OnErr result (Extends (string_bytes output.old) (string_bytes output.new)) }
+    ensures text { Appends output.old output.new (fraction_digits thousandths) result }
 {
     output.push(digit(thousandths / 100))?;
     if thousandths % 100 == 0 {
@@ -77,8 +74,7 @@ pub(crate) fn serialize_decimal<A: Allocator>(
     value: Decimal,
     output: &mut StdString<A>,
 ) -> Result<(), OutOfMemory>
-    ensures ok { OnOk result (string_bytes output.new ≡ string_bytes output.old ++ decimal_text value) }
-    ensures err { OnErr result (Extends (string_bytes output.old) (string_bytes output.new)) }
+    ensures text { Appends output.old output.new (decimal_text value) result }
     ensures range { IsInRange value }
 {
     let value = i64::from(value.as_integer_scaled_1000());

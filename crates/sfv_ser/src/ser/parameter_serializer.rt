@@ -1,13 +1,13 @@
 //! Writing parameters one by one (RFC 9651, section 4.1.1.2).
 
 ghost use Rattle.std.specs.Prelude.{◌≡◌, ◌++◌, List, IfOk, codes, string_bytes};
-ghost use Rattle.std.specs.Borrow.{sem, RestsIfErr};
+ghost use Rattle.std.specs.Borrow.{sem};
 ghost use Rattle.std.specs.Iterator.{IsFinite, Drains};
 ghost use Rattle.sfv_spec.specs.Canonical.{value_text, parameters_text};
 ghost use Rattle.sfv_bare.specs.BareItems.{ref_value};
 ghost use Rattle.sfv_text.specs.KeyText.{key_text};
 ghost use Rattle.sfv_ser.specs.Written.{lent_pairs};
-ghost use Rattle.sfv_ser.specs.Serializers.{text_row, params_sink};
+ghost use Rattle.sfv_ser.specs.Serializers.{RestsIfOutOfMemory, HoldsMore, params_sink};
 
 use crate::ser::append::{append_parameter, append_parameters};
 use sfv_bare::bare::{BareItem, RefBareItem};
@@ -16,7 +16,7 @@ use sfv_text::key::Key;
 use sfv_text::key_ref::KeyRef;
 use std::string::String as StdString;
 
-/// Writes parameters behind what they belong to (RFC 9651, section 4.1.1.2), into `X`: the text to
+/// Writes parameters after what they belong to (RFC 9651, section 4.1.1.2), into `X`: the text to
 /// which an item is written.
 ///
 /// A key that is given twice is written twice. The serializer may be let go without `finish`.
@@ -26,7 +26,7 @@ pub struct ParameterSerializer<'s, X> {
 }
 
 impl<'s, X> ParameterSerializer<'s, X> {
-    /// The serializer that writes behind what stands there.
+    /// Returns a serializer that writes after what stands there.
     pub(crate) fn new(sink: &'s mut X) -> ParameterSerializer<'s, X>
         ensures lent { (params_sink result).ghost_name ≡ sink.entry.ghost_name }
         ensures text { (params_sink result).now ≡ sink.old }
@@ -34,7 +34,7 @@ impl<'s, X> ParameterSerializer<'s, X> {
         ParameterSerializer { sink }
     }
 
-    /// Ends the writing, and gives the text back to who lent it.
+    /// Ends the writing: whoever lent the text has it back.
     pub fn finish(self)
         ensures { self.exit.0.now ≡ (params_sink self.entry).now }
     {
@@ -48,15 +48,16 @@ impl<'s> ParameterSerializer<'s, StdString> {
     ///
     /// # Errors
     ///
-    /// `OutOfMemory` where a request for memory is refused. The text is then as it was before this call.
+    /// `OutOfMemory`; the text is then as it was before this call.
     pub fn parameter(
         self,
         name: KeyRef<'_>,
         value: &RefBareItem<'_>,
     ) -> Result<ParameterSerializer<'s, StdString>, OutOfMemory>
-        ensures* refused { sem 𝓛 (RestsIfErr text_row (params_sink self.entry) (λ p. (params_sink p).ghost_name) result (λ last. string_bytes last ≡ string_bytes (params_sink self.entry).now)) }
+        ensures* out_of_memory { sem 𝓛 (RestsIfOutOfMemory (params_sink self.entry) result) }
         ensures lent { IfOk result (λ p. (params_sink p).ghost_name ≡ (params_sink self.entry).ghost_name) }
-        ensures text { IfOk result (λ p. string_bytes (params_sink p).now ≡ string_bytes (params_sink self.entry).now ++ codes ";" ++ key_text name.entry ++ value_text (ref_value value.now)) }
+        ensures text { HoldsMore (params_sink self.entry)
+            (codes ";" ++ key_text name.entry ++ value_text (ref_value value.now)) result }
     {
         let ParameterSerializer { sink } = self;
         append_parameter(name, value, sink)?;
@@ -67,17 +68,18 @@ impl<'s> ParameterSerializer<'s, StdString> {
     ///
     /// # Errors
     ///
-    /// `OutOfMemory` where a request for memory is refused. The text is then as it was before this call.
+    /// `OutOfMemory`; the text is then as it was before this call.
     pub fn parameters<'k, I: Iterator<Item = (&'k Key, &'k BareItem)> + Drop>(
         self,
         params: I,
     ) -> Result<ParameterSerializer<'s, StdString>, OutOfMemory>
         requires can { I.can_next params }
         requires ends { IsFinite (I.remaining params) }
-        ensures* refused { sem 𝓛 (RestsIfErr text_row (params_sink self.entry) (λ p. (params_sink p).ghost_name) result (λ last. string_bytes last ≡ string_bytes (params_sink self.entry).now)) }
+        ensures* out_of_memory { sem 𝓛 (RestsIfOutOfMemory (params_sink self.entry) result) }
         ensures lent { IfOk result (λ p. (params_sink p).ghost_name ≡ (params_sink self.entry).ghost_name) }
         ensures text { IfOk result (λ p. (pairs : List _) × Drains I.next_gives params pairs
-            × (string_bytes (params_sink p).now ≡ string_bytes (params_sink self.entry).now ++ parameters_text (lent_pairs pairs))) }
+            × (string_bytes (params_sink p).now
+            ≡ string_bytes (params_sink self.entry).now ++ parameters_text (lent_pairs pairs))) }
     {
         let ParameterSerializer { sink } = self;
         append_parameters(params, sink)?;

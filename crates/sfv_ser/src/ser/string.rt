@@ -1,41 +1,40 @@
 //! Writing strings (RFC 9651, section 4.1.6).
 
-ghost use Rattle.std.specs.Prelude.{◌≡◌, ◌++◌, ◌<◌, OnOk, OnErr, string_bytes};
+ghost use Rattle.std.specs.Prelude.{◌<◌};
 ghost use Rattle.sfv_spec.specs.Texts.{RunOf};
 ghost use Rattle.sfv_spec.specs.Classes.{is_string_byte};
 ghost use Rattle.sfv_spec.specs.Values.{string};
 ghost use Rattle.sfv_spec.specs.Canonical.{string_piece, bare_text};
 ghost use Rattle.sfv_text.specs.StringText.{string_text};
-ghost use Rattle.sfv_ser.specs.Written.{Extends};
+ghost use Rattle.sfv_ser.specs.Written.{Appends};
 
-use crate::quoted::in_string::{is_escaped, plain_end};
 use sfv_base::error::OutOfMemory;
+use sfv_base::runs::{PlainInString, run_end_from};
+use sfv_base::utils::is_escaped_in_string;
 use sfv_text::string_ref::StringRef;
 use std::alloc::{AllocError, Allocator};
 
-/// Adds a byte of a string, or a part of its escape.
+/// Appends a byte of a string, or a part of its escape.
 fn push_byte<A: Allocator>(output: &mut String<A>, byte: u8) -> Result<(), AllocError>
     requires { byte < 128 }
-    ensures ok { OnOk result (string_bytes output.new ≡ string_bytes output.old ++ string_piece byte) }
-    ensures err { OnErr result (Extends (string_bytes output.old) (string_bytes output.new)) }
+    ensures text { Appends output.old output.new (string_piece byte) result }
 {
-    if is_escaped(byte) {
+    if is_escaped_in_string(byte) {
         output.push('\\')?;
     }
     output.push(byte as char)
 }
 
-/// Adds a string, or a part of it.
+/// Appends a string, or a part of it.
 fn push_string<A: Allocator>(output: &mut String<A>, text: &str) -> Result<(), AllocError>
     requires { RunOf is_string_byte text.now }
-    ensures ok { OnOk result (string_bytes output.new ≡ string_bytes output.old ++ bare_text (string text.now)) }
-    ensures err { OnErr result (Extends (string_bytes output.old) (string_bytes output.new)) }
+    ensures text { Appends output.old output.new (bare_text (string text.now)) result }
 {
     output.push('"')?;
     let bytes = text.as_bytes();
     let mut at = 0;
     loop {
-        let end = plain_end(bytes, at);
+        let end = run_end_from::<PlainInString>(bytes, at);
         // Plain bytes are ASCII, so a run of them can be cut out of a text.
         output.push_str(unsafe { std::str::from_utf8_unchecked(&bytes[at..end]) })?;
         if end >= bytes.len() {
@@ -51,8 +50,7 @@ pub(crate) fn serialize_string<A: Allocator>(
     value: StringRef<'_>,
     output: &mut String<A>,
 ) -> Result<(), OutOfMemory>
-    ensures ok { OnOk result (string_bytes output.new ≡ string_bytes output.old ++ bare_text (string (string_text value.entry))) }
-    ensures err { OnErr result (Extends (string_bytes output.old) (string_bytes output.new)) }
+    ensures text { Appends output.old output.new (bare_text (string (string_text value.entry))) result }
 {
     push_string(output, value.as_str())?;
     Ok(())

@@ -33,7 +33,7 @@ pub struct DictionaryBuilder {
 }
 
 impl DictionaryBuilder {
-    /// The builder before any event, with the members of `dictionary`, which builds with memory from `alloc`. A further
+    /// Returns the builder before any event, with the members of `dictionary`, which builds with memory from `alloc`. A further
     /// line of the same field is read into the dictionary of the lines before it.
     pub fn new(alloc: Global, dictionary: Dictionary) -> DictionaryBuilder
         ensures { dictionary_place result ≡ between_pairs (dictionary_tree dictionary.entries) }

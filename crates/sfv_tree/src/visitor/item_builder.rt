@@ -40,7 +40,7 @@ pub struct ItemBuilder {
 }
 
 impl ItemBuilder {
-    /// The builder before any event, which builds with memory from `alloc`.
+    /// Returns the builder before any event, which builds with memory from `alloc`.
     pub fn new(alloc: Global) -> ItemBuilder
         ensures { item_place result ≡ at_head }
     {

@@ -25,7 +25,7 @@ pub struct ListBuilder {
 }
 
 impl ListBuilder {
-    /// The builder before any event, with the members of `list`, which builds with memory from `alloc`. A further line of
+    /// Returns the builder before any event, with the members of `list`, which builds with memory from `alloc`. A further line of
     /// the same field is read into the list of the lines before it.
     pub fn new(alloc: Global, list: List) -> ListBuilder
         ensures { list_place result ≡ between (list_tree list.items) }

@@ -127,7 +127,7 @@ impl PartialMember {
         }
     }
 
-    // What is read of the member behind this event.
+    // Returns what is read of the member behind this event.
     pub(crate) fn step(self, alloc: Global, event: Event<'_>) -> Result<PartialMember, OutOfMemory>
         ensures { IfOk result (λ after. member_place after ≡ member_step (member_place self) (event_of event.entry)) }
     {

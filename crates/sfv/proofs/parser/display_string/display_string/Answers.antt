@@ -2,7 +2,7 @@ use Rattle.std.proofs.Common.{[], sym, refl, arith, ap}
 use Rattle.std.proofs.lemmas.Result.{err_from_is_err_and}
 use Rattle.std.proofs.lemmas.Bool.{true≢false}
 use Rattle.sfv_spec.specs.Faults.{unterminated_display_string, invalid_display_string_character}
-use Rattle.sfv_reading.proofs.DisplaySteps.{sofar_none, sofar_run, sofar_fault, sofar_quote, stops_end, stops_byte, shown_fault, shown_text, plain_utf8, no_escape, some_escape, read_past}
+use Rattle.sfv_reading.proofs.quoted.DisplaySteps.{sofar_none, sofar_run, sofar_fault, sofar_quote, stops_end, stops_byte, shown_fault, shown_text, plain_utf8, no_escape, some_escape, read_past}
 use Rattle.sfv.specs.Cursor.{located}
 use Rattle.sfv.proofs.Escapes.{display_error, fault_error}
 use Rattle.sfv.proofs.parser.display_string.display_string.Goals as goal

@@ -2,7 +2,7 @@ use Rattle.std.proofs.Common.{[], ◌≡◌, ◌+◌, drop, arith, ap}
 use Rattle.std.proofs.lemmas.Result.{err_from_is_err_and}
 use Rattle.sfv_spec.specs.Faults.{unterminated_display_string, invalid_display_string_character}
 use Rattle.sfv_reading.specs.Quoted.{pieces_from, outside, percent}
-use Rattle.sfv_reading.proofs.DisplaySteps.{sofar_none, sofar_run, sofar_pushed, sofar_fault, sofar_quote, stops_end, stops_byte}
+use Rattle.sfv_reading.proofs.quoted.DisplaySteps.{sofar_none, sofar_run, sofar_pushed, sofar_fault, sofar_quote, stops_end, stops_byte}
 use Rattle.sfv.specs.Cursor.{located}
 use Rattle.sfv.proofs.Escapes.{past_escape, in_escape, display_opens}
 use Rattle.sfv.proofs.parser.display_string.unescaped.Goals as goal

@@ -20,5 +20,5 @@ pub returns : goal.returns
 returns g c =
     let keyed = g.M.Member.keyed in
     let read = start_visits g.V.Visitor.takes g.V.Visitor.fails (λ members. flat_map (member_parts keyed) members) (λ edition. members_at (member_parts keyed) (one_member_at keyed edition)) c.new.result c.members.new.self c.args.visitor c.members.new.visitor (c.args.parser, c.args.alloc) (Ok tt)
-        c.new.ensures.kept c.new.ensures.rest c.in_ok-members.ensures.visited in
+    c.new.ensures.kept c.new.ensures.rest c.in_ok-members.ensures.visited in
     members_finish g.V.Visitor.takes g.V.Visitor.fails g.V.Visitor.finishes g.V.Visitor.finish_fails keyed (parser_edition c.args.parser) (input_of c.args.parser) _ c.args.visitor c.members.new.visitor c.finish.result read.0 read.1 c.in_ok-members.ensures.end read.2 c.finish.ensures.answered c.finish.ensures.failed

@@ -2,9 +2,9 @@ use Rattle.std.proofs.Common.{[], sym, refl, arith, ap}
 use Rattle.std.specs.Prelude.{slice_range}
 use Rattle.std.proofs.lemmas.Bool.{true≢false}
 use Rattle.sfv_spec.specs.Faults.{unterminated_string, invalid_string_character}
-use Rattle.sfv_reading.proofs.StringSteps.{sofar_none, sofar_run, sofar_fault, sofar_quote, stops_end, stops_byte, plain_utf8, read_utf8, no_escape, some_escape, read_past}
+use Rattle.sfv_reading.proofs.quoted.StringSteps.{sofar_none, sofar_run, sofar_fault, sofar_quote, stops_end, stops_byte, plain_utf8, read_utf8, no_escape, some_escape, read_past}
 use Rattle.sfv.specs.Cursor.{located}
-use Rattle.sfv_reading.proofs.StringSteps.{plain_bytes, read_bytes}
+use Rattle.sfv_reading.proofs.quoted.StringSteps.{plain_bytes, read_bytes}
 use Rattle.sfv.proofs.parser.string.string.Goals as goal
 
 pub returns-then-end-input-clause-read : goal.returns-then-end-input-clause-read

@@ -3,7 +3,7 @@ use Rattle.std.specs.Prelude.{true, false}
 use Rattle.std.proofs.lemmas.Result.{err_from_is_err_and}
 use Rattle.sfv_spec.specs.Faults.{unterminated_string, invalid_string_character}
 use Rattle.sfv_reading.specs.Quoted.{string_from}
-use Rattle.sfv_reading.proofs.StringSteps.{sofar_none, sofar_run, sofar_pushed, sofar_fault, sofar_quote, stops_end, stops_byte}
+use Rattle.sfv_reading.proofs.quoted.StringSteps.{sofar_none, sofar_run, sofar_pushed, sofar_fault, sofar_quote, stops_end, stops_byte}
 use Rattle.sfv.specs.Cursor.{located}
 use Rattle.sfv.proofs.Escapes.{past_escape, in_escape, string_opens}
 use Rattle.sfv.proofs.parser.string.unescaped.Goals as goal

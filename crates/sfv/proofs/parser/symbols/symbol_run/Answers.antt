@@ -1,5 +1,5 @@
 use Rattle.std.proofs.Common.{arith}
-use Rattle.sfv_reading.specs.Content.{is_symbol}
+use Rattle.sfv_spec.specs.Base64.{is_symbol}
 use Rattle.sfv.proofs.Runs.{stops_at}
 use Rattle.sfv.proofs.parser.symbols.symbol_run.Goals as goal
 

@@ -1,6 +1,6 @@
 use Rattle.std.proofs.Common.{◌-◌, ◌≤◌, length, take}
 use Rattle.sfv_spec.specs.Texts.{RunOf}
-use Rattle.sfv_reading.specs.Content.{is_symbol}
+use Rattle.sfv_spec.specs.Base64.{is_symbol}
 use Rattle.sfv.proofs.parser.symbols.symbol_run.Given as goal
 
 abbrev pub invariant-loop-count : goal.invariant-loop-count

@@ -3,8 +3,8 @@ use Rattle.sfv_spec.specs.Base64.{base64_text}
 use Rattle.sfv_ser.proofs.Encoded.{encoded}
 use Rattle.sfv_ser.proofs.ser.byte_sequence.serialize_byte_sequence.Goals as goal
 
-pub returns-clause-ok : goal.returns-clause-ok
-returns-clause-ok g c =
+pub returns-clause-text : goal.returns-clause-text
+returns-clause-text g c =
     let old : List ℕ = string_bytes c.args.output.now in
     let bytes : List ℕ = c.args.value.now in
     let first : string_bytes c.push.new.self ≡ old ++ 58 ∷ [] = c.in_ok-push.ensures.bytes ∙ ap (λ (t : List ℕ). old ++ t) (c.in_ok-push.ensures.ascii (omega arith)) in

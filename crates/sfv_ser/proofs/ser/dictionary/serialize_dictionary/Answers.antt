@@ -1,43 +1,22 @@
-use Rattle.std.proofs.Common.{◌≡◌, ◌++◌, List, [], ℕ, cond, codes, string_bytes, sym, subst}
+use Rattle.std.proofs.Common.{◌≡◌, codes, subst}
 use Rattle.std.specs.List.{AllByRecursion}
 use Rattle.std.specs.Prelude.{IsTrue}
-use Rattle.std.proofs.lemmas.List.{append-nil}
 use Rattle.sfv_spec.specs.Classes.{is_key}
 use Rattle.sfv_spec.specs.Values.{IsMember}
 use Rattle.sfv_spec.specs.Ordered.{IsOrderedMember}
 use Rattle.sfv_spec.specs.Canonical.{dictionary_member_text}
-use Rattle.sfv_tree.specs.Trees.{member_tree}
-use Rattle.sfv_ser.specs.Written.{Extends}
-use Rattle.sfv_tree.specs.Trees.{dictionary_tree}
-use Rattle.sfv_ser.proofs.Rows.{row_more, all_both, anyway, broken_off}
+use Rattle.sfv_tree.specs.Trees.{member_tree, dictionary_tree}
+use Rattle.sfv_ser.proofs.Rows.{row_more, all_both}
 use Rattle.sfv_ser.proofs.Members.{lent_members, IsGoodMember, member_taken, member_pushed, members_all, members_distinct}
 use Rattle.sfv_ser.proofs.ser.dictionary.serialize_dictionary.Goals as goal
-use Rattle.sfv_ser.proofs.ser.dictionary.serialize_dictionary.Goals.{then-not-is_first+in_ok-push_str, else-not-is_first}
 
 pub loop-key-preserved : goal.loop-key-preserved
 loop-key-preserved g c =
-    let old : List ℕ = string_bytes c.loop-key.output in
-    let led : string_bytes c.if-not-is_first.output ≡ old ++ cond c.loop-key.is_first [] (codes ", ") =
-    elim c.if-not-is_first.branch [
-      | then-not-is_first+in_ok-push_str w ↦ rw (w.output-is, w.if-not-is_first.true) w.in_ok-push_str.ensures.bytes
-      | else-not-is_first w ↦ rw (w.output-is, w.if-not-is_first.false) (sym (append-nil old))
-    ] in
     let written = c.in_ok-serialize_dictionary_member.ensures in (
       member_taken c.loop-key.yielded (c.in-Some.key, c.in-Some.member) c.loop-key.key-iterator c.next.new.self c.args.dictionary.now.entries c.loop-key.invariant.0 c.in-Some.ensures.steps,
-      row_more dictionary_member_text IsGoodMember (codes ", ") _ _ _ _ _ _ _ (c.in-Some.key.now, member_tree c.in-Some.member.now) c.loop-key.invariant.1
-          (member_pushed c.loop-key.yielded (c.in-Some.key, c.in-Some.member)) led written.ok ((written.key, written.value.0), written.value.1),
+      row_more dictionary_member_text IsGoodMember (codes ", ") _ _ _ _ _ _ _ _ (c.in-Some.key.now, member_tree c.in-Some.member.now) c.loop-key.invariant.1 c.in_ok-serialize_separator.ensures.first
+          (member_pushed c.loop-key.yielded (c.in-Some.key, c.in-Some.member)) c.in_ok-serialize_separator.ensures.text written.text ((written.key, written.value.0), written.value.1),
     )
-
-pub returns-in_err-serialize_dictionary_member-clause-err : goal.returns-in_err-serialize_dictionary_member-clause-err
-returns-in_err-serialize_dictionary_member-clause-err g c =
-    let old : List ℕ = string_bytes c.loop-key.output in
-    let led : string_bytes c.if-not-is_first.output ≡ old ++ cond c.loop-key.is_first [] (codes ", ") =
-    elim c.if-not-is_first.branch [
-      | then-not-is_first+in_ok-push_str w ↦ rw (w.output-is, w.if-not-is_first.true) w.in_ok-push_str.ensures.bytes
-      | else-not-is_first w ↦ rw (w.output-is, w.if-not-is_first.false) (sym (append-nil old))
-    ] in
-    anyway (Extends (string_bytes c.args.output.now) (string_bytes c.serialize_dictionary_member.new.output)) c.from_residual-in_err-serialize_dictionary_member.result
-    (broken_off (string_bytes c.args.output.now) _ _ _ _ (string_bytes c.serialize_dictionary_member.new.output) c.loop-key.invariant.1.text led c.in_err-serialize_dictionary_member.ensures.err)
 
 pub returns-clause-value : goal.returns-clause-value
 returns-clause-value g c =

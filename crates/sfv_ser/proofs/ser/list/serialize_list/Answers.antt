@@ -1,5 +1,5 @@
-use Rattle.std.proofs.Common.{◌≡◌, ◌++◌, ◌<◌, List, [], ℕ, cond, length, get_or, map, ap, subst, ◌∙◌, codes, string_bytes, sym, rules}
-use Rattle.std.proofs.lemmas.List.{append-nil, take_all}
+use Rattle.std.proofs.Common.{◌≡◌, ◌++◌, ◌<◌, List, length, get_or, map, ap, subst, ◌∙◌, codes, string_bytes, rules}
+use Rattle.std.proofs.lemmas.List.{take_all}
 use Rattle.std.specs.List.{AllByRecursion}
 use Rattle.sfv_spec.specs.Texts.{joined}
 use Rattle.sfv_spec.specs.Values.{IsMember}
@@ -9,25 +9,18 @@ use Rattle.sfv_tree.specs.Trees.{member_tree, list_tree}
 use Rattle.sfv_tree.specs.declared.parsed.ListEntry.{ListEntry}
 use Rattle.sfv_ser.proofs.Rows.{row_more, mapped_more, all_both}
 use Rattle.sfv_ser.proofs.ser.list.serialize_list.Goals as goal
-use Rattle.sfv_ser.proofs.ser.list.serialize_list.Goals.{then-not-is_first+in_ok-push_str, else-not-is_first}
 
 pub loop-member-preserved : goal.loop-member-preserved
 loop-member-preserved g c =
-    let old : List ℕ = string_bytes c.loop-member.output in
-    let led : string_bytes c.if-not-is_first.output ≡ old ++ cond c.loop-member.is_first [] (codes ", ") =
-    elim c.if-not-is_first.branch [
-      | then-not-is_first+in_ok-push_str w ↦ rw (w.output-is, w.if-not-is_first.true) w.in_ok-push_str.ensures.bytes
-      | else-not-is_first w ↦ rw (w.output-is, w.if-not-is_first.false) (sym (append-nil old))
-    ] in
     let within : c.loop-member.member-index < length c.args.list.now.items = search rules in
     let x : ListEntry = c.member-item.result in
     let is : x ≡ get_or c.args.list.now.items c.loop-member.member-index x = c.member-item.is ∙ ap (λ xs. get_or xs c.loop-member.member-index x) c.deref-member-items.ensures.value in
-    row_more member_text (λ m. IsMember m × IsOrderedMember m) (codes ", ") _ _ _ _ _ _ _ (member_tree c.member-item.result) c.loop-member.invariant
+    row_more member_text (λ m. IsMember m × IsOrderedMember m) (codes ", ") _ _ _ _ _ _ _ _ (member_tree c.member-item.result) c.loop-member.invariant c.in_ok-serialize_separator.ensures.first
     (mapped_more member_tree c.args.list.now.items c.loop-member.member-index c.member-item.result within is)
-    led c.in_ok-serialize_member.ensures.ok c.in_ok-serialize_member.ensures.value
+    c.in_ok-serialize_separator.ensures.text c.in_ok-serialize_member.ensures.text c.in_ok-serialize_member.ensures.value
 
-pub returns-clause-ok : goal.returns-clause-ok
-returns-clause-ok g c =
+pub returns-clause-text : goal.returns-clause-text
+returns-clause-text g c =
     let members : List ListEntry = c.args.list.now.items in
     c.loop-member.invariant.text
     ∙ ap (λ (ms : List ListEntry). string_bytes c.args.output.now ++ joined (codes ", ") (map member_text (list_tree ms))) (take_all c.loop-member.member-index members (search rules))

@@ -1,24 +1,24 @@
-use Rattle.std.proofs.Common.{◌++◌, codes, string_bytes, ap, append_assoc, arith, length, lit<}
-use Rattle.sfv_reading.specs.Quoted.{is_plain_in_string}
-use Rattle.sfv_spec.specs.Canonical.{string_piece}
-use Rattle.sfv_reading.proofs.StringSteps.{plain_utf8}
-use Rattle.sfv_reading.proofs.Cuts.{on_ok_push}
-use Rattle.sfv_ser.proofs.Written.{string_itself, ran_on, ran_out}
+use Rattle.std.proofs.Common.{◌++◌, ◌∙◌, codes, string_bytes, ap, append_assoc, arith, length, lit<}
+use Rattle.sfv_spec.specs.Canonical.{string_piece, bare_text}
+use Rattle.sfv_spec.specs.Values.{string}
+use Rattle.sfv_spec.specs.Strings.{is_plain_in_string}
+use Rattle.sfv_reading.proofs.quoted.StringSteps.{plain_utf8}
+use Rattle.sfv_ser.proofs.Written.{string_itself, ran_on, ran_out, pushed_last}
 use Rattle.sfv_ser.proofs.ser.string.push_string.Goals as goal
 
 pub from_utf8_unchecked-requires : goal.from_utf8_unchecked-requires
-from_utf8_unchecked-requires g c = plain_utf8 _ c.plain_end-end.ensures.plain
+from_utf8_unchecked-requires g c = plain_utf8 _ c.run_end_from-end.ensures.each
 
-pub returns-then-end-bytes-clause-ok : goal.returns-then-end-bytes-clause-ok
-returns-then-end-bytes-clause-ok g c =
-    let p = c.plain_end-end.ensures in
+pub returns-then-end-bytes : goal.returns-then-end-bytes
+returns-then-end-bytes g c =
+    let p = c.run_end_from-end.ensures in
     let before = string_bytes c.args.output.now ++ codes "\"" in
-    let all = ran_out is_plain_in_string string_piece string_itself c.args.text.now c.as_bytes-bytes.result.now before (string_bytes c.loop-output.output) c.from_utf8_unchecked.result.now (string_bytes c.push_str.new.self) c.loop-output.at c.plain_end-end.result c.as_bytes-bytes.ensures.value c.loop-output.invariant.1 c.from_utf8_unchecked.ensures c.in_ok-push_str.ensures.bytes p.from p.plain c.if-end-bytes.true in
-    on_ok_push c.push-then-end-bytes.result (string_bytes c.push_str.new.self) _ _ _ c.push-then-end-bytes.ensures.bytes (rw (all, c.push-then-end-bytes.ensures.ascii (lit< tt)) (simp append_assoc))
+    let all = ran_out is_plain_in_string string_piece string_itself c.args.text.now c.as_bytes-bytes.result.now before (string_bytes c.loop-output.output) c.from_utf8_unchecked.result.now (string_bytes c.push_str.new.self) c.loop-output.at c.run_end_from-end.result c.as_bytes-bytes.ensures.value c.loop-output.invariant.1 c.from_utf8_unchecked.ensures c.in_ok-push_str.ensures.bytes p.from p.each c.if-end-bytes.true in
+    record { text = pushed_last c.args.output.now c.push-then-end-bytes.new.self c.push-then-end-bytes.result (string_bytes c.push_str.new.self) _ (bare_text (string c.args.text.now)) c.push-then-end-bytes.ensures.bytes (rw (all, c.push-then-end-bytes.ensures.ascii (lit< tt)) (simp append_assoc)) (_, all ∙ append_assoc (string_bytes c.args.output.now) _ _) }
 
 pub loop-output-preserved : goal.loop-output-preserved
 loop-output-preserved g c =
-    let p = c.plain_end-end.ensures in
+    let p = c.run_end_from-end.ensures in
     let before = string_bytes c.args.output.now ++ codes "\"" in
     let v = ap length c.as_bytes-bytes.ensures.value in
-    (omega (arith, c.if-end-bytes.false, v), ran_on is_plain_in_string string_piece string_itself c.args.text.now c.as_bytes-bytes.result.now before (string_bytes c.loop-output.output) c.from_utf8_unchecked.result.now (string_bytes c.push_str.new.self) (string_bytes c.push_byte.new.output) c.loop-output.at c.plain_end-end.result c.as_bytes-bytes.ensures.value c.loop-output.invariant.1 c.from_utf8_unchecked.ensures c.in_ok-push_str.ensures.bytes c.in_ok-push_byte.ensures.ok p.from p.plain c.if-end-bytes.false)
+    (omega (arith, c.if-end-bytes.false, v), ran_on is_plain_in_string string_piece string_itself c.args.text.now c.as_bytes-bytes.result.now before (string_bytes c.loop-output.output) c.from_utf8_unchecked.result.now (string_bytes c.push_str.new.self) (string_bytes c.push_byte.new.output) c.loop-output.at c.run_end_from-end.result c.as_bytes-bytes.ensures.value c.loop-output.invariant.1 c.from_utf8_unchecked.ensures c.in_ok-push_str.ensures.bytes c.in_ok-push_byte.ensures.text p.from p.each c.if-end-bytes.false)

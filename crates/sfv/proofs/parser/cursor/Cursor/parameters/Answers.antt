@@ -2,7 +2,7 @@ use Rattle.std.proofs.Common.{◌∙◌, refl}
 use Rattle.std.proofs.lemmas.Result.{err_from_is_err_and}
 use Rattle.sfv_spec.specs.Events.{parameters_events}
 use Rattle.sfv_reading.specs.Items.{parameter_at}
-use Rattle.sfv_reading.proofs.Items.{Consumes-parameter}
+use Rattle.sfv_reading.proofs.sound.Items.{Consumes-parameter}
 use Rattle.sfv.specs.Cursor.{edition, kept, rest}
 use Rattle.sfv.proofs.Errors.{kept_reads}
 use Rattle.sfv.proofs.Parameters.{of_visitor, visited_none, visited_more, visited_error, parameter_failed, end_visits}

@@ -1,0 +1,96 @@
+-- A run of a class, seen 32 bytes at a time through the mask of those outside it.
+use Rattle.std.proofs.Common.{◌≡◌, ℕ, zero, suc, ◌+◌, ◌*◌, ◌/◌, ◌<◌, ◌≤◌, Bool, true, false, not, cond, eqb, List, [], ◌∷◌, length, get_or, take, drop, refl, sym, ap, ap₂, ◌∙◌, arith, drop-drop}
+use Rattle.std.proofs.lemmas.Simd.{chunk-drop, length-chunk, leading_from_mask_l, trailing_mask_l}
+use Rattle.std.proofs.lemmas.List.Folds.{prefix_len-append}
+use Rattle.std.proofs.lemmas.List.Sums.{prefix_len-le-length, prefix_len_stops}
+use Rattle.std.proofs.lemmas.Bool.{eq-eqb, ne_eqb, and_from}
+use Rattle.std.specs.List.{prefix_len, list_all}
+use Rattle.std.specs.Simd.{first_chunks}
+use lib.Lanes.{chunk}
+use lib.Count.{count_trailing_zeros}
+use Rattle.sfv_base.specs.Lanes.{outside_mask}
+
+-- the chunk at an index
+pub chunk_at : (n k : ℕ) (xs : List ℕ) (i : ℕ) → i < k → get_or (first_chunks n k xs) i [] ≡ chunk (n * i) n xs
+chunk_at n zero xs i lt = absurd (omega arith)
+chunk_at n (suc k) xs zero lt = let e : 0 ≡ n * 0 = grind arith in ap (λ j. take n (drop j xs)) e
+chunk_at n (suc k) xs (suc i) lt =
+    let e : n + n * i ≡ n * suc i = grind arith in
+    chunk_at n k (drop n xs) i (omega arith) ∙ ap (take n) (drop-drop (n * i) n xs ∙ ap (λ j. drop j xs) e)
+
+none_outside : (b : Bool) (n l m : ℕ) → n ≤ l → cond b (1 + n) 0 ≡ 1 + l → (n ≡ l → m ≡ 0) → cond (not b) 1 0 + 2 * m ≡ 0
+none_outside false n l m le e ih = let no : ⊥ = omega arith in absurd no
+none_outside true n l m le e ih = let z = ih (omega arith) in omega arith
+
+module _ (class : ℕ → Bool) where
+  abbrev other : ℕ → Bool
+  other x = not (class x)
+
+  same_run : (xs : List ℕ) → prefix_len class xs ≡ prefix_len (λ x. not (other x)) xs
+  same_run [] = refl
+  same_run (x ∷ xs) = ap₂ (λ b n. cond b (1 + n) 0) (twice_not (class x)) (same_run xs)
+    where
+      twice_not : (b : Bool) → b ≡ not (not b)
+      twice_not true = refl
+      twice_not false = refl
+
+  whole : (xs : List ℕ) → prefix_len class xs ≡ length xs → outside_mask class xs ≡ 0
+  whole [] e = refl
+  whole (x ∷ xs) e = none_outside (class x) _ (length xs) _ (prefix_len-le-length class xs) (omega arith) (whole xs)
+
+  split : (d : List ℕ) (i n : ℕ) → prefix_len class (drop i d) ≡ cond (eqb (prefix_len class (chunk i n d)) (length (chunk i n d))) (length (chunk i n d) + prefix_len class (drop (i + n) d)) (prefix_len class (chunk i n d))
+  split d i n = ap (prefix_len class) (chunk-drop i n d) ∙ prefix_len-append class (chunk i n d) (drop (i + n) d)
+
+  -- no byte of the chunk is outside
+  pub run_through : (d : List ℕ) (i n : ℕ) → i + n ≤ length d → outside_mask class (chunk i n d) ≡ 0 → prefix_len class (drop i d) ≡ n + prefix_len class (drop (i + n) d)
+  run_through d i n room none =
+      let c = chunk i n d in
+      split d i n ∙ ap (λ b. cond b (length c + prefix_len class (drop (i + n) d)) (prefix_len class c)) (eq-eqb _ _ (same_run c ∙ leading_from_mask_l other c none))
+      ∙ ap (λ k. k + prefix_len class (drop (i + n) d)) (length-chunk i n d room)
+
+  -- the lowest bit is the end
+  pub run_stops : (d : List ℕ) (i n : ℕ) → i + n ≤ length d → n ≤ 64 → 0 < outside_mask class (chunk i n d) → prefix_len class (drop i d) ≡ count_trailing_zeros 64 (outside_mask class (chunk i n d))
+  run_stops d i n room short some =
+      let c = chunk i n d in
+      split d i n ∙ ap (λ b. cond b (length c + prefix_len class (drop (i + n) d)) (prefix_len class c)) (ne_eqb _ _ (λ (e : prefix_len class c ≡ length c). omega (arith, whole c e)))
+      ∙ same_run c ∙ sym (trailing_mask_l other 64 c (omega (arith, length-chunk i n d room)) some)
+
+  -- ---- one block of 32 bytes, of which those before let the run go on
+
+  module _ (xs : List ℕ) (blocks : List (List ℕ)) (i end mask : ℕ)
+      (front : blocks ≡ first_chunks 32 (length xs / 32) xs) (count : length blocks ≡ length xs / 32) (lt : i < length blocks)
+      (so_far : prefix_len class xs ≡ end + prefix_len class (drop end xs)) (place : end ≡ 32 * i)
+      (masked : mask ≡ outside_mask class (get_or blocks i [])) where
+    room : end + 32 ≤ length xs
+    room = omega arith
+
+    mask_is : mask ≡ outside_mask class (chunk end 32 xs)
+    mask_is =
+        masked ∙ ap (outside_mask class) (ap (λ l. get_or l i []) front ∙ chunk_at 32 (length xs / 32) xs i (omega arith))
+        ∙ ap (λ k. outside_mask class (chunk k 32 xs)) (sym place)
+
+    pub block_passed : mask ≡ 0 → prefix_len class xs ≡ end + 32 + prefix_len class (drop (end + 32) xs)
+    block_passed none = omega (arith, run_through xs end 32 room (sym mask_is ∙ none))
+
+    pub block_ends : (mask ≡ 0 → ⊥) → prefix_len class xs ≡ end + count_trailing_zeros 64 mask
+    block_ends some =
+        so_far ∙ ap (λ k. end + k) (run_stops xs end 32 room (omega arith) (omega (arith, mask_is)) ∙ ap (count_trailing_zeros 64) (sym mask_is))
+
+  -- ---- what the end tells
+
+  pub each_of : (xs : List ℕ) → list_all class (take (prefix_len class xs) xs) ≡ true
+  each_of [] = refl
+  each_of (x ∷ xs) = go (class x) refl (each_of xs)
+    where
+      go : (b : Bool) → class x ≡ b → list_all class (take (prefix_len class xs) xs) ≡ true → list_all class (take (cond b (1 + prefix_len class xs) 0) (x ∷ xs)) ≡ true
+      go true e rest = let s : 1 + prefix_len class xs ≡ suc (prefix_len class xs) = omega arith in rw s (and_from _ _ e rest)
+      go false e rest = refl
+
+  pub end_within : (xs : List ℕ) (r : ℕ) → r ≡ prefix_len class xs → r ≤ length xs
+  end_within xs r e = omega (arith, prefix_len-le-length class xs)
+
+  pub end_each : (xs : List ℕ) (r : ℕ) → r ≡ prefix_len class xs → list_all class (take r xs) ≡ true
+  end_each xs r e = rw e (each_of xs)
+
+  pub end_stops : (xs : List ℕ) (r : ℕ) → r ≡ prefix_len class xs → r < length xs → class (get_or xs r 0) ≡ false
+  end_stops xs r e lt = ap (λ n. class (get_or xs n 0)) e ∙ prefix_len_stops class xs 0 (omega arith)

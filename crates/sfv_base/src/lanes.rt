@@ -1,0 +1,46 @@
+//! Classes of bytes by the halves of a byte: a table has, at each low half, a bit for each high half
+//! that goes with it. So one look-up for each half tells whether a byte is of the class, for 32
+//! bytes at once.
+
+ghost use Rattle.std.specs.Prelude.{◌≡◌, ◌<◌, map, slice_index};
+ghost use Rattle.std.specs.Simd.Lanes.{Each1};
+ghost use Rattle.sfv_base.specs.Lanes.{outside_mask, is_marked};
+
+use std::simd::prelude::*;
+
+pub(crate) const LANES: usize = 32;
+
+// The bit of each high half of a byte. No class has a byte of 0x80 or more.
+const HIGH: [u8; 16] = [1, 2, 4, 8, 16, 32, 64, 128, 0, 0, 0, 0, 0, 0, 0, 0];
+
+/// Whether the byte is of the class of which this is the table.
+#[inline(always)]
+pub(crate) fn is_marked(low: &[u8; 16], byte: u8) -> bool
+    ensures { result ≡ is_marked low.now byte }
+{
+    low[usize::from(byte % 16)] & HIGH[usize::from(byte / 16)] != 0
+}
+
+// What the table has at each place.
+#[inline(always)]
+fn looked_up(table: &[u8; 16], places: u8x32) -> u8x32
+    requires { Each1 (λ j. j < 16) places }
+    ensures { result ≡ map (λ j. slice_index table.now j) places }
+{
+    let twice: u8x32 = u8x16::from_array(*table).swizzle([
+        0, 1, 2, 3, 4, 5, 6, 7, 8, 9, 10, 11, 12, 13, 14, 15, 0, 1, 2, 3, 4, 5, 6, 7, 8, 9, 10, 11,
+        12, 13, 14, 15,
+    ]);
+    twice.swizzle_dyn_within::<16>(places)
+}
+
+/// The bytes outside the class of which this is the table, as bits, of which the lowest stands for
+/// the first byte.
+#[inline(always)]
+pub(crate) fn unmarked(low: &[u8; 16], lanes: u8x32) -> u64
+    ensures { result ≡ outside_mask (is_marked low.now) lanes }
+{
+    let by_low = looked_up(low, lanes & u8x32::splat(15));
+    let by_high = looked_up(&HIGH, lanes >> u8x32::splat(4));
+    (by_low & by_high).simd_eq(u8x32::splat(0)).to_bitmask()
+}

@@ -1,0 +1,5 @@
+-- Texts and runs of bytes.
+pub mod Joining
+pub mod Cuts
+pub mod Ranges
+pub mod Utf8
