@@ -28,7 +28,7 @@ mod sealed {
 ///
 /// A contract sees a value as its tree, by the kind of field that it is.
 pub trait FieldType: sealed::Sealed + Drop {
-    /// What `serialize` answers: a text, of a list or a dictionary only if it has a member.
+    /// What `serialize` returns: a text, of a list or a dictionary only if it has a member.
     type SerializeResult: Drop;
 
     ghost kind: { FieldKind };
@@ -43,11 +43,11 @@ pub trait FieldType: sealed::Sealed + Drop {
         ensures rejected { IfErr result (IsParseError (parser_edition parser.entry) kind (input_of parser.entry)) }
         ensures fault { IfErr result (IsReaderFault (parser_edition parser.entry) kind (input_of parser.entry)) };
 
-    /// Writes the canonical text (RFC 9651, section 4.1), with memory from `alloc`; refused where memory is. Of a list or
-    /// a dictionary without members nothing is written, and the answer is `None` and takes no memory.
+    /// Returns the canonical text (RFC 9651, section 4.1), with memory from `alloc`, or fails as out of memory. For a list
+    /// or a dictionary without members it returns `None`, and asks for no memory.
     fn serialize(&self, alloc: Global) -> Result<Self::SerializeResult, OutOfMemory>
         ensures text { IfOk result (λ text. IsSerializedAs kind (tree self.now) (written text)) }
-        ensures memory { IfErr result (λ _. HasMember kind (tree self.now)) };
+        ensures out_of_memory { IfErr result (λ _. HasMember kind (tree self.now)) };
 }
 
 impl FieldType for Item {

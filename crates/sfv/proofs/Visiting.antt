@@ -1,8 +1,9 @@
--- Telling a visitor the events of a reading, by the parts of the reading.
+-- Visiting the events of a reading, by the parts of the reading.
 use Rattle.std.proofs.Common.{◌≡◌, ℕ, List, [], ◌∷◌, ◌++◌, Ok, Err, refl, sym, ap, subst, ◌∙◌, append_assoc}
 use Rattle.std.specs.Prelude.{Result}
-use Rattle.std.specs.Borrow.{Bor}
+use Rattle.std.specs.declared.alloc.Global.{Global}
 use Rattle.std.proofs.lemmas.List.{append-nil}
+use Rattle.sfv_spec.specs.Values.{Edition}
 use Rattle.sfv_spec.specs.Events.{TreeEvent}
 use Rattle.sfv_spec.specs.Visiting.{RunsTo}
 use Rattle.sfv_base.specs.declared.error.ParseError.{ParseError}
@@ -11,23 +12,35 @@ use Rattle.sfv_reading.specs.Reader.{Answer, Reader, visited, and_then, bind, gi
 use Rattle.sfv_reading.specs.Visits.{VisitorFails}
 use Rattle.sfv_reading.proofs.visits.Parts.{visited_then, visited_first, failed_within}
 use Rattle.sfv_reading.proofs.complete.Combinators.{bind_complete, led_complete}
+use Rattle.sfv.specs.declared.parser.Parser.{Parser}
 use Rattle.sfv.specs.declared.parser.cursor.Cursor.{Cursor}
-use Rattle.sfv.specs.Cursor.{rest, located, IsErrorOf}
-use Rattle.sfv.specs.Visits.{Visits, IsErrorOfVisit}
+use Rattle.sfv.specs.Cursor.{kept, kept_input, kept_edition, rest, located}
+use Rattle.sfv.specs.Visits.{Visits, VisitsAnswer, IsOfVisitor}
 use Rattle.sfv.proofs.Errors.{ErrorOf-part, ErrorOf-located}
-use Rattle.sfv.proofs.Told.{runs_on}
+use Rattle.sfv.proofs.Parameters.{runs_on, of_visitor}
 
 visited_as : {A : Type 0} (parts parts' : A → List TreeEvent) (a : Answer A) → ((v : A) (s : List ℕ) → a ≡ Ok (v, s) → parts' v ≡ parts v) → visited parts' a ≡ visited parts a
 visited_as parts parts' (Ok x) each = each x.0 x.1 refl
 visited_as parts parts' (Err x) each = refl
 
 module _ {S E : Type 0} (takes : S → TreeEvent → S → Type 0) (fails : S → TreeEvent → E → Type 0) where
+  -- a reading by a cursor that has kept its parser
+  pub kept_visits : {A : Type 0} (parts : A → List TreeEvent) (f : Edition → Reader A) (middle after : Cursor) (from to : S) (j : Parser × Global) (r : Result (Unit {0}) (ParseError E)) → kept middle ≡ j
+      → Visits takes fails parts middle after from to r f → VisitsAnswer takes fails parts j after from to r (f (kept_edition j) (rest middle))
+  kept_visits parts f middle after from to j r same h = subst (λ (k : Parser × Global). VisitsAnswer takes fails parts k after from to r (f (kept_edition k) (rest middle))) same h
+
+  -- a reading from the start of the input
+  pub start_visits : {A : Type 0} (parts : A → List TreeEvent) (f : Edition → Reader A) (start after : Cursor) (from to : S) (j : Parser × Global) (r : Result (Unit {0}) (ParseError E)) → kept start ≡ j → rest start ≡ kept_input j
+      → Visits takes fails parts start after from to r f → VisitsAnswer takes fails parts j after from to r (f (kept_edition j) (kept_input j))
+  start_visits parts f start after from to j r same whole h =
+      subst (λ (t : List ℕ). VisitsAnswer takes fails parts j after from to r (f (kept_edition j) t)) whole (kept_visits parts f start after from to j r same h)
+
   -- the same reading, and the same events
-  pub visits_as : {A : Type 0} (parts parts' : A → List TreeEvent) (a b : Answer A) (from to : S) (i j : Bor (List ℕ)) (after : Cursor) (r : Result (Unit {0}) (ParseError E)) → i ≡ j → b ≡ a → ((v : A) (s : List ℕ) → a ≡ Ok (v, s) → parts' v ≡ parts v)
-      → Visits takes fails parts i after from to r a → Visits takes fails parts' j after from to r b
-  visits_as parts parts' a b from to i j after (Ok u) same eq each h = (h.0, eq ∙ h.1, subst (λ es. RunsTo takes from es to) (sym (each h.0 (rest after) h.1)) h.2, h.3 ∙ same)
-  visits_as parts parts' a b from to i j after (Err (Syntax e)) same eq each h = subst (λ (i : Bor (List ℕ)). IsErrorOf i.now e b) same (ErrorOf-located i.now e b a (ap located eq) h)
-  visits_as parts parts' a b from to i j after (Err (Visitor f)) same eq each h = record { before = h.before; e = h.e; after = h.after; s = h.s; all = ap (visited parts') eq ∙ visited_as parts parts' a each ∙ h.all; taken = h.taken; failed = h.failed }
+  pub visits_as : {A : Type 0} (parts parts' : A → List TreeEvent) (a b : Answer A) (from to : S) (k : Parser × Global) (after : Cursor) (r : Result (Unit {0}) (ParseError E)) → b ≡ a → ((v : A) (s : List ℕ) → a ≡ Ok (v, s) → parts' v ≡ parts v)
+      → VisitsAnswer takes fails parts k after from to r a → VisitsAnswer takes fails parts' k after from to r b
+  visits_as parts parts' a b from to k after (Ok u) eq each h = (h.0, eq ∙ h.1, subst (λ es. RunsTo takes from es to) (sym (each h.0 (rest after) h.1)) h.2, h.3)
+  visits_as parts parts' a b from to k after (Err (Syntax e)) eq each h = ErrorOf-located (kept_input k) e b a (ap located eq) h
+  visits_as parts parts' a b from to k after (Err (Visitor f)) eq each h = record { before = h.before; e = h.e; after = h.after; s = h.s; all = ap (visited parts') eq ∙ visited_as parts parts' a each ∙ h.all; taken = h.taken; failed = h.failed }
 
   -- an event, and then a reading
   led_visited : {A : Type 0} (e : TreeEvent) (parts : A → List TreeEvent) (a : Answer A) → visited (λ v. e ∷ parts v) (led_answer (e ∷ []) a) ≡ e ∷ visited parts a
@@ -38,10 +51,9 @@ module _ {S E : Type 0} (takes : S → TreeEvent → S → Type 0) (fails : S �
   unfolding led
   led_failed e parts f t from fault h = record { before = []; e = e; after = visited parts (f t); s = from; all = led_visited e parts (f t); taken = refl; failed = h }
 
-  -- the event is failed
-  pub led_fails : {A : Type 0} (e : TreeEvent) (parts : A → List TreeEvent) (f : Reader A) (t : List ℕ) (from to : S) (j : Bor (List ℕ)) (after : Cursor) (error : ParseError E) → IsErrorOfVisit fails from e error → Visits takes fails (λ v. e ∷ parts v) j after from to (Err error) (led (e ∷ []) f t)
-  led_fails e parts f t from to j after (Syntax error) h = absurd h
-  led_fails e parts f t from to j after (Visitor fault) h = led_failed e parts f t from fault h
+  -- the visitor fails at the event
+  pub led_fails : {A : Type 0} (e : TreeEvent) (parts : A → List TreeEvent) (f : Reader A) (t : List ℕ) (from to : S) (k : Parser × Global) (after : Cursor) (error : ParseError E) → IsOfVisitor (fails from e) error → VisitsAnswer takes fails (λ v. e ∷ parts v) k after from to (Err error) (led (e ∷ []) f t)
+  led_fails e parts f t from to k after error h = of_visitor takes fails (λ v. e ∷ parts v) k after from to (fails from e) error (led (e ∷ []) f t) h (led_failed e parts f t from)
 
   led_located : {A : Type 0} (e : TreeEvent) (f : Reader A) (t : List ℕ) → located (led (e ∷ []) f t) ≡ located (f t)
   unfolding led
@@ -51,13 +63,13 @@ module _ {S E : Type 0} (takes : S → TreeEvent → S → Type 0) (fails : S �
       on (Ok x) = refl
       on (Err x) = refl
 
-  pub led_visits : {A : Type 0} (e : TreeEvent) (parts : A → List TreeEvent) (f : Reader A) (t : List ℕ) (from middle to : S) (i j : Bor (List ℕ)) (after : Cursor) (r : Result (Unit {0}) (ParseError E)) → i ≡ j → takes from e middle
-      → Visits takes fails parts i after middle to r (f t) → Visits takes fails (λ v. e ∷ parts v) j after from to r (led (e ∷ []) f t)
+  pub led_visits : {A : Type 0} (e : TreeEvent) (parts : A → List TreeEvent) (f : Reader A) (t : List ℕ) (from middle to : S) (k : Parser × Global) (after : Cursor) (r : Result (Unit {0}) (ParseError E)) → takes from e middle
+      → VisitsAnswer takes fails parts k after middle to r (f t) → VisitsAnswer takes fails (λ v. e ∷ parts v) k after from to r (led (e ∷ []) f t)
   unfolding led
-  led_visits e parts f t from middle to i j after (Ok u) same taken h = (h.0, led_complete (e ∷ []) f t (rest after) h.0 h.1, (middle, taken, h.2), h.3 ∙ same)
-  led_visits e parts f t from middle to i j after (Err (Syntax error)) same taken h =
-      subst (λ (i : Bor (List ℕ)). IsErrorOf i.now error (led (e ∷ []) f t)) same (ErrorOf-located i.now error (led (e ∷ []) f t) (f t) (led_located e f t) h)
-  led_visits e parts f t from middle to i j after (Err (Visitor fault)) same taken h = record {
+  led_visits e parts f t from middle to k after (Ok u) taken h = (h.0, led_complete (e ∷ []) f t (rest after) h.0 h.1, (middle, taken, h.2), h.3)
+  led_visits e parts f t from middle to k after (Err (Syntax error)) taken h =
+      ErrorOf-located (kept_input k) error (led (e ∷ []) f t) (f t) (led_located e f t) h
+  led_visits e parts f t from middle to k after (Err (Visitor fault)) taken h = record {
     before = e ∷ h.before;
     e = h.e;
     after = h.after;
@@ -68,12 +80,12 @@ module _ {S E : Type 0} (takes : S → TreeEvent → S → Type 0) (fails : S �
   }
 
   -- a value in another form
-  pub map_visits : {A B : Type 0} (g : A → B) (parts : A → List TreeEvent) (parts' : B → List TreeEvent) (f : Reader A) (t : List ℕ) (from to : S) (i : Bor (List ℕ)) (after : Cursor) (r : Result (Unit {0}) (ParseError E)) → ((v : A) → parts' (g v) ≡ parts v)
-      → Visits takes fails parts i after from to r (f t) → Visits takes fails parts' i after from to r ((f >>= λ v. give (g v)) t)
+  pub map_visits : {A B : Type 0} (g : A → B) (parts : A → List TreeEvent) (parts' : B → List TreeEvent) (f : Reader A) (t : List ℕ) (from to : S) (k : Parser × Global) (after : Cursor) (r : Result (Unit {0}) (ParseError E)) → ((v : A) → parts' (g v) ≡ parts v)
+      → VisitsAnswer takes fails parts k after from to r (f t) → VisitsAnswer takes fails parts' k after from to r ((f >>= λ v. give (g v)) t)
   unfolding give bind
-  map_visits g parts parts' f t from to i after (Ok u) each h = (g h.0, bind_complete f (λ v. give (g v)) t (rest after) h.0 h.1, subst (λ es. RunsTo takes from es to) (sym (each h.0)) h.2, h.3)
-  map_visits g parts parts' f t from to i after (Err (Syntax e)) each h = ErrorOf-part i i e f (λ v. give (g v)) t _ refl refl h
-  map_visits {A} {B} g parts parts' f t from to i after (Err (Visitor fault)) each h = record { before = h.before; e = h.e; after = h.after; s = h.s; all = mapped ∙ h.all; taken = h.taken; failed = h.failed }
+  map_visits g parts parts' f t from to k after (Ok u) each h = (g h.0, bind_complete f (λ v. give (g v)) t (rest after) h.0 h.1, subst (λ es. RunsTo takes from es to) (sym (each h.0)) h.2, h.3)
+  map_visits g parts parts' f t from to k after (Err (Syntax e)) each h = ErrorOf-part k k e (λ _. f) (λ v. give (g v)) t _ refl refl h
+  map_visits {A} {B} g parts parts' f t from to k after (Err (Visitor fault)) each h = record { before = h.before; e = h.e; after = h.after; s = h.s; all = mapped ∙ h.all; taken = h.taken; failed = h.failed }
     where
       on : (a : Answer A) → visited parts' (and_then a (λ v. give (g v))) ≡ visited parts a
       on (Ok x) = each x.0
@@ -83,19 +95,18 @@ module _ {S E : Type 0} (takes : S → TreeEvent → S → Type 0) (fails : S �
       mapped = on (f t)
 
   -- one reading behind another, whose events were visited
-  pub then_visits : {A B : Type 0} (f : Reader A) (g : A → Reader B) (first : A → List TreeEvent) (parts more : B → List TreeEvent) (t q : List ℕ) (v : A) (from middle to : S) (i j : Bor (List ℕ)) (after : Cursor) (r : Result (Unit {0}) (ParseError E)) → i ≡ j
+  pub then_visits : {A B : Type 0} (f : Reader A) (g : A → Reader B) (first : A → List TreeEvent) (parts more : B → List TreeEvent) (t q : List ℕ) (v : A) (from middle to : S) (k : Parser × Global) (after : Cursor) (r : Result (Unit {0}) (ParseError E))
       → f t ≡ Ok (v, q) → RunsTo takes from (first v) middle → ((w : B) (s : List ℕ) → g v q ≡ Ok (w, s) → parts w ≡ first v ++ more w)
-      → Visits takes fails more i after middle to r (g v q) → Visits takes fails parts j after from to r ((f >>= λ v. led (first v) (g v)) t)
+      → VisitsAnswer takes fails more k after middle to r (g v q) → VisitsAnswer takes fails parts k after from to r ((f >>= λ v. led (first v) (g v)) t)
   unfolding led
-  then_visits f g first parts more t q v from middle to i j after (Ok u) same e run each h = (
+  then_visits f g first parts more t q v from middle to k after (Ok u) e run each h = (
     h.0,
     bind_complete f (λ v. led (first v) (g v)) t q v e ∙ led_complete (first v) (g v) q (rest after) h.0 h.1,
     subst (λ es. RunsTo takes from es to) (sym (each h.0 (rest after) h.1)) (runs_on takes (first v) (more h.0) from middle to run h.2),
-    h.3 ∙ same,
+    h.3,
   )
-  then_visits {A} {B} f g first parts more t q v from middle to i j after (Err (Syntax error)) same e run each h =
-      subst (λ (i : Bor (List ℕ)). IsErrorOf i.now error ((f >>= λ v. led (first v) (g v)) t)) same
-      (ErrorOf-located i.now error ((f >>= λ v. led (first v) (g v)) t) (g v q) (ap located (bind_complete f (λ v. led (first v) (g v)) t q v e) ∙ located_as) h)
+  then_visits {A} {B} f g first parts more t q v from middle to k after (Err (Syntax error)) e run each h =
+      ErrorOf-located (kept_input k) error ((f >>= λ v. led (first v) (g v)) t) (g v q) (ap located (bind_complete f (λ v. led (first v) (g v)) t q v e) ∙ located_as) h
     where
       on : (a : Answer B) → located (led_answer (first v) a) ≡ located a
       on (Ok x) = refl
@@ -103,7 +114,7 @@ module _ {S E : Type 0} (takes : S → TreeEvent → S → Type 0) (fails : S �
 
       located_as : located (led (first v) (g v) q) ≡ located (g v q)
       located_as = on (g v q)
-  then_visits f g first parts more t q v from middle to i j after (Err (Visitor fault)) same e run each h = record {
+  then_visits f g first parts more t q v from middle to k after (Err (Visitor fault)) e run each h = record {
     before = first v ++ h.before;
     e = h.e;
     after = h.after;
