@@ -27,9 +27,9 @@ fn main(rt: HostRuntime) -> ExitCode {
     let status = run(
         rt.alloc(),
         args.as_slice(),
-        rt.stdin(),
-        rt.stdout(),
-        rt.stderr(),
+        &mut rt.stdin(),
+        &mut rt.stdout(),
+        &mut rt.stderr(),
     );
     ExitCode::from(status)
 }
