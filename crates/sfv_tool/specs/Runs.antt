@@ -24,7 +24,7 @@ version_word version.Rfc9651 = codes "9651"
 abbrev pub Names : List (List ℕ) → Field × Version → Type 0
 Names words request = words ≡ field_word request.0 ∷ version_word request.1 ∷ []
 
--- A run to its end: the answer to the input stands behind what the output held, and nothing was written to the errors.
+-- A run to its end: the answer to the input stands after what the output held, and nothing was written to the errors.
 pub record IsAnswered (request : Field × Version) (input output output' errors errors' : Option (List ℕ)) : Type 0 where
   pub answer : IfSome input (λ bytes. (text : List ℕ)
       × IsAnswer (edition_of request.1) (kind_of_field request.0) (without_newline bytes) text

@@ -6,7 +6,7 @@ use std::io;
 use std::io::{Read, Write};
 use std::test::Fail;
 
-/// A reader that fails behind its bytes.
+/// A reader that fails after its bytes.
 #[derive(Drop)]
 struct Broken<'a> {
     left: &'a [u8],
