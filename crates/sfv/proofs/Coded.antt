@@ -13,8 +13,8 @@ use Rattle.sfv_spec.specs.Values.{is_byte}
 use Rattle.sfv_spec.specs.Base64.{symbols, symbol, is_symbol}
 use Rattle.sfv_reading.specs.Content.{symbol_value, bytes_from}
 use Rattle.sfv.specs.Zeros.{HasZeros, decoded_symbols}
-use Rattle.sfv_reading.proofs.Bits.{is_value, head_value, bytes_within}
-use Rattle.sfv_reading.proofs.Shape.{are_values, symbols-values, value_within, symbol-value, value-symbol, symbol-is_symbol}
+use Rattle.sfv_reading.proofs.base64.Bits.{is_value, head_value, bytes_within}
+use Rattle.sfv_reading.proofs.base64.Shape.{are_values, symbols-values, value_within, symbol-value, value-symbol, symbol-is_symbol}
 
 -- bytes, place by place
 are_bytes : (bs : List ℕ) → list_all is_byte bs ≡ true → IsBytes bs

@@ -10,11 +10,12 @@ use Rattle.sfv_base.specs.declared.error.ErrorKind.TheVariants.{InvalidByteSeque
 use Rattle.sfv_reading.specs.Reader.{Apart}
 use Rattle.sfv_spec.specs.Base64.{is_symbol}
 use Rattle.sfv_reading.specs.Content.{most_padding, valid_from, fault_place, HasNoColon, bytes_at}
-use Rattle.sfv_reading.proofs.Shape.{Shape, is_equals, shape_valid, valid_local}
-use Rattle.sfv_reading.proofs.Contents.{well_formed, gives_the_bytes, refused_at, lone_symbol}
-use Rattle.sfv_reading.proofs.ByteSequences.{symbols_apart, padding_apart, both_apart, no_colon, gives_value, gives_fault, gives_unclosed}
+use Rattle.sfv_reading.proofs.base64.Shape.{Shape, is_equals, shape_valid, valid_local}
+use Rattle.sfv_reading.proofs.base64.Contents.{well_formed, gives_the_bytes, rejected_at, lone_symbol}
+use Rattle.sfv_reading.proofs.sound.ByteSequences.{symbols_apart, padding_apart, both_apart, no_colon}
+use Rattle.sfv_reading.proofs.rules.ByteSequences.{gives_value, gives_fault, gives_unclosed}
 use Rattle.sfv_reading.specs.Content.{IsContentAt, IsBytesAt, IsInvalidAt}
-use Rattle.sfv.specs.Cursor.{told}
+use Rattle.sfv.specs.Cursor.{located}
 use Rattle.sfv.specs.Runs.{IsSymbolRun, IsPaddingRun}
 use Rattle.sfv.specs.Zeros.{decoded_symbols}
 
@@ -123,14 +124,14 @@ malformed_closed input start n p r other colon =
     ] in
     let size : length (take m t) ≡ m = length-take-le m t (omega (arith, fits)) in
     let valid : valid_from 0 (take m t) ≡ n + p = ap (valid_from 0) (sym (append-nil (take m t))) ∙ valid_local 0 t m [] (rw (valid_runs t n p r) later) (omega (arith, fits)) ∙ valid_runs t n p r in
-    let refused = refused_at (take m t) (n + p) valid (omega (arith, size, later)) in
+    let rejected = rejected_at (take m t) (n + p) valid (omega (arith, size, later)) in
     let apart : HasNoColon (take m t) = rw (take-add (n + p) k.0 t) (both_apart (take (n + p) t) (take k.0 (drop (n + p) t)) (front_apart t n p r) k.3) in
     record {
       content = take m t;
       end = start + m;
       closed = closed_at input start m fits at apart;
-      no_value = refused.0;
-      here = ap (λ j. start + j) (sym refused.1);
+      no_value = rejected.0;
+      here = ap (λ j. start + j) (sym rejected.1);
     }
 
 -- ---- what the reader gives, and that its place is within the input
@@ -142,26 +143,26 @@ bytes_read input start n p r open_end colon lone =
     let lt : n + p < length (drop start input) = omega (arith, l, open_end) in
     (gives_value input _ start _ (bytes_closed input start n p r lt colon lone), omega (arith, lt, length-drop start input))
 
-pub lone_told : (input : List ℕ) (start n p : ℕ) → Runs (drop start input) n p → ¬ (n + p ≡ length (drop start input)) → get_or (drop start input) (n + p) 0 ≡ 0x3a → n % 4 ≡ 1
-    → (told (bytes_at (drop start input)) ≡ Err (InvalidByteSequence, drop (start + (n + p) - 1) input)) × (start + (n + p) - 1 ≤ length input)
-lone_told input start n p r open_end colon one =
+pub lone_located : (input : List ℕ) (start n p : ℕ) → Runs (drop start input) n p → ¬ (n + p ≡ length (drop start input)) → get_or (drop start input) (n + p) 0 ≡ 0x3a → n % 4 ≡ 1
+    → (located (bytes_at (drop start input)) ≡ Err (InvalidByteSequence, drop (start + (n + p) - 1) input)) × (start + (n + p) - 1 ≤ length input)
+lone_located input start n p r open_end colon one =
     let l = within (drop start input) n p r in
     let lt : n + p < length (drop start input) = omega (arith, l, open_end) in
-    (ap told (gives_fault input start _ (lone_closed input start n p r lt colon one)), omega (arith, lt, length-drop start input))
+    (ap located (gives_fault input start _ (lone_closed input start n p r lt colon one)), omega (arith, lt, length-drop start input))
 
-pub malformed_told : (input : List ℕ) (start n p : ℕ) → Runs (drop start input) n p → (n + p ≡ length (drop start input)) ⊎ (get_or (drop start input) (n + p) 0 ≡ 0x3a → ⊥)
+pub malformed_located : (input : List ℕ) (start n p : ℕ) → Runs (drop start input) n p → (n + p ≡ length (drop start input)) ⊎ (get_or (drop start input) (n + p) 0 ≡ 0x3a → ⊥)
     → list_any (λ c. c == 0x3a) (drop (n + p) (drop start input)) ≡ true → start ≤ length input
-    → (told (bytes_at (drop start input)) ≡ Err (InvalidByteSequence, drop (start + (n + p)) input)) × (start + (n + p) ≤ length input)
-malformed_told input start n p r other colon inside =
+    → (located (bytes_at (drop start input)) ≡ Err (InvalidByteSequence, drop (start + (n + p)) input)) × (start + (n + p) ≤ length input)
+malformed_located input start n p r other colon inside =
     let l = within (drop start input) n p r in
-    (ap told (gives_fault input start _ (malformed_closed input start n p r other colon)), omega (arith, l, inside, length-drop start input))
+    (ap located (gives_fault input start _ (malformed_closed input start n p r other colon)), omega (arith, l, inside, length-drop start input))
 
-pub unterminated_told : (input : List ℕ) (start n p : ℕ) → Runs (drop start input) n p → list_any (λ c. c == 0x3a) (drop (n + p) (drop start input)) ≡ false
-    → (told (bytes_at (drop start input)) ≡ Err (UnterminatedByteSequence, drop (length input) input)) × (length input ≤ length input)
-unterminated_told input start n p r none =
+pub unterminated_located : (input : List ℕ) (start n p : ℕ) → Runs (drop start input) n p → list_any (λ c. c == 0x3a) (drop (n + p) (drop start input)) ≡ false
+    → (located (bytes_at (drop start input)) ≡ Err (UnterminatedByteSequence, drop (length input) input)) × (length input ≤ length input)
+unterminated_located input start n p r none =
     let t : List ℕ = drop start input in
     let apart : HasNoColon t = subst HasNoColon (take-append-drop (n + p) t) (both_apart (take (n + p) t) (drop (n + p) t) (front_apart t n p r) (no_colon (drop (n + p) t) none)) in
-    (ap told (gives_unclosed input start apart) ∙ rw (drop_all (length input) input (omega arith)) refl, omega arith)
+    (ap located (gives_unclosed input start apart) ∙ rw (drop_all (length input) input (omega arith)) refl, omega arith)
 
 -- the runs in what stands from a place on, as the code cuts it out
 abbrev pub cut : List ℕ → ℕ → List ℕ

@@ -4,15 +4,15 @@ use Rattle.std.specs.Prelude.{is_some}
 use Rattle.std.proofs.lemmas.Bool.{true≢false}
 use Rattle.sfv_spec.specs.Classes.{is_space, is_space_or_tab}
 use Rattle.sfv_spec.specs.Values.{Edition, RawItem}
-use Rattle.sfv_spec.specs.Events.{TreeEvent}
+use Rattle.sfv_spec.specs.Events.{TreeEvent, inner_item_events}
 use Rattle.sfv_spec.specs.Faults.{trailing_comma, trailing_characters_after_member, expected_inner_list_delimiter, unterminated_inner_list}
 use Rattle.sfv_base.specs.declared.error.ErrorKind.TheVariants.{ExpectedInnerListDelimiter, UnterminatedInnerList, TrailingCharactersAfterMember, TrailingComma}
 use Rattle.sfv_reading.specs.Reader.{Answer, Reader, first, byte, any, give, fail, back, ahead, branch, and_then, bind, span, led, many, ◌>>=◌}
-use Rattle.sfv_reading.specs.Members.{inner_item_events, inner_item_at, next_item_at, inner_items_at}
+use Rattle.sfv_reading.specs.Members.{inner_item_at, next_item_at, inner_items_at}
 use Rattle.sfv_reading.specs.Fields.{comma_at, next_at, members_at}
-use Rattle.sfv_reading.proofs.Again.{bind_again}
-use Rattle.sfv.specs.Cursor.{told, Takes}
-use Rattle.sfv.specs.Members.{wants_item_at, wants_member_at}
+use Rattle.sfv_reading.proofs.complete.Combinators.{bind_complete}
+use Rattle.sfv.specs.Cursor.{located, TakesIf}
+use Rattle.sfv.specs.Members.{item_delimiter_at, member_delimiter_at}
 use Rattle.sfv.proofs.Steps.{branch_true, branch_false}
 
 -- a run is read wherever it is wanted
@@ -36,38 +36,38 @@ first_of parts one next = one >>= λ v. led (parts v) (many parts next >>= λ vs
 
 -- ---- items of an inner list
 
-pub parted_item : (b : Bool) (t r s q w : List ℕ) → Takes is_space true t r → span is_space r ≡ Ok (s, q) → Takes (byte 0x29) b q w → wants_item_at t ≡ Ok (not b, w)
-unfolding wants_item_at give
-parted_item true t r s q w sp e m = branch_true is_space _ _ t r sp ∙ bind_again (span is_space) _ r q s e ∙ branch_true (byte 0x29) (λ _. give false) (give true) q w m
-parted_item false t r s q w sp e m = branch_true is_space _ _ t r sp ∙ bind_again (span is_space) _ r q s e ∙ branch_false (byte 0x29) (λ _. give false) (give true) q w m
+pub parted_item : (b : Bool) (t r s q w : List ℕ) → TakesIf is_space true t r → span is_space r ≡ Ok (s, q) → TakesIf (byte 0x29) b q w → item_delimiter_at t ≡ Ok (not b, w)
+unfolding item_delimiter_at give
+parted_item true t r s q w sp e m = branch_true is_space _ _ t r sp ∙ bind_complete (span is_space) _ r q s e ∙ branch_true (byte 0x29) (λ _. give false) (give true) q w m
+parted_item false t r s q w sp e m = branch_true is_space _ _ t r sp ∙ bind_complete (span is_space) _ r q s e ∙ branch_false (byte 0x29) (λ _. give false) (give true) q w m
 
-pub closed_item : (t r q : List ℕ) → Takes is_space false t r → Takes (byte 0x29) true r q → wants_item_at t ≡ Ok (false, q)
-unfolding wants_item_at give
+pub closed_item : (t r q : List ℕ) → TakesIf is_space false t r → TakesIf (byte 0x29) true r q → item_delimiter_at t ≡ Ok (false, q)
+unfolding item_delimiter_at give
 closed_item t r q sp m = branch_false is_space _ _ t r sp ∙ branch_true (byte 0x29) _ _ r q m
 
-no_item_here : (t r q : List ℕ) → Takes is_space false t r → Takes (byte 0x29) false r q → wants_item_at t ≡ ahead any (fail expected_inner_list_delimiter) (fail unterminated_inner_list) q
-unfolding wants_item_at
+no_item_here : (t r q : List ℕ) → TakesIf is_space false t r → TakesIf (byte 0x29) false r q → item_delimiter_at t ≡ ahead any (fail expected_inner_list_delimiter) (fail unterminated_inner_list) q
+unfolding item_delimiter_at
 no_item_here t r q sp m = branch_false is_space _ _ t r sp ∙ branch_false (byte 0x29) _ _ r q m
 
-pub undelimited_item : (t r q : List ℕ) → Takes is_space false t r → Takes (byte 0x29) false r q → is_some (first q) ≡ true → told (wants_item_at t) ≡ Err (ExpectedInnerListDelimiter, q)
+pub undelimited_item : (t r q : List ℕ) → TakesIf is_space false t r → TakesIf (byte 0x29) false r q → is_some (first q) ≡ true → located (item_delimiter_at t) ≡ Err (ExpectedInnerListDelimiter, q)
 unfolding ahead fail
-undelimited_item t r q sp m h = ap told (no_item_here t r q sp m) ∙ on q h
+undelimited_item t r q sp m h = ap located (no_item_here t r q sp m) ∙ on q h
   where
-    on : (q : List ℕ) → is_some (first q) ≡ true → told {A = Bool} (ahead any (fail expected_inner_list_delimiter) (fail unterminated_inner_list) q) ≡ Err (ExpectedInnerListDelimiter, q)
+    on : (q : List ℕ) → is_some (first q) ≡ true → located {A = Bool} (ahead any (fail expected_inner_list_delimiter) (fail unterminated_inner_list) q) ≡ Err (ExpectedInnerListDelimiter, q)
     on [] h = absurd cc
     on (c ∷ q) h = refl
 
-pub unended_item : (t r q : List ℕ) → Takes is_space false t r → Takes (byte 0x29) false r q → is_some (first q) ≡ false → told (wants_item_at t) ≡ Err (UnterminatedInnerList, q)
+pub unended_item : (t r q : List ℕ) → TakesIf is_space false t r → TakesIf (byte 0x29) false r q → is_some (first q) ≡ false → located (item_delimiter_at t) ≡ Err (UnterminatedInnerList, q)
 unfolding ahead fail
-unended_item t r q sp m h = ap told (no_item_here t r q sp m) ∙ on q h
+unended_item t r q sp m h = ap located (no_item_here t r q sp m) ∙ on q h
   where
-    on : (q : List ℕ) → is_some (first q) ≡ false → told {A = Bool} (ahead any (fail expected_inner_list_delimiter) (fail unterminated_inner_list) q) ≡ Err (UnterminatedInnerList, q)
+    on : (q : List ℕ) → is_some (first q) ≡ false → located {A = Bool} (ahead any (fail expected_inner_list_delimiter) (fail unterminated_inner_list) q) ≡ Err (UnterminatedInnerList, q)
     on [] h = refl
     on (c ∷ q) h = absurd cc
 
 -- an item behind its delimiter is the next one
-pub next_item_is : (edition : Edition) (t : List ℕ) → next_item_at edition t ≡ (wants_item_at >>= one_if (inner_item_at edition)) t
-unfolding next_item_at wants_item_at bind branch ahead give fail
+pub next_item_is : (edition : Edition) (t : List ℕ) → next_item_at edition t ≡ (item_delimiter_at >>= one_if (inner_item_at edition)) t
+unfolding next_item_at item_delimiter_at bind branch ahead give fail
 next_item_is edition [] = refl
 next_item_is edition (c ∷ r) = on (is_space c) refl
   where
@@ -79,15 +79,15 @@ next_item_is edition (c ∷ r) = on (is_space c) refl
         here true e = rw e refl
         here false e = rw e refl
 
-    closed : (b : Bool) → is_space c ≡ false → byte 0x29 c ≡ b → next_item_at edition (c ∷ r) ≡ (wants_item_at >>= one_if (inner_item_at edition)) (c ∷ r)
+    closed : (b : Bool) → is_space c ≡ false → byte 0x29 c ≡ b → next_item_at edition (c ∷ r) ≡ (item_delimiter_at >>= one_if (inner_item_at edition)) (c ∷ r)
     closed true n e = rw (n, e) refl
     closed false n e = rw (n, e) refl
 
-    on : (b : Bool) → is_space c ≡ b → next_item_at edition (c ∷ r) ≡ (wants_item_at >>= one_if (inner_item_at edition)) (c ∷ r)
+    on : (b : Bool) → is_space c ≡ b → next_item_at edition (c ∷ r) ≡ (item_delimiter_at >>= one_if (inner_item_at edition)) (c ∷ r)
     on true e = let q = span_total is_space r in rw (e, q.2) (parted q.1)
     on false e = closed (byte 0x29 c) e refl
 
-pub items_none : (edition : Edition) (t : List ℕ) → is_some (first t) ≡ false → told (inner_items_at edition t) ≡ Err (UnterminatedInnerList, t)
+pub items_none : (edition : Edition) (t : List ℕ) → is_some (first t) ≡ false → located (inner_items_at edition t) ≡ Err (UnterminatedInnerList, t)
 unfolding inner_items_at ahead fail
 items_none edition [] h = refl
 items_none edition (c ∷ t) h = absurd cc
@@ -100,13 +100,13 @@ items_behind edition =
 items_some : (edition : Edition) (t s q : List ℕ) → is_some (first t) ≡ true → span is_space t ≡ Ok (s, q) → inner_items_at edition t ≡ items_behind edition q
 unfolding inner_items_at ahead
 items_some edition [] s q h e = absurd cc
-items_some edition (c ∷ t) s q h e = bind_again (span is_space) (λ _. items_behind edition) (c ∷ t) q s e
+items_some edition (c ∷ t) s q h e = bind_complete (span is_space) (λ _. items_behind edition) (c ∷ t) q s e
 
-pub items_closed : (edition : Edition) (t s q w : List ℕ) → is_some (first t) ≡ true → span is_space t ≡ Ok (s, q) → Takes (byte 0x29) true q w → inner_items_at edition t ≡ Ok ([], w)
+pub items_closed : (edition : Edition) (t s q w : List ℕ) → is_some (first t) ≡ true → span is_space t ≡ Ok (s, q) → TakesIf (byte 0x29) true q w → inner_items_at edition t ≡ Ok ([], w)
 unfolding give
 items_closed edition t s q w h e m = items_some edition t s q h e ∙ branch_true (byte 0x29) _ _ q w m
 
-pub items_first : (edition : Edition) (t s q w : List ℕ) → is_some (first t) ≡ true → span is_space t ≡ Ok (s, q) → Takes (byte 0x29) false q w → inner_items_at edition t ≡ first_of inner_item_events (inner_item_at edition) (next_item_at edition) w
+pub items_first : (edition : Edition) (t s q w : List ℕ) → is_some (first t) ≡ true → span is_space t ≡ Ok (s, q) → TakesIf (byte 0x29) false q w → inner_items_at edition t ≡ first_of inner_item_events (inner_item_at edition) (next_item_at edition) w
 unfolding first_of
 items_first edition t s q w h e m = items_some edition t s q h e ∙ branch_false (byte 0x29) _ _ q w m
 
@@ -120,11 +120,11 @@ at_end (c ∷ q) h = absurd cc
 abbrev at_comma : Reader Bool
 at_comma = ahead any (ahead (byte 0x2c) (back trailing_comma comma_at >>= λ _. give true) (fail trailing_characters_after_member)) (give false)
 
-member_is : (t s q : List ℕ) → span is_space_or_tab t ≡ Ok (s, q) → wants_member_at t ≡ at_comma q
-unfolding wants_member_at
-member_is t s q e = bind_again (span is_space_or_tab) _ t q s e
+member_is : (t s q : List ℕ) → span is_space_or_tab t ≡ Ok (s, q) → member_delimiter_at t ≡ at_comma q
+unfolding member_delimiter_at
+member_is t s q e = bind_complete (span is_space_or_tab) _ t q s e
 
-pub no_member : (t s q : List ℕ) → span is_space_or_tab t ≡ Ok (s, q) → is_some (first q) ≡ false → wants_member_at t ≡ Ok (false, q)
+pub no_member : (t s q : List ℕ) → span is_space_or_tab t ≡ Ok (s, q) → is_some (first q) ≡ false → member_delimiter_at t ≡ Ok (false, q)
 unfolding ahead give
 no_member t s q e h = member_is t s q e ∙ on q h
   where
@@ -137,8 +137,8 @@ abbrev wanted : {A : Type 0} → Reader A → Reader (Option A)
 wanted one = ahead any (ahead (byte 0x2c) (back trailing_comma comma_at >>= λ _. one >>= λ m. give (Some m)) (fail trailing_characters_after_member)) (give None)
 
 -- a member behind its delimiter is the next one
-pub next_member_is : {A : Type 0} (one : Reader A) (t : List ℕ) → next_at one t ≡ (wants_member_at >>= one_if one) t
-unfolding next_at wants_member_at bind ahead fail give
+pub next_member_is : {A : Type 0} (one : Reader A) (t : List ℕ) → next_at one t ≡ (member_delimiter_at >>= one_if one) t
+unfolding next_at member_delimiter_at bind ahead fail give
 next_member_is {A} one t = let q = span_total is_space_or_tab t in rw q.2 (on q.1)
   where
     behind : (a : Answer (Unit {0})) → and_then a (λ _. one >>= λ m. give (Some m)) ≡ and_then (and_then a (λ _. give true)) (one_if one)
@@ -155,7 +155,7 @@ next_member_is {A} one t = let q = span_total is_space_or_tab t in rw q.2 (on q.
 
 pub members_none : {A : Type 0} (parts : A → List TreeEvent) (one : Reader A) (t s q : List ℕ) → span is_space t ≡ Ok (s, q) → is_some (first q) ≡ false → members_at parts one t ≡ Ok ([], q)
 unfolding members_at ahead give
-members_none {A} parts one t s q e h = bind_again (span is_space) _ t q s e ∙ on q h
+members_none {A} parts one t s q e h = bind_complete (span is_space) _ t q s e ∙ on q h
   where
     on : (q : List ℕ) → is_some (first q) ≡ false → ahead any (one >>= λ m. led (parts m) (many parts (next_at one) >>= λ ms. give (m ∷ ms))) (give []) q ≡ Ok ([], q)
     on [] h = refl
@@ -163,14 +163,14 @@ members_none {A} parts one t s q e h = bind_again (span is_space) _ t q s e ∙ 
 
 pub members_first : {A : Type 0} (parts : A → List TreeEvent) (one : Reader A) (t s q : List ℕ) → span is_space t ≡ Ok (s, q) → is_some (first q) ≡ true → members_at parts one t ≡ first_of parts one (next_at one) q
 unfolding members_at ahead first_of
-members_first {A} parts one t s q e h = bind_again (span is_space) _ t q s e ∙ on q h
+members_first {A} parts one t s q e h = bind_complete (span is_space) _ t q s e ∙ on q h
   where
     on : (q : List ℕ) → is_some (first q) ≡ true → ahead any (one >>= λ m. led (parts m) (many parts (next_at one) >>= λ ms. give (m ∷ ms))) (give []) q ≡ (one >>= λ m. led (parts m) (many parts (next_at one) >>= λ ms. give (m ∷ ms))) q
     on [] h = absurd cc
     on (c ∷ q) h = refl
 
 -- where no member is wanted, the text has ended
-pub ends_there : (t r : List ℕ) → wants_member_at t ≡ Ok (false, r) → r ≡ []
+pub ends_there : (t r : List ℕ) → member_delimiter_at t ≡ Ok (false, r) → r ≡ []
 unfolding ahead fail give bind
 ends_there t r e = let q = span_total is_space_or_tab t in on q.1 (sym (member_is t q.0 q.1 q.2) ∙ e)
   where
@@ -198,15 +198,15 @@ ends_there t r e = let q = span_total is_space_or_tab t in on q.1 (sym (member_i
 abbrev behind_comma : Reader Bool
 behind_comma = back trailing_comma comma_at >>= λ _. give true
 
-comma_met : (q w : List ℕ) → Takes (byte 0x2c) true q w → at_comma q ≡ behind_comma q
+comma_met : (q w : List ℕ) → TakesIf (byte 0x2c) true q w → at_comma q ≡ behind_comma q
 unfolding ahead
 comma_met q w m = ap at_comma m.1 ∙ rw m.2 refl ∙ ap behind_comma (sym m.1)
 
-pub no_comma : (t s q w : List ℕ) → span is_space_or_tab t ≡ Ok (s, q) → is_some (first q) ≡ true → Takes (byte 0x2c) false q w → told (wants_member_at t) ≡ Err (TrailingCharactersAfterMember, w)
+pub no_comma : (t s q w : List ℕ) → span is_space_or_tab t ≡ Ok (s, q) → is_some (first q) ≡ true → TakesIf (byte 0x2c) false q w → located (member_delimiter_at t) ≡ Err (TrailingCharactersAfterMember, w)
 unfolding ahead fail
-no_comma t s q w e h m = ap told (member_is t s q e) ∙ on q h m ∙ ap (λ (l : List ℕ). Err (TrailingCharactersAfterMember, l)) (sym m.0)
+no_comma t s q w e h m = ap located (member_is t s q e) ∙ on q h m ∙ ap (λ (l : List ℕ). Err (TrailingCharactersAfterMember, l)) (sym m.0)
   where
-    on : (q : List ℕ) → is_some (first q) ≡ true → Takes (byte 0x2c) false q w → told (at_comma q) ≡ Err (TrailingCharactersAfterMember, q)
+    on : (q : List ℕ) → is_some (first q) ≡ true → TakesIf (byte 0x2c) false q w → located (at_comma q) ≡ Err (TrailingCharactersAfterMember, q)
     on [] h m = absurd cc
     on (c ∷ q) h m = rw (m.1.apart c refl) refl
 
@@ -214,21 +214,21 @@ no_comma t s q w e h m = ap told (member_is t s q e) ∙ on q h m ∙ ap (λ (l 
 abbrev more_or_end : Reader (Option (Unit {0}))
 more_or_end = ahead any (give (Some tt)) (give None)
 
-comma_is : (q w s x : List ℕ) → Takes (byte 0x2c) true q w → span is_space_or_tab w ≡ Ok (s, x) → comma_at q ≡ more_or_end x
+comma_is : (q w s x : List ℕ) → TakesIf (byte 0x2c) true q w → span is_space_or_tab w ≡ Ok (s, x) → comma_at q ≡ more_or_end x
 unfolding comma_at
-comma_is q w s x m e = branch_true (byte 0x2c) _ _ q w m ∙ bind_again (span is_space_or_tab) _ w x s e
+comma_is q w s x m e = branch_true (byte 0x2c) _ _ q w m ∙ bind_complete (span is_space_or_tab) _ w x s e
 
-pub comma_last : (t s q w s' x : List ℕ) → span is_space_or_tab t ≡ Ok (s, q) → Takes (byte 0x2c) true q w → span is_space_or_tab w ≡ Ok (s', x) → is_some (first x) ≡ false → told (wants_member_at t) ≡ Err (TrailingComma, q)
+pub comma_last : (t s q w s' x : List ℕ) → span is_space_or_tab t ≡ Ok (s, q) → TakesIf (byte 0x2c) true q w → span is_space_or_tab w ≡ Ok (s', x) → is_some (first x) ≡ false → located (member_delimiter_at t) ≡ Err (TrailingComma, q)
 unfolding back bind ahead give
 comma_last t s q w s' x e m k h =
     let none : comma_at q ≡ Ok (None, x) = comma_is q w s' x m k ∙ on x h in
-    ap told (member_is t s q e ∙ comma_met q w m) ∙ rw none refl
+    ap located (member_is t s q e ∙ comma_met q w m) ∙ rw none refl
   where
     on : (x : List ℕ) → is_some (first x) ≡ false → more_or_end x ≡ Ok (None, x)
     on [] h = refl
     on (c ∷ x) h = absurd cc
 
-pub comma_more : (t s q w s' x : List ℕ) → span is_space_or_tab t ≡ Ok (s, q) → Takes (byte 0x2c) true q w → span is_space_or_tab w ≡ Ok (s', x) → is_some (first x) ≡ true → wants_member_at t ≡ Ok (true, x)
+pub comma_more : (t s q w s' x : List ℕ) → span is_space_or_tab t ≡ Ok (s, q) → TakesIf (byte 0x2c) true q w → span is_space_or_tab w ≡ Ok (s', x) → is_some (first x) ≡ true → member_delimiter_at t ≡ Ok (true, x)
 unfolding back bind ahead give
 comma_more t s q w s' x e m k h =
     let some : comma_at q ≡ Ok (Some tt, x) = comma_is q w s' x m k ∙ on x h in

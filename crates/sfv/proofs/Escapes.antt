@@ -9,30 +9,30 @@ use Rattle.sfv_base.specs.declared.error.ErrorKind.TheVariants.{OutOfMemory, Unt
 use Rattle.sfv_base.specs.Errors.{kind_of, index_of}
 use Rattle.sfv_reading.specs.Reader.{Answer, Reader}
 use Rattle.sfv_reading.specs.Quoted.{behind_bytes, string_from, outside, percent, digit, pieces_from, checked, display_at}
-use Rattle.sfv_reading.proofs.Ranges.{byte_at}
-use Rattle.sfv_reading.proofs.Pieces.{behind_bytes_more}
-use Rattle.sfv.specs.Cursor.{told, IsFaultOf, IsErrorOf}
+use Rattle.sfv_reading.proofs.texts.Ranges.{byte_at}
+use Rattle.sfv_reading.proofs.quoted.Pieces.{behind_bytes_more}
+use Rattle.sfv.specs.Cursor.{located, IsFaultOf, IsErrorOf}
 
 -- ---- a fault of one answer that is a fault of another
 
 abbrev Leads : Answer (List ℕ) → Answer (List ℕ) → Type 0
-Leads a b = (x : ErrorKind × List ℕ) → told a ≡ Err x → told b ≡ Err x
+Leads a b = (x : ErrorKind × List ℕ) → located a ≡ Err x → located b ≡ Err x
 
 fault_leads : (input : List ℕ) (k : ErrorKind) (o : Option ℕ) (a b : Answer (List ℕ)) → Leads a b
-    → MatchOption o ⊥ (λ i. (told a ≡ Err (k, drop i input)) × (i ≤ length input))
-    → MatchOption o (k ≡ OutOfMemory) (λ i. (told b ≡ Err (k, drop i input)) × (i ≤ length input))
+    → MatchOption o ⊥ (λ i. (located a ≡ Err (k, drop i input)) × (i ≤ length input))
+    → MatchOption o (k ≡ OutOfMemory) (λ i. (located b ≡ Err (k, drop i input)) × (i ≤ length input))
 fault_leads input k None a b step h = absurd h
 fault_leads input k (Some i) a b step h = (step (k, drop i input) h.0, h.1)
 
 error_leads : (input : List ℕ) (k : ErrorKind) (o : Option ℕ) (a b : Answer (List ℕ)) → Leads a b
-    → MatchOption o (k ≡ OutOfMemory) (λ i. (told a ≡ Err (k, drop i input)) × (i ≤ length input))
-    → MatchOption o (k ≡ OutOfMemory) (λ i. (told b ≡ Err (k, drop i input)) × (i ≤ length input))
+    → MatchOption o (k ≡ OutOfMemory) (λ i. (located a ≡ Err (k, drop i input)) × (i ≤ length input))
+    → MatchOption o (k ≡ OutOfMemory) (λ i. (located b ≡ Err (k, drop i input)) × (i ≤ length input))
 error_leads input k None a b step h = h
 error_leads input k (Some i) a b step h = (step (k, drop i input) h.0, h.1)
 
 leads_behind : (bytes : List ℕ) (inner whole : Answer (List ℕ)) → behind_bytes bytes inner ≡ whole → Leads inner whole
 leads_behind bytes (Ok y) whole e x h = absurd cc
-leads_behind bytes (Err f) whole e x h = ap told (sym e) ∙ h
+leads_behind bytes (Err f) whole e x h = ap located (sym e) ∙ h
 
 leads_checked : (t : List ℕ) (a : Answer (List ℕ)) → Leads a (checked t a)
 leads_checked t (Ok y) x h = absurd cc
@@ -74,11 +74,11 @@ pub string_escaped : (c : ℕ) (t : List ℕ) → is_escaped_in_string c ≡ tru
 unfolding string_from
 string_escaped c t h = rw h refl
 
-pub string_cut : (t : List ℕ) → t ≡ [] → told (string_from true t) ≡ Err (UnterminatedEscapeSequence, t)
+pub string_cut : (t : List ℕ) → t ≡ [] → located (string_from true t) ≡ Err (UnterminatedEscapeSequence, t)
 unfolding string_from
 string_cut t e = rw e refl
 
-pub string_wrong : (c : ℕ) (t : List ℕ) → is_escaped_in_string c ≡ false → told (string_from true (c ∷ t)) ≡ Err (InvalidEscapeSequence, c ∷ t)
+pub string_wrong : (c : ℕ) (t : List ℕ) → is_escaped_in_string c ≡ false → located (string_from true (c ∷ t)) ≡ Err (InvalidEscapeSequence, c ∷ t)
 unfolding string_from
 string_wrong c t h = rw h refl
 
@@ -105,11 +105,11 @@ pub second_fault : (input : List ℕ) (e : Error) (t r : List ℕ) (high : ℕ) 
 second_fault input e t r high i h f = subst (IsFaultOf input e) (sym (ap (pieces_from percent) i ∙ first_digit high r h)) f
 
 -- no digit stands there, since the input ends
-pub digit_cut : (t : List ℕ) → t ≡ [] → (told (pieces_from percent t) ≡ Err (UnterminatedEscapeSequence, t)) × ((high : ℕ) → told (pieces_from (digit high) t) ≡ Err (UnterminatedEscapeSequence, t))
+pub digit_cut : (t : List ℕ) → t ≡ [] → (located (pieces_from percent t) ≡ Err (UnterminatedEscapeSequence, t)) × ((high : ℕ) → located (pieces_from (digit high) t) ≡ Err (UnterminatedEscapeSequence, t))
 unfolding pieces_from
 digit_cut t e = (rw e refl, λ high. rw e refl)
 
 -- or since another byte does
-pub digit_wrong : (c : ℕ) (t : List ℕ) → is_lower_hexadecimal c ≡ false → (told (pieces_from percent (c ∷ t)) ≡ Err (InvalidEscapeSequence, c ∷ t)) × ((high : ℕ) → told (pieces_from (digit high) (c ∷ t)) ≡ Err (InvalidEscapeSequence, c ∷ t))
+pub digit_wrong : (c : ℕ) (t : List ℕ) → is_lower_hexadecimal c ≡ false → (located (pieces_from percent (c ∷ t)) ≡ Err (InvalidEscapeSequence, c ∷ t)) × ((high : ℕ) → located (pieces_from (digit high) (c ∷ t)) ≡ Err (InvalidEscapeSequence, c ∷ t))
 unfolding pieces_from
 digit_wrong c t h = (rw h refl, λ high. rw h refl)

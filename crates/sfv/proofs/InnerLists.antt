@@ -3,22 +3,22 @@ use Rattle.std.proofs.Common.{◌≡◌, ℕ, true, false, List, [], ◌∷◌, 
 use Rattle.std.specs.Prelude.{Result}
 use Rattle.std.specs.Borrow.{Bor}
 use Rattle.sfv_spec.specs.Values.{Edition, RawParameters, RawItem, RawMember, item, inner_list}
-use Rattle.sfv_spec.specs.Events.{TreeEvent, begins_item, begins_inner_list, inner_list_end, parameters_events, item_events, member_events}
+use Rattle.sfv_spec.specs.Events.{TreeEvent, begins_item, begins_inner_list, inner_list_end, parameters_events, item_events, member_events, inner_item_events}
 use Rattle.sfv_spec.specs.Visiting.{RunsTo}
 use Rattle.sfv_base.specs.declared.error.ParseError.{ParseError}
 use Rattle.sfv_base.specs.declared.error.ParseError.TheVariants.{Syntax, Visitor}
 use Rattle.sfv_reading.specs.Reader.{Answer, Reader, byte, led_answer, led, give, and_then, bind, ◌>>=◌}
 use Rattle.sfv_reading.specs.Items.{parameters_at, item_at}
-use Rattle.sfv_reading.specs.Members.{inner_item_events, inner_items_at, inner_of, closed_events, inner_at, member_at}
-use Rattle.sfv_reading.specs.Visits.{Refused}
+use Rattle.sfv_reading.specs.Members.{inner_items_at, inner_of, closed_events, inner_at, member_at}
+use Rattle.sfv_reading.specs.Visits.{VisitorFails}
 use Rattle.sfv.specs.declared.parser.cursor.Cursor.{Cursor}
-use Rattle.sfv.specs.Cursor.{Takes}
+use Rattle.sfv.specs.Cursor.{TakesIf}
 use Rattle.sfv.specs.Members.{behind_begin}
-use Rattle.sfv.specs.Visits.{Tells, IsToldRefusal}
+use Rattle.sfv.specs.Visits.{Visits, IsErrorOfVisit}
 use Rattle.sfv.proofs.Errors.{ErrorOf-part}
 use Rattle.sfv.proofs.Steps.{branch_true, branch_false}
 use Rattle.sfv.proofs.Told.{runs_on}
-use Rattle.sfv.proofs.Telling.{tells_as, map_tells, then_tells, first_refused, refused_longer, refused_behind, led_tells, led_fails}
+use Rattle.sfv.proofs.Telling.{visits_as, map_visits, then_visits, first_failed, failed_longer, failed_behind, led_visits, led_fails}
 
 -- the parameters behind the items
 list_parameters : RawMember → List TreeEvent
@@ -41,44 +41,44 @@ closing_events edition is q w r e = on (parameters_at edition q) e
         ap (λ (p : RawMember × List ℕ). behind_begin p.0) (sym same) ∙ sym (append_assoc (flat_map inner_item_events is) (inner_list_end ∷ []) (parameters_events x.0)) ∙ ap (λ (p : RawMember × List ℕ). closed_events is ++ list_parameters p.0) same
     on (Err f) h = absurd cc
 
-module _ {S E : Type 0} (takes : S → TreeEvent → S → Type 0) (refuses : S → TreeEvent → E → Type 0) (edition : Edition) where
-  whole_refused : (t : List ℕ) (from : S) (fault : E) → Refused takes refuses closed_events (inner_items_at edition t) from fault → Refused takes refuses behind_begin (inner_at edition t) from fault
+module _ {S E : Type 0} (takes : S → TreeEvent → S → Type 0) (fails : S → TreeEvent → E → Type 0) (edition : Edition) where
+  whole_failed : (t : List ℕ) (from : S) (fault : E) → VisitorFails takes fails closed_events (inner_items_at edition t) from fault → VisitorFails takes fails behind_begin (inner_at edition t) from fault
   unfolding inner_at
-  whole_refused t from fault h = first_refused takes refuses (inner_items_at edition) (closing edition) closed_events behind_begin list_parameters t from fault (λ v q w r e k. closing_events edition v q w r k) h
+  whole_failed t from fault h = first_failed takes fails (inner_items_at edition) (closing edition) closed_events behind_begin list_parameters t from fault (λ v q w r e k. closing_events edition v q w r k) h
 
   -- the items are not read whole
-  pub items_fail : (t : List ℕ) (from to : S) (i j : Bor (List ℕ)) (after : Cursor) (error : ParseError E) → i ≡ j → Tells takes refuses (λ is. flat_map inner_item_events is) i after from to (Err error) (inner_items_at edition t) → Tells takes refuses behind_begin j after from to (Err error) (inner_at edition t)
+  pub items_fail : (t : List ℕ) (from to : S) (i j : Bor (List ℕ)) (after : Cursor) (error : ParseError E) → i ≡ j → Visits takes fails (λ is. flat_map inner_item_events is) i after from to (Err error) (inner_items_at edition t) → Visits takes fails behind_begin j after from to (Err error) (inner_at edition t)
   unfolding inner_at
   items_fail t from to i j after (Syntax e) same h = ErrorOf-part i j e (inner_items_at edition) (λ is. led (closed_events is) (closing edition is)) t _ same refl h
   items_fail t from to i j after (Visitor fault) same h =
-      whole_refused t from fault (refused_longer takes refuses (λ is. flat_map inner_item_events is) closed_events (inner_items_at edition t) from fault (λ is. (inner_list_end ∷ [], refl)) h)
+      whole_failed t from fault (failed_longer takes fails (λ is. flat_map inner_item_events is) closed_events (inner_items_at edition t) from fault (λ is. (inner_list_end ∷ [], refl)) h)
 
-  -- their end is refused
-  pub end_fails : (t q : List ℕ) (is : List RawItem) (from middle to : S) (j : Bor (List ℕ)) (after : Cursor) (error : ParseError E) → inner_items_at edition t ≡ Ok (is, q) → RunsTo takes from (flat_map inner_item_events is) middle → IsToldRefusal refuses middle inner_list_end error
-      → Tells takes refuses behind_begin j after from to (Err error) (inner_at edition t)
+  -- their end is failed
+  pub end_fails : (t q : List ℕ) (is : List RawItem) (from middle to : S) (j : Bor (List ℕ)) (after : Cursor) (error : ParseError E) → inner_items_at edition t ≡ Ok (is, q) → RunsTo takes from (flat_map inner_item_events is) middle → IsErrorOfVisit fails middle inner_list_end error
+      → Visits takes fails behind_begin j after from to (Err error) (inner_at edition t)
   end_fails t q is from middle to j after (Syntax e) read run h = absurd h
   end_fails t q is from middle to j after (Visitor fault) read run h =
-      whole_refused t from fault (refused_behind takes refuses (λ is. flat_map inner_item_events is) closed_events inner_list_end (inner_items_at edition t) is q from middle fault read refl run h)
+      whole_failed t from fault (failed_behind takes fails (λ is. flat_map inner_item_events is) closed_events inner_list_end (inner_items_at edition t) is q from middle fault read refl run h)
 
   -- the items, their end and the parameters
-  pub inner_list_tells : (t q : List ℕ) (is : List RawItem) (from middle end to : S) (i j : Bor (List ℕ)) (after : Cursor) (r : Result (Unit {0}) (ParseError E)) → i ≡ j → inner_items_at edition t ≡ Ok (is, q) → RunsTo takes from (flat_map inner_item_events is) middle → takes middle inner_list_end end
-      → Tells takes refuses parameters_events i after end to r (parameters_at edition q) → Tells takes refuses behind_begin j after from to r (inner_at edition t)
+  pub inner_list_visits : (t q : List ℕ) (is : List RawItem) (from middle end to : S) (i j : Bor (List ℕ)) (after : Cursor) (r : Result (Unit {0}) (ParseError E)) → i ≡ j → inner_items_at edition t ≡ Ok (is, q) → RunsTo takes from (flat_map inner_item_events is) middle → takes middle inner_list_end end
+      → Visits takes fails parameters_events i after end to r (parameters_at edition q) → Visits takes fails behind_begin j after from to r (inner_at edition t)
   unfolding inner_at list_parameters
-  inner_list_tells t q is from middle end to i j after r same read run taken h =
-      then_tells takes refuses (inner_items_at edition) (closing edition) closed_events behind_begin list_parameters t q is from end to i j after r same read
+  inner_list_visits t q is from middle end to i j after r same read run taken h =
+      then_visits takes fails (inner_items_at edition) (closing edition) closed_events behind_begin list_parameters t q is from end to i j after r same read
       (runs_on takes (flat_map inner_item_events is) (inner_list_end ∷ []) from middle end run (end, taken, refl)) (λ w s e. closing_events edition is q w s e)
-      (map_tells takes refuses (λ ps. inner_of is ps) parameters_events list_parameters (parameters_at edition) q end to i after r (λ ps. refl) h)
+      (map_visits takes fails (λ ps. inner_of is ps) parameters_events list_parameters (parameters_at edition) q end to i after r (λ ps. refl) h)
 
   -- ---- a member
 
-  member_list : (t q : List ℕ) → Takes (byte 0x28) true t q → member_at edition t ≡ led (begins_inner_list ∷ []) (inner_at edition) q
+  member_list : (t q : List ℕ) → TakesIf (byte 0x28) true t q → member_at edition t ≡ led (begins_inner_list ∷ []) (inner_at edition) q
   unfolding member_at
   member_list t q m = branch_true (byte 0x28) _ _ t q m
 
   abbrev as_item : Reader RawMember
   as_item = item_at edition >>= λ i. give (item i)
 
-  member_item : (t q : List ℕ) → Takes (byte 0x28) false t q → member_at edition t ≡ led (begins_item ∷ []) as_item q
+  member_item : (t q : List ℕ) → TakesIf (byte 0x28) false t q → member_at edition t ≡ led (begins_item ∷ []) as_item q
   unfolding member_at
   member_item t q m = branch_false (byte 0x28) _ _ t q m
 
@@ -108,11 +108,11 @@ module _ {S E : Type 0} (takes : S → TreeEvent → S → Type 0) (refuses : S 
       on (Ok x) e = inner (led_answer (closed_events x.0) (and_then (parameters_at edition x.1) (λ ps. give (inner_of x.0 ps)))) (given_list x.0 (parameters_at edition x.1)) e
       on (Err f) e = absurd cc
 
-  pub list_member_tells : (t q : List ℕ) (from middle to : S) (i j : Bor (List ℕ)) (after : Cursor) (r : Result (Unit {0}) (ParseError E)) → i ≡ j → Takes (byte 0x28) true t q → takes from begins_inner_list middle
-      → Tells takes refuses behind_begin i after middle to r (inner_at edition q) → Tells takes refuses member_events j after from to r (member_at edition t)
-  list_member_tells t q from middle to i j after r same m taken h =
-      tells_as takes refuses (λ v. begins_inner_list ∷ behind_begin v) member_events (led (begins_inner_list ∷ []) (inner_at edition) q) (member_at edition t) from to i j after r same (member_list t q m) (begins_as_list q)
-      (led_tells takes refuses begins_inner_list behind_begin (inner_at edition) q from middle to i i after r refl taken h)
+  pub list_member_visits : (t q : List ℕ) (from middle to : S) (i j : Bor (List ℕ)) (after : Cursor) (r : Result (Unit {0}) (ParseError E)) → i ≡ j → TakesIf (byte 0x28) true t q → takes from begins_inner_list middle
+      → Visits takes fails behind_begin i after middle to r (inner_at edition q) → Visits takes fails member_events j after from to r (member_at edition t)
+  list_member_visits t q from middle to i j after r same m taken h =
+      visits_as takes fails (λ v. begins_inner_list ∷ behind_begin v) member_events (led (begins_inner_list ∷ []) (inner_at edition) q) (member_at edition t) from to i j after r same (member_list t q m) (begins_as_list q)
+      (led_visits takes fails begins_inner_list behind_begin (inner_at edition) q from middle to i i after r refl taken h)
 
   -- an item as a member
   item_first : (q : List ℕ) → led (begins_item ∷ []) as_item q ≡ (led (begins_item ∷ []) (item_at edition) >>= λ i. give (item i)) q
@@ -123,21 +123,21 @@ module _ {S E : Type 0} (takes : S → TreeEvent → S → Type 0) (refuses : S 
       on (Ok x) = refl
       on (Err f) = refl
 
-  pub item_member_tells : (t q : List ℕ) (from middle to : S) (i j : Bor (List ℕ)) (after : Cursor) (r : Result (Unit {0}) (ParseError E)) → i ≡ j → Takes (byte 0x28) false t q → takes from begins_item middle
-      → Tells takes refuses item_events i after middle to r (item_at edition q) → Tells takes refuses member_events j after from to r (member_at edition t)
-  item_member_tells t q from middle to i j after r same m taken h =
-      tells_as takes refuses member_events member_events ((led (begins_item ∷ []) (item_at edition) >>= λ i. give (item i)) q) (member_at edition t) from to i j after r same (member_item t q m ∙ item_first q) (λ v s e. refl)
-      (map_tells takes refuses (λ i. item i) (λ i. begins_item ∷ item_events i) member_events (led (begins_item ∷ []) (item_at edition)) q from to i after r (λ i. refl)
-      (led_tells takes refuses begins_item item_events (item_at edition) q from middle to i i after r refl taken h))
+  pub item_member_visits : (t q : List ℕ) (from middle to : S) (i j : Bor (List ℕ)) (after : Cursor) (r : Result (Unit {0}) (ParseError E)) → i ≡ j → TakesIf (byte 0x28) false t q → takes from begins_item middle
+      → Visits takes fails item_events i after middle to r (item_at edition q) → Visits takes fails member_events j after from to r (member_at edition t)
+  item_member_visits t q from middle to i j after r same m taken h =
+      visits_as takes fails member_events member_events ((led (begins_item ∷ []) (item_at edition) >>= λ i. give (item i)) q) (member_at edition t) from to i j after r same (member_item t q m ∙ item_first q) (λ v s e. refl)
+      (map_visits takes fails (λ i. item i) (λ i. begins_item ∷ item_events i) member_events (led (begins_item ∷ []) (item_at edition)) q from to i after r (λ i. refl)
+      (led_visits takes fails begins_item item_events (item_at edition) q from middle to i i after r refl taken h))
 
-  -- the beginning of a member is refused
-  pub list_begin_fails : (t q : List ℕ) (from to : S) (j : Bor (List ℕ)) (after : Cursor) (error : ParseError E) → Takes (byte 0x28) true t q → IsToldRefusal refuses from begins_inner_list error → Tells takes refuses member_events j after from to (Err error) (member_at edition t)
+  -- the beginning of a member is failed
+  pub list_begin_fails : (t q : List ℕ) (from to : S) (j : Bor (List ℕ)) (after : Cursor) (error : ParseError E) → TakesIf (byte 0x28) true t q → IsErrorOfVisit fails from begins_inner_list error → Visits takes fails member_events j after from to (Err error) (member_at edition t)
   list_begin_fails t q from to j after error m h =
-      tells_as takes refuses (λ v. begins_inner_list ∷ behind_begin v) member_events (led (begins_inner_list ∷ []) (inner_at edition) q) (member_at edition t) from to j j after (Err error) refl (member_list t q m) (begins_as_list q)
-      (led_fails takes refuses begins_inner_list behind_begin (inner_at edition) q from to j after error h)
+      visits_as takes fails (λ v. begins_inner_list ∷ behind_begin v) member_events (led (begins_inner_list ∷ []) (inner_at edition) q) (member_at edition t) from to j j after (Err error) refl (member_list t q m) (begins_as_list q)
+      (led_fails takes fails begins_inner_list behind_begin (inner_at edition) q from to j after error h)
 
-  pub item_begin_fails : (t q : List ℕ) (from to : S) (j : Bor (List ℕ)) (after : Cursor) (error : ParseError E) → Takes (byte 0x28) false t q → IsToldRefusal refuses from begins_item error → Tells takes refuses member_events j after from to (Err error) (member_at edition t)
+  pub item_begin_fails : (t q : List ℕ) (from to : S) (j : Bor (List ℕ)) (after : Cursor) (error : ParseError E) → TakesIf (byte 0x28) false t q → IsErrorOfVisit fails from begins_item error → Visits takes fails member_events j after from to (Err error) (member_at edition t)
   item_begin_fails t q from to j after error m h =
-      tells_as takes refuses member_events member_events ((led (begins_item ∷ []) (item_at edition) >>= λ i. give (item i)) q) (member_at edition t) from to j j after (Err error) refl (member_item t q m ∙ item_first q) (λ v s e. refl)
-      (map_tells takes refuses (λ i. item i) (λ i. begins_item ∷ item_events i) member_events (led (begins_item ∷ []) (item_at edition)) q from to j after (Err error) (λ i. refl)
-      (led_fails takes refuses begins_item item_events (item_at edition) q from to j after error h))
+      visits_as takes fails member_events member_events ((led (begins_item ∷ []) (item_at edition) >>= λ i. give (item i)) q) (member_at edition t) from to j j after (Err error) refl (member_item t q m ∙ item_first q) (λ v s e. refl)
+      (map_visits takes fails (λ i. item i) (λ i. begins_item ∷ item_events i) member_events (led (begins_item ∷ []) (item_at edition)) q from to j after (Err error) (λ i. refl)
+      (led_fails takes fails begins_item item_events (item_at edition) q from to j after error h))

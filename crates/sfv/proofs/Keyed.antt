@@ -3,21 +3,21 @@ use Rattle.std.proofs.Common.{◌≡◌, ℕ, true, false, List, [], ◌∷◌, 
 use Rattle.std.specs.Prelude.{Result}
 use Rattle.std.specs.Borrow.{Bor}
 use Rattle.sfv_spec.specs.Values.{Edition, boolean, RawParameters, RawMember}
-use Rattle.sfv_spec.specs.Events.{TreeEvent, keyed_entry, begins_item, bare_item, parameters_events, member_events}
+use Rattle.sfv_spec.specs.Events.{TreeEvent, keyed_entry, begins_item, bare_item, parameters_events, member_events, keyed_events}
 use Rattle.sfv_spec.specs.Grammar.{true_with}
 use Rattle.sfv_base.specs.declared.error.Error.{Error}
 use Rattle.sfv_base.specs.declared.error.ParseError.{ParseError}
 use Rattle.sfv_base.specs.declared.error.ParseError.TheVariants.{Syntax, Visitor}
-use Rattle.sfv_reading.specs.Reader.{Answer, Reader, byte, handed, led_answer, led, give, and_then, bind, ◌>>=◌}
+use Rattle.sfv_reading.specs.Reader.{Answer, Reader, byte, visited, led_answer, led, give, and_then, bind, ◌>>=◌}
 use Rattle.sfv_reading.specs.Items.{key_at, parameters_at}
-use Rattle.sfv_reading.specs.Members.{member_at, member_value_at, keyed_events, keyed_at}
-use Rattle.sfv_reading.proofs.Handed.{handed_then}
+use Rattle.sfv_reading.specs.Members.{member_at, member_value_at, keyed_at}
+use Rattle.sfv_reading.proofs.visits.Parts.{visited_then}
 use Rattle.sfv.specs.declared.parser.cursor.Cursor.{Cursor}
-use Rattle.sfv.specs.Cursor.{Takes, IsErrorOf}
-use Rattle.sfv.specs.Visits.{Tells, IsToldRefusal}
+use Rattle.sfv.specs.Cursor.{TakesIf, IsErrorOf}
+use Rattle.sfv.specs.Visits.{Visits, IsErrorOfVisit}
 use Rattle.sfv.proofs.Errors.{ErrorOf-part}
 use Rattle.sfv.proofs.Steps.{branch_true, branch_false}
-use Rattle.sfv.proofs.Telling.{tells_as, map_tells, then_tells, led_tells, led_fails}
+use Rattle.sfv.proofs.Telling.{visits_as, map_visits, then_visits, led_visits, led_fails}
 
 -- the pair of a key and what stands behind it
 abbrev pair_at : Edition → List ℕ → Reader (List ℕ × RawMember)
@@ -39,12 +39,12 @@ pair_events edition key q w r e = on (member_value_at edition q) e
         ap (λ (p : (List ℕ × RawMember) × List ℕ). keyed_entry p.0.0 ∷ behind_key w) (sym same)
     on (Err f) h = absurd cc
 
-module _ {S E : Type 0} (takes : S → TreeEvent → S → Type 0) (refuses : S → TreeEvent → E → Type 0) (edition : Edition) where
+module _ {S E : Type 0} (takes : S → TreeEvent → S → Type 0) (fails : S → TreeEvent → E → Type 0) (edition : Edition) where
   -- ---- behind the key
 
-  pub value_tells : (t q : List ℕ) (from to : S) (i j : Bor (List ℕ)) (after : Cursor) (r : Result (Unit {0}) (ParseError E)) → i ≡ j → Takes (byte 0x3d) true t q → Tells takes refuses member_events i after from to r (member_at edition q) → Tells takes refuses member_events j after from to r (member_value_at edition t)
+  pub value_visits : (t q : List ℕ) (from to : S) (i j : Bor (List ℕ)) (after : Cursor) (r : Result (Unit {0}) (ParseError E)) → i ≡ j → TakesIf (byte 0x3d) true t q → Visits takes fails member_events i after from to r (member_at edition q) → Visits takes fails member_events j after from to r (member_value_at edition t)
   unfolding member_value_at
-  value_tells t q from to i j after r same m h = tells_as takes refuses member_events member_events (member_at edition q) (member_value_at edition t) from to i j after r same (branch_true (byte 0x3d) _ _ t q m) (λ v s e. refl) h
+  value_visits t q from to i j after r same m h = visits_as takes fails member_events member_events (member_at edition q) (member_value_at edition t) from to i j after r same (branch_true (byte 0x3d) _ _ t q m) (λ v s e. refl) h
 
   -- the item true, with its parameters
   abbrev true_at : Reader RawParameters
@@ -53,7 +53,7 @@ module _ {S E : Type 0} (takes : S → TreeEvent → S → Type 0) (refuses : S 
   abbrev true_events : RawParameters → List TreeEvent
   true_events ps = begins_item ∷ bare_item (boolean true) ∷ parameters_events ps
 
-  true_is : (t q : List ℕ) → Takes (byte 0x3d) false t q → member_value_at edition t ≡ (true_at >>= λ ps. give (true_with ps)) q
+  true_is : (t q : List ℕ) → TakesIf (byte 0x3d) false t q → member_value_at edition t ≡ (true_at >>= λ ps. give (true_with ps)) q
   unfolding member_value_at bind led give
   true_is t q m = branch_false (byte 0x3d) _ _ t q m ∙ on (parameters_at edition q)
     where
@@ -61,10 +61,10 @@ module _ {S E : Type 0} (takes : S → TreeEvent → S → Type 0) (refuses : S 
       on (Ok x) = refl
       on (Err f) = refl
 
-  as_true : (t q : List ℕ) (from to : S) (i j : Bor (List ℕ)) (after : Cursor) (r : Result (Unit {0}) (ParseError E)) → i ≡ j → Takes (byte 0x3d) false t q → Tells takes refuses true_events i after from to r (true_at q) → Tells takes refuses member_events j after from to r (member_value_at edition t)
+  as_true : (t q : List ℕ) (from to : S) (i j : Bor (List ℕ)) (after : Cursor) (r : Result (Unit {0}) (ParseError E)) → i ≡ j → TakesIf (byte 0x3d) false t q → Visits takes fails true_events i after from to r (true_at q) → Visits takes fails member_events j after from to r (member_value_at edition t)
   as_true t q from to i j after r same m h =
-      tells_as takes refuses member_events member_events ((true_at >>= λ ps. give (true_with ps)) q) (member_value_at edition t) from to i j after r same (true_is t q m) (λ v s e. refl)
-      (map_tells takes refuses (λ ps. true_with ps) true_events member_events true_at q from to i after r (λ ps. refl) h)
+      visits_as takes fails member_events member_events ((true_at >>= λ ps. give (true_with ps)) q) (member_value_at edition t) from to i j after r same (true_is t q m) (λ v s e. refl)
+      (map_visits takes fails (λ ps. true_with ps) true_events member_events true_at q from to i after r (λ ps. refl) h)
 
   abbrev bare_true : Reader RawParameters
   bare_true = led (bare_item (boolean true) ∷ []) (parameters_at edition)
@@ -72,22 +72,22 @@ module _ {S E : Type 0} (takes : S → TreeEvent → S → Type 0) (refuses : S 
   abbrev bare_true_events : RawParameters → List TreeEvent
   bare_true_events ps = bare_item (boolean true) ∷ parameters_events ps
 
-  pub true_begin_fails : (t q : List ℕ) (from to : S) (i j : Bor (List ℕ)) (after : Cursor) (error : ParseError E) → i ≡ j → Takes (byte 0x3d) false t q → IsToldRefusal refuses from begins_item error → Tells takes refuses member_events j after from to (Err error) (member_value_at edition t)
-  true_begin_fails t q from to i j after error same m h = as_true t q from to i j after (Err error) same m (led_fails takes refuses begins_item bare_true_events bare_true q from to i after error h)
+  pub true_begin_fails : (t q : List ℕ) (from to : S) (i j : Bor (List ℕ)) (after : Cursor) (error : ParseError E) → i ≡ j → TakesIf (byte 0x3d) false t q → IsErrorOfVisit fails from begins_item error → Visits takes fails member_events j after from to (Err error) (member_value_at edition t)
+  true_begin_fails t q from to i j after error same m h = as_true t q from to i j after (Err error) same m (led_fails takes fails begins_item bare_true_events bare_true q from to i after error h)
 
-  pub true_bare_fails : (t q : List ℕ) (from middle to : S) (i j : Bor (List ℕ)) (after : Cursor) (error : ParseError E) → i ≡ j → Takes (byte 0x3d) false t q → takes from begins_item middle → IsToldRefusal refuses middle (bare_item (boolean true)) error
-      → Tells takes refuses member_events j after from to (Err error) (member_value_at edition t)
+  pub true_bare_fails : (t q : List ℕ) (from middle to : S) (i j : Bor (List ℕ)) (after : Cursor) (error : ParseError E) → i ≡ j → TakesIf (byte 0x3d) false t q → takes from begins_item middle → IsErrorOfVisit fails middle (bare_item (boolean true)) error
+      → Visits takes fails member_events j after from to (Err error) (member_value_at edition t)
   true_bare_fails t q from middle to i j after error same m taken h =
       as_true t q from to i j after (Err error) same m
-      (led_tells takes refuses begins_item bare_true_events bare_true q from middle to i i after (Err error) refl taken
-      (led_fails takes refuses (bare_item (boolean true)) parameters_events (parameters_at edition) q middle to i after error h))
+      (led_visits takes fails begins_item bare_true_events bare_true q from middle to i i after (Err error) refl taken
+      (led_fails takes fails (bare_item (boolean true)) parameters_events (parameters_at edition) q middle to i after error h))
 
-  pub true_tells : (t q : List ℕ) (from middle next to : S) (i j : Bor (List ℕ)) (after : Cursor) (r : Result (Unit {0}) (ParseError E)) → i ≡ j → Takes (byte 0x3d) false t q → takes from begins_item middle → takes middle (bare_item (boolean true)) next
-      → Tells takes refuses parameters_events i after next to r (parameters_at edition q) → Tells takes refuses member_events j after from to r (member_value_at edition t)
-  true_tells t q from middle next to i j after r same m taken bare h =
+  pub true_visits : (t q : List ℕ) (from middle next to : S) (i j : Bor (List ℕ)) (after : Cursor) (r : Result (Unit {0}) (ParseError E)) → i ≡ j → TakesIf (byte 0x3d) false t q → takes from begins_item middle → takes middle (bare_item (boolean true)) next
+      → Visits takes fails parameters_events i after next to r (parameters_at edition q) → Visits takes fails member_events j after from to r (member_value_at edition t)
+  true_visits t q from middle next to i j after r same m taken bare h =
       as_true t q from to i j after r same m
-      (led_tells takes refuses begins_item bare_true_events bare_true q from middle to i i after r refl taken
-      (led_tells takes refuses (bare_item (boolean true)) parameters_events (parameters_at edition) q middle next to i i after r refl bare h))
+      (led_visits takes fails begins_item bare_true_events bare_true q from middle to i i after r refl taken
+      (led_visits takes fails (bare_item (boolean true)) parameters_events (parameters_at edition) q middle next to i i after r refl bare h))
 
   -- ---- the key
 
@@ -95,22 +95,22 @@ module _ {S E : Type 0} (takes : S → TreeEvent → S → Type 0) (refuses : S 
   unfolding keyed_at
   key_fails t i j e same h = ErrorOf-part i j e key_at (λ key. led (keyed_entry key ∷ []) (pair_at edition key)) t _ same refl h
 
-  pub keyed_fails : (t q key : List ℕ) (from to : S) (j : Bor (List ℕ)) (after : Cursor) (error : ParseError E) → key_at t ≡ Ok (key, q) → IsToldRefusal refuses from (keyed_entry key) error → Tells takes refuses keyed_events j after from to (Err error) (keyed_at edition t)
+  pub keyed_fails : (t q key : List ℕ) (from to : S) (j : Bor (List ℕ)) (after : Cursor) (error : ParseError E) → key_at t ≡ Ok (key, q) → IsErrorOfVisit fails from (keyed_entry key) error → Visits takes fails keyed_events j after from to (Err error) (keyed_at edition t)
   unfolding keyed_at
   keyed_fails t q key from to j after (Syntax e) read h = absurd h
   keyed_fails t q key from to j after (Visitor fault) read h = record {
     before = [];
     e = keyed_entry key;
-    after = handed behind_key (pair_at edition key q);
+    after = visited behind_key (pair_at edition key q);
     s = from;
-    all = handed_then key_at (pair_at edition) (λ key. keyed_entry key ∷ []) keyed_events behind_key t q key read (λ w r e. pair_events edition key q w r e);
+    all = visited_then key_at (pair_at edition) (λ key. keyed_entry key ∷ []) keyed_events behind_key t q key read (λ w r e. pair_events edition key q w r e);
     taken = refl;
-    refused = h;
+    failed = h;
   }
 
-  pub keyed_tells : (t q key : List ℕ) (from middle to : S) (i j : Bor (List ℕ)) (after : Cursor) (r : Result (Unit {0}) (ParseError E)) → i ≡ j → key_at t ≡ Ok (key, q) → takes from (keyed_entry key) middle
-      → Tells takes refuses member_events i after middle to r (member_value_at edition q) → Tells takes refuses keyed_events j after from to r (keyed_at edition t)
+  pub keyed_visits : (t q key : List ℕ) (from middle to : S) (i j : Bor (List ℕ)) (after : Cursor) (r : Result (Unit {0}) (ParseError E)) → i ≡ j → key_at t ≡ Ok (key, q) → takes from (keyed_entry key) middle
+      → Visits takes fails member_events i after middle to r (member_value_at edition q) → Visits takes fails keyed_events j after from to r (keyed_at edition t)
   unfolding keyed_at
-  keyed_tells t q key from middle to i j after r same read taken h =
-      then_tells takes refuses key_at (pair_at edition) (λ key. keyed_entry key ∷ []) keyed_events behind_key t q key from middle to i j after r same read (middle, taken, refl) (λ w r e. pair_events edition key q w r e)
-      (map_tells takes refuses (λ m. (key, m)) member_events behind_key (member_value_at edition) q middle to i after r (λ m. refl) h)
+  keyed_visits t q key from middle to i j after r same read taken h =
+      then_visits takes fails key_at (pair_at edition) (λ key. keyed_entry key ∷ []) keyed_events behind_key t q key from middle to i j after r same read (middle, taken, refl) (λ w r e. pair_events edition key q w r e)
+      (map_visits takes fails (λ m. (key, m)) member_events behind_key (member_value_at edition) q middle to i after r (λ m. refl) h)

@@ -9,7 +9,7 @@ use Rattle.sfv_spec.specs.Texts.{RunOf}
 use Rattle.sfv_spec.specs.Classes.{is_digit}
 use Rattle.sfv_spec.specs.Numbers.{place_value}
 use Rattle.sfv_reading.specs.Reader.{Apart, up_to, span}
-use Rattle.sfv_reading.proofs.Again.{Apart-nil, Apart-cons, up_to_taken, span_again}
+use Rattle.sfv_reading.proofs.complete.Combinators.{Apart-nil, Apart-cons, up_to_taken, span_complete}
 
 -- one byte more of a run
 pub run_more : (class : ℕ → Bool) (xs : List ℕ) (i : ℕ) → i < length xs → RunOf class (take i xs) → class (get_or xs i 0) ≡ true → RunOf class (take (i + 1) xs)
@@ -35,7 +35,7 @@ up_to_run class most k bytes le le' each h =
 
 pub span_run : (class : ℕ → Bool) (k : ℕ) (bytes : List ℕ) → k ≤ length bytes → RunOf class (take k bytes) → (k < length bytes → class (get_or bytes k 0) ≡ false)
     → span class bytes ≡ Ok (take k bytes, drop k bytes)
-span_run class k bytes le each h = ap (span class) (sym (take-append-drop k bytes)) ∙ span_again class (take k bytes) (drop k bytes) each (stops_at class bytes k h)
+span_run class k bytes le each h = ap (span class) (sym (take-append-drop k bytes)) ∙ span_complete class (take k bytes) (drop k bytes) each (stops_at class bytes k h)
 
 -- ---- digits
 

@@ -18,20 +18,20 @@ use Rattle.sfv_reading.specs.Quoted.{string_at, display_at}
 use Rattle.sfv_reading.specs.Content.{bytes_at}
 use Rattle.sfv_reading.specs.Items.{key_at, value_at, parameter_at, parameters_at, item_of, item_at}
 use Rattle.sfv_spec.specs.Events.{TreeEvent, bare_item}
-use Rattle.sfv_reading.proofs.Again.{branch_past, branch_take, ahead_past, ahead_take, bind_again, led_again}
+use Rattle.sfv_reading.proofs.complete.Combinators.{branch_past, branch_take, ahead_past, ahead_take, bind_complete, led_complete}
 use Rattle.sfv.proofs.Errors.{fault_bind}
-use Rattle.sfv.specs.Cursor.{told, IsFaultOf, Meets, Takes, Skips}
+use Rattle.sfv.specs.Cursor.{located, IsFaultOf, NextIs, TakesIf, Skips}
 
-pub ahead_true : {A : Type 0} (class : ℕ → Bool) (taken other : Reader A) (t : List ℕ) → Meets class true t → ahead class taken other t ≡ taken t
+pub ahead_true : {A : Type 0} (class : ℕ → Bool) (taken other : Reader A) (t : List ℕ) → NextIs class true t → ahead class taken other t ≡ taken t
 ahead_true class taken other t m = ap (ahead class taken other) m.2 ∙ ahead_take class taken other m.0 m.1 m.3 ∙ ap taken (sym m.2)
 
-pub branch_true : {A : Type 0} (class : ℕ → Bool) (taken : ℕ → Reader A) (other : Reader A) (t r : List ℕ) → (m : Takes class true t r) → branch class taken other t ≡ taken m.0 r
+pub branch_true : {A : Type 0} (class : ℕ → Bool) (taken : ℕ → Reader A) (other : Reader A) (t r : List ℕ) → (m : TakesIf class true t r) → branch class taken other t ≡ taken m.0 r
 branch_true class taken other t r m = ap (branch class taken other) m.1 ∙ branch_take class taken other m.0 r m.2
 
-pub branch_false : {A : Type 0} (class : ℕ → Bool) (taken : ℕ → Reader A) (other : Reader A) (t r : List ℕ) → Takes class false t r → branch class taken other t ≡ other r
+pub branch_false : {A : Type 0} (class : ℕ → Bool) (taken : ℕ → Reader A) (other : Reader A) (t r : List ℕ) → TakesIf class false t r → branch class taken other t ≡ other r
 branch_false class taken other t r m = branch_past class taken other t m.1 ∙ ap other (sym m.0)
 
-pub sign_takes : (b : Bool) (t r : List ℕ) → Takes (byte 0x2d) b t r → sign_at t ≡ Ok (b, r)
+pub sign_takes : (b : Bool) (t r : List ℕ) → TakesIf (byte 0x2d) b t r → sign_at t ≡ Ok (b, r)
 unfolding sign_at give
 sign_takes true t r m = branch_true (byte 0x2d) (λ _. give true) (give false) t r m
 sign_takes false t r m = branch_false (byte 0x2d) (λ _. give true) (give false) t r m
@@ -40,31 +40,31 @@ sign_takes false t r m = branch_false (byte 0x2d) (λ _. give true) (give false)
 
 pub number_is : (dated b : Bool) (t r q whole : List ℕ) → sign_at t ≡ Ok (b, r) → up_to is_digit 15 r ≡ Ok (whole, q) → number_at dated t ≡ whole_at dated b whole q
 unfolding number_at
-number_is dated b t r q whole s d = bind_again _ _ t r b s ∙ bind_again _ _ r q whole d
+number_is dated b t r q whole s d = bind_complete _ _ t r b s ∙ bind_complete _ _ r q whole d
 
 pub ruleset number_steps = number_is
 
 -- ---- behind the whole part
 
-pub whole_empty : (dated negative : Bool) (whole t : List ℕ) → eqb (length whole) 0 ≡ true → told (whole_at dated negative whole t) ≡ Err (ExpectedDigit, t)
+pub whole_empty : (dated negative : Bool) (whole t : List ℕ) → eqb (length whole) 0 ≡ true → located (whole_at dated negative whole t) ≡ Err (ExpectedDigit, t)
 unfolding whole_at fail
 whole_empty dated negative whole t e = rw e refl
 
-pub whole_digit : (dated negative : Bool) (whole t : List ℕ) → eqb (length whole) 0 ≡ false → Meets is_digit true t → told (whole_at dated negative whole t) ≡ Err (TooManyDigits, t)
+pub whole_digit : (dated negative : Bool) (whole t : List ℕ) → eqb (length whole) 0 ≡ false → NextIs is_digit true t → located (whole_at dated negative whole t) ≡ Err (TooManyDigits, t)
 unfolding whole_at fail
-whole_digit dated negative whole t e m = rw e (ap told (ahead_true _ _ _ t m))
+whole_digit dated negative whole t e m = rw e (ap located (ahead_true _ _ _ t m))
 
 pub whole_integer : (dated negative : Bool) (whole t : List ℕ) → eqb (length whole) 0 ≡ false → Apart is_digit t → Apart (byte 0x2e) t → whole_at dated negative whole t ≡ Ok (integer (signed negative (place_value whole)), t)
 unfolding whole_at give
 whole_integer dated negative whole t e m k = rw e (ahead_past _ _ _ t m ∙ ahead_past _ _ _ t k)
 
-pub whole_long : (dated negative : Bool) (whole t : List ℕ) → eqb (length whole) 0 ≡ false → Apart is_digit t → Meets (byte 0x2e) true t → ltb 12 (length whole) ≡ true → told (whole_at dated negative whole t) ≡ Err (TooManyDigitsBeforeDecimalPoint, t)
+pub whole_long : (dated negative : Bool) (whole t : List ℕ) → eqb (length whole) 0 ≡ false → Apart is_digit t → NextIs (byte 0x2e) true t → ltb 12 (length whole) ≡ true → located (whole_at dated negative whole t) ≡ Err (TooManyDigitsBeforeDecimalPoint, t)
 unfolding whole_at fail
 whole_long dated negative whole t e m k l =
     let long : whole_at dated negative whole t ≡ fail too_many_digits_before_decimal_point t = rw e (ahead_past _ _ _ t m ∙ ahead_true _ _ _ t k ∙ rw l refl) in
-    ap told long
+    ap located long
 
-pub whole_point : (dated negative : Bool) (whole t : List ℕ) → eqb (length whole) 0 ≡ false → Apart is_digit t → Meets (byte 0x2e) true t → ltb 12 (length whole) ≡ false → whole_at dated negative whole t ≡ point_at dated negative whole t
+pub whole_point : (dated negative : Bool) (whole t : List ℕ) → eqb (length whole) 0 ≡ false → Apart is_digit t → NextIs (byte 0x2e) true t → ltb 12 (length whole) ≡ false → whole_at dated negative whole t ≡ point_at dated negative whole t
 unfolding whole_at
 whole_point dated negative whole t e m k l = rw e (ahead_past _ _ _ t m ∙ ahead_true _ _ _ t k ∙ rw l refl)
 
@@ -73,56 +73,56 @@ pub ruleset whole_steps = (whole_empty, whole_digit, whole_integer, whole_long, 
 -- ---- at the point
 
 -- the byte that was skipped is the point
-at_point : (dated negative : Bool) (whole t r : List ℕ) → Meets (byte 0x2e) true t → Skips t r → point_at dated negative whole t ≡ at_start trailing_decimal_point t (fraction_at dated negative whole r)
+at_point : (dated negative : Bool) (whole t r : List ℕ) → NextIs (byte 0x2e) true t → Skips t r → point_at dated negative whole t ≡ at_start trailing_decimal_point t (fraction_at dated negative whole r)
 unfolding point_at back
 at_point dated negative whole t r m k =
     let same : m.0 ∷ m.1 ≡ k.0 ∷ r = sym m.2 ∙ k.1 in
     let after : m.1 ≡ r = cc in
     ap (at_start trailing_decimal_point t) (branch_true (byte 0x2e) _ _ t r (m.0, m.2 ∙ ap (λ (l : List ℕ). m.0 ∷ l) after, m.3))
 
-pub point_empty : (dated negative : Bool) (whole t r f q : List ℕ) → Meets (byte 0x2e) true t → Skips t r → up_to is_digit 3 r ≡ Ok (f, q) → eqb (length f) 0 ≡ true → told (point_at dated negative whole t) ≡ Err (TrailingDecimalPoint, t)
+pub point_empty : (dated negative : Bool) (whole t r f q : List ℕ) → NextIs (byte 0x2e) true t → Skips t r → up_to is_digit 3 r ≡ Ok (f, q) → eqb (length f) 0 ≡ true → located (point_at dated negative whole t) ≡ Err (TrailingDecimalPoint, t)
 unfolding fraction_at decimal_at give
 point_empty dated negative whole t r f q m k d e =
-    let inner : fraction_at dated negative whole r ≡ Ok (None, q) = bind_again _ _ r q f d ∙ rw e refl in
-    ap told (at_point dated negative whole t r m k ∙ ap (at_start trailing_decimal_point t) inner)
+    let inner : fraction_at dated negative whole r ≡ Ok (None, q) = bind_complete _ _ r q f d ∙ rw e refl in
+    ap located (at_point dated negative whole t r m k ∙ ap (at_start trailing_decimal_point t) inner)
 
-long_told : (dated : Bool) (q : List ℕ) (k t : List ℕ) → told (at_start trailing_decimal_point k (long_at dated q)) ≡ Err (TooManyDigitsAfterDecimalPoint, q)
+long_located : (dated : Bool) (q : List ℕ) (k t : List ℕ) → located (at_start trailing_decimal_point k (long_at dated q)) ≡ Err (TooManyDigitsAfterDecimalPoint, q)
 unfolding long_at fail ruled
-long_told true q k t = refl
-long_told false q k t = refl
+long_located true q k t = refl
+long_located false q k t = refl
 
-pub point_digit : (dated negative : Bool) (whole t r f q : List ℕ) → Meets (byte 0x2e) true t → Skips t r → up_to is_digit 3 r ≡ Ok (f, q) → eqb (length f) 0 ≡ false → Meets is_digit true q → told (point_at dated negative whole t) ≡ Err (TooManyDigitsAfterDecimalPoint, q)
+pub point_digit : (dated negative : Bool) (whole t r f q : List ℕ) → NextIs (byte 0x2e) true t → Skips t r → up_to is_digit 3 r ≡ Ok (f, q) → eqb (length f) 0 ≡ false → NextIs is_digit true q → located (point_at dated negative whole t) ≡ Err (TooManyDigitsAfterDecimalPoint, q)
 unfolding fraction_at decimal_at
 point_digit dated negative whole t r f q m k d e n =
-    let inner : fraction_at dated negative whole r ≡ long_at dated q = bind_again _ _ r q f d ∙ rw e (ahead_true _ _ _ q n) in
-    ap told (at_point dated negative whole t r m k ∙ ap (at_start trailing_decimal_point t) inner) ∙ long_told dated q t t
+    let inner : fraction_at dated negative whole r ≡ long_at dated q = bind_complete _ _ r q f d ∙ rw e (ahead_true _ _ _ q n) in
+    ap located (at_point dated negative whole t r m k ∙ ap (at_start trailing_decimal_point t) inner) ∙ long_located dated q t t
 
-pub point_decimal : (dated negative : Bool) (whole t r f q : List ℕ) → Meets (byte 0x2e) true t → Skips t r → up_to is_digit 3 r ≡ Ok (f, q) → eqb (length f) 0 ≡ false → Apart is_digit q → point_at dated negative whole t ≡ Ok (decimal (signed negative (place_value whole * 1000 + place_value f * 10 ^ (3 - length f))), q)
+pub point_decimal : (dated negative : Bool) (whole t r f q : List ℕ) → NextIs (byte 0x2e) true t → Skips t r → up_to is_digit 3 r ≡ Ok (f, q) → eqb (length f) 0 ≡ false → Apart is_digit q → point_at dated negative whole t ≡ Ok (decimal (signed negative (place_value whole * 1000 + place_value f * 10 ^ (3 - length f))), q)
 unfolding fraction_at decimal_at give
 point_decimal dated negative whole t r f q m k d e n =
     let value : BareValue = decimal (signed negative (place_value whole * 1000 + place_value f * 10 ^ (3 - length f))) in
-    let inner : fraction_at dated negative whole r ≡ Ok (Some value, q) = bind_again _ _ r q f d ∙ rw e (ahead_past _ _ _ q n) in
+    let inner : fraction_at dated negative whole r ≡ Ok (Some value, q) = bind_complete _ _ r q f d ∙ rw e (ahead_past _ _ _ q n) in
     at_point dated negative whole t r m k ∙ ap (at_start trailing_decimal_point t) inner
 
 pub ruleset point_steps = (point_empty, point_digit, point_decimal)
 
 -- ---- keys and tokens
 
-pub key_none : (t : List ℕ) → Apart is_key_start t → told (key_at t) ≡ Err (ExpectedStartOfKey, t)
+pub key_none : (t : List ℕ) → Apart is_key_start t → located (key_at t) ≡ Err (ExpectedStartOfKey, t)
 unfolding key_at fail
-key_none t m = ap told (branch_past _ _ _ t m)
+key_none t m = ap located (branch_past _ _ _ t m)
 
-pub token_none : (t : List ℕ) → Apart is_token_start t → told (token_at t) ≡ Err (ExpectedStartOfBareItem, t)
+pub token_none : (t : List ℕ) → Apart is_token_start t → located (token_at t) ≡ Err (ExpectedStartOfBareItem, t)
 unfolding token_at fail
-token_none t m = ap told (branch_past _ _ _ t m)
+token_none t m = ap located (branch_past _ _ _ t m)
 
 -- a byte stands at the index
-pub meets_within : (class : ℕ → Bool) (xs : List ℕ) (i : ℕ) → Meets class true (drop i xs) → i < length xs
+pub meets_within : (class : ℕ → Bool) (xs : List ℕ) (i : ℕ) → NextIs class true (drop i xs) → i < length xs
 meets_within class xs i m = let e = ap length m.2 in omega (arith, e, length-drop i xs)
 
 -- a byte of the first class stands at i, and so many of the second behind it, in t
 pub record IsTextAt (start inner : ℕ → Bool) (xs : List ℕ) (i len : ℕ) (t : List ℕ) : Type 0 where
-  pub head : Meets start true (drop i xs)
+  pub head : NextIs start true (drop i xs)
   pub behind : t ≡ drop (i + 1) xs
   pub each : RunOf inner (take len t)
   pub run : span inner t ≡ Ok (take len t, drop len t)
@@ -145,7 +145,7 @@ pub key_some : (xs t : List ℕ) (i len : ℕ) → IsTextAt is_key_start is_key_
 unfolding key_at give
 key_some xs t i len h =
     let s = text_split _ _ xs t i len h in
-    let all : key_at (get_or xs i 0 ∷ t) ≡ Ok (get_or xs i 0 ∷ take len t, drop len t) = branch_take _ _ _ (get_or xs i 0) t s.1 ∙ bind_again _ _ _ _ _ h.run in
+    let all : key_at (get_or xs i 0 ∷ t) ≡ Ok (get_or xs i 0 ∷ take len t, drop len t) = branch_take _ _ _ (get_or xs i 0) t s.1 ∙ bind_complete _ _ _ _ _ h.run in
     ap key_at s.2 ∙ all ∙ ap (λ (r : List ℕ). Ok (get_or xs i 0 ∷ take len t, r)) s.3 ∙ ap (λ (l : List ℕ). Ok (l, drop (i + 1 + len) xs)) (sym s.0)
 
 pub token_class : (xs t : List ℕ) (i len : ℕ) → IsTextAt is_token_start is_token_inner xs i len t → IsTrue (is_token (take ((i + 1 + len) - i) (drop i xs)))
@@ -155,7 +155,7 @@ pub token_some : (xs t : List ℕ) (i len : ℕ) → IsTextAt is_token_start is_
 unfolding token_at give
 token_some xs t i len h =
     let s = text_split _ _ xs t i len h in
-    let all : token_at (get_or xs i 0 ∷ t) ≡ Ok (token (get_or xs i 0 ∷ take len t), drop len t) = branch_take _ _ _ (get_or xs i 0) t s.1 ∙ bind_again _ _ _ _ _ h.run in
+    let all : token_at (get_or xs i 0 ∷ t) ≡ Ok (token (get_or xs i 0 ∷ take len t), drop len t) = branch_take _ _ _ (get_or xs i 0) t s.1 ∙ bind_complete _ _ _ _ _ h.run in
     ap token_at s.2 ∙ all ∙ ap (λ (r : List ℕ). Ok (token (get_or xs i 0 ∷ take len t), r)) s.3 ∙ ap (λ (l : List ℕ). Ok (token l, drop (i + 1 + len) xs)) (sym s.0)
 
 pub ruleset key_steps = (meets_within, key_none)
@@ -164,73 +164,73 @@ pub ruleset token_steps = (meets_within, token_none)
 
 -- ---- booleans
 
-pub boolean_false : (t r : List ℕ) → Takes (byte 0x30) true t r → boolean_at t ≡ Ok (boolean false, r)
+pub boolean_false : (t r : List ℕ) → TakesIf (byte 0x30) true t r → boolean_at t ≡ Ok (boolean false, r)
 unfolding boolean_at give
 boolean_false t r m = branch_true _ _ _ t r m
 
-pub boolean_true : (t r q : List ℕ) → Takes (byte 0x30) false t r → Takes (byte 0x31) true r q → boolean_at t ≡ Ok (boolean true, q)
+pub boolean_true : (t r q : List ℕ) → TakesIf (byte 0x30) false t r → TakesIf (byte 0x31) true r q → boolean_at t ≡ Ok (boolean true, q)
 unfolding boolean_at give
 boolean_true t r q m k = branch_false _ _ _ t r m ∙ branch_true _ _ _ r q k
 
-pub boolean_none : (t r q : List ℕ) → Takes (byte 0x30) false t r → Takes (byte 0x31) false r q → told (boolean_at t) ≡ Err (ExpectedBoolean, q)
+pub boolean_none : (t r q : List ℕ) → TakesIf (byte 0x30) false t r → TakesIf (byte 0x31) false r q → located (boolean_at t) ≡ Err (ExpectedBoolean, q)
 unfolding boolean_at fail
-boolean_none t r q m k = ap told (branch_false _ _ _ t r m ∙ branch_false _ _ _ r q k)
+boolean_none t r q m k = ap located (branch_false _ _ _ t r m ∙ branch_false _ _ _ r q k)
 
 pub ruleset boolean_steps = (boolean_false, boolean_true, boolean_none)
 
 -- ---- dates
 
-pub date_older : (t : List ℕ) → told (date_at rfc8941 t) ≡ Err (Rfc8941Date, t)
+pub date_older : (t : List ℕ) → located (date_at rfc8941 t) ≡ Err (Rfc8941Date, t)
 unfolding date_at fail
 date_older t = refl
 
-at_sign : (t r : List ℕ) → Meets (byte 0x40) true t → Skips t r → date_at rfc9651 t ≡ at_start non_integer_date t ((number_at true >>= λ v. give (as_date v)) r)
+at_sign : (t r : List ℕ) → NextIs (byte 0x40) true t → Skips t r → date_at rfc9651 t ≡ at_start non_integer_date t ((number_at true >>= λ v. give (as_date v)) r)
 unfolding date_at back
 at_sign t r m k =
     let same : m.0 ∷ m.1 ≡ k.0 ∷ r = sym m.2 ∙ k.1 in
     let after : m.1 ≡ r = cc in
     ap (at_start non_integer_date t) (branch_true (byte 0x40) _ _ t r (m.0, m.2 ∙ ap (λ (l : List ℕ). m.0 ∷ l) after, m.3))
 
-pub date_integer : (t r q : List ℕ) (z : ℤ) → Meets (byte 0x40) true t → Skips t r → number_at true r ≡ Ok (integer z, q) → date_at rfc9651 t ≡ Ok (date z, q)
+pub date_integer : (t r q : List ℕ) (z : ℤ) → NextIs (byte 0x40) true t → Skips t r → number_at true r ≡ Ok (integer z, q) → date_at rfc9651 t ≡ Ok (date z, q)
 unfolding give
-date_integer t r q z m k n = at_sign t r m k ∙ ap (at_start non_integer_date t) (bind_again _ _ r q (integer z) n)
+date_integer t r q z m k n = at_sign t r m k ∙ ap (at_start non_integer_date t) (bind_complete _ _ r q (integer z) n)
 
-pub date_decimal : (t r q : List ℕ) (z : ℤ) → Meets (byte 0x40) true t → Skips t r → number_at true r ≡ Ok (decimal z, q) → told (date_at rfc9651 t) ≡ Err (NonIntegerDate, t)
+pub date_decimal : (t r q : List ℕ) (z : ℤ) → NextIs (byte 0x40) true t → Skips t r → number_at true r ≡ Ok (decimal z, q) → located (date_at rfc9651 t) ≡ Err (NonIntegerDate, t)
 unfolding give
-date_decimal t r q z m k n = ap told (at_sign t r m k ∙ ap (at_start non_integer_date t) (bind_again _ _ r q (decimal z) n))
+date_decimal t r q z m k n = ap located (at_sign t r m k ∙ ap (at_start non_integer_date t) (bind_complete _ _ r q (decimal z) n))
 
-start_fault : (k t s : List ℕ) (o : Answer (Option BareValue)) (kind : ErrorKind) → told o ≡ Err (kind, s) → told (at_start non_integer_date t o) ≡ Err (kind, s)
+start_fault : (k t s : List ℕ) (o : Answer (Option BareValue)) (kind : ErrorKind) → located o ≡ Err (kind, s) → located (at_start non_integer_date t o) ≡ Err (kind, s)
 start_fault k t s (Ok x) kind h = absurd cc
 start_fault k t s (Err f) kind h = ap (λ (p : ErrorKind × List ℕ). Err p) cc
 
-date_faulty : (t r : List ℕ) (kind : ErrorKind) (s : List ℕ) → Meets (byte 0x40) true t → Skips t r → told (number_at true r) ≡ Err (kind, s) → told (date_at rfc9651 t) ≡ Err (kind, s)
-date_faulty t r kind s m k n = ap told (at_sign t r m k) ∙ start_fault t t s _ kind (fault_bind _ _ r kind s n)
+date_faulty : (t r : List ℕ) (kind : ErrorKind) (s : List ℕ) → NextIs (byte 0x40) true t → Skips t r → located (number_at true r) ≡ Err (kind, s) → located (date_at rfc9651 t) ≡ Err (kind, s)
+date_faulty t r kind s m k n = ap located (at_sign t r m k) ∙ start_fault t t s _ kind (fault_bind _ _ r kind s n)
 
-pub date_fault : (t r : List ℕ) (i j : Bor (List ℕ)) (e : Error) → Meets (byte 0x40) true t → Skips t r → i ≡ j → IsFaultOf i.now e (number_at true r) → IsFaultOf j.now e (date_at rfc9651 t)
+pub date_fault : (t r : List ℕ) (i j : Bor (List ℕ)) (e : Error) → NextIs (byte 0x40) true t → Skips t r → i ≡ j → IsFaultOf i.now e (number_at true r) → IsFaultOf j.now e (date_at rfc9651 t)
 date_fault t r i j e m k same h = subst (λ (i : Bor (List ℕ)). IsFaultOf i.now e (date_at rfc9651 t)) same (on e.index h)
   where
-    on : (o : Option ℕ) → MatchOption o ⊥ (λ index. (told (number_at true r) ≡ Err (e.kind, drop index i.now)) × (index ≤ length i.now)) → MatchOption o ⊥ (λ index. (told (date_at rfc9651 t) ≡ Err (e.kind, drop index i.now)) × (index ≤ length i.now))
+    on : (o : Option ℕ) → MatchOption o ⊥ (λ index. (located (number_at true r) ≡ Err (e.kind, drop index i.now)) × (index ≤ length i.now)) → MatchOption o ⊥ (λ index. (located (date_at rfc9651 t) ≡ Err (e.kind, drop index i.now)) × (index ≤ length i.now))
     on None h = h
     on (Some i) h = (date_faulty t r _ _ m k h.0, h.1)
 
 -- ---- display strings
 
-pub quoted_older : (t : List ℕ) → told (quoted_at rfc8941 t) ≡ Err (Rfc8941DisplayString, t)
+pub quoted_older : (t : List ℕ) → located (quoted_at rfc8941 t) ≡ Err (Rfc8941DisplayString, t)
 unfolding quoted_at fail
 quoted_older t = refl
 
-quoted_is : (t r : List ℕ) → Meets (byte 0x25) true t → Skips t r → quoted_at rfc9651 t ≡ branch (byte 0x22) (λ _. display_at >>= λ s. give (display_string s)) (fail expected_quote) r
+quoted_is : (t r : List ℕ) → NextIs (byte 0x25) true t → Skips t r → quoted_at rfc9651 t ≡ branch (byte 0x22) (λ _. display_at >>= λ s. give (display_string s)) (fail expected_quote) r
 unfolding quoted_at
 quoted_is t r m k =
     let same : m.0 ∷ m.1 ≡ k.0 ∷ r = sym m.2 ∙ k.1 in
     let after : m.1 ≡ r = cc in
     branch_true (byte 0x25) _ _ t r (m.0, m.2 ∙ ap (λ (l : List ℕ). m.0 ∷ l) after, m.3)
 
-pub quoted_no_quote : (t r q : List ℕ) → Meets (byte 0x25) true t → Skips t r → Takes (byte 0x22) false r q → told (quoted_at rfc9651 t) ≡ Err (ExpectedQuote, q)
+pub quoted_no_quote : (t r q : List ℕ) → NextIs (byte 0x25) true t → Skips t r → TakesIf (byte 0x22) false r q → located (quoted_at rfc9651 t) ≡ Err (ExpectedQuote, q)
 unfolding fail
-quoted_no_quote t r q m k n = ap told (quoted_is t r m k ∙ branch_false _ _ _ r q n)
+quoted_no_quote t r q m k n = ap located (quoted_is t r m k ∙ branch_false _ _ _ r q n)
 
-pub quoted_reads : (t r q : List ℕ) → Meets (byte 0x25) true t → Skips t r → Takes (byte 0x22) true r q → quoted_at rfc9651 t ≡ (display_at >>= λ s. give (display_string s)) q
+pub quoted_reads : (t r q : List ℕ) → NextIs (byte 0x25) true t → Skips t r → TakesIf (byte 0x22) true r q → quoted_at rfc9651 t ≡ (display_at >>= λ s. give (display_string s)) q
 quoted_reads t r q m k n = quoted_is t r m k ∙ branch_true _ _ _ r q n
 
 pub ruleset quoted_steps = quoted_older
@@ -239,21 +239,21 @@ pub ruleset date_steps = date_older
 
 -- ---- bare items
 
-pub bare_boolean : (edition : Edition) (t r : List ℕ) → Takes (byte 0x3f) true t r → bare_at edition t ≡ boolean_at r
+pub bare_boolean : (edition : Edition) (t r : List ℕ) → TakesIf (byte 0x3f) true t r → bare_at edition t ≡ boolean_at r
 unfolding bare_at
 bare_boolean edition t r m = branch_true _ _ _ t r m
 
-pub bare_string : (edition : Edition) (t r q : List ℕ) → Takes (byte 0x3f) false t r → Takes (byte 0x22) true r q → bare_at edition t ≡ (string_at >>= λ s. give (string s)) q
+pub bare_string : (edition : Edition) (t r q : List ℕ) → TakesIf (byte 0x3f) false t r → TakesIf (byte 0x22) true r q → bare_at edition t ≡ (string_at >>= λ s. give (string s)) q
 unfolding bare_at
 bare_string edition t r q m k = branch_false _ _ _ t r m ∙ branch_true _ _ _ r q k
 
 -- none of the first three openers stands next
 pub record NoOpener (t r q w : List ℕ) : Type 0 where
-  pub no_boolean : Takes (byte 0x3f) false t r
-  pub no_string : Takes (byte 0x22) false r q
-  pub no_bytes : Takes (byte 0x3a) false q w
+  pub no_boolean : TakesIf (byte 0x3f) false t r
+  pub no_string : TakesIf (byte 0x22) false r q
+  pub no_bytes : TakesIf (byte 0x3a) false q w
 
-pub bare_bytes : (edition : Edition) (t r q w : List ℕ) → Takes (byte 0x3f) false t r → Takes (byte 0x22) false r q → Takes (byte 0x3a) true q w → bare_at edition t ≡ (bytes_at >>= λ s. give (byte_sequence s)) w
+pub bare_bytes : (edition : Edition) (t r q w : List ℕ) → TakesIf (byte 0x3f) false t r → TakesIf (byte 0x22) false r q → TakesIf (byte 0x3a) true q w → bare_at edition t ≡ (bytes_at >>= λ s. give (byte_sequence s)) w
 unfolding bare_at
 bare_bytes edition t r q w m k n = branch_false _ _ _ t r m ∙ branch_false _ _ _ r q k ∙ branch_true _ _ _ q w n
 
@@ -264,15 +264,15 @@ bare_others : (edition : Edition) (t r q w : List ℕ) → NoOpener t r q w → 
 unfolding bare_at others
 bare_others edition t r q w h = branch_false _ _ _ t r h.no_boolean ∙ branch_false _ _ _ r q h.no_string ∙ branch_false _ _ _ q w h.no_bytes
 
-pub bare_date : (edition : Edition) (t r q w : List ℕ) → NoOpener t r q w → Meets (byte 0x40) true w → bare_at edition t ≡ date_at edition w
+pub bare_date : (edition : Edition) (t r q w : List ℕ) → NoOpener t r q w → NextIs (byte 0x40) true w → bare_at edition t ≡ date_at edition w
 unfolding others
 bare_date edition t r q w h m = bare_others edition t r q w h ∙ ahead_true _ _ _ w m
 
-pub bare_quoted : (edition : Edition) (t r q w : List ℕ) → NoOpener t r q w → Apart (byte 0x40) w → Meets (byte 0x25) true w → bare_at edition t ≡ quoted_at edition w
+pub bare_quoted : (edition : Edition) (t r q w : List ℕ) → NoOpener t r q w → Apart (byte 0x40) w → NextIs (byte 0x25) true w → bare_at edition t ≡ quoted_at edition w
 unfolding others
 bare_quoted edition t r q w h m k = bare_others edition t r q w h ∙ ahead_past _ _ _ w m ∙ ahead_true _ _ _ w k
 
-pub bare_number : (edition : Edition) (t r q w : List ℕ) → NoOpener t r q w → Apart (byte 0x40) w → Apart (byte 0x25) w → Meets is_number_start true w → bare_at edition t ≡ number_at false w
+pub bare_number : (edition : Edition) (t r q w : List ℕ) → NoOpener t r q w → Apart (byte 0x40) w → Apart (byte 0x25) w → NextIs is_number_start true w → bare_at edition t ≡ number_at false w
 unfolding others
 bare_number edition t r q w h m k n = bare_others edition t r q w h ∙ ahead_past _ _ _ w m ∙ ahead_past _ _ _ w k ∙ ahead_true _ _ _ w n
 
@@ -283,37 +283,37 @@ bare_token edition t r q w h m k n = bare_others edition t r q w h ∙ ahead_pas
 -- what is read of a part and then given on
 pub given : {A B : Type 0} (f : Reader A) (view : A → B) (t r : List ℕ) (v : A) → f t ≡ Ok (v, r) → (f >>= λ s. give (view s)) t ≡ Ok (view v, r)
 unfolding give
-given f view t r v e = bind_again f _ t r v e
+given f view t r v e = bind_complete f _ t r v e
 
 pub ruleset bare_steps = bare_boolean
 
 -- ---- parameters
 
-pub value_given : (edition : Edition) (t r : List ℕ) → Takes (byte 0x3d) true t r → value_at edition t ≡ bare_at edition r
+pub value_given : (edition : Edition) (t r : List ℕ) → TakesIf (byte 0x3d) true t r → value_at edition t ≡ bare_at edition r
 unfolding value_at
 value_given edition t r m = branch_true _ _ _ t r m
 
-pub value_left_out : (edition : Edition) (t r : List ℕ) → Takes (byte 0x3d) false t r → value_at edition t ≡ Ok (boolean true, r)
+pub value_left_out : (edition : Edition) (t r : List ℕ) → TakesIf (byte 0x3d) false t r → value_at edition t ≡ Ok (boolean true, r)
 unfolding value_at give
 value_left_out edition t r m = branch_false _ _ _ t r m
 
 pub ruleset value_steps = (value_given, value_left_out)
 
-pub parameter_none : (edition : Edition) (t r : List ℕ) → Takes (byte 0x3b) false t r → parameter_at edition t ≡ Ok (None, r)
+pub parameter_none : (edition : Edition) (t r : List ℕ) → TakesIf (byte 0x3b) false t r → parameter_at edition t ≡ Ok (None, r)
 unfolding parameter_at give
 parameter_none edition t r m = branch_false _ _ _ t r m
 
 -- behind the semicolon and spaces
-pub parameter_is : (edition : Edition) (t r s q : List ℕ) → Takes (byte 0x3b) true t r → span is_space r ≡ Ok (s, q) → parameter_at edition t ≡ (key_at >>= λ key. value_at edition >>= λ v. give (Some (key, v))) q
+pub parameter_is : (edition : Edition) (t r s q : List ℕ) → TakesIf (byte 0x3b) true t r → span is_space r ≡ Ok (s, q) → parameter_at edition t ≡ (key_at >>= λ key. value_at edition >>= λ v. give (Some (key, v))) q
 unfolding parameter_at
-parameter_is edition t r s q m i = branch_true _ _ _ t r m ∙ bind_again _ _ r q s i
+parameter_is edition t r s q m i = branch_true _ _ _ t r m ∙ bind_complete _ _ r q s i
 
-pub parameter_keyed : (edition : Edition) (t r s q key w : List ℕ) → Takes (byte 0x3b) true t r → span is_space r ≡ Ok (s, q) → key_at q ≡ Ok (key, w) → parameter_at edition t ≡ (value_at edition >>= λ v. give (Some (key, v))) w
-parameter_keyed edition t r s q key w m i k = parameter_is edition t r s q m i ∙ bind_again _ _ q w key k
+pub parameter_keyed : (edition : Edition) (t r s q key w : List ℕ) → TakesIf (byte 0x3b) true t r → span is_space r ≡ Ok (s, q) → key_at q ≡ Ok (key, w) → parameter_at edition t ≡ (value_at edition >>= λ v. give (Some (key, v))) w
+parameter_keyed edition t r s q key w m i k = parameter_is edition t r s q m i ∙ bind_complete _ _ q w key k
 
-pub parameter_some : (edition : Edition) (t r s q key w x : List ℕ) (v : BareValue) → Takes (byte 0x3b) true t r → span is_space r ≡ Ok (s, q) → key_at q ≡ Ok (key, w) → value_at edition w ≡ Ok (v, x) → parameter_at edition t ≡ Ok (Some (key, v), x)
+pub parameter_some : (edition : Edition) (t r s q key w x : List ℕ) (v : BareValue) → TakesIf (byte 0x3b) true t r → span is_space r ≡ Ok (s, q) → key_at q ≡ Ok (key, w) → value_at edition w ≡ Ok (v, x) → parameter_at edition t ≡ Ok (Some (key, v), x)
 unfolding give
-parameter_some edition t r s q key w x v m i k e = parameter_keyed edition t r s q key w m i k ∙ bind_again _ _ w x v e
+parameter_some edition t r s q key w x v m i k e = parameter_keyed edition t r s q key w m i k ∙ bind_complete _ _ w x v e
 
 pub ruleset parameter_steps = parameter_none
 
@@ -327,14 +327,14 @@ pub item_is : (edition : Edition) (t : List ℕ) → item_at edition t ≡ (bare
 unfolding item_at item_behind
 item_is edition t = refl
 
-told_led : {A : Type 0} (es : List TreeEvent) (a : Answer A) → told (led_answer es a) ≡ told a
-told_led es (Ok x) = refl
-told_led es (Err f) = refl
+located_led : {A : Type 0} (es : List TreeEvent) (a : Answer A) → located (led_answer es a) ≡ located a
+located_led es (Ok x) = refl
+located_led es (Err f) = refl
 
-pub item_told : (edition : Edition) (t r : List ℕ) (bare : BareValue) → bare_at edition t ≡ Ok (bare, r) → told (item_at edition t) ≡ told ((parameters_at edition >>= λ ps. give (item_of bare ps)) r)
+pub item_located : (edition : Edition) (t r : List ℕ) (bare : BareValue) → bare_at edition t ≡ Ok (bare, r) → located (item_at edition t) ≡ located ((parameters_at edition >>= λ ps. give (item_of bare ps)) r)
 unfolding item_behind led
-item_told edition t r bare e = ap told (item_is edition t ∙ bind_again (bare_at edition) (item_behind edition) t r bare e) ∙ told_led (bare_item bare ∷ []) ((parameters_at edition >>= λ ps. give (item_of bare ps)) r)
+item_located edition t r bare e = ap located (item_is edition t ∙ bind_complete (bare_at edition) (item_behind edition) t r bare e) ∙ located_led (bare_item bare ∷ []) ((parameters_at edition >>= λ ps. give (item_of bare ps)) r)
 
 pub item_some : (edition : Edition) (t r q : List ℕ) (bare : BareValue) (ps : RawParameters) → bare_at edition t ≡ Ok (bare, r) → parameters_at edition r ≡ Ok (ps, q) → item_at edition t ≡ Ok (item_of bare ps, q)
 unfolding item_behind give
-item_some edition t r q bare ps e k = item_is edition t ∙ bind_again (bare_at edition) (item_behind edition) t r bare e ∙ led_again (bare_item bare ∷ []) (parameters_at edition >>= λ ps. give (item_of bare ps)) r q (item_of bare ps) (bind_again _ _ r q ps k)
+item_some edition t r q bare ps e k = item_is edition t ∙ bind_complete (bare_at edition) (item_behind edition) t r bare e ∙ led_complete (bare_item bare ∷ []) (parameters_at edition >>= λ ps. give (item_of bare ps)) r q (item_of bare ps) (bind_complete _ _ r q ps k)

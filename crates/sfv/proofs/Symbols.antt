@@ -5,7 +5,7 @@ use Rattle.std.proofs.lemmas.Bool.{agree_below_at, eqb-true, ltb-true}
 use Rattle.sfv.specs.declared.parser.symbols.TheConstants.{VALUES}
 use Rattle.sfv_spec.specs.Base64.{is_symbol}
 use Rattle.sfv_reading.specs.Content.{symbol_value}
-use Rattle.sfv_reading.proofs.Shape.{value_within}
+use Rattle.sfv_reading.proofs.base64.Shape.{value_within}
 
 pub table_symbol : (c : ℕ) → c < 256 → not (get_or VALUES c 0 == 255) ≡ is_symbol c
 unfolding is_symbol

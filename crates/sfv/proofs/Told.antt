@@ -9,20 +9,20 @@ use Rattle.sfv_spec.specs.Visiting.{RunsTo}
 use Rattle.sfv_base.specs.declared.error.Error.{Error}
 use Rattle.sfv_base.specs.declared.error.ErrorKind.{ErrorKind}
 use Rattle.sfv_base.specs.declared.error.ErrorKind.TheVariants.{OutOfMemory}
-use Rattle.sfv_reading.specs.Reader.{Answer, handed, and_then, bind, give, ◌>>=◌}
+use Rattle.sfv_reading.specs.Reader.{Answer, visited, and_then, bind, give, ◌>>=◌}
 use Rattle.sfv_reading.specs.Bare.{bare_at}
 use Rattle.sfv_reading.specs.Items.{parameter_event, parameter_at, parameters_at, item_at, item_of}
-use Rattle.sfv_reading.specs.Visits.{Refused}
-use Rattle.sfv_reading.proofs.Many.{in_front, starts, goes_on, is_done, is_faulty}
-use Rattle.sfv_reading.proofs.Items.{Consumes-parameter}
-use Rattle.sfv_reading.proofs.Handed.{handed_then}
+use Rattle.sfv_reading.specs.Visits.{VisitorFails}
+use Rattle.sfv_reading.proofs.sound.Many.{in_front, starts, goes_on, is_done, is_faulty}
+use Rattle.sfv_reading.proofs.sound.Items.{Consumes-parameter}
+use Rattle.sfv_reading.proofs.visits.Parts.{visited_then}
 use Rattle.sfv_base.specs.declared.error.ParseError.{ParseError}
 use Rattle.sfv_base.specs.declared.error.ParseError.TheVariants.{Syntax, Visitor}
 use Rattle.sfv.specs.declared.parser.cursor.Cursor.{Cursor}
-use Rattle.sfv.specs.Cursor.{rest, told, IsErrorOf}
-use Rattle.sfv.specs.Visits.{Tells}
-use Rattle.sfv.proofs.Errors.{ErrorOf-part, ErrorOf-told}
-use Rattle.sfv.proofs.Steps.{item_told, item_some}
+use Rattle.sfv.specs.Cursor.{rest, located, IsErrorOf}
+use Rattle.sfv.specs.Visits.{Visits}
+use Rattle.sfv.proofs.Errors.{ErrorOf-part, ErrorOf-located}
+use Rattle.sfv.proofs.Steps.{item_located, item_some}
 
 -- one run behind another
 pub runs_on : {S : Type 0} (takes : S → TreeEvent → S → Type 0) (es fs : List TreeEvent) (from middle to : S) → RunsTo takes from es middle → RunsTo takes middle fs to → RunsTo takes from (es ++ fs) to
@@ -34,90 +34,90 @@ abbrev pub pair_events : RawParameters → List TreeEvent
 pair_events raw = map (λ p. parameter p.0 p.1) raw
 
 -- these are the parameters that were read between start and now, and the visitor has taken them
-pub record ToldParameters {S : Type 0} (takes : S → TreeEvent → S → Type 0) (edition : Edition) (start now : List ℕ) (from to : S) : Type 0 where
+pub record VisitedParameters {S : Type 0} (takes : S → TreeEvent → S → Type 0) (edition : Edition) (start now : List ℕ) (from to : S) : Type 0 where
   pub raw : RawParameters
   pub so_far : in_front parameter_event raw (parameters_at edition now) ≡ parameters_at edition start
   pub taken : RunsTo takes from (pair_events raw) to
 
-pub told_none : {S : Type 0} (takes : S → TreeEvent → S → Type 0) (edition : Edition) (start : List ℕ) (from : S) → ToldParameters takes edition start start from from
-told_none takes edition start from = record { raw = []; so_far = starts parameter_event (parameters_at edition start); taken = refl }
+pub visited_none : {S : Type 0} (takes : S → TreeEvent → S → Type 0) (edition : Edition) (start : List ℕ) (from : S) → VisitedParameters takes edition start start from from
+visited_none takes edition start from = record { raw = []; so_far = starts parameter_event (parameters_at edition start); taken = refl }
 
-pub told_more : {S : Type 0} (takes : S → TreeEvent → S → Type 0) (edition : Edition) (start now r k : List ℕ) (v : BareValue) (from middle to : S) → ToldParameters takes edition start now from middle → parameter_at edition now ≡ Ok (Some (k, v), r) → takes middle (parameter k v) to → ToldParameters takes edition start r from to
+pub visited_more : {S : Type 0} (takes : S → TreeEvent → S → Type 0) (edition : Edition) (start now r k : List ℕ) (v : BareValue) (from middle to : S) → VisitedParameters takes edition start now from middle → parameter_at edition now ≡ Ok (Some (k, v), r) → takes middle (parameter k v) to → VisitedParameters takes edition start r from to
 unfolding parameters_at
-told_more takes edition start now r k v from middle to h read taken = record {
+visited_more takes edition start now r k v from middle to h read taken = record {
   raw = h.raw ++ (k, v) ∷ [];
   so_far = goes_on parameter_event (parameter_at edition) (Consumes-parameter edition) h.raw (k, v) now r (parameters_at edition start) read h.so_far;
   taken = subst (λ es. RunsTo takes from es to) (sym (map-append (λ (p : List ℕ × BareValue). parameter p.0 p.1) h.raw ((k, v) ∷ []))) (runs_on takes (pair_events h.raw) (parameter k v ∷ []) from middle to h.taken (to, taken, refl));
 }
 
-pub told_all : {S : Type 0} (takes : S → TreeEvent → S → Type 0) (edition : Edition) (start now r : List ℕ) (from middle to : S) (h : ToldParameters takes edition start now from middle) → parameter_at edition now ≡ Ok (None, r) → takes middle parameters_end to → (parameters_at edition start ≡ Ok (h.raw, r)) × RunsTo takes from (parameters_events h.raw) to
+pub visited_all : {S : Type 0} (takes : S → TreeEvent → S → Type 0) (edition : Edition) (start now r : List ℕ) (from middle to : S) (h : VisitedParameters takes edition start now from middle) → parameter_at edition now ≡ Ok (None, r) → takes middle parameters_end to → (parameters_at edition start ≡ Ok (h.raw, r)) × RunsTo takes from (parameters_events h.raw) to
 unfolding parameters_at
-told_all takes edition start now r from middle to h read taken = (
+visited_all takes edition start now r from middle to h read taken = (
   is_done parameter_event (parameter_at edition) (Consumes-parameter edition) h.raw now r (parameters_at edition start) read h.so_far,
   runs_on takes (pair_events h.raw) (parameters_end ∷ []) from middle to h.taken (to, taken, refl),
 )
 
--- what is handed out behind parameters that stand in front
+-- what is visited behind parameters that stand in front
 front_events : (front : RawParameters) → flat_map parameter_event front ≡ pair_events front
 front_events [] = refl
 front_events (p ∷ front) = ap (λ (es : List TreeEvent). parameter p.0 p.1 ∷ es) (front_events front)
 
-front_handed : (front : RawParameters) (a : Answer RawParameters) → (more : List TreeEvent) × (handed parameters_events (in_front parameter_event front a) ≡ pair_events front ++ more)
-front_handed front (Ok x) =
+front_visited : (front : RawParameters) (a : Answer RawParameters) → (more : List TreeEvent) × (visited parameters_events (in_front parameter_event front a) ≡ pair_events front ++ more)
+front_visited front (Ok x) =
     (pair_events x.0 ++ parameters_end ∷ [], ap (λ (es : List TreeEvent). es ++ parameters_end ∷ []) (map-append (λ (p : List ℕ × BareValue). parameter p.0 p.1) front x.0) ∙ append_assoc (pair_events front) (pair_events x.0) (parameters_end ∷ []))
-front_handed front (Err e) = (e.events, ap (λ (es : List TreeEvent). es ++ e.events) (front_events front))
+front_visited front (Err e) = (e.events, ap (λ (es : List TreeEvent). es ++ e.events) (front_events front))
 
--- the visitor refused a parameter
-pub told_refused : {S E : Type 0} (takes : S → TreeEvent → S → Type 0) (refuses : S → TreeEvent → E → Type 0) (edition : Edition) (start now r k : List ℕ) (v : BareValue) (from middle : S) (fault : E) → ToldParameters takes edition start now from middle → parameter_at edition now ≡ Ok (Some (k, v), r) → refuses middle (parameter k v) fault → Refused takes refuses parameters_events (parameters_at edition start) from fault
+-- the visitor failed a parameter
+pub located_failed : {S E : Type 0} (takes : S → TreeEvent → S → Type 0) (fails : S → TreeEvent → E → Type 0) (edition : Edition) (start now r k : List ℕ) (v : BareValue) (from middle : S) (fault : E) → VisitedParameters takes edition start now from middle → parameter_at edition now ≡ Ok (Some (k, v), r) → fails middle (parameter k v) fault → VisitorFails takes fails parameters_events (parameters_at edition start) from fault
 unfolding parameters_at
-told_refused takes refuses edition start now r k v from middle fault h read refused =
+located_failed takes fails edition start now r k v from middle fault h read failed =
     let whole = goes_on parameter_event (parameter_at edition) (Consumes-parameter edition) h.raw (k, v) now r (parameters_at edition start) read h.so_far in
-    let more = front_handed (h.raw ++ (k, v) ∷ []) (parameters_at edition r) in
+    let more = front_visited (h.raw ++ (k, v) ∷ []) (parameters_at edition r) in
     record {
       before = pair_events h.raw;
       e = parameter k v;
       after = more.0;
       s = middle;
-      all = ap (handed parameters_events) (sym whole) ∙ more.1 ∙ ap (λ (es : List TreeEvent). es ++ more.0) (map-append (λ (p : List ℕ × BareValue). parameter p.0 p.1) h.raw ((k, v) ∷ [])) ∙ append_assoc (pair_events h.raw) (parameter k v ∷ []) more.0;
+      all = ap (visited parameters_events) (sym whole) ∙ more.1 ∙ ap (λ (es : List TreeEvent). es ++ more.0) (map-append (λ (p : List ℕ × BareValue). parameter p.0 p.1) h.raw ((k, v) ∷ [])) ∙ append_assoc (pair_events h.raw) (parameter k v ∷ []) more.0;
       taken = h.taken;
-      refused = refused;
+      failed = failed;
     }
 
--- the visitor refused their end
-pub told_end_refused : {S E : Type 0} (takes : S → TreeEvent → S → Type 0) (refuses : S → TreeEvent → E → Type 0) (edition : Edition) (start now r : List ℕ) (from middle : S) (fault : E) → ToldParameters takes edition start now from middle → parameter_at edition now ≡ Ok (None, r) → refuses middle parameters_end fault → Refused takes refuses parameters_events (parameters_at edition start) from fault
+-- the visitor failed their end
+pub located_end_failed : {S E : Type 0} (takes : S → TreeEvent → S → Type 0) (fails : S → TreeEvent → E → Type 0) (edition : Edition) (start now r : List ℕ) (from middle : S) (fault : E) → VisitedParameters takes edition start now from middle → parameter_at edition now ≡ Ok (None, r) → fails middle parameters_end fault → VisitorFails takes fails parameters_events (parameters_at edition start) from fault
 unfolding parameters_at
-told_end_refused takes refuses edition start now r from middle fault h read refused = record {
+located_end_failed takes fails edition start now r from middle fault h read failed = record {
   before = pair_events h.raw;
   e = parameters_end;
   after = [];
   s = middle;
-  all = ap (handed parameters_events) (is_done parameter_event (parameter_at edition) (Consumes-parameter edition) h.raw now r (parameters_at edition start) read h.so_far);
+  all = ap (visited parameters_events) (is_done parameter_event (parameter_at edition) (Consumes-parameter edition) h.raw now r (parameters_at edition start) read h.so_far);
   taken = h.taken;
-  refused = refused;
+  failed = failed;
 }
 
-faulty_told : (edition : Edition) (start now : List ℕ) (raw : RawParameters) (k : ErrorKind) (r : List ℕ) → in_front parameter_event raw (parameters_at edition now) ≡ parameters_at edition start → told (parameter_at edition now) ≡ Err (k, r) → told (parameters_at edition start) ≡ Err (k, r)
+faulty_located : (edition : Edition) (start now : List ℕ) (raw : RawParameters) (k : ErrorKind) (r : List ℕ) → in_front parameter_event raw (parameters_at edition now) ≡ parameters_at edition start → located (parameter_at edition now) ≡ Err (k, r) → located (parameters_at edition start) ≡ Err (k, r)
 unfolding parameters_at
-faulty_told edition start now raw k r so_far = on (parameter_at edition now) refl
+faulty_located edition start now raw k r so_far = on (parameter_at edition now) refl
   where
-    on : (a : Answer (Option (List ℕ × BareValue))) → parameter_at edition now ≡ a → told a ≡ Err (k, r) → told (parameters_at edition start) ≡ Err (k, r)
+    on : (a : Answer (Option (List ℕ × BareValue))) → parameter_at edition now ≡ a → located a ≡ Err (k, r) → located (parameters_at edition start) ≡ Err (k, r)
     on (Ok x) e q = absurd cc
-    on (Err f) e q = ap told (is_faulty parameter_event (parameter_at edition) (Consumes-parameter edition) raw now f (parameters_at edition start) e so_far) ∙ ap (λ (p : ErrorKind × List ℕ). Err p) cc
+    on (Err f) e q = ap located (is_faulty parameter_event (parameter_at edition) (Consumes-parameter edition) raw now f (parameters_at edition start) e so_far) ∙ ap (λ (p : ErrorKind × List ℕ). Err p) cc
 
 -- a fault of one parameter is the fault of the loop
-pub told_error : {S : Type 0} (takes : S → TreeEvent → S → Type 0) (edition : Edition) (start now : List ℕ) (from middle : S) (i j : Bor (List ℕ)) (e : Error) → i ≡ j → ToldParameters takes edition start now from middle → IsErrorOf i.now e (parameter_at edition now) → IsErrorOf j.now e (parameters_at edition start)
-told_error takes edition start now from middle i j e same h error = subst (λ (i : Bor (List ℕ)). IsErrorOf i.now e (parameters_at edition start)) same (on e.index error)
+pub visited_error : {S : Type 0} (takes : S → TreeEvent → S → Type 0) (edition : Edition) (start now : List ℕ) (from middle : S) (i j : Bor (List ℕ)) (e : Error) → i ≡ j → VisitedParameters takes edition start now from middle → IsErrorOf i.now e (parameter_at edition now) → IsErrorOf j.now e (parameters_at edition start)
+visited_error takes edition start now from middle i j e same h error = subst (λ (i : Bor (List ℕ)). IsErrorOf i.now e (parameters_at edition start)) same (on e.index error)
   where
-    on : (o : Option ℕ) → MatchOption o (e.kind ≡ OutOfMemory) (λ index. (told (parameter_at edition now) ≡ Err (e.kind, drop index i.now)) × (index ≤ length i.now)) → MatchOption o (e.kind ≡ OutOfMemory) (λ index. (told (parameters_at edition start) ≡ Err (e.kind, drop index i.now)) × (index ≤ length i.now))
+    on : (o : Option ℕ) → MatchOption o (e.kind ≡ OutOfMemory) (λ index. (located (parameter_at edition now) ≡ Err (e.kind, drop index i.now)) × (index ≤ length i.now)) → MatchOption o (e.kind ≡ OutOfMemory) (λ index. (located (parameters_at edition start) ≡ Err (e.kind, drop index i.now)) × (index ≤ length i.now))
     on None q = q
-    on (Some n) q = (faulty_told edition start now h.raw _ _ h.so_far q.0, q.1)
+    on (Some n) q = (faulty_located edition start now h.raw _ _ h.so_far q.0, q.1)
 
 -- ---- items
 
-given_handed : (b : BareValue) (a : Answer RawParameters) → handed (λ (i : RawItem). parameters_events i.parameters) (and_then a (λ ps. give (item_of b ps))) ≡ handed parameters_events a
+given_visited : (b : BareValue) (a : Answer RawParameters) → visited (λ (i : RawItem). parameters_events i.parameters) (and_then a (λ ps. give (item_of b ps))) ≡ visited parameters_events a
 unfolding give
-given_handed b (Ok x) = refl
-given_handed b (Err e) = refl
+given_visited b (Ok x) = refl
+given_visited b (Err e) = refl
 
 given_events : (b : BareValue) (a : Answer RawParameters) (w : RawItem) (r : List ℕ) → and_then a (λ ps. give (item_of b ps)) ≡ Ok (w, r) → item_events w ≡ (bare_item b ∷ []) ++ parameters_events w.parameters
 unfolding give
@@ -128,40 +128,40 @@ given_events b (Ok x) w r e =
     ap (λ (p : RawItem × List ℕ). bare_item p.0.bare ∷ parameters_events w.parameters) (sym same)
 given_events b (Err f) w r e = absurd cc
 
-item_handed : (edition : Edition) (t q : List ℕ) (b : BareValue) → bare_at edition t ≡ Ok (b, q) → handed item_events (item_at edition t) ≡ bare_item b ∷ handed parameters_events (parameters_at edition q)
+item_visited : (edition : Edition) (t q : List ℕ) (b : BareValue) → bare_at edition t ≡ Ok (b, q) → visited item_events (item_at edition t) ≡ bare_item b ∷ visited parameters_events (parameters_at edition q)
 unfolding item_at bind
-item_handed edition t q b e =
-    handed_then (bare_at edition) (λ bare. parameters_at edition >>= λ ps. give (item_of bare ps)) (λ bare. bare_item bare ∷ []) item_events (λ i. parameters_events i.parameters) t q b e (given_events b (parameters_at edition q))
-    ∙ ap (λ (es : List TreeEvent). bare_item b ∷ es) (given_handed b (parameters_at edition q))
+item_visited edition t q b e =
+    visited_then (bare_at edition) (λ bare. parameters_at edition >>= λ ps. give (item_of bare ps)) (λ bare. bare_item bare ∷ []) item_events (λ i. parameters_events i.parameters) t q b e (given_events b (parameters_at edition q))
+    ∙ ap (λ (es : List TreeEvent). bare_item b ∷ es) (given_visited b (parameters_at edition q))
 
--- the visitor refused the bare item
-pub bare_refused : {S E : Type 0} (takes : S → TreeEvent → S → Type 0) (refuses : S → TreeEvent → E → Type 0) (edition : Edition) (t q : List ℕ) (b : BareValue) (from : S) (fault : E) → bare_at edition t ≡ Ok (b, q) → refuses from (bare_item b) fault → Refused takes refuses item_events (item_at edition t) from fault
-bare_refused takes refuses edition t q b from fault e refused = record {
+-- the visitor failed the bare item
+pub bare_failed : {S E : Type 0} (takes : S → TreeEvent → S → Type 0) (fails : S → TreeEvent → E → Type 0) (edition : Edition) (t q : List ℕ) (b : BareValue) (from : S) (fault : E) → bare_at edition t ≡ Ok (b, q) → fails from (bare_item b) fault → VisitorFails takes fails item_events (item_at edition t) from fault
+bare_failed takes fails edition t q b from fault e failed = record {
   before = [];
   e = bare_item b;
-  after = handed parameters_events (parameters_at edition q);
+  after = visited parameters_events (parameters_at edition q);
   s = from;
-  all = item_handed edition t q b e;
+  all = item_visited edition t q b e;
   taken = refl;
-  refused = refused;
+  failed = failed;
 }
 
--- the visitor refused a parameter of it, or their end
-pub parameters_refused : {S E : Type 0} (takes : S → TreeEvent → S → Type 0) (refuses : S → TreeEvent → E → Type 0) (edition : Edition) (t q : List ℕ) (b : BareValue) (from middle : S) (fault : E) → bare_at edition t ≡ Ok (b, q) → takes from (bare_item b) middle → Refused takes refuses parameters_events (parameters_at edition q) middle fault → Refused takes refuses item_events (item_at edition t) from fault
-parameters_refused takes refuses edition t q b from middle fault e taken r = record {
+-- the visitor failed a parameter of it, or their end
+pub parameters_failed : {S E : Type 0} (takes : S → TreeEvent → S → Type 0) (fails : S → TreeEvent → E → Type 0) (edition : Edition) (t q : List ℕ) (b : BareValue) (from middle : S) (fault : E) → bare_at edition t ≡ Ok (b, q) → takes from (bare_item b) middle → VisitorFails takes fails parameters_events (parameters_at edition q) middle fault → VisitorFails takes fails item_events (item_at edition t) from fault
+parameters_failed takes fails edition t q b from middle fault e taken r = record {
   before = bare_item b ∷ r.before;
   e = r.e;
   after = r.after;
   s = r.s;
-  all = item_handed edition t q b e ∙ ap (λ (es : List TreeEvent). bare_item b ∷ es) r.all;
+  all = item_visited edition t q b e ∙ ap (λ (es : List TreeEvent). bare_item b ∷ es) r.all;
   taken = (middle, taken, r.taken);
-  refused = r.refused;
+  failed = r.failed;
 }
 
 -- an item, by its bare item and the parameters behind it
-pub item_tells : {S E : Type 0} (takes : S → TreeEvent → S → Type 0) (refuses : S → TreeEvent → E → Type 0) (edition : Edition) (t q : List ℕ) (b : BareValue) (from middle to : S) (i j : Bor (List ℕ)) (after : Cursor) (r : Result (Unit {0}) (ParseError E)) → i ≡ j → bare_at edition t ≡ Ok (b, q) → takes from (bare_item b) middle
-    → Tells takes refuses parameters_events i after middle to r (parameters_at edition q) → Tells takes refuses item_events j after from to r (item_at edition t)
-item_tells takes refuses edition t q b from middle to i j after (Ok u) same e taken h = (item_of b h.0, item_some edition t q (rest after) b h.0 e h.1, (middle, taken, h.2), h.3 ∙ same)
-item_tells takes refuses edition t q b from middle to i j after (Err (Syntax error)) same e taken h =
-    ErrorOf-told j.now error _ _ (item_told edition t q b e) (ErrorOf-part i j error (parameters_at edition) (λ ps. give (item_of b ps)) q _ same refl h)
-item_tells takes refuses edition t q b from middle to i j after (Err (Visitor fault)) same e taken h = parameters_refused takes refuses edition t q b from middle fault e taken h
+pub item_visits : {S E : Type 0} (takes : S → TreeEvent → S → Type 0) (fails : S → TreeEvent → E → Type 0) (edition : Edition) (t q : List ℕ) (b : BareValue) (from middle to : S) (i j : Bor (List ℕ)) (after : Cursor) (r : Result (Unit {0}) (ParseError E)) → i ≡ j → bare_at edition t ≡ Ok (b, q) → takes from (bare_item b) middle
+    → Visits takes fails parameters_events i after middle to r (parameters_at edition q) → Visits takes fails item_events j after from to r (item_at edition t)
+item_visits takes fails edition t q b from middle to i j after (Ok u) same e taken h = (item_of b h.0, item_some edition t q (rest after) b h.0 e h.1, (middle, taken, h.2), h.3 ∙ same)
+item_visits takes fails edition t q b from middle to i j after (Err (Syntax error)) same e taken h =
+    ErrorOf-located j.now error _ _ (item_located edition t q b e) (ErrorOf-part i j error (parameters_at edition) (λ ps. give (item_of b ps)) q _ same refl h)
+item_visits takes fails edition t q b from middle to i j after (Err (Visitor fault)) same e taken h = parameters_failed takes fails edition t q b from middle fault e taken h

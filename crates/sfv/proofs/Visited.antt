@@ -6,7 +6,7 @@ use Rattle.sfv_spec.specs.Classes.{is_space}
 use Rattle.sfv_spec.specs.Values.{Edition, FieldKind, item_field, list_field, dictionary_field, RawField, RawItem, IsFieldValue}
 use Rattle.sfv_spec.specs.Grammar.{IsFieldText}
 use Rattle.sfv_spec.specs.Events.{TreeEvent, events, item_events}
-use Rattle.sfv_spec.specs.Visiting.{RunsTo, IsRefused, IsRefusedEarly}
+use Rattle.sfv_spec.specs.Visiting.{RunsTo, IsVisitorError, IsEarlyVisitorError}
 use Rattle.sfv_spec.proofs.Valid.{accepted_is_value_lem}
 use Rattle.sfv_base.specs.declared.error.Error.{Error}
 use Rattle.sfv_base.specs.declared.error.ErrorKind.{ErrorKind}
@@ -14,57 +14,57 @@ use Rattle.sfv_base.specs.declared.error.ErrorKind.TheVariants.{OutOfMemory}
 use Rattle.sfv_base.specs.Errors.{kind_of, index_of}
 use Rattle.sfv_base.specs.declared.error.ParseError.{ParseError}
 use Rattle.sfv_base.specs.declared.error.ParseError.TheVariants.{Syntax, Visitor}
-use Rattle.sfv_reading.specs.Reader.{Answer, Fault, and_then, bind, give, span, handed, ◌>>=◌}
+use Rattle.sfv_reading.specs.Reader.{Answer, Fault, and_then, bind, give, span, visited, ◌>>=◌}
 use Rattle.sfv_reading.specs.Items.{item_at}
 use Rattle.sfv_reading.specs.Fields.{whole_field_at, ending, read_field}
 use Rattle.sfv_reading.specs.Judgements.{Reached}
-use Rattle.sfv_reading.specs.Visits.{Refused}
-use Rattle.sfv_reading.proofs.Again.{bind_again}
-use Rattle.sfv_reading.proofs.Sound.{Somewhere}
-use Rattle.sfv_reading.proofs.Fields.{FieldGoes, Sound-field}
+use Rattle.sfv_reading.specs.Visits.{VisitorFails}
+use Rattle.sfv_reading.proofs.complete.Combinators.{bind_complete}
+use Rattle.sfv_reading.proofs.sound.Combinators.{Somewhere}
+use Rattle.sfv_reading.proofs.sound.Fields.{FieldGoes, Sound-field}
 use Rattle.sfv_reading.proofs.Theorems.{read_is_accepted}
-use Rattle.sfv_reading.proofs.Told.{handed_begins, refused_begins}
+use Rattle.sfv_reading.proofs.visits.Fields.{visited_begins, failed_begins}
 use Rattle.sfv.specs.declared.parser.cursor.Cursor.{Cursor}
-use Rattle.sfv.specs.Cursor.{rest, told, IsErrorOf}
-use Rattle.sfv.specs.Fields.{told_whole}
-use Rattle.sfv.specs.Visits.{Tells, Visits, IsFinishedFirst, IsAskedThere}
-use Rattle.sfv.specs.Parsers.{IsAnswerOf, IsSyntaxOf, IsRefusalOf}
-use Rattle.sfv.proofs.Whole.{spaced, field_error, ending_told}
+use Rattle.sfv.specs.Cursor.{rest, located, IsErrorOf}
+use Rattle.sfv.specs.Fields.{located_whole}
+use Rattle.sfv.specs.Visits.{Visits, VisitsField, IsFinishedFirst, IsAskedThere}
+use Rattle.sfv.specs.Parsers.{IsAnswerOf, IsSyntaxOf, IsVisitorErrorOf}
+use Rattle.sfv.proofs.Whole.{spaced, field_error, ending_located}
 use Rattle.sfv.proofs.Parsed.{reader_fault}
 use Rattle.sfv.proofs.Delimiters.{span_total}
 
 whole_is : (edition : Edition) (t s r : List ℕ) → span is_space t ≡ Ok (s, r) → whole_field_at edition item_field t ≡ spaced edition r
 unfolding whole_field_at spaced
-whole_is edition t s r e = bind_again (span is_space) _ t r s e
+whole_is edition t s r e = bind_complete (span is_space) _ t r s e
 
 whole_some : (edition : Edition) (t s r q : List ℕ) (raw : RawItem) → span is_space t ≡ Ok (s, r) → item_at edition r ≡ Ok (raw, q) → (w : List ℕ) × (whole_field_at edition item_field t ≡ Ok (raw, w))
 unfolding spaced give
 whole_some edition t s r q raw e k =
     let h = span_total is_space q in
-    (h.1, whole_is edition t s r e ∙ bind_again (item_at edition) _ r q raw k ∙ bind_again (span is_space) _ q h.1 h.0 h.2)
+    (h.1, whole_is edition t s r e ∙ bind_complete (item_at edition) _ r q raw k ∙ bind_complete (span is_space) _ q h.1 h.0 h.2)
 
 whole_fault : (edition : Edition) (t s r : List ℕ) (f : Fault) → span is_space t ≡ Ok (s, r) → item_at edition r ≡ Err f → whole_field_at edition item_field t ≡ Err f
 unfolding spaced bind
 whole_fault edition t s r f e k = whole_is edition t s r e ∙ ap (λ a. and_then a (λ i. span is_space >>= λ _. give i)) k
 
 -- the spaces before and behind an item hand out nothing
-whole_handed : (edition : Edition) (t s r : List ℕ) → span is_space t ≡ Ok (s, r) → handed (events item_field) (whole_field_at edition item_field t) ≡ handed item_events (item_at edition r)
-whole_handed edition t s r e = on (item_at edition r) refl
+whole_visited : (edition : Edition) (t s r : List ℕ) → span is_space t ≡ Ok (s, r) → visited (events item_field) (whole_field_at edition item_field t) ≡ visited item_events (item_at edition r)
+whole_visited edition t s r e = on (item_at edition r) refl
   where
-    on : (a : Answer RawItem) → item_at edition r ≡ a → handed (events item_field) (whole_field_at edition item_field t) ≡ handed item_events a
-    on (Ok x) k = ap (handed (events item_field)) (whole_some edition t s r x.1 x.0 e k).1
-    on (Err f) k = ap (handed (events item_field)) (whole_fault edition t s r f e k)
+    on : (a : Answer RawItem) → item_at edition r ≡ a → visited (events item_field) (whole_field_at edition item_field t) ≡ visited item_events a
+    on (Ok x) k = ap (visited (events item_field)) (whole_some edition t s r x.1 x.0 e k).1
+    on (Err f) k = ap (visited (events item_field)) (whole_fault edition t s r f e k)
 
 -- a refusal within the item
-pub whole_refused : {S E : Type 0} (takes : S → TreeEvent → S → Type 0) (refuses : S → TreeEvent → E → Type 0) (edition : Edition) (t s r : List ℕ) (from : S) (fault : E) → span is_space t ≡ Ok (s, r) → Refused takes refuses item_events (item_at edition r) from fault → Refused takes refuses (events item_field) (whole_field_at edition item_field t) from fault
-whole_refused takes refuses edition t s r from fault e h = record {
+pub whole_failed : {S E : Type 0} (takes : S → TreeEvent → S → Type 0) (fails : S → TreeEvent → E → Type 0) (edition : Edition) (t s r : List ℕ) (from : S) (fault : E) → span is_space t ≡ Ok (s, r) → VisitorFails takes fails item_events (item_at edition r) from fault → VisitorFails takes fails (events item_field) (whole_field_at edition item_field t) from fault
+whole_failed takes fails edition t s r from fault e h = record {
   before = h.before;
   e = h.e;
   after = h.after;
   s = h.s;
-  all = whole_handed edition t s r e ∙ h.all;
+  all = whole_visited edition t s r e ∙ h.all;
   taken = h.taken;
-  refused = h.refused;
+  failed = h.failed;
 }
 
 same_value : {A : Type 0} (a : Answer A) (v w : A) (q r : List ℕ) → a ≡ Ok (v, q) → a ≡ Ok (w, r) → v ≡ w
@@ -77,24 +77,24 @@ same_value {A} a v w q r e h =
     ap (λ (p : A × List ℕ). p.0) parts
 
 -- what was read is no fault
-no_fault : {A : Type 0} (a : Answer A) (v : A) (q : List ℕ) (k : ErrorKind) (r : List ℕ) → a ≡ Ok (v, q) → told a ≡ Err (k, r) → ⊥
+no_fault : {A : Type 0} (a : Answer A) (v : A) (q : List ℕ) (k : ErrorKind) (r : List ℕ) → a ≡ Ok (v, q) → located a ≡ Err (k, r) → ⊥
 no_fault (Ok x) v q k r e h = absurd cc
 no_fault (Err f) v q k r e h = absurd cc
 
-fault_of_whole : (edition : Edition) (kind : FieldKind) (t : List ℕ) (k : ErrorKind) (r : List ℕ) → told (whole_field_at edition kind t) ≡ Err (k, r) → told_whole (read_field edition kind t) ≡ Err (k, r)
+fault_of_whole : (edition : Edition) (kind : FieldKind) (t : List ℕ) (k : ErrorKind) (r : List ℕ) → located (whole_field_at edition kind t) ≡ Err (k, r) → located_whole (read_field edition kind t) ≡ Err (k, r)
 unfolding read_field
-fault_of_whole edition kind t k r h = ending_told (events kind) (whole_field_at edition kind t) k r h
+fault_of_whole edition kind t k r h = ending_located (events kind) (whole_field_at edition kind t) k r h
 
 -- an item whose reading fails is none
 no_item : {S O : Type 0} (takes : S → TreeEvent → S → Type 0) (finishes : S → O → Type 0) (edition : Edition) (t s r q : List ℕ) (from : S) (i : List ℕ) (e : Error) (raw : RawItem) → span is_space t ≡ Ok (s, r) → IsErrorOf i e (item_at edition r) → whole_field_at edition item_field t ≡ Ok (raw, q)
     → MatchOption (index_of e) ⊤ (λ index. (s : S) × (out : O) × RunsTo takes from (item_events raw) s × finishes s out)
 no_item {S} {O} takes finishes edition t s r q from i e raw skipped error whole = on (index_of e) error
   where
-    never : (a : Answer RawItem) (k : ErrorKind) (rest : List ℕ) → item_at edition r ≡ a → told a ≡ Err (k, rest) → ⊥
+    never : (a : Answer RawItem) (k : ErrorKind) (rest : List ℕ) → item_at edition r ≡ a → located a ≡ Err (k, rest) → ⊥
     never (Ok x) k rest h n = absurd cc
     never (Err f) k rest h n = let w = sym (whole_fault edition t s r f skipped h) ∙ whole in absurd cc
 
-    on : (o : Option ℕ) → MatchOption o (kind_of e ≡ OutOfMemory) (λ index. (told (item_at edition r) ≡ Err (kind_of e, drop index i)) × (index ≤ length i)) → MatchOption o ⊤ (λ index. (s : S) × (out : O) × RunsTo takes from (item_events raw) s × finishes s out)
+    on : (o : Option ℕ) → MatchOption o (kind_of e ≡ OutOfMemory) (λ index. (located (item_at edition r) ≡ Err (kind_of e, drop index i)) × (index ≤ length i)) → MatchOption o ⊤ (λ index. (s : S) × (out : O) × RunsTo takes from (item_events raw) s × finishes s out)
     on None h = tt
     on (Some n) h = absurd (never (item_at edition r) _ _ refl h.0)
 
@@ -110,46 +110,46 @@ finished_first {S} {O} takes finishes edition t s r q item from to out e skipped
         (to, out, subst (λ (i : RawItem). RunsTo takes from (item_events i) to) same run, finished)
 
 -- an error within the item: a fault, or a refusal
-pub item_fails : {S O E : Type 0} (takes : S → TreeEvent → S → Type 0) (refuses : S → TreeEvent → E → Type 0) (finishes : S → O → Type 0) (finish_refuses : S → E → Type 0) (edition : Edition) (t s r : List ℕ) (from to : S) (i j : Bor (List ℕ)) (after : Cursor) (error : ParseError E) → i ≡ j → j.now ≡ t → span is_space t ≡ Ok (s, r)
-    → Tells takes refuses item_events i after from to (Err error) (item_at edition r) → Visits takes refuses finishes finish_refuses edition item_field t from (Err error)
-item_fails takes refuses finishes finish_refuses edition t s r from to i j after (Syntax e) same text skipped h = (
-  subst (λ (u : List ℕ). MatchOption (index_of e) (kind_of e ≡ OutOfMemory) (λ index. (told_whole (read_field edition item_field u) ≡ Err (kind_of e, drop index u)) × (index ≤ length u))) text
+pub item_fails : {S O E : Type 0} (takes : S → TreeEvent → S → Type 0) (fails : S → TreeEvent → E → Type 0) (finishes : S → O → Type 0) (finish_fails : S → E → Type 0) (edition : Edition) (t s r : List ℕ) (from to : S) (i j : Bor (List ℕ)) (after : Cursor) (error : ParseError E) → i ≡ j → j.now ≡ t → span is_space t ≡ Ok (s, r)
+    → Visits takes fails item_events i after from to (Err error) (item_at edition r) → VisitsField takes fails finishes finish_fails edition item_field t from (Err error)
+item_fails takes fails finishes finish_fails edition t s r from to i j after (Syntax e) same text skipped h = (
+  subst (λ (u : List ℕ). MatchOption (index_of e) (kind_of e ≡ OutOfMemory) (λ index. (located_whole (read_field edition item_field u) ≡ Err (kind_of e, drop index u)) × (index ≤ length u))) text
       (field_error edition j.now s r i j e same (rw text skipped) h),
   λ raw q whole. no_item takes finishes edition t s r q from i.now e raw skipped h whole,
 )
-item_fails takes refuses finishes finish_refuses edition t s r from to i j after (Visitor f) same text skipped h = inl (whole_refused takes refuses edition t s r from f skipped h)
+item_fails takes fails finishes finish_fails edition t s r from to i j after (Visitor f) same text skipped h = inl (whole_failed takes fails edition t s r from f skipped h)
 
--- the visitor refused to answer behind the item
-pub finish_fails : {S O E : Type 0} (takes : S → TreeEvent → S → Type 0) (refuses : S → TreeEvent → E → Type 0) (finishes : S → O → Type 0) (finish_refuses : S → E → Type 0) (edition : Edition) (t s r q : List ℕ) (raw : RawItem) (from to : S) (fault : E) → span is_space t ≡ Ok (s, r) → item_at edition r ≡ Ok (raw, q) → RunsTo takes from (item_events raw) to → finish_refuses to fault
-    → Visits takes refuses finishes finish_refuses edition item_field t from (Err (Visitor fault))
-finish_fails takes refuses finishes finish_refuses edition t s r q raw from to fault e k run refused =
+-- the visitor failed to answer behind the item
+pub finish_failed : {S O E : Type 0} (takes : S → TreeEvent → S → Type 0) (fails : S → TreeEvent → E → Type 0) (finishes : S → O → Type 0) (finish_fails : S → E → Type 0) (edition : Edition) (t s r q : List ℕ) (raw : RawItem) (from to : S) (fault : E) → span is_space t ≡ Ok (s, r) → item_at edition r ≡ Ok (raw, q) → RunsTo takes from (item_events raw) to → finish_fails to fault
+    → VisitsField takes fails finishes finish_fails edition item_field t from (Err (Visitor fault))
+finish_failed takes fails finishes finish_fails edition t s r q raw from to fault e k run failed =
     let whole = whole_some edition t s r q raw e k in
-    inr (raw, whole.0, to, whole.1, run, refused, tt)
+    inr (raw, whole.0, to, whole.1, run, failed, tt)
 
 -- ---- members, up to the end
 
 -- an error within the field: a fault, or a refusal
-pub field_fails : {S O E : Type 0} (takes : S → TreeEvent → S → Type 0) (refuses : S → TreeEvent → E → Type 0) (finishes : S → O → Type 0) (finish_refuses : S → E → Type 0) (edition : Edition) (kind : FieldKind) (t : List ℕ) (from to : S) (i : Bor (List ℕ)) (after : Cursor) (error : ParseError E) → i.now ≡ t
-    → Tells takes refuses (events kind) i after from to (Err error) (whole_field_at edition kind t) → Visits takes refuses finishes finish_refuses edition kind t from (Err error)
-field_fails {S} {O} takes refuses finishes finish_refuses edition kind t from to i after (Visitor f) text h = inl h
-field_fails {S} {O} takes refuses finishes finish_refuses edition kind t from to i after (Syntax e) text h = (on (index_of e) here, λ raw q whole. never raw q whole (index_of e) here)
+pub field_fails : {S O E : Type 0} (takes : S → TreeEvent → S → Type 0) (fails : S → TreeEvent → E → Type 0) (finishes : S → O → Type 0) (finish_fails : S → E → Type 0) (edition : Edition) (kind : FieldKind) (t : List ℕ) (from to : S) (i : Bor (List ℕ)) (after : Cursor) (error : ParseError E) → i.now ≡ t
+    → Visits takes fails (events kind) i after from to (Err error) (whole_field_at edition kind t) → VisitsField takes fails finishes finish_fails edition kind t from (Err error)
+field_fails {S} {O} takes fails finishes finish_fails edition kind t from to i after (Visitor f) text h = inl h
+field_fails {S} {O} takes fails finishes finish_fails edition kind t from to i after (Syntax e) text h = (on (index_of e) here, λ raw q whole. never raw q whole (index_of e) here)
   where
     here : IsErrorOf t e (whole_field_at edition kind t)
     here = subst (λ (u : List ℕ). IsErrorOf u e (whole_field_at edition kind t)) text h
 
-    on : (o : Option ℕ) → MatchOption o (kind_of e ≡ OutOfMemory) (λ index. (told (whole_field_at edition kind t) ≡ Err (kind_of e, drop index t)) × (index ≤ length t)) → MatchOption o (kind_of e ≡ OutOfMemory) (λ index. (told_whole (read_field edition kind t) ≡ Err (kind_of e, drop index t)) × (index ≤ length t))
+    on : (o : Option ℕ) → MatchOption o (kind_of e ≡ OutOfMemory) (λ index. (located (whole_field_at edition kind t) ≡ Err (kind_of e, drop index t)) × (index ≤ length t)) → MatchOption o (kind_of e ≡ OutOfMemory) (λ index. (located_whole (read_field edition kind t) ≡ Err (kind_of e, drop index t)) × (index ≤ length t))
     on None m = m
     on (Some n) m = (fault_of_whole edition kind t _ _ m.0, m.1)
 
-    never : (raw : RawField kind) (q : List ℕ) → whole_field_at edition kind t ≡ Ok (raw, q) → (o : Option ℕ) → MatchOption o (kind_of e ≡ OutOfMemory) (λ index. (told (whole_field_at edition kind t) ≡ Err (kind_of e, drop index t)) × (index ≤ length t))
+    never : (raw : RawField kind) (q : List ℕ) → whole_field_at edition kind t ≡ Ok (raw, q) → (o : Option ℕ) → MatchOption o (kind_of e ≡ OutOfMemory) (λ index. (located (whole_field_at edition kind t) ≡ Err (kind_of e, drop index t)) × (index ≤ length t))
         → MatchOption o ⊤ (λ index. (s : S) × (out : O) × RunsTo takes from (events kind raw) s × finishes s out)
     never raw q whole None m = tt
     never raw q whole (Some n) m = absurd (no_fault (whole_field_at edition kind t) raw q _ _ whole m.0)
 
--- the visitor refused to answer at the end
-pub end_refused : {S O E : Type 0} (takes : S → TreeEvent → S → Type 0) (refuses : S → TreeEvent → E → Type 0) (finishes : S → O → Type 0) (finish_refuses : S → E → Type 0) (edition : Edition) (kind : FieldKind) (t q : List ℕ) (raw : RawField kind) (from to : S) (fault : E) → whole_field_at edition kind t ≡ Ok (raw, q) → IsAskedThere kind q → RunsTo takes from (events kind raw) to → finish_refuses to fault
-    → Visits takes refuses finishes finish_refuses edition kind t from (Err (Visitor fault))
-end_refused takes refuses finishes finish_refuses edition kind t q raw from to fault e asked run refused = inr (raw, q, to, e, run, refused, asked)
+-- the visitor failed to answer at the end
+pub end_failed : {S O E : Type 0} (takes : S → TreeEvent → S → Type 0) (fails : S → TreeEvent → E → Type 0) (finishes : S → O → Type 0) (finish_fails : S → E → Type 0) (edition : Edition) (kind : FieldKind) (t q : List ℕ) (raw : RawField kind) (from to : S) (fault : E) → whole_field_at edition kind t ≡ Ok (raw, q) → IsAskedThere kind q → RunsTo takes from (events kind raw) to → finish_fails to fault
+    → VisitsField takes fails finishes finish_fails edition kind t from (Err (Visitor fault))
+end_failed takes fails finishes finish_fails edition kind t q raw from to fault e asked run failed = inr (raw, q, to, e, run, failed, asked)
 
 pub whole_read : (edition : Edition) (kind : FieldKind) (t q : List ℕ) (raw : RawField kind) → whole_field_at edition kind t ≡ Ok (raw, q) → q ≡ [] → read_field edition kind t ≡ Ok raw
 unfolding read_field
@@ -172,7 +172,7 @@ whole_value edition kind t q raw e =
     let h : Reached (IsFieldText edition kind) (FieldGoes edition kind) (Somewhere (FieldGoes edition kind)) t (Ok (raw, q)) = subst (λ (a : Answer (RawField kind)). Reached (IsFieldText edition kind) (FieldGoes edition kind) (Somewhere (FieldGoes edition kind)) t a) e ((Sound-field edition kind).sound t) in
     (accepted_is_value_lem edition kind h.0 raw h.2).0
 
--- where a text is refused, only an item's visitor was asked
+-- where a text is failed, only an item's visitor was asked
 asked_of_item : (kind : FieldKind) (q : List ℕ) → IsAskedThere kind q → (q ≡ [] → ⊥) → kind ≡ item_field
 asked_of_item item_field q asked none = refl
 asked_of_item list_field q asked none = absurd (none asked)
@@ -183,33 +183,33 @@ an_item : {kind : FieldKind} {A : Type 0} → (kind ≡ item_field) ⊎ A → (A
 an_item (inl same) h = same
 an_item (inr a) h = h a
 
-module _ {S O E : Type 0} (takes : S → TreeEvent → S → Type 0) (refuses : S → TreeEvent → E → Type 0) (finishes : S → O → Type 0) (finish_refuses : S → E → Type 0) (edition : Edition) (kind : FieldKind) (t : List ℕ) (from : S) where
-  refused_on_accepted : (f : E) → Visits takes refuses finishes finish_refuses edition kind t from (Err (Visitor f)) → (raw : RawField kind) → IsFieldText edition kind raw t → IsRefused takes refuses finish_refuses from (events kind raw) f
-  refused_on_accepted f (inl r) raw h =
-      let e : events kind raw ≡ r.before ++ r.e ∷ r.after = ap (handed (events kind)) (sym (whole_accepted edition kind t raw h)) ∙ r.all in
-      inl (r.before, r.e, r.after, r.s, e, r.taken, r.refused)
-  refused_on_accepted f (inr x) raw h =
+module _ {S O E : Type 0} (takes : S → TreeEvent → S → Type 0) (fails : S → TreeEvent → E → Type 0) (finishes : S → O → Type 0) (finish_fails : S → E → Type 0) (edition : Edition) (kind : FieldKind) (t : List ℕ) (from : S) where
+  failed_on_accepted : (f : E) → VisitsField takes fails finishes finish_fails edition kind t from (Err (Visitor f)) → (raw : RawField kind) → IsFieldText edition kind raw t → IsVisitorError takes fails finish_fails from (events kind raw) f
+  failed_on_accepted f (inl r) raw h =
+      let e : events kind raw ≡ r.before ++ r.e ∷ r.after = ap (visited (events kind)) (sym (whole_accepted edition kind t raw h)) ∙ r.all in
+      inl (r.before, r.e, r.after, r.s, e, r.taken, r.failed)
+  failed_on_accepted f (inr x) raw h =
       let same = same_value (whole_field_at edition kind t) x.0 raw x.1 [] x.3 (whole_accepted edition kind t raw h) in
       inr (x.2, subst (λ (i : RawField kind). RunsTo takes from (events kind i) x.2) same x.4, x.5)
 
-  refused_early : (f : E) → Visits takes refuses finishes finish_refuses edition kind t from (Err (Visitor f)) → (kind ≡ item_field) ⊎ ((raw : RawField kind) → IsFieldText edition kind raw t → ⊥) → IsRefusedEarly takes refuses finish_refuses kind from f
-  refused_early f (inl r) none =
-      let begins = handed_begins edition kind t in
-      inl (r.before, r.e, r.s, refused_begins kind (handed (events kind) (whole_field_at edition kind t)) r.before r.e r.after begins r.all, r.taken, r.refused)
-  refused_early f (inr x) none =
+  failed_early : (f : E) → VisitsField takes fails finishes finish_fails edition kind t from (Err (Visitor f)) → (kind ≡ item_field) ⊎ ((raw : RawField kind) → IsFieldText edition kind raw t → ⊥) → IsEarlyVisitorError takes fails finish_fails kind from f
+  failed_early f (inl r) none =
+      let begins = visited_begins edition kind t in
+      inl (r.before, r.e, r.s, failed_begins kind (visited (events kind) (whole_field_at edition kind t)) r.before r.e r.after begins r.all, r.taken, r.failed)
+  failed_early f (inr x) none =
       let accepted : x.1 ≡ [] → IsFieldText edition kind x.0 t = λ end. (read_is_accepted edition kind t x.0).0 (whole_read edition kind t x.1 x.0 x.3 end) in
       inr (an_item none (λ n. asked_of_item kind x.1 x.6 (λ end. n x.0 (accepted end))), x.0, x.2, whole_value edition kind t x.1 x.0 x.3, x.4, x.5)
 
-  pub visits_answer : (r : Result O (ParseError E)) → Visits takes refuses finishes finish_refuses edition kind t from r → IfOk r (IsAnswerOf takes finishes edition kind t from)
+  pub visits_answer : (r : Result O (ParseError E)) → VisitsField takes fails finishes finish_fails edition kind t from r → IfOk r (IsAnswerOf takes finishes edition kind t from)
   visits_answer (Ok out) h = (h.0, (read_is_accepted edition kind t h.0).0 h.1, h.2)
   visits_answer (Err e) h = tt
 
-  pub visits_syntax : (r : Result O (ParseError E)) → Visits takes refuses finishes finish_refuses edition kind t from r → IfErr r (IsSyntaxOf takes finishes edition kind t from)
+  pub visits_syntax : (r : Result O (ParseError E)) → VisitsField takes fails finishes finish_fails edition kind t from r → IfErr r (IsSyntaxOf takes finishes edition kind t from)
   visits_syntax (Ok out) h = tt
   visits_syntax (Err (Syntax e)) h = let both = reader_fault edition kind t e h.0 in (both.1, both.0, h.1)
   visits_syntax (Err (Visitor f)) h = tt
 
-  pub visits_refusal : (r : Result O (ParseError E)) → Visits takes refuses finishes finish_refuses edition kind t from r → IfErr r (IsRefusalOf takes refuses finish_refuses edition kind t from)
-  visits_refusal (Ok out) h = tt
-  visits_refusal (Err (Syntax e)) h = tt
-  visits_refusal (Err (Visitor f)) h = (refused_on_accepted f h, refused_early f h)
+  pub visits_failure : (r : Result O (ParseError E)) → VisitsField takes fails finishes finish_fails edition kind t from r → IfErr r (IsVisitorErrorOf takes fails finish_fails edition kind t from)
+  visits_failure (Ok out) h = tt
+  visits_failure (Err (Syntax e)) h = tt
+  visits_failure (Err (Visitor f)) h = (failed_on_accepted f h, failed_early f h)

@@ -11,10 +11,10 @@ use Rattle.sfv_base.specs.declared.error.ErrorKind.TheVariants.{OutOfMemory, Tra
 use Rattle.sfv_reading.specs.Reader.{Answer, Reader, first, give, ◌>>=◌, span}
 use Rattle.sfv_reading.specs.Items.{item_at}
 use Rattle.sfv_reading.specs.Fields.{whole_field_at, ending, read_field}
-use Rattle.sfv_reading.proofs.Again.{bind_again}
+use Rattle.sfv_reading.proofs.complete.Combinators.{bind_complete}
 use Rattle.sfv.specs.declared.parser.cursor.Cursor.{Cursor}
-use Rattle.sfv.specs.Cursor.{rest, told, IsErrorOf}
-use Rattle.sfv.specs.Fields.{told_whole}
+use Rattle.sfv.specs.Cursor.{rest, located, IsErrorOf}
+use Rattle.sfv.specs.Fields.{located_whole}
 use Rattle.sfv.proofs.Errors.{fault_bind}
 
 -- an item and the spaces behind it
@@ -23,24 +23,24 @@ spaced edition = item_at edition >>= λ i. span is_space >>= λ _. give i
 
 pub field_is : (edition : Edition) (t s r : List ℕ) → span is_space t ≡ Ok (s, r) → read_field edition item_field t ≡ ending (events item_field) (spaced edition r)
 unfolding read_field whole_field_at spaced
-field_is edition t s r e = ap (ending (events item_field)) (bind_again (span is_space) _ t r s e)
+field_is edition t s r e = ap (ending (events item_field)) (bind_complete (span is_space) _ t r s e)
 
-pub ending_told : {A : Type 0} (parts : A → List TreeEvent) (a : Answer A) (k : ErrorKind) (r : List ℕ) → told a ≡ Err (k, r) → told_whole (ending parts a) ≡ Err (k, r)
-ending_told parts (Ok x) k r h = absurd cc
-ending_told parts (Err f) k r h = ap (λ (p : ErrorKind × List ℕ). Err p) cc
+pub ending_located : {A : Type 0} (parts : A → List TreeEvent) (a : Answer A) (k : ErrorKind) (r : List ℕ) → located a ≡ Err (k, r) → located_whole (ending parts a) ≡ Err (k, r)
+ending_located parts (Ok x) k r h = absurd cc
+ending_located parts (Err f) k r h = ap (λ (p : ErrorKind × List ℕ). Err p) cc
 
-field_faulty : (edition : Edition) (t s r : List ℕ) (k : ErrorKind) (q : List ℕ) → span is_space t ≡ Ok (s, r) → told (item_at edition r) ≡ Err (k, q) → told_whole (read_field edition item_field t) ≡ Err (k, q)
+field_faulty : (edition : Edition) (t s r : List ℕ) (k : ErrorKind) (q : List ℕ) → span is_space t ≡ Ok (s, r) → located (item_at edition r) ≡ Err (k, q) → located_whole (read_field edition item_field t) ≡ Err (k, q)
 unfolding spaced
-field_faulty edition t s r k q e h = ap told_whole (field_is edition t s r e) ∙ ending_told (events item_field) (spaced edition r) k q (fault_bind (item_at edition) _ r k q h)
+field_faulty edition t s r k q e h = ap located_whole (field_is edition t s r e) ∙ ending_located (events item_field) (spaced edition r) k q (fault_bind (item_at edition) _ r k q h)
 
 -- the error is the fault that a whole field is answered with, or want of memory
 pub field_error : (edition : Edition) (t s r : List ℕ) (i j : Bor (List ℕ)) (e : Error) → i ≡ j → span is_space t ≡ Ok (s, r) → IsErrorOf i.now e (item_at edition r)
-    → MatchOption e.index (e.kind ≡ OutOfMemory) (λ index. (told_whole (read_field edition item_field t) ≡ Err (e.kind, drop index j.now)) × (index ≤ length j.now))
+    → MatchOption e.index (e.kind ≡ OutOfMemory) (λ index. (located_whole (read_field edition item_field t) ≡ Err (e.kind, drop index j.now)) × (index ≤ length j.now))
 field_error edition t s r i j e same skipped error =
-    subst (λ (i : Bor (List ℕ)). MatchOption e.index (e.kind ≡ OutOfMemory) (λ index. (told_whole (read_field edition item_field t) ≡ Err (e.kind, drop index i.now)) × (index ≤ length i.now))) same (on e.index error)
+    subst (λ (i : Bor (List ℕ)). MatchOption e.index (e.kind ≡ OutOfMemory) (λ index. (located_whole (read_field edition item_field t) ≡ Err (e.kind, drop index i.now)) × (index ≤ length i.now))) same (on e.index error)
   where
-    on : (o : Option ℕ) → MatchOption o (e.kind ≡ OutOfMemory) (λ index. (told (item_at edition r) ≡ Err (e.kind, drop index i.now)) × (index ≤ length i.now))
-        → MatchOption o (e.kind ≡ OutOfMemory) (λ index. (told_whole (read_field edition item_field t) ≡ Err (e.kind, drop index i.now)) × (index ≤ length i.now))
+    on : (o : Option ℕ) → MatchOption o (e.kind ≡ OutOfMemory) (λ index. (located (item_at edition r) ≡ Err (e.kind, drop index i.now)) × (index ≤ length i.now))
+        → MatchOption o (e.kind ≡ OutOfMemory) (λ index. (located_whole (read_field edition item_field t) ≡ Err (e.kind, drop index i.now)) × (index ≤ length i.now))
     on None h = h
     on (Some n) h = (field_faulty edition t s r _ _ skipped h.0, h.1)
 
@@ -48,20 +48,20 @@ field_error edition t s r i j e same skipped error =
 behind : (edition : Edition) (t s r q s' w : List ℕ) (raw : RawItem) → span is_space t ≡ Ok (s, r) → item_at edition r ≡ Ok (raw, q) → span is_space q ≡ Ok (s', w) → read_field edition item_field t ≡ ending (events item_field) (Ok (raw, w))
 unfolding spaced give
 behind edition t s r q s' w raw e k n =
-    field_is edition t s r e ∙ ap (ending (events item_field)) (bind_again (item_at edition) _ r q raw k ∙ bind_again (span is_space) _ q w s' n)
+    field_is edition t s r e ∙ ap (ending (events item_field)) (bind_complete (item_at edition) _ r q raw k ∙ bind_complete (span is_space) _ q w s' n)
 
-pub field_trailing : (edition : Edition) (t s r q s' w : List ℕ) (raw : RawItem) → span is_space t ≡ Ok (s, r) → item_at edition r ≡ Ok (raw, q) → span is_space q ≡ Ok (s', w) → is_some (first w) ≡ true → told_whole (read_field edition item_field t) ≡ Err (TrailingCharactersAfterParsedValue, w)
-field_trailing edition t s r q s' w raw e k n h = ap told_whole (behind edition t s r q s' w raw e k n) ∙ on w h
+pub field_trailing : (edition : Edition) (t s r q s' w : List ℕ) (raw : RawItem) → span is_space t ≡ Ok (s, r) → item_at edition r ≡ Ok (raw, q) → span is_space q ≡ Ok (s', w) → is_some (first w) ≡ true → located_whole (read_field edition item_field t) ≡ Err (TrailingCharactersAfterParsedValue, w)
+field_trailing edition t s r q s' w raw e k n h = ap located_whole (behind edition t s r q s' w raw e k n) ∙ on w h
   where
-    on : (w : List ℕ) → is_some (first w) ≡ true → told_whole (ending (events item_field) (Ok (raw, w))) ≡ Err (TrailingCharactersAfterParsedValue, w)
+    on : (w : List ℕ) → is_some (first w) ≡ true → located_whole (ending (events item_field) (Ok (raw, w))) ≡ Err (TrailingCharactersAfterParsedValue, w)
     on [] h = absurd cc
     on (c ∷ w) h = refl
 
 -- the byte behind an item and spaces is where the error stands
 pub field_trailing_error : (edition : Edition) (t s r q s' : List ℕ) (p : Cursor) (j : Bor (List ℕ)) (raw : RawItem) → p.input ≡ j → span is_space t ≡ Ok (s, r) → item_at edition r ≡ Ok (raw, q) → span is_space q ≡ Ok (s', rest p) → is_some (first (rest p)) ≡ true
-    → (told_whole (read_field edition item_field t) ≡ Err (TrailingCharactersAfterParsedValue, drop p.index j.now)) × (p.index ≤ length j.now)
+    → (located_whole (read_field edition item_field t) ≡ Err (TrailingCharactersAfterParsedValue, drop p.index j.now)) × (p.index ≤ length j.now)
 field_trailing_error edition t s r q s' p j raw same e k n h =
-    subst (λ (i : Bor (List ℕ)). (told_whole (read_field edition item_field t) ≡ Err (TrailingCharactersAfterParsedValue, drop p.index i.now)) × (p.index ≤ length i.now)) same
+    subst (λ (i : Bor (List ℕ)). (located_whole (read_field edition item_field t) ≡ Err (TrailingCharactersAfterParsedValue, drop p.index i.now)) × (p.index ≤ length i.now)) same
     (field_trailing edition t s r q s' (rest p) raw e k n h, p.within)
 
 pub field_done : (edition : Edition) (t s r q s' w : List ℕ) (raw : RawItem) → span is_space t ≡ Ok (s, r) → item_at edition r ≡ Ok (raw, q) → span is_space q ≡ Ok (s', w) → is_some (first w) ≡ false → read_field edition item_field t ≡ Ok raw

@@ -12,45 +12,45 @@ abbrev pub rest : Cursor → List ℕ
 rest c = drop c.index c.input.now
 
 -- an answer of a reader as the code tells it: a fault by its kind and what stands there
-abbrev pub told : {A : Type 0} → Answer A → Result (A × List ℕ) (ErrorKind × List ℕ)
-told (Ok x) = Ok x
-told (Err f) = Err (error_kind f.kind, f.rest)
+abbrev pub located : {A : Type 0} → Answer A → Result (A × List ℕ) (ErrorKind × List ℕ)
+located (Ok x) = Ok x
+located (Err f) = Err (error_kind f.kind, f.rest)
 
 -- the error is the fault that the reader answers, at its place in the input
 abbrev pub IsFaultOf : {A : Type 0} → List ℕ → Error → Answer A → Type 0
 IsFaultOf input e answer =
-    MatchOption (index_of e) ⊥ (λ index. (told answer ≡ Err (kind_of e, drop index input)) × (index ≤ length input))
+    MatchOption (index_of e) ⊥ (λ index. (located answer ≡ Err (kind_of e, drop index input)) × (index ≤ length input))
 
 -- the same, or want of memory
 abbrev pub IsErrorOf : {A : Type 0} → List ℕ → Error → Answer A → Type 0
 IsErrorOf input e answer =
-    MatchOption (index_of e) (kind_of e ≡ OutOfMemory) (λ index. (told answer ≡ Err (kind_of e, drop index input)) × (index ≤ length input))
+    MatchOption (index_of e) (kind_of e ≡ OutOfMemory) (λ index. (located answer ≡ Err (kind_of e, drop index input)) × (index ≤ length input))
 
 -- What a reading of the input returned, seen by view, is what the reader gives.
-abbrev pub Gives : {X Y : Type 0} → (X → Y) → Bor (List ℕ) → Cursor → Result X Error → Answer Y → Type 0
-Gives view input after (Ok x) answer = (answer ≡ Ok (view x, rest after)) × (after.input ≡ input)
-Gives view input after (Err e) answer = IsFaultOf input.now e answer
-
--- The same of a reading that may want memory.
 abbrev pub Reads : {X Y : Type 0} → (X → Y) → Bor (List ℕ) → Cursor → Result X Error → Answer Y → Type 0
 Reads view input after (Ok x) answer = (answer ≡ Ok (view x, rest after)) × (after.input ≡ input)
-Reads view input after (Err e) answer = IsErrorOf input.now e answer
+Reads view input after (Err e) answer = IsFaultOf input.now e answer
+
+-- The same of a reading that may want memory.
+abbrev pub ReadsOrOutOfMemory : {X Y : Type 0} → (X → Y) → Bor (List ℕ) → Cursor → Result X Error → Answer Y → Type 0
+ReadsOrOutOfMemory view input after (Ok x) answer = (answer ≡ Ok (view x, rest after)) × (after.input ≡ input)
+ReadsOrOutOfMemory view input after (Err e) answer = IsErrorOf input.now e answer
 
 -- a byte of the class stands next, or none does
-abbrev pub Meets : (ℕ → Bool) → Bool → List ℕ → Type 0
-Meets class true t = (b : ℕ) × (r : List ℕ) × (t ≡ b ∷ r) × (class b ≡ true)
-Meets class false t = Apart class t
+abbrev pub NextIs : (ℕ → Bool) → Bool → List ℕ → Type 0
+NextIs class true t = (b : ℕ) × (r : List ℕ) × (t ≡ b ∷ r) × (class b ≡ true)
+NextIs class false t = Apart class t
 
 -- a byte of the class was taken, or none stands there
-abbrev pub Takes : (ℕ → Bool) → Bool → List ℕ → List ℕ → Type 0
-Takes class true t r = (b : ℕ) × (t ≡ b ∷ r) × (class b ≡ true)
-Takes class false t r = (r ≡ t) × Apart class t
+abbrev pub TakesIf : (ℕ → Bool) → Bool → List ℕ → List ℕ → Type 0
+TakesIf class true t r = (b : ℕ) × (t ≡ b ∷ r) × (class b ≡ true)
+TakesIf class false t r = (r ≡ t) × Apart class t
 
 -- one byte was passed
 abbrev pub Skips : List ℕ → List ℕ → Type 0
 Skips t r = (b : ℕ) × (t ≡ b ∷ r)
 
 -- The same of a reading from an index on, which returns its value and the index behind it.
-abbrev pub ReadsAt : {X Y : Type 0} → (X → Y) → List ℕ → Result (X × ℕ) Error → Answer Y → Type 0
-ReadsAt view input (Ok x) answer = (answer ≡ Ok (view x.0, drop x.1 input)) × (x.1 ≤ length input)
-ReadsAt view input (Err e) answer = IsErrorOf input e answer
+abbrev pub ReadsOrOutOfMemoryAt : {X Y : Type 0} → (X → Y) → List ℕ → Result (X × ℕ) Error → Answer Y → Type 0
+ReadsOrOutOfMemoryAt view input (Ok x) answer = (answer ≡ Ok (view x.0, drop x.1 input)) × (x.1 ≤ length input)
+ReadsOrOutOfMemoryAt view input (Err e) answer = IsErrorOf input e answer

@@ -1,27 +1,18 @@
 -- Between two items of an inner list, and between two members.
 use Rattle.std.specs.Prelude.{true, false, Bool, List, flat_map, ◌∷◌, ◌++◌}
-use Rattle.sfv_spec.specs.Classes.{is_space, is_space_or_tab}
 use Rattle.sfv_spec.specs.Values.{RawMember, item, inner_list}
-use Rattle.sfv_spec.specs.Events.{TreeEvent, item_events, inner_list_end, parameters_events}
-use Rattle.sfv_spec.specs.Faults.{expected_inner_list_delimiter, unterminated_inner_list, trailing_comma, trailing_characters_after_member}
-use Rattle.sfv_reading.specs.Reader.{Reader, give, fail, ◌>>=◌, branch, ahead, back, span, byte, any}
-use Rattle.sfv_reading.specs.Members.{inner_item_events}
-use Rattle.sfv_reading.specs.Fields.{comma_at}
+use Rattle.sfv_spec.specs.Events.{TreeEvent, item_events, inner_list_end, parameters_events, inner_item_events}
+use Rattle.sfv_reading.specs.Reader.{Reader, give}
+use Rattle.sfv_reading.specs.Members.{item_delimited}
+use Rattle.sfv_reading.specs.Fields.{member_delimited}
 
--- behind an item of an inner list: spaces and one more item, or the closing parenthesis
-unfoldable pub wants_item_at : Reader Bool
-wants_item_at =
-    branch is_space
-    (λ _. span is_space >>= λ _. branch (byte 0x29) (λ _. give false) (give true))
-    (branch (byte 0x29) (λ _. give false) (ahead any (fail expected_inner_list_delimiter) (fail unterminated_inner_list)))
+-- behind an item of an inner list: whether another one follows, and not the closing parenthesis
+unfoldable pub item_delimiter_at : Reader Bool
+item_delimiter_at = item_delimited (give false) (give true)
 
--- behind a member: a comma and one more member, or the end
-unfoldable pub wants_member_at : Reader Bool
-wants_member_at =
-    span is_space_or_tab >>= λ _.
-    ahead any
-    (ahead (byte 0x2c) (back trailing_comma comma_at >>= λ _. give true) (fail trailing_characters_after_member))
-    (give false)
+-- behind a member: whether another one follows a comma, and not the end
+unfoldable pub member_delimiter_at : Reader Bool
+member_delimiter_at = member_delimited (give false) (give true)
 
 -- the events of a member behind the one that begins it
 abbrev pub behind_begin : RawMember → List TreeEvent

@@ -3,8 +3,8 @@ use Rattle.std.specs.Prelude.{◌≡◌, ⊤, ℕ, List, drop, Some, Err, ◌⊎
 use Rattle.sfv_spec.specs.Values.{Edition, FieldKind, item_field, RawField}
 use Rattle.sfv_spec.specs.Grammar.{IsFieldText}
 use Rattle.sfv_spec.specs.Events.{TreeEvent, events}
-use Rattle.sfv_spec.specs.Visiting.{IsVisited, IsRefused, IsRefusedEarly}
-use Rattle.sfv_spec.specs.Faults.{SyntaxFault, IsRefusedAt}
+use Rattle.sfv_spec.specs.Visiting.{IsVisited, IsVisitorError, IsEarlyVisitorError}
+use Rattle.sfv_spec.specs.Faults.{SyntaxFault, IsRejectedAt}
 use Rattle.sfv_base.specs.declared.error.Error.{Error}
 use Rattle.sfv_base.specs.declared.error.ParseError.{ParseError}
 use Rattle.sfv_base.specs.declared.error.ParseError.TheVariants.{Syntax, Visitor}
@@ -27,9 +27,9 @@ pub record IsSyntaxError (edition : Edition) (kind : FieldKind) (t : List ℕ) (
   pub fault : SyntaxFault
   pub index : ℕ
   pub error : e ≡ error_of (error_kind fault) (Some index)
-  pub refused : IsRefusedAt edition kind t fault index
+  pub rejected : IsRejectedAt edition kind t fault index
 
--- memory was refused, or the text is
+-- out of memory, or the text is rejected
 abbrev pub IsParseError : Edition → FieldKind → List ℕ → Error → Type 0
 IsParseError edition kind t e = (e ≡ out_of_memory) ⊎ IsSyntaxError edition kind t e
 
@@ -41,7 +41,7 @@ pub record IsFaultOfReader (edition : Edition) (kind : FieldKind) (t : List ℕ)
   pub error : e ≡ error_of (error_kind fault.kind) (Some index)
   pub here : drop index t ≡ fault.rest
 
--- memory was refused, or the fault is the reader's
+-- out of memory, or the fault is the reader's
 abbrev pub IsReaderFault : Edition → FieldKind → List ℕ → Error → Type 0
 IsReaderFault edition kind t e = (e ≡ out_of_memory) ⊎ IsFaultOfReader edition kind t e
 
@@ -56,8 +56,8 @@ IsSyntaxOf takes finishes edition kind t from (Visitor fault) = ⊤
 
 -- A refusal of the visitor comes on an accepted text behind exactly the events before it; on a text that isn't accepted, and
 -- for an item on every text, behind those of some field.
-abbrev pub IsRefusalOf : {S E : Type 0} → (S → TreeEvent → S → Type 0) → (S → TreeEvent → E → Type 0) → (S → E → Type 0) → Edition → FieldKind → List ℕ → S → ParseError E → Type 0
-IsRefusalOf takes refuses finish_refuses edition kind t from (Syntax e) = ⊤
-IsRefusalOf takes refuses finish_refuses edition kind t from (Visitor fault) =
-    ((raw : RawField kind) → IsFieldText edition kind raw t → IsRefused takes refuses finish_refuses from (events kind raw) fault)
-    × ((kind ≡ item_field) ⊎ ((raw : RawField kind) → IsFieldText edition kind raw t → ⊥) → IsRefusedEarly takes refuses finish_refuses kind from fault)
+abbrev pub IsVisitorErrorOf : {S E : Type 0} → (S → TreeEvent → S → Type 0) → (S → TreeEvent → E → Type 0) → (S → E → Type 0) → Edition → FieldKind → List ℕ → S → ParseError E → Type 0
+IsVisitorErrorOf takes fails finish_fails edition kind t from (Syntax e) = ⊤
+IsVisitorErrorOf takes fails finish_fails edition kind t from (Visitor fault) =
+    ((raw : RawField kind) → IsFieldText edition kind raw t → IsVisitorError takes fails finish_fails from (events kind raw) fault)
+    × ((kind ≡ item_field) ⊎ ((raw : RawField kind) → IsFieldText edition kind raw t → ⊥) → IsEarlyVisitorError takes fails finish_fails kind from fault)

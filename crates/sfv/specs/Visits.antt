@@ -11,22 +11,22 @@ use Rattle.sfv_base.specs.declared.error.ParseError.TheVariants.{Syntax, Visitor
 use Rattle.sfv_base.specs.Errors.{kind_of, index_of}
 use Rattle.sfv_reading.specs.Reader.{Answer}
 use Rattle.sfv_reading.specs.Fields.{whole_field_at, read_field}
-use Rattle.sfv_reading.specs.Visits.{Refused}
+use Rattle.sfv_reading.specs.Visits.{VisitorFails}
 use Rattle.sfv.specs.declared.parser.cursor.Cursor.{Cursor}
 use Rattle.sfv.specs.Cursor.{rest, IsErrorOf}
-use Rattle.sfv.specs.Fields.{told_whole}
+use Rattle.sfv.specs.Fields.{located_whole}
 
--- A value was read, and the visitor took its events; or the reader's fault is met, or memory refused; or
--- the visitor refused one of the events that the reader hands out.
-abbrev pub Tells : {A S E : Type 0} → (S → TreeEvent → S → Type 0) → (S → TreeEvent → E → Type 0) → (A → List TreeEvent) → Bor (List ℕ) → Cursor → S → S → Result (Unit {0}) (ParseError E) → Answer A → Type 0
-Tells {A} takes refuses parts input after from to (Ok u) answer = (v : A) × (answer ≡ Ok (v, rest after)) × RunsTo takes from (parts v) to × (after.input ≡ input)
-Tells takes refuses parts input after from to (Err (Syntax e)) answer = IsErrorOf input.now e answer
-Tells takes refuses parts input after from to (Err (Visitor f)) answer = Refused takes refuses parts answer from f
+-- A value was read, and the visitor took its events; or the reader's fault is met, or out of memory; or
+-- the visitor fails at one of the events that the reader gives.
+abbrev pub Visits : {A S E : Type 0} → (S → TreeEvent → S → Type 0) → (S → TreeEvent → E → Type 0) → (A → List TreeEvent) → Bor (List ℕ) → Cursor → S → S → Result (Unit {0}) (ParseError E) → Answer A → Type 0
+Visits {A} takes fails parts input after from to (Ok u) answer = (v : A) × (answer ≡ Ok (v, rest after)) × RunsTo takes from (parts v) to × (after.input ≡ input)
+Visits takes fails parts input after from to (Err (Syntax e)) answer = IsErrorOf input.now e answer
+Visits takes fails parts input after from to (Err (Visitor f)) answer = VisitorFails takes fails parts answer from f
 
--- the visitor refused the event
-abbrev pub IsToldRefusal : {S E : Type 0} → (S → TreeEvent → E → Type 0) → S → TreeEvent → ParseError E → Type 0
-IsToldRefusal refuses s e (Syntax error) = ⊥
-IsToldRefusal refuses s e (Visitor fault) = refuses s e fault
+-- the visitor fails at the event
+abbrev pub IsErrorOfVisit : {S E : Type 0} → (S → TreeEvent → E → Type 0) → S → TreeEvent → ParseError E → Type 0
+IsErrorOfVisit fails s e (Syntax error) = ⊥
+IsErrorOfVisit fails s e (Visitor fault) = fails s e fault
 
 -- Where a field of this type stands at the beginning, an error with an index is answered only behind the visitor's answer.
 abbrev pub IsFinishedFirst : {S O : Type 0} → (S → TreeEvent → S → Type 0) → (S → O → Type 0) → Edition → FieldKind → List ℕ → S → Error → Type 0
@@ -39,12 +39,12 @@ IsAskedThere item_field q = ⊤
 IsAskedThere list_field q = q ≡ []
 IsAskedThere dictionary_field q = q ≡ []
 
--- The same of a whole field, behind which the visitor gives its answer, or refuses to.
-abbrev pub Visits : {S O E : Type 0} → (S → TreeEvent → S → Type 0) → (S → TreeEvent → E → Type 0) → (S → O → Type 0) → (S → E → Type 0) → Edition → (kind : FieldKind) → List ℕ → S → Result O (ParseError E) → Type 0
-Visits takes refuses finishes finish_refuses edition kind t from (Ok out) = (raw : RawField kind) × (read_field edition kind t ≡ Ok raw) × IsVisited takes finishes from (events kind raw) out
-Visits takes refuses finishes finish_refuses edition kind t from (Err (Syntax e)) =
-    MatchOption (index_of e) (kind_of e ≡ OutOfMemory) (λ index. (told_whole (read_field edition kind t) ≡ Err (kind_of e, drop index t)) × (index ≤ length t))
+-- The same of a whole field, behind which the visitor gives its answer, or fails to.
+abbrev pub VisitsField : {S O E : Type 0} → (S → TreeEvent → S → Type 0) → (S → TreeEvent → E → Type 0) → (S → O → Type 0) → (S → E → Type 0) → Edition → (kind : FieldKind) → List ℕ → S → Result O (ParseError E) → Type 0
+VisitsField takes fails finishes finish_fails edition kind t from (Ok out) = (raw : RawField kind) × (read_field edition kind t ≡ Ok raw) × IsVisited takes finishes from (events kind raw) out
+VisitsField takes fails finishes finish_fails edition kind t from (Err (Syntax e)) =
+    MatchOption (index_of e) (kind_of e ≡ OutOfMemory) (λ index. (located_whole (read_field edition kind t) ≡ Err (kind_of e, drop index t)) × (index ≤ length t))
     × IsFinishedFirst takes finishes edition kind t from e
-Visits {S} takes refuses finishes finish_refuses edition kind t from (Err (Visitor f)) =
-    Refused takes refuses (events kind) (whole_field_at edition kind t) from f
-    ⊎ ((raw : RawField kind) × (q : List ℕ) × (s : S) × (whole_field_at edition kind t ≡ Ok (raw, q)) × RunsTo takes from (events kind raw) s × finish_refuses s f × IsAskedThere kind q)
+VisitsField {S} takes fails finishes finish_fails edition kind t from (Err (Visitor f)) =
+    VisitorFails takes fails (events kind) (whole_field_at edition kind t) from f
+    ⊎ ((raw : RawField kind) × (q : List ℕ) × (s : S) × (whole_field_at edition kind t ≡ Ok (raw, q)) × RunsTo takes from (events kind raw) s × finish_fails s f × IsAskedThere kind q)

@@ -40,7 +40,7 @@ pub trait FieldType: sealed::Sealed + Drop {
     /// Reads a field of this type (RFC 9651, section 4.2), as `Parser::parse` does.
     fn parse(alloc: Global, parser: Parser<'_>) -> Result<Self, Error>
         ensures read { IfOk result (λ value. IsParsedAs (parser_edition parser.entry) kind (input_of parser.entry) (tree value)) }
-        ensures refused { IfErr result (IsParseError (parser_edition parser.entry) kind (input_of parser.entry)) }
+        ensures rejected { IfErr result (IsParseError (parser_edition parser.entry) kind (input_of parser.entry)) }
         ensures fault { IfErr result (IsReaderFault (parser_edition parser.entry) kind (input_of parser.entry)) };
 
     /// Writes the canonical text (RFC 9651, section 4.1), with memory from `alloc`; refused where memory is. Of a list or
@@ -63,7 +63,7 @@ impl FieldType for Item {
         match parser.parse_item_with_visitor(alloc, ItemBuilder::new(alloc)) {
             Ok(item) => Ok(item),
             Err(ParseError::Syntax(error)) => Err(error),
-            // The builder refuses for memory alone, since an item that was read is whole.
+            // The builder fails for memory alone, since an item that was read is whole.
             Err(ParseError::Visitor(_)) => Err(Error::from(OutOfMemory)),
         }
     }
@@ -90,7 +90,7 @@ impl FieldType for List {
         match parser.parse_list_with_visitor(alloc, builder) {
             Ok(list) => Ok(list),
             Err(ParseError::Syntax(error)) => Err(error),
-            Err(ParseError::Visitor(refused)) => Err(Error::from(refused)),
+            Err(ParseError::Visitor(error)) => Err(Error::from(error)),
         }
     }
 
@@ -115,7 +115,7 @@ impl FieldType for Dictionary {
         match parser.parse_dictionary_with_visitor(alloc, builder) {
             Ok(dictionary) => Ok(dictionary),
             Err(ParseError::Syntax(error)) => Err(error),
-            Err(ParseError::Visitor(refused)) => Err(Error::from(refused)),
+            Err(ParseError::Visitor(error)) => Err(Error::from(error)),
         }
     }
 

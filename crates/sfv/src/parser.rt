@@ -35,7 +35,7 @@ pub struct Parser<'de> {
 }
 
 impl<'de> Parser<'de> {
-    ghost use Rattle.sfv.specs.Parsers.{input_of, parser_edition, IsParseError, IsReaderFault, IsAnswerOf, IsSyntaxOf, IsRefusalOf};
+    ghost use Rattle.sfv.specs.Parsers.{input_of, parser_edition, IsParseError, IsReaderFault, IsAnswerOf, IsSyntaxOf, IsVisitorErrorOf};
 
     /// Reads this input, under RFC 9651.
     pub fn new(input: &'de [u8]) -> Parser<'de>
@@ -65,7 +65,7 @@ impl<'de> Parser<'de> {
     /// memory is refused the kind is `OutOfMemory`, without index.
     pub fn parse<T: FieldType>(self, alloc: Global) -> Result<T, Error>
         ensures read { IfOk result (λ value. IsParsedAs (parser_edition self.entry) T.kind (input_of self.entry) (T.tree value)) }
-        ensures refused { IfErr result (IsParseError (parser_edition self.entry) T.kind (input_of self.entry)) }
+        ensures rejected { IfErr result (IsParseError (parser_edition self.entry) T.kind (input_of self.entry)) }
         ensures fault { IfErr result (IsReaderFault (parser_edition self.entry) T.kind (input_of self.entry)) }
     {
         T::parse(alloc, self)
@@ -86,7 +86,7 @@ impl<'de> Parser<'de> {
         requires { V.is_ready visitor }
         ensures visited { IfOk result (IsAnswerOf V.takes V.finishes (parser_edition self.entry) item_field (input_of self.entry) visitor) }
         ensures syntax { IfErr result (IsSyntaxOf V.takes V.finishes (parser_edition self.entry) item_field (input_of self.entry) visitor) }
-        ensures refused { IfErr result (IsRefusalOf V.takes V.refuses V.finish_refuses (parser_edition self.entry) item_field (input_of self.entry) visitor) }
+        ensures visitor { IfErr result (IsVisitorErrorOf V.takes V.fails V.finish_fails (parser_edition self.entry) item_field (input_of self.entry) visitor) }
     {
         parse_item_field(alloc, self.input, self.version, visitor)
     }
@@ -106,7 +106,7 @@ impl<'de> Parser<'de> {
         requires { V.is_ready visitor }
         ensures visited { IfOk result (IsAnswerOf V.takes V.finishes (parser_edition self.entry) list_field (input_of self.entry) visitor) }
         ensures syntax { IfErr result (IsSyntaxOf V.takes V.finishes (parser_edition self.entry) list_field (input_of self.entry) visitor) }
-        ensures refused { IfErr result (IsRefusalOf V.takes V.refuses V.finish_refuses (parser_edition self.entry) list_field (input_of self.entry) visitor) }
+        ensures visitor { IfErr result (IsVisitorErrorOf V.takes V.fails V.finish_fails (parser_edition self.entry) list_field (input_of self.entry) visitor) }
     {
         parse_list_field(alloc, self.input, self.version, visitor)
     }
@@ -127,7 +127,7 @@ impl<'de> Parser<'de> {
         requires { V.is_ready visitor }
         ensures visited { IfOk result (IsAnswerOf V.takes V.finishes (parser_edition self.entry) dictionary_field (input_of self.entry) visitor) }
         ensures syntax { IfErr result (IsSyntaxOf V.takes V.finishes (parser_edition self.entry) dictionary_field (input_of self.entry) visitor) }
-        ensures refused { IfErr result (IsRefusalOf V.takes V.refuses V.finish_refuses (parser_edition self.entry) dictionary_field (input_of self.entry) visitor) }
+        ensures visitor { IfErr result (IsVisitorErrorOf V.takes V.fails V.finish_fails (parser_edition self.entry) dictionary_field (input_of self.entry) visitor) }
     {
         parse_dictionary_field(alloc, self.input, self.version, visitor)
     }

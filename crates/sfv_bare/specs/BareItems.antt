@@ -8,10 +8,8 @@ use Rattle.std.specs.declared.borrow.CowStr.{CowStr}
 use Rattle.std.specs.declared.borrow.CowStr.TheVariants as cow
 use Rattle.sfv_spec.specs.Values.{Edition, rfc8941, rfc9651, BareValue}
 use Rattle.sfv_spec.specs.Values as values
-use Rattle.sfv_text.specs.declared.token_ref.TokenRef.{TokenRef}
-use Rattle.sfv_text.specs.declared.string_ref.StringRef.{StringRef}
-use Rattle.sfv_text.specs.TokenText.{token_text}
-use Rattle.sfv_text.specs.StringText.{string_text}
+use Rattle.sfv_text.specs.TokenText.{TokenRef, token_text}
+use Rattle.sfv_text.specs.StringText.{StringRef, string_text}
 use Rattle.sfv_bare.specs.declared.bare.GenericBareItem.{GenericBareItem}
 use Rattle.sfv_bare.specs.declared.bare.GenericBareItem.TheVariants as bare
 use Rattle.sfv_bare.specs.declared.bare.StringFromInput.{StringFromInput}

@@ -11,17 +11,18 @@ use Rattle.sfv_reading.specs.Judgements.{Reached, Lasts}
 use Rattle.sfv_reading.specs.Reader.{Apart, first}
 use Rattle.sfv_reading.specs.Bare.{bare_at}
 use Rattle.sfv_reading.specs.Claims.{BeginsWithBare, IsEnded, BareIsExact}
-use Rattle.sfv_reading.proofs.Sound.{Somewhere}
-use Rattle.sfv_reading.proofs.Again.{Apart-nil, Apart-cons}
-use Rattle.sfv_reading.proofs.Bare.{BareGoes, Sound-bare, Local-bare}
-use Rattle.sfv_reading.proofs.BareAgain.{bare_again}
+use Rattle.sfv_reading.proofs.sound.Combinators.{Somewhere}
+use Rattle.sfv_reading.proofs.complete.Combinators.{Apart-nil, Apart-cons}
+use Rattle.sfv_reading.proofs.sound.Bare.{BareGoes, Sound-bare}
+use Rattle.sfv_reading.proofs.local.Bare.{Local-bare}
+use Rattle.sfv_reading.proofs.complete.Bare.{bare_complete}
 
 -- ---- the front
 
 module _ (edition : Edition) where
   -- a text of a value is read to its end
   read_whole : (v : BareValue) (s : List ℕ) → IsBareText edition v s → bare_at edition s ≡ Ok (v, [])
-  read_whole v s h = ap (bare_at edition) (sym (append-nil s)) ∙ bare_again edition v s [] h (Apart-nil is_token_inner)
+  read_whole v s h = ap (bare_at edition) (sym (append-nil s)) ∙ bare_complete edition v s [] h (Apart-nil is_token_inner)
 
   -- the reader stops where it did, if the text is cut off further on
   no_longer : (p rest : List ℕ) (v w : BareValue) (more behind : List ℕ) → ((r : List ℕ) → first r ≡ first rest → bare_at edition (p ++ r) ≡ Ok (v, r)) → rest ≡ more ++ behind → IsBareText edition w (p ++ more) → more ≡ []
@@ -76,5 +77,5 @@ bare_is_exact = (
   (λ edition t v rest e.
       let h = subst (Reached (IsBareText edition) (BareGoes edition) (Somewhere (BareGoes edition)) t) e ((Sound-bare edition).sound t) in
       begins_on edition t v rest h.0 h.1 h.2 (subst (Lasts (bare_at edition) t) e ((Local-bare edition).lasts t))),
-  (λ edition t fault e s rest parts w ended. let read = bare_again edition w.0 s rest w.1 (ended_apart rest ended) in let text = ap (bare_at edition) parts in absurd cc),
+  (λ edition t fault e s rest parts w ended. let read = bare_complete edition w.0 s rest w.1 (ended_apart rest ended) in let text = ap (bare_at edition) parts in absurd cc),
 )

@@ -1,14 +1,15 @@
 -- Worked texts, computed.
 use Rattle.std.proofs.Common.{◌≡◌, ℕ, List, [], ◌∷◌, Ok, Err, refl, pos, true, false}
 use Rattle.std.specs.Prelude.{codes}
+use Rattle.sfv_spec.specs.Ascii.{lower_f}
 use Rattle.sfv_spec.specs.Values.{Edition, rfc8941, rfc9651, FieldKind, item_field, list_field, dictionary_field, integer, decimal, string, token, byte_sequence, boolean, display_string}
 use Rattle.sfv_spec.specs.Events.{entry, keyed_entry, begins_item, begins_inner_list, bare_item, parameter, parameters_end, inner_list_end, events}
 use Rattle.sfv_spec.specs.Faults.{trailing_comma, trailing_decimal_point, non_integer_date, rfc8941_date, expected_digit, too_many_digits, too_many_digits_after_decimal_point, expected_start_of_bare_item, trailing_characters_after_parsed_value, unterminated_inner_list, invalid_byte_sequence, unterminated_byte_sequence, invalid_escape_sequence, unterminated_escape_sequence, unterminated_string, invalid_utf8_in_display_string, rfc8941_display_string}
 use Rattle.sfv_spec.specs.Grammar.{IsAccepted}
-use Rattle.sfv_spec.specs.Base64.{is_symbol}
-use Rattle.sfv_reading.specs.Reader.{Fault, at_reach, by_rule, give, fail, ruled, bind, led, branch, ahead, back, up_to, span, many, many_within, handed}
+use Rattle.sfv_reading.specs.Reader.{Fault, at_reach, by_rule, give, fail, ruled, bind, led, branch, ahead, back, up_to, span, many, many_within, visited}
 use Rattle.std.specs.Str.{is_utf8, chars}
 use Rattle.std.specs.Str.Lossy.{utf8_valid_len}
+use Rattle.sfv_spec.specs.Base64.{is_symbol}
 use Rattle.sfv_reading.specs.Content.{symbol_value, padding_in, valid_from, values_in, bytes_from, bytes_of, fault_place, content_in, bytes_at}
 use Rattle.sfv_reading.specs.Quoted.{string_from, pieces_from, display_at}
 use Rattle.sfv_reading.specs.Bare.{sign_at, long_at, decimal_at, fraction_at, point_at, whole_at, number_at, boolean_at, token_at, date_at, quoted_at, bare_at}
@@ -49,7 +50,7 @@ point_last : read_field rfc9651 dictionary_field (codes "a;b=1.") ≡ Err (recor
 unfolding content_in bytes_at string_from pieces_from display_at give fail ruled bind led branch ahead back up_to span many many_within sign_at long_at decimal_at fraction_at point_at whole_at number_at boolean_at token_at date_at quoted_at bare_at key_at value_at parameter_at parameters_at item_at inner_item_at next_item_at inner_items_at inner_at member_at entry_at member_value_at keyed_at comma_at next_at members_at whole_field_at read_field
 point_last = refl
 
-a_dictionary : handed (events dictionary_field) (whole_field_at rfc9651 dictionary_field (codes "a=(1 x;y), b")) ≡ keyed_entry (codes "a") ∷ begins_inner_list ∷ begins_item ∷ bare_item (integer (pos 1)) ∷ parameters_end ∷ begins_item ∷ bare_item (token (codes "x")) ∷ parameter (codes "y") (boolean true) ∷ parameters_end ∷ inner_list_end ∷ parameters_end ∷ keyed_entry (codes "b") ∷ begins_item ∷ bare_item (boolean true) ∷ parameters_end ∷ []
+a_dictionary : visited (events dictionary_field) (whole_field_at rfc9651 dictionary_field (codes "a=(1 x;y), b")) ≡ keyed_entry (codes "a") ∷ begins_inner_list ∷ begins_item ∷ bare_item (integer (pos 1)) ∷ parameters_end ∷ begins_item ∷ bare_item (token (codes "x")) ∷ parameter (codes "y") (boolean true) ∷ parameters_end ∷ inner_list_end ∷ parameters_end ∷ keyed_entry (codes "b") ∷ begins_item ∷ bare_item (boolean true) ∷ parameters_end ∷ []
 unfolding content_in bytes_at string_from pieces_from display_at give fail ruled bind led branch ahead back up_to span many many_within sign_at long_at decimal_at fraction_at point_at whole_at number_at boolean_at token_at date_at quoted_at bare_at key_at value_at parameter_at parameters_at item_at inner_item_at next_item_at inner_items_at inner_at member_at entry_at member_value_at keyed_at comma_at next_at members_at whole_field_at read_field
 a_dictionary = refl
 
@@ -85,7 +86,7 @@ open_string : read_field rfc9651 dictionary_field (codes "a=\"b") ≡ Err (recor
 unfolding content_in bytes_at string_from pieces_from display_at give fail ruled bind led branch ahead back up_to span many many_within sign_at long_at decimal_at fraction_at point_at whole_at number_at boolean_at token_at date_at quoted_at bare_at key_at value_at parameter_at parameters_at item_at inner_item_at next_item_at inner_items_at inner_at member_at entry_at member_value_at keyed_at comma_at next_at members_at whole_field_at read_field
 open_string = refl
 
-some_display : read_field rfc9651 item_field (codes "%\"f%c3%bcr\"") ≡ Ok (record { bare = display_string (0x66 ∷ 0xc3 ∷ 0xbc ∷ 0x72 ∷ []); parameters = [] })
+some_display : read_field rfc9651 item_field (codes "%\"f%c3%bcr\"") ≡ Ok (record { bare = display_string (lower_f ∷ 0xc3 ∷ 0xbc ∷ 0x72 ∷ []); parameters = [] })
 unfolding lib.Utf8.encode is_utf8 chars utf8_valid_len content_in bytes_at string_from pieces_from display_at give fail ruled bind led branch ahead back up_to span many many_within sign_at long_at decimal_at fraction_at point_at whole_at number_at boolean_at token_at date_at quoted_at bare_at key_at value_at parameter_at parameters_at item_at inner_item_at next_item_at inner_items_at inner_at member_at entry_at member_value_at keyed_at comma_at next_at members_at whole_field_at read_field
 some_display = refl
 
@@ -105,52 +106,52 @@ old_display : read_field rfc8941 item_field (codes "%\"a\"") ≡ Err (record { k
 unfolding lib.Utf8.encode is_utf8 chars utf8_valid_len content_in bytes_at string_from pieces_from display_at give fail ruled bind led branch ahead back up_to span many many_within sign_at long_at decimal_at fraction_at point_at whole_at number_at boolean_at token_at date_at quoted_at bare_at key_at value_at parameter_at parameters_at item_at inner_item_at next_item_at inner_items_at inner_at member_at entry_at member_value_at keyed_at comma_at next_at members_at whole_field_at read_field
 old_display = refl
 
--- ---- texts that are refused
+-- ---- texts that are rejected
 
 -- a text in which the reader finds a fault isn't accepted
-refused : (edition : Edition) (kind : FieldKind) (t : List ℕ) (e : Fault) → read_field edition kind t ≡ Err e → ¬ IsAccepted edition kind t
-refused edition kind t e h (raw, i) = let k = (read_is_accepted edition kind t raw).1 i in absurd cc
+rejected : (edition : Edition) (kind : FieldKind) (t : List ℕ) (e : Fault) → read_field edition kind t ≡ Err e → ¬ IsAccepted edition kind t
+rejected edition kind t e h (raw, i) = let k = (read_is_accepted edition kind t raw).1 i in absurd cc
 
 -- no item in an empty text
-empty_is_refused : ¬ IsAccepted rfc9651 item_field []
+empty_is_rejected : ¬ IsAccepted rfc9651 item_field []
 unfolding give fail ruled bind led branch ahead back up_to span many many_within sign_at long_at decimal_at fraction_at point_at whole_at number_at token_at date_at bare_at parameter_at parameters_at item_at whole_field_at read_field
-empty_is_refused = refused rfc9651 item_field [] (at_reach expected_start_of_bare_item []) refl
+empty_is_rejected = rejected rfc9651 item_field [] (at_reach expected_start_of_bare_item []) refl
 
 -- a minus without digits
-minus_is_refused : ¬ IsAccepted rfc9651 item_field (codes "-")
+minus_is_rejected : ¬ IsAccepted rfc9651 item_field (codes "-")
 unfolding give fail ruled bind led branch ahead back up_to span many many_within sign_at long_at decimal_at fraction_at point_at whole_at number_at token_at date_at bare_at parameter_at parameters_at item_at whole_field_at read_field
-minus_is_refused = refused rfc9651 item_field (codes "-") (at_reach expected_digit []) refl
+minus_is_rejected = rejected rfc9651 item_field (codes "-") (at_reach expected_digit []) refl
 
 -- no digit behind the point
-point_is_refused : ¬ IsAccepted rfc9651 item_field (codes "1.")
+point_is_rejected : ¬ IsAccepted rfc9651 item_field (codes "1.")
 unfolding give fail ruled bind led branch ahead back up_to span many many_within sign_at long_at decimal_at fraction_at point_at whole_at number_at token_at date_at bare_at parameter_at parameters_at item_at whole_field_at read_field
-point_is_refused = refused rfc9651 item_field (codes "1.") (by_rule trailing_decimal_point (codes ".")) refl
+point_is_rejected = rejected rfc9651 item_field (codes "1.") (by_rule trailing_decimal_point (codes ".")) refl
 
 -- four digits behind the point
-long_fraction_is_refused : ¬ IsAccepted rfc9651 item_field (codes "1.2345")
+long_fraction_is_rejected : ¬ IsAccepted rfc9651 item_field (codes "1.2345")
 unfolding give fail ruled bind led branch ahead back up_to span many many_within sign_at long_at decimal_at fraction_at point_at whole_at number_at token_at date_at bare_at parameter_at parameters_at item_at whole_field_at read_field
-long_fraction_is_refused = refused rfc9651 item_field (codes "1.2345") (at_reach too_many_digits_after_decimal_point (codes "5")) refl
+long_fraction_is_rejected = rejected rfc9651 item_field (codes "1.2345") (at_reach too_many_digits_after_decimal_point (codes "5")) refl
 
 -- sixteen digits
-sixteen_digits_are_refused : ¬ IsAccepted rfc9651 item_field (codes "1234567890123456")
+sixteen_digits_are_rejected : ¬ IsAccepted rfc9651 item_field (codes "1234567890123456")
 unfolding give fail ruled bind led branch ahead back up_to span many many_within sign_at long_at decimal_at fraction_at point_at whole_at number_at token_at date_at bare_at parameter_at parameters_at item_at whole_field_at read_field
-sixteen_digits_are_refused = refused rfc9651 item_field (codes "1234567890123456") (at_reach too_many_digits (codes "6")) refl
+sixteen_digits_are_rejected = rejected rfc9651 item_field (codes "1234567890123456") (at_reach too_many_digits (codes "6")) refl
 
 -- a single symbol between the colons
-lone_symbol_is_refused : ¬ IsAccepted rfc9651 item_field (codes ":a:")
-lone_symbol_is_refused = refused rfc9651 item_field (codes ":a:") (by_rule invalid_byte_sequence (codes "a:")) lone_symbol
+lone_symbol_is_rejected : ¬ IsAccepted rfc9651 item_field (codes ":a:")
+lone_symbol_is_rejected = rejected rfc9651 item_field (codes ":a:") (by_rule invalid_byte_sequence (codes "a:")) lone_symbol
 
 -- a Date, which RFC 8941 does not have
-old_date_is_refused : ¬ IsAccepted rfc8941 item_field (codes "@5")
+old_date_is_rejected : ¬ IsAccepted rfc8941 item_field (codes "@5")
 unfolding give fail ruled bind led branch ahead back up_to span many many_within sign_at long_at decimal_at fraction_at point_at whole_at number_at token_at date_at bare_at parameter_at parameters_at item_at whole_field_at read_field
-old_date_is_refused = refused rfc8941 item_field (codes "@5") (at_reach rfc8941_date (codes "@5")) refl
+old_date_is_rejected = rejected rfc8941 item_field (codes "@5") (at_reach rfc8941_date (codes "@5")) refl
 
 -- a tab in front of a list
-leading_tab_is_refused : ¬ IsAccepted rfc9651 list_field (codes "\t1")
+leading_tab_is_rejected : ¬ IsAccepted rfc9651 list_field (codes "\t1")
 unfolding fail bind led branch ahead back span many many_within token_at bare_at item_at member_at entry_at members_at whole_field_at read_field
-leading_tab_is_refused = refused rfc9651 list_field (codes "\t1") (record { kind = expected_start_of_bare_item; exact = true; rest = codes "\t1"; events = entry ∷ begins_item ∷ [] }) refl
+leading_tab_is_rejected = rejected rfc9651 list_field (codes "\t1") (record { kind = expected_start_of_bare_item; exact = true; rest = codes "\t1"; events = entry ∷ begins_item ∷ [] }) refl
 
 -- a tab behind an item
-trailing_tab_is_refused : ¬ IsAccepted rfc9651 item_field (codes "1\t")
+trailing_tab_is_rejected : ¬ IsAccepted rfc9651 item_field (codes "1\t")
 unfolding give fail ruled bind led branch ahead back up_to span many many_within sign_at long_at decimal_at fraction_at point_at whole_at number_at token_at date_at bare_at parameter_at parameters_at item_at whole_field_at read_field
-trailing_tab_is_refused = refused rfc9651 item_field (codes "1\t") (record { kind = trailing_characters_after_parsed_value; exact = true; rest = codes "\t"; events = bare_item (integer (pos 1)) ∷ parameters_end ∷ [] }) refl
+trailing_tab_is_rejected = rejected rfc9651 item_field (codes "1\t") (record { kind = trailing_characters_after_parsed_value; exact = true; rest = codes "\t"; events = bare_item (integer (pos 1)) ∷ parameters_end ∷ [] }) refl

@@ -13,8 +13,10 @@ use Rattle.sfv_reading.specs.Judgements.{Reached, Lasts, Local}
 use Rattle.sfv_reading.specs.Reader.{first, Fault, Answer, Reader}
 use Rattle.sfv_reading.specs.Fields.{whole_field_at, ending, read_field}
 use Rattle.sfv_reading.specs.Claims.{ReadIsAccepted, FaultIsPlaced}
-use Rattle.sfv_reading.proofs.Sound.{Somewhere, Goes, Reads}
-use Rattle.sfv_reading.proofs.Fields.{Sound-field, Local-field, field_again}
+use Rattle.sfv_reading.proofs.sound.Combinators.{Somewhere, Goes, Reads}
+use Rattle.sfv_reading.proofs.sound.Fields.{Sound-field}
+use Rattle.sfv_reading.proofs.local.Fields.{Local-field}
+use Rattle.sfv_reading.proofs.complete.Fields.{field_complete}
 
 -- a beginning of a text of the grammar
 abbrev pub Starts : {A : Type 0} → (A → List ℕ → Type 0) → List ℕ → Type 0
@@ -94,7 +96,7 @@ module _ {A : Type 0} (f : Reader A) (P : A → List ℕ → Type 0) (parts : A 
 -- ---- fields
 
 abbrev FieldReaches : Edition → FieldKind → List ℕ → List ℕ → Type 0
-FieldReaches edition kind t rest = Reaches (whole_field_at edition kind) (IsFieldText edition kind) (events kind) (Sound-field edition kind) (Local-field edition kind) (field_again edition kind) t rest
+FieldReaches edition kind t rest = Reaches (whole_field_at edition kind) (IsFieldText edition kind) (events kind) (Sound-field edition kind) (Local-field edition kind) (field_complete edition kind) t rest
 
 -- as an index
 reach_of : (edition : Edition) (kind : FieldKind) (t rest : List ℕ) → FieldReaches edition kind t rest → (n : ℕ) × (drop n t ≡ rest) × IsReach edition kind t n
@@ -117,17 +119,17 @@ reach_of edition kind t (c ∷ q) r =
 pub read_is_accepted : ReadIsAccepted
 unfolding read_field
 read_is_accepted edition kind t raw = (
-  (λ e. sound (whole_field_at edition kind) (IsFieldText edition kind) (events kind) (Sound-field edition kind) (Local-field edition kind) (field_again edition kind) raw t e),
-  (λ h. complete (whole_field_at edition kind) (IsFieldText edition kind) (events kind) (Sound-field edition kind) (Local-field edition kind) (field_again edition kind) raw t h),
+  (λ e. sound (whole_field_at edition kind) (IsFieldText edition kind) (events kind) (Sound-field edition kind) (Local-field edition kind) (field_complete edition kind) raw t e),
+  (λ h. complete (whole_field_at edition kind) (IsFieldText edition kind) (events kind) (Sound-field edition kind) (Local-field edition kind) (field_complete edition kind) raw t h),
 )
 
 pub fault_is_placed : FaultIsPlaced
 unfolding read_field
 fault_is_placed edition kind t e i =
-    let w = told (whole_field_at edition kind) (IsFieldText edition kind) (events kind) (Sound-field edition kind) (Local-field edition kind) (field_again edition kind) t e i in
+    let w = told (whole_field_at edition kind) (IsFieldText edition kind) (events kind) (Sound-field edition kind) (Local-field edition kind) (field_complete edition kind) t e i in
     let g = w.0.1 in
     record {
       told = record { raw = g.0; is_value = (accepted_is_value_lem edition kind w.0.0 g.0 g.1).0; more = g.2.0; all = g.2.1 };
-      exact = λ x. reach_of edition kind t e.rest (reaches (whole_field_at edition kind) (IsFieldText edition kind) (events kind) (Sound-field edition kind) (Local-field edition kind) (field_again edition kind) t e i x);
+      exact = λ x. reach_of edition kind t e.rest (reaches (whole_field_at edition kind) (IsFieldText edition kind) (events kind) (Sound-field edition kind) (Local-field edition kind) (field_complete edition kind) t e i x);
       ruled = w.1;
     }

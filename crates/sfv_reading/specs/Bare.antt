@@ -1,5 +1,6 @@
 -- Reading bare items.
 use Rattle.std.specs.Prelude.{ℕ, ◌+◌, ◌-◌, ◌*◌, ◌^◌, Bool, true, false, ◌||◌, List, ◌∷◌, length, Option, Some, None, nat_lt, ◌==◌, if◌then◌else◌}
+use Rattle.sfv_spec.specs.Ascii.{double_quote, percent_sign, minus_sign, dot, digit_zero, digit_one, colon, question_mark, at_sign}
 use Rattle.sfv_spec.specs.Classes.{is_digit, is_token_start, is_token_inner}
 use Rattle.sfv_spec.specs.Numbers.{place_value, signed}
 use Rattle.sfv_spec.specs.Values.{Edition, rfc8941, rfc9651, BareValue, integer, decimal, string, token, byte_sequence, boolean, date, display_string}
@@ -10,7 +11,7 @@ use Rattle.sfv_reading.specs.Quoted.{string_at, display_at}
 
 -- a minus sign, or none
 unfoldable pub sign_at : Reader Bool
-sign_at = branch (byte 0x2d) (λ _. give true) (give false)
+sign_at = branch (byte minus_sign) (λ _. give true) (give false)
 
 -- a fourth digit behind the point; in a Date the place has a rule of its own
 unfoldable pub long_at : Bool → Reader (Option BareValue)
@@ -29,14 +30,14 @@ fraction_at dated negative whole = up_to is_digit 3 >>= λ fraction. decimal_at 
 
 -- at the point
 unfoldable pub point_at : Bool → Bool → List ℕ → Reader BareValue
-point_at dated negative whole = back trailing_decimal_point (branch (byte 0x2e) (λ _. fraction_at dated negative whole) (give None))
+point_at dated negative whole = back trailing_decimal_point (branch (byte dot) (λ _. fraction_at dated negative whole) (give None))
 
 -- behind the first digits, of which there are fifteen at most
 unfoldable pub whole_at : Bool → Bool → List ℕ → Reader BareValue
 whole_at dated negative whole =
     if length whole == 0 then fail expected_digit else
     ahead is_digit (fail too_many_digits)
-    (ahead (byte 0x2e)
+    (ahead (byte dot)
     (if nat_lt 12 (length whole) then fail too_many_digits_before_decimal_point else point_at dated negative whole)
     (give (integer (signed negative (place_value whole)))))
 
@@ -46,7 +47,7 @@ number_at dated = sign_at >>= λ negative. up_to is_digit 15 >>= λ whole. whole
 
 -- behind the question mark
 unfoldable pub boolean_at : Reader BareValue
-boolean_at = branch (byte 0x30) (λ _. give (boolean false)) (branch (byte 0x31) (λ _. give (boolean true)) (fail expected_boolean))
+boolean_at = branch (byte digit_zero) (λ _. give (boolean false)) (branch (byte digit_one) (λ _. give (boolean true)) (fail expected_boolean))
 
 -- a token, or no bare item at all
 unfoldable pub token_at : Reader BareValue
@@ -60,24 +61,24 @@ as_date _ = None
 -- at the sign "@", which only RFC 9651 knows
 unfoldable pub date_at : Edition → Reader BareValue
 date_at rfc8941 = fail rfc8941_date
-date_at rfc9651 = back non_integer_date (branch (byte 0x40) (λ _. number_at true >>= λ v. give (as_date v)) (give None))
+date_at rfc9651 = back non_integer_date (branch (byte at_sign) (λ _. number_at true >>= λ v. give (as_date v)) (give None))
 
 -- at the percent sign, which only RFC 9651 knows
 unfoldable pub quoted_at : Edition → Reader BareValue
 quoted_at rfc8941 = fail rfc8941_display_string
-quoted_at rfc9651 = branch (byte 0x25) (λ _. branch (byte 0x22) (λ _. display_at >>= λ s. give (display_string s)) (fail expected_quote)) (fail expected_start_of_bare_item)
+quoted_at rfc9651 = branch (byte percent_sign) (λ _. branch (byte double_quote) (λ _. display_at >>= λ s. give (display_string s)) (fail expected_quote)) (fail expected_start_of_bare_item)
 
 -- a number begins with a digit or a minus sign
 abbrev pub is_number_start : ℕ → Bool
-is_number_start b = is_digit b || (b == 0x2d)
+is_number_start b = is_digit b || (b == minus_sign)
 
 -- a bare item, whose kind the first byte decides
 unfoldable pub bare_at : Edition → Reader BareValue
 bare_at edition =
-    branch (byte 0x3f) (λ _. boolean_at)
-    (branch (byte 0x22) (λ _. string_at >>= λ s. give (string s))
-    (branch (byte 0x3a) (λ _. bytes_at >>= λ s. give (byte_sequence s))
-    (ahead (byte 0x40) (date_at edition)
-    (ahead (byte 0x25) (quoted_at edition)
+    branch (byte question_mark) (λ _. boolean_at)
+    (branch (byte double_quote) (λ _. string_at >>= λ s. give (string s))
+    (branch (byte colon) (λ _. bytes_at >>= λ s. give (byte_sequence s))
+    (ahead (byte at_sign) (date_at edition)
+    (ahead (byte percent_sign) (quoted_at edition)
     (ahead is_number_start (number_at false)
     token_at)))))

@@ -1,5 +1,6 @@
 -- What the readers of fields have to do with the grammar.
 use Rattle.std.specs.Prelude.{◌≡◌, ◌↔◌, ℕ, ◌+◌, ◌≤◌, ◌%◌, Bool, List, [], ◌∷◌, ◌++◌, length, drop, true, false, IsTrue, ⊤, Some, None, Ok, Err, ◌⊎◌, codes}
+use Rattle.sfv_spec.specs.Ascii.{comma, colon, question_mark}
 use Rattle.sfv_spec.specs.Texts.{RunOf}
 use Rattle.sfv_spec.specs.Classes.{is_space_or_tab, is_one_of}
 use Rattle.sfv_spec.specs.Values.{Edition, rfc9651, FieldKind, item_field, RawField, BareValue, RawItem, IsFieldValue}
@@ -9,14 +10,14 @@ use Rattle.sfv_spec.specs.Reach.{IsReach}
 use Rattle.sfv_spec.specs.Visiting.{BeginsEvents}
 use Rattle.sfv_spec.specs.Base64.{IsBase64Text, symbols}
 use Rattle.sfv_spec.specs.Faults.{has_rule, SyntaxFault, trailing_comma, unterminated_byte_sequence, invalid_byte_sequence, unterminated_escape_sequence, invalid_escape_sequence, unterminated_display_string, invalid_display_string_character, invalid_utf8_in_display_string, IsTrailingComma, WantsBetween, IsUnterminatedByteSequence, IsLoneSymbol, IsUnterminatedDisplay, IsUnterminatedEscape, IsInvalidEscape, IsInvalidDisplayByte, IsInvalidUtf8, IsBase64FaultPlace}
-use Rattle.sfv_reading.specs.Reader.{Fault, Reader, by_rule, handed}
+use Rattle.sfv_reading.specs.Reader.{Fault, Reader, by_rule, visited}
 use Rattle.sfv_reading.specs.Judgements.{Sound, Mute, Quiet, IsFault, Local, Complete, StaysButText}
 use Rattle.sfv_reading.specs.Content.{valid_from, bytes_of, fault_place, IsBytesEnd, HasNoColon, content_fault, bytes_at}
 use Rattle.sfv_reading.specs.Quoted.{IsStringEnd, string_at, IsStringFault, IsDisplayEnd, display_at, IsDisplayFault}
 use Rattle.sfv_reading.specs.Bare.{bare_at}
 use Rattle.sfv_reading.specs.Fields.{whole_field_at, read_field}
 
--- A fault stands at the reach, or its place has a rule; what was handed out begins some field's events.
+-- A fault stands at the reach, or its place has a rule; what was visited begins some field's events.
 pub record IsFaultOf (edition : Edition) (kind : FieldKind) (t : List ℕ) (e : Fault) : Type 0 where
   pub told : BeginsEvents kind e.events
   pub exact : e.exact ≡ true → (n : ℕ) × (drop n t ≡ e.rest) × IsReach edition kind t n
@@ -30,13 +31,13 @@ ReadIsAccepted = (edition : Edition) (kind : FieldKind) (t : List ℕ) (raw : Ra
 abbrev pub FaultIsPlaced : Type 0
 FaultIsPlaced = (edition : Edition) (kind : FieldKind) (t : List ℕ) (e : Fault) → read_field edition kind t ≡ Err e → IsFaultOf edition kind t e
 
--- what is handed out by an answer, a success or a fault, begins some field's events
-abbrev pub HandedBegins : Type 0
-HandedBegins = (edition : Edition) (kind : FieldKind) (t : List ℕ) → BeginsEvents kind (handed (events kind) (whole_field_at edition kind t))
+-- what is visited by an answer, a success or a fault, begins some field's events
+abbrev pub VisitedBegins : Type 0
+VisitedBegins = (edition : Edition) (kind : FieldKind) (t : List ℕ) → BeginsEvents kind (visited (events kind) (whole_field_at edition kind t))
 
--- so does what a visitor took before it refused, with what it refused
-abbrev pub RefusedBegins : Type 0
-RefusedBegins = (kind : FieldKind) (es before : List TreeEvent) (e : TreeEvent) (after : List TreeEvent) → BeginsEvents kind es → es ≡ before ++ e ∷ after → BeginsEvents kind (before ++ e ∷ [])
+-- so does what a visitor took before it rejected, with what it rejected
+abbrev pub FailedBegins : Type 0
+FailedBegins = (kind : FieldKind) (es before : List TreeEvent) (e : TreeEvent) (after : List TreeEvent) → BeginsEvents kind es → es ≡ before ++ e ∷ after → BeginsEvents kind (before ++ e ∷ [])
 
 -- what is accepted as an item is a value
 abbrev pub ItemIsValue : Type 0
@@ -63,11 +64,11 @@ pub record CommaAt {A : Type 0} (P : A → List ℕ → Type 0) (t : List ℕ) (
   pub whitespace : List ℕ
   pub m : A
   pub ms : List A
-  pub text : t ≡ before ++ 0x2c ∷ whitespace
+  pub text : t ≡ before ++ comma ∷ whitespace
   pub blank : RunOf is_space_or_tab whitespace
   pub accepted : AreMembersText P (m ∷ ms) before
   pub kind : e.kind ≡ trailing_comma
-  pub rest : e.rest ≡ 0x2c ∷ whitespace
+  pub rest : e.rest ≡ comma ∷ whitespace
 
 -- a fault that isn't exact is that of a bare item, or of the comma at the end
 abbrev pub RuledComes : Type 0
@@ -118,7 +119,7 @@ LeavesOneOver = (content : List ℕ) → bytes_of content ≡ None
 abbrev pub IsBytesFault : List ℕ → Fault → Type 0
 IsBytesFault t e =
     (HasNoColon t × (e ≡ by_rule unterminated_byte_sequence []))
-    ⊎ ((content : List ℕ) × (rest : List ℕ) × (t ≡ content ++ 0x3a ∷ rest) × HasNoColon content × (bytes_of content ≡ None) × (e ≡ content_fault content (drop (fault_place content) t)))
+    ⊎ ((content : List ℕ) × (rest : List ℕ) × (t ≡ content ++ colon ∷ rest) × HasNoColon content × (bytes_of content ≡ None) × (e ≡ content_fault content (drop (fault_place content) t)))
 
 -- a Byte Sequence is read exactly, and exactly these are its faults
 abbrev pub BytesRead : Type 0
@@ -143,14 +144,14 @@ BytesRules =
 -- where a question mark comes, the reader of Byte Sequences faults, or it was done before
 abbrev pub ShunsMark : List ℕ → Type 0
 ShunsMark u =
-    ((c : List ℕ) → IsFault (bytes_at (u ++ 0x3f ∷ c)))
-    ⊎ ((rest : List ℕ) × (bytes : List ℕ) × ((c : List ℕ) → bytes_at (u ++ 0x3f ∷ c) ≡ Ok (bytes, rest ++ 0x3f ∷ c)))
+    ((c : List ℕ) → IsFault (bytes_at (u ++ question_mark ∷ c)))
+    ⊎ ((rest : List ℕ) × (bytes : List ℕ) × ((c : List ℕ) → bytes_at (u ++ question_mark ∷ c) ≡ Ok (bytes, rest ++ question_mark ∷ c)))
 
 -- a question mark stands in no Byte Sequence
 abbrev pub ShunsMarks : Type 0
 ShunsMarks = (u : List ℕ) → ShunsMark u
 
--- exactly these faults are given, all of them exact or none, and nothing is handed out
+-- exactly these faults are given, all of them exact or none, and nothing is visited
 abbrev pub Faults : Bool → Reader (List ℕ) → (List ℕ → SyntaxFault → List ℕ → Type 0) → Type 0
 Faults exact f P = (t : List ℕ) (e : Fault) → (f t ≡ Err e) ↔ (P t e.kind e.rest × (e.exact ≡ exact) × (e.events ≡ []))
 

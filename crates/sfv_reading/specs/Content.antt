@@ -1,6 +1,7 @@
 -- Reading a Byte Sequence: its content from left to right, and the reader behind the opening colon.
 use Rattle.std.specs.Prelude.{◌≡◌, ◌++◌, ℕ, zero, suc, ◌+◌, ◌-◌, ◌*◌, ◌/◌, ◌%◌, ◌==◌, List, [], ◌∷◌, length, drop, Bool, not, ◌&&◌, if◌then◌else◌, Option, Some, None, Ok, Err, codes}
 use Rattle.std.specs.List.{list_any}
+use Rattle.sfv_spec.specs.Ascii.{plus_sign, slash, digit_zero, digit_nine, colon, equals_sign, upper_a, upper_z, lower_a, lower_z}
 use Rattle.sfv_spec.specs.Texts.{RunOf, Exactly, ◌⨾◌}
 use Rattle.sfv_spec.specs.Classes.{is_between}
 use Rattle.sfv_spec.specs.Base64.{is_symbol, IsBase64Text}
@@ -10,10 +11,10 @@ use Rattle.sfv_reading.specs.Reader.{Fault, Answer, Reader, placed, by_rule}
 -- the value of a symbol
 unfoldable pub symbol_value : ℕ → ℕ
 symbol_value c =
-    if is_between 0x41 0x5a c then c - 0x41
-    else if is_between 0x61 0x7a c then c - 0x61 + 26
-    else if is_between 0x30 0x39 c then c - 0x30 + 52
-    else if c == 0x2b then 62 else 63
+    if is_between upper_a upper_z c then c - upper_a
+    else if is_between lower_a lower_z c then c - lower_a + 26
+    else if is_between digit_zero digit_nine c then c - digit_zero + 52
+    else if c == plus_sign then 62 else 63
 
 -- how much padding may follow so many symbols
 abbrev pub most_padding : ℕ → ℕ
@@ -23,7 +24,7 @@ most_padding n = if n % 4 == 2 then 2 else if n % 4 == 3 then 1 else 0
 unfoldable pub padding_in : ℕ → List ℕ → ℕ
 padding_in zero t = 0
 padding_in (suc k) [] = 0
-padding_in (suc k) (c ∷ t) = if c == 0x3d then suc (padding_in k t) else 0
+padding_in (suc k) (c ∷ t) = if c == equals_sign then suc (padding_in k t) else 0
 
 -- behind n symbols, how many bytes some Base64 text goes on with
 unfoldable pub valid_from : ℕ → List ℕ → ℕ
@@ -62,11 +63,11 @@ IsBytesEnd bytes t = (IsBase64Text bytes ⨾ Exactly (codes ":")) t
 
 -- the byte that closes a Byte Sequence
 abbrev pub is_colon : ℕ → Bool
-is_colon c = c == 0x3a
+is_colon c = c == colon
 
 -- no colon stands in a text
 abbrev pub HasNoColon : List ℕ → Type 0
-HasNoColon = RunOf (λ c. not (c == 0x3a))
+HasNoColon = RunOf (λ c. not (c == colon))
 
 -- the bytes in front of the first colon
 unfoldable pub content_in : List ℕ → List ℕ
@@ -91,7 +92,7 @@ bytes_at t = if list_any is_colon t then closed_by t (content_in t) (bytes_of (c
 
 -- the content from start to end, which a colon closes
 pub record IsContentAt (input : List ℕ) (start end : ℕ) (content : List ℕ) : Type 0 where
-  pub text : drop start input ≡ content ++ 0x3a ∷ drop (end + 1) input
+  pub text : drop start input ≡ content ++ colon ∷ drop (end + 1) input
   pub no_colon : HasNoColon content
   pub counted : end ≡ start + length content
 

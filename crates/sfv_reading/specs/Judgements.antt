@@ -4,7 +4,7 @@ use Rattle.sfv_spec.specs.Events.{TreeEvent}
 use Rattle.sfv_spec.specs.Faults.{has_rule, invalid_utf8_in_display_string}
 use Rattle.sfv_reading.specs.Reader.{Fault, Answer, Reader, first}
 
--- W u es: u is a text of the grammar, and es begins what is handed out for it. Such a text goes on behind
+-- W u es: u is a text of the grammar, and es begins what is visited for it. Such a text goes on behind
 -- what stands before the fault.
 pub record GoesOn (W : List ℕ → List TreeEvent → Type 0) (t : List ℕ) (e : Fault) : Type 0 where
   pub front : List ℕ
@@ -12,7 +12,7 @@ pub record GoesOn (W : List ℕ → List TreeEvent → Type 0) (t : List ℕ) (e
   pub parts : t ≡ front ++ e.rest
   pub holds : W (front ++ more) e.events
 
--- P v s: the text s means v. V es: es begins what is handed out for some text.
+-- P v s: the text s means v. V es: es begins what is visited for some text.
 abbrev pub Reached : {A : Type 0} → (A → List ℕ → Type 0) → (List ℕ → List TreeEvent → Type 0) → (List TreeEvent → Type 0) → List ℕ → Answer A → Type 0
 Reached P W V t (Ok x) = (s : List ℕ) × (t ≡ s ++ x.1) × P x.0 s
 Reached P W V t (Err e) = (e.exact ≡ true → GoesOn W t e) × (e.exact ≡ false → V e.events × (has_rule e.kind ≡ true))
@@ -21,11 +21,11 @@ Reached P W V t (Err e) = (e.exact ≡ true → GoesOn W t e) × (e.exact ≡ fa
 pub record Sound {A : Type 0} (f : Reader A) (P : A → List ℕ → Type 0) (W : List ℕ → List TreeEvent → Type 0) (V : List TreeEvent → Type 0) : Type 0 where
   pub sound : (t : List ℕ) → Reached P W V t (f t)
 
--- a text of P, for which nothing is handed out
+-- a text of P, for which nothing is visited
 abbrev pub Mute : {A : Type 0} → (A → List ℕ → Type 0) → List ℕ → List TreeEvent → Type 0
 Mute {A} P u es = (v : A) × P v u × (es ≡ [])
 
--- nothing was handed out
+-- nothing was visited
 abbrev pub Quiet : List TreeEvent → Type 0
 Quiet es = es ≡ []
 

@@ -3,6 +3,7 @@ use Rattle.std.specs.Prelude.{◌≡◌, ℕ, zero, suc, ◌≤◌, ◌+◌, ◌
 use Rattle.std.specs.List.{concat, AllZip}
 use Rattle.std.specs.Str.{is_utf8}
 use Rattle.std.specs.Str.Lossy.{utf8_valid_len}
+use Rattle.sfv_spec.specs.Ascii.{double_quote, percent_sign, backslash}
 use Rattle.sfv_spec.specs.Texts.{RunOf, Exactly, ◌⨾◌}
 use Rattle.sfv_spec.specs.Classes.{is_string_byte, is_lower_hexadecimal}
 use Rattle.sfv_spec.specs.Strings.{is_escaped_in_string, hexadecimal_value, IsStringPiece, IsStringContent, IsDisplayPiece, IsDisplayContent}
@@ -28,8 +29,8 @@ behind_bytes bytes (Err e) = Err e
 unfoldable pub string_from : Bool → Reader (List ℕ)
 string_from false [] = Err (at_reach unterminated_string [])
 string_from false (c ∷ r) =
-    if c == 0x22 then Ok ([], r)
-    else if c == 0x5c then string_from true r
+    if c == double_quote then Ok ([], r)
+    else if c == backslash then string_from true r
     else if is_string_byte c then behind_bytes (c ∷ []) (string_from false r)
     else Err (at_reach invalid_string_character (c ∷ r))
 string_from true [] = Err (at_reach unterminated_escape_sequence [])
@@ -52,8 +53,8 @@ pub data Place : Type 0 where
 unfoldable pub pieces_from : Place → Reader (List ℕ)
 pieces_from outside [] = Err (by_rule unterminated_display_string [])
 pieces_from outside (c ∷ r) =
-    if c == 0x22 then Ok ([], r)
-    else if c == 0x25 then pieces_from percent r
+    if c == double_quote then Ok ([], r)
+    else if c == percent_sign then pieces_from percent r
     else if is_string_byte c then behind_bytes (c ∷ []) (pieces_from outside r)
     else Err (by_rule invalid_display_string_character (c ∷ r))
 pieces_from percent [] = Err (by_rule unterminated_escape_sequence [])
@@ -69,7 +70,7 @@ pieces_from (digit h) (c ∷ r) =
 abbrev pub behind_pieces : ℕ → List ℕ → List ℕ
 behind_pieces zero t = t
 behind_pieces (suc n) [] = []
-behind_pieces (suc n) (c ∷ r) = behind_pieces n (if c == 0x25 then drop 2 r else r)
+behind_pieces (suc n) (c ∷ r) = behind_pieces n (if c == percent_sign then drop 2 r else r)
 
 -- the bytes must be UTF-8
 abbrev pub checked : List ℕ → Answer (List ℕ) → Answer (List ℕ)
@@ -85,16 +86,16 @@ display_at t = checked t (pieces_from outside t)
 -- a String's inside stops so
 abbrev pub StringStops : SyntaxFault → List ℕ → List ℕ → Type 0
 StringStops unterminated_string left there = (left ≡ []) × (there ≡ [])
-StringStops unterminated_escape_sequence left there = (left ≡ 0x5c ∷ []) × (there ≡ [])
-StringStops invalid_escape_sequence left there = (wrong : ℕ) × (more : List ℕ) × (left ≡ 0x5c ∷ wrong ∷ more) × (there ≡ wrong ∷ more) × IsFalse (is_escaped_in_string wrong)
+StringStops unterminated_escape_sequence left there = (left ≡ backslash ∷ []) × (there ≡ [])
+StringStops invalid_escape_sequence left there = (wrong : ℕ) × (more : List ℕ) × (left ≡ backslash ∷ wrong ∷ more) × (there ≡ wrong ∷ more) × IsFalse (is_escaped_in_string wrong)
 StringStops invalid_string_character left there = (wrong : ℕ) × (more : List ℕ) × (left ≡ wrong ∷ more) × (there ≡ wrong ∷ more) × IsFalse (is_string_byte wrong)
 StringStops _ left there = ⊥
 
 -- a Display String's inside stops so
 abbrev pub DisplayStops : SyntaxFault → List ℕ → List ℕ → Type 0
 DisplayStops unterminated_display_string left there = (left ≡ []) × (there ≡ [])
-DisplayStops unterminated_escape_sequence left there = (digits : List ℕ) × (left ≡ 0x25 ∷ digits) × (there ≡ []) × RunOf is_lower_hexadecimal digits × (length digits ≤ 1)
-DisplayStops invalid_escape_sequence left there = (digits : List ℕ) × (wrong : ℕ) × (more : List ℕ) × (left ≡ 0x25 ∷ (digits ++ wrong ∷ more)) × (there ≡ wrong ∷ more) × RunOf is_lower_hexadecimal digits × (length digits ≤ 1) × IsFalse (is_lower_hexadecimal wrong)
+DisplayStops unterminated_escape_sequence left there = (digits : List ℕ) × (left ≡ percent_sign ∷ digits) × (there ≡ []) × RunOf is_lower_hexadecimal digits × (length digits ≤ 1)
+DisplayStops invalid_escape_sequence left there = (digits : List ℕ) × (wrong : ℕ) × (more : List ℕ) × (left ≡ percent_sign ∷ (digits ++ wrong ∷ more)) × (there ≡ wrong ∷ more) × RunOf is_lower_hexadecimal digits × (length digits ≤ 1) × IsFalse (is_lower_hexadecimal wrong)
 DisplayStops invalid_display_string_character left there = (wrong : ℕ) × (more : List ℕ) × (left ≡ wrong ∷ more) × (there ≡ wrong ∷ more) × IsFalse (is_string_byte wrong)
 DisplayStops _ left there = ⊥
 
@@ -113,5 +114,5 @@ IsStringFault t kind there = Traced IsStringPiece t (λ bytes left. StringStops 
 
 -- the faults of a Display String whose inside is t: all but that of UTF-8 stop the pieces
 abbrev pub IsDisplayFault : List ℕ → SyntaxFault → List ℕ → Type 0
-IsDisplayFault t invalid_utf8_in_display_string there = Traced IsDisplayPiece t (λ bytes left. (rest : List ℕ) × (left ≡ 0x22 ∷ rest) × (¬ IsUtf8 bytes) × (there ≡ behind_pieces (utf8_valid_len bytes) t))
+IsDisplayFault t invalid_utf8_in_display_string there = Traced IsDisplayPiece t (λ bytes left. (rest : List ℕ) × (left ≡ double_quote ∷ rest) × (¬ IsUtf8 bytes) × (there ≡ behind_pieces (utf8_valid_len bytes) t))
 IsDisplayFault t kind there = Traced IsDisplayPiece t (λ bytes left. DisplayStops kind left there)

@@ -4,14 +4,14 @@ use Rattle.sfv_spec.specs.Events.{TreeEvent}
 use Rattle.sfv_spec.specs.Faults.{SyntaxFault, unterminated_byte_sequence}
 
 -- What is met first that isn't of the grammar. Where it is exact, the rest begins at the first byte behind
--- which no text of the grammar goes on; the events are those that were handed out before.
+-- which no text of the grammar goes on; the events are those that were visited before.
 pub record Fault : Type 0 where
   pub kind : SyntaxFault
   pub exact : Bool
   pub rest : List ℕ
   pub events : List TreeEvent
 
--- a fault of which nothing was handed out before
+-- a fault of which nothing was visited before
 abbrev pub placed : Bool → SyntaxFault → List ℕ → Fault
 placed exact k t = record { kind = k; exact = exact; rest = t; events = [] }
 
@@ -31,7 +31,7 @@ Answer A = Result (A × List ℕ) Fault
 abbrev pub Reader : Type 0 → Type 0
 Reader A = List ℕ → Answer A
 
--- behind events that were handed out before
+-- behind events that were visited before
 abbrev pub behind_events : List TreeEvent → Fault → Fault
 behind_events es e = record { kind = e.kind; exact = e.exact; rest = e.rest; events = es ++ e.events }
 
@@ -113,6 +113,10 @@ many_within parts (suc n) step = step >>= go_on parts (many_within parts n step)
 unfoldable pub many : {A : Type 0} → (A → List TreeEvent) → Reader (Option A) → Reader (List A)
 many parts step t = many_within parts (suc (length t)) step t
 
+-- one, and what the steps behind it give
+abbrev pub one_and_more : {A : Type 0} → (A → List TreeEvent) → Reader A → Reader (Option A) → Reader (List A)
+one_and_more parts one next = one >>= λ v. led (parts v) (many parts next >>= λ vs. give (v ∷ vs))
+
 -- the class of one byte
 abbrev pub byte : ℕ → ℕ → Bool
 byte c b = b == c
@@ -121,10 +125,10 @@ byte c b = b == c
 abbrev pub any : ℕ → Bool
 any _ = true
 
--- what was handed out by an answer
-abbrev pub handed : {A : Type 0} → (A → List TreeEvent) → Answer A → List TreeEvent
-handed parts (Ok x) = parts x.0
-handed parts (Err e) = e.events
+-- what was visited by an answer
+abbrev pub visited : {A : Type 0} → (A → List TreeEvent) → Answer A → List TreeEvent
+visited parts (Ok x) = parts x.0
+visited parts (Err e) = e.events
 
 -- the byte that stands next
 abbrev pub first : List ℕ → Option ℕ

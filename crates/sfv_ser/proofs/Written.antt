@@ -1,17 +1,16 @@
 -- A text is written run by run.
-use Rattle.std.proofs.Common.{◌≡◌, ℕ, ◌<◌, ◌≤◌, ◌+◌, ◌-◌, Bool, true, cond, not, List, [], ◌∷◌, ◌++◌, length, take, refl, sym, ap, ◌∙◌, append_assoc, take-add, arith}
-use Rattle.std.specs.Prelude.{slice_index, slice_range, string_bytes, Result, Ok, Err, is_ok, OnErr}
+use Rattle.std.proofs.Common.{◌≡◌, ℕ, ◌<◌, ◌≤◌, ◌+◌, ◌-◌, Bool, true, cond, not, List, [], ◌∷◌, ◌++◌, length, take, refl, sym, ap, subst, ◌∙◌, append_assoc, take-add, arith}
+use Rattle.std.specs.Prelude.{slice_index, slice_range, string_bytes, Result, Ok, Err, is_ok, OnErr, IsUtf8}
 use Rattle.std.specs.Str.{IsCharBoundary}
 use Rattle.std.specs.declared.string.String.{String}
 use Rattle.std.specs.List.{flat_map, list_all}
 use Rattle.std.proofs.lemmas.Bool.{and_parts, not-true}
-use Rattle.std.proofs.lemmas.List.{append-nil, take_more, take_all}
-use Rattle.std.proofs.lemmas.Str.{IsUtf8-string_bytes}
+use Rattle.std.proofs.lemmas.List.{append-nil, length-append, take_at, take_more, take_all}
+use Rattle.std.proofs.lemmas.Str.{IsUtf8-string_bytes, IsCharBoundary-from_take}
 use Rattle.sfv_spec.specs.Texts.{RunOf}
 use Rattle.sfv_spec.specs.Classes.{is_string_byte}
 use Rattle.sfv_spec.specs.Strings.{is_escaped_in_string, is_plain_in_display, is_plain_in_string}
 use Rattle.sfv_spec.specs.Canonical.{string_piece, display_piece}
-use Rattle.sfv_reading.proofs.Cuts.{cut}
 use Rattle.sfv_ser.specs.Written.{Extends, Appends}
 
 flat_map_append : (f : ℕ → List ℕ) (xs ys : List ℕ) → flat_map f (xs ++ ys) ≡ flat_map f xs ++ flat_map f ys
@@ -57,7 +56,10 @@ string_itself c e = ap (λ (b : Bool). cond b (0x5c ∷ c ∷ []) (c ∷ [])) (n
 -- a text that was added to may be cut where the old one ended
 pub cut_back : {Z T E : Type 0} (old new : String Z) (result : Result T E) (len : ℕ) → len ≡ length (string_bytes old) → OnErr result (Extends (string_bytes old) (string_bytes new)) → OnErr result (IsCharBoundary (string_bytes new) len)
 cut_back old new (Ok x) len is more = tt
-cut_back old new (Err e) len is more = cut (string_bytes old) (string_bytes new) len (IsUtf8-string_bytes old) (IsUtf8-string_bytes new) more is
+cut_back old new (Err e) len is more =
+    let front : take len (string_bytes new) ≡ string_bytes old = ap (take len) more.1 ∙ take_at (string_bytes old) more.0 len (sym is) in
+    let long = ap (length {A = ℕ}) more.1 in
+    IsCharBoundary-from_take (string_bytes new) len (IsUtf8-string_bytes new) (omega (arith, is, long, length-append (string_bytes old) more.0)) (subst IsUtf8 (sym front) (IsUtf8-string_bytes old))
 
 -- what is added last
 pub pushed_last : {Z E : Type 0} (old new : String Z) (r : Result (Unit {0}) E) (before more text : List ℕ) → string_bytes new ≡ cond (is_ok r) (before ++ more) before → before ++ more ≡ string_bytes old ++ text → Extends (string_bytes old) before → Appends old new text r

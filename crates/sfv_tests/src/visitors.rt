@@ -6,13 +6,13 @@ use sfv::{Error, ErrorKind, GenericBareItem, ParseError, Parser, Version, intege
 use std::alloc::{AllocError, Allocator};
 use std::test::Fail;
 
-/// Counts its events, and refuses one of them, or to answer.
+/// Counts its events, and fails at one of them, or at its end.
 #[derive(Drop)]
 struct Counter {
     events: u64,
-    /// The event that it refuses, from 1; 0 for none.
+    /// The event at which it fails, from 1; 0 for none.
     refused: u64,
-    /// Whether it refuses to answer.
+    /// Whether it fails to answer.
     refuses_to_finish: bool,
 }
 
@@ -35,11 +35,11 @@ impl<'de> Visitor<'de> for Counter {
 
     ghost takes = { λ _ _ _. ⊤ };
 
-    ghost refuses = { λ _ _ _. ⊤ };
+    ghost fails = { λ _ _ _. ⊤ };
 
     ghost finishes = { λ _ _. ⊤ };
 
-    ghost finish_refuses = { λ _ _. ⊤ };
+    ghost finish_fails = { λ _ _. ⊤ };
 
     ghost is_memory = { λ _. ⊥ };
 
@@ -74,11 +74,11 @@ impl<'de, A: Allocator> Visitor<'de> for Teller<A> {
 
     ghost takes = { λ _ _ _. ⊤ };
 
-    ghost refuses = { λ _ _ _. ⊤ };
+    ghost fails = { λ _ _ _. ⊤ };
 
     ghost finishes = { λ _ _. ⊤ };
 
-    ghost finish_refuses = { λ _ _. ⊤ };
+    ghost finish_fails = { λ _ _. ⊤ };
 
     ghost is_memory = { λ _. ⊤ };
 

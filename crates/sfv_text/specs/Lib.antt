@@ -1,3 +1,5 @@
+pub mod AsciiTexts
+pub mod CheckedTexts
 pub mod KeyText
 pub mod TokenText
 pub mod StringText

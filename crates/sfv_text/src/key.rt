@@ -1,178 +1,52 @@
 //! Keys that own their text (RFC 9651, section 3.1.2).
 
-ghost use Rattle.std.specs.Prelude.{◌≡◌, IfOk, Some, refl, nat_eq, string_bytes, IsTrue, codes};
-ghost use Rattle.std.specs.Fmt.{debug_variant, debug_str};
-ghost use Rattle.std.specs.Hash as fed;
-ghost use Rattle.std.specs.Cmp.Lexicographic.{pointwise, slice_cmp, nat_list_eq_equiv, nat_list_cmp_total, texts_ties, texts_po};
-ghost use Rattle.std.specs.Cmp;
-ghost use Rattle.std.specs.Ordering.{nat_cmp};
-ghost use Rattle.std.specs.Cmp.Rules.{hashing};
-ghost use Rattle.std.proofs.Common.{rules};
+ghost use Rattle.std.specs.Prelude.{codes};
 ghost use Rattle.sfv_spec.specs.Classes.{is_key};
-ghost use Rattle.sfv_text.specs.KeyText.{key_text, GivesKey, GivesKeyOrText};
+ghost use Rattle.sfv_text.specs.InvalidTexts.{IsInvalidKey};
+ghost use Rattle.sfv_text.specs.AsciiTexts.{key_utf8};
 
+use crate::checked_text::CheckedText;
 use crate::key_ref::KeyRef;
+use crate::text_class::TextClass;
 use crate::validity::check_key;
 use sfv_base::error::Error;
-use std::alloc::AllocError;
-use std::cmp::Ordering;
-use std::fmt;
-use std::hash::{Hash, Hasher};
-use std::marker::Model;
-use std::string::String as StdString;
+
+/// The class of keys (RFC 9651, section 3.1.2).
+#[derive(Drop)]
+pub enum KeyClass {}
+
+impl TextClass for KeyClass {
+    ghost is_valid = { is_key };
+
+    ghost IsInvalid = { IsInvalidKey };
+
+    ghost name = { codes "Key" };
+
+    ghost is_utf8 = { key_utf8 };
+
+    fn check(bytes: &[u8]) -> Result<(), Error> {
+        check_key(bytes)
+    }
+
+    fn name() -> &'static str {
+        "Key"
+    }
+}
 
 /// A key that owns its text (RFC 9651, section 3.1.2).
 ///
-/// `TryFrom` of a text is `from_string` without the text in its error. Comparisons, `Hash` and `Display` go
-/// by the text, and it becomes its text by `From`. `clone` is refused (`AllocError`) where memory is.
-///
-/// A contract sees it as its bytes.
-#[derive(Drop)]
-pub struct Key {
-    text: StdString,
-}
-
-impl Model for Key {
-    ghost use Rattle.std.specs.Prelude.{List, ℕ, string_bytes, IsTrue};
-    ghost use Rattle.sfv_spec.specs.Classes.{is_key};
-
-    ghost Value = { List ℕ };
-
-    ghost view = { λ t. string_bytes t.text };
-
-    ghost invariant = { λ t. IsTrue (is_key (string_bytes t.text)) };
-}
+/// `from_string` fails with `ErrorKind::Empty` and no index if the text is empty, and otherwise with
+/// `ErrorKind::InvalidCharacter` at the index of the first byte that may not stand there in a key.
+pub type Key = CheckedText<KeyClass>;
 
 impl Key {
-    /// The key of this text, which is one.
-    pub(crate) fn made(text: StdString) -> Key
-        requires { IsTrue (is_key (string_bytes text)) }
-        ensures { result ≡ string_bytes text }
-    {
-        Key { text }
-    }
+    ghost use Rattle.std.specs.Prelude.{◌≡◌};
+    ghost use Rattle.sfv_text.specs.KeyText.{key_text};
 
-    /// The key of this text.
-    ///
-    /// # Errors
-    ///
-    /// `ErrorKind::Empty` with no index if the text is empty, and else `ErrorKind::InvalidCharacter` at the
-    /// index of the first byte that may not stand there in a key (section 3.1.2).
-    /// The text comes back beside the error.
-    pub fn from_string(v: StdString) -> Result<Key, (Error, StdString)>
-        ensures { GivesKeyOrText v result }
-    {
-        match check_key(v.as_bytes()) {
-            Ok(()) => Ok(Key { text: v }),
-            Err(error) => Err((error, v)),
-        }
-    }
-
-    /// The text.
-    pub fn as_str(&self) -> &str
-        ensures text { result.now ≡ self.now }
-        ensures valid { IsTrue (is_key self.now) }
-    {
-        self.text.as_str()
-    }
-
-    /// The same key, lent.
+    /// Lends the key.
     pub fn as_key_ref(&self) -> KeyRef<'_>
         ensures { key_text result ≡ self.now }
     {
-        KeyRef::constant(self.as_str())
-    }
-}
-
-impl TryFrom<StdString> for Key {
-    type Error = Error;
-
-    ghost try_from_gives = { λ v r. GivesKey (string_bytes v) r };
-
-    fn try_from(v: StdString) -> Result<Key, Error> {
-        check_key(v.as_bytes())?;
-        Ok(Key { text: v })
-    }
-}
-
-impl From<Key> for StdString {
-    ghost from_gives = { λ t s. (string_bytes s ≡ t) × IsTrue (is_key t) };
-
-    fn from(t: Key) -> StdString {
-        t.text
-    }
-}
-
-impl PartialEq for Key {
-    ghost eq = { pointwise nat_eq };
-
-    ghost laws = { Cmp.partial_equiv_from_equiv nat_list_eq_equiv };
-
-    fn eq(&self, other: &Key) -> bool {
-        self.as_str() == other.as_str()
-    }
-}
-
-impl Eq for Key {
-    ghost laws = { nat_list_eq_equiv };
-}
-
-impl PartialOrd for Key {
-    ghost partial_cmp = { λ x y. Some (slice_cmp nat_cmp x y) };
-
-    ghost laws = { texts_po };
-
-    fn partial_cmp(&self, other: &Key) -> Option<Ordering> {
-        Some(self.cmp(other))
-    }
-}
-
-impl Ord for Key {
-    ghost cmp = { slice_cmp nat_cmp };
-
-    ghost total = { nat_list_cmp_total };
-
-    ghost matches_partial_cmp = { λ x y. refl };
-
-    ghost matches_eq = { λ x y. texts_ties x y };
-
-    fn cmp(&self, other: &Key) -> Ordering {
-        self.as_str().cmp(other.as_str())
-    }
-}
-
-impl Hash for Key {
-    ghost hash_input = { fed.str };
-
-    ghost respects_eq = { Prim.search (hashing, rules) };
-
-    fn hash<H: Hasher>(&self, state: &mut H) {
-        self.as_str().hash(state);
-    }
-}
-
-impl Clone for Key {
-    ghost is_clone = { λ x y. y ≡ x };
-
-    fn clone(&self) -> Result<Key, AllocError> {
-        let text = self.text.clone()?;
-        Ok(Key { text })
-    }
-}
-
-impl fmt::Display for Key {
-    ghost output = { λ t. Some t };
-
-    fn fmt<W: fmt::Write>(&self, f: &mut fmt::Formatter<W>) -> fmt::Result {
-        f.write_str(self.as_str())
-    }
-}
-
-impl fmt::Debug for Key {
-    ghost debug_output = { λ t. debug_variant (codes "Key") (debug_str t) };
-
-    fn fmt<W: fmt::Write>(&self, f: &mut fmt::Formatter<W>) -> fmt::Result {
-        let text = self.as_str();
-        write!(f, "Key({text:?})")
+        self.lend()
     }
 }

@@ -1,6 +1,8 @@
 //! The texts that structured fields (RFC 9651) are made of.
 #![tactic(auto)]
 
+pub mod checked_text;
+pub mod checked_text_ref;
 pub mod key;
 pub mod key_ref;
 pub mod shorthand;
@@ -8,6 +10,7 @@ pub mod string;
 pub mod string_ref;
 #[cfg(test)]
 mod tests;
+pub mod text_class;
 pub mod token;
 pub mod token_ref;
 mod validity;

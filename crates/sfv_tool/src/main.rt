@@ -7,14 +7,23 @@ mod run;
 mod tests;
 
 use crate::run::run;
+use std::alloc::AllocGlobal;
+use std::env::Env;
 use std::process::ExitCode;
 use std::{env, io};
 
-fn main(rt: HostRuntime) -> io::Result<ExitCode> {
+/// The arguments behind the name of the program.
+fn arguments<R: Env + AllocGlobal>(rt: &R) -> io::Result<Vec<String>> {
     let mut args = Vec::new(rt.alloc());
-    for arg in env::args(&rt)?.skip(1) {
+    for arg in env::args(rt)?.skip(1) {
         args.push(arg)?;
     }
+    Ok(args)
+}
+
+fn main(rt: HostRuntime) -> ExitCode {
+    // Arguments that can't be had, since they aren't UTF-8 or for want of memory, are wrong arguments.
+    let args = arguments(&rt).unwrap_or(Vec::new(rt.alloc()));
     let status = run(
         rt.alloc(),
         args.as_slice(),
@@ -22,5 +31,5 @@ fn main(rt: HostRuntime) -> io::Result<ExitCode> {
         rt.stdout(),
         rt.stderr(),
     );
-    Ok(ExitCode::from(status))
+    ExitCode::from(status)
 }

@@ -52,7 +52,7 @@ pub trait Visitor<'de>: Drop {
     /// What it answers.
     type Out: Drop;
 
-    /// Why it refuses.
+    /// Why it fails.
     type Error: Drop;
 
     /// It may be told events: what it calls may be called.
@@ -62,32 +62,32 @@ pub trait Visitor<'de>: Drop {
     ghost takes: { Self → TreeEvent → Self → Type 0 };
 
     /// In this state it may refuse the event, for this reason.
-    ghost refuses: { Self → TreeEvent → Self.Error → Type 0 };
+    ghost fails: { Self → TreeEvent → Self.Error → Type 0 };
 
     /// In this state it may give this answer.
     ghost finishes: { Self → Self.Out → Type 0 };
 
     /// In this state it may refuse to answer, for this reason.
-    ghost finish_refuses: { Self → Self.Error → Type 0 };
+    ghost finish_fails: { Self → Self.Error → Type 0 };
 
     /// The reason is that memory was refused.
     ghost is_memory: { Self.Error → Type 0 };
 
-    /// Takes an event, or refuses it.
+    /// Takes an event, or fails.
     fn event(&mut self, event: Event<'de>) -> Result<(), Self::Error>
         requires { is_ready self.old }
         ensures ready { OnOk result (is_ready self.new) }
         ensures taken { OnOk result (takes self.old (event_of event.entry) self.new) }
-        ensures refused { IfErr result (λ error. refuses self.old (event_of event.entry) error) };
+        ensures failed { IfErr result (λ error. fails self.old (event_of event.entry) error) };
 
-    /// Answers behind the last event, or refuses to.
+    /// Answers behind the last event, or fails to.
     fn finish(self) -> Result<Self::Out, Self::Error>
         requires { is_ready self }
         ensures answered { IfOk result (λ out. finishes self out) }
-        ensures refused { IfErr result (λ error. finish_refuses self error) };
+        ensures failed { IfErr result (λ error. finish_fails self error) };
 }
 
-/// Why a visitor of an item refuses.
+/// Why a visitor of an item fails.
 #[derive(Clone, Copy, Debug, PartialEq, Eq)]
 pub enum ItemFault {
     /// The item is of another kind than the one that is wanted.

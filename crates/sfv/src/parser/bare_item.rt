@@ -7,7 +7,7 @@ ghost use Rattle.sfv_reading.specs.Reader.{byte};
 ghost use Rattle.sfv_reading.specs.Content.{bytes_at};
 ghost use Rattle.sfv_reading.specs.Quoted.{string_at};
 ghost use Rattle.sfv_reading.specs.Bare.{is_number_start, boolean_at, date_at, quoted_at, bare_at};
-ghost use Rattle.sfv.specs.Cursor.{rest, Gives, Reads, Meets};
+ghost use Rattle.sfv.specs.Cursor.{rest, Reads, ReadsOrOutOfMemory, NextIs};
 ghost use Rattle.sfv.specs.Texts.{vec_bytes, display_value_of};
 
 use crate::parser::byte_sequence::byte_sequence;
@@ -26,7 +26,7 @@ impl<'de> Cursor<'de> {
     /// Takes a boolean behind its question mark.
     #[tactic(auto, using(crate::proofs::Steps::boolean_steps))]
     fn boolean(&mut self) -> Result<bool, Error>
-        ensures { Gives (λ b. boolean b) self.old.input self.new result (boolean_at (rest self.old)) }
+        ensures { Reads (λ b. boolean b) self.old.input self.new result (boolean_at (rest self.old)) }
     {
         if self.take_if(b'0') {
             return Ok(false);
@@ -39,7 +39,7 @@ impl<'de> Cursor<'de> {
 
     /// Takes a string behind its opening quote.
     fn string(&mut self, alloc: Global) -> Result<StringFromInput<'de>, Error>
-        ensures { Reads read_text self.old.input self.new result (string_at (rest self.old)) }
+        ensures { ReadsOrOutOfMemory read_text self.old.input self.new result (string_at (rest self.old)) }
     {
         let (text, next) = string(alloc, self.input, self.index)?;
         self.index = next;
@@ -48,7 +48,7 @@ impl<'de> Cursor<'de> {
 
     /// Takes a byte sequence behind its opening colon.
     fn byte_sequence(&mut self, alloc: Global) -> Result<Vec<u8>, Error>
-        ensures { Reads vec_bytes self.old.input self.new result (bytes_at (rest self.old)) }
+        ensures { ReadsOrOutOfMemory vec_bytes self.old.input self.new result (bytes_at (rest self.old)) }
     {
         let (bytes, next) = byte_sequence(alloc, self.input, self.index)?;
         self.index = next;
@@ -58,8 +58,8 @@ impl<'de> Cursor<'de> {
     /// Takes a date, which RFC 8941 has not.
     #[tactic(auto, using(crate::proofs::Steps::date_steps))]
     fn date(&mut self, version: Version) -> Result<Date, Error>
-        requires { Meets (byte 0x40) true (rest self.old) }
-        ensures { Gives (λ z. date z) self.old.input self.new result (date_at (edition_of version) (rest self.old)) }
+        requires { NextIs (byte 0x40) true (rest self.old) }
+        ensures { Reads (λ z. date z) self.old.input self.new result (date_at (edition_of version) (rest self.old)) }
     {
         match version {
             Version::Rfc8941 => Err(self.error(ErrorKind::Rfc8941Date)),
@@ -69,8 +69,8 @@ impl<'de> Cursor<'de> {
 
     /// Takes the sign `@` and the seconds of a date.
     fn seconds(&mut self) -> Result<Date, Error>
-        requires { Meets (byte 0x40) true (rest self.old) }
-        ensures { Gives (λ z. date z) self.old.input self.new result (date_at rfc9651 (rest self.old)) }
+        requires { NextIs (byte 0x40) true (rest self.old) }
+        ensures { Reads (λ z. date z) self.old.input self.new result (date_at rfc9651 (rest self.old)) }
     {
         let start = self.index;
         self.skip();
@@ -83,8 +83,8 @@ impl<'de> Cursor<'de> {
     /// Takes a display string, which RFC 8941 has not.
     #[tactic(auto, using(crate::proofs::Steps::quoted_steps))]
     fn display_string(&mut self, alloc: Global, version: Version) -> Result<CowStr<'de>, Error>
-        requires { Meets (byte 0x25) true (rest self.old) }
-        ensures { Reads display_value_of self.old.input self.new result (quoted_at (edition_of version) (rest self.old)) }
+        requires { NextIs (byte 0x25) true (rest self.old) }
+        ensures { ReadsOrOutOfMemory display_value_of self.old.input self.new result (quoted_at (edition_of version) (rest self.old)) }
     {
         match version {
             Version::Rfc8941 => Err(self.error(ErrorKind::Rfc8941DisplayString)),
@@ -95,8 +95,8 @@ impl<'de> Cursor<'de> {
     /// Takes the sign `%` and the quoted text of a display string.
     #[tactic(auto, using(crate::proofs::Steps::quoted_steps))]
     fn quoted(&mut self, alloc: Global) -> Result<CowStr<'de>, Error>
-        requires { Meets (byte 0x25) true (rest self.old) }
-        ensures { Reads display_value_of self.old.input self.new result (quoted_at rfc9651 (rest self.old)) }
+        requires { NextIs (byte 0x25) true (rest self.old) }
+        ensures { ReadsOrOutOfMemory display_value_of self.old.input self.new result (quoted_at rfc9651 (rest self.old)) }
     {
         self.skip();
         if !self.take_if(b'"') {
@@ -109,7 +109,7 @@ impl<'de> Cursor<'de> {
 
     /// Whether a byte stands next that a number may begin with.
     fn next_is_number_start(&self) -> bool
-        ensures { Meets is_number_start result (rest self.now) }
+        ensures { NextIs is_number_start result (rest self.now) }
     {
         match self.peek() {
             Some(byte) => is_digit_byte(byte) || byte == b'-',
@@ -124,7 +124,7 @@ impl<'de> Cursor<'de> {
         alloc: Global,
         version: Version,
     ) -> Result<BareItemFromInput<'de>, Error>
-        ensures { Reads input_value self.old.input self.new result (bare_at (edition_of version) (rest self.old)) }
+        ensures { ReadsOrOutOfMemory input_value self.old.input self.new result (bare_at (edition_of version) (rest self.old)) }
     {
         if self.take_if(b'?') {
             return Ok(GenericBareItem::Boolean(self.boolean()?));

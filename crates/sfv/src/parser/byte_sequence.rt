@@ -9,7 +9,7 @@ ghost use Rattle.sfv_spec.specs.Texts.{RunOf};
 ghost use Rattle.sfv_spec.specs.Base64.{is_symbol};
 ghost use Rattle.sfv_reading.specs.Content.{bytes_at};
 ghost use Rattle.sfv_base.specs.Errors.{error_of};
-ghost use Rattle.sfv.specs.Cursor.{ReadsAt};
+ghost use Rattle.sfv.specs.Cursor.{ReadsOrOutOfMemoryAt};
 ghost use Rattle.sfv.specs.Texts.{vec_bytes};
 ghost use Rattle.sfv.specs.Zeros.{HasZeros, decoded_symbols};
 
@@ -73,7 +73,7 @@ pub(crate) fn byte_sequence(
     start: usize,
 ) -> Result<(Vec<u8>, usize), Error>
     requires { start ≤ length input.now }
-    ensures { ReadsAt vec_bytes input.now result (bytes_at (drop start input.now)) }
+    ensures { ReadsOrOutOfMemoryAt vec_bytes input.now result (bytes_at (drop start input.now)) }
 {
     let content = &input[start..];
     let count = symbol_run(content);

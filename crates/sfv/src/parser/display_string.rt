@@ -6,7 +6,7 @@ ghost use Rattle.sfv_spec.specs.Classes.{is_lower_hexadecimal};
 ghost use Rattle.sfv_spec.specs.Strings.{is_plain_in_display, hexadecimal_value};
 ghost use Rattle.sfv_bare.specs.BareItems.{cow_text};
 ghost use Rattle.sfv_reading.specs.Quoted.{outside, percent, pieces_from, behind_pieces, display_at};
-ghost use Rattle.sfv.specs.Cursor.{ReadsAt};
+ghost use Rattle.sfv.specs.Cursor.{ReadsOrOutOfMemoryAt};
 ghost use Rattle.sfv.specs.Quoted.{ReadsEscape, ReadsDigit, GivesText};
 ghost use Rattle.sfv.specs.Texts.{is_borrowed_text, vec_bytes};
 
@@ -67,7 +67,7 @@ fn unescaped(
     requires from { start ≤ plain_until }
     requires within { plain_until ≤ length input.now }
     requires plain { RunOf is_plain_in_display (slice_range input.now start plain_until) }
-    ensures { ReadsAt vec_bytes input.now result (pieces_from outside (drop start input.now)) }
+    ensures { ReadsOrOutOfMemoryAt vec_bytes input.now result (pieces_from outside (drop start input.now)) }
 {
     let mut bytes = Vec::from_slice(alloc, &input[start..plain_until])?;
     let mut at = plain_until;
@@ -111,8 +111,8 @@ fn text_of(input: &[u8], start: usize, bytes: Vec<u8>) -> Result<String, Error>
 {
     match String::from_utf8(bytes) {
         Ok(text) => Ok(text),
-        Err(refused) => {
-            let valid = refused.utf8_error().valid_up_to();
+        Err(error) => {
+            let valid = error.utf8_error().valid_up_to();
             let index = place(input, start, valid);
             Err(Error::with_kind(ErrorKind::InvalidUtf8InDisplayString, Some(index)))
         }
@@ -127,7 +127,7 @@ pub(crate) fn display_string<'de>(
     start: usize,
 ) -> Result<(CowStr<'de>, usize), Error>
     requires { start ≤ length input.now }
-    ensures read { ReadsAt cow_text input.now result (display_at (drop start input.now)) }
+    ensures read { ReadsOrOutOfMemoryAt cow_text input.now result (display_at (drop start input.now)) }
     ensures borrowed { IfOk result (λ x. IsTrue (is_borrowed_text x.0) ↔ RunOf (λ c. not (c == 0x25)) (slice_range input.now start x.1)) }
 {
     let end = plain_end(input, start);

@@ -2,7 +2,7 @@
 
 ghost use Rattle.sfv_spec.specs.Values.{item_field, list_field, dictionary_field};
 ghost use Rattle.sfv_bare.specs.BareItems.{edition_of};
-ghost use Rattle.sfv.specs.Visits.{Visits};
+ghost use Rattle.sfv.specs.Visits.{VisitsField};
 
 use crate::parser::cursor::Cursor;
 use sfv_bare::bare::Version;
@@ -19,16 +19,16 @@ pub(crate) fn parse_item_field<'de, V: Visitor<'de>>(
     mut visitor: V,
 ) -> Result<V::Out, ParseError<V::Error>>
     requires { V.is_ready visitor }
-    ensures { Visits V.takes V.refuses V.finishes V.finish_refuses (edition_of version) item_field input.now visitor result }
+    ensures { VisitsField V.takes V.fails V.finishes V.finish_fails (edition_of version) item_field input.now visitor result }
 {
     let mut cursor = Cursor::new(input);
-    cursor.spaces();
+    cursor.skip_sp();
     cursor.item(alloc, version, &mut visitor)?;
     let out = match visitor.finish() {
         Ok(out) => out,
-        Err(refusal) => return Err(ParseError::Visitor(refusal)),
+        Err(error) => return Err(ParseError::Visitor(error)),
     };
-    cursor.spaces();
+    cursor.skip_sp();
     if cursor.peek().is_some() {
         let error = cursor.error(ErrorKind::TrailingCharactersAfterParsedValue);
         return Err(ParseError::Syntax(error));
@@ -44,12 +44,12 @@ pub(crate) fn parse_list_field<'de, V: Visitor<'de>>(
     mut visitor: V,
 ) -> Result<V::Out, ParseError<V::Error>>
     requires { V.is_ready visitor }
-    ensures { Visits V.takes V.refuses V.finishes V.finish_refuses (edition_of version) list_field input.now visitor result }
+    ensures { VisitsField V.takes V.fails V.finishes V.finish_fails (edition_of version) list_field input.now visitor result }
 {
     Cursor::new(input).entries(alloc, version, &mut visitor)?;
     match visitor.finish() {
         Ok(out) => Ok(out),
-        Err(refusal) => Err(ParseError::Visitor(refusal)),
+        Err(error) => Err(ParseError::Visitor(error)),
     }
 }
 
@@ -61,11 +61,11 @@ pub(crate) fn parse_dictionary_field<'de, V: Visitor<'de>>(
     mut visitor: V,
 ) -> Result<V::Out, ParseError<V::Error>>
     requires { V.is_ready visitor }
-    ensures { Visits V.takes V.refuses V.finishes V.finish_refuses (edition_of version) dictionary_field input.now visitor result }
+    ensures { VisitsField V.takes V.fails V.finishes V.finish_fails (edition_of version) dictionary_field input.now visitor result }
 {
     Cursor::new(input).keyed_entries(alloc, version, &mut visitor)?;
     match visitor.finish() {
         Ok(out) => Ok(out),
-        Err(refusal) => Err(ParseError::Visitor(refusal)),
+        Err(error) => Err(ParseError::Visitor(error)),
     }
 }

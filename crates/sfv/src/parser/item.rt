@@ -5,8 +5,8 @@ ghost use Rattle.sfv_spec.specs.Events.{parameters_events, item_events};
 ghost use Rattle.sfv_bare.specs.BareItems.{input_value, edition_of};
 ghost use Rattle.sfv_tree.specs.Events.{event_of};
 ghost use Rattle.sfv_reading.specs.Items.{value_at, parameter_at, parameters_at, item_at};
-ghost use Rattle.sfv.specs.Cursor.{rest, Reads};
-ghost use Rattle.sfv.specs.Visits.{Tells, IsToldRefusal};
+ghost use Rattle.sfv.specs.Cursor.{rest, ReadsOrOutOfMemory};
+ghost use Rattle.sfv.specs.Visits.{Visits, IsErrorOfVisit};
 
 use crate::parser::cursor::Cursor;
 use sfv_bare::bare::{BareItemFromInput, GenericBareItem, Version};
@@ -23,18 +23,18 @@ pub(crate) struct ReadParameter<'de> {
 }
 
 /// Tells the visitor an event.
-pub(crate) fn tell<'de, V: Visitor<'de>>(
+pub(crate) fn visit<'de, V: Visitor<'de>>(
     visitor: &mut V,
     event: Event<'de>,
 ) -> Result<(), ParseError<V::Error>>
     requires { V.is_ready visitor.old }
     ensures ready { OnOk result (V.is_ready visitor.new) }
     ensures taken { OnOk result (V.takes visitor.old (event_of event.entry) visitor.new) }
-    ensures refused { IfErr result (IsToldRefusal V.refuses visitor.old (event_of event.entry)) }
+    ensures failed { IfErr result (IsErrorOfVisit V.fails visitor.old (event_of event.entry)) }
 {
     match visitor.event(event) {
         Ok(()) => Ok(()),
-        Err(refusal) => Err(ParseError::Visitor(refusal)),
+        Err(error) => Err(ParseError::Visitor(error)),
     }
 }
 
@@ -48,7 +48,7 @@ impl<'de> Cursor<'de> {
         alloc: Global,
         version: Version,
     ) -> Result<BareItemFromInput<'de>, Error>
-        ensures { Reads input_value self.old.input self.new result (value_at (edition_of version) (rest self.old)) }
+        ensures { ReadsOrOutOfMemory input_value self.old.input self.new result (value_at (edition_of version) (rest self.old)) }
     {
         if self.take_if(b'=') {
             self.bare_item(alloc, version)
@@ -64,12 +64,12 @@ impl<'de> Cursor<'de> {
         alloc: Global,
         version: Version,
     ) -> Result<Option<ReadParameter<'de>>, Error>
-        ensures { Reads (option_map read_pair) self.old.input self.new result (parameter_at (edition_of version) (rest self.old)) }
+        ensures { ReadsOrOutOfMemory (option_map read_pair) self.old.input self.new result (parameter_at (edition_of version) (rest self.old)) }
     {
         if !self.take_if(b';') {
             return Ok(None);
         }
-        self.spaces();
+        self.skip_sp();
         let key = self.key()?;
         let value = self.parameter_value(alloc, version)?;
         Ok(Some(ReadParameter { key, value }))
@@ -84,17 +84,17 @@ impl<'de> Cursor<'de> {
     ) -> Result<(), ParseError<V::Error>>
         requires { V.is_ready visitor.old }
         ensures ready { OnOk result (V.is_ready visitor.new) }
-        ensures told { Tells V.takes V.refuses parameters_events self.old.input self.new visitor.old visitor.new result (parameters_at (edition_of version) (rest self.old)) }
+        ensures visited { Visits V.takes V.fails parameters_events self.old.input self.new visitor.old visitor.new result (parameters_at (edition_of version) (rest self.old)) }
     {
         while let Some(parameter) = self.parameter(alloc, version)? {
             let event = Event::Parameter(parameter.key, parameter.value);
-            if let Err(refusal) = visitor.event(event) {
-                return Err(ParseError::Visitor(refusal));
+            if let Err(error) = visitor.event(event) {
+                return Err(ParseError::Visitor(error));
             }
         }
         match visitor.event(Event::ParametersEnd) {
             Ok(()) => Ok(()),
-            Err(refusal) => Err(ParseError::Visitor(refusal)),
+            Err(error) => Err(ParseError::Visitor(error)),
         }
     }
 
@@ -107,11 +107,11 @@ impl<'de> Cursor<'de> {
     ) -> Result<(), ParseError<V::Error>>
         requires { V.is_ready visitor.old }
         ensures ready { OnOk result (V.is_ready visitor.new) }
-        ensures told { Tells V.takes V.refuses item_events self.old.input self.new visitor.old visitor.new result (item_at (edition_of version) (rest self.old)) }
+        ensures visited { Visits V.takes V.fails item_events self.old.input self.new visitor.old visitor.new result (item_at (edition_of version) (rest self.old)) }
     {
         let bare_item = self.bare_item(alloc, version)?;
-        if let Err(refusal) = visitor.event(Event::BareItem(bare_item)) {
-            return Err(ParseError::Visitor(refusal));
+        if let Err(error) = visitor.event(Event::BareItem(bare_item)) {
+            return Err(ParseError::Visitor(error));
         }
         self.parameters(alloc, version, visitor)
     }

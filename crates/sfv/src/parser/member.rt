@@ -1,16 +1,16 @@
 //! Reading inner lists, and the members of lists and dictionaries (RFC 9651, sections 4.2.1 and 4.2.2).
 
 ghost use Rattle.std.specs.Prelude.{◌≡◌, [], OnOk, flat_map};
-ghost use Rattle.sfv_spec.specs.Events.{member_events};
+ghost use Rattle.sfv_spec.specs.Events.{member_events, inner_item_events, entry_events, keyed_events};
 ghost use Rattle.sfv_bare.specs.BareItems.{edition_of};
-ghost use Rattle.sfv_reading.specs.Members.{inner_item_events, inner_item_at, inner_items_at, inner_at, member_at, entry_events, entry_at, member_value_at, keyed_events, keyed_at};
+ghost use Rattle.sfv_reading.specs.Members.{inner_item_at, inner_items_at, inner_at, member_at, entry_at, member_value_at, keyed_at};
 ghost use Rattle.sfv_reading.specs.Fields.{members_at};
-ghost use Rattle.sfv.specs.Cursor.{rest, Gives};
-ghost use Rattle.sfv.specs.Members.{wants_item_at, wants_member_at, behind_begin};
-ghost use Rattle.sfv.specs.Visits.{Tells};
+ghost use Rattle.sfv.specs.Cursor.{rest, Reads};
+ghost use Rattle.sfv.specs.Members.{item_delimiter_at, member_delimiter_at, behind_begin};
+ghost use Rattle.sfv.specs.Visits.{Visits};
 
 use crate::parser::cursor::Cursor;
-use crate::parser::item::tell;
+use crate::parser::item::visit;
 use sfv_bare::bare::{GenericBareItem, Version};
 use sfv_base::error::{Error, ErrorKind, ParseError};
 use sfv_tree::visitor::{Event, Visitor};
@@ -26,18 +26,18 @@ impl<'de> Cursor<'de> {
     ) -> Result<(), ParseError<V::Error>>
         requires { V.is_ready visitor.old }
         ensures ready { OnOk result (V.is_ready visitor.new) }
-        ensures told { Tells V.takes V.refuses inner_item_events self.old.input self.new visitor.old visitor.new result (inner_item_at (edition_of version) (rest self.old)) }
+        ensures visited { Visits V.takes V.fails inner_item_events self.old.input self.new visitor.old visitor.new result (inner_item_at (edition_of version) (rest self.old)) }
     {
-        tell(visitor, Event::Item)?;
+        visit(visitor, Event::Item)?;
         self.item(alloc, version, visitor)
     }
 
     /// Takes the spaces between two items of an inner list, or its closing parenthesis. Answers whether an item is wanted.
-    fn wants_item(&mut self) -> Result<bool, Error>
-        ensures { Gives (λ wants. wants) self.old.input self.new result (wants_item_at (rest self.old)) }
+    fn consume_item_delimiter(&mut self) -> Result<bool, Error>
+        ensures { Reads (λ wants. wants) self.old.input self.new result (item_delimiter_at (rest self.old)) }
     {
         if self.take_if(b' ') {
-            self.spaces();
+            self.skip_sp();
             return Ok(!self.take_if(b')'));
         }
         if self.take_if(b')') {
@@ -59,18 +59,18 @@ impl<'de> Cursor<'de> {
     ) -> Result<(), ParseError<V::Error>>
         requires { V.is_ready visitor.old }
         ensures ready { OnOk result (V.is_ready visitor.new) }
-        ensures told { Tells V.takes V.refuses (λ items. flat_map inner_item_events items) self.old.input self.new visitor.old visitor.new result (inner_items_at (edition_of version) (rest self.old)) }
+        ensures visited { Visits V.takes V.fails (λ items. flat_map inner_item_events items) self.old.input self.new visitor.old visitor.new result (inner_items_at (edition_of version) (rest self.old)) }
     {
         if self.peek().is_none() {
             let error = self.error(ErrorKind::UnterminatedInnerList);
             return Err(ParseError::Syntax(error));
         }
-        self.spaces();
+        self.skip_sp();
         if self.take_if(b')') {
             return Ok(());
         }
         self.inner_item(alloc, version, visitor)?;
-        while self.wants_item()? {
+        while self.consume_item_delimiter()? {
             self.inner_item(alloc, version, visitor)?;
         }
         Ok(())
@@ -85,10 +85,10 @@ impl<'de> Cursor<'de> {
     ) -> Result<(), ParseError<V::Error>>
         requires { V.is_ready visitor.old }
         ensures ready { OnOk result (V.is_ready visitor.new) }
-        ensures told { Tells V.takes V.refuses behind_begin self.old.input self.new visitor.old visitor.new result (inner_at (edition_of version) (rest self.old)) }
+        ensures visited { Visits V.takes V.fails behind_begin self.old.input self.new visitor.old visitor.new result (inner_at (edition_of version) (rest self.old)) }
     {
         self.inner_items(alloc, version, visitor)?;
-        tell(visitor, Event::InnerListEnd)?;
+        visit(visitor, Event::InnerListEnd)?;
         self.parameters(alloc, version, visitor)
     }
 
@@ -101,13 +101,13 @@ impl<'de> Cursor<'de> {
     ) -> Result<(), ParseError<V::Error>>
         requires { V.is_ready visitor.old }
         ensures ready { OnOk result (V.is_ready visitor.new) }
-        ensures told { Tells V.takes V.refuses member_events self.old.input self.new visitor.old visitor.new result (member_at (edition_of version) (rest self.old)) }
+        ensures visited { Visits V.takes V.fails member_events self.old.input self.new visitor.old visitor.new result (member_at (edition_of version) (rest self.old)) }
     {
         if self.take_if(b'(') {
-            tell(visitor, Event::InnerList)?;
+            visit(visitor, Event::InnerList)?;
             self.inner_list(alloc, version, visitor)
         } else {
-            tell(visitor, Event::Item)?;
+            visit(visitor, Event::Item)?;
             self.item(alloc, version, visitor)
         }
     }
@@ -121,18 +121,18 @@ impl<'de> Cursor<'de> {
     ) -> Result<(), ParseError<V::Error>>
         requires { V.is_ready visitor.old }
         ensures ready { OnOk result (V.is_ready visitor.new) }
-        ensures told { Tells V.takes V.refuses entry_events self.old.input self.new visitor.old visitor.new result (entry_at (edition_of version) (rest self.old)) }
+        ensures visited { Visits V.takes V.fails entry_events self.old.input self.new visitor.old visitor.new result (entry_at (edition_of version) (rest self.old)) }
     {
-        tell(visitor, Event::Entry)?;
+        visit(visitor, Event::Entry)?;
         self.member(alloc, version, visitor)
     }
 
     /// Takes the comma between two members, with the spaces and tabs around it. Answers whether a member is wanted, and not
     /// the end of the input.
-    fn wants_member(&mut self) -> Result<bool, Error>
-        ensures { Gives (λ wants. wants) self.old.input self.new result (wants_member_at (rest self.old)) }
+    fn consume_comma(&mut self) -> Result<bool, Error>
+        ensures { Reads (λ wants. wants) self.old.input self.new result (member_delimiter_at (rest self.old)) }
     {
-        self.blanks();
+        self.skip_ows();
         if self.peek().is_none() {
             return Ok(false);
         }
@@ -141,7 +141,7 @@ impl<'de> Cursor<'de> {
         if !self.take_if(b',') {
             return Err(self.error(ErrorKind::TrailingCharactersAfterMember));
         }
-        self.blanks();
+        self.skip_ows();
         if self.peek().is_none() {
             return Err(comma);
         }
@@ -157,15 +157,15 @@ impl<'de> Cursor<'de> {
     ) -> Result<(), ParseError<V::Error>>
         requires { V.is_ready visitor.old }
         ensures ready { OnOk result (V.is_ready visitor.new) }
-        ensures told { Tells V.takes V.refuses (λ members. flat_map entry_events members) self.old.input self.new visitor.old visitor.new result (members_at entry_events (entry_at (edition_of version)) (rest self.old)) }
+        ensures visited { Visits V.takes V.fails (λ members. flat_map entry_events members) self.old.input self.new visitor.old visitor.new result (members_at entry_events (entry_at (edition_of version)) (rest self.old)) }
         ensures end { OnOk result (rest self.new ≡ []) }
     {
-        self.spaces();
+        self.skip_sp();
         if self.peek().is_none() {
             return Ok(());
         }
         self.entry(alloc, version, visitor)?;
-        while self.wants_member()? {
+        while self.consume_comma()? {
             self.entry(alloc, version, visitor)?;
         }
         Ok(())
@@ -181,13 +181,13 @@ impl<'de> Cursor<'de> {
     ) -> Result<(), ParseError<V::Error>>
         requires { V.is_ready visitor.old }
         ensures ready { OnOk result (V.is_ready visitor.new) }
-        ensures told { Tells V.takes V.refuses member_events self.old.input self.new visitor.old visitor.new result (member_value_at (edition_of version) (rest self.old)) }
+        ensures visited { Visits V.takes V.fails member_events self.old.input self.new visitor.old visitor.new result (member_value_at (edition_of version) (rest self.old)) }
     {
         if self.take_if(b'=') {
             return self.member(alloc, version, visitor);
         }
-        tell(visitor, Event::Item)?;
-        tell(visitor, Event::BareItem(GenericBareItem::Boolean(true)))?;
+        visit(visitor, Event::Item)?;
+        visit(visitor, Event::BareItem(GenericBareItem::Boolean(true)))?;
         self.parameters(alloc, version, visitor)
     }
 
@@ -200,10 +200,10 @@ impl<'de> Cursor<'de> {
     ) -> Result<(), ParseError<V::Error>>
         requires { V.is_ready visitor.old }
         ensures ready { OnOk result (V.is_ready visitor.new) }
-        ensures told { Tells V.takes V.refuses keyed_events self.old.input self.new visitor.old visitor.new result (keyed_at (edition_of version) (rest self.old)) }
+        ensures visited { Visits V.takes V.fails keyed_events self.old.input self.new visitor.old visitor.new result (keyed_at (edition_of version) (rest self.old)) }
     {
         let key = self.key()?;
-        tell(visitor, Event::KeyedEntry(key))?;
+        visit(visitor, Event::KeyedEntry(key))?;
         self.member_value(alloc, version, visitor)
     }
 
@@ -216,15 +216,15 @@ impl<'de> Cursor<'de> {
     ) -> Result<(), ParseError<V::Error>>
         requires { V.is_ready visitor.old }
         ensures ready { OnOk result (V.is_ready visitor.new) }
-        ensures told { Tells V.takes V.refuses (λ members. flat_map keyed_events members) self.old.input self.new visitor.old visitor.new result (members_at keyed_events (keyed_at (edition_of version)) (rest self.old)) }
+        ensures visited { Visits V.takes V.fails (λ members. flat_map keyed_events members) self.old.input self.new visitor.old visitor.new result (members_at keyed_events (keyed_at (edition_of version)) (rest self.old)) }
         ensures end { OnOk result (rest self.new ≡ []) }
     {
-        self.spaces();
+        self.skip_sp();
         if self.peek().is_none() {
             return Ok(());
         }
         self.keyed_entry(alloc, version, visitor)?;
-        while self.wants_member()? {
+        while self.consume_comma()? {
             self.keyed_entry(alloc, version, visitor)?;
         }
         Ok(())

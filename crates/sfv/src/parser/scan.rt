@@ -5,7 +5,7 @@ ghost use Rattle.sfv_spec.specs.Texts.{RunOf};
 ghost use Rattle.sfv_spec.specs.Classes.{is_digit, is_space, is_space_or_tab};
 ghost use Rattle.sfv_base.specs.Errors.{error_of};
 ghost use Rattle.sfv_reading.specs.Reader.{first, byte, up_to, span};
-ghost use Rattle.sfv.specs.Cursor.{rest, Meets, Takes, Skips};
+ghost use Rattle.sfv.specs.Cursor.{rest, NextIs, TakesIf, Skips};
 
 use crate::parser::cursor::Cursor;
 use crate::parser::runs::{blank_run, digit_run, is_digit_byte, space_run};
@@ -45,14 +45,14 @@ impl<'de> Cursor<'de> {
 
     /// Whether this byte stands next.
     pub(crate) fn next_is(&self, wanted: u8) -> bool
-        ensures { Meets (byte wanted) result (rest self.now) }
+        ensures { NextIs (byte wanted) result (rest self.now) }
     {
         self.peek() == Some(wanted)
     }
 
     /// Whether a digit stands next.
     pub(crate) fn next_is_digit(&self) -> bool
-        ensures { Meets is_digit result (rest self.now) }
+        ensures { NextIs is_digit result (rest self.now) }
     {
         match self.peek() {
             Some(byte) => is_digit_byte(byte),
@@ -62,7 +62,7 @@ impl<'de> Cursor<'de> {
 
     /// Takes the next byte, if it is this one.
     pub(crate) fn take_if(&mut self, wanted: u8) -> bool
-        ensures takes { Takes (byte wanted) result (rest self.old) (rest self.new) }
+        ensures takes { TakesIf (byte wanted) result (rest self.old) (rest self.new) }
         ensures input { self.new.input ≡ self.old.input }
     {
         let found = self.next_is(wanted);
@@ -86,8 +86,8 @@ impl<'de> Cursor<'de> {
     }
 
     /// Takes spaces.
-    pub(crate) fn spaces(&mut self)
-        ensures spaces { (s : List ℕ) × (span is_space (rest self.old) ≡ Ok (s, rest self.new)) }
+    pub(crate) fn skip_sp(&mut self)
+        ensures skipped { (s : List ℕ) × (span is_space (rest self.old) ≡ Ok (s, rest self.new)) }
         ensures input { self.new.input ≡ self.old.input }
     {
         let len = space_run(&self.input[self.index..]);
@@ -95,8 +95,8 @@ impl<'de> Cursor<'de> {
     }
 
     /// Takes spaces and tabs.
-    pub(crate) fn blanks(&mut self)
-        ensures blanks { (s : List ℕ) × (span is_space_or_tab (rest self.old) ≡ Ok (s, rest self.new)) }
+    pub(crate) fn skip_ows(&mut self)
+        ensures skipped { (s : List ℕ) × (span is_space_or_tab (rest self.old) ≡ Ok (s, rest self.new)) }
         ensures input { self.new.input ≡ self.old.input }
     {
         let len = blank_run(&self.input[self.index..]);

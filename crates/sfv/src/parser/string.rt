@@ -5,7 +5,7 @@ ghost use Rattle.sfv_spec.specs.Texts.{RunOf};
 ghost use Rattle.sfv_spec.specs.Strings.{is_plain_in_string};
 ghost use Rattle.sfv_bare.specs.BareItems.{read_text};
 ghost use Rattle.sfv_reading.specs.Quoted.{string_at, string_from};
-ghost use Rattle.sfv.specs.Cursor.{ReadsAt};
+ghost use Rattle.sfv.specs.Cursor.{ReadsOrOutOfMemoryAt};
 ghost use Rattle.sfv.specs.Quoted.{ReadsEscape};
 ghost use Rattle.sfv.specs.Texts.{is_borrowed_string, vec_bytes};
 
@@ -45,7 +45,7 @@ fn unescaped(
     requires from { start ≤ plain_until }
     requires within { plain_until ≤ length input.now }
     requires plain { RunOf is_plain_in_string (slice_range input.now start plain_until) }
-    ensures { ReadsAt vec_bytes input.now result (string_at (drop start input.now)) }
+    ensures { ReadsOrOutOfMemoryAt vec_bytes input.now result (string_at (drop start input.now)) }
 {
     let mut bytes = Vec::from_slice(alloc, &input[start..plain_until])?;
     let mut at = plain_until;
@@ -75,7 +75,7 @@ pub(crate) fn string<'de>(
     start: usize,
 ) -> Result<(StringFromInput<'de>, usize), Error>
     requires { start ≤ length input.now }
-    ensures read { ReadsAt read_text input.now result (string_at (drop start input.now)) }
+    ensures read { ReadsOrOutOfMemoryAt read_text input.now result (string_at (drop start input.now)) }
     ensures borrowed { IfOk result (λ x. IsTrue (is_borrowed_string x.0) ↔ RunOf (λ c. not (c == 0x5c)) (slice_range input.now start x.1)) }
 {
     let end = plain_end(input, start);

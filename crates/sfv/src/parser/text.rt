@@ -7,7 +7,7 @@ ghost use Rattle.sfv_text.specs.KeyText.{key_text};
 ghost use Rattle.sfv_text.specs.TokenText.{token_text};
 ghost use Rattle.sfv_reading.specs.Bare.{token_at};
 ghost use Rattle.sfv_reading.specs.Items.{key_at};
-ghost use Rattle.sfv.specs.Cursor.{rest, Gives, Meets};
+ghost use Rattle.sfv.specs.Cursor.{rest, Reads, NextIs};
 
 use crate::parser::cursor::Cursor;
 use crate::parser::runs::{key_run, token_run};
@@ -19,7 +19,7 @@ use sfv_text::token_ref::TokenRef;
 impl<'de> Cursor<'de> {
     /// Whether a byte stands next that a key may begin with.
     fn next_is_key_start(&self) -> bool
-        ensures { Meets is_key_start result (rest self.now) }
+        ensures { NextIs is_key_start result (rest self.now) }
     {
         match self.peek() {
             Some(byte) => is_allowed_start_key_char(byte),
@@ -29,7 +29,7 @@ impl<'de> Cursor<'de> {
 
     /// Whether a byte stands next that a token may begin with.
     fn next_is_token_start(&self) -> bool
-        ensures { Meets is_token_start result (rest self.now) }
+        ensures { NextIs is_token_start result (rest self.now) }
     {
         match self.peek() {
             Some(byte) => is_allowed_start_token_char(byte),
@@ -40,7 +40,7 @@ impl<'de> Cursor<'de> {
     /// Takes a key.
     #[tactic(auto, using(crate::proofs::Steps::key_steps))]
     pub(crate) fn key(&mut self) -> Result<KeyRef<'de>, Error>
-        ensures { Gives key_text self.old.input self.new result (key_at (rest self.old)) }
+        ensures { Reads key_text self.old.input self.new result (key_at (rest self.old)) }
     {
         if !self.next_is_key_start() {
             return Err(self.error(ErrorKind::ExpectedStartOfKey));
@@ -55,7 +55,7 @@ impl<'de> Cursor<'de> {
     /// Takes a token.
     #[tactic(auto, using(crate::proofs::Steps::token_steps))]
     pub(crate) fn token(&mut self) -> Result<TokenRef<'de>, Error>
-        ensures { Gives (λ t. token (token_text t)) self.old.input self.new result (token_at (rest self.old)) }
+        ensures { Reads (λ t. token (token_text t)) self.old.input self.new result (token_at (rest self.old)) }
     {
         if !self.next_is_token_start() {
             return Err(self.error(ErrorKind::ExpectedStartOfBareItem));

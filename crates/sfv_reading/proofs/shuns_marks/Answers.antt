@@ -1,5 +1,5 @@
 use Rattle.sfv_reading.proofs.shuns_marks.Goals as goal
-use Rattle.sfv_reading.proofs.ByteSequences.{shuns_bytes}
+use Rattle.sfv_reading.proofs.rules.ByteSequences.{shuns_bytes}
 
 pub returns : goal.returns
 returns c = shuns_bytes

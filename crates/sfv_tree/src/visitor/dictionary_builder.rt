@@ -22,7 +22,7 @@ struct PartialPair {
 /// Builds a dictionary of its events, from a dictionary that it begins with. Of a repeated key the last member stands
 /// whole, at the place of the first (RFC 9651, section 4.2.2); so does the last value of a repeated parameter.
 ///
-/// It takes every event, and an event out of its place changes nothing. It refuses an event only where memory is refused,
+/// It takes every event, and an event out of its place changes nothing. It fails at an event only where out of memory,
 /// and never its answer, which is the dictionary of the members that are whole.
 #[derive(Drop)]
 pub struct DictionaryBuilder {
@@ -94,11 +94,11 @@ impl<'de> Visitor<'de> for DictionaryBuilder {
 
     ghost takes = { λ s event after. dictionary_place after ≡ dictionary_step (dictionary_place s) event };
 
-    ghost refuses = { λ s event fault. ⊤ };
+    ghost fails = { λ s event fault. ⊤ };
 
     ghost finishes = { λ s dictionary. dictionary_tree dictionary.entries ≡ dictionary_members (dictionary_place s) };
 
-    ghost finish_refuses = { λ _ _. ⊥ };
+    ghost finish_fails = { λ _ _. ⊥ };
 
     ghost is_memory = { λ _. ⊤ };
 

@@ -31,7 +31,7 @@ enum Place {
 
 /// Builds an item of its events. Of a repeated key the last value stands, at the place of the first.
 ///
-/// It takes every event, and an event out of its place changes nothing. It refuses an event only where memory is refused,
+/// It takes every event, and an event out of its place changes nothing. It fails at an event only where out of memory,
 /// and its answer (`ItemFault::NoItem`) only where no whole item was told.
 #[derive(Drop)]
 pub struct ItemBuilder {
@@ -106,11 +106,11 @@ impl<'de> Visitor<'de> for ItemBuilder {
 
     ghost takes = { λ s event after. item_place after ≡ item_step (item_place s) event };
 
-    ghost refuses = { λ s event fault. fault ≡ faults.OutOfMemory };
+    ghost fails = { λ s event fault. fault ≡ faults.OutOfMemory };
 
     ghost finishes = { λ s item. item_place s ≡ at_end (item_tree item) };
 
-    ghost finish_refuses = { λ s fault. (fault ≡ faults.NoItem) × ((i : RawItem) → ¬ (item_place s ≡ at_end i)) };
+    ghost finish_fails = { λ s fault. (fault ≡ faults.NoItem) × ((i : RawItem) → ¬ (item_place s ≡ at_end i)) };
 
     ghost is_memory = { λ fault. fault ≡ faults.OutOfMemory };
 

@@ -14,7 +14,7 @@ use std::alloc::Global;
 /// Builds a list of its events, behind the members of a list that it begins with. Of a repeated key the last value stands,
 /// at the place of the first.
 ///
-/// It takes every event, and an event out of its place changes nothing. It refuses an event only where memory is refused,
+/// It takes every event, and an event out of its place changes nothing. It fails at an event only where out of memory,
 /// and never its answer, which is the list of the members that are whole.
 #[derive(Drop)]
 pub struct ListBuilder {
@@ -81,11 +81,11 @@ impl<'de> Visitor<'de> for ListBuilder {
 
     ghost takes = { λ s event after. list_place after ≡ list_step (list_place s) event };
 
-    ghost refuses = { λ s event fault. ⊤ };
+    ghost fails = { λ s event fault. ⊤ };
 
     ghost finishes = { λ s list. list_tree list.items ≡ list_members (list_place s) };
 
-    ghost finish_refuses = { λ _ _. ⊥ };
+    ghost finish_fails = { λ _ _. ⊥ };
 
     ghost is_memory = { λ _. ⊤ };
 

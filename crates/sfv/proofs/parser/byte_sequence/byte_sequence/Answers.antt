@@ -1,6 +1,6 @@
 use Rattle.std.proofs.Common.{◌≡◌, ◌+◌, List, ℕ, length, drop, sym, ◌∙◌, inl, inr, ◌⊎◌, get_or}
 use Rattle.std.proofs.lemmas.List.{take_rest}
-use Rattle.sfv.proofs.Contents.{runs_of, bytes_read, lone_told, malformed_told, unterminated_told}
+use Rattle.sfv.proofs.Contents.{runs_of, bytes_read, lone_located, malformed_located, unterminated_located}
 use Rattle.sfv.proofs.parser.byte_sequence.byte_sequence.Goals as goal
 use Rattle.sfv.proofs.parser.byte_sequence.byte_sequence.Goals.{then-end-content-via-then-end-content, then-end-content-via-else-end-content+then-content-end-ne58, then-contains, else-contains}
 
@@ -17,8 +17,8 @@ returns-then-end-content c =
       | then-end-content-via-else-end-content+then-content-end-ne58 w ↦ inr (simp take_rest at w.if-content-end-ne58.true)
     ] in
     elim c.if-contains.branch [
-      | then-contains w ↦ rw (w.result-is, w.invalid.ensures) (malformed_told input start n p runs other (sym found ∙ w.if-contains.true) c.requires)
-      | else-contains w ↦ rw (w.result-is, w.with_kind.ensures) (unterminated_told input start n p runs (sym found ∙ w.if-contains.false))
+      | then-contains w ↦ rw (w.result-is, w.invalid.ensures) (malformed_located input start n p runs other (sym found ∙ w.if-contains.true) c.requires)
+      | else-contains w ↦ rw (w.result-is, w.with_kind.ensures) (unterminated_located input start n p runs (sym found ∙ w.if-contains.false))
     ]
 
 pub returns-then-count-eq1 : goal.returns-then-count-eq1
@@ -30,7 +30,7 @@ returns-then-count-eq1 c =
     let runs = runs_of input start n _ p c.symbol_run-count.ensures c.padding_after.ensures c.padding_run.ensures in
     let open_end = simp take_rest at c.if-end-content.false in
     let colon = simp take_rest at c.if-content-end-ne58.false in
-    rw c.invalid-then-count-eq1.ensures (lone_told input start n p runs open_end colon c.if-count-eq1.true)
+    rw c.invalid-then-count-eq1.ensures (lone_located input start n p runs open_end colon c.if-count-eq1.true)
 
 pub returns : goal.returns
 returns c =

@@ -1,6 +1,6 @@
 use Rattle.std.proofs.Common.{arith, sym, ◌∙◌}
 use Rattle.std.proofs.lemmas.List.{drop_all}
-use Rattle.sfv_reading.proofs.Ranges.{byte_at}
+use Rattle.sfv_reading.proofs.texts.Ranges.{byte_at}
 use Rattle.sfv.proofs.Escapes.{digit_cut, digit_wrong}
 use Rattle.sfv.proofs.parser.display_string.digit_at.Goals as goal
 

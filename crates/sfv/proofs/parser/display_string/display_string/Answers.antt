@@ -2,8 +2,8 @@ use Rattle.std.proofs.Common.{[], sym, refl, arith, ap}
 use Rattle.std.proofs.lemmas.Result.{err_from_is_err_and}
 use Rattle.std.proofs.lemmas.Bool.{true≢false}
 use Rattle.sfv_spec.specs.Faults.{unterminated_display_string, invalid_display_string_character}
-use Rattle.sfv_reading.proofs.DisplaySteps.{sofar_none, sofar_run, sofar_fault, sofar_quote, stops_end, stops_byte, shown_fault, shown_text, plain_utf8, no_escape, some_escape, read_past}
-use Rattle.sfv.specs.Cursor.{told}
+use Rattle.sfv_reading.proofs.quoted.DisplaySteps.{sofar_none, sofar_run, sofar_fault, sofar_quote, stops_end, stops_byte, shown_fault, shown_text, plain_utf8, no_escape, some_escape, read_past}
+use Rattle.sfv.specs.Cursor.{located}
 use Rattle.sfv.proofs.Escapes.{display_error, fault_error}
 use Rattle.sfv.proofs.parser.display_string.display_string.Goals as goal
 
@@ -14,7 +14,7 @@ returns-then-end-input-clause-read c =
     let end = c.plain_end-end.result in
     let s = sofar_run input [] c.args.start end _ (sofar_none input c.args.start) p.from p.plain in
     let e = sofar_fault input _ end _ unterminated_display_string _ s (stops_end input end c.if-end-input.true) in
-    rw c.with_kind.ensures (ap told (shown_fault _ _ e), p.within)
+    rw c.with_kind.ensures (ap located (shown_fault _ _ e), p.within)
 
 pub from_utf8_unchecked-text-requires : goal.from_utf8_unchecked-text-requires
 from_utf8_unchecked-text-requires c = plain_utf8 _ c.plain_end-end.ensures.plain
@@ -41,7 +41,7 @@ returns-then-input-end-ne37-clause-read c =
     let s = sofar_run input [] c.args.start end _ (sofar_none input c.args.start) p.from p.plain in
     let stop = stops_byte input end c.if-end-input.false (p.ends c.if-end-input.false) c.if-input-end-eq34.false c.if-input-end-ne37.true in
     let e = sofar_fault input _ end _ invalid_display_string_character _ s stop in
-    rw c.with_kind-then-input-end-ne37.ensures (ap told (shown_fault _ _ e), p.within)
+    rw c.with_kind-then-input-end-ne37.ensures (ap located (shown_fault _ _ e), p.within)
 
 pub returns-in_err-bytes-clause-read : goal.returns-in_err-bytes-clause-read
 returns-in_err-bytes-clause-read c =

@@ -2,7 +2,7 @@ use Rattle.std.proofs.Common.{◌≡◌, ℕ, suc, ◌+◌, ◌-◌, cond, sym, 
 use Rattle.std.specs.Prelude.{slice_index, ◌==◌}
 use Rattle.std.proofs.lemmas.Bool.{eq-eqb, ne_eqb}
 use Rattle.sfv_reading.specs.Quoted.{behind_pieces}
-use Rattle.sfv_reading.proofs.DisplaySteps.{LeadsTo, leads_on}
+use Rattle.sfv_reading.proofs.quoted.DisplaySteps.{LeadsTo, leads_on}
 use Rattle.sfv.proofs.parser.display_string.place.Goals as goal
 use Rattle.sfv.proofs.parser.display_string.place.Goals.{then-input-index-eq37, else-input-index-eq37}
 

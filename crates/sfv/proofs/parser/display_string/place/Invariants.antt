@@ -1,6 +1,6 @@
 use Rattle.std.proofs.Common.{◌-◌, drop}
 use Rattle.sfv_reading.specs.Quoted.{behind_pieces}
-use Rattle.sfv_reading.proofs.DisplaySteps.{LeadsTo}
+use Rattle.sfv_reading.proofs.quoted.DisplaySteps.{LeadsTo}
 use Rattle.sfv.proofs.parser.display_string.place.Given as goal
 
 abbrev pub invariant-loop : goal.invariant-loop

@@ -3,8 +3,8 @@ use Rattle.std.proofs.lemmas.Str.{utf8_valid_len_le, IsUtf8-string_bytes}
 use Rattle.std.specs.Prelude.{IsUtf8}
 use Rattle.std.specs.Str.Lossy.{utf8_valid_len}
 use Rattle.std.specs.Str.{valid_up_to}
-use Rattle.sfv_reading.proofs.DisplaySteps.{shown_text, shown_wrong}
-use Rattle.sfv.specs.Cursor.{told}
+use Rattle.sfv_reading.proofs.quoted.DisplaySteps.{shown_text, shown_wrong}
+use Rattle.sfv.specs.Cursor.{located}
 use Rattle.sfv.proofs.parser.display_string.text_of.Goals as goal
 
 pub place-index-requires-clause-pieces : goal.place-index-requires-clause-pieces
@@ -23,4 +23,4 @@ pub returns-in-Err : goal.returns-in-Err
 returns-in-Err c = λ rest e.
     let n : c.valid_up_to-valid.result ≡ utf8_valid_len c.args.bytes.items = c.valid_up_to-valid.ensures ∙ ap valid_up_to c.utf8_error.ensures ∙ c.in-Err.ensures.valid_len in
     let not_text : ¬ IsUtf8 c.args.bytes.items = search rules in
-    rw c.with_kind.ensures (rw (c.place-index.ensures.place, n) (ap told (shown_wrong _ _ rest e not_text)), c.place-index.ensures.within)
+    rw c.with_kind.ensures (rw (c.place-index.ensures.place, n) (ap located (shown_wrong _ _ rest e not_text)), c.place-index.ensures.within)

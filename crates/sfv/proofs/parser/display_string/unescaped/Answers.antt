@@ -2,8 +2,8 @@ use Rattle.std.proofs.Common.{[], ◌≡◌, ◌+◌, drop, arith, ap}
 use Rattle.std.proofs.lemmas.Result.{err_from_is_err_and}
 use Rattle.sfv_spec.specs.Faults.{unterminated_display_string, invalid_display_string_character}
 use Rattle.sfv_reading.specs.Quoted.{pieces_from, outside, percent}
-use Rattle.sfv_reading.proofs.DisplaySteps.{sofar_none, sofar_run, sofar_pushed, sofar_fault, sofar_quote, stops_end, stops_byte}
-use Rattle.sfv.specs.Cursor.{told}
+use Rattle.sfv_reading.proofs.quoted.DisplaySteps.{sofar_none, sofar_run, sofar_pushed, sofar_fault, sofar_quote, stops_end, stops_byte}
+use Rattle.sfv.specs.Cursor.{located}
 use Rattle.sfv.proofs.Escapes.{past_escape, in_escape, display_opens}
 use Rattle.sfv.proofs.parser.display_string.unescaped.Goals as goal
 
@@ -14,7 +14,7 @@ returns-then-end-input c =
     let input = c.args.input.now in
     let end = c.plain_end-end.result in
     let s = sofar_pushed input _ c.extend_from_slice.new.self.items c.loop-bytes.at end (drop c.args.start input) i.1 p.from p.plain c.in_ok-extend_from_slice.ensures.items in
-    rw c.with_kind.ensures (ap told (sofar_fault input _ end _ unterminated_display_string _ s (stops_end input end c.if-end-input.true)), p.within)
+    rw c.with_kind.ensures (ap located (sofar_fault input _ end _ unterminated_display_string _ s (stops_end input end c.if-end-input.true)), p.within)
 
 pub returns-then-input-end-eq34 : goal.returns-then-input-end-eq34
 returns-then-input-end-eq34 c =
@@ -33,7 +33,7 @@ returns-then-input-end-ne37 c =
     let end = c.plain_end-end.result in
     let s = sofar_pushed input _ c.extend_from_slice.new.self.items c.loop-bytes.at end (drop c.args.start input) i.1 p.from p.plain c.in_ok-extend_from_slice.ensures.items in
     let stop = stops_byte input end c.if-end-input.false (p.ends c.if-end-input.false) c.if-input-end-eq34.false c.if-input-end-ne37.true in
-    rw c.with_kind-then-input-end-ne37.ensures (ap told (sofar_fault input _ end _ invalid_display_string_character _ s stop), p.within)
+    rw c.with_kind-then-input-end-ne37.ensures (ap located (sofar_fault input _ end _ invalid_display_string_character _ s stop), p.within)
 
 pub returns-in_err-byte : goal.returns-in_err-byte
 returns-in_err-byte c =

@@ -1,5 +1,5 @@
 use Rattle.std.proofs.Common.{length, ◌-◌, ◌≤◌, drop}
-use Rattle.sfv_reading.proofs.DisplaySteps.{Sofar}
+use Rattle.sfv_reading.proofs.quoted.DisplaySteps.{Sofar}
 use Rattle.sfv.proofs.parser.display_string.unescaped.Given as goal
 
 abbrev pub invariant-loop-bytes : goal.invariant-loop-bytes

@@ -1,6 +1,6 @@
 use Rattle.std.proofs.Common.{arith, sym, ◌∙◌, ap}
 use Rattle.std.proofs.lemmas.List.{drop_all}
-use Rattle.sfv_reading.proofs.Ranges.{byte_at}
+use Rattle.sfv_reading.proofs.texts.Ranges.{byte_at}
 use Rattle.sfv_reading.specs.Quoted.{string_from}
 use Rattle.std.specs.Prelude.{true}
 use Rattle.sfv.proofs.Escapes.{string_cut, string_wrong, string_escaped}

@@ -2,9 +2,9 @@ use Rattle.std.proofs.Common.{[], sym, refl, arith, ap}
 use Rattle.std.specs.Prelude.{slice_range}
 use Rattle.std.proofs.lemmas.Bool.{true≢false}
 use Rattle.sfv_spec.specs.Faults.{unterminated_string, invalid_string_character}
-use Rattle.sfv_reading.proofs.StringSteps.{sofar_none, sofar_run, sofar_fault, sofar_quote, stops_end, stops_byte, plain_utf8, read_utf8, no_escape, some_escape, read_past}
-use Rattle.sfv.specs.Cursor.{told}
-use Rattle.sfv_reading.proofs.StringSteps.{plain_bytes, read_bytes}
+use Rattle.sfv_reading.proofs.quoted.StringSteps.{sofar_none, sofar_run, sofar_fault, sofar_quote, stops_end, stops_byte, plain_utf8, read_utf8, no_escape, some_escape, read_past}
+use Rattle.sfv.specs.Cursor.{located}
+use Rattle.sfv_reading.proofs.quoted.StringSteps.{plain_bytes, read_bytes}
 use Rattle.sfv.proofs.parser.string.string.Goals as goal
 
 pub returns-then-end-input-clause-read : goal.returns-then-end-input-clause-read
@@ -13,7 +13,7 @@ returns-then-end-input-clause-read c =
     let input = c.args.input.now in
     let end = c.plain_end-end.result in
     let s = sofar_run input [] c.args.start end _ (sofar_none input c.args.start) p.from p.plain in
-    rw c.with_kind.ensures (ap told (sofar_fault input _ end _ unterminated_string _ s (stops_end input end c.if-end-input.true)), p.within)
+    rw c.with_kind.ensures (ap located (sofar_fault input _ end _ unterminated_string _ s (stops_end input end c.if-end-input.true)), p.within)
 
 pub from_utf8_unchecked-text-requires : goal.from_utf8_unchecked-text-requires
 from_utf8_unchecked-text-requires c = plain_utf8 _ c.plain_end-end.ensures.plain
@@ -42,7 +42,7 @@ returns-then-input-end-ne92-clause-read c =
     let end = c.plain_end-end.result in
     let s = sofar_run input [] c.args.start end _ (sofar_none input c.args.start) p.from p.plain in
     let stop = stops_byte input end c.if-end-input.false (p.ends c.if-end-input.false) c.if-input-end-eq34.false c.if-input-end-ne92.true in
-    rw c.with_kind-then-input-end-ne92.ensures (ap told (sofar_fault input _ end _ invalid_string_character _ s stop), p.within)
+    rw c.with_kind-then-input-end-ne92.ensures (ap located (sofar_fault input _ end _ invalid_string_character _ s stop), p.within)
 
 pub from_utf8_unchecked-text-requires-2 : goal.from_utf8_unchecked-text-requires-2
 from_utf8_unchecked-text-requires-2 c = read_utf8 _ _ _ c.in_ok-bytes.ensures.0

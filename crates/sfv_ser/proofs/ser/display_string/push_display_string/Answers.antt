@@ -2,7 +2,7 @@ use Rattle.std.proofs.Common.{◌++◌, ◌∙◌, codes, string_bytes, ap, appe
 use Rattle.sfv_spec.specs.Values.{display_string}
 use Rattle.sfv_spec.specs.Strings.{is_plain_in_display}
 use Rattle.sfv_spec.specs.Canonical.{display_piece, bare_text}
-use Rattle.sfv_reading.proofs.DisplaySteps.{plain_utf8}
+use Rattle.sfv_reading.proofs.quoted.DisplaySteps.{plain_utf8}
 use Rattle.sfv_ser.proofs.Written.{display_itself, ran_on, ran_out, pushed_last}
 use Rattle.sfv_ser.proofs.ser.display_string.push_display_string.Goals as goal
 

@@ -2,7 +2,7 @@ use Rattle.std.proofs.Common.{◌++◌, ◌∙◌, codes, string_bytes, ap, appe
 use Rattle.sfv_spec.specs.Canonical.{string_piece, bare_text}
 use Rattle.sfv_spec.specs.Values.{string}
 use Rattle.sfv_spec.specs.Strings.{is_plain_in_string}
-use Rattle.sfv_reading.proofs.StringSteps.{plain_utf8}
+use Rattle.sfv_reading.proofs.quoted.StringSteps.{plain_utf8}
 use Rattle.sfv_ser.proofs.Written.{string_itself, ran_on, ran_out, pushed_last}
 use Rattle.sfv_ser.proofs.ser.string.push_string.Goals as goal
 

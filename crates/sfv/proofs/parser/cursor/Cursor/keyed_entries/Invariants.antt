@@ -1,15 +1,16 @@
 use Rattle.std.proofs.Common.{◌≡◌, length}
 use Rattle.sfv_bare.specs.BareItems.{edition_of}
-use Rattle.sfv_reading.specs.Members.{keyed_events, keyed_at}
+use Rattle.sfv_spec.specs.Events.{keyed_events}
+use Rattle.sfv_reading.specs.Members.{keyed_at}
 use Rattle.sfv_reading.specs.Fields.{next_at, members_at}
 use Rattle.sfv.specs.Cursor.{rest}
-use Rattle.sfv.proofs.Loops.{ToldSoFar}
+use Rattle.sfv.proofs.Loops.{VisitedSoFar}
 use Rattle.sfv.proofs.parser.cursor.Cursor.keyed_entries.Given as goal
 
 abbrev pub invariant-loop-self : goal.invariant-loop-self
 invariant-loop-self g l = record {
   ready : g.V.Visitor.is_ready l.visitor;
-  told : ToldSoFar g.V.Visitor.takes keyed_events (next_at (keyed_at (edition_of l.fn.version))) (members_at keyed_events (keyed_at (edition_of l.fn.version)) (rest l.fn.self)) (rest l.self) l.fn.visitor l.visitor;
+  visited : VisitedSoFar g.V.Visitor.takes keyed_events (next_at (keyed_at (edition_of l.fn.version))) (members_at keyed_events (keyed_at (edition_of l.fn.version)) (rest l.fn.self)) (rest l.self) l.fn.visitor l.visitor;
   input : l.self.input ≡ l.fn.self.input;
 }
 

@@ -2,19 +2,19 @@ use Rattle.std.proofs.Common.{refl}
 use Rattle.std.proofs.lemmas.Result.{err_from_is_err_and}
 use Rattle.sfv_bare.specs.BareItems.{edition_of}
 use Rattle.sfv.proofs.Errors.{ErrorOf-fault}
-use Rattle.sfv.proofs.Keyed.{key_fails, keyed_fails, keyed_tells}
+use Rattle.sfv.proofs.Keyed.{key_fails, keyed_fails, keyed_visits}
 use Rattle.sfv.proofs.parser.cursor.Cursor.keyed_entry.Goals as goal
 
-pub returns-in_err-key-clause-told : goal.returns-in_err-key-clause-told
-returns-in_err-key-clause-told g c =
+pub returns-in_err-key-clause-visited : goal.returns-in_err-key-clause-visited
+returns-in_err-key-clause-visited g c =
     let p = err_from_is_err_and c.from_residual.result c.from_residual.ensures.1 in
-    rw (p.1, p.2) (key_fails g.V.Visitor.takes g.V.Visitor.refuses (edition_of c.args.version) _ c.args.self.now.input c.args.self.now.input _ refl (ErrorOf-fault _ _ _ c.in_err-key.ensures))
+    rw (p.1, p.2) (key_fails g.V.Visitor.takes g.V.Visitor.fails (edition_of c.args.version) _ c.args.self.now.input c.args.self.now.input _ refl (ErrorOf-fault _ _ _ c.in_err-key.ensures))
 
-pub returns-in_err-tell-clause-told : goal.returns-in_err-tell-clause-told
-returns-in_err-tell-clause-told g c =
-    let p = err_from_is_err_and c.from_residual-in_err-tell.result c.from_residual-in_err-tell.ensures.1 in
-    rw (p.1, p.2) (keyed_fails g.V.Visitor.takes g.V.Visitor.refuses (edition_of c.args.version) _ _ _ _ c.tell.new.visitor c.args.self.now.input c.key.new.self _ c.in_ok-key.ensures.0 c.in_err-tell.ensures.refused)
+pub returns-in_err-visit-clause-visited : goal.returns-in_err-visit-clause-visited
+returns-in_err-visit-clause-visited g c =
+    let p = err_from_is_err_and c.from_residual-in_err-visit.result c.from_residual-in_err-visit.ensures.1 in
+    rw (p.1, p.2) (keyed_fails g.V.Visitor.takes g.V.Visitor.fails (edition_of c.args.version) _ _ _ _ c.visit.new.visitor c.args.self.now.input c.key.new.self _ c.in_ok-key.ensures.0 c.in_err-visit.ensures.failed)
 
-pub returns-clause-told : goal.returns-clause-told
-returns-clause-told g c =
-    keyed_tells g.V.Visitor.takes g.V.Visitor.refuses (edition_of c.args.version) _ _ _ _ _ c.member_value.new.visitor _ _ c.member_value.new.self c.member_value.result c.in_ok-key.ensures.1 c.in_ok-key.ensures.0 c.in_ok-tell.ensures.taken c.member_value.ensures.told
+pub returns-clause-visited : goal.returns-clause-visited
+returns-clause-visited g c =
+    keyed_visits g.V.Visitor.takes g.V.Visitor.fails (edition_of c.args.version) _ _ _ _ _ c.member_value.new.visitor _ _ c.member_value.new.self c.member_value.result c.in_ok-key.ensures.1 c.in_ok-key.ensures.0 c.in_ok-visit.ensures.taken c.member_value.ensures.visited

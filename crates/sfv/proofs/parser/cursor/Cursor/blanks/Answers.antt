@@ -1,8 +1,0 @@
-use Rattle.std.proofs.Common.{take, drop}
-use Rattle.std.proofs.lemmas.List.{drop-drop, take_rest}
-use Rattle.sfv.proofs.parser.cursor.Cursor.blanks.Goals as goal
-
-pub returns-clause-blanks : goal.returns-clause-blanks
-returns-clause-blanks c =
-    let s = take c.blank_run-len.result (drop c.args.self.now.index c.args.self.now.input.now) in
-    (s, rw (← drop-drop) (rw take_rest at c.blank_run-len.ensures.run))

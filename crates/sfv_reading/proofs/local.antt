@@ -1,0 +1,9 @@
+-- On how much of the text an answer rests.
+pub mod Combinators
+pub mod ByteSequences
+pub mod Quoted
+pub mod Numbers
+pub mod Bare
+pub mod Items
+pub mod Members
+pub mod Fields

@@ -1,0 +1,12 @@
+-- Faults whose place has a rule of its own.
+pub mod Combinators
+pub mod Many
+pub mod ByteSequences
+pub mod BytesRules
+pub mod DisplayFaults
+pub mod DisplayRules
+pub mod Quoted
+pub mod Commas
+pub mod Origins
+pub mod Fields
+pub mod UpToFault

@@ -1,0 +1,3 @@
+-- What a visitor is given.
+pub mod Parts
+pub mod Fields

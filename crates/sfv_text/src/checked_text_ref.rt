@@ -1,0 +1,154 @@
+//! Borrowed texts of a class.
+
+ghost use Rattle.std.specs.Prelude.{IsTrue};
+
+use crate::checked_text::CheckedText;
+use crate::text_class::TextClass;
+use sfv_base::error::{Error, OutOfMemory};
+use std::alloc::{AllocError, Global};
+use std::fmt;
+use std::marker::PhantomData;
+use std::string::String as StdString;
+
+/// A borrowed text of a class: what `KeyRef`, `TokenRef` and `StringRef` are.
+///
+/// `TryFrom` of a text and of bytes are `from_str` and `from_bytes`. Comparisons, `Hash` and `Display` go by
+/// the text.
+#[derive_where(PartialEq, Eq, PartialOrd, Ord, Hash)]
+pub struct CheckedTextRef<'a, C: TextClass> {
+    pub(crate) text: &'a str,
+    pub(crate) class: PhantomData<C>,
+    pub ghost valid: { IsTrue (C.is_valid text.now) },
+}
+
+impl<C: TextClass> Copy for CheckedTextRef<'_, C> {}
+
+impl<C: TextClass> Clone for CheckedTextRef<'_, C> {
+    ghost use Rattle.std.specs.Prelude.{◌≡◌};
+
+    ghost is_clone = { λ x y. y ≡ x };
+
+    fn clone(&self) -> Result<Self, AllocError> {
+        Ok(*self)
+    }
+}
+
+impl<'a, C: TextClass> CheckedTextRef<'a, C> {
+    ghost use Rattle.std.specs.Prelude.{◌≡◌, IfOk};
+    ghost use Rattle.sfv_text.specs.CheckedTexts.{text_of, GivesTextRef};
+
+    /// Takes a text that is known to be of the class.
+    pub(crate) fn from_validated_str(text: &'a str) -> CheckedTextRef<'a, C>
+        requires { IsTrue (C.is_valid text.now) }
+        ensures { text_of result ≡ text.now }
+    {
+        CheckedTextRef {
+            text,
+            class: PhantomData,
+        }
+    }
+
+    /// Takes a text that is of the class.
+    pub fn constant(v: &'a str) -> CheckedTextRef<'a, C>
+        requires { IsTrue (C.is_valid v.now) }
+        ensures { text_of result ≡ v.now }
+    {
+        CheckedTextRef::from_validated_str(v)
+    }
+
+    /// Takes a text.
+    ///
+    /// # Errors
+    ///
+    /// If the text isn't of the class, the error says why. For keys and tokens it is `ErrorKind::Empty` with no
+    /// index if the text is empty, and otherwise `ErrorKind::InvalidCharacter` at the index of the first byte that
+    /// may not stand there.
+    pub fn from_str(v: &'a str) -> Result<CheckedTextRef<'a, C>, Error>
+        ensures { GivesTextRef v.now result }
+    {
+        C::check(v.as_bytes())?;
+        Ok(CheckedTextRef::from_validated_str(v))
+    }
+
+    /// Takes the text of these bytes.
+    ///
+    /// # Errors
+    ///
+    /// As `from_str`.
+    pub fn from_bytes(v: &'a [u8]) -> Result<CheckedTextRef<'a, C>, Error>
+        ensures { GivesTextRef v.now result }
+    {
+        C::check(v)?;
+        // The bytes of each class are ASCII, so they are a text as they stand.
+        let text = unsafe { std::str::from_utf8_unchecked(v) };
+        Ok(CheckedTextRef::from_validated_str(text))
+    }
+
+    /// Returns the text.
+    pub fn as_str(&self) -> &'a str
+        ensures text { result.now ≡ text_of self.now }
+        ensures valid { IsTrue (C.is_valid (text_of self.now)) }
+    {
+        self.text
+    }
+
+    /// Returns a copy that owns its text.
+    ///
+    /// # Errors
+    ///
+    /// `OutOfMemory` when out of memory.
+    pub fn to_owned(&self, alloc: Global) -> Result<CheckedText<C>, OutOfMemory>
+        ensures { IfOk result (λ t. t ≡ text_of self.now) }
+    {
+        let text = StdString::from_str(alloc, self.as_str())?;
+        Ok(CheckedText::from_validated_string(text))
+    }
+}
+
+impl<'a, C: TextClass> TryFrom<&'a str> for CheckedTextRef<'a, C> {
+    ghost use Rattle.sfv_text.specs.CheckedTexts.{GivesTextRef};
+
+    type Error = Error;
+
+    ghost try_from_gives = { λ v r. GivesTextRef v.now r };
+
+    fn try_from(v: &'a str) -> Result<CheckedTextRef<'a, C>, Error> {
+        CheckedTextRef::from_str(v)
+    }
+}
+
+impl<'a, C: TextClass> TryFrom<&'a [u8]> for CheckedTextRef<'a, C> {
+    ghost use Rattle.sfv_text.specs.CheckedTexts.{GivesTextRef};
+
+    type Error = Error;
+
+    ghost try_from_gives = { λ v r. GivesTextRef v.now r };
+
+    fn try_from(v: &'a [u8]) -> Result<CheckedTextRef<'a, C>, Error> {
+        CheckedTextRef::from_bytes(v)
+    }
+}
+
+impl<C: TextClass> fmt::Display for CheckedTextRef<'_, C> {
+    ghost use Rattle.std.specs.Prelude.{Some};
+    ghost use Rattle.sfv_text.specs.CheckedTexts.{text_of};
+
+    ghost output = { λ t. Some (text_of t) };
+
+    fn fmt<W: fmt::Write>(&self, f: &mut fmt::Formatter<W>) -> fmt::Result {
+        f.write_str(self.as_str())
+    }
+}
+
+impl<C: TextClass> fmt::Debug for CheckedTextRef<'_, C> {
+    ghost use Rattle.std.specs.Prelude.{◌++◌, codes};
+    ghost use Rattle.std.specs.Fmt.{debug_variant, debug_str};
+    ghost use Rattle.sfv_text.specs.CheckedTexts.{text_of};
+
+    ghost debug_output = { λ t. debug_variant (C.name ++ codes "Ref") (debug_str (text_of t)) };
+
+    fn fmt<W: fmt::Write>(&self, f: &mut fmt::Formatter<W>) -> fmt::Result {
+        let (name, text) = (C::name(), self.as_str());
+        write!(f, "{name}Ref({text:?})")
+    }
+}
