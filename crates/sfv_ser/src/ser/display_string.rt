@@ -6,7 +6,7 @@ ghost use Rattle.sfv_spec.specs.Canonical.{hexadecimal_digit, display_piece, bar
 ghost use Rattle.sfv_ser.specs.Written.{Appends};
 
 use sfv_base::error::OutOfMemory;
-use sfv_base::runs::{PlainInDisplayString, is_of, run_end_from};
+use sfv_base::runs::{PlainInDisplayString, is_of, split_run};
 use std::alloc::{AllocError, Allocator};
 
 /// The digit of a number below 16.
@@ -39,17 +39,16 @@ fn push_display_string<A: Allocator>(output: &mut String<A>, text: &str) -> Resu
     ensures text { Appends output.old output.new (bare_text (display_string text.now)) result }
 {
     output.push_str("%\"")?;
-    let bytes = text.as_bytes();
-    let mut at = 0;
+    let mut rest = text.as_bytes();
     loop {
-        let end = run_end_from::<PlainInDisplayString>(bytes, at);
-        // Plain bytes are ASCII, so a run of them can be cut out of a text.
-        output.push_str(unsafe { std::str::from_utf8_unchecked(&bytes[at..end]) })?;
-        if end >= bytes.len() {
+        let (run, after) = split_run::<PlainInDisplayString>(rest);
+        // Plain bytes are ASCII, so a run of them is a text.
+        output.push_str(unsafe { std::str::from_utf8_unchecked(run) })?;
+        let Some((byte, after)) = after.split_first() else {
             return output.push('"');
-        }
-        push_byte(output, bytes[end])?;
-        at = end + 1;
+        };
+        push_byte(output, *byte)?;
+        rest = after;
     }
 }
 

@@ -9,7 +9,7 @@ ghost use Rattle.sfv_text.specs.StringText.{string_text};
 ghost use Rattle.sfv_ser.specs.Written.{Appends};
 
 use sfv_base::error::OutOfMemory;
-use sfv_base::runs::{PlainInString, run_end_from};
+use sfv_base::runs::{PlainInString, split_run};
 use sfv_base::utils::is_escaped_in_string;
 use sfv_text::string_ref::StringRef;
 use std::alloc::{AllocError, Allocator};
@@ -31,17 +31,16 @@ fn push_string<A: Allocator>(output: &mut String<A>, text: &str) -> Result<(), A
     ensures text { Appends output.old output.new (bare_text (string text.now)) result }
 {
     output.push('"')?;
-    let bytes = text.as_bytes();
-    let mut at = 0;
+    let mut rest = text.as_bytes();
     loop {
-        let end = run_end_from::<PlainInString>(bytes, at);
-        // Plain bytes are ASCII, so a run of them can be cut out of a text.
-        output.push_str(unsafe { std::str::from_utf8_unchecked(&bytes[at..end]) })?;
-        if end >= bytes.len() {
+        let (run, after) = split_run::<PlainInString>(rest);
+        // Plain bytes are ASCII, so a run of them is a text.
+        output.push_str(unsafe { std::str::from_utf8_unchecked(run) })?;
+        let Some((byte, after)) = after.split_first() else {
             return output.push('"');
-        }
-        push_byte(output, bytes[end])?;
-        at = end + 1;
+        };
+        push_byte(output, *byte)?;
+        rest = after;
     }
 }
 

@@ -1,24 +1,31 @@
-use Rattle.std.proofs.Common.{◌++◌, ◌∙◌, codes, string_bytes, ap, append_assoc, arith, length, lit<}
-use Rattle.sfv_spec.specs.Canonical.{string_piece, bare_text}
+use Rattle.std.proofs.Common.{◌≡◌, ◌++◌, ◌∙◌, List, ℕ, length, codes, string_bytes, ap, append_assoc, lit<, rules}
 use Rattle.sfv_spec.specs.Values.{string}
+use Rattle.sfv_spec.specs.Classes.{is_string_byte}
 use Rattle.sfv_spec.specs.Strings.{is_plain_in_string}
+use Rattle.sfv_spec.specs.Canonical.{string_piece, bare_text}
 use Rattle.sfv_reading.proofs.quoted.StringSteps.{plain_utf8}
-use Rattle.sfv_ser.proofs.Written.{string_itself, ran_on, ran_out, pushed_last}
+use Rattle.sfv_ser.proofs.Written.{string_itself, run_written, byte_written, all_written, pushed_last, rest_of, string_byte_below}
 use Rattle.sfv_ser.proofs.ser.string.push_string.Goals as goal
 
 pub from_utf8_unchecked-requires : goal.from_utf8_unchecked-requires
-from_utf8_unchecked-requires g c = plain_utf8 _ c.run_end_from-end.ensures.each
+from_utf8_unchecked-requires g c = plain_utf8 _ c.split_run.ensures.each
 
-pub returns-then-end-bytes : goal.returns-then-end-bytes
-returns-then-end-bytes g c =
-    let p = c.run_end_from-end.ensures in
-    let before = string_bytes c.args.output.now ++ codes "\"" in
-    let all = ran_out is_plain_in_string string_piece string_itself c.args.text.now c.as_bytes-bytes.result.now before (string_bytes c.loop-output.output) c.from_utf8_unchecked.result.now (string_bytes c.push_str.new.self) c.loop-output.at c.run_end_from-end.result c.as_bytes-bytes.ensures.value c.loop-output.invariant.1 c.from_utf8_unchecked.ensures c.in_ok-push_str.ensures.bytes p.from p.each c.if-end-bytes.true in
-    record { text = pushed_last c.args.output.now c.push-then-end-bytes.new.self c.push-then-end-bytes.result (string_bytes c.push_str.new.self) _ (bare_text (string c.args.text.now)) c.push-then-end-bytes.ensures.bytes (rw (all, c.push-then-end-bytes.ensures.ascii (lit< tt)) (simp append_assoc)) (_, all ∙ append_assoc (string_bytes c.args.output.now) _ _) }
+pub push_byte-requires : goal.push_byte-requires
+push_byte-requires g c =
+    let run = run_written string_piece (string_bytes c.args.output.now ++ codes "\"") c.args.text.now is_plain_in_string string_itself _ _ c.split_run.result.0.now c.split_run.result.1.now (string_bytes c.push_str.new.self) c.loop-byte.invariant c.split_run.ensures.whole c.split_run.ensures.each
+    (c.in_ok-push_str.ensures.bytes ∙ ap (λ (l : List ℕ). string_bytes c.loop-byte.output ++ l) c.from_utf8_unchecked.ensures) in
+    string_byte_below _ _ _ (rest_of is_string_byte run c.requires) c.in-Some.ensures.cases.0
 
-pub loop-output-preserved : goal.loop-output-preserved
-loop-output-preserved g c =
-    let p = c.run_end_from-end.ensures in
-    let before = string_bytes c.args.output.now ++ codes "\"" in
-    let v = ap length c.as_bytes-bytes.ensures.value in
-    (omega (arith, c.if-end-bytes.false, v), ran_on is_plain_in_string string_piece string_itself c.args.text.now c.as_bytes-bytes.result.now before (string_bytes c.loop-output.output) c.from_utf8_unchecked.result.now (string_bytes c.push_str.new.self) (string_bytes c.push_byte.new.output) c.loop-output.at c.run_end_from-end.result c.as_bytes-bytes.ensures.value c.loop-output.invariant.1 c.from_utf8_unchecked.ensures c.in_ok-push_str.ensures.bytes c.in_ok-push_byte.ensures.text p.from p.each c.if-end-bytes.false)
+pub returns-in_default : goal.returns-in_default
+returns-in_default g c =
+    let run = run_written string_piece (string_bytes c.args.output.now ++ codes "\"") c.args.text.now is_plain_in_string string_itself _ _ c.split_run.result.0.now c.split_run.result.1.now (string_bytes c.push_str.new.self) c.loop-byte.invariant c.split_run.ensures.whole c.split_run.ensures.each
+    (c.in_ok-push_str.ensures.bytes ∙ ap (λ (l : List ℕ). string_bytes c.loop-byte.output ++ l) c.from_utf8_unchecked.ensures) in
+    let none : length c.split_run.result.1.now ≡ 0 = search rules in
+    let all = all_written string_piece (string_bytes c.args.output.now ++ codes "\"") c.args.text.now _ _ run none in
+    record { text = pushed_last c.args.output.now c.push-in_default.new.self c.push-in_default.result (string_bytes c.push_str.new.self) _ (bare_text (string c.args.text.now)) c.push-in_default.ensures.bytes (rw (all, c.push-in_default.ensures.ascii (lit< tt)) (simp append_assoc)) (_, all ∙ append_assoc (string_bytes c.args.output.now) _ _) }
+
+pub loop-byte-preserved : goal.loop-byte-preserved
+loop-byte-preserved g c =
+    let run = run_written string_piece (string_bytes c.args.output.now ++ codes "\"") c.args.text.now is_plain_in_string string_itself _ _ c.split_run.result.0.now c.split_run.result.1.now (string_bytes c.push_str.new.self) c.loop-byte.invariant c.split_run.ensures.whole c.split_run.ensures.each
+    (c.in_ok-push_str.ensures.bytes ∙ ap (λ (l : List ℕ). string_bytes c.loop-byte.output ++ l) c.from_utf8_unchecked.ensures) in
+    byte_written string_piece (string_bytes c.args.output.now ++ codes "\"") c.args.text.now _ _ _ _ _ run c.in-Some.ensures.cases.0 c.in_ok-push_byte.ensures.text

@@ -1,10 +1,10 @@
-use Rattle.std.proofs.Common.{◌≡◌, ◌++◌, ◌≤◌, ◌-◌, length, take, string_bytes, codes}
-use Rattle.std.specs.List.{flat_map}
+use Rattle.std.proofs.Common.{◌++◌, length, string_bytes, codes}
 use Rattle.sfv_spec.specs.Canonical.{string_piece}
+use Rattle.sfv_ser.proofs.Written.{IsWrittenUpTo}
 use Rattle.sfv_ser.proofs.ser.string.push_string.Given as goal
 
-abbrev pub invariant-loop-output : goal.invariant-loop-output
-invariant-loop-output g l = (l.at ≤ length l.text) × (string_bytes l.output ≡ (string_bytes l.fn.output ++ codes "\"") ++ flat_map string_piece (take l.at l.text))
+abbrev pub invariant-loop-byte : goal.invariant-loop-byte
+invariant-loop-byte g l = IsWrittenUpTo string_piece (string_bytes l.fn.output ++ codes "\"") l.text l.rest (string_bytes l.output)
 
-abbrev pub decreases-loop-output : goal.decreases-loop-output
-decreases-loop-output g l = length l.text - l.at
+abbrev pub decreases-loop-byte : goal.decreases-loop-byte
+decreases-loop-byte g l = length l.rest
