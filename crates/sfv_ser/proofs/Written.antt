@@ -1,18 +1,18 @@
 -- A text is written run by run.
-use Rattle.std.proofs.Common.{◌≡◌, ℕ, ◌<◌, ◌≤◌, ◌+◌, ◌-◌, Bool, true, cond, not, List, [], ◌∷◌, ◌++◌, length, take, refl, sym, ap, subst, ◌∙◌, append_assoc, take-add, arith}
-use Rattle.std.specs.Prelude.{slice_index, slice_range, string_bytes, Result, Ok, Err, is_ok, OnErr, IsUtf8}
+use Rattle.std.proofs.Common.{◌≡◌, ℕ, ◌<◌, Bool, true, cond, not, List, [], ◌∷◌, ◌++◌, length, take, refl, sym, ap, subst, ◌∙◌, append_assoc, arith}
+use Rattle.std.specs.Prelude.{string_bytes, Result, Ok, Err, OnErr, IsUtf8}
 use Rattle.std.specs.Str.{IsCharBoundary}
 use Rattle.std.specs.declared.string.String.{String}
 use Rattle.std.specs.List.{flat_map, list_all}
 use Rattle.std.proofs.lemmas.Bool.{and_parts, not-true, leb-true}
 use Rattle.std.proofs.lemmas.List.Folds.{list_all-append}
-use Rattle.std.proofs.lemmas.List.{append-nil, length-append, take_at, take_more, take_all}
+use Rattle.std.proofs.lemmas.List.{append-nil, length-append, take_at}
 use Rattle.std.proofs.lemmas.Str.{IsUtf8-string_bytes, IsCharBoundary-from_take}
 use Rattle.sfv_spec.specs.Texts.{RunOf}
 use Rattle.sfv_spec.specs.Classes.{is_string_byte}
 use Rattle.sfv_spec.specs.Strings.{is_escaped_in_string, is_plain_in_display, is_plain_in_string}
 use Rattle.sfv_spec.specs.Canonical.{string_piece, display_piece}
-use Rattle.sfv_ser.specs.Written.{Extends, Appends}
+use Rattle.sfv_ser.specs.Written.{Extends}
 
 flat_map_append : (f : ℕ → List ℕ) (xs ys : List ℕ) → flat_map f (xs ++ ys) ≡ flat_map f xs ++ flat_map f ys
 flat_map_append f [] ys = refl
@@ -69,11 +69,6 @@ cut_back old new (Err e) len is more =
     let front : take len (string_bytes new) ≡ string_bytes old = ap (take len) more.1 ∙ take_at (string_bytes old) more.0 len (sym is) in
     let long = ap (length {A = ℕ}) more.1 in
     IsCharBoundary-from_take (string_bytes new) len (IsUtf8-string_bytes new) (omega (arith, is, long, length-append (string_bytes old) more.0)) (subst IsUtf8 (sym front) (IsUtf8-string_bytes old))
-
--- what is added last
-pub pushed_last : {Z E : Type 0} (old new : String Z) (r : Result (Unit {0}) E) (before more text : List ℕ) → string_bytes new ≡ cond (is_ok r) (before ++ more) before → before ++ more ≡ string_bytes old ++ text → Extends (string_bytes old) before → Appends old new text r
-pushed_last old new (Ok x) before more text e h extends = e ∙ h
-pushed_last old new (Err x) before more text e h extends = (extends.0, e ∙ extends.1)
 
 pub string_byte_below : (byte : ℕ) (behind rest : List ℕ) → RunOf is_string_byte rest → rest ≡ byte ∷ behind → byte < 128
 string_byte_below byte behind rest h e =
