@@ -1,6 +1,6 @@
 //! Where runs of bytes of a class end.
 
-ghost use Rattle.std.specs.Prelude.{◌≡◌, ◌≤◌, ◌<◌, ℕ, Bool, IsTrue, IsFalse, length, take, slice_index, slice_range};
+ghost use Rattle.std.specs.Prelude.{◌≡◌, ◌++◌, ◌≤◌, ◌<◌, ℕ, Bool, IsTrue, IsFalse, length, take, slice_index, slice_range};
 ghost use Rattle.std.specs.List.{prefix_len};
 ghost use Rattle.sfv_spec.specs.Texts.{RunOf};
 ghost use Rattle.sfv_spec.specs.Classes.{is_digit, is_space, is_space_or_tab, is_token_inner, is_key_inner};
@@ -208,6 +208,16 @@ pub fn run_end_from<C: RunClass>(bytes: &[u8], start: usize) -> usize
     ensures ends { result < length bytes.now → IsFalse (C.class (slice_index bytes.now result)) }
 {
     start + run_end::<C>(&bytes[start..])
+}
+
+/// Splits the bytes where the run of the class that they begin with ends.
+#[inline]
+pub fn split_run<C: RunClass>(bytes: &[u8]) -> (&[u8], &[u8])
+    ensures whole { bytes.now ≡ result.0.now ++ result.1.now }
+    ensures each { RunOf C.class result.0.now }
+    ensures ends { 0 < length result.1.now → IsFalse (C.class (slice_index result.1.now 0)) }
+{
+    bytes.split_at(run_end::<C>(bytes))
 }
 
 #[cfg(test)]

@@ -1,5 +1,4 @@
 -- Texts and runs of bytes.
 pub mod Joining
-pub mod Cuts
 pub mod Ranges
 pub mod Utf8

@@ -6,7 +6,7 @@ ghost use Rattle.sfv_spec.specs.Canonical.{hexadecimal_digit, display_piece, bar
 ghost use Rattle.sfv_ser.specs.Written.{Appends};
 
 use sfv_base::error::OutOfMemory;
-use sfv_base::runs::{PlainInDisplayString, is_of, run_end_from};
+use sfv_base::runs::{PlainInDisplayString, is_of, split_run};
 use std::alloc::{AllocError, Allocator};
 
 /// The digit of a number below 16.
@@ -22,7 +22,7 @@ fn digit_of(value: u8) -> char
     }
 }
 
-/// Appends a byte of a display string, or a part of its escape.
+/// Appends a byte of a display string, as it is or by its escape.
 fn push_byte<A: Allocator>(output: &mut String<A>, byte: u8) -> Result<(), AllocError>
     ensures text { Appends output.old output.new (display_piece byte) result }
 {
@@ -34,25 +34,6 @@ fn push_byte<A: Allocator>(output: &mut String<A>, byte: u8) -> Result<(), Alloc
     output.push(digit_of(byte % 16))
 }
 
-/// Appends a display string, or a part of it.
-fn push_display_string<A: Allocator>(output: &mut String<A>, text: &str) -> Result<(), AllocError>
-    ensures text { Appends output.old output.new (bare_text (display_string text.now)) result }
-{
-    output.push_str("%\"")?;
-    let bytes = text.as_bytes();
-    let mut at = 0;
-    loop {
-        let end = run_end_from::<PlainInDisplayString>(bytes, at);
-        // Plain bytes are ASCII, so a run of them can be cut out of a text.
-        output.push_str(unsafe { std::str::from_utf8_unchecked(&bytes[at..end]) })?;
-        if end >= bytes.len() {
-            return output.push('"');
-        }
-        push_byte(output, bytes[end])?;
-        at = end + 1;
-    }
-}
-
 /// Appends a display string.
 pub(crate) fn serialize_display_string<A: Allocator>(
     value: &str,
@@ -60,7 +41,19 @@ pub(crate) fn serialize_display_string<A: Allocator>(
 ) -> Result<(), OutOfMemory>
     ensures text { Appends output.old output.new (bare_text (display_string value.now)) result }
 {
-    push_display_string(output, value)?;
+    output.push_str("%\"")?;
+    let mut rest = value.as_bytes();
+    loop {
+        let (run, after) = split_run::<PlainInDisplayString>(rest);
+        // Plain bytes are ASCII, so a run of them is a text.
+        output.push_str(unsafe { std::str::from_utf8_unchecked(run) })?;
+        let Some((byte, after)) = after.split_first() else {
+            break;
+        };
+        push_byte(output, *byte)?;
+        rest = after;
+    }
+    output.push('"')?;
     Ok(())
 }
 

@@ -1,20 +1,18 @@
 //! Writing strings (RFC 9651, section 4.1.6).
 
 ghost use Rattle.std.specs.Prelude.{◌<◌};
-ghost use Rattle.sfv_spec.specs.Texts.{RunOf};
-ghost use Rattle.sfv_spec.specs.Classes.{is_string_byte};
 ghost use Rattle.sfv_spec.specs.Values.{string};
 ghost use Rattle.sfv_spec.specs.Canonical.{string_piece, bare_text};
 ghost use Rattle.sfv_text.specs.StringText.{string_text};
 ghost use Rattle.sfv_ser.specs.Written.{Appends};
 
 use sfv_base::error::OutOfMemory;
-use sfv_base::runs::{PlainInString, run_end_from};
+use sfv_base::runs::{PlainInString, split_run};
 use sfv_base::utils::is_escaped_in_string;
 use sfv_text::string_ref::StringRef;
 use std::alloc::{AllocError, Allocator};
 
-/// Appends a byte of a string, or a part of its escape.
+/// Appends a byte of a string, after a backslash if it is escaped.
 fn push_byte<A: Allocator>(output: &mut String<A>, byte: u8) -> Result<(), AllocError>
     requires { byte < 128 }
     ensures text { Appends output.old output.new (string_piece byte) result }
@@ -25,26 +23,6 @@ fn push_byte<A: Allocator>(output: &mut String<A>, byte: u8) -> Result<(), Alloc
     output.push(byte as char)
 }
 
-/// Appends a string, or a part of it.
-fn push_string<A: Allocator>(output: &mut String<A>, text: &str) -> Result<(), AllocError>
-    requires { RunOf is_string_byte text.now }
-    ensures text { Appends output.old output.new (bare_text (string text.now)) result }
-{
-    output.push('"')?;
-    let bytes = text.as_bytes();
-    let mut at = 0;
-    loop {
-        let end = run_end_from::<PlainInString>(bytes, at);
-        // Plain bytes are ASCII, so a run of them can be cut out of a text.
-        output.push_str(unsafe { std::str::from_utf8_unchecked(&bytes[at..end]) })?;
-        if end >= bytes.len() {
-            return output.push('"');
-        }
-        push_byte(output, bytes[end])?;
-        at = end + 1;
-    }
-}
-
 /// Appends a string.
 pub(crate) fn serialize_string<A: Allocator>(
     value: StringRef<'_>,
@@ -52,7 +30,19 @@ pub(crate) fn serialize_string<A: Allocator>(
 ) -> Result<(), OutOfMemory>
     ensures text { Appends output.old output.new (bare_text (string (string_text value.entry))) result }
 {
-    push_string(output, value.as_str())?;
+    output.push('"')?;
+    let mut rest = value.as_str().as_bytes();
+    loop {
+        let (run, after) = split_run::<PlainInString>(rest);
+        // Plain bytes are ASCII, so a run of them is a text.
+        output.push_str(unsafe { std::str::from_utf8_unchecked(run) })?;
+        let Some((byte, after)) = after.split_first() else {
+            break;
+        };
+        push_byte(output, *byte)?;
+        rest = after;
+    }
+    output.push('"')?;
     Ok(())
 }
 
