@@ -2,15 +2,21 @@
 use Rattle.std.proofs.Common.{◌≡◌, ℕ, ◌≤◌, List, length, Option, Some, None, Ok, Err, sym, ap, subst, ◌∙◌, drop}
 use Rattle.std.specs.Prelude.{MatchOption, Result}
 use Rattle.std.specs.declared.alloc.Global.{Global}
-use Rattle.sfv_spec.specs.Values.{Edition}
+use Rattle.sfv_spec.specs.Values.{Edition, rfc9651, display_string}
 use Rattle.sfv_base.specs.declared.error.Error.{Error}
 use Rattle.sfv_base.specs.declared.error.ErrorKind.{ErrorKind}
 use Rattle.sfv_base.specs.declared.error.ErrorKind.TheVariants.{OutOfMemory}
 use Rattle.sfv_base.specs.Errors.{error_of}
-use Rattle.sfv_reading.specs.Reader.{Answer, Reader, and_then, bind, ◌>>=◌}
+use Rattle.sfv_reading.specs.Reader.{Answer, Reader, and_then, bind, give, ◌>>=◌}
+use Rattle.sfv_reading.specs.Bare.{quoted_at}
+use Rattle.sfv_reading.specs.Quoted.{display_at}
+use Rattle.sfv_reading.proofs.complete.Combinators.{bind_complete}
+use Rattle.sfv_bare.specs.BareItems.{cow_text}
+use Rattle.std.specs.declared.borrow.CowStr.{CowStr}
 use Rattle.sfv.specs.declared.parser.Parser.{Parser}
 use Rattle.sfv.specs.declared.parser.cursor.Cursor.{Cursor}
-use Rattle.sfv.specs.Cursor.{kept, kept_input, kept_edition, rest, located, IsFaultOf, IsErrorOf, Reads}
+use Rattle.sfv.specs.Cursor.{kept, kept_input, kept_edition, rest, located, IsFaultOf, IsErrorOf, Reads, ReadsOrOutOfMemory}
+use Rattle.sfv.specs.Texts.{display_value_of}
 
 pub fault_bind : {A B : Type 0} (f : Reader A) (g : A → Reader B) (t : List ℕ) (k : ErrorKind) (r : List ℕ) → located (f t) ≡ Err (k, r) → located ((f >>= g) t) ≡ Err (k, r)
 unfolding bind
@@ -64,3 +70,10 @@ ErrorOf-located i e a b eq = on e.index
     on : (o : Option ℕ) → MatchOption o (e.kind ≡ OutOfMemory) (λ index. (located b ≡ Err (e.kind, drop index i)) × (index ≤ length i)) → MatchOption o (e.kind ≡ OutOfMemory) (λ index. (located a ≡ Err (e.kind, drop index i)) × (index ≤ length i))
     on None h = h
     on (Some n) h = (eq ∙ h.0, h.1)
+
+-- a display string as a bare item, of which its text was read
+pub behind_quote : (before middle after : Cursor) (r : Result (CowStr Global) Error) → kept middle ≡ kept before → quoted_at rfc9651 (rest before) ≡ (display_at >>= λ s. give (display_string s)) (rest middle)
+    → ReadsOrOutOfMemory cow_text middle after r display_at → ReadsOrOutOfMemory display_value_of before after r (quoted_at rfc9651)
+unfolding give
+behind_quote before middle after (Ok text) same eq h = (eq ∙ bind_complete display_at (λ s. give (display_string s)) _ _ _ h.0, h.1 ∙ same)
+behind_quote before middle after (Err e) same eq h = ErrorOf-part (kept middle) (kept before) e (λ _. display_at) (λ s. give (display_string s)) (rest middle) _ same eq h

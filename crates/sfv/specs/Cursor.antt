@@ -70,8 +70,3 @@ TakesIf class false t r = (r ≡ t) × Apart class t
 -- one byte was passed
 abbrev pub Skips : List ℕ → List ℕ → Type 0
 Skips t r = (b : ℕ) × (t ≡ b ∷ r)
-
--- The same of a reading from an index on, which returns its value and the index behind it.
-abbrev pub ReadsOrOutOfMemoryAt : {X Y : Type 0} → (X → Y) → List ℕ → Result (X × ℕ) Error → Answer Y → Type 0
-ReadsOrOutOfMemoryAt view input (Ok x) answer = (answer ≡ Ok (view x.0, drop x.1 input)) × (x.1 ≤ length input)
-ReadsOrOutOfMemoryAt view input (Err e) answer = IsErrorOf input e answer

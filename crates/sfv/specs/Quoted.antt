@@ -1,23 +1,71 @@
--- What the code reads behind the opening quotes of strings and display strings.
-use Rattle.std.specs.Prelude.{◌≡◌, ℕ, ◌+◌, ◌≤◌, List, [], ◌∷◌, length, drop, Result, Ok, Err, IsTrue, string_bytes}
+-- What the code reads behind the opening quotes of strings and display strings. A flag says which: true is a display
+-- string.
+use Rattle.std.specs.Prelude.{◌≡◌, ℕ, ◌≤◌, ◌<◌, Bool, true, false, not, ◌==◌, List, [], ◌∷◌, ◌++◌, length, Result, Ok, Err, IsTrue, string_bytes}
 use Rattle.std.specs.declared.alloc.Global.{Global}
 use Rattle.std.specs.declared.string.String as std_string
+use Rattle.sfv_spec.specs.Texts.{RunOf}
 use Rattle.sfv_spec.specs.Classes.{is_lower_hexadecimal}
+use Rattle.sfv_spec.specs.Strings.{is_plain_in_string, is_plain_in_display}
 use Rattle.sfv_base.specs.declared.error.Error.{Error}
+use Rattle.sfv_base.specs.declared.error.ErrorKind.{ErrorKind}
+use Rattle.sfv_base.specs.declared.error.ErrorKind.TheVariants.{UnterminatedString, InvalidStringCharacter, UnterminatedDisplayString, InvalidDisplayStringCharacter}
 use Rattle.sfv_reading.specs.Reader.{Answer, Reader}
-use Rattle.sfv_reading.specs.Quoted.{behind_bytes, percent, digit, pieces_from}
-use Rattle.sfv.specs.Cursor.{IsFaultOf}
+use Rattle.sfv_reading.specs.Quoted.{behind_bytes, string_from, outside, percent, digit, pieces_from}
+use Rattle.sfv.specs.declared.parser.cursor.Cursor.{Cursor}
+use Rattle.sfv.specs.declared.parser.quoted.QuotedBytes.{QuotedBytes}
+use Rattle.sfv.specs.declared.parser.quoted.QuotedBytes.TheVariants as quoted
+use Rattle.sfv.specs.Cursor.{kept, input, rest, IsFaultOf}
 
--- From an index on, the byte was read that an escape of n bytes stands for; the second reader goes on behind it.
-abbrev pub ReadsEscape : ℕ → List ℕ → ℕ → Result ℕ Error → Reader (List ℕ) → Reader (List ℕ) → Type 0
-ReadsEscape n input at (Ok byte) escaped next = (escaped (drop at input) ≡ behind_bytes (byte ∷ []) (next (drop (at + n) input))) × (at + n ≤ length input)
-ReadsEscape n input at (Err e) escaped next = IsFaultOf input e (escaped (drop at input))
+-- the bytes that the text writes for themselves
+abbrev pub plain_of : Bool → ℕ → Bool
+plain_of true = is_plain_in_display
+plain_of false = is_plain_in_string
 
--- The digit of a display string's escape that stands at an index; without one, the reader gives this fault, be
--- it the first digit or the second.
-abbrev pub ReadsDigit : List ℕ → ℕ → Result ℕ Error → Type 0
-ReadsDigit input at (Ok c) = (drop at input ≡ c ∷ drop (at + 1) input) × IsTrue (is_lower_hexadecimal c) × (at + 1 ≤ length input)
-ReadsDigit input at (Err e) = IsFaultOf input e (pieces_from percent (drop at input)) × ((high : ℕ) → IsFaultOf input e (pieces_from (digit high) (drop at input)))
+-- the byte that opens an escape
+abbrev pub mark_of : Bool → ℕ
+mark_of true = 0x25
+mark_of false = 0x5c
+
+-- what is wrong at another byte, or at the end of the input
+abbrev pub stop_of : Bool → Bool → ErrorKind
+stop_of true true = InvalidDisplayStringCharacter
+stop_of true false = UnterminatedDisplayString
+stop_of false true = InvalidStringCharacter
+stop_of false false = UnterminatedString
+
+-- what is read from a byte of the text on, and behind the mark of an escape
+abbrev pub inside : Bool → Reader (List ℕ)
+inside true = pieces_from outside
+inside false = string_from false
+
+abbrev pub behind_mark : Bool → Reader (List ℕ)
+behind_mark true = pieces_from percent
+behind_mark false = string_from true
+
+abbrev pub quoted_bytes : QuotedBytes → List ℕ
+quoted_bytes (quoted.Plain s) = s.now
+quoted_bytes (quoted.Unescaped v) = v.items
+
+abbrev pub is_plain : QuotedBytes → Bool
+is_plain (quoted.Plain s) = true
+is_plain (quoted.Unescaped v) = false
+
+-- no escape stands in what was taken
+abbrev pub HasNoMark : Bool → Cursor → Cursor → Type 0
+HasNoMark display before after = (s : List ℕ) × (rest before ≡ s ++ rest after) × RunOf (λ c. not (c == mark_of display)) s
+
+-- the byte was taken that an escape stands for, behind its mark
+abbrev pub ReadsEscape : Bool → Cursor → Cursor → Result ℕ Error → Type 0
+ReadsEscape display before after (Ok c) =
+    (behind_mark display (rest before) ≡ behind_bytes (c ∷ []) (inside display (rest after))) × (length (rest after) < length (rest before)) × (kept after ≡ kept before)
+ReadsEscape display before after (Err e) = IsFaultOf (input before) e (behind_mark display (rest before))
+
+-- A digit of a display string's escape was taken; without one, the reader gives this fault, be it the first digit or the
+-- second.
+abbrev pub ReadsDigit : Cursor → Cursor → Result ℕ Error → Type 0
+ReadsDigit before after (Ok c) = (rest before ≡ c ∷ rest after) × IsTrue (is_lower_hexadecimal c) × (kept after ≡ kept before)
+ReadsDigit before after (Err e) =
+    IsFaultOf (input before) e (pieces_from percent (rest before)) × ((high : ℕ) → IsFaultOf (input before) e (pieces_from (digit high) (rest before)))
 
 -- The reader gives this text, and the rest behind it.
 abbrev pub GivesText : List ℕ → Result (std_string.String Global) Error → List ℕ → Answer (List ℕ) → Type 0

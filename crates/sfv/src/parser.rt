@@ -20,6 +20,7 @@ mod item;
 mod key;
 mod member;
 mod number;
+mod quoted;
 mod runs;
 mod string;
 mod symbols;

@@ -2,21 +2,16 @@
 
 ghost use Rattle.std.specs.Prelude.{◌≡◌, Bool, true, IfOk};
 ghost use Rattle.sfv_spec.specs.Values.{rfc9651, boolean, date};
-ghost use Rattle.sfv_bare.specs.BareItems.{input_value, read_text};
+ghost use Rattle.sfv_bare.specs.BareItems.{input_value};
 ghost use Rattle.sfv_reading.specs.Reader.{byte};
-ghost use Rattle.sfv_reading.specs.Content.{bytes_at};
-ghost use Rattle.sfv_reading.specs.Quoted.{string_at};
 ghost use Rattle.sfv_reading.specs.Bare.{is_number_start, boolean_at, date_at, quoted_at, bare_at};
 ghost use Rattle.sfv.specs.Cursor.{edition, rest, Reads, ReadsOrOutOfMemory, NextIs};
-ghost use Rattle.sfv.specs.Texts.{vec_bytes, display_value_of};
+ghost use Rattle.sfv.specs.Texts.{display_value_of};
 
-use crate::parser::byte_sequence::byte_sequence;
 use crate::parser::cursor::Cursor;
-use crate::parser::display_string::display_string;
 use crate::parser::number::Number;
 use crate::parser::runs::is_digit_byte;
-use crate::parser::string::string;
-use sfv_bare::bare::{BareItemFromInput, GenericBareItem, StringFromInput, Version};
+use sfv_bare::bare::{BareItemFromInput, GenericBareItem, Version};
 use sfv_base::date::Date;
 use sfv_base::error::{Error, ErrorKind};
 use std::borrow::CowStr;
@@ -34,24 +29,6 @@ impl<'de> Cursor<'de> {
             return Ok(true);
         }
         Err(self.error(ErrorKind::ExpectedBoolean))
-    }
-
-    /// Takes a string behind its opening quote.
-    fn string(&mut self) -> Result<StringFromInput<'de>, Error>
-        ensures { ReadsOrOutOfMemory read_text self.old self.new result string_at }
-    {
-        let (text, next) = string(self.alloc, self.parser.input, self.index)?;
-        self.index = next;
-        Ok(text)
-    }
-
-    /// Takes a byte sequence behind its opening colon.
-    fn byte_sequence(&mut self) -> Result<Vec<u8>, Error>
-        ensures { ReadsOrOutOfMemory vec_bytes self.old self.new result bytes_at }
-    {
-        let (bytes, next) = byte_sequence(self.alloc, self.parser.input, self.index)?;
-        self.index = next;
-        Ok(bytes)
     }
 
     /// Takes a date, which RFC 8941 has not.
@@ -75,7 +52,7 @@ impl<'de> Cursor<'de> {
         self.skip();
         match self.number()? {
             Number::Integer(seconds) => Ok(Date::from_unix_seconds(seconds)),
-            Number::Decimal(_) => Err(Error::with_kind(ErrorKind::NonIntegerDate, Some(start))),
+            Number::Decimal(_) => Err(Error::at(ErrorKind::NonIntegerDate, start)),
         }
     }
 
@@ -101,9 +78,7 @@ impl<'de> Cursor<'de> {
         if !self.take_if(b'"') {
             return Err(self.error(ErrorKind::ExpectedQuote));
         }
-        let (text, next) = display_string(self.alloc, self.parser.input, self.index)?;
-        self.index = next;
-        Ok(text)
+        self.display_text()
     }
 
     /// Whether a byte stands next that a number may begin with.

@@ -4,15 +4,15 @@
 //! what it decodes. It never sees padding, which may be left out, nor spare bits that aren't zeros, which
 //! have no meaning here.
 
-ghost use Rattle.std.specs.Prelude.{◌≡◌, ◌≤◌, ◌++◌, length, drop, IfOk, OnOk};
+ghost use Rattle.std.specs.Prelude.{◌≡◌, ◌++◌, IfOk, OnOk};
 ghost use Rattle.sfv_spec.specs.Texts.{RunOf};
 ghost use Rattle.sfv_spec.specs.Base64.{is_symbol};
 ghost use Rattle.sfv_reading.specs.Content.{bytes_at};
-ghost use Rattle.sfv_base.specs.Errors.{error_of};
-ghost use Rattle.sfv.specs.Cursor.{ReadsOrOutOfMemoryAt};
+ghost use Rattle.sfv.specs.Cursor.{ReadsOrOutOfMemory};
 ghost use Rattle.sfv.specs.Texts.{vec_bytes};
 ghost use Rattle.sfv.specs.Zeros.{HasZeros, decoded_symbols};
 
+use crate::parser::cursor::Cursor;
 use crate::parser::symbols::{padding_after, padding_run, rounded_symbol, symbol_run};
 use base64::engine::general_purpose::STANDARD_NO_PAD;
 use base64::{DecodeAllocError, decoded_len_estimate};
@@ -59,44 +59,36 @@ fn decode_symbols(alloc: Global, symbols: &[u8]) -> Result<Vec<u8>, AllocError>
     Ok(bytes)
 }
 
-/// The error of a content that a colon closes and that is no Base64.
-fn invalid(index: usize) -> Error
-    ensures { result ≡ error_of ErrorKind.InvalidByteSequence (Some index) }
-{
-    Error::with_kind(ErrorKind::InvalidByteSequence, Some(index))
-}
-
-/// The bytes whose content begins at `start`, and the index behind the colon that closes it.
-pub(crate) fn byte_sequence(
-    alloc: Global,
-    input: &[u8],
-    start: usize,
-) -> Result<(Vec<u8>, usize), Error>
-    requires { start ≤ length input.now }
-    ensures { ReadsOrOutOfMemoryAt vec_bytes input.now result (bytes_at (drop start input.now)) }
-{
-    let content = &input[start..];
-    let count = symbol_run(content);
-    let end = count + padding_run(&content[count..], padding_after(count));
-    if end == content.len() || content[end] != b':' {
-        // A colon further on closes the content, which is then malformed here.
-        return Err(if content[end..].contains(&b':') {
-            invalid(start + end)
-        } else {
-            Error::with_kind(ErrorKind::UnterminatedByteSequence, Some(input.len()))
-        });
+impl Cursor<'_> {
+    /// Takes a byte sequence behind its opening colon, with the closing one.
+    pub(super) fn byte_sequence(&mut self) -> Result<Vec<u8>, Error>
+        ensures { ReadsOrOutOfMemory vec_bytes self.old self.new result bytes_at }
+    {
+        let content = &self.parser.input[self.index..];
+        let count = symbol_run(content);
+        let end = count + padding_run(&content[count..], padding_after(count));
+        if end == content.len() || content[end] != b':' {
+            // A colon further on closes the content, which is then malformed here.
+            return Err(if content[end..].contains(&b':') {
+                Error::at(ErrorKind::InvalidByteSequence, self.index + end)
+            } else {
+                Error::at(ErrorKind::UnterminatedByteSequence, self.parser.input.len())
+            });
+        }
+        // A single symbol has fewer bits than a byte.
+        if count % 4 == 1 {
+            return Err(Error::at(ErrorKind::InvalidByteSequence, self.index + end - 1));
+        }
+        let bytes = decode_symbols(self.alloc, &content[..count])?;
+        self.index += end + 1;
+        Ok(bytes)
     }
-    // A single symbol has fewer bits than a byte.
-    if count % 4 == 1 {
-        return Err(invalid(start + end - 1));
-    }
-    let bytes = decode_symbols(alloc, &content[..count])?;
-    Ok((bytes, start + end + 1))
 }
 
 #[cfg(test)]
 mod tests {
     use super::*;
+    use crate::parser::Parser;
     use std::test::Fail;
 
     #[test]
@@ -116,11 +108,11 @@ mod tests {
             (":", unterminated, 1),
         ] {
             let input = text.as_bytes();
-            assert!(rt; !input.is_empty());
-            let error = byte_sequence(rt.alloc(), input, 1).err();
+            let mut cursor = Cursor::new(Parser::new(input), rt.alloc());
+            assert!(rt; cursor.take_if(b':'));
             assert_eq!(rt;
-                error,
-                Some(Error::with_kind(kind, Some(index))),
+                cursor.byte_sequence().err(),
+                Some(Error::at(kind, index)),
                 "in {text}"
             );
         }
@@ -135,10 +127,11 @@ mod tests {
             (":YR:", "a"),
         ] {
             let input = text.as_bytes();
-            assert!(rt; !input.is_empty());
-            let (bytes, end) = byte_sequence(rt.alloc(), input, 1)?;
+            let mut cursor = Cursor::new(Parser::new(input), rt.alloc());
+            assert!(rt; cursor.take_if(b':'));
+            let bytes = cursor.byte_sequence()?;
             assert_eq!(rt; bytes.as_slice(), value.as_bytes(), "in {text}");
-            assert_eq!(rt; end, input.len(), "in {text}");
+            assert_eq!(rt; cursor.index, input.len(), "in {text}");
         }
         Ok(())
     }

@@ -1,14 +1,15 @@
 //! Where a reading stands in its input, and its steps: looking at the next byte, and taking it.
 
-ghost use Rattle.std.specs.Prelude.{◌≡◌, ◌≤◌, ◌+◌, ℕ, Bool, true, false, List, length, Some, Ok};
+ghost use Rattle.std.specs.Prelude.{◌≡◌, ◌≤◌, ◌+◌, ◌++◌, ℕ, Bool, true, false, List, length, Some, Ok};
 ghost use Rattle.sfv_spec.specs.Texts.{RunOf};
 ghost use Rattle.sfv_spec.specs.Classes.{is_digit, is_space, is_space_or_tab};
 ghost use Rattle.sfv_base.specs.Errors.{error_of};
-ghost use Rattle.sfv_reading.specs.Reader.{first, byte, up_to, span};
+ghost use Rattle.sfv_reading.specs.Reader.{Apart, first, byte, up_to, span};
 
 use crate::parser::Parser;
-use crate::parser::runs::{blank_run, digit_run, is_digit_byte, space_run};
+use crate::parser::runs::{digit_run, is_digit_byte};
 use sfv_base::error::{Error, ErrorKind};
+use sfv_base::runs::{RunClass, Space, SpaceOrTab, run_end_from};
 use std::alloc::Global;
 
 /// Reads the input of a parser from left to right.
@@ -58,7 +59,7 @@ impl<'de> Cursor<'de> {
     pub(super) fn error(&self, kind: ErrorKind) -> Error
         ensures { result ≡ error_of kind (Some self.now.index) }
     {
-        Error::with_kind(kind, Some(self.index))
+        Error::at(kind, self.index)
     }
 
     /// Whether this byte stands next.
@@ -103,13 +104,24 @@ impl<'de> Cursor<'de> {
         &self.parser.input[start..self.index]
     }
 
+    /// Takes the bytes of the class that stand next.
+    pub(super) fn run<C: RunClass>(&mut self) -> &'de [u8]
+        ensures each { RunOf C.class result.now }
+        ensures taken { rest self.old ≡ result.now ++ rest self.new }
+        ensures ends { Apart C.class (rest self.new) }
+        ensures kept { kept self.new ≡ kept self.old }
+    {
+        let start = self.index;
+        self.index = run_end_from::<C>(self.parser.input, start);
+        &self.parser.input[start..self.index]
+    }
+
     /// Takes spaces.
     pub(super) fn skip_sp(&mut self)
         ensures skipped { (s : List ℕ) × (span is_space (rest self.old) ≡ Ok (s, rest self.new)) }
         ensures kept { kept self.new ≡ kept self.old }
     {
-        let len = space_run(&self.parser.input[self.index..]);
-        self.index += len;
+        self.run::<Space>();
     }
 
     /// Takes spaces and tabs.
@@ -117,7 +129,6 @@ impl<'de> Cursor<'de> {
         ensures skipped { (s : List ℕ) × (span is_space_or_tab (rest self.old) ≡ Ok (s, rest self.new)) }
         ensures kept { kept self.new ≡ kept self.old }
     {
-        let len = blank_run(&self.parser.input[self.index..]);
-        self.index += len;
+        self.run::<SpaceOrTab>();
     }
 }

@@ -1,19 +1,19 @@
 //! Reading display strings (RFC 9651, section 4.2.10).
 
-ghost use Rattle.std.specs.Prelude.{◌≡◌, ◌≤◌, ◌<◌, ◌↔◌, ℕ, List, length, drop, slice_range, not, ◌==◌, IfOk, IsTrue, Ok};
-ghost use Rattle.sfv_spec.specs.Texts.{RunOf};
+ghost use Rattle.std.specs.Prelude.{◌≡◌, ◌≤◌, ◌<◌, ◌↔◌, ℕ, List, true, length, drop, IfOk, IsTrue, Ok};
 ghost use Rattle.sfv_spec.specs.Classes.{is_lower_hexadecimal};
-ghost use Rattle.sfv_spec.specs.Strings.{is_plain_in_display, hexadecimal_value};
+ghost use Rattle.sfv_spec.specs.Strings.{hexadecimal_value};
 ghost use Rattle.sfv_bare.specs.BareItems.{cow_text};
-ghost use Rattle.sfv_reading.specs.Quoted.{outside, percent, pieces_from, behind_pieces, display_at};
-ghost use Rattle.sfv.specs.Cursor.{ReadsOrOutOfMemoryAt};
-ghost use Rattle.sfv.specs.Quoted.{ReadsEscape, ReadsDigit, GivesText};
-ghost use Rattle.sfv.specs.Texts.{is_borrowed_text, vec_bytes};
+ghost use Rattle.sfv_reading.specs.Quoted.{outside, pieces_from, behind_pieces, display_at};
+ghost use Rattle.sfv.specs.Cursor.{ReadsOrOutOfMemory};
+ghost use Rattle.sfv.specs.Quoted.{HasNoMark, ReadsDigit, GivesText};
+ghost use Rattle.sfv.specs.Texts.{is_borrowed_text};
 
+use crate::parser::cursor::Cursor;
+use crate::parser::quoted::{QuotedBytes, QuotedText};
 use sfv_base::error::{Error, ErrorKind};
+use sfv_base::runs::PlainInDisplayString;
 use sfv_base::utils::is_lower_hexadecimal_digit;
-use sfv_ser::quoted::in_display_string::plain_end;
-use std::alloc::Global;
 use std::borrow::CowStr;
 
 /// The number that a digit stands for.
@@ -29,63 +29,32 @@ fn value_of(digit: u8) -> u8
     }
 }
 
-/// The digit of an escape that stands there.
-fn digit_at(input: &[u8], at: usize) -> Result<u8, Error>
-    requires { at ≤ length input.now }
-    ensures { ReadsDigit input.now at result }
-{
-    if at >= input.len() {
-        return Err(Error::with_kind(ErrorKind::UnterminatedEscapeSequence, Some(at)));
-    }
-    let byte = input[at];
-    if is_lower_hexadecimal_digit(byte) {
-        Ok(byte)
-    } else {
-        Err(Error::with_kind(ErrorKind::InvalidEscapeSequence, Some(at)))
-    }
-}
+/// The inside of a display string.
+pub(super) struct InDisplayString;
 
-/// The byte of the escape whose digits stand there, behind the percent sign.
-fn escaped(input: &[u8], at: usize) -> Result<u8, Error>
-    requires { at ≤ length input.now }
-    ensures { ReadsEscape 2 input.now at result (pieces_from percent) (pieces_from outside) }
-{
-    let high = digit_at(input, at)?;
-    let low = digit_at(input, at + 1)?;
-    Ok(16 * value_of(high) + value_of(low))
-}
+impl QuotedText for InDisplayString {
+    ghost display = { true };
 
-/// The bytes of the display string from `start` on, and the index behind its closing quote.
-///
-/// Up to `plain_until` the bytes are known to be plain.
-fn unescaped(
-    alloc: Global,
-    input: &[u8],
-    start: usize,
-    plain_until: usize,
-) -> Result<(Vec<u8>, usize), Error>
-    requires from { start ≤ plain_until }
-    requires within { plain_until ≤ length input.now }
-    requires plain { RunOf is_plain_in_display (slice_range input.now start plain_until) }
-    ensures { ReadsOrOutOfMemoryAt vec_bytes input.now result (pieces_from outside (drop start input.now)) }
-{
-    let mut bytes = Vec::from_slice(alloc, &input[start..plain_until])?;
-    let mut at = plain_until;
-    loop {
-        let end = plain_end(input, at);
-        bytes.extend_from_slice(&input[at..end])?;
-        if end >= input.len() {
-            return Err(Error::with_kind(ErrorKind::UnterminatedDisplayString, Some(end)));
+    fn mark() -> u8 {
+        b'%'
+    }
+
+    fn stop(at_byte: bool) -> ErrorKind {
+        if at_byte {
+            ErrorKind::InvalidDisplayStringCharacter
+        } else {
+            ErrorKind::UnterminatedDisplayString
         }
-        if input[end] == b'"' {
-            return Ok((bytes, end + 1));
-        }
-        if input[end] != b'%' {
-            return Err(Error::with_kind(ErrorKind::InvalidDisplayStringCharacter, Some(end)));
-        }
-        let byte = escaped(input, end + 1)?;
-        bytes.push(byte)?;
-        at = end + 3;
+    }
+
+    fn plain<'de>(cursor: &mut Cursor<'de>) -> &'de [u8] {
+        cursor.run::<PlainInDisplayString>()
+    }
+
+    fn escaped(cursor: &mut Cursor<'_>) -> Result<u8, Error> {
+        let high = cursor.escape_digit()?;
+        let low = cursor.escape_digit()?;
+        Ok(16 * value_of(high) + value_of(low))
     }
 }
 
@@ -114,76 +83,81 @@ fn text_of(input: &[u8], start: usize, bytes: Vec<u8>) -> Result<String, Error>
         Err(error) => {
             let valid = error.utf8_error().valid_up_to();
             let index = place(input, start, valid);
-            Err(Error::with_kind(ErrorKind::InvalidUtf8InDisplayString, Some(index)))
+            Err(Error::at(ErrorKind::InvalidUtf8InDisplayString, index))
         }
     }
 }
 
-/// Reads a display string behind its opening quote, up to the closing one: a slice of the input if
-/// it has no escape. The index returned is that behind the closing quote.
-pub(crate) fn display_string<'de>(
-    alloc: Global,
-    input: &'de [u8],
-    start: usize,
-) -> Result<(CowStr<'de>, usize), Error>
-    requires { start ≤ length input.now }
-    ensures read { ReadsOrOutOfMemoryAt cow_text input.now result (display_at (drop start input.now)) }
-    ensures borrowed { IfOk result (λ x. IsTrue (is_borrowed_text x.0) ↔ RunOf (λ c. not (c == 0x25)) (slice_range input.now start x.1)) }
-{
-    let end = plain_end(input, start);
-    if end >= input.len() {
-        return Err(Error::with_kind(ErrorKind::UnterminatedDisplayString, Some(end)));
+impl<'de> Cursor<'de> {
+    /// Takes a digit of an escape.
+    fn escape_digit(&mut self) -> Result<u8, Error>
+        ensures { ReadsDigit self.old self.new result }
+    {
+        let Some(byte) = self.peek() else {
+            return Err(self.error(ErrorKind::UnterminatedEscapeSequence));
+        };
+        if !is_lower_hexadecimal_digit(byte) {
+            return Err(self.error(ErrorKind::InvalidEscapeSequence));
+        }
+        self.skip();
+        Ok(byte)
     }
-    if input[end] == b'"' {
-        // Plain bytes are ASCII, so they are a text as they stand.
-        let text = unsafe { std::str::from_utf8_unchecked(&input[start..end]) };
-        return Ok((CowStr::Borrowed(text), end + 1));
+
+    /// Takes a display string behind its opening quote, with the closing one: a slice of the input if it has no escape.
+    pub(super) fn display_text(&mut self) -> Result<CowStr<'de>, Error>
+        ensures read { ReadsOrOutOfMemory cow_text self.old self.new result display_at }
+        ensures borrowed { IfOk result (λ text. IsTrue (is_borrowed_text text) ↔ HasNoMark true self.old self.new) }
+    {
+        let start = self.index;
+        match self.quoted_text::<InDisplayString>()? {
+            QuotedBytes::Plain(bytes) => {
+                // Plain bytes are ASCII, so they are a text as they stand.
+                let text = unsafe { std::str::from_utf8_unchecked(bytes) };
+                Ok(CowStr::Borrowed(text))
+            }
+            QuotedBytes::Unescaped(bytes) => {
+                let text = text_of(self.parser.input, start, bytes)?;
+                Ok(CowStr::Owned(text))
+            }
+        }
     }
-    if input[end] != b'%' {
-        return Err(Error::with_kind(ErrorKind::InvalidDisplayStringCharacter, Some(end)));
-    }
-    let (bytes, next) = unescaped(alloc, input, start, end)?;
-    let text = text_of(input, start, bytes)?;
-    Ok((CowStr::Owned(text), next))
 }
 
 #[cfg(test)]
 mod tests {
-    use super::display_string;
+    use crate::parser::Parser;
+    use crate::parser::cursor::Cursor;
     use sfv_base::error::{Error, ErrorKind};
     use std::alloc::Global;
     use std::borrow::CowStr;
 
-    fn is_borrowed(alloc: Global, input: &[u8], text: &str, next: usize) -> bool
-        requires { 2 ≤ length input.now }
-    {
-        match display_string(alloc, input, 2) {
-            Ok((read, behind)) => match read {
-                CowStr::Borrowed(read) => read == text && behind == next,
-                CowStr::Owned(_) => false,
-            },
-            Err(_) => false,
+    fn at_text(alloc: Global, input: &[u8]) -> Cursor<'_> {
+        let mut cursor = Cursor::new(Parser::new(input), alloc);
+        cursor.take_if(b'%');
+        cursor.take_if(b'"');
+        cursor
+    }
+
+    fn is_borrowed(alloc: Global, input: &[u8], text: &str, next: usize) -> bool {
+        let mut cursor = at_text(alloc, input);
+        match cursor.display_text() {
+            Ok(CowStr::Borrowed(read)) => read == text && cursor.index == next,
+            _ => false,
         }
     }
 
-    fn is_owned(alloc: Global, input: &[u8], text: &str, next: usize) -> bool
-        requires { 2 ≤ length input.now }
-    {
-        match display_string(alloc, input, 2) {
-            Ok((read, behind)) => match read {
-                CowStr::Borrowed(_) => false,
-                CowStr::Owned(read) => read.as_str() == text && behind == next,
-            },
-            Err(_) => false,
+    fn is_owned(alloc: Global, input: &[u8], text: &str, next: usize) -> bool {
+        let mut cursor = at_text(alloc, input);
+        match cursor.display_text() {
+            Ok(CowStr::Owned(read)) => read.as_str() == text && cursor.index == next,
+            _ => false,
         }
     }
 
-    fn is_error(alloc: Global, input: &[u8], kind: ErrorKind, index: usize) -> bool
-        requires { 2 ≤ length input.now }
-    {
-        match display_string(alloc, input, 2) {
+    fn is_error(alloc: Global, input: &[u8], kind: ErrorKind, index: usize) -> bool {
+        match at_text(alloc, input).display_text() {
             Ok(_) => false,
-            Err(error) => error == Error::with_kind(kind, Some(index)),
+            Err(error) => error == Error::at(kind, index),
         }
     }
 

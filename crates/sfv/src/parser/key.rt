@@ -6,8 +6,8 @@ ghost use Rattle.sfv_reading.specs.Items.{key_at};
 ghost use Rattle.sfv.specs.Cursor.{rest, Reads, NextIs};
 
 use crate::parser::cursor::Cursor;
-use crate::parser::runs::key_run;
 use sfv_base::error::{Error, ErrorKind};
+use sfv_base::runs::{InnerKey, run_end};
 use sfv_base::utils::is_allowed_start_key_char;
 use sfv_text::key_ref::KeyRef;
 
@@ -31,7 +31,7 @@ impl<'de> Cursor<'de> {
             return Err(self.error(ErrorKind::ExpectedStartOfKey));
         }
         let start = self.index;
-        let len = key_run(&self.parser.input[start + 1..]);
+        let len = run_end::<InnerKey>(&self.parser.input[start + 1..]);
         self.index = start + 1 + len;
         let text = unsafe { std::str::from_utf8_unchecked(&self.parser.input[start..self.index]) };
         Ok(KeyRef::constant(text))

@@ -85,7 +85,7 @@ impl Cursor<'_> {
         self.skip();
         let fraction = self.digits(3);
         if fraction.is_empty() {
-            return Err(Error::with_kind(ErrorKind::TrailingDecimalPoint, Some(point)));
+            return Err(Error::at(ErrorKind::TrailingDecimalPoint, point));
         }
         if self.next_is_digit() {
             return Err(self.error(ErrorKind::TooManyDigitsAfterDecimalPoint));

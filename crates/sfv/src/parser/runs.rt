@@ -1,12 +1,10 @@
-//! Runs of bytes of a class, and the numbers that digits spell.
+//! Runs of digits, and the numbers that they spell.
 
 ghost use Rattle.std.specs.Prelude.{◌≡◌, ◌≤◌, ◌<◌, ◌^◌, ◌*◌, ◌-◌, length, take, drop, Ok};
 ghost use Rattle.sfv_spec.specs.Texts.{RunOf};
-ghost use Rattle.sfv_spec.specs.Classes.{is_digit, is_space, is_space_or_tab, is_key_inner, is_token_inner};
+ghost use Rattle.sfv_spec.specs.Classes.{is_digit};
 ghost use Rattle.sfv_spec.specs.Numbers.{place_value};
-ghost use Rattle.sfv_reading.specs.Reader.{up_to, span};
-
-use sfv_base::utils::{is_allowed_inner_key_char, is_allowed_inner_token_char};
+ghost use Rattle.sfv_reading.specs.Reader.{up_to};
 
 pub(crate) fn is_digit_byte(byte: u8) -> bool
     ensures { result ≡ is_digit byte }
@@ -56,60 +54,4 @@ pub(crate) fn thousandths(digits: &[u8]) -> u64
         _ => 1,
     };
     number_value(digits) * unit
-}
-
-/// How many spaces the bytes begin with.
-pub(crate) fn space_run(bytes: &[u8]) -> usize
-    ensures within { result ≤ length bytes.now }
-    ensures run { span is_space bytes.now ≡ Ok (take result bytes.now, drop result bytes.now) }
-{
-    let mut count = 0;
-    while count < bytes.len() && bytes[count] == b' ' {
-        count += 1;
-    }
-    count
-}
-
-fn is_blank_byte(byte: u8) -> bool
-    ensures { result ≡ is_space_or_tab byte }
-{
-    byte == b' ' || byte == b'\t'
-}
-
-/// How many spaces and tabs the bytes begin with.
-pub(crate) fn blank_run(bytes: &[u8]) -> usize
-    ensures within { result ≤ length bytes.now }
-    ensures run { span is_space_or_tab bytes.now ≡ Ok (take result bytes.now, drop result bytes.now) }
-{
-    let mut count = 0;
-    while count < bytes.len() && is_blank_byte(bytes[count]) {
-        count += 1;
-    }
-    count
-}
-
-/// How many bytes that may stand inside a key the bytes begin with.
-pub(crate) fn key_run(bytes: &[u8]) -> usize
-    ensures within { result ≤ length bytes.now }
-    ensures each { RunOf is_key_inner (take result bytes.now) }
-    ensures run { span is_key_inner bytes.now ≡ Ok (take result bytes.now, drop result bytes.now) }
-{
-    let mut count = 0;
-    while count < bytes.len() && is_allowed_inner_key_char(bytes[count]) {
-        count += 1;
-    }
-    count
-}
-
-/// How many bytes that may stand inside a token the bytes begin with.
-pub(crate) fn token_run(bytes: &[u8]) -> usize
-    ensures within { result ≤ length bytes.now }
-    ensures each { RunOf is_token_inner (take result bytes.now) }
-    ensures run { span is_token_inner bytes.now ≡ Ok (take result bytes.now, drop result bytes.now) }
-{
-    let mut count = 0;
-    while count < bytes.len() && is_allowed_inner_token_char(bytes[count]) {
-        count += 1;
-    }
-    count
 }

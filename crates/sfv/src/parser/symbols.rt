@@ -5,6 +5,8 @@ ghost use Rattle.sfv_spec.specs.Base64.{symbol, is_symbol};
 ghost use Rattle.sfv_reading.specs.Content.{symbol_value, most_padding};
 ghost use Rattle.sfv.specs.Runs.{IsSymbolRun, IsPaddingRun};
 
+use sfv_base::runs::{Symbol, run_end};
+
 /// The symbols in the order of their values.
 const SYMBOLS: [u8; 64] = *b"ABCDEFGHIJKLMNOPQRSTUVWXYZabcdefghijklmnopqrstuvwxyz0123456789+/";
 
@@ -60,11 +62,7 @@ pub(crate) fn rounded_symbol(byte: u8, unit: u8) -> u8
 pub(crate) fn symbol_run(bytes: &[u8]) -> usize
     ensures { IsSymbolRun bytes.now result }
 {
-    let mut count = 0;
-    while count < bytes.len() && is_symbol_byte(bytes[count]) {
-        count += 1;
-    }
-    count
+    run_end::<Symbol>(bytes)
 }
 
 /// How much padding the bytes begin with, up to `most`.

@@ -7,8 +7,8 @@ ghost use Rattle.sfv_reading.specs.Bare.{token_at};
 ghost use Rattle.sfv.specs.Cursor.{rest, Reads, NextIs};
 
 use crate::parser::cursor::Cursor;
-use crate::parser::runs::token_run;
 use sfv_base::error::{Error, ErrorKind};
+use sfv_base::runs::{InnerToken, run_end};
 use sfv_base::utils::is_allowed_start_token_char;
 use sfv_text::token_ref::TokenRef;
 
@@ -32,7 +32,7 @@ impl<'de> Cursor<'de> {
             return Err(self.error(ErrorKind::ExpectedStartOfBareItem));
         }
         let start = self.index;
-        let len = token_run(&self.parser.input[start + 1..]);
+        let len = run_end::<InnerToken>(&self.parser.input[start + 1..]);
         self.index = start + 1 + len;
         let text = unsafe { std::str::from_utf8_unchecked(&self.parser.input[start..self.index]) };
         Ok(TokenRef::constant(text))

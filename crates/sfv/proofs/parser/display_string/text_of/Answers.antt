@@ -23,4 +23,4 @@ pub returns-in-Err : goal.returns-in-Err
 returns-in-Err c = λ rest e.
     let n : c.valid_up_to-valid.result ≡ utf8_valid_len c.args.bytes.items = c.valid_up_to-valid.ensures ∙ ap valid_up_to c.utf8_error.ensures ∙ c.in-Err.ensures.valid_len in
     let not_text : ¬ IsUtf8 c.args.bytes.items = search rules in
-    rw c.with_kind.ensures (rw (c.place-index.ensures.place, n) (ap located (shown_wrong _ _ rest e not_text)), c.place-index.ensures.within)
+    rw c.at.ensures (rw (c.place-index.ensures.place, n) (ap located (shown_wrong _ _ rest e not_text)), c.place-index.ensures.within)

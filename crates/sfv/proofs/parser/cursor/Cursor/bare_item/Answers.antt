@@ -13,10 +13,10 @@ use Rattle.sfv.proofs.parser.cursor.Cursor.bare_item.Goals.{in-Integer, in-Decim
 pub returns-in_err-string : goal.returns-in_err-string
 returns-in_err-string c =
     let p = err_from_is_err_and c.from_residual-in_err-string.result c.from_residual-in_err-string.ensures.1 in
-    rw (p.1, p.2) (ErrorOf-part _ _ _ (λ _. string_at) _ _ _ (c.take_if-2.ensures.kept ∙ c.take_if.ensures.kept) (bare_string _ _ _ _ c.if-take_if.ensures.takes c.if-take_if-2.ensures.takes) c.in_err-string.ensures)
+    rw (p.1, p.2) (ErrorOf-part _ _ _ (λ _. string_at) _ _ _ (c.take_if-2.ensures.kept ∙ c.take_if.ensures.kept) (bare_string _ _ _ _ c.if-take_if.ensures.takes c.if-take_if-2.ensures.takes) c.in_err-string.ensures.read)
 
 pub returns-then-take_if-2 : goal.returns-then-take_if-2
-returns-then-take_if-2 c = (bare_string _ _ _ _ c.if-take_if.ensures.takes c.if-take_if-2.ensures.takes ∙ given string_at (λ s. string s) _ _ _ c.in_ok-string.ensures.0, c.in_ok-string.ensures.1 ∙ (c.take_if-2.ensures.kept ∙ c.take_if.ensures.kept))
+returns-then-take_if-2 c = (bare_string _ _ _ _ c.if-take_if.ensures.takes c.if-take_if-2.ensures.takes ∙ given string_at (λ s. string s) _ _ _ c.in_ok-string.ensures.read.0, c.in_ok-string.ensures.read.1 ∙ (c.take_if-2.ensures.kept ∙ c.take_if.ensures.kept))
 
 pub returns-in_err-byte_sequence : goal.returns-in_err-byte_sequence
 returns-in_err-byte_sequence c =

@@ -16,4 +16,4 @@ returns-in-Integer c =
 pub returns-in-Decimal : goal.returns-in-Decimal
 returns-in-Decimal c =
     let n = rw c.in-Decimal.is at (c.in_ok-seconds.ensures true) in
-    rw c.with_kind.ensures (date_decimal _ _ _ _ c.requires c.skip.ensures.skips n.0, c.args.self.now.within)
+    rw c.at.ensures (date_decimal _ _ _ _ c.requires c.skip.ensures.skips n.0, c.args.self.now.within)

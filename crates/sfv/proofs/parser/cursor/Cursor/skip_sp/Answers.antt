@@ -1,8 +1,8 @@
-use Rattle.std.proofs.Common.{take, drop}
-use Rattle.std.proofs.lemmas.List.{drop-drop, take_rest}
+use Rattle.std.proofs.Common.{ap, ◌∙◌}
+use Rattle.sfv_spec.specs.Classes.{is_space}
+use Rattle.sfv_reading.specs.Reader.{span}
+use Rattle.sfv_reading.proofs.complete.Combinators.{span_complete}
 use Rattle.sfv.proofs.parser.cursor.Cursor.skip_sp.Goals as goal
 
 pub returns-clause-skipped : goal.returns-clause-skipped
-returns-clause-skipped c =
-    let s = take c.space_run-len.result (drop c.args.self.now.index c.args.self.now.parser.input.now) in
-    (s, rw (← drop-drop) (rw take_rest at c.space_run-len.ensures.run))
+returns-clause-skipped c = (c.run.result.now, ap (span is_space) c.run.ensures.taken ∙ span_complete is_space _ _ c.run.ensures.each c.run.ensures.ends)

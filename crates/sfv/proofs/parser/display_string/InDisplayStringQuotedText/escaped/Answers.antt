@@ -1,7 +1,7 @@
-use Rattle.std.proofs.Common.{◌≡◌, ◌+◌, arith}
+use Rattle.std.proofs.Common.{◌∙◌, ap, arith, length, ℕ}
 use Rattle.std.proofs.lemmas.Result.{err_from_is_err_and}
 use Rattle.sfv.proofs.Escapes.{both_digits, second_fault}
-use Rattle.sfv.proofs.parser.display_string.escaped.Goals as goal
+use Rattle.sfv.proofs.parser.display_string.InDisplayStringQuotedText.escaped.Goals as goal
 
 pub returns-in_err-high : goal.returns-in_err-high
 returns-in_err-high c =
@@ -12,11 +12,12 @@ pub returns-in_err-low : goal.returns-in_err-low
 returns-in_err-low c =
     let r = err_from_is_err_and c.from_residual-in_err-low.result c.from_residual-in_err-low.ensures.1 in
     let h = c.in_ok-high.ensures in
-    rw (r.1, r.2) (second_fault c.args.input.now _ _ _ _ h.0 h.1 (c.in_err-low.ensures.1 c.in_ok-high.high))
+    rw (r.1, r.2) (second_fault _ _ _ _ _ c.in_ok-high.high h.2 h.0 h.1 (c.in_err-low.ensures.1 c.in_ok-high.high))
 
 pub returns : goal.returns
 returns c =
     let h = c.in_ok-high.ensures in
     let l = c.in_ok-low.ensures in
-    let two : c.args.at + 1 + 1 ≡ c.args.at + 2 = omega arith in
-    (rw (c.value_of.ensures.value, c.value_of-2.ensures.value, ← two) (both_digits _ _ _ _ _ h.0 h.1 l.0 l.1), omega (arith, l.2))
+    let n = ap (length {A = ℕ}) h.0 in
+    let m = ap (length {A = ℕ}) l.0 in
+    (rw (c.value_of.ensures.value, c.value_of-2.ensures.value) (both_digits _ _ _ _ _ h.0 h.1 l.0 l.1), omega (arith, n, m), l.2 ∙ h.2)

@@ -1,13 +1,13 @@
-use Rattle.std.proofs.Common.{◌≡◌, ◌+◌, List, ℕ, length, drop, sym, ◌∙◌, inl, inr, ◌⊎◌, get_or}
+use Rattle.std.proofs.Common.{◌≡◌, ◌+◌, List, ℕ, length, drop, sym, ◌∙◌, inl, inr, ◌⊎◌, get_or, arith, refl}
 use Rattle.std.proofs.lemmas.List.{take_rest}
 use Rattle.sfv.proofs.Contents.{runs_of, bytes_read, lone_located, malformed_located, unterminated_located}
-use Rattle.sfv.proofs.parser.byte_sequence.byte_sequence.Goals as goal
-use Rattle.sfv.proofs.parser.byte_sequence.byte_sequence.Goals.{then-end-content-via-then-end-content, then-end-content-via-else-end-content+then-content-end-ne58, then-contains, else-contains}
+use Rattle.sfv.proofs.parser.cursor.Cursor.byte_sequence.Goals as goal
+use Rattle.sfv.proofs.parser.cursor.Cursor.byte_sequence.Goals.{then-end-content-via-then-end-content, then-end-content-via-else-end-content+then-content-end-ne58, then-contains, else-contains}
 
 pub returns-then-end-content : goal.returns-then-end-content
 returns-then-end-content c =
-    let input : List ℕ = c.args.input.now in
-    let start : ℕ = c.args.start in
+    let input : List ℕ = c.args.self.now.parser.input.now in
+    let start : ℕ = c.args.self.now.index in
     let n : ℕ = c.symbol_run-count.result in
     let p : ℕ = c.padding_run.result in
     let runs = runs_of input start n _ p c.symbol_run-count.ensures c.padding_after.ensures c.padding_run.ensures in
@@ -17,29 +17,30 @@ returns-then-end-content c =
       | then-end-content-via-else-end-content+then-content-end-ne58 w ↦ inr (simp take_rest at w.if-content-end-ne58.true)
     ] in
     elim c.if-contains.branch [
-      | then-contains w ↦ rw (w.result-is, w.invalid.ensures) (malformed_located input start n p runs other (sym found ∙ w.if-contains.true) c.requires)
-      | else-contains w ↦ rw (w.result-is, w.with_kind.ensures) (unterminated_located input start n p runs (sym found ∙ w.if-contains.false))
+      | then-contains w ↦ rw (w.result-is, w.at.ensures) (malformed_located input start n p runs other (sym found ∙ w.if-contains.true) c.args.self.now.within)
+      | else-contains w ↦ rw (w.result-is, w.at-else-contains.ensures) (unterminated_located input start n p runs (sym found ∙ w.if-contains.false))
     ]
 
 pub returns-then-count-eq1 : goal.returns-then-count-eq1
 returns-then-count-eq1 c =
-    let input : List ℕ = c.args.input.now in
-    let start : ℕ = c.args.start in
+    let input : List ℕ = c.args.self.now.parser.input.now in
+    let start : ℕ = c.args.self.now.index in
     let n : ℕ = c.symbol_run-count.result in
     let p : ℕ = c.padding_run.result in
     let runs = runs_of input start n _ p c.symbol_run-count.ensures c.padding_after.ensures c.padding_run.ensures in
     let open_end = simp take_rest at c.if-end-content.false in
     let colon = simp take_rest at c.if-content-end-ne58.false in
-    rw c.invalid-then-count-eq1.ensures (lone_located input start n p runs open_end colon c.if-count-eq1.true)
+    rw c.at-then-count-eq1.ensures (lone_located input start n p runs open_end colon c.if-count-eq1.true)
 
 pub returns : goal.returns
 returns c =
-    let input : List ℕ = c.args.input.now in
-    let start : ℕ = c.args.start in
+    let input : List ℕ = c.args.self.now.parser.input.now in
+    let start : ℕ = c.args.self.now.index in
     let n : ℕ = c.symbol_run-count.result in
     let p : ℕ = c.padding_run.result in
     let runs = runs_of input start n _ p c.symbol_run-count.ensures c.padding_after.ensures c.padding_run.ensures in
     let open_end = simp take_rest at c.if-end-content.false in
     let colon = simp take_rest at c.if-content-end-ne58.false in
     let value = simp take_rest at c.in_ok-bytes.ensures in
-    rw value (bytes_read input start n p runs open_end colon c.if-count-eq1.false)
+    let next : start + (n + p) + 1 ≡ start + (n + p + 1) = omega arith in
+    (rw (value, ← next) (bytes_read input start n p runs open_end colon c.if-count-eq1.false).0, refl)

@@ -1,0 +1,90 @@
+//! Reading what stands between two quotes: the inside of a string or of a display string.
+
+ghost use Rattle.std.specs.Prelude.{◌≡◌, ◌++◌, ◌↔◌, Bool, List, length, IfOk, IsTrue};
+ghost use Rattle.sfv_spec.specs.Texts.{RunOf};
+ghost use Rattle.sfv_reading.specs.Reader.{Apart, byte};
+ghost use Rattle.sfv_reading.specs.Quoted.{behind_bytes};
+ghost use Rattle.sfv.specs.Cursor.{input, kept, rest, IsFaultOf, ReadsOrOutOfMemory};
+ghost use Rattle.sfv.specs.Quoted.{plain_of, mark_of, stop_of, inside, quoted_bytes, is_plain, HasNoMark, ReadsEscape};
+ghost use Rattle.sfv.specs.Texts.{vec_bytes};
+
+use crate::parser::cursor::Cursor;
+use sfv_base::error::{Error, ErrorKind};
+
+/// A kind of quoted text.
+pub(super) trait QuotedText {
+    ghost display: { Bool };
+
+    /// Returns the byte that opens an escape.
+    fn mark() -> u8
+        ensures { result ≡ mark_of display };
+
+    /// Returns what is wrong where the text can't go on: at a byte, or at the end of the input.
+    fn stop(at_byte: bool) -> ErrorKind
+        ensures { result ≡ stop_of display at_byte };
+
+    /// Takes the bytes that the text writes for themselves.
+    fn plain<'de>(cursor: &mut Cursor<'de>) -> &'de [u8]
+        ensures each { RunOf (plain_of display) result.now }
+        ensures taken { rest cursor.old ≡ result.now ++ rest cursor.new }
+        ensures ends { Apart (plain_of display) (rest cursor.new) }
+        ensures kept { kept cursor.new ≡ kept cursor.old };
+
+    /// Takes the byte that an escape stands for, behind its mark.
+    fn escaped(cursor: &mut Cursor<'_>) -> Result<u8, Error>
+        ensures { ReadsEscape display cursor.old cursor.new result };
+}
+
+/// The bytes of a quoted text.
+#[derive(Drop)]
+pub(super) enum QuotedBytes<'de> {
+    /// Without an escape, they are a slice of the input.
+    Plain(&'de [u8]),
+    Unescaped(Vec<u8>),
+}
+
+impl<'de> Cursor<'de> {
+    /// The error where a quoted text can't go on.
+    fn stop<Q: QuotedText>(&self) -> Error
+        requires plain { Apart (plain_of Q.display) (rest self.now) }
+        requires quote { Apart (byte 0x22) (rest self.now) }
+        requires mark { Apart (byte (mark_of Q.display)) (rest self.now) }
+        ensures { IsFaultOf (input self.now) result (inside Q.display (rest self.now)) }
+    {
+        self.error(Q::stop(self.peek().is_some()))
+    }
+
+    /// Takes the rest of a quoted text behind the bytes `plain`, with its closing quote. Returns the bytes of both.
+    fn unescaped<Q: QuotedText>(&mut self, plain: &[u8]) -> Result<Vec<u8>, Error>
+        requires { Apart (plain_of Q.display) (rest self.old) }
+        ensures { ReadsOrOutOfMemory vec_bytes self.old self.new result (λ t. behind_bytes plain.now (inside Q.display t)) }
+    {
+        let mut bytes = Vec::from_slice(self.alloc, plain)?;
+        while !self.take_if(b'"') {
+            if !self.take_if(Q::mark()) {
+                return Err(self.stop::<Q>());
+            }
+            let byte = Q::escaped(self)?;
+            bytes.push(byte)?;
+            bytes.extend_from_slice(Q::plain(self))?;
+        }
+        Ok(bytes)
+    }
+
+    /// Takes a quoted text behind its opening quote, with the closing one.
+    pub(super) fn quoted_text<Q: QuotedText>(&mut self) -> Result<QuotedBytes<'de>, Error>
+        ensures read { ReadsOrOutOfMemory quoted_bytes self.old self.new result (inside Q.display) }
+        ensures each { IfOk result (λ text. IsTrue (is_plain text) → RunOf (plain_of Q.display) (quoted_bytes text)) }
+        ensures plain { IfOk result (λ text. IsTrue (is_plain text) ↔ HasNoMark Q.display self.old self.new) }
+    {
+        let plain = Q::plain(self);
+        if self.take_if(b'"') {
+            return Ok(QuotedBytes::Plain(plain));
+        }
+        if !self.next_is(Q::mark()) {
+            return Err(self.stop::<Q>());
+        }
+        let bytes = self.unescaped::<Q>(plain)?;
+        Ok(QuotedBytes::Unescaped(bytes))
+    }
+}
