@@ -1,5 +1,4 @@
-//! Writing structured fields (RFC 9651, section 4.1), and the bytes that texts write for themselves.
+//! Writing structured fields (RFC 9651, section 4.1).
 #![tactic(auto)]
 
-pub mod quoted;
 pub mod ser;
