@@ -12,7 +12,7 @@ use crate::parser::quoted::{QuotedBytes, QuotedText};
 use sfv_bare::bare::StringFromInput;
 use sfv_base::error::{Error, ErrorKind};
 use sfv_base::runs::PlainInString;
-use sfv_ser::quoted::in_string::is_escaped;
+use sfv_base::utils::is_escaped_in_string;
 use sfv_text::string::String;
 use sfv_text::string_ref::StringRef;
 use std::string::String as StdString;
@@ -43,7 +43,7 @@ impl QuotedText for InString {
         let Some(byte) = cursor.peek() else {
             return Err(cursor.error(ErrorKind::UnterminatedEscapeSequence));
         };
-        if !is_escaped(byte) {
+        if !is_escaped_in_string(byte) {
             return Err(cursor.error(ErrorKind::InvalidEscapeSequence));
         }
         cursor.skip();
