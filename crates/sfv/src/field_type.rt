@@ -39,7 +39,8 @@ pub trait FieldType: sealed::Sealed + Drop {
 
     /// Reads a field of this type (RFC 9651, section 4.2), as `Parser::parse` does.
     fn parse(alloc: Global, parser: Parser<'_>) -> Result<Self, Error>
-        ensures read { IfOk result (λ value. IsParsedAs (parser_edition parser.entry) kind (input_of parser.entry) (tree value)) }
+        ensures read { IfOk result (λ value.
+            IsParsedAs (parser_edition parser.entry) kind (input_of parser.entry) (tree value)) }
         ensures rejected { IfErr result (IsParseError (parser_edition parser.entry) kind (input_of parser.entry)) }
         ensures fault { IfErr result (IsReaderFault (parser_edition parser.entry) kind (input_of parser.entry)) };
 

@@ -61,75 +61,84 @@ impl<'de> Parser<'de> {
 
     /// Reads the input as a field of this type (RFC 9651, section 4.2), with memory from `alloc`.
     ///
-    /// It succeeds exactly if the input is such a field, and answers its value: of a repeated key the
-    /// last value stands, at the place of the first. Else the error has the kind of the first fault from
-    /// the left, and its index, a zero-based offset in bytes which is at most the input's length. Where
-    /// memory is refused the kind is `OutOfMemory`, without index.
+    /// Returns the value exactly if the input is such a field, or fails as out of memory: of a repeated key
+    /// the last value stands, at the place of the first. Else the error has the kind of the first fault from
+    /// the left, and its index, a zero-based offset in bytes which is at most the input's length. Out of
+    /// memory the kind is `OutOfMemory`, without index.
     pub fn parse<T: FieldType>(self, alloc: Global) -> Result<T, Error>
-        ensures read { IfOk result (λ value. IsParsedAs (parser_edition self.entry) T.kind (input_of self.entry) (T.tree value)) }
+        ensures read { IfOk result
+            (λ value. IsParsedAs (parser_edition self.entry) T.kind (input_of self.entry) (T.tree value)) }
         ensures rejected { IfErr result (IsParseError (parser_edition self.entry) T.kind (input_of self.entry)) }
         ensures fault { IfErr result (IsReaderFault (parser_edition self.entry) T.kind (input_of self.entry)) }
     {
         T::parse(alloc, self)
     }
 
-    /// Reads the input as an item (RFC 9651, section 4.2), and tells the visitor its parts from left to right. Memory for
-    /// texts with escapes and for byte sequences is asked of `alloc`.
+    /// Reads the input as an item (RFC 9651, section 4.2), and visits its parts from left to right. Memory for texts with
+    /// escapes and for byte sequences is asked of `alloc`.
     ///
-    /// On an item it answers what the visitor answers behind all parts: `BareItem`, a `Parameter` for each parameter,
-    /// repeated keys too, and `ParametersEnd`. A refusal of the visitor ends the reading and is the answer
-    /// (`ParseError::Visitor`). Else the error (`ParseError::Syntax`) is that of `parse`. The visitor is asked for its
-    /// answer before it is known whether anything stands behind the item, so its refusal wins.
+    /// For an item it returns what the visitor returns after all parts: `BareItem`, a `Parameter` for each parameter,
+    /// repeated keys too, and `ParametersEnd`. Where the visitor fails, the reading ends with its error
+    /// (`ParseError::Visitor`). Else the error (`ParseError::Syntax`) is that of `parse`. The visitor is finished before
+    /// it is known whether anything stands after the item, so its error wins.
     pub fn parse_item_with_visitor<V: Visitor<'de>>(
         self,
         alloc: Global,
         visitor: V,
     ) -> Result<V::Out, ParseError<V::Error>>
         requires { V.is_ready visitor }
-        ensures visited { IfOk result (IsAnswerOf V.takes V.finishes (parser_edition self.entry) item_field (input_of self.entry) visitor) }
-        ensures syntax { IfErr result (IsSyntaxOf V.takes V.finishes (parser_edition self.entry) item_field (input_of self.entry) visitor) }
-        ensures visitor { IfErr result (IsVisitorErrorOf V.takes V.fails V.finish_fails (parser_edition self.entry) item_field (input_of self.entry) visitor) }
+        ensures visited { IfOk result
+            (IsAnswerOf V.takes V.finishes (parser_edition self.entry) item_field (input_of self.entry) visitor) }
+        ensures syntax { IfErr result
+            (IsSyntaxOf V.takes V.finishes (parser_edition self.entry) item_field (input_of self.entry) visitor) }
+        ensures visitor { IfErr result
+            (IsVisitorErrorOf V.takes V.fails V.finish_fails (parser_edition self.entry) item_field (input_of self.entry) visitor) }
     {
         parse_item_field(self, alloc, visitor)
     }
 
-    /// Reads the input as a list (RFC 9651, section 4.2), and tells the visitor its parts from left to right. Memory for
-    /// texts with escapes and for byte sequences is asked of `alloc`.
+    /// Reads the input as a list (RFC 9651, section 4.2), and visits its parts from left to right. Memory for texts with
+    /// escapes and for byte sequences is asked of `alloc`.
     ///
-    /// On a list it answers what the visitor answers behind the parts of all members: `Entry`, and then those of an item or
-    /// an inner list. `Entry` is told where a byte stands where a member is wanted, before that byte is looked at. A refusal
-    /// of the visitor ends the reading and is the answer (`ParseError::Visitor`). Else the error (`ParseError::Syntax`) is
-    /// that of `parse`. The visitor is asked for its answer only where the input has ended without a fault.
+    /// For a list it returns what the visitor returns after the parts of all members: `Entry`, and then those of an item
+    /// or an inner list. `Entry` is visited where a byte stands where a member is wanted, before that byte is looked at.
+    /// Where the visitor fails, the reading ends with its error (`ParseError::Visitor`). Else the error
+    /// (`ParseError::Syntax`) is that of `parse`. The visitor is finished only where the input has ended without a fault.
     pub fn parse_list_with_visitor<V: Visitor<'de>>(
         self,
         alloc: Global,
         visitor: V,
     ) -> Result<V::Out, ParseError<V::Error>>
         requires { V.is_ready visitor }
-        ensures visited { IfOk result (IsAnswerOf V.takes V.finishes (parser_edition self.entry) list_field (input_of self.entry) visitor) }
-        ensures syntax { IfErr result (IsSyntaxOf V.takes V.finishes (parser_edition self.entry) list_field (input_of self.entry) visitor) }
-        ensures visitor { IfErr result (IsVisitorErrorOf V.takes V.fails V.finish_fails (parser_edition self.entry) list_field (input_of self.entry) visitor) }
+        ensures visited { IfOk result
+            (IsAnswerOf V.takes V.finishes (parser_edition self.entry) list_field (input_of self.entry) visitor) }
+        ensures syntax { IfErr result
+            (IsSyntaxOf V.takes V.finishes (parser_edition self.entry) list_field (input_of self.entry) visitor) }
+        ensures visitor { IfErr result
+            (IsVisitorErrorOf V.takes V.fails V.finish_fails (parser_edition self.entry) list_field (input_of self.entry) visitor) }
     {
         parse_members_field::<Entry, V>(self, alloc, visitor)
     }
 
-    /// Reads the input as a dictionary (RFC 9651, section 4.2), and tells the visitor its parts from left to right. Memory
-    /// for texts with escapes and for byte sequences is asked of `alloc`.
+    /// Reads the input as a dictionary (RFC 9651, section 4.2), and visits its parts from left to right. Memory for texts
+    /// with escapes and for byte sequences is asked of `alloc`.
     ///
-    /// On a dictionary it answers what the visitor answers behind the parts of all members, those of a repeated key too:
-    /// `KeyedEntry` once the key has been read, and then the parts of an item or an inner list. A member without `=` is the
-    /// item true. A refusal of the visitor ends the reading and is the answer (`ParseError::Visitor`). Else the error
-    /// (`ParseError::Syntax`) is that of `parse`. The visitor is asked for its answer only where the input has ended without
-    /// a fault.
+    /// For a dictionary it returns what the visitor returns after the parts of all members, those of a repeated key too:
+    /// `KeyedEntry` once the key has been read, and then the parts of an item or an inner list. A member without `=` is
+    /// the item true. Where the visitor fails, the reading ends with its error (`ParseError::Visitor`). Else the error
+    /// (`ParseError::Syntax`) is that of `parse`. The visitor is finished only where the input has ended without a fault.
     pub fn parse_dictionary_with_visitor<V: Visitor<'de>>(
         self,
         alloc: Global,
         visitor: V,
     ) -> Result<V::Out, ParseError<V::Error>>
         requires { V.is_ready visitor }
-        ensures visited { IfOk result (IsAnswerOf V.takes V.finishes (parser_edition self.entry) dictionary_field (input_of self.entry) visitor) }
-        ensures syntax { IfErr result (IsSyntaxOf V.takes V.finishes (parser_edition self.entry) dictionary_field (input_of self.entry) visitor) }
-        ensures visitor { IfErr result (IsVisitorErrorOf V.takes V.fails V.finish_fails (parser_edition self.entry) dictionary_field (input_of self.entry) visitor) }
+        ensures visited { IfOk result
+            (IsAnswerOf V.takes V.finishes (parser_edition self.entry) dictionary_field (input_of self.entry) visitor) }
+        ensures syntax { IfErr result
+            (IsSyntaxOf V.takes V.finishes (parser_edition self.entry) dictionary_field (input_of self.entry) visitor) }
+        ensures visitor { IfErr result
+            (IsVisitorErrorOf V.takes V.fails V.finish_fails (parser_edition self.entry) dictionary_field (input_of self.entry) visitor) }
     {
         parse_members_field::<KeyedEntry, V>(self, alloc, visitor)
     }

@@ -61,7 +61,8 @@ impl QuotedText for InDisplayString {
 /// Where what stands behind the first `count` bytes begins, each of them plain or an escape.
 fn place(input: &[u8], start: usize, count: usize) -> usize
     requires within { start ≤ length input.now }
-    requires pieces { (bytes : List ℕ) × (rest : List ℕ) × (pieces_from outside (drop start input.now) ≡ Ok (bytes, rest)) × (count ≤ length bytes) }
+    requires pieces { (bytes : List ℕ) × (rest : List ℕ)
+        × (pieces_from outside (drop start input.now) ≡ Ok (bytes, rest)) × (count ≤ length bytes) }
     ensures within { result ≤ length input.now }
     ensures place { drop result input.now ≡ behind_pieces count (drop start input.now) }
 {
@@ -76,7 +77,8 @@ fn place(input: &[u8], start: usize, count: usize) -> usize
 fn text_of(input: &[u8], start: usize, bytes: Vec<u8>) -> Result<String, Error>
     requires within { start ≤ length input.now }
     requires read { (rest : List ℕ) × (pieces_from outside (drop start input.now) ≡ Ok (bytes.items, rest)) }
-    ensures { (rest : List ℕ) → pieces_from outside (drop start input.now) ≡ Ok (bytes.items, rest) → GivesText input.now result rest (display_at (drop start input.now)) }
+    ensures { (rest : List ℕ) → pieces_from outside (drop start input.now) ≡ Ok (bytes.items, rest)
+        → GivesText input.now result rest (display_at (drop start input.now)) }
 {
     match String::from_utf8(bytes) {
         Ok(text) => Ok(text),

@@ -13,15 +13,16 @@ use sfv_base::error::{ErrorKind, ParseError};
 use sfv_tree::visitor::Visitor;
 use std::alloc::Global;
 
-/// Reads the input as an item, and visits its parts. The visitor answers before it is known whether anything
-/// stands behind the item.
+/// Reads the input as an item, and visits its parts. The visitor is finished before it is known whether anything
+/// stands after the item.
 pub(crate) fn parse_item_field<'de, V: Visitor<'de>>(
     parser: Parser<'de>,
     alloc: Global,
     mut visitor: V,
 ) -> Result<V::Out, ParseError<V::Error>>
     requires { V.is_ready visitor }
-    ensures { VisitsField V.takes V.fails V.finishes V.finish_fails (parser_edition parser.entry) item_field (input_of parser.entry) visitor result }
+    ensures { VisitsField V.takes V.fails V.finishes V.finish_fails
+        (parser_edition parser.entry) item_field (input_of parser.entry) visitor result }
 {
     let mut cursor = Cursor::new(parser, alloc);
     cursor.skip_sp();
@@ -35,15 +36,16 @@ pub(crate) fn parse_item_field<'de, V: Visitor<'de>>(
     Ok(out)
 }
 
-/// Reads the input as a list or a dictionary, by the kind of its members, and visits its parts. The visitor answers where
-/// the input has ended.
+/// Reads the input as a list or a dictionary, by the kind of its members, and visits its parts. The visitor is finished
+/// where the input has ended.
 pub(crate) fn parse_members_field<'de, M: Member<'de, V>, V: Visitor<'de>>(
     parser: Parser<'de>,
     alloc: Global,
     mut visitor: V,
 ) -> Result<V::Out, ParseError<V::Error>>
     requires { V.is_ready visitor }
-    ensures { VisitsField V.takes V.fails V.finishes V.finish_fails (parser_edition parser.entry) (field_of M.keyed) (input_of parser.entry) visitor result }
+    ensures { VisitsField V.takes V.fails V.finishes V.finish_fails
+        (parser_edition parser.entry) (field_of M.keyed) (input_of parser.entry) visitor result }
 {
     Cursor::new(parser, alloc).members::<M, V>(&mut visitor)?;
     finish(visitor)

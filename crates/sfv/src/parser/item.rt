@@ -21,7 +21,7 @@ pub(crate) struct ReadParameter<'de> {
     pub(crate) value: BareItemFromInput<'de>,
 }
 
-/// Visits an event. An error is the visitor's.
+/// Visits an event, or fails with the visitor's error.
 pub(crate) fn visit<'de, V: Visitor<'de>>(
     visitor: &mut V,
     event: Event<'de>,
@@ -37,7 +37,7 @@ pub(crate) fn visit<'de, V: Visitor<'de>>(
     }
 }
 
-/// Asks the visitor for its answer. An error is the visitor's.
+/// Returns what the visitor makes of the events, or fails with its error.
 pub(crate) fn finish<'de, V: Visitor<'de>>(visitor: V) -> Result<V::Out, ParseError<V::Error>>
     requires { V.is_ready visitor }
     ensures answered { IfOk result (V.finishes visitor) }
@@ -78,7 +78,7 @@ impl<'de> Cursor<'de> {
         Ok(Some(ReadParameter { key, value }))
     }
 
-    /// Takes parameters, and tells the visitor each of them and their end.
+    /// Takes parameters, and visits each of them and their end.
     pub(crate) fn parameters<V: Visitor<'de>>(
         &mut self,
         visitor: &mut V,
@@ -93,7 +93,7 @@ impl<'de> Cursor<'de> {
         visit(visitor, Event::ParametersEnd)
     }
 
-    /// Takes an item, and tells the visitor its parts.
+    /// Takes an item, and visits its parts.
     pub(crate) fn item<V: Visitor<'de>>(
         &mut self,
         visitor: &mut V,

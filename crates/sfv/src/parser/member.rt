@@ -15,7 +15,7 @@ use sfv_base::error::{Error, ErrorKind, ParseError};
 use sfv_tree::visitor::{Event, Visitor};
 
 impl<'de> Cursor<'de> {
-    /// Takes an item of an inner list, and tells the visitor its parts.
+    /// Takes an item of an inner list, and visits its parts.
     fn inner_item<V: Visitor<'de>>(&mut self, visitor: &mut V) -> Result<(), ParseError<V::Error>>
         requires { V.is_ready visitor.old }
         ensures ready { OnOk result (V.is_ready visitor.new) }
@@ -25,7 +25,7 @@ impl<'de> Cursor<'de> {
         self.item(visitor)
     }
 
-    /// Takes the spaces between two items of an inner list, or its closing parenthesis. Answers whether an item is wanted.
+    /// Takes the spaces between two items of an inner list, or its closing parenthesis. Returns whether an item is wanted.
     fn consume_item_delimiter(&mut self) -> Result<bool, Error>
         ensures { Reads (λ wants. wants) self.old self.new result item_delimiter_at }
     {
@@ -43,7 +43,7 @@ impl<'de> Cursor<'de> {
         }
     }
 
-    /// Takes the items of an inner list behind its opening parenthesis, and the closing one. Tells the visitor the items.
+    /// Takes the items of an inner list behind its opening parenthesis, and the closing one. Visits the items.
     fn inner_items<V: Visitor<'de>>(&mut self, visitor: &mut V) -> Result<(), ParseError<V::Error>>
         requires { V.is_ready visitor.old }
         ensures ready { OnOk result (V.is_ready visitor.new) }
@@ -65,7 +65,7 @@ impl<'de> Cursor<'de> {
         Ok(())
     }
 
-    /// Takes an inner list behind its opening parenthesis, and its parameters. Tells the visitor its parts.
+    /// Takes an inner list behind its opening parenthesis, and its parameters. Visits its parts.
     fn inner_list<V: Visitor<'de>>(&mut self, visitor: &mut V) -> Result<(), ParseError<V::Error>>
         requires { V.is_ready visitor.old }
         ensures ready { OnOk result (V.is_ready visitor.new) }
@@ -76,7 +76,7 @@ impl<'de> Cursor<'de> {
         self.parameters(visitor)
     }
 
-    /// Takes a member of a list or a dictionary, and tells the visitor its parts.
+    /// Takes a member of a list or a dictionary, and visits its parts.
     pub(crate) fn member<V: Visitor<'de>>(
         &mut self,
         visitor: &mut V,
@@ -94,7 +94,7 @@ impl<'de> Cursor<'de> {
         }
     }
 
-    /// Takes the comma between two members, with the spaces and tabs around it. Answers whether a member is wanted, and not
+    /// Takes the comma between two members, with the spaces and tabs around it. Returns whether a member is wanted, and not
     /// the end of the input.
     fn consume_comma(&mut self) -> Result<bool, Error>
         ensures { Reads (λ wants. wants) self.old self.new result member_delimiter_at }
@@ -115,8 +115,8 @@ impl<'de> Cursor<'de> {
         Ok(true)
     }
 
-    /// Takes what stands behind the key of a member of a dictionary, and tells the visitor its parts. Without `=` it is the
-    /// item true.
+    /// Takes what stands behind the key of a member of a dictionary, and visits its parts. Without `=` it is the item
+    /// true.
     fn member_value<V: Visitor<'de>>(&mut self, visitor: &mut V) -> Result<(), ParseError<V::Error>>
         requires { V.is_ready visitor.old }
         ensures ready { OnOk result (V.is_ready visitor.new) }
