@@ -1,4 +1,4 @@
-//! What the program answers to an input.
+//! What the program returns for an input.
 
 ghost use Rattle.std.specs.Prelude.{◌≡◌, ◌++◌, IfOk, IfErr, codes, string_bytes};
 ghost use Rattle.sfv_base.specs.Errors.{out_of_memory};
@@ -44,7 +44,7 @@ fn line(alloc: Global, text: Option<String>) -> Result<String, Error>
     Ok(line)
 }
 
-/// Reads the input as an item, and answers its canonical text and a newline.
+/// Reads the input as an item, and returns its canonical text and a newline.
 fn answer_item(alloc: Global, version: Version, input: &[u8]) -> Result<String, Error>
     ensures accepted { IfOk result (λ text. IsAnswer (edition_of version) item_field input.now (string_bytes text)) }
     ensures rejected { IfErr result (IsParseError (edition_of version) item_field input.now) }
@@ -55,7 +55,7 @@ fn answer_item(alloc: Global, version: Version, input: &[u8]) -> Result<String, 
     line(alloc, Some(item.serialize(alloc)?))
 }
 
-/// Reads the input as a list, and answers its canonical text and a newline.
+/// Reads the input as a list, and returns its canonical text and a newline.
 fn answer_list(alloc: Global, version: Version, input: &[u8]) -> Result<String, Error>
     ensures accepted { IfOk result (λ text. IsAnswer (edition_of version) list_field input.now (string_bytes text)) }
     ensures rejected { IfErr result (IsParseError (edition_of version) list_field input.now) }
@@ -66,7 +66,7 @@ fn answer_list(alloc: Global, version: Version, input: &[u8]) -> Result<String, 
     line(alloc, list.serialize(alloc)?)
 }
 
-/// Reads the input as a dictionary, and answers its canonical text and a newline.
+/// Reads the input as a dictionary, and returns its canonical text and a newline.
 fn answer_dictionary(alloc: Global, version: Version, input: &[u8]) -> Result<String, Error>
     ensures accepted { IfOk result (λ text. IsAnswer (edition_of version) dictionary_field input.now (string_bytes text)) }
     ensures rejected { IfErr result (IsParseError (edition_of version) dictionary_field input.now) }
@@ -77,9 +77,9 @@ fn answer_dictionary(alloc: Global, version: Version, input: &[u8]) -> Result<St
     line(alloc, dictionary.serialize(alloc)?)
 }
 
-/// Reads the input, without one closing newline byte, as a field of this type, and answers its
+/// Reads the input, without one closing newline byte, as a field of this type, and returns its
 /// canonical text and a newline, for a list or a dictionary without members the newline alone, or the
-/// fault that `Parser::parse` answers.
+/// fault that `Parser::parse` returns.
 pub fn answer(alloc: Global, field: Field, version: Version, input: &[u8]) -> Result<String, Error>
     ensures accepted { IfOk result (λ text. IsAnswer (edition_of version) (kind_of_field field) (without_newline input.now) (string_bytes text)) }
     ensures rejected { IfErr result (IsParseError (edition_of version) (kind_of_field field) (without_newline input.now)) }
