@@ -1,5 +1,5 @@
 -- The values of bare items, whatever owns their texts.
-use Rattle.std.specs.Prelude.{◌≡◌, ℕ, List, Option, MatchOption, string_bytes, codes}
+use Rattle.std.specs.Prelude.{◌≡◌, ℕ, List, Bool, true, false, Option, MatchOption, string_bytes, codes}
 use Rattle.std.specs.Borrow.{Bor}
 use Rattle.std.specs.declared.alloc.Global.{Global}
 use Rattle.std.specs.declared.vec.Vec.{Vec}
@@ -50,6 +50,34 @@ cow_text (cow.Owned s) = string_bytes s
 -- the value of a bare item that was read
 abbrev pub input_value : GenericBareItem StringFromInput (Vec ℕ Global) TokenRef (CowStr Global) → BareValue
 input_value item = value_by read_text (λ b. b.items) token_text cow_text item
+
+-- a value that is a text
+abbrev pub is_text : BareValue → Bool
+is_text (values.string s) = true
+is_text (values.token t) = true
+is_text (values.display_string d) = true
+is_text v = false
+
+-- a value that is a text or a byte sequence
+abbrev pub holds_bytes : BareValue → Bool
+holds_bytes (values.byte_sequence b) = true
+holds_bytes v = is_text v
+
+-- a string that was read is borrowed from the input
+abbrev pub is_borrowed_string : StringFromInput → Bool
+is_borrowed_string (input.Borrowed s) = true
+is_borrowed_string (input.Owned s) = false
+
+abbrev pub is_borrowed_cow : CowStr Global → Bool
+is_borrowed_cow (cow.Borrowed s) = true
+is_borrowed_cow (cow.Owned s) = false
+
+-- the text of a bare item that was read is borrowed from the input
+abbrev pub is_borrowed : GenericBareItem StringFromInput (Vec ℕ Global) TokenRef (CowStr Global) → Bool
+is_borrowed (bare.String s) = is_borrowed_string s
+is_borrowed (bare.Token t) = true
+is_borrowed (bare.DisplayString d) = is_borrowed_cow d
+is_borrowed item = false
 
 -- a copy is of the same kind, and what it holds is a copy as its type makes one
 abbrev pub IsCopyBy :

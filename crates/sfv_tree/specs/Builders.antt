@@ -1,9 +1,11 @@
 -- What the builders of owned trees do with the events of a field.
-use Rattle.std.specs.Prelude.{ℕ, List, [], ◌∷◌, ◌++◌, Option, Some, None, bytes_eq}
+use Rattle.std.specs.Prelude.{ℕ, List, [], ◌∷◌, ◌++◌, Bool, true, false, ◌&&◌, ◌||◌, Option, Some, None, is_none, bytes_eq}
+use Rattle.std.specs.Map.{lookup}
 use Rattle.indexmap.specs.IndexMap.{insert_entry}
 use Rattle.sfv_spec.specs.Values.{BareValue, RawItem, RawInnerList, RawMember, item, inner_list}
 use Rattle.sfv_spec.specs.Events.{TreeEvent, entry, keyed_entry, begins_item, begins_inner_list}
 use Rattle.sfv_spec.specs.Events.{bare_item, parameter, parameters_end, inner_list_end}
+use Rattle.sfv_bare.specs.BareItems.{is_text}
 use Rattle.sfv_tree.specs.Trees.{item_tree, inner_list_tree, member_tree, list_tree, dictionary_tree}
 use Rattle.sfv_tree.specs.declared.visitor.item_builder.ItemBuilder.{ItemBuilder}
 use Rattle.sfv_tree.specs.declared.visitor.partial_member.PartialMember.{PartialMember}
@@ -56,6 +58,21 @@ member_step (list_parameters l) (parameter key value) = list_parameters (enters_
 member_step (list_parameters l) parameters_end = ended (inner_list l)
 member_step p e = p
 
+-- an event takes memory here: a text, which is copied where it is borrowed; a parameter, with its key; and the end of an
+-- inner list's item, which goes into the list. A byte sequence is moved, and an event out of its place takes none
+abbrev pub takes_memory : MemberPlace → TreeEvent → Bool
+takes_memory item_head (bare_item value) = is_text value
+takes_memory (item_parameters i) (parameter key value) = true
+takes_memory (inner_head l) (bare_item value) = is_text value
+takes_memory (inner_parameters l i) (parameter key value) = true
+takes_memory (inner_parameters l i) parameters_end = true
+takes_memory (list_parameters l) (parameter key value) = true
+takes_memory p e = false
+
+abbrev pub has_ended : MemberPlace → Bool
+has_ended (ended m) = true
+has_ended p = false
+
 abbrev pub member_place : PartialMember → MemberPlace
 member_place partial.Begun = begun
 member_place partial.Head = item_head
@@ -104,6 +121,11 @@ list_step (between ms) entry = within ms begun
 list_step (between ms) e = between ms
 list_step (within ms p) e = settle ms (member_step p e)
 
+-- an event takes memory here: where it does within the member, and where the member ends and goes into the list
+abbrev pub list_takes_memory : ListPlace → TreeEvent → Bool
+list_takes_memory (between ms) e = false
+list_takes_memory (within ms p) e = takes_memory p e || has_ended (member_step p e)
+
 -- the members that are whole
 abbrev pub list_members : ListPlace → List RawMember
 list_members (between ms) = ms
@@ -134,6 +156,17 @@ abbrev pub dictionary_step : DictionaryPlace → TreeEvent → DictionaryPlace
 dictionary_step (between_pairs ms) (keyed_entry key) = within_pair ms key begun
 dictionary_step (between_pairs ms) e = between_pairs ms
 dictionary_step (within_pair ms key p) e = settle_pair ms key (member_step p e)
+
+-- a member that has ended takes memory where its key is new: a key that is there has its room
+abbrev pub settle_takes_memory : List (List ℕ × RawMember) → List ℕ → MemberPlace → Bool
+settle_takes_memory ms key p = has_ended p && is_none (lookup (bytes_eq key) ms)
+
+-- an event takes memory here: a key, which is copied; and within the member of a key, where it does there, and where the
+-- member ends and is entered
+abbrev pub dictionary_takes_memory : DictionaryPlace → TreeEvent → Bool
+dictionary_takes_memory (between_pairs ms) (keyed_entry key) = true
+dictionary_takes_memory (between_pairs ms) e = false
+dictionary_takes_memory (within_pair ms key p) e = takes_memory p e || settle_takes_memory ms key (member_step p e)
 
 -- the pairs that are whole
 abbrev pub dictionary_members : DictionaryPlace → List (List ℕ × RawMember)

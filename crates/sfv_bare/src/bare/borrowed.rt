@@ -1,8 +1,8 @@
 //! Bare items whose text is borrowed (RFC 9651, section 3.3).
 
-ghost use Rattle.std.specs.Prelude.{◌≡◌, IfOk};
+ghost use Rattle.std.specs.Prelude.{◌≡◌, IfOk, IfErr, IsTrue};
 ghost use Rattle.sfv_spec.specs.Values as values;
-ghost use Rattle.sfv_bare.specs.BareItems.{GivesPart, bare_value, ref_value};
+ghost use Rattle.sfv_bare.specs.BareItems.{GivesPart, bare_value, ref_value, holds_bytes};
 ghost use Rattle.sfv_text.specs.StringText.{string_text};
 ghost use Rattle.sfv_text.specs.TokenText.{token_text};
 
@@ -62,13 +62,14 @@ impl<'a> RefBareItem<'a> {
         }
     }
 
-    /// Returns the same value (RFC 9651, section 3.3) with texts of its own.
+    /// Returns the same value (RFC 9651, section 3.3) with texts of its own. Only a text or a byte sequence takes memory.
     ///
     /// # Errors
     ///
     /// `OutOfMemory` when out of memory.
     pub fn try_to_owned(&self, alloc: Global) -> Result<BareItem, OutOfMemory>
-        ensures { IfOk result (λ item. bare_value item ≡ ref_value self.now) }
+        ensures value { IfOk result (λ item. bare_value item ≡ ref_value self.now) }
+        ensures memory { IfErr result (λ _. IsTrue (holds_bytes (ref_value self.now))) }
     {
         Ok(match self {
             GenericBareItem::Decimal(value) => GenericBareItem::Decimal(*value),

@@ -1,11 +1,12 @@
 //! Bare items that were read (RFC 9651, section 3.3).
 
-ghost use Rattle.std.specs.Prelude.{◌≡◌, IfOk, nat_eq};
+ghost use Rattle.std.specs.Prelude.{◌≡◌, IfOk, IfErr, IsTrue, nat_eq};
 ghost use Rattle.std.specs.Cmp.Lexicographic.{pointwise, nat_list_eq_equiv};
 ghost use Rattle.std.specs.Cmp;
 ghost use Rattle.std.specs.Cmp.{on_per, on_equiv};
 ghost use Rattle.sfv_spec.specs.Values as values;
 ghost use Rattle.sfv_bare.specs.BareItems.{GivesPart, read_text, bare_value, ref_value, input_value};
+ghost use Rattle.sfv_bare.specs.BareItems.{is_borrowed, is_borrowed_string};
 ghost use Rattle.sfv_text.specs.StringText.{string_text};
 ghost use Rattle.sfv_text.specs.TokenText.{token_text};
 
@@ -28,13 +29,14 @@ impl<'a> StringFromInput<'a> {
         }
     }
 
-    /// Returns the string (RFC 9651, section 3.3.3) with a text of its own.
+    /// Returns the string (RFC 9651, section 3.3.3) with a text of its own. An owned text is moved, and takes no memory.
     ///
     /// # Errors
     ///
     /// `OutOfMemory` when out of memory.
     pub fn try_into_owned(self, alloc: Global) -> Result<String, OutOfMemory>
-        ensures { IfOk result (λ text. text ≡ read_text self.entry) }
+        ensures text { IfOk result (λ text. text ≡ read_text self.entry) }
+        ensures memory { IfErr result (λ _. IsTrue (is_borrowed_string self.entry)) }
     {
         match self {
             StringFromInput::Borrowed(text) => text.to_owned(alloc),
@@ -115,13 +117,15 @@ impl<'a> BareItemFromInput<'a> {
         }
     }
 
-    /// Returns the same value (RFC 9651, section 3.3) with texts of its own.
+    /// Returns the same value (RFC 9651, section 3.3) with texts of its own. What is owned is moved: only a text that is
+    /// borrowed takes memory.
     ///
     /// # Errors
     ///
     /// `OutOfMemory` when out of memory.
     pub fn try_into_owned(self, alloc: Global) -> Result<BareItem, OutOfMemory>
-        ensures { IfOk result (λ item. bare_value item ≡ input_value self.entry) }
+        ensures value { IfOk result (λ item. bare_value item ≡ input_value self.entry) }
+        ensures memory { IfErr result (λ _. IsTrue (is_borrowed self.entry)) }
     {
         Ok(match self {
             GenericBareItem::Decimal(value) => GenericBareItem::Decimal(value),

@@ -1,10 +1,10 @@
 //! The visitor that builds a dictionary.
 
-ghost use Rattle.std.specs.Prelude.{◌≡◌, ⊤, None, OnOk};
+ghost use Rattle.std.specs.Prelude.{◌≡◌, ⊤, None, OnOk, OnErr, IsTrue};
 ghost use Rattle.sfv_tree.specs.Trees.{dictionary_tree};
 ghost use Rattle.sfv_tree.specs.Events.{event_of};
 ghost use Rattle.sfv_tree.specs.Builders.{dictionary_step, dictionary_place, dictionary_members, member_place};
-ghost use Rattle.sfv_tree.specs.Builders.{between_pairs, settle_pair};
+ghost use Rattle.sfv_tree.specs.Builders.{between_pairs, settle_pair, settle_takes_memory, dictionary_takes_memory};
 
 use crate::parsed::Dictionary;
 use crate::visitor::partial_member::PartialMember;
@@ -23,8 +23,8 @@ struct PartialPair {
 /// Builds a dictionary of its events, from a dictionary that it begins with. Of a repeated key the last member stands
 /// whole, at the place of the first (RFC 9651, section 4.2.2); so does the last value of a repeated parameter.
 ///
-/// It takes every event, and an event out of its place changes nothing. It fails only when out of memory, and never at
-/// the end. Its answer is the dictionary of the members that are whole.
+/// It takes every event, and an event out of its place changes nothing. It fails only when out of memory, at a key, a
+/// text, a parameter or the end of an item or a member that it takes, and never at the end. Its answer is the dictionary of the members that are whole.
 #[derive(Drop)]
 pub struct DictionaryBuilder {
     alloc: Global,
@@ -48,8 +48,10 @@ impl DictionaryBuilder {
 
     fn begin(&mut self, event: Event<'_>) -> Result<(), OutOfMemory>
         requires no_member { self.old.pair ≡ None }
-        ensures { OnOk result
+        ensures place { OnOk result
             (dictionary_place self.new ≡ dictionary_step (dictionary_place self.old) (event_of event.entry)) }
+        ensures memory { OnErr result
+            (IsTrue (dictionary_takes_memory (dictionary_place self.old) (event_of event.entry))) }
     {
         match event {
             Event::KeyedEntry(key) => {
@@ -65,8 +67,10 @@ impl DictionaryBuilder {
     // Enters a member that has ended, and goes on reading one that has not.
     fn settle(&mut self, key: Key, member: PartialMember) -> Result<(), OutOfMemory>
         requires no_member { self.old.pair ≡ None }
-        ensures { OnOk result (dictionary_place self.new
+        ensures place { OnOk result (dictionary_place self.new
             ≡ settle_pair (dictionary_tree self.old.dictionary.entries) key (member_place member)) }
+        ensures memory { OnErr result (IsTrue
+            (settle_takes_memory (dictionary_tree self.old.dictionary.entries) key (member_place member))) }
     {
         match member {
             PartialMember::Ended(entry) => {
@@ -78,8 +82,10 @@ impl DictionaryBuilder {
     }
 
     fn step(&mut self, event: Event<'_>) -> Result<(), OutOfMemory>
-        ensures { OnOk result
+        ensures place { OnOk result
             (dictionary_place self.new ≡ dictionary_step (dictionary_place self.old) (event_of event.entry)) }
+        ensures memory { OnErr result
+            (IsTrue (dictionary_takes_memory (dictionary_place self.old) (event_of event.entry))) }
     {
         match self.pair.take() {
             None => self.begin(event),
@@ -98,7 +104,7 @@ impl<'de> Visitor<'de> for DictionaryBuilder {
 
     ghost takes = { λ s event after. dictionary_place after ≡ dictionary_step (dictionary_place s) event };
 
-    ghost fails = { λ s event fault. ⊤ };
+    ghost fails = { λ s event fault. IsTrue (dictionary_takes_memory (dictionary_place s) event) };
 
     ghost finishes = { λ s dictionary. dictionary_tree dictionary.entries ≡ dictionary_members (dictionary_place s) };
 

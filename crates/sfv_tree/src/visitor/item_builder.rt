@@ -1,9 +1,9 @@
 //! The visitor that builds an item.
 
-ghost use Rattle.std.specs.Prelude.{◌≡◌};
+ghost use Rattle.std.specs.Prelude.{◌≡◌, IsTrue};
 ghost use Rattle.sfv_spec.specs.Values.{RawItem};
 ghost use Rattle.sfv_tree.specs.Trees.{item_tree};
-ghost use Rattle.sfv_tree.specs.Builders.{at_head, at_end, item_step, item_place};
+ghost use Rattle.sfv_tree.specs.Builders.{at_head, at_end, item_step, item_place, takes_memory};
 ghost use Rattle.sfv_tree.specs.declared.visitor.ItemFault.TheVariants as faults;
 
 use crate::parsed::{Item, ListEntry};
@@ -14,8 +14,8 @@ use std::alloc::Global;
 
 /// Builds an item of its events. Of a repeated key the last value stands, at the place of the first.
 ///
-/// It takes every event, and an event out of its place changes nothing. It fails only when out of memory, and at the
-/// end with `ItemFault::NoItem` only where it visited no whole item.
+/// It takes every event, and an event out of its place changes nothing. It fails only when out of memory, at a text or a
+/// parameter that it takes, and at the end with `ItemFault::NoItem` only where it visited no whole item.
 #[derive(Drop)]
 pub struct ItemBuilder {
     alloc: Global,
@@ -42,7 +42,7 @@ impl<'de> Visitor<'de> for ItemBuilder {
 
     ghost takes = { λ s event after. item_place after ≡ item_step (item_place s) event };
 
-    ghost fails = { λ s event fault. fault ≡ faults.OutOfMemory };
+    ghost fails = { λ s event fault. (fault ≡ faults.OutOfMemory) × IsTrue (takes_memory (item_place s) event) };
 
     ghost finishes = { λ s item. item_place s ≡ at_end (item_tree item) };
 

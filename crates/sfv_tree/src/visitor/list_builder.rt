@@ -1,9 +1,10 @@
 //! The visitor that builds a list.
 
-ghost use Rattle.std.specs.Prelude.{◌≡◌, ⊤, None, OnOk};
+ghost use Rattle.std.specs.Prelude.{◌≡◌, ⊤, None, OnOk, OnErr, IsTrue};
 ghost use Rattle.sfv_tree.specs.Trees.{list_tree};
 ghost use Rattle.sfv_tree.specs.Events.{event_of};
 ghost use Rattle.sfv_tree.specs.Builders.{between, settle, list_step, list_place, list_members, member_place};
+ghost use Rattle.sfv_tree.specs.Builders.{has_ended, list_takes_memory};
 
 use crate::parsed::List;
 use crate::visitor::partial_member::PartialMember;
@@ -14,8 +15,8 @@ use std::alloc::Global;
 /// Builds a list of its events, after the members of a list that it begins with. Of a repeated key the last value
 /// stands, at the place of the first.
 ///
-/// It takes every event, and an event out of its place changes nothing. It fails only when out of memory, and never at
-/// the end. Its answer is the list of the members that are whole.
+/// It takes every event, and an event out of its place changes nothing. It fails only when out of memory, at a text, a
+/// parameter or the end of an item or a member that it takes, and never at the end. Its answer is the list of the members that are whole.
 #[derive(Drop)]
 pub struct ListBuilder {
     alloc: Global,
@@ -49,7 +50,9 @@ impl ListBuilder {
     // Puts a member last that has ended, and goes on reading one that has not.
     fn settle(&mut self, member: PartialMember) -> Result<(), OutOfMemory>
         requires no_member { self.old.member ≡ None }
-        ensures { OnOk result (list_place self.new ≡ settle (list_tree self.old.list.items) (member_place member)) }
+        ensures place { OnOk result
+            (list_place self.new ≡ settle (list_tree self.old.list.items) (member_place member)) }
+        ensures memory { OnErr result (IsTrue (has_ended (member_place member))) }
     {
         match member {
             PartialMember::Ended(entry) => self.list.push(entry)?,
@@ -59,7 +62,8 @@ impl ListBuilder {
     }
 
     fn step(&mut self, event: Event<'_>) -> Result<(), OutOfMemory>
-        ensures { OnOk result (list_place self.new ≡ list_step (list_place self.old) (event_of event.entry)) }
+        ensures place { OnOk result (list_place self.new ≡ list_step (list_place self.old) (event_of event.entry)) }
+        ensures memory { OnErr result (IsTrue (list_takes_memory (list_place self.old) (event_of event.entry))) }
     {
         match self.member.take() {
             None => {
@@ -81,7 +85,7 @@ impl<'de> Visitor<'de> for ListBuilder {
 
     ghost takes = { λ s event after. list_place after ≡ list_step (list_place s) event };
 
-    ghost fails = { λ s event fault. ⊤ };
+    ghost fails = { λ s event fault. IsTrue (list_takes_memory (list_place s) event) };
 
     ghost finishes = { λ s list. list_tree list.items ≡ list_members (list_place s) };
 

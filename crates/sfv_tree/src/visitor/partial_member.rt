@@ -1,11 +1,11 @@
 //! A member of a list or a dictionary while it is read.
 
-ghost use Rattle.std.specs.Prelude.{◌≡◌, IfOk};
+ghost use Rattle.std.specs.Prelude.{◌≡◌, IfOk, OnErr, IsTrue};
 ghost use Rattle.sfv_spec.specs.Events as tree;
 ghost use Rattle.sfv_bare.specs.BareItems.{input_value};
 ghost use Rattle.sfv_text.specs.KeyText.{key_text};
 ghost use Rattle.sfv_tree.specs.Events.{event_of};
-ghost use Rattle.sfv_tree.specs.Builders.{member_step, member_place};
+ghost use Rattle.sfv_tree.specs.Builders.{member_step, member_place, takes_memory};
 
 use crate::parsed::{InnerList, Item, ListEntry};
 use crate::visitor::Event;
@@ -70,8 +70,10 @@ impl PartialMember {
         alloc: Global,
         bare_item: BareItemFromInput<'_>,
     ) -> Result<PartialMember, OutOfMemory>
-        ensures { IfOk result (λ after. member_place after
+        ensures place { IfOk result (λ after. member_place after
             ≡ member_step (member_place self) (tree.bare_item (input_value bare_item.entry))) }
+        ensures memory { OnErr result
+            (IsTrue (takes_memory (member_place self) (tree.bare_item (input_value bare_item.entry)))) }
     {
         match self {
             PartialMember::Head => {
@@ -93,8 +95,10 @@ impl PartialMember {
         key: KeyRef<'_>,
         value: BareItemFromInput<'_>,
     ) -> Result<PartialMember, OutOfMemory>
-        ensures { IfOk result (λ after. member_place after
+        ensures place { IfOk result (λ after. member_place after
             ≡ member_step (member_place self) (tree.parameter (key_text key.entry) (input_value value.entry))) }
+        ensures memory { OnErr result (IsTrue
+            (takes_memory (member_place self) (tree.parameter (key_text key.entry) (input_value value.entry)))) }
     {
         match self {
             PartialMember::Params(mut item) => {
@@ -114,7 +118,8 @@ impl PartialMember {
     }
 
     fn end_parameters(self) -> Result<PartialMember, OutOfMemory>
-        ensures { IfOk result (λ after. member_place after ≡ member_step (member_place self) tree.parameters_end) }
+        ensures place { IfOk result (λ after. member_place after ≡ member_step (member_place self) tree.parameters_end) }
+        ensures memory { OnErr result (IsTrue (takes_memory (member_place self) tree.parameters_end)) }
     {
         match self {
             PartialMember::Params(item) => Ok(PartialMember::Ended(ListEntry::Item(item))),
@@ -131,7 +136,9 @@ impl PartialMember {
 
     // Returns what is read of the member after this event.
     pub(crate) fn step(self, alloc: Global, event: Event<'_>) -> Result<PartialMember, OutOfMemory>
-        ensures { IfOk result (λ after. member_place after ≡ member_step (member_place self) (event_of event.entry)) }
+        ensures place { IfOk result
+            (λ after. member_place after ≡ member_step (member_place self) (event_of event.entry)) }
+        ensures memory { OnErr result (IsTrue (takes_memory (member_place self) (event_of event.entry))) }
     {
         match event {
             Event::Item => Ok(self.begin_item()),
