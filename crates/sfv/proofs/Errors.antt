@@ -1,14 +1,16 @@
 -- What a part of a reading answers is what the whole does.
-use Rattle.std.proofs.Common.{◌≡◌, ℕ, ◌≤◌, List, length, Option, Some, None, Ok, Err, ap, subst, ◌∙◌, drop}
-use Rattle.std.specs.Prelude.{MatchOption}
-use Rattle.std.specs.Borrow.{Bor}
+use Rattle.std.proofs.Common.{◌≡◌, ℕ, ◌≤◌, List, length, Option, Some, None, Ok, Err, sym, ap, subst, ◌∙◌, drop}
+use Rattle.std.specs.Prelude.{MatchOption, Result}
+use Rattle.std.specs.declared.alloc.Global.{Global}
+use Rattle.sfv_spec.specs.Values.{Edition}
 use Rattle.sfv_base.specs.declared.error.Error.{Error}
 use Rattle.sfv_base.specs.declared.error.ErrorKind.{ErrorKind}
 use Rattle.sfv_base.specs.declared.error.ErrorKind.TheVariants.{OutOfMemory}
 use Rattle.sfv_base.specs.Errors.{error_of}
 use Rattle.sfv_reading.specs.Reader.{Answer, Reader, and_then, bind, ◌>>=◌}
+use Rattle.sfv.specs.declared.parser.Parser.{Parser}
 use Rattle.sfv.specs.declared.parser.cursor.Cursor.{Cursor}
-use Rattle.sfv.specs.Cursor.{rest, located, IsFaultOf, IsErrorOf}
+use Rattle.sfv.specs.Cursor.{kept, kept_input, kept_edition, rest, located, IsFaultOf, IsErrorOf, Reads}
 
 pub fault_bind : {A B : Type 0} (f : Reader A) (g : A → Reader B) (t : List ℕ) (k : ErrorKind) (r : List ℕ) → located (f t) ≡ Err (k, r) → located ((f >>= g) t) ≡ Err (k, r)
 unfolding bind
@@ -18,12 +20,21 @@ fault_bind {A} {B} f g t k r = on (f t)
     on (Ok x) h = absurd cc
     on (Err f) h = ap (λ (p : ErrorKind × List ℕ). Err p) cc
 
--- the error at the next byte
-pub FaultOf-here : {A : Type 0} (k : ErrorKind) (p : Cursor) (i : Bor (List ℕ)) (a : Answer A) → p.input ≡ i → located a ≡ Err (k, rest p) → IsFaultOf i.now (error_of k (Some p.index)) a
-FaultOf-here k p i a same h = subst (λ (i : Bor (List ℕ)). (located a ≡ Err (k, drop p.index i.now)) × (p.index ≤ length i.now)) same (h, p.within)
+-- a cursor that has kept its parser reads the same edition
+pub kept_reads : {A : Type 0} (f : Edition → Reader A) (t : List ℕ) (i j : Parser × Global) → i ≡ j → f (kept_edition j) t ≡ f (kept_edition i) t
+kept_reads f t i j same = ap (λ (k : Parser × Global). f (kept_edition k) t) (sym same)
 
-pub ErrorOf-here : {A : Type 0} (k : ErrorKind) (p : Cursor) (i : Bor (List ℕ)) (a : Answer A) → p.input ≡ i → located a ≡ Err (k, rest p) → IsErrorOf i.now (error_of k (Some p.index)) a
-ErrorOf-here k p i a same h = subst (λ (i : Bor (List ℕ)). (located a ≡ Err (k, drop p.index i.now)) × (p.index ≤ length i.now)) same (h, p.within)
+-- a reading of a part, behind which nothing stands
+pub reads_same : {X Y : Type 0} (view : X → Y) (before middle after : Cursor) (r : Result X Error) (f g : Reader Y) → kept middle ≡ kept before → g (rest before) ≡ f (rest middle) → Reads view middle after r f → Reads view before after r g
+reads_same view before middle after (Ok x) f g same eq h = (eq ∙ h.0, h.1 ∙ same)
+reads_same view before middle after (Err e) f g same eq h = rw eq (subst (λ (k : Parser × Global). IsFaultOf (kept_input k) e (f (rest middle))) same h)
+
+-- the error at the next byte
+pub FaultOf-here : {A : Type 0} (k : ErrorKind) (p : Cursor) (i : Parser × Global) (a : Answer A) → kept p ≡ i → located a ≡ Err (k, rest p) → IsFaultOf (kept_input i) (error_of k (Some p.index)) a
+FaultOf-here k p i a same h = subst (λ (i : Parser × Global). (located a ≡ Err (k, drop p.index (kept_input i))) × (p.index ≤ length (kept_input i))) same (h, p.within)
+
+pub ErrorOf-here : {A : Type 0} (k : ErrorKind) (p : Cursor) (i : Parser × Global) (a : Answer A) → kept p ≡ i → located a ≡ Err (k, rest p) → IsErrorOf (kept_input i) (error_of k (Some p.index)) a
+ErrorOf-here k p i a same h = FaultOf-here k p i a same h
 
 -- a fault of a reading that needs no memory is one of a reading that may
 pub ErrorOf-fault : {A : Type 0} (input : List ℕ) (e : Error) (a : Answer A) → IsFaultOf input e a → IsErrorOf input e a
@@ -34,16 +45,17 @@ ErrorOf-fault input e a = on e.index
     on (Some i) h = h
 
 -- the whole is that part
-pub ErrorOf-same : {A : Type 0} (i j : Bor (List ℕ)) (e : Error) (a b : Answer A) → i ≡ j → a ≡ b → IsErrorOf i.now e b → IsErrorOf j.now e a
-ErrorOf-same i j e a b same eq h = subst (λ (i : Bor (List ℕ)). IsErrorOf i.now e a) same (rw eq h)
+pub ErrorOf-same : {A : Type 0} (i j : Parser × Global) (e : Error) (f : Edition → Reader A) (t : List ℕ) (a : Answer A) → i ≡ j → a ≡ f (kept_edition j) t → IsErrorOf (kept_input i) e (f (kept_edition i) t) → IsErrorOf (kept_input j) e a
+ErrorOf-same i j e f t a same eq h = rw eq (subst (λ (k : Parser × Global). IsErrorOf (kept_input k) e (f (kept_edition k) t)) same h)
 
 -- the whole goes on behind that part
-pub ErrorOf-part : {A B : Type 0} (i j : Bor (List ℕ)) (e : Error) (f : Reader A) (g : A → Reader B) (t : List ℕ) (a : Answer B) → i ≡ j → a ≡ (f >>= g) t → IsErrorOf i.now e (f t) → IsErrorOf j.now e a
-ErrorOf-part i j e f g t a same eq h = ErrorOf-same i j e a ((f >>= g) t) same eq (on e.index h)
+pub ErrorOf-part : {A B : Type 0} (i j : Parser × Global) (e : Error) (f : Edition → Reader A) (g : A → Reader B) (t : List ℕ) (a : Answer B) → i ≡ j → a ≡ (f (kept_edition j) >>= g) t → IsErrorOf (kept_input i) e (f (kept_edition i) t) → IsErrorOf (kept_input j) e a
+ErrorOf-part i j e f g t a same eq h = rw eq (on e.index (subst (λ (k : Parser × Global). IsErrorOf (kept_input k) e (f (kept_edition k) t)) same h))
   where
-    on : (o : Option ℕ) → MatchOption o (e.kind ≡ OutOfMemory) (λ index. (located (f t) ≡ Err (e.kind, drop index i.now)) × (index ≤ length i.now)) → MatchOption o (e.kind ≡ OutOfMemory) (λ index. (located ((f >>= g) t) ≡ Err (e.kind, drop index i.now)) × (index ≤ length i.now))
+    on : (o : Option ℕ) → MatchOption o (e.kind ≡ OutOfMemory) (λ index. (located (f (kept_edition j) t) ≡ Err (e.kind, drop index (kept_input j))) × (index ≤ length (kept_input j)))
+        → MatchOption o (e.kind ≡ OutOfMemory) (λ index. (located ((f (kept_edition j) >>= g) t) ≡ Err (e.kind, drop index (kept_input j))) × (index ≤ length (kept_input j)))
     on None h = h
-    on (Some n) h = (fault_bind f g t _ _ h.0, h.1)
+    on (Some n) h = (fault_bind (f (kept_edition j)) g t _ _ h.0, h.1)
 
 -- the whole is told as that part
 pub ErrorOf-located : {A : Type 0} (i : List ℕ) (e : Error) (a b : Answer A) → located a ≡ located b → IsErrorOf i e b → IsErrorOf i e a

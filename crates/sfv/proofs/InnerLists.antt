@@ -1,7 +1,7 @@
--- An inner list and its parameters, as a visitor is told of it.
+-- An inner list and its parameters, and how they are visited.
 use Rattle.std.proofs.Common.{◌≡◌, ℕ, true, false, List, [], ◌∷◌, ◌++◌, Ok, Err, refl, sym, ap, subst, ◌∙◌, append_assoc, flat_map}
 use Rattle.std.specs.Prelude.{Result}
-use Rattle.std.specs.Borrow.{Bor}
+use Rattle.std.specs.declared.alloc.Global.{Global}
 use Rattle.sfv_spec.specs.Values.{Edition, RawParameters, RawItem, RawMember, item, inner_list}
 use Rattle.sfv_spec.specs.Events.{TreeEvent, begins_item, begins_inner_list, inner_list_end, parameters_events, item_events, member_events, inner_item_events}
 use Rattle.sfv_spec.specs.Visiting.{RunsTo}
@@ -11,14 +11,15 @@ use Rattle.sfv_reading.specs.Reader.{Answer, Reader, byte, led_answer, led, give
 use Rattle.sfv_reading.specs.Items.{parameters_at, item_at}
 use Rattle.sfv_reading.specs.Members.{inner_items_at, inner_of, closed_events, inner_at, member_at}
 use Rattle.sfv_reading.specs.Visits.{VisitorFails}
+use Rattle.sfv.specs.declared.parser.Parser.{Parser}
 use Rattle.sfv.specs.declared.parser.cursor.Cursor.{Cursor}
 use Rattle.sfv.specs.Cursor.{TakesIf}
 use Rattle.sfv.specs.Members.{behind_begin}
-use Rattle.sfv.specs.Visits.{Visits, IsErrorOfVisit}
+use Rattle.sfv.specs.Visits.{VisitsAnswer, IsOfVisitor}
 use Rattle.sfv.proofs.Errors.{ErrorOf-part}
 use Rattle.sfv.proofs.Steps.{branch_true, branch_false}
-use Rattle.sfv.proofs.Told.{runs_on}
-use Rattle.sfv.proofs.Telling.{visits_as, map_visits, then_visits, first_failed, failed_longer, failed_behind, led_visits, led_fails}
+use Rattle.sfv.proofs.Parameters.{runs_on, of_visitor}
+use Rattle.sfv.proofs.Visiting.{visits_as, map_visits, then_visits, first_failed, failed_longer, failed_behind, led_visits, led_fails}
 
 -- the parameters behind the items
 list_parameters : RawMember → List TreeEvent
@@ -47,27 +48,27 @@ module _ {S E : Type 0} (takes : S → TreeEvent → S → Type 0) (fails : S �
   whole_failed t from fault h = first_failed takes fails (inner_items_at edition) (closing edition) closed_events behind_begin list_parameters t from fault (λ v q w r e k. closing_events edition v q w r k) h
 
   -- the items are not read whole
-  pub items_fail : (t : List ℕ) (from to : S) (i j : Bor (List ℕ)) (after : Cursor) (error : ParseError E) → i ≡ j → Visits takes fails (λ is. flat_map inner_item_events is) i after from to (Err error) (inner_items_at edition t) → Visits takes fails behind_begin j after from to (Err error) (inner_at edition t)
+  pub items_fail : (t : List ℕ) (from to : S) (k : Parser × Global) (after : Cursor) (error : ParseError E) → VisitsAnswer takes fails (λ is. flat_map inner_item_events is) k after from to (Err error) (inner_items_at edition t) → VisitsAnswer takes fails behind_begin k after from to (Err error) (inner_at edition t)
   unfolding inner_at
-  items_fail t from to i j after (Syntax e) same h = ErrorOf-part i j e (inner_items_at edition) (λ is. led (closed_events is) (closing edition is)) t _ same refl h
-  items_fail t from to i j after (Visitor fault) same h =
+  items_fail t from to k after (Syntax e) h = ErrorOf-part k k e (λ _. inner_items_at edition) (λ is. led (closed_events is) (closing edition is)) t _ refl refl h
+  items_fail t from to k after (Visitor fault) h =
       whole_failed t from fault (failed_longer takes fails (λ is. flat_map inner_item_events is) closed_events (inner_items_at edition t) from fault (λ is. (inner_list_end ∷ [], refl)) h)
 
-  -- their end is failed
-  pub end_fails : (t q : List ℕ) (is : List RawItem) (from middle to : S) (j : Bor (List ℕ)) (after : Cursor) (error : ParseError E) → inner_items_at edition t ≡ Ok (is, q) → RunsTo takes from (flat_map inner_item_events is) middle → IsErrorOfVisit fails middle inner_list_end error
-      → Visits takes fails behind_begin j after from to (Err error) (inner_at edition t)
-  end_fails t q is from middle to j after (Syntax e) read run h = absurd h
-  end_fails t q is from middle to j after (Visitor fault) read run h =
-      whole_failed t from fault (failed_behind takes fails (λ is. flat_map inner_item_events is) closed_events inner_list_end (inner_items_at edition t) is q from middle fault read refl run h)
+  -- the visitor fails at their end
+  pub end_fails : (t q : List ℕ) (is : List RawItem) (from middle to : S) (k : Parser × Global) (after : Cursor) (error : ParseError E) → inner_items_at edition t ≡ Ok (is, q) → RunsTo takes from (flat_map inner_item_events is) middle → IsOfVisitor (fails middle inner_list_end) error
+      → VisitsAnswer takes fails behind_begin k after from to (Err error) (inner_at edition t)
+  end_fails t q is from middle to k after error read run h =
+      of_visitor takes fails behind_begin k after from to (fails middle inner_list_end) error (inner_at edition t) h
+      (λ fault failed. whole_failed t from fault (failed_behind takes fails (λ is. flat_map inner_item_events is) closed_events inner_list_end (inner_items_at edition t) is q from middle fault read refl run failed))
 
   -- the items, their end and the parameters
-  pub inner_list_visits : (t q : List ℕ) (is : List RawItem) (from middle end to : S) (i j : Bor (List ℕ)) (after : Cursor) (r : Result (Unit {0}) (ParseError E)) → i ≡ j → inner_items_at edition t ≡ Ok (is, q) → RunsTo takes from (flat_map inner_item_events is) middle → takes middle inner_list_end end
-      → Visits takes fails parameters_events i after end to r (parameters_at edition q) → Visits takes fails behind_begin j after from to r (inner_at edition t)
+  pub inner_list_visits : (t q : List ℕ) (is : List RawItem) (from middle end to : S) (k : Parser × Global) (after : Cursor) (r : Result (Unit {0}) (ParseError E)) → inner_items_at edition t ≡ Ok (is, q) → RunsTo takes from (flat_map inner_item_events is) middle → takes middle inner_list_end end
+      → VisitsAnswer takes fails parameters_events k after end to r (parameters_at edition q) → VisitsAnswer takes fails behind_begin k after from to r (inner_at edition t)
   unfolding inner_at list_parameters
-  inner_list_visits t q is from middle end to i j after r same read run taken h =
-      then_visits takes fails (inner_items_at edition) (closing edition) closed_events behind_begin list_parameters t q is from end to i j after r same read
+  inner_list_visits t q is from middle end to k after r read run taken h =
+      then_visits takes fails (inner_items_at edition) (closing edition) closed_events behind_begin list_parameters t q is from end to k after r read
       (runs_on takes (flat_map inner_item_events is) (inner_list_end ∷ []) from middle end run (end, taken, refl)) (λ w s e. closing_events edition is q w s e)
-      (map_visits takes fails (λ ps. inner_of is ps) parameters_events list_parameters (parameters_at edition) q end to i after r (λ ps. refl) h)
+      (map_visits takes fails (λ ps. inner_of is ps) parameters_events list_parameters (parameters_at edition) q end to k after r (λ ps. refl) h)
 
   -- ---- a member
 
@@ -108,11 +109,11 @@ module _ {S E : Type 0} (takes : S → TreeEvent → S → Type 0) (fails : S �
       on (Ok x) e = inner (led_answer (closed_events x.0) (and_then (parameters_at edition x.1) (λ ps. give (inner_of x.0 ps)))) (given_list x.0 (parameters_at edition x.1)) e
       on (Err f) e = absurd cc
 
-  pub list_member_visits : (t q : List ℕ) (from middle to : S) (i j : Bor (List ℕ)) (after : Cursor) (r : Result (Unit {0}) (ParseError E)) → i ≡ j → TakesIf (byte 0x28) true t q → takes from begins_inner_list middle
-      → Visits takes fails behind_begin i after middle to r (inner_at edition q) → Visits takes fails member_events j after from to r (member_at edition t)
-  list_member_visits t q from middle to i j after r same m taken h =
-      visits_as takes fails (λ v. begins_inner_list ∷ behind_begin v) member_events (led (begins_inner_list ∷ []) (inner_at edition) q) (member_at edition t) from to i j after r same (member_list t q m) (begins_as_list q)
-      (led_visits takes fails begins_inner_list behind_begin (inner_at edition) q from middle to i i after r refl taken h)
+  pub list_member_visits : (t q : List ℕ) (from middle to : S) (k : Parser × Global) (after : Cursor) (r : Result (Unit {0}) (ParseError E)) → TakesIf (byte 0x28) true t q → takes from begins_inner_list middle
+      → VisitsAnswer takes fails behind_begin k after middle to r (inner_at edition q) → VisitsAnswer takes fails member_events k after from to r (member_at edition t)
+  list_member_visits t q from middle to k after r m taken h =
+      visits_as takes fails (λ v. begins_inner_list ∷ behind_begin v) member_events (led (begins_inner_list ∷ []) (inner_at edition) q) (member_at edition t) from to k after r (member_list t q m) (begins_as_list q)
+      (led_visits takes fails begins_inner_list behind_begin (inner_at edition) q from middle to k after r taken h)
 
   -- an item as a member
   item_first : (q : List ℕ) → led (begins_item ∷ []) as_item q ≡ (led (begins_item ∷ []) (item_at edition) >>= λ i. give (item i)) q
@@ -123,21 +124,21 @@ module _ {S E : Type 0} (takes : S → TreeEvent → S → Type 0) (fails : S �
       on (Ok x) = refl
       on (Err f) = refl
 
-  pub item_member_visits : (t q : List ℕ) (from middle to : S) (i j : Bor (List ℕ)) (after : Cursor) (r : Result (Unit {0}) (ParseError E)) → i ≡ j → TakesIf (byte 0x28) false t q → takes from begins_item middle
-      → Visits takes fails item_events i after middle to r (item_at edition q) → Visits takes fails member_events j after from to r (member_at edition t)
-  item_member_visits t q from middle to i j after r same m taken h =
-      visits_as takes fails member_events member_events ((led (begins_item ∷ []) (item_at edition) >>= λ i. give (item i)) q) (member_at edition t) from to i j after r same (member_item t q m ∙ item_first q) (λ v s e. refl)
-      (map_visits takes fails (λ i. item i) (λ i. begins_item ∷ item_events i) member_events (led (begins_item ∷ []) (item_at edition)) q from to i after r (λ i. refl)
-      (led_visits takes fails begins_item item_events (item_at edition) q from middle to i i after r refl taken h))
+  pub item_member_visits : (t q : List ℕ) (from middle to : S) (k : Parser × Global) (after : Cursor) (r : Result (Unit {0}) (ParseError E)) → TakesIf (byte 0x28) false t q → takes from begins_item middle
+      → VisitsAnswer takes fails item_events k after middle to r (item_at edition q) → VisitsAnswer takes fails member_events k after from to r (member_at edition t)
+  item_member_visits t q from middle to k after r m taken h =
+      visits_as takes fails member_events member_events ((led (begins_item ∷ []) (item_at edition) >>= λ i. give (item i)) q) (member_at edition t) from to k after r (member_item t q m ∙ item_first q) (λ v s e. refl)
+      (map_visits takes fails (λ i. item i) (λ i. begins_item ∷ item_events i) member_events (led (begins_item ∷ []) (item_at edition)) q from to k after r (λ i. refl)
+      (led_visits takes fails begins_item item_events (item_at edition) q from middle to k after r taken h))
 
-  -- the beginning of a member is failed
-  pub list_begin_fails : (t q : List ℕ) (from to : S) (j : Bor (List ℕ)) (after : Cursor) (error : ParseError E) → TakesIf (byte 0x28) true t q → IsErrorOfVisit fails from begins_inner_list error → Visits takes fails member_events j after from to (Err error) (member_at edition t)
-  list_begin_fails t q from to j after error m h =
-      visits_as takes fails (λ v. begins_inner_list ∷ behind_begin v) member_events (led (begins_inner_list ∷ []) (inner_at edition) q) (member_at edition t) from to j j after (Err error) refl (member_list t q m) (begins_as_list q)
-      (led_fails takes fails begins_inner_list behind_begin (inner_at edition) q from to j after error h)
+  -- the visitor fails at the beginning of a member
+  pub list_begin_fails : (t q : List ℕ) (from to : S) (k : Parser × Global) (after : Cursor) (error : ParseError E) → TakesIf (byte 0x28) true t q → IsOfVisitor (fails from begins_inner_list) error → VisitsAnswer takes fails member_events k after from to (Err error) (member_at edition t)
+  list_begin_fails t q from to k after error m h =
+      visits_as takes fails (λ v. begins_inner_list ∷ behind_begin v) member_events (led (begins_inner_list ∷ []) (inner_at edition) q) (member_at edition t) from to k after (Err error) (member_list t q m) (begins_as_list q)
+      (led_fails takes fails begins_inner_list behind_begin (inner_at edition) q from to k after error h)
 
-  pub item_begin_fails : (t q : List ℕ) (from to : S) (j : Bor (List ℕ)) (after : Cursor) (error : ParseError E) → TakesIf (byte 0x28) false t q → IsErrorOfVisit fails from begins_item error → Visits takes fails member_events j after from to (Err error) (member_at edition t)
-  item_begin_fails t q from to j after error m h =
-      visits_as takes fails member_events member_events ((led (begins_item ∷ []) (item_at edition) >>= λ i. give (item i)) q) (member_at edition t) from to j j after (Err error) refl (member_item t q m ∙ item_first q) (λ v s e. refl)
-      (map_visits takes fails (λ i. item i) (λ i. begins_item ∷ item_events i) member_events (led (begins_item ∷ []) (item_at edition)) q from to j after (Err error) (λ i. refl)
-      (led_fails takes fails begins_item item_events (item_at edition) q from to j after error h))
+  pub item_begin_fails : (t q : List ℕ) (from to : S) (k : Parser × Global) (after : Cursor) (error : ParseError E) → TakesIf (byte 0x28) false t q → IsOfVisitor (fails from begins_item) error → VisitsAnswer takes fails member_events k after from to (Err error) (member_at edition t)
+  item_begin_fails t q from to k after error m h =
+      visits_as takes fails member_events member_events ((led (begins_item ∷ []) (item_at edition) >>= λ i. give (item i)) q) (member_at edition t) from to k after (Err error) (member_item t q m ∙ item_first q) (λ v s e. refl)
+      (map_visits takes fails (λ i. item i) (λ i. begins_item ∷ item_events i) member_events (led (begins_item ∷ []) (item_at edition)) q from to k after (Err error) (λ i. refl)
+      (led_fails takes fails begins_item item_events (item_at edition) q from to k after error h))

@@ -1,29 +1,30 @@
--- A member of a dictionary, as a visitor is told of it.
+-- A member of a dictionary, and how it is visited.
 use Rattle.std.proofs.Common.{◌≡◌, ℕ, true, false, List, [], ◌∷◌, ◌++◌, Ok, Err, refl, sym, ap, ◌∙◌}
 use Rattle.std.specs.Prelude.{Result}
-use Rattle.std.specs.Borrow.{Bor}
+use Rattle.std.specs.declared.alloc.Global.{Global}
 use Rattle.sfv_spec.specs.Values.{Edition, boolean, RawParameters, RawMember}
 use Rattle.sfv_spec.specs.Events.{TreeEvent, keyed_entry, begins_item, bare_item, parameters_events, member_events, keyed_events}
 use Rattle.sfv_spec.specs.Grammar.{true_with}
 use Rattle.sfv_base.specs.declared.error.Error.{Error}
 use Rattle.sfv_base.specs.declared.error.ParseError.{ParseError}
-use Rattle.sfv_base.specs.declared.error.ParseError.TheVariants.{Syntax, Visitor}
 use Rattle.sfv_reading.specs.Reader.{Answer, Reader, byte, visited, led_answer, led, give, and_then, bind, ◌>>=◌}
 use Rattle.sfv_reading.specs.Items.{key_at, parameters_at}
 use Rattle.sfv_reading.specs.Members.{member_at, member_value_at, keyed_at}
 use Rattle.sfv_reading.proofs.visits.Parts.{visited_then}
+use Rattle.sfv.specs.declared.parser.Parser.{Parser}
 use Rattle.sfv.specs.declared.parser.cursor.Cursor.{Cursor}
-use Rattle.sfv.specs.Cursor.{TakesIf, IsErrorOf}
-use Rattle.sfv.specs.Visits.{Visits, IsErrorOfVisit}
+use Rattle.sfv.specs.Cursor.{TakesIf, kept_input, IsErrorOf}
+use Rattle.sfv.specs.Visits.{VisitsAnswer, IsOfVisitor}
 use Rattle.sfv.proofs.Errors.{ErrorOf-part}
 use Rattle.sfv.proofs.Steps.{branch_true, branch_false}
-use Rattle.sfv.proofs.Telling.{visits_as, map_visits, then_visits, led_visits, led_fails}
+use Rattle.sfv.proofs.Parameters.{of_visitor}
+use Rattle.sfv.proofs.Visiting.{visits_as, map_visits, then_visits, led_visits, led_fails}
 
 -- the pair of a key and what stands behind it
 abbrev pair_at : Edition → List ℕ → Reader (List ℕ × RawMember)
 pair_at edition key = member_value_at edition >>= λ m. give (key, m)
 
--- what is told behind the key
+-- what is visited behind the key
 abbrev behind_key : List ℕ × RawMember → List TreeEvent
 behind_key m = member_events m.1
 
@@ -42,9 +43,9 @@ pair_events edition key q w r e = on (member_value_at edition q) e
 module _ {S E : Type 0} (takes : S → TreeEvent → S → Type 0) (fails : S → TreeEvent → E → Type 0) (edition : Edition) where
   -- ---- behind the key
 
-  pub value_visits : (t q : List ℕ) (from to : S) (i j : Bor (List ℕ)) (after : Cursor) (r : Result (Unit {0}) (ParseError E)) → i ≡ j → TakesIf (byte 0x3d) true t q → Visits takes fails member_events i after from to r (member_at edition q) → Visits takes fails member_events j after from to r (member_value_at edition t)
+  pub value_visits : (t q : List ℕ) (from to : S) (k : Parser × Global) (after : Cursor) (r : Result (Unit {0}) (ParseError E)) → TakesIf (byte 0x3d) true t q → VisitsAnswer takes fails member_events k after from to r (member_at edition q) → VisitsAnswer takes fails member_events k after from to r (member_value_at edition t)
   unfolding member_value_at
-  value_visits t q from to i j after r same m h = visits_as takes fails member_events member_events (member_at edition q) (member_value_at edition t) from to i j after r same (branch_true (byte 0x3d) _ _ t q m) (λ v s e. refl) h
+  value_visits t q from to k after r m h = visits_as takes fails member_events member_events (member_at edition q) (member_value_at edition t) from to k after r (branch_true (byte 0x3d) _ _ t q m) (λ v s e. refl) h
 
   -- the item true, with its parameters
   abbrev true_at : Reader RawParameters
@@ -61,10 +62,10 @@ module _ {S E : Type 0} (takes : S → TreeEvent → S → Type 0) (fails : S �
       on (Ok x) = refl
       on (Err f) = refl
 
-  as_true : (t q : List ℕ) (from to : S) (i j : Bor (List ℕ)) (after : Cursor) (r : Result (Unit {0}) (ParseError E)) → i ≡ j → TakesIf (byte 0x3d) false t q → Visits takes fails true_events i after from to r (true_at q) → Visits takes fails member_events j after from to r (member_value_at edition t)
-  as_true t q from to i j after r same m h =
-      visits_as takes fails member_events member_events ((true_at >>= λ ps. give (true_with ps)) q) (member_value_at edition t) from to i j after r same (true_is t q m) (λ v s e. refl)
-      (map_visits takes fails (λ ps. true_with ps) true_events member_events true_at q from to i after r (λ ps. refl) h)
+  as_true : (t q : List ℕ) (from to : S) (k : Parser × Global) (after : Cursor) (r : Result (Unit {0}) (ParseError E)) → TakesIf (byte 0x3d) false t q → VisitsAnswer takes fails true_events k after from to r (true_at q) → VisitsAnswer takes fails member_events k after from to r (member_value_at edition t)
+  as_true t q from to k after r m h =
+      visits_as takes fails member_events member_events ((true_at >>= λ ps. give (true_with ps)) q) (member_value_at edition t) from to k after r (true_is t q m) (λ v s e. refl)
+      (map_visits takes fails (λ ps. true_with ps) true_events member_events true_at q from to k after r (λ ps. refl) h)
 
   abbrev bare_true : Reader RawParameters
   bare_true = led (bare_item (boolean true) ∷ []) (parameters_at edition)
@@ -72,45 +73,46 @@ module _ {S E : Type 0} (takes : S → TreeEvent → S → Type 0) (fails : S �
   abbrev bare_true_events : RawParameters → List TreeEvent
   bare_true_events ps = bare_item (boolean true) ∷ parameters_events ps
 
-  pub true_begin_fails : (t q : List ℕ) (from to : S) (i j : Bor (List ℕ)) (after : Cursor) (error : ParseError E) → i ≡ j → TakesIf (byte 0x3d) false t q → IsErrorOfVisit fails from begins_item error → Visits takes fails member_events j after from to (Err error) (member_value_at edition t)
-  true_begin_fails t q from to i j after error same m h = as_true t q from to i j after (Err error) same m (led_fails takes fails begins_item bare_true_events bare_true q from to i after error h)
+  pub true_begin_fails : (t q : List ℕ) (from to : S) (k : Parser × Global) (after : Cursor) (error : ParseError E) → TakesIf (byte 0x3d) false t q → IsOfVisitor (fails from begins_item) error → VisitsAnswer takes fails member_events k after from to (Err error) (member_value_at edition t)
+  true_begin_fails t q from to k after error m h = as_true t q from to k after (Err error) m (led_fails takes fails begins_item bare_true_events bare_true q from to k after error h)
 
-  pub true_bare_fails : (t q : List ℕ) (from middle to : S) (i j : Bor (List ℕ)) (after : Cursor) (error : ParseError E) → i ≡ j → TakesIf (byte 0x3d) false t q → takes from begins_item middle → IsErrorOfVisit fails middle (bare_item (boolean true)) error
-      → Visits takes fails member_events j after from to (Err error) (member_value_at edition t)
-  true_bare_fails t q from middle to i j after error same m taken h =
-      as_true t q from to i j after (Err error) same m
-      (led_visits takes fails begins_item bare_true_events bare_true q from middle to i i after (Err error) refl taken
-      (led_fails takes fails (bare_item (boolean true)) parameters_events (parameters_at edition) q middle to i after error h))
+  pub true_bare_fails : (t q : List ℕ) (from middle to : S) (k : Parser × Global) (after : Cursor) (error : ParseError E) → TakesIf (byte 0x3d) false t q → takes from begins_item middle → IsOfVisitor (fails middle (bare_item (boolean true))) error
+      → VisitsAnswer takes fails member_events k after from to (Err error) (member_value_at edition t)
+  true_bare_fails t q from middle to k after error m taken h =
+      as_true t q from to k after (Err error) m
+      (led_visits takes fails begins_item bare_true_events bare_true q from middle to k after (Err error) taken
+      (led_fails takes fails (bare_item (boolean true)) parameters_events (parameters_at edition) q middle to k after error h))
 
-  pub true_visits : (t q : List ℕ) (from middle next to : S) (i j : Bor (List ℕ)) (after : Cursor) (r : Result (Unit {0}) (ParseError E)) → i ≡ j → TakesIf (byte 0x3d) false t q → takes from begins_item middle → takes middle (bare_item (boolean true)) next
-      → Visits takes fails parameters_events i after next to r (parameters_at edition q) → Visits takes fails member_events j after from to r (member_value_at edition t)
-  true_visits t q from middle next to i j after r same m taken bare h =
-      as_true t q from to i j after r same m
-      (led_visits takes fails begins_item bare_true_events bare_true q from middle to i i after r refl taken
-      (led_visits takes fails (bare_item (boolean true)) parameters_events (parameters_at edition) q middle next to i i after r refl bare h))
+  pub true_visits : (t q : List ℕ) (from middle next to : S) (k : Parser × Global) (after : Cursor) (r : Result (Unit {0}) (ParseError E)) → TakesIf (byte 0x3d) false t q → takes from begins_item middle → takes middle (bare_item (boolean true)) next
+      → VisitsAnswer takes fails parameters_events k after next to r (parameters_at edition q) → VisitsAnswer takes fails member_events k after from to r (member_value_at edition t)
+  true_visits t q from middle next to k after r m taken bare h =
+      as_true t q from to k after r m
+      (led_visits takes fails begins_item bare_true_events bare_true q from middle to k after r taken
+      (led_visits takes fails (bare_item (boolean true)) parameters_events (parameters_at edition) q middle next to k after r bare h))
 
   -- ---- the key
 
-  pub key_fails : (t : List ℕ) (i j : Bor (List ℕ)) (e : Error) → i ≡ j → IsErrorOf i.now e (key_at t) → IsErrorOf j.now e (keyed_at edition t)
+  pub key_fails : (t : List ℕ) (k : Parser × Global) (e : Error) → IsErrorOf (kept_input k) e (key_at t) → IsErrorOf (kept_input k) e (keyed_at edition t)
   unfolding keyed_at
-  key_fails t i j e same h = ErrorOf-part i j e key_at (λ key. led (keyed_entry key ∷ []) (pair_at edition key)) t _ same refl h
+  key_fails t k e h = ErrorOf-part k k e (λ _. key_at) (λ key. led (keyed_entry key ∷ []) (pair_at edition key)) t _ refl refl h
 
-  pub keyed_fails : (t q key : List ℕ) (from to : S) (j : Bor (List ℕ)) (after : Cursor) (error : ParseError E) → key_at t ≡ Ok (key, q) → IsErrorOfVisit fails from (keyed_entry key) error → Visits takes fails keyed_events j after from to (Err error) (keyed_at edition t)
+  pub keyed_fails : (t q key : List ℕ) (from to : S) (k : Parser × Global) (after : Cursor) (error : ParseError E) → key_at t ≡ Ok (key, q) → IsOfVisitor (fails from (keyed_entry key)) error → VisitsAnswer takes fails keyed_events k after from to (Err error) (keyed_at edition t)
   unfolding keyed_at
-  keyed_fails t q key from to j after (Syntax e) read h = absurd h
-  keyed_fails t q key from to j after (Visitor fault) read h = record {
-    before = [];
-    e = keyed_entry key;
-    after = visited behind_key (pair_at edition key q);
-    s = from;
-    all = visited_then key_at (pair_at edition) (λ key. keyed_entry key ∷ []) keyed_events behind_key t q key read (λ w r e. pair_events edition key q w r e);
-    taken = refl;
-    failed = h;
-  }
+  keyed_fails t q key from to k after error read h =
+      of_visitor takes fails keyed_events k after from to (fails from (keyed_entry key)) error (keyed_at edition t) h
+      (λ fault failed. record {
+        before = [];
+        e = keyed_entry key;
+        after = visited behind_key (pair_at edition key q);
+        s = from;
+        all = visited_then key_at (pair_at edition) (λ key. keyed_entry key ∷ []) keyed_events behind_key t q key read (λ w r e. pair_events edition key q w r e);
+        taken = refl;
+        failed = failed;
+      })
 
-  pub keyed_visits : (t q key : List ℕ) (from middle to : S) (i j : Bor (List ℕ)) (after : Cursor) (r : Result (Unit {0}) (ParseError E)) → i ≡ j → key_at t ≡ Ok (key, q) → takes from (keyed_entry key) middle
-      → Visits takes fails member_events i after middle to r (member_value_at edition q) → Visits takes fails keyed_events j after from to r (keyed_at edition t)
+  pub keyed_visits : (t q key : List ℕ) (from middle to : S) (k : Parser × Global) (after : Cursor) (r : Result (Unit {0}) (ParseError E)) → key_at t ≡ Ok (key, q) → takes from (keyed_entry key) middle
+      → VisitsAnswer takes fails member_events k after middle to r (member_value_at edition q) → VisitsAnswer takes fails keyed_events k after from to r (keyed_at edition t)
   unfolding keyed_at
-  keyed_visits t q key from middle to i j after r same read taken h =
-      then_visits takes fails key_at (pair_at edition) (λ key. keyed_entry key ∷ []) keyed_events behind_key t q key from middle to i j after r same read (middle, taken, refl) (λ w r e. pair_events edition key q w r e)
-      (map_visits takes fails (λ m. (key, m)) member_events behind_key (member_value_at edition) q middle to i after r (λ m. refl) h)
+  keyed_visits t q key from middle to k after r read taken h =
+      then_visits takes fails key_at (pair_at edition) (λ key. keyed_entry key ∷ []) keyed_events behind_key t q key from middle to k after r read (middle, taken, refl) (λ w r e. pair_events edition key q w r e)
+      (map_visits takes fails (λ m. (key, m)) member_events behind_key (member_value_at edition) q middle to k after r (λ m. refl) h)

@@ -11,10 +11,10 @@ pub mod BuiltDictionaries
 pub mod Whole
 pub mod Parsed
 pub mod Escapes
-pub mod Told
+pub mod Parameters
 pub mod Visited
 pub mod Delimiters
-pub mod Telling
+pub mod Visiting
 pub mod Loops
 pub mod InnerLists
 pub mod Keyed

@@ -1,28 +1,36 @@
 -- Readings one by one, each behind a delimiter: the loops of inner lists and of members.
 use Rattle.std.proofs.Common.{◌≡◌, ℕ, ◌<◌, ◌≤◌, Bool, true, false, List, [], ◌∷◌, ◌++◌, length, drop, Option, Some, None, Ok, Err, refl, sym, ap, subst, ◌∙◌}
 use Rattle.std.specs.Prelude.{MatchOption, flat_map}
-use Rattle.std.specs.Borrow.{Bor}
+use Rattle.std.specs.declared.alloc.Global.{Global}
 use Rattle.std.proofs.lemmas.List.{append-nil}
 use Rattle.std.proofs.lemmas.List.Concat.{flat_map-append}
-use Rattle.sfv_spec.specs.Events.{TreeEvent}
+use Rattle.sfv_spec.specs.Values.{Edition, RawItem}
+use Rattle.sfv_spec.specs.Grammar.{IsMemberText, IsDictionaryMemberText}
+use Rattle.sfv_spec.specs.Events.{TreeEvent, inner_item_events, entry_events, keyed_events}
 use Rattle.sfv_spec.specs.Visiting.{RunsTo}
 use Rattle.sfv_base.specs.declared.error.Error.{Error}
 use Rattle.sfv_base.specs.declared.error.ErrorKind.{ErrorKind}
 use Rattle.sfv_base.specs.declared.error.ErrorKind.TheVariants.{OutOfMemory}
 use Rattle.sfv_reading.specs.Reader.{Answer, Reader, visited, and_then, bind, give, led, many, ◌>>=◌}
+use Rattle.sfv_reading.specs.Members.{inner_item_at, next_item_at, entry_at, keyed_at}
+use Rattle.sfv_reading.specs.Fields.{next_at}
 use Rattle.sfv_reading.specs.Visits.{VisitorFails}
+use Rattle.sfv_reading.proofs.sound.Members.{Consumes-next_item, Sound-entry, Sound-keyed}
+use Rattle.sfv_reading.proofs.sound.Separated.{Consumes-next}
 use Rattle.sfv_reading.proofs.sound.Many.{Consumes, put, in_front, starts, regroup, many_is, goes_on, is_done, is_faulty}
 use Rattle.sfv_reading.proofs.visits.Parts.{visited_in_front, failed_within}
 use Rattle.sfv_reading.proofs.complete.Combinators.{bind_complete}
 use Rattle.sfv_base.specs.declared.error.ParseError.{ParseError}
 use Rattle.sfv_base.specs.declared.error.ParseError.TheVariants.{Syntax, Visitor}
+use Rattle.sfv.specs.declared.parser.Parser.{Parser}
 use Rattle.sfv.specs.declared.parser.cursor.Cursor.{Cursor}
-use Rattle.sfv.specs.Cursor.{located, IsErrorOf}
-use Rattle.sfv.specs.Visits.{Visits}
-use Rattle.sfv.proofs.Errors.{ErrorOf-same, ErrorOf-part}
-use Rattle.sfv.proofs.Told.{runs_on}
-use Rattle.sfv.proofs.Delimiters.{one_if, first_of}
-use Rattle.sfv.proofs.Telling.{first_failed}
+use Rattle.sfv.specs.Cursor.{kept, kept_input, edition, input, rest, located, IsFaultOf, IsErrorOf}
+use Rattle.sfv.specs.Members.{item_delimiter_at, member_delimiter_at, MemberValue, member_parts, one_member_at}
+use Rattle.sfv.specs.Visits.{VisitsAnswer, Visits}
+use Rattle.sfv.proofs.Errors.{ErrorOf-fault, ErrorOf-same, ErrorOf-part}
+use Rattle.sfv.proofs.Parameters.{runs_on}
+use Rattle.sfv.proofs.Delimiters.{one_if, first_of, next_item_is, next_member_is}
+use Rattle.sfv.proofs.Visiting.{kept_visits, first_failed}
 
 -- the events of what was read
 abbrev pub all_events : {A : Type 0} → (A → List TreeEvent) → List A → List TreeEvent
@@ -38,119 +46,196 @@ unfolding give
 put_visited parts v (Ok x) = refl
 put_visited parts v (Err f) = refl
 
+-- A loop over readings: the events of what is read, how one is read, what stands between two, and how the next is
+-- read behind that.
+pub record Loop (A : Type 0) : Type 0 where
+  pub parts : A → List TreeEvent
+  pub one : Edition → Reader A
+  pub delimiter : Reader Bool
+  pub next : Edition → Reader (Option A)
+  pub consumes : (edition : Edition) → Consumes (next edition)
+  pub is_next : (edition : Edition) (t : List ℕ) → next edition t ≡ (delimiter >>= one_if (one edition)) t
+
 -- what was read so far of a whole, and what the visitor has taken
-pub record VisitedSoFar {A S : Type 0} (takes : S → TreeEvent → S → Type 0) (parts : A → List TreeEvent) (next : Reader (Option A)) (total : Answer (List A)) (now : List ℕ) (from to : S) : Type 0 where
+pub record SoFar {A S : Type 0} (takes : S → TreeEvent → S → Type 0) (l : Loop A) (edition : Edition) (total : Answer (List A)) (now : List ℕ) (from to : S) : Type 0 where
   pub front : List A
-  pub so_far : in_front parts front (many parts next now) ≡ total
-  pub taken : RunsTo takes from (all_events parts front) to
+  pub so_far : in_front l.parts front (many l.parts (l.next edition) now) ≡ total
+  pub taken : RunsTo takes from (all_events l.parts front) to
 
-module _ {A : Type 0} (parts : A → List TreeEvent) (one : Reader A) (delimiter : Reader Bool) (next : Reader (Option A)) (c : Consumes next) (is_next : (t : List ℕ) → next t ≡ (delimiter >>= one_if one) t) where
-  next_none : (t r : List ℕ) → delimiter t ≡ Ok (false, r) → next t ≡ Ok (None, r)
+module _ {A : Type 0} (l : Loop A) (edition : Edition) where
+  next_none : (t r : List ℕ) → l.delimiter t ≡ Ok (false, r) → (l.next edition) t ≡ Ok (None, r)
   unfolding give
-  next_none t r e = is_next t ∙ bind_complete delimiter (one_if one) t r false e
+  next_none t r e = l.is_next edition t ∙ bind_complete l.delimiter (one_if (l.one edition)) t r false e
 
-  next_one : (t r : List ℕ) → delimiter t ≡ Ok (true, r) → next t ≡ (one >>= λ v. give (Some v)) r
-  next_one t r e = is_next t ∙ bind_complete delimiter (one_if one) t r true e
+  next_one : (t r : List ℕ) → l.delimiter t ≡ Ok (true, r) → (l.next edition) t ≡ ((l.one edition) >>= λ v. give (Some v)) r
+  next_one t r e = l.is_next edition t ∙ bind_complete l.delimiter (one_if (l.one edition)) t r true e
 
-  next_some : (t r q : List ℕ) (v : A) → delimiter t ≡ Ok (true, r) → one r ≡ Ok (v, q) → next t ≡ Ok (Some v, q)
+  next_some : (t r q : List ℕ) (v : A) → l.delimiter t ≡ Ok (true, r) → (l.one edition) r ≡ Ok (v, q) → (l.next edition) t ≡ Ok (Some v, q)
   unfolding give
-  next_some t r q v e k = next_one t r e ∙ bind_complete one (λ v. give (Some v)) r q v k
+  next_some t r q v e k = next_one t r e ∙ bind_complete (l.one edition) (λ v. give (Some v)) r q v k
 
-  pub shorter : (t r q : List ℕ) (v : A) → delimiter t ≡ Ok (true, r) → one r ≡ Ok (v, q) → length q < length t
-  shorter t r q v e k = c.consumes t q v (next_some t r q v e k)
+  shorter_at : (t r q : List ℕ) (v : A) → l.delimiter t ≡ Ok (true, r) → (l.one edition) r ≡ Ok (v, q) → length q < length t
+  shorter_at t r q v e k = (l.consumes edition).consumes t q v (next_some t r q v e k)
 
   -- a fault of one reading is the fault of the whole
-  faulty : (front : List A) (t : List ℕ) (total : Answer (List A)) (k : ErrorKind) (r : List ℕ) → in_front parts front (many parts next t) ≡ total → located (next t) ≡ Err (k, r) → located total ≡ Err (k, r)
-  faulty front t total k r so_far = on (next t) refl
+  faulty : (front : List A) (t : List ℕ) (total : Answer (List A)) (k : ErrorKind) (r : List ℕ) → in_front l.parts front (many l.parts (l.next edition) t) ≡ total → located ((l.next edition) t) ≡ Err (k, r) → located total ≡ Err (k, r)
+  faulty front t total k r so_far = on ((l.next edition) t) refl
     where
-      on : (a : Answer (Option A)) → next t ≡ a → located a ≡ Err (k, r) → located total ≡ Err (k, r)
+      on : (a : Answer (Option A)) → (l.next edition) t ≡ a → located a ≡ Err (k, r) → located total ≡ Err (k, r)
       on (Ok x) e q = absurd cc
-      on (Err f) e q = ap located (is_faulty parts next c front t f total e so_far) ∙ ap (λ (p : ErrorKind × List ℕ). Err p) cc
+      on (Err f) e q = ap located (is_faulty l.parts (l.next edition) (l.consumes edition) front t f total e so_far) ∙ ap (λ (p : ErrorKind × List ℕ). Err p) cc
 
-  error_of_total : {S : Type 0} (takes : S → TreeEvent → S → Type 0) (t : List ℕ) (total : Answer (List A)) (from to : S) (i j : Bor (List ℕ)) (e : Error) → i ≡ j → VisitedSoFar takes parts next total t from to → IsErrorOf i.now e (next t) → IsErrorOf j.now e total
-  error_of_total takes t total from to i j e same h error = subst (λ (i : Bor (List ℕ)). IsErrorOf i.now e total) same (on e.index error)
+  error_of_total : {S : Type 0} (takes : S → TreeEvent → S → Type 0) (t : List ℕ) (total : Answer (List A)) (from to : S) (i : Parser × Global) (e : Error) → SoFar takes l edition total t from to → IsErrorOf (kept_input i) e ((l.next edition) t) → IsErrorOf (kept_input i) e total
+  error_of_total takes t total from to i e h error = on e.index error
     where
-      on : (o : Option ℕ) → MatchOption o (e.kind ≡ OutOfMemory) (λ index. (located (next t) ≡ Err (e.kind, drop index i.now)) × (index ≤ length i.now)) → MatchOption o (e.kind ≡ OutOfMemory) (λ index. (located total ≡ Err (e.kind, drop index i.now)) × (index ≤ length i.now))
+      on : (o : Option ℕ) → MatchOption o (e.kind ≡ OutOfMemory) (λ index. (located ((l.next edition) t) ≡ Err (e.kind, drop index (kept_input i))) × (index ≤ length (kept_input i))) → MatchOption o (e.kind ≡ OutOfMemory) (λ index. (located total ≡ Err (e.kind, drop index (kept_input i))) × (index ≤ length (kept_input i)))
       on None q = q
       on (Some n) q = (faulty h.front t total _ _ h.so_far q.0, q.1)
 
   module _ {S E : Type 0} (takes : S → TreeEvent → S → Type 0) (fails : S → TreeEvent → E → Type 0) where
     -- behind the first
-    pub begun : (t q : List ℕ) (v : A) (from to : S) → one t ≡ Ok (v, q) → RunsTo takes from (parts v) to → VisitedSoFar takes parts next (first_of parts one next t) q from to
+    begun_at : (t q : List ℕ) (v : A) (from to : S) → (l.one edition) t ≡ Ok (v, q) → RunsTo takes from (l.parts v) to → SoFar takes l edition (first_of l.parts (l.one edition) (l.next edition) t) q from to
     unfolding first_of bind led
-    begun t q v from to e run = record {
+    begun_at t q v from to e run = record {
       front = v ∷ [];
-      so_far = sym (regroup parts [] v (many parts next q)) ∙ starts parts (put parts v (many parts next q)) ∙ sym (ap (λ a. and_then a (λ v. led (parts v) (many parts next >>= λ vs. give (v ∷ vs)))) e);
-      taken = subst (λ es. RunsTo takes from es to) (sym (append-nil (parts v))) run;
+      so_far = sym (regroup l.parts [] v (many l.parts (l.next edition) q)) ∙ starts l.parts (put l.parts v (many l.parts (l.next edition) q)) ∙ sym (ap (λ a. and_then a (λ v. led (l.parts v) (many l.parts (l.next edition) >>= λ vs. give (v ∷ vs)))) e);
+      taken = subst (λ es. RunsTo takes from es to) (sym (append-nil (l.parts v))) run;
     }
 
-    first_error : (t : List ℕ) (i j : Bor (List ℕ)) (e : Error) → i ≡ j → IsErrorOf i.now e (one t) → IsErrorOf j.now e (first_of parts one next t)
+    first_error : (t : List ℕ) (i : Parser × Global) (e : Error) → IsErrorOf (kept_input i) e ((l.one edition) t) → IsErrorOf (kept_input i) e (first_of l.parts (l.one edition) (l.next edition) t)
     unfolding first_of
-    first_error t i j e same h = ErrorOf-part i j e one (λ v. led (parts v) (many parts next >>= λ vs. give (v ∷ vs))) t _ same refl h
+    first_error t i e h = ErrorOf-part i i e (λ _. (l.one edition)) (λ v. led (l.parts v) (many l.parts (l.next edition) >>= λ vs. give (v ∷ vs))) t _ refl refl h
 
     -- what the first of several hands out stands in front
-    first_parts : (t : List ℕ) (v : A) (q : List ℕ) (w : List A) (r : List ℕ) → one t ≡ Ok (v, q) → (many parts next >>= λ vs. give (v ∷ vs)) q ≡ Ok (w, r) → all_events parts w ≡ parts v ++ all_events parts (behind w)
+    first_parts : (t : List ℕ) (v : A) (q : List ℕ) (w : List A) (r : List ℕ) → (l.one edition) t ≡ Ok (v, q) → (many l.parts (l.next edition) >>= λ vs. give (v ∷ vs)) q ≡ Ok (w, r) → all_events l.parts w ≡ l.parts v ++ all_events l.parts (behind w)
     unfolding bind give
-    first_parts t v q w r e = on (many parts next q)
+    first_parts t v q w r e = on (many l.parts (l.next edition) q)
       where
-        on : (a : Answer (List A)) → and_then a (λ vs. give (v ∷ vs)) ≡ Ok (w, r) → all_events parts w ≡ parts v ++ all_events parts (behind w)
+        on : (a : Answer (List A)) → and_then a (λ vs. give (v ∷ vs)) ≡ Ok (w, r) → all_events l.parts w ≡ l.parts v ++ all_events l.parts (behind w)
         on (Ok x) h =
             let here : List A × List ℕ = (v ∷ x.0, x.1) in
             let there : List A × List ℕ = (w, r) in
             let same : here ≡ there = cc in
-            ap (λ (p : List A × List ℕ). all_events parts p.0) (sym same) ∙ ap (λ (p : List A × List ℕ). parts v ++ all_events parts (behind p.0)) same
+            ap (λ (p : List A × List ℕ). all_events l.parts p.0) (sym same) ∙ ap (λ (p : List A × List ℕ). l.parts v ++ all_events l.parts (behind p.0)) same
         on (Err f) h = absurd cc
 
-    first_failure : (t : List ℕ) (from : S) (fault : E) → VisitorFails takes fails parts (one t) from fault → VisitorFails takes fails (all_events parts) (first_of parts one next t) from fault
+    first_failure : (t : List ℕ) (from : S) (fault : E) → VisitorFails takes fails l.parts ((l.one edition) t) from fault → VisitorFails takes fails (all_events l.parts) (first_of l.parts (l.one edition) (l.next edition) t) from fault
     unfolding first_of
-    first_failure t from fault h = first_failed takes fails one (λ v. many parts next >>= λ vs. give (v ∷ vs)) parts (all_events parts) (λ w. all_events parts (behind w)) t from fault (first_parts t) h
+    first_failure t from fault h = first_failed takes fails (l.one edition) (λ v. many l.parts (l.next edition) >>= λ vs. give (v ∷ vs)) l.parts (all_events l.parts) (λ w. all_events l.parts (behind w)) t from fault (first_parts t) h
 
     -- the first is not read whole
-    pub first_fails : (t : List ℕ) (total : Answer (List A)) (from to : S) (i j : Bor (List ℕ)) (after : Cursor) (error : ParseError E) → i ≡ j → total ≡ first_of parts one next t → Visits takes fails parts i after from to (Err error) (one t) → Visits takes fails (all_events parts) j after from to (Err error) total
-    first_fails t total from to i j after (Syntax e) same whole h = ErrorOf-same j j e total (first_of parts one next t) refl whole (first_error t i j e same h)
-    first_fails t total from to i j after (Visitor fault) same whole h = subst (λ total. VisitorFails takes fails (all_events parts) total from fault) (sym whole) (first_failure t from fault h)
+    first_fails_at : (t : List ℕ) (total : Answer (List A)) (from to : S) (i : Parser × Global) (after : Cursor) (error : ParseError E) → total ≡ first_of l.parts (l.one edition) (l.next edition) t → VisitsAnswer takes fails l.parts i after from to (Err error) ((l.one edition) t) → VisitsAnswer takes fails (all_events l.parts) i after from to (Err error) total
+    first_fails_at t total from to i after (Syntax e) whole h = ErrorOf-same i i e (λ _. first_of l.parts (l.one edition) (l.next edition)) t total refl whole (first_error t i e h)
+    first_fails_at t total from to i after (Visitor fault) whole h = subst (λ total. VisitorFails takes fails (all_events l.parts) total from fault) (sym whole) (first_failure t from fault h)
 
     -- behind one more
-    pub more : (t r q : List ℕ) (v : A) (total : Answer (List A)) (from middle to : S) → VisitedSoFar takes parts next total t from middle → delimiter t ≡ Ok (true, r) → one r ≡ Ok (v, q) → RunsTo takes middle (parts v) to → VisitedSoFar takes parts next total q from to
-    more t r q v total from middle to h e k run = record {
+    more_at : (t r q : List ℕ) (v : A) (total : Answer (List A)) (from middle to : S) → SoFar takes l edition total t from middle → l.delimiter t ≡ Ok (true, r) → (l.one edition) r ≡ Ok (v, q) → RunsTo takes middle (l.parts v) to → SoFar takes l edition total q from to
+    more_at t r q v total from middle to h e k run = record {
       front = h.front ++ v ∷ [];
-      so_far = goes_on parts next c h.front v t q total (next_some t r q v e k) h.so_far;
-      taken = subst (λ es. RunsTo takes from es to) (sym (flat_map-append parts h.front (v ∷ []) ∙ ap (λ (es : List TreeEvent). all_events parts h.front ++ es) (append-nil (parts v)))) (runs_on takes (all_events parts h.front) (parts v) from middle to h.taken run);
+      so_far = goes_on l.parts (l.next edition) (l.consumes edition) h.front v t q total (next_some t r q v e k) h.so_far;
+      taken = subst (λ es. RunsTo takes from es to) (sym (flat_map-append l.parts h.front (v ∷ []) ∙ ap (λ (es : List TreeEvent). all_events l.parts h.front ++ es) (append-nil (l.parts v)))) (runs_on takes (all_events l.parts h.front) (l.parts v) from middle to h.taken run);
     }
 
-    pub ended : (t r : List ℕ) (total : Answer (List A)) (from to : S) → (h : VisitedSoFar takes parts next total t from to) → delimiter t ≡ Ok (false, r) → total ≡ Ok (h.front, r)
-    ended t r total from to h e = is_done parts next c h.front t r total (next_none t r e) h.so_far
+    ended_at : (t r : List ℕ) (total : Answer (List A)) (from to : S) → (h : SoFar takes l edition total t from to) → l.delimiter t ≡ Ok (false, r) → total ≡ Ok (h.front, r)
+    ended_at t r total from to h e = is_done l.parts (l.next edition) (l.consumes edition) h.front t r total (next_none t r e) h.so_far
 
-    pub delimiter_error : (t : List ℕ) (total : Answer (List A)) (from to : S) (i j : Bor (List ℕ)) (e : Error) → i ≡ j → VisitedSoFar takes parts next total t from to → IsErrorOf i.now e (delimiter t) → IsErrorOf j.now e total
-    delimiter_error t total from to i j e same h error = error_of_total takes t total from to i j e same h (ErrorOf-part i i e delimiter (one_if one) t (next t) refl (is_next t) error)
+    delimiter_error : (t : List ℕ) (total : Answer (List A)) (from to : S) (i : Parser × Global) (e : Error) → SoFar takes l edition total t from to → IsErrorOf (kept_input i) e (l.delimiter t) → IsErrorOf (kept_input i) e total
+    delimiter_error t total from to i e h error = error_of_total takes t total from to i e h (ErrorOf-part i i e (λ _. l.delimiter) (one_if (l.one edition)) t ((l.next edition) t) refl (l.is_next edition t) error)
 
-    one_error : (t r : List ℕ) (total : Answer (List A)) (from to : S) (i j : Bor (List ℕ)) (e : Error) → i ≡ j → VisitedSoFar takes parts next total t from to → delimiter t ≡ Ok (true, r) → IsErrorOf i.now e (one r) → IsErrorOf j.now e total
-    one_error t r total from to i j e same h k error = error_of_total takes t total from to i j e same h (ErrorOf-part i i e one (λ v. give (Some v)) r (next t) refl (next_one t r k) error)
+    one_error : (t r : List ℕ) (total : Answer (List A)) (from to : S) (i : Parser × Global) (e : Error) → SoFar takes l edition total t from to → l.delimiter t ≡ Ok (true, r) → IsErrorOf (kept_input i) e ((l.one edition) r) → IsErrorOf (kept_input i) e total
+    one_error t r total from to i e h k error = error_of_total takes t total from to i e h (ErrorOf-part i i e (λ _. (l.one edition)) (λ v. give (Some v)) r ((l.next edition) t) refl (next_one t r k) error)
 
     -- what is visited behind a delimiter
-    behind_visited : (t r : List ℕ) → delimiter t ≡ Ok (true, r) → (rest : List TreeEvent) × (visited (all_events parts) (many parts next t) ≡ visited parts (one r) ++ rest)
+    behind_visited : (t r : List ℕ) → l.delimiter t ≡ Ok (true, r) → (rest : List TreeEvent) × (visited (all_events l.parts) (many l.parts (l.next edition) t) ≡ visited l.parts ((l.one edition) r) ++ rest)
     unfolding bind led give
-    behind_visited t r e = on (one r) refl
+    behind_visited t r e = on ((l.one edition) r) refl
       where
-        on : (a : Answer A) → one r ≡ a → (rest : List TreeEvent) × (visited (all_events parts) (many parts next t) ≡ visited parts a ++ rest)
+        on : (a : Answer A) → (l.one edition) r ≡ a → (rest : List TreeEvent) × (visited (all_events l.parts) (many l.parts (l.next edition) t) ≡ visited l.parts a ++ rest)
         on (Ok x) k =
             let some = next_some t r x.1 x.0 e k in
-            let put_first : many parts next t ≡ put parts x.0 (many parts next x.1) = many_is parts next c t ∙ rw some refl in
-            (visited (all_events parts) (many parts next x.1), ap (visited (all_events parts)) put_first ∙ put_visited parts x.0 (many parts next x.1))
+            let put_first : many l.parts (l.next edition) t ≡ put l.parts x.0 (many l.parts (l.next edition) x.1) = many_is l.parts (l.next edition) (l.consumes edition) t ∙ rw some refl in
+            (visited (all_events l.parts) (many l.parts (l.next edition) x.1), ap (visited (all_events l.parts)) put_first ∙ put_visited l.parts x.0 (many l.parts (l.next edition) x.1))
         on (Err f) k =
-            let fault : next t ≡ Err f = next_one t r e ∙ ap (λ a. and_then a (λ v. give (Some v))) k in
-            let whole : many parts next t ≡ Err f = many_is parts next c t ∙ rw fault refl in
-            ([], ap (visited (all_events parts)) whole ∙ sym (append-nil f.events))
+            let fault : (l.next edition) t ≡ Err f = next_one t r e ∙ ap (λ a. and_then a (λ v. give (Some v))) k in
+            let whole : many l.parts (l.next edition) t ≡ Err f = many_is l.parts (l.next edition) (l.consumes edition) t ∙ rw fault refl in
+            ([], ap (visited (all_events l.parts)) whole ∙ sym (append-nil f.events))
 
-    one_failure : (t r : List ℕ) (total : Answer (List A)) (from middle : S) (fault : E) → VisitedSoFar takes parts next total t from middle → delimiter t ≡ Ok (true, r) → VisitorFails takes fails parts (one r) middle fault → VisitorFails takes fails (all_events parts) total from fault
+    one_failure : (t r : List ℕ) (total : Answer (List A)) (from middle : S) (fault : E) → SoFar takes l edition total t from middle → l.delimiter t ≡ Ok (true, r) → VisitorFails takes fails l.parts ((l.one edition) r) middle fault → VisitorFails takes fails (all_events l.parts) total from fault
     one_failure t r total from middle fault h e k =
         let w = behind_visited t r e in
-        failed_within takes fails parts (one r) (all_events parts) total (all_events parts h.front) w.0
-        (ap (visited (all_events parts)) (sym h.so_far) ∙ visited_in_front parts h.front (many parts next t) ∙ ap (λ (es : List TreeEvent). all_events parts h.front ++ es) w.1)
-        from middle fault h.taken (λ es to run. runs_on takes (all_events parts h.front) es from middle to h.taken run) k
+        failed_within takes fails l.parts ((l.one edition) r) (all_events l.parts) total (all_events l.parts h.front) w.0
+        (ap (visited (all_events l.parts)) (sym h.so_far) ∙ visited_in_front l.parts h.front (many l.parts (l.next edition) t) ∙ ap (λ (es : List TreeEvent). all_events l.parts h.front ++ es) w.1)
+        from middle fault h.taken (λ es to run. runs_on takes (all_events l.parts h.front) es from middle to h.taken run) k
 
     -- one more is not read whole
-    pub one_fails : (t r : List ℕ) (total : Answer (List A)) (from middle to : S) (i j : Bor (List ℕ)) (after : Cursor) (error : ParseError E) → i ≡ j → VisitedSoFar takes parts next total t from middle → delimiter t ≡ Ok (true, r)
-        → Visits takes fails parts i after middle to (Err error) (one r) → Visits takes fails (all_events parts) j after from to (Err error) total
-    one_fails t r total from middle to i j after (Syntax e) same h k error = one_error t r total from middle i j e same h k error
-    one_fails t r total from middle to i j after (Visitor fault) same h k failed = one_failure t r total from middle fault h k failed
+    one_fails_at : (t r : List ℕ) (total : Answer (List A)) (from middle to : S) (i : Parser × Global) (after : Cursor) (error : ParseError E) → SoFar takes l edition total t from middle → l.delimiter t ≡ Ok (true, r)
+        → VisitsAnswer takes fails l.parts i after middle to (Err error) ((l.one edition) r) → VisitsAnswer takes fails (all_events l.parts) i after from to (Err error) total
+    one_fails_at t r total from middle to i after (Syntax e) h k error = one_error t r total from middle i e h k error
+    one_fails_at t r total from middle to i after (Visitor fault) h k failed = one_failure t r total from middle fault h k failed
+
+-- the same of a cursor, which has kept its parser
+pub record VisitedSoFar {A S : Type 0} (takes : S → TreeEvent → S → Type 0) (l : Loop A) (start : Cursor) (total : Answer (List A)) (now : Cursor) (from to : S) : Type 0 where
+  pub read : SoFar takes l (edition start) total (rest now) from to
+  pub same : kept now ≡ kept start
+
+-- one more is wanted, or none
+abbrev Wants : {A : Type 0} → Loop A → Bool → Cursor → Cursor → Type 0
+Wants l b now middle = (l.delimiter (rest now) ≡ Ok (b, rest middle)) × (kept middle ≡ kept now)
+
+pub shorter : {A S E : Type 0} (takes : S → TreeEvent → S → Type 0) (fails : S → TreeEvent → E → Type 0) (l : Loop A) (now middle after : Cursor) (at to : S) → Wants l true now middle → Visits takes fails l.parts middle after at to (Ok tt) l.one → length (rest after) < length (rest now)
+shorter takes fails l now middle after at to wanted one = shorter_at l (edition middle) (rest now) (rest middle) (rest after) one.0 wanted.0 one.1
+
+module _ {A S E : Type 0} (takes : S → TreeEvent → S → Type 0) (fails : S → TreeEvent → E → Type 0) (l : Loop A) (start : Cursor) (total : Answer (List A)) where
+  -- what the edition at the start reads first
+  abbrev IsFirst : Cursor → Type 0
+  IsFirst middle = (total ≡ first_of l.parts (l.one (edition start)) (l.next (edition start)) (rest middle)) × (kept middle ≡ kept start)
+
+  -- behind the first
+  pub begun : (middle after : Cursor) (from to : S) → IsFirst middle → Visits takes fails l.parts middle after from to (Ok tt) l.one → VisitedSoFar takes l start total after from to
+  begun middle after from to first h =
+      let read = kept_visits takes fails l.parts l.one middle after from to (kept start) (Ok tt) first.1 h in
+      record { read = subst (λ total. SoFar takes l (edition start) total (rest after) from to) (sym first.0) (begun_at l (edition start) takes fails (rest middle) (rest after) read.0 from to read.1 read.2); same = read.3 }
+
+  -- the first is not read whole
+  pub first_fails : (middle after : Cursor) (from to : S) (error : ParseError E) → IsFirst middle → Visits takes fails l.parts middle after from to (Err error) l.one → VisitsAnswer takes fails (all_events l.parts) (kept start) after from to (Err error) total
+  first_fails middle after from to error first h =
+      first_fails_at l (edition start) takes fails (rest middle) total from to (kept start) after error first.0 (kept_visits takes fails l.parts l.one middle after from to (kept start) (Err error) first.1 h)
+
+  -- what stands between two is faulty
+  pub delimiter_fails : (now after : Cursor) (from to last : S) (e : Error) → VisitedSoFar takes l start total now from to → IsFaultOf (input now) e (l.delimiter (rest now)) → VisitsAnswer takes fails (all_events l.parts) (kept start) after from last (Err (Syntax e)) total
+  delimiter_fails now after from to last e h fault =
+      delimiter_error l (edition start) takes fails (rest now) total from to (kept start) e h.read (subst (λ (k : Parser × Global). IsErrorOf (kept_input k) e (l.delimiter (rest now))) h.same (ErrorOf-fault (input now) e (l.delimiter (rest now)) fault))
+
+  -- behind one more
+  pub more : (now middle after : Cursor) (from at to : S) → VisitedSoFar takes l start total now from at → Wants l true now middle → Visits takes fails l.parts middle after at to (Ok tt) l.one → VisitedSoFar takes l start total after from to
+  more now middle after from at to h wanted one =
+      let read = kept_visits takes fails l.parts l.one middle after at to (kept start) (Ok tt) (wanted.1 ∙ h.same) one in
+      record { read = more_at l (edition start) takes fails (rest now) (rest middle) (rest after) read.0 total from at to h.read wanted.0 read.1 read.2; same = read.3 }
+
+  -- one more is not read whole
+  pub one_fails : (now middle after : Cursor) (from at to : S) (error : ParseError E) → VisitedSoFar takes l start total now from at → Wants l true now middle → Visits takes fails l.parts middle after at to (Err error) l.one → VisitsAnswer takes fails (all_events l.parts) (kept start) after from to (Err error) total
+  one_fails now middle after from at to error h wanted one =
+      one_fails_at l (edition start) takes fails (rest now) (rest middle) total from at to (kept start) after error h.read wanted.0 (kept_visits takes fails l.parts l.one middle after at to (kept start) (Err error) (wanted.1 ∙ h.same) one)
+
+  -- none is wanted
+  pub ended : (now after : Cursor) (from to : S) → VisitedSoFar takes l start total now from to → Wants l false now after → VisitsAnswer takes fails (all_events l.parts) (kept start) after from to (Ok tt) total
+  ended now after from to h wanted = (h.read.front, ended_at l (edition start) takes fails (rest now) (rest after) total from to h.read wanted.0, h.read.taken, wanted.1 ∙ h.same)
+
+-- ---- the items of an inner list, and the members of lists and dictionaries
+
+abbrev pub items_loop : Loop RawItem
+items_loop = record { parts = inner_item_events; one = inner_item_at; delimiter = item_delimiter_at; next = next_item_at; consumes = Consumes-next_item; is_next = next_item_is }
+
+pub consumes_member : (keyed : Bool) (edition : Edition) → Consumes (next_at (one_member_at keyed edition))
+consumes_member true edition = Consumes-next (IsDictionaryMemberText edition) keyed_events (keyed_at edition) (Sound-keyed edition)
+consumes_member false edition = Consumes-next (IsMemberText edition) entry_events (entry_at edition) (Sound-entry edition)
+
+abbrev pub members_loop : (keyed : Bool) → Loop (MemberValue keyed)
+members_loop keyed = record {
+  parts = member_parts keyed;
+  one = one_member_at keyed;
+  delimiter = member_delimiter_at;
+  next = λ edition. next_at (one_member_at keyed edition);
+  consumes = consumes_member keyed;
+  is_next = λ edition. next_member_is (one_member_at keyed edition);
+}

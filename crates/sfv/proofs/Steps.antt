@@ -7,7 +7,7 @@ use Rattle.sfv_spec.specs.Texts.{RunOf}
 use Rattle.sfv_spec.specs.Classes.{is_digit, is_space, is_key_start, is_key_inner, is_key, is_token_start, is_token_inner, is_token}
 use Rattle.sfv_spec.specs.Values.{Edition, rfc8941, rfc9651, RawParameters, RawItem, BareValue, integer, decimal, token, boolean, date, display_string, string, byte_sequence}
 use Rattle.sfv_base.specs.declared.error.Error.{Error}
-use Rattle.std.specs.Borrow.{Bor}
+use Rattle.std.specs.declared.alloc.Global.{Global}
 use Rattle.sfv_base.specs.declared.error.ErrorKind.{ErrorKind}
 use Rattle.sfv_spec.specs.Numbers.{place_value, signed}
 use Rattle.sfv_base.specs.declared.error.ErrorKind.TheVariants.{ExpectedQuote, Rfc8941DisplayString, ExpectedBoolean, Rfc8941Date, NonIntegerDate, ExpectedStartOfKey, ExpectedStartOfBareItem, ExpectedDigit, TooManyDigits, TooManyDigitsBeforeDecimalPoint, TooManyDigitsAfterDecimalPoint, TrailingDecimalPoint}
@@ -20,7 +20,8 @@ use Rattle.sfv_reading.specs.Items.{key_at, value_at, parameter_at, parameters_a
 use Rattle.sfv_spec.specs.Events.{TreeEvent, bare_item}
 use Rattle.sfv_reading.proofs.complete.Combinators.{branch_past, branch_take, ahead_past, ahead_take, bind_complete, led_complete}
 use Rattle.sfv.proofs.Errors.{fault_bind}
-use Rattle.sfv.specs.Cursor.{located, IsFaultOf, NextIs, TakesIf, Skips}
+use Rattle.sfv.specs.declared.parser.Parser.{Parser}
+use Rattle.sfv.specs.Cursor.{kept_input, located, IsFaultOf, NextIs, TakesIf, Skips}
 
 pub ahead_true : {A : Type 0} (class : ℕ → Bool) (taken other : Reader A) (t : List ℕ) → NextIs class true t → ahead class taken other t ≡ taken t
 ahead_true class taken other t m = ap (ahead class taken other) m.2 ∙ ahead_take class taken other m.0 m.1 m.3 ∙ ap taken (sym m.2)
@@ -206,10 +207,11 @@ start_fault k t s (Err f) kind h = ap (λ (p : ErrorKind × List ℕ). Err p) cc
 date_faulty : (t r : List ℕ) (kind : ErrorKind) (s : List ℕ) → NextIs (byte 0x40) true t → Skips t r → located (number_at true r) ≡ Err (kind, s) → located (date_at rfc9651 t) ≡ Err (kind, s)
 date_faulty t r kind s m k n = ap located (at_sign t r m k) ∙ start_fault t t s _ kind (fault_bind _ _ r kind s n)
 
-pub date_fault : (t r : List ℕ) (i j : Bor (List ℕ)) (e : Error) → NextIs (byte 0x40) true t → Skips t r → i ≡ j → IsFaultOf i.now e (number_at true r) → IsFaultOf j.now e (date_at rfc9651 t)
-date_fault t r i j e m k same h = subst (λ (i : Bor (List ℕ)). IsFaultOf i.now e (date_at rfc9651 t)) same (on e.index h)
+pub date_fault : (t r : List ℕ) (i j : Parser × Global) (e : Error) → NextIs (byte 0x40) true t → Skips t r → i ≡ j → IsFaultOf (kept_input i) e (number_at true r) → IsFaultOf (kept_input j) e (date_at rfc9651 t)
+date_fault t r i j e m k same h = subst (λ (i : Parser × Global). IsFaultOf (kept_input i) e (date_at rfc9651 t)) same (on e.index h)
   where
-    on : (o : Option ℕ) → MatchOption o ⊥ (λ index. (located (number_at true r) ≡ Err (e.kind, drop index i.now)) × (index ≤ length i.now)) → MatchOption o ⊥ (λ index. (located (date_at rfc9651 t) ≡ Err (e.kind, drop index i.now)) × (index ≤ length i.now))
+    on : (o : Option ℕ) → MatchOption o ⊥ (λ index. (located (number_at true r) ≡ Err (e.kind, drop index (kept_input i))) × (index ≤ length (kept_input i)))
+        → MatchOption o ⊥ (λ index. (located (date_at rfc9651 t) ≡ Err (e.kind, drop index (kept_input i))) × (index ≤ length (kept_input i)))
     on None h = h
     on (Some i) h = (date_faulty t r _ _ m k h.0, h.1)
 

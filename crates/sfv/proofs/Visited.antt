@@ -1,7 +1,7 @@
--- What a visitor is told of a whole field.
+-- What is visited of a whole field.
 use Rattle.std.proofs.Common.{◌≡◌, ℕ, ◌≤◌, List, [], ◌∷◌, ◌++◌, length, drop, Option, Some, None, Result, Ok, Err, refl, sym, ap, subst, ◌∙◌, inl, inr}
-use Rattle.std.specs.Prelude.{⊤, MatchOption, IfOk, IfErr, ◌⊎◌}
-use Rattle.std.specs.Borrow.{Bor}
+use Rattle.std.specs.Prelude.{⊤, Bool, true, false, MatchOption, IfOk, IfErr, flat_map, ◌⊎◌}
+use Rattle.std.specs.declared.alloc.Global.{Global}
 use Rattle.sfv_spec.specs.Classes.{is_space}
 use Rattle.sfv_spec.specs.Values.{Edition, FieldKind, item_field, list_field, dictionary_field, RawField, RawItem, IsFieldValue}
 use Rattle.sfv_spec.specs.Grammar.{IsFieldText}
@@ -16,7 +16,7 @@ use Rattle.sfv_base.specs.declared.error.ParseError.{ParseError}
 use Rattle.sfv_base.specs.declared.error.ParseError.TheVariants.{Syntax, Visitor}
 use Rattle.sfv_reading.specs.Reader.{Answer, Fault, and_then, bind, give, span, visited, ◌>>=◌}
 use Rattle.sfv_reading.specs.Items.{item_at}
-use Rattle.sfv_reading.specs.Fields.{whole_field_at, ending, read_field}
+use Rattle.sfv_reading.specs.Fields.{members_at, whole_field_at, ending, read_field}
 use Rattle.sfv_reading.specs.Judgements.{Reached}
 use Rattle.sfv_reading.specs.Visits.{VisitorFails}
 use Rattle.sfv_reading.proofs.complete.Combinators.{bind_complete}
@@ -24,10 +24,12 @@ use Rattle.sfv_reading.proofs.sound.Combinators.{Somewhere}
 use Rattle.sfv_reading.proofs.sound.Fields.{FieldGoes, Sound-field}
 use Rattle.sfv_reading.proofs.Theorems.{read_is_accepted}
 use Rattle.sfv_reading.proofs.visits.Fields.{visited_begins, failed_begins}
+use Rattle.sfv.specs.declared.parser.Parser.{Parser}
 use Rattle.sfv.specs.declared.parser.cursor.Cursor.{Cursor}
-use Rattle.sfv.specs.Cursor.{rest, located, IsErrorOf}
+use Rattle.sfv.specs.Cursor.{kept_input, located, IsErrorOf}
 use Rattle.sfv.specs.Fields.{located_whole}
-use Rattle.sfv.specs.Visits.{Visits, VisitsField, IsFinishedFirst, IsAskedThere}
+use Rattle.sfv.specs.Members.{MemberValue, member_parts, one_member_at, field_of}
+use Rattle.sfv.specs.Visits.{VisitsAnswer, IsOfVisitor, VisitsField, IsFinishedFirst, IsAskedThere}
 use Rattle.sfv.specs.Parsers.{IsAnswerOf, IsSyntaxOf, IsVisitorErrorOf}
 use Rattle.sfv.proofs.Whole.{spaced, field_error, ending_located}
 use Rattle.sfv.proofs.Parsed.{reader_fault}
@@ -109,33 +111,31 @@ finished_first {S} {O} takes finishes edition t s r q item from to out e skipped
         let same = same_value (whole_field_at edition item_field t) item raw there.0 w there.1 whole in
         (to, out, subst (λ (i : RawItem). RunsTo takes from (item_events i) to) same run, finished)
 
--- an error within the item: a fault, or a refusal
-pub item_fails : {S O E : Type 0} (takes : S → TreeEvent → S → Type 0) (fails : S → TreeEvent → E → Type 0) (finishes : S → O → Type 0) (finish_fails : S → E → Type 0) (edition : Edition) (t s r : List ℕ) (from to : S) (i j : Bor (List ℕ)) (after : Cursor) (error : ParseError E) → i ≡ j → j.now ≡ t → span is_space t ≡ Ok (s, r)
-    → Visits takes fails item_events i after from to (Err error) (item_at edition r) → VisitsField takes fails finishes finish_fails edition item_field t from (Err error)
-item_fails takes fails finishes finish_fails edition t s r from to i j after (Syntax e) same text skipped h = (
-  subst (λ (u : List ℕ). MatchOption (index_of e) (kind_of e ≡ OutOfMemory) (λ index. (located_whole (read_field edition item_field u) ≡ Err (kind_of e, drop index u)) × (index ≤ length u))) text
-      (field_error edition j.now s r i j e same (rw text skipped) h),
-  λ raw q whole. no_item takes finishes edition t s r q from i.now e raw skipped h whole,
-)
-item_fails takes fails finishes finish_fails edition t s r from to i j after (Visitor f) same text skipped h = inl (whole_failed takes fails edition t s r from f skipped h)
+-- an error within the item: a fault, or the visitor fails
+pub item_fails : {S O E : Type 0} (takes : S → TreeEvent → S → Type 0) (fails : S → TreeEvent → E → Type 0) (finishes : S → O → Type 0) (finish_fails : S → E → Type 0) (edition : Edition) (k : Parser × Global) (s r : List ℕ) (from to : S) (after : Cursor) (error : ParseError E) → span is_space (kept_input k) ≡ Ok (s, r)
+    → VisitsAnswer takes fails item_events k after from to (Err error) (item_at edition r) → VisitsField takes fails finishes finish_fails edition item_field (kept_input k) from (Err error)
+item_fails takes fails finishes finish_fails edition k s r from to after (Syntax e) skipped h =
+    (field_error edition (kept_input k) s r (kept_input k) e skipped h, λ raw q whole. no_item takes finishes edition (kept_input k) s r q from (kept_input k) e raw skipped h whole)
+item_fails takes fails finishes finish_fails edition k s r from to after (Visitor f) skipped h = inl (whole_failed takes fails edition (kept_input k) s r from f skipped h)
 
--- the visitor failed to answer behind the item
-pub finish_failed : {S O E : Type 0} (takes : S → TreeEvent → S → Type 0) (fails : S → TreeEvent → E → Type 0) (finishes : S → O → Type 0) (finish_fails : S → E → Type 0) (edition : Edition) (t s r q : List ℕ) (raw : RawItem) (from to : S) (fault : E) → span is_space t ≡ Ok (s, r) → item_at edition r ≡ Ok (raw, q) → RunsTo takes from (item_events raw) to → finish_fails to fault
-    → VisitsField takes fails finishes finish_fails edition item_field t from (Err (Visitor fault))
-finish_failed takes fails finishes finish_fails edition t s r q raw from to fault e k run failed =
-    let whole = whole_some edition t s r q raw e k in
+-- the visitor fails to answer behind the item
+pub finish_failed : {S O E : Type 0} (takes : S → TreeEvent → S → Type 0) (fails : S → TreeEvent → E → Type 0) (finishes : S → O → Type 0) (finish_fails : S → E → Type 0) (edition : Edition) (t s r q : List ℕ) (raw : RawItem) (from to : S) (error : ParseError E) → span is_space t ≡ Ok (s, r) → item_at edition r ≡ Ok (raw, q) → RunsTo takes from (item_events raw) to → IsOfVisitor (finish_fails to) error
+    → VisitsField takes fails finishes finish_fails edition item_field t from (Err error)
+finish_failed takes fails finishes finish_fails edition t s r q raw from to (Syntax e) skipped k run failed = absurd failed
+finish_failed takes fails finishes finish_fails edition t s r q raw from to (Visitor fault) skipped k run failed =
+    let whole = whole_some edition t s r q raw skipped k in
     inr (raw, whole.0, to, whole.1, run, failed, tt)
 
 -- ---- members, up to the end
 
--- an error within the field: a fault, or a refusal
-pub field_fails : {S O E : Type 0} (takes : S → TreeEvent → S → Type 0) (fails : S → TreeEvent → E → Type 0) (finishes : S → O → Type 0) (finish_fails : S → E → Type 0) (edition : Edition) (kind : FieldKind) (t : List ℕ) (from to : S) (i : Bor (List ℕ)) (after : Cursor) (error : ParseError E) → i.now ≡ t
-    → Visits takes fails (events kind) i after from to (Err error) (whole_field_at edition kind t) → VisitsField takes fails finishes finish_fails edition kind t from (Err error)
-field_fails {S} {O} takes fails finishes finish_fails edition kind t from to i after (Visitor f) text h = inl h
-field_fails {S} {O} takes fails finishes finish_fails edition kind t from to i after (Syntax e) text h = (on (index_of e) here, λ raw q whole. never raw q whole (index_of e) here)
+-- an error within the field: a fault, or the visitor fails
+pub field_fails : {S O E : Type 0} (takes : S → TreeEvent → S → Type 0) (fails : S → TreeEvent → E → Type 0) (finishes : S → O → Type 0) (finish_fails : S → E → Type 0) (edition : Edition) (kind : FieldKind) (k : Parser × Global) (from to : S) (after : Cursor) (error : ParseError E)
+    → VisitsAnswer takes fails (events kind) k after from to (Err error) (whole_field_at edition kind (kept_input k)) → VisitsField takes fails finishes finish_fails edition kind (kept_input k) from (Err error)
+field_fails {S} {O} takes fails finishes finish_fails edition kind k from to after (Visitor f) h = inl h
+field_fails {S} {O} takes fails finishes finish_fails edition kind k from to after (Syntax e) h = (on (index_of e) h, λ raw q whole. never raw q whole (index_of e) h)
   where
-    here : IsErrorOf t e (whole_field_at edition kind t)
-    here = subst (λ (u : List ℕ). IsErrorOf u e (whole_field_at edition kind t)) text h
+    t : List ℕ
+    t = kept_input k
 
     on : (o : Option ℕ) → MatchOption o (kind_of e ≡ OutOfMemory) (λ index. (located (whole_field_at edition kind t) ≡ Err (kind_of e, drop index t)) × (index ≤ length t)) → MatchOption o (kind_of e ≡ OutOfMemory) (λ index. (located_whole (read_field edition kind t) ≡ Err (kind_of e, drop index t)) × (index ≤ length t))
     on None m = m
@@ -146,14 +146,31 @@ field_fails {S} {O} takes fails finishes finish_fails edition kind t from to i a
     never raw q whole None m = tt
     never raw q whole (Some n) m = absurd (no_fault (whole_field_at edition kind t) raw q _ _ whole m.0)
 
--- the visitor failed to answer at the end
-pub end_failed : {S O E : Type 0} (takes : S → TreeEvent → S → Type 0) (fails : S → TreeEvent → E → Type 0) (finishes : S → O → Type 0) (finish_fails : S → E → Type 0) (edition : Edition) (kind : FieldKind) (t q : List ℕ) (raw : RawField kind) (from to : S) (fault : E) → whole_field_at edition kind t ≡ Ok (raw, q) → IsAskedThere kind q → RunsTo takes from (events kind raw) to → finish_fails to fault
-    → VisitsField takes fails finishes finish_fails edition kind t from (Err (Visitor fault))
-end_failed takes fails finishes finish_fails edition kind t q raw from to fault e asked run failed = inr (raw, q, to, e, run, failed, asked)
+-- the visitor fails to answer at the end
+pub end_failed : {S O E : Type 0} (takes : S → TreeEvent → S → Type 0) (fails : S → TreeEvent → E → Type 0) (finishes : S → O → Type 0) (finish_fails : S → E → Type 0) (edition : Edition) (kind : FieldKind) (t q : List ℕ) (raw : RawField kind) (from to : S) (error : ParseError E) → whole_field_at edition kind t ≡ Ok (raw, q) → IsAskedThere kind q → RunsTo takes from (events kind raw) to
+    → IsOfVisitor (finish_fails to) error → VisitsField takes fails finishes finish_fails edition kind t from (Err error)
+end_failed takes fails finishes finish_fails edition kind t q raw from to (Syntax e) read asked run failed = absurd failed
+end_failed takes fails finishes finish_fails edition kind t q raw from to (Visitor fault) read asked run failed = inr (raw, q, to, read, run, failed, asked)
 
 pub whole_read : (edition : Edition) (kind : FieldKind) (t q : List ℕ) (raw : RawField kind) → whole_field_at edition kind t ≡ Ok (raw, q) → q ≡ [] → read_field edition kind t ≡ Ok raw
 unfolding read_field
 whole_read edition kind t q raw e end = ap (ending (events kind)) (e ∙ ap (λ (l : List ℕ). Ok (raw, l)) end)
+
+-- the members of a field are what it is read as
+pub members_fail : {S O E : Type 0} (takes : S → TreeEvent → S → Type 0) (fails : S → TreeEvent → E → Type 0) (finishes : S → O → Type 0) (finish_fails : S → E → Type 0) (keyed : Bool) (edition : Edition) (k : Parser × Global) (from to : S) (after : Cursor) (error : ParseError E)
+    → VisitsAnswer takes fails (λ members. flat_map (member_parts keyed) members) k after from to (Err error) (members_at (member_parts keyed) (one_member_at keyed edition) (kept_input k)) → VisitsField takes fails finishes finish_fails edition (field_of keyed) (kept_input k) from (Err error)
+unfolding whole_field_at
+members_fail takes fails finishes finish_fails true edition k from to after error h = field_fails takes fails finishes finish_fails edition dictionary_field k from to after error h
+members_fail takes fails finishes finish_fails false edition k from to after error h = field_fails takes fails finishes finish_fails edition list_field k from to after error h
+
+-- what the visitor answers at the end
+pub members_finish : {S O E : Type 0} (takes : S → TreeEvent → S → Type 0) (fails : S → TreeEvent → E → Type 0) (finishes : S → O → Type 0) (finish_fails : S → E → Type 0) (keyed : Bool) (edition : Edition) (t q : List ℕ) (from to : S) (r : Result O (ParseError E)) (ms : List (MemberValue keyed))
+    → members_at (member_parts keyed) (one_member_at keyed edition) t ≡ Ok (ms, q) → q ≡ [] → RunsTo takes from (flat_map (member_parts keyed) ms) to → IfOk r (finishes to) → IfErr r (IsOfVisitor (finish_fails to)) → VisitsField takes fails finishes finish_fails edition (field_of keyed) t from r
+unfolding whole_field_at
+members_finish takes fails finishes finish_fails true edition t q from to (Ok out) ms read end run answered failed = (ms, whole_read edition dictionary_field t q ms read end, record { last = to; taken = run; answered = answered })
+members_finish takes fails finishes finish_fails false edition t q from to (Ok out) ms read end run answered failed = (ms, whole_read edition list_field t q ms read end, record { last = to; taken = run; answered = answered })
+members_finish takes fails finishes finish_fails true edition t q from to (Err e) ms read end run answered failed = end_failed takes fails finishes finish_fails edition dictionary_field t q ms from to e read end run failed
+members_finish takes fails finishes finish_fails false edition t q from to (Err e) ms read end run answered failed = end_failed takes fails finishes finish_fails edition list_field t q ms from to e read end run failed
 
 -- ---- what this says in the words of the definitions
 

@@ -1,7 +1,7 @@
 -- What a whole field gives, by what the code found out.
 use Rattle.std.proofs.Common.{◌≡◌, ℕ, ◌≤◌, true, false, List, [], ◌∷◌, length, drop, Option, Some, None, Ok, Err, refl, ap, subst, ◌∙◌}
 use Rattle.std.specs.Prelude.{MatchOption, is_some}
-use Rattle.std.specs.Borrow.{Bor}
+use Rattle.std.specs.declared.alloc.Global.{Global}
 use Rattle.sfv_spec.specs.Classes.{is_space}
 use Rattle.sfv_spec.specs.Values.{Edition, item_field, RawItem}
 use Rattle.sfv_spec.specs.Events.{TreeEvent, events}
@@ -12,8 +12,9 @@ use Rattle.sfv_reading.specs.Reader.{Answer, Reader, first, give, ◌>>=◌, spa
 use Rattle.sfv_reading.specs.Items.{item_at}
 use Rattle.sfv_reading.specs.Fields.{whole_field_at, ending, read_field}
 use Rattle.sfv_reading.proofs.complete.Combinators.{bind_complete}
+use Rattle.sfv.specs.declared.parser.Parser.{Parser}
 use Rattle.sfv.specs.declared.parser.cursor.Cursor.{Cursor}
-use Rattle.sfv.specs.Cursor.{rest, located, IsErrorOf}
+use Rattle.sfv.specs.Cursor.{kept, kept_input, rest, located, IsErrorOf}
 use Rattle.sfv.specs.Fields.{located_whole}
 use Rattle.sfv.proofs.Errors.{fault_bind}
 
@@ -33,14 +34,13 @@ field_faulty : (edition : Edition) (t s r : List ℕ) (k : ErrorKind) (q : List 
 unfolding spaced
 field_faulty edition t s r k q e h = ap located_whole (field_is edition t s r e) ∙ ending_located (events item_field) (spaced edition r) k q (fault_bind (item_at edition) _ r k q h)
 
--- the error is the fault that a whole field is answered with, or want of memory
-pub field_error : (edition : Edition) (t s r : List ℕ) (i j : Bor (List ℕ)) (e : Error) → i ≡ j → span is_space t ≡ Ok (s, r) → IsErrorOf i.now e (item_at edition r)
-    → MatchOption e.index (e.kind ≡ OutOfMemory) (λ index. (located_whole (read_field edition item_field t) ≡ Err (e.kind, drop index j.now)) × (index ≤ length j.now))
-field_error edition t s r i j e same skipped error =
-    subst (λ (i : Bor (List ℕ)). MatchOption e.index (e.kind ≡ OutOfMemory) (λ index. (located_whole (read_field edition item_field t) ≡ Err (e.kind, drop index i.now)) × (index ≤ length i.now))) same (on e.index error)
+-- the error is the fault that a whole field is answered with, or out of memory
+pub field_error : (edition : Edition) (t s r : List ℕ) (i : List ℕ) (e : Error) → span is_space t ≡ Ok (s, r) → IsErrorOf i e (item_at edition r)
+    → MatchOption e.index (e.kind ≡ OutOfMemory) (λ index. (located_whole (read_field edition item_field t) ≡ Err (e.kind, drop index i)) × (index ≤ length i))
+field_error edition t s r i e skipped error = on e.index error
   where
-    on : (o : Option ℕ) → MatchOption o (e.kind ≡ OutOfMemory) (λ index. (located (item_at edition r) ≡ Err (e.kind, drop index i.now)) × (index ≤ length i.now))
-        → MatchOption o (e.kind ≡ OutOfMemory) (λ index. (located_whole (read_field edition item_field t) ≡ Err (e.kind, drop index i.now)) × (index ≤ length i.now))
+    on : (o : Option ℕ) → MatchOption o (e.kind ≡ OutOfMemory) (λ index. (located (item_at edition r) ≡ Err (e.kind, drop index i)) × (index ≤ length i))
+        → MatchOption o (e.kind ≡ OutOfMemory) (λ index. (located_whole (read_field edition item_field t) ≡ Err (e.kind, drop index i)) × (index ≤ length i))
     on None h = h
     on (Some n) h = (field_faulty edition t s r _ _ skipped h.0, h.1)
 
@@ -58,10 +58,10 @@ field_trailing edition t s r q s' w raw e k n h = ap located_whole (behind editi
     on (c ∷ w) h = refl
 
 -- the byte behind an item and spaces is where the error stands
-pub field_trailing_error : (edition : Edition) (t s r q s' : List ℕ) (p : Cursor) (j : Bor (List ℕ)) (raw : RawItem) → p.input ≡ j → span is_space t ≡ Ok (s, r) → item_at edition r ≡ Ok (raw, q) → span is_space q ≡ Ok (s', rest p) → is_some (first (rest p)) ≡ true
-    → (located_whole (read_field edition item_field t) ≡ Err (TrailingCharactersAfterParsedValue, drop p.index j.now)) × (p.index ≤ length j.now)
+pub field_trailing_error : (edition : Edition) (t s r q s' : List ℕ) (p : Cursor) (j : Parser × Global) (raw : RawItem) → kept p ≡ j → span is_space t ≡ Ok (s, r) → item_at edition r ≡ Ok (raw, q) → span is_space q ≡ Ok (s', rest p) → is_some (first (rest p)) ≡ true
+    → (located_whole (read_field edition item_field t) ≡ Err (TrailingCharactersAfterParsedValue, drop p.index (kept_input j))) × (p.index ≤ length (kept_input j))
 field_trailing_error edition t s r q s' p j raw same e k n h =
-    subst (λ (i : Bor (List ℕ)). (located_whole (read_field edition item_field t) ≡ Err (TrailingCharactersAfterParsedValue, drop p.index i.now)) × (p.index ≤ length i.now)) same
+    subst (λ (i : Parser × Global). (located_whole (read_field edition item_field t) ≡ Err (TrailingCharactersAfterParsedValue, drop p.index (kept_input i))) × (p.index ≤ length (kept_input i))) same
     (field_trailing edition t s r q s' (rest p) raw e k n h, p.within)
 
 pub field_done : (edition : Edition) (t s r q s' w : List ℕ) (raw : RawItem) → span is_space t ≡ Ok (s, r) → item_at edition r ≡ Ok (raw, q) → span is_space q ≡ Ok (s', w) → is_some (first w) ≡ false → read_field edition item_field t ≡ Ok raw

@@ -1,15 +1,36 @@
--- What a cursor has left, and what its readings give.
+-- What a cursor has left and what it keeps, and what its readings give.
 use Rattle.std.specs.Prelude.{◌≡◌, ℕ, ◌≤◌, Bool, true, false, List, ◌∷◌, length, drop, Result, Ok, Err, MatchOption}
-use Rattle.std.specs.Borrow.{Bor}
+use Rattle.std.specs.declared.alloc.Global.{Global}
+use Rattle.sfv_spec.specs.Values.{Edition}
 use Rattle.sfv_base.specs.declared.error.Error.{Error}
 use Rattle.sfv_base.specs.declared.error.ErrorKind.{ErrorKind}
 use Rattle.sfv_base.specs.declared.error.ErrorKind.TheVariants.{OutOfMemory}
 use Rattle.sfv_base.specs.Errors.{error_kind, kind_of, index_of}
-use Rattle.sfv_reading.specs.Reader.{Answer, Apart}
+use Rattle.sfv_bare.specs.BareItems.{edition_of}
+use Rattle.sfv_reading.specs.Reader.{Answer, Reader, Apart}
+use Rattle.sfv.specs.declared.parser.Parser.{Parser}
 use Rattle.sfv.specs.declared.parser.cursor.Cursor.{Cursor}
 
+-- what no reading changes: the parser and the allocator
+abbrev pub kept : Cursor → Parser × Global
+kept c = (c.parser, c.alloc)
+
+-- the input, and the edition, of what is kept
+abbrev pub kept_input : Parser × Global → List ℕ
+kept_input k = k.0.input.now
+
+abbrev pub kept_edition : Parser × Global → Edition
+kept_edition k = edition_of k.0.version
+
+abbrev pub input : Cursor → List ℕ
+input c = kept_input (kept c)
+
+abbrev pub edition : Cursor → Edition
+edition c = kept_edition (kept c)
+
+-- what stands from the next byte on
 abbrev pub rest : Cursor → List ℕ
-rest c = drop c.index c.input.now
+rest c = drop c.index (input c)
 
 -- an answer of a reader as the code tells it: a fault by its kind and what stands there
 abbrev pub located : {A : Type 0} → Answer A → Result (A × List ℕ) (ErrorKind × List ℕ)
@@ -26,15 +47,15 @@ abbrev pub IsErrorOf : {A : Type 0} → List ℕ → Error → Answer A → Type
 IsErrorOf input e answer =
     MatchOption (index_of e) (kind_of e ≡ OutOfMemory) (λ index. (located answer ≡ Err (kind_of e, drop index input)) × (index ≤ length input))
 
--- What a reading of the input returned, seen by view, is what the reader gives.
-abbrev pub Reads : {X Y : Type 0} → (X → Y) → Bor (List ℕ) → Cursor → Result X Error → Answer Y → Type 0
-Reads view input after (Ok x) answer = (answer ≡ Ok (view x, rest after)) × (after.input ≡ input)
-Reads view input after (Err e) answer = IsFaultOf input.now e answer
+-- What a reading returned, seen by view, is what the reader gives, and the cursor stands behind it.
+abbrev pub Reads : {X Y : Type 0} → (X → Y) → Cursor → Cursor → Result X Error → Reader Y → Type 0
+Reads view before after (Ok x) reader = (reader (rest before) ≡ Ok (view x, rest after)) × (kept after ≡ kept before)
+Reads view before after (Err e) reader = IsFaultOf (input before) e (reader (rest before))
 
 -- The same of a reading that may want memory.
-abbrev pub ReadsOrOutOfMemory : {X Y : Type 0} → (X → Y) → Bor (List ℕ) → Cursor → Result X Error → Answer Y → Type 0
-ReadsOrOutOfMemory view input after (Ok x) answer = (answer ≡ Ok (view x, rest after)) × (after.input ≡ input)
-ReadsOrOutOfMemory view input after (Err e) answer = IsErrorOf input.now e answer
+abbrev pub ReadsOrOutOfMemory : {X Y : Type 0} → (X → Y) → Cursor → Cursor → Result X Error → Reader Y → Type 0
+ReadsOrOutOfMemory view before after (Ok x) reader = (reader (rest before) ≡ Ok (view x, rest after)) × (kept after ≡ kept before)
+ReadsOrOutOfMemory view before after (Err e) reader = IsErrorOf (input before) e (reader (rest before))
 
 -- a byte of the class stands next, or none does
 abbrev pub NextIs : (ℕ → Bool) → Bool → List ℕ → Type 0

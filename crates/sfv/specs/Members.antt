@@ -1,9 +1,9 @@
 -- Between two items of an inner list, and between two members.
-use Rattle.std.specs.Prelude.{true, false, Bool, List, flat_map, ◌∷◌, ◌++◌}
-use Rattle.sfv_spec.specs.Values.{RawMember, item, inner_list}
-use Rattle.sfv_spec.specs.Events.{TreeEvent, item_events, inner_list_end, parameters_events, inner_item_events}
+use Rattle.std.specs.Prelude.{true, false, Bool, ℕ, List, flat_map, ◌∷◌, ◌++◌}
+use Rattle.sfv_spec.specs.Values.{Edition, FieldKind, list_field, dictionary_field, RawMember, item, inner_list}
+use Rattle.sfv_spec.specs.Events.{TreeEvent, item_events, inner_list_end, parameters_events, inner_item_events, entry_events, keyed_events}
 use Rattle.sfv_reading.specs.Reader.{Reader, give}
-use Rattle.sfv_reading.specs.Members.{item_delimited}
+use Rattle.sfv_reading.specs.Members.{entry_at, keyed_at, item_delimited}
 use Rattle.sfv_reading.specs.Fields.{member_delimited}
 
 -- behind an item of an inner list: whether another one follows, and not the closing parenthesis
@@ -18,3 +18,22 @@ member_delimiter_at = member_delimited (give false) (give true)
 abbrev pub behind_begin : RawMember → List TreeEvent
 behind_begin (item i) = item_events i
 behind_begin (inner_list l) = flat_map inner_item_events l.items ++ inner_list_end ∷ parameters_events l.parameters
+
+-- a member of a dictionary, with its key, or one of a list
+abbrev pub MemberValue : Bool → Type 0
+MemberValue true = List ℕ × RawMember
+MemberValue false = RawMember
+
+-- its events
+abbrev pub member_parts : (keyed : Bool) → MemberValue keyed → List TreeEvent
+member_parts true = keyed_events
+member_parts false = entry_events
+
+abbrev pub one_member_at : (keyed : Bool) → Edition → Reader (MemberValue keyed)
+one_member_at true = keyed_at
+one_member_at false = entry_at
+
+-- the field of such members
+abbrev pub field_of : Bool → FieldKind
+field_of true = dictionary_field
+field_of false = list_field

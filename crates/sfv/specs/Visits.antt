@@ -1,6 +1,6 @@
--- What a reading that tells a visitor its events returns.
+-- What a reading whose events are visited returns.
 use Rattle.std.specs.Prelude.{◌≡◌, ⊤, ℕ, List, [], Result, Ok, Err, ◌⊎◌, MatchOption, ◌≤◌, length, drop}
-use Rattle.std.specs.Borrow.{Bor}
+use Rattle.std.specs.declared.alloc.Global.{Global}
 use Rattle.sfv_spec.specs.Values.{Edition, FieldKind, item_field, list_field, dictionary_field, RawField}
 use Rattle.sfv_spec.specs.Events.{TreeEvent, events}
 use Rattle.sfv_spec.specs.Visiting.{RunsTo, IsVisited}
@@ -9,24 +9,29 @@ use Rattle.sfv_base.specs.declared.error.ErrorKind.TheVariants.{OutOfMemory}
 use Rattle.sfv_base.specs.declared.error.ParseError.{ParseError}
 use Rattle.sfv_base.specs.declared.error.ParseError.TheVariants.{Syntax, Visitor}
 use Rattle.sfv_base.specs.Errors.{kind_of, index_of}
-use Rattle.sfv_reading.specs.Reader.{Answer}
+use Rattle.sfv_reading.specs.Reader.{Answer, Reader}
 use Rattle.sfv_reading.specs.Fields.{whole_field_at, read_field}
 use Rattle.sfv_reading.specs.Visits.{VisitorFails}
+use Rattle.sfv.specs.declared.parser.Parser.{Parser}
 use Rattle.sfv.specs.declared.parser.cursor.Cursor.{Cursor}
-use Rattle.sfv.specs.Cursor.{rest, IsErrorOf}
+use Rattle.sfv.specs.Cursor.{kept, kept_input, edition, rest, IsErrorOf}
 use Rattle.sfv.specs.Fields.{located_whole}
 
 -- A value was read, and the visitor took its events; or the reader's fault is met, or out of memory; or
 -- the visitor fails at one of the events that the reader gives.
-abbrev pub Visits : {A S E : Type 0} → (S → TreeEvent → S → Type 0) → (S → TreeEvent → E → Type 0) → (A → List TreeEvent) → Bor (List ℕ) → Cursor → S → S → Result (Unit {0}) (ParseError E) → Answer A → Type 0
-Visits {A} takes fails parts input after from to (Ok u) answer = (v : A) × (answer ≡ Ok (v, rest after)) × RunsTo takes from (parts v) to × (after.input ≡ input)
-Visits takes fails parts input after from to (Err (Syntax e)) answer = IsErrorOf input.now e answer
-Visits takes fails parts input after from to (Err (Visitor f)) answer = VisitorFails takes fails parts answer from f
+abbrev pub VisitsAnswer : {A S E : Type 0} → (S → TreeEvent → S → Type 0) → (S → TreeEvent → E → Type 0) → (A → List TreeEvent) → Parser × Global → Cursor → S → S → Result (Unit {0}) (ParseError E) → Answer A → Type 0
+VisitsAnswer {A} takes fails parts k after from to (Ok u) answer = (v : A) × (answer ≡ Ok (v, rest after)) × RunsTo takes from (parts v) to × (kept after ≡ k)
+VisitsAnswer takes fails parts k after from to (Err (Syntax e)) answer = IsErrorOf (kept_input k) e answer
+VisitsAnswer takes fails parts k after from to (Err (Visitor f)) answer = VisitorFails takes fails parts answer from f
 
--- the visitor fails at the event
-abbrev pub IsErrorOfVisit : {S E : Type 0} → (S → TreeEvent → E → Type 0) → S → TreeEvent → ParseError E → Type 0
-IsErrorOfVisit fails s e (Syntax error) = ⊥
-IsErrorOfVisit fails s e (Visitor fault) = fails s e fault
+-- The same of what the cursor's edition reads from the next byte on.
+abbrev pub Visits : {A S E : Type 0} → (S → TreeEvent → S → Type 0) → (S → TreeEvent → E → Type 0) → (A → List TreeEvent) → Cursor → Cursor → S → S → Result (Unit {0}) (ParseError E) → (Edition → Reader A) → Type 0
+Visits takes fails parts before after from to result reader = VisitsAnswer takes fails parts (kept before) after from to result (reader (edition before) (rest before))
+
+-- it is such an error of the visitor
+abbrev pub IsOfVisitor : {E : Type 0} → (E → Type 0) → ParseError E → Type 0
+IsOfVisitor is (Syntax error) = ⊥
+IsOfVisitor is (Visitor fault) = is fault
 
 -- Where a field of this type stands at the beginning, an error with an index is answered only behind the visitor's answer.
 abbrev pub IsFinishedFirst : {S O : Type 0} → (S → TreeEvent → S → Type 0) → (S → O → Type 0) → Edition → FieldKind → List ℕ → S → Error → Type 0

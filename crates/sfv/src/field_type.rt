@@ -1,8 +1,8 @@
 //! The types of fields.
 
-ghost use Rattle.std.specs.Prelude.{◌≡◌, [], IfOk, IfErr, MatchOption, string_bytes};
+ghost use Rattle.std.specs.Prelude.{ℕ, List, Option, Some, option_map, IfOk, IfErr, string_bytes};
 ghost use Rattle.sfv_spec.specs.Values.{FieldKind, RawField, HasMember, item_field, list_field, dictionary_field};
-ghost use Rattle.sfv_spec.specs.Statements.{IsParsedAs, IsWrittenAs};
+ghost use Rattle.sfv_spec.specs.Statements.{IsParsedAs, IsSerializedAs};
 ghost use Rattle.sfv_tree.specs.Trees.{item_tree, list_tree, dictionary_tree};
 ghost use Rattle.sfv.specs.Parsers.{input_of, parser_edition, IsParseError, IsReaderFault};
 
@@ -28,14 +28,14 @@ mod sealed {
 ///
 /// A contract sees a value as its tree, by the kind of field that it is.
 pub trait FieldType: sealed::Sealed + Drop {
-    /// What `serialize` answers: a text, of a list or a dictionary only if it has a member.
+    /// What `serialize` returns: a text, of a list or a dictionary only if it has a member.
     type SerializeResult: Drop;
 
     ghost kind: { FieldKind };
 
     ghost tree: { Self → RawField kind };
 
-    ghost is_text: { Self → Self.SerializeResult → Type 0 };
+    ghost written: { Self.SerializeResult → Option (List ℕ) };
 
     /// Reads a field of this type (RFC 9651, section 4.2), as `Parser::parse` does.
     fn parse(alloc: Global, parser: Parser<'_>) -> Result<Self, Error>
@@ -43,11 +43,11 @@ pub trait FieldType: sealed::Sealed + Drop {
         ensures rejected { IfErr result (IsParseError (parser_edition parser.entry) kind (input_of parser.entry)) }
         ensures fault { IfErr result (IsReaderFault (parser_edition parser.entry) kind (input_of parser.entry)) };
 
-    /// Writes the canonical text (RFC 9651, section 4.1), with memory from `alloc`; refused where memory is. Of a list or
-    /// a dictionary without members nothing is written, and the answer is `None` and takes no memory.
+    /// Returns the canonical text (RFC 9651, section 4.1), with memory from `alloc`, or fails as out of memory. For a list
+    /// or a dictionary without members it returns `None`, and asks for no memory.
     fn serialize(&self, alloc: Global) -> Result<Self::SerializeResult, OutOfMemory>
-        ensures text { IfOk result (is_text self.now) }
-        ensures memory { IfErr result (λ _. HasMember kind (tree self.now)) };
+        ensures text { IfOk result (λ text. IsSerializedAs kind (tree self.now) (written text)) }
+        ensures out_of_memory { IfErr result (λ _. HasMember kind (tree self.now)) };
 }
 
 impl FieldType for Item {
@@ -57,7 +57,7 @@ impl FieldType for Item {
 
     ghost tree = { item_tree };
 
-    ghost is_text = { λ item text. IsWrittenAs item_field (item_tree item) (string_bytes text) };
+    ghost written = { λ text. Some (string_bytes text) };
 
     fn parse(alloc: Global, parser: Parser<'_>) -> Result<Item, Error> {
         match parser.parse_item_with_visitor(alloc, ItemBuilder::new(alloc)) {
@@ -82,8 +82,7 @@ impl FieldType for List {
 
     ghost tree = { λ list. list_tree list.items };
 
-    ghost is_text = { λ list text. MatchOption text (list_tree list.items ≡ [])
-        (λ text. HasMember list_field (list_tree list.items) × IsWrittenAs list_field (list_tree list.items) (string_bytes text)) };
+    ghost written = { option_map string_bytes };
 
     fn parse(alloc: Global, parser: Parser<'_>) -> Result<List, Error> {
         let builder = ListBuilder::new(alloc, List::new(alloc));
@@ -106,9 +105,7 @@ impl FieldType for Dictionary {
 
     ghost tree = { λ dictionary. dictionary_tree dictionary.entries };
 
-    ghost is_text = { λ dictionary text. MatchOption text (dictionary_tree dictionary.entries ≡ [])
-        (λ text. HasMember dictionary_field (dictionary_tree dictionary.entries)
-        × IsWrittenAs dictionary_field (dictionary_tree dictionary.entries) (string_bytes text)) };
+    ghost written = { option_map string_bytes };
 
     fn parse(alloc: Global, parser: Parser<'_>) -> Result<Dictionary, Error> {
         let builder = DictionaryBuilder::new(alloc, Dictionary::new(alloc));

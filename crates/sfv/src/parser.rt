@@ -17,15 +17,16 @@ mod cursor;
 mod display_string;
 mod field;
 mod item;
+mod key;
 mod member;
 mod number;
 mod runs;
-mod scan;
 mod string;
 mod symbols;
-mod text;
+mod token;
 
-use field::{parse_dictionary_field, parse_item_field, parse_list_field};
+use field::{parse_item_field, parse_members_field};
+use member::{Entry, KeyedEntry};
 
 /// Reads an input as a field, under one version of the standard.
 #[derive(Clone, Copy, Debug)]
@@ -88,7 +89,7 @@ impl<'de> Parser<'de> {
         ensures syntax { IfErr result (IsSyntaxOf V.takes V.finishes (parser_edition self.entry) item_field (input_of self.entry) visitor) }
         ensures visitor { IfErr result (IsVisitorErrorOf V.takes V.fails V.finish_fails (parser_edition self.entry) item_field (input_of self.entry) visitor) }
     {
-        parse_item_field(alloc, self.input, self.version, visitor)
+        parse_item_field(self, alloc, visitor)
     }
 
     /// Reads the input as a list (RFC 9651, section 4.2), and tells the visitor its parts from left to right. Memory for
@@ -108,7 +109,7 @@ impl<'de> Parser<'de> {
         ensures syntax { IfErr result (IsSyntaxOf V.takes V.finishes (parser_edition self.entry) list_field (input_of self.entry) visitor) }
         ensures visitor { IfErr result (IsVisitorErrorOf V.takes V.fails V.finish_fails (parser_edition self.entry) list_field (input_of self.entry) visitor) }
     {
-        parse_list_field(alloc, self.input, self.version, visitor)
+        parse_members_field::<Entry, V>(self, alloc, visitor)
     }
 
     /// Reads the input as a dictionary (RFC 9651, section 4.2), and tells the visitor its parts from left to right. Memory
@@ -129,6 +130,6 @@ impl<'de> Parser<'de> {
         ensures syntax { IfErr result (IsSyntaxOf V.takes V.finishes (parser_edition self.entry) dictionary_field (input_of self.entry) visitor) }
         ensures visitor { IfErr result (IsVisitorErrorOf V.takes V.fails V.finish_fails (parser_edition self.entry) dictionary_field (input_of self.entry) visitor) }
     {
-        parse_dictionary_field(alloc, self.input, self.version, visitor)
+        parse_members_field::<KeyedEntry, V>(self, alloc, visitor)
     }
 }

@@ -18,7 +18,9 @@ use Rattle.sfv_bare.specs.declared.bare.Version.{Version}
 use Rattle.sfv_bare.specs.declared.bare.Version.TheVariants as version
 
 -- the value of a bare item, given the bytes of its texts
-abbrev pub value_by : {S B T D : Type 0} → (S → List ℕ) → (B → List ℕ) → (T → List ℕ) → (D → List ℕ) → GenericBareItem S B T D → BareValue
+abbrev pub value_by :
+    {S B T D : Type 0} → (S → List ℕ) → (B → List ℕ) → (T → List ℕ) → (D → List ℕ)
+    → GenericBareItem S B T D → BareValue
 value_by s b t d (bare.Decimal z) = values.decimal z
 value_by s b t d (bare.Integer z) = values.integer z
 value_by s b t d (bare.String x) = values.string (s x)
@@ -50,7 +52,9 @@ abbrev pub input_value : GenericBareItem StringFromInput (Vec ℕ Global) TokenR
 input_value item = value_by read_text (λ b. b.items) token_text cow_text item
 
 -- a copy is of the same kind, and what it holds is a copy as its type makes one
-abbrev pub IsCopyBy : {S B T D : Type 0} → (S → S → Type 0) → (B → B → Type 0) → (T → T → Type 0) → (D → D → Type 0) → GenericBareItem S B T D → GenericBareItem S B T D → Type 0
+abbrev pub IsCopyBy :
+    {S B T D : Type 0} → (S → S → Type 0) → (B → B → Type 0) → (T → T → Type 0) → (D → D → Type 0)
+    → GenericBareItem S B T D → GenericBareItem S B T D → Type 0
 IsCopyBy s b t d (bare.Decimal z) copy = copy ≡ bare.Decimal z
 IsCopyBy s b t d (bare.Integer z) copy = copy ≡ bare.Integer z
 IsCopyBy {S} s b t d (bare.String x) copy = (y : S) × s x y × (copy ≡ bare.String y)

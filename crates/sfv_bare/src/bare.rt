@@ -102,7 +102,7 @@ pub enum Version {
 }
 
 impl Version {
-    /// The name of the version.
+    /// Returns the name of the version.
     fn name(self) -> &'static str
         ensures { result.now ≡ version_text self }
     {

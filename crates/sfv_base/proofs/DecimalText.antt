@@ -3,16 +3,17 @@ use Rattle.std.proofs.Common.{◌≡◌, ℕ, ◌+◌, ◌/◌, ◌%◌, ◌<◌
 use Rattle.std.specs.Prelude.{nat_abs, decimal}
 use Rattle.std.proofs.lemmas.Fmt.{decimal_digit}
 use Rattle.std.proofs.lemmas.Grind.{common_steps}
+use Rattle.sfv_spec.specs.Ascii.{digit_zero}
 use Rattle.sfv_spec.specs.Numbers.{minus_text, is_negative}
 use Rattle.sfv_spec.specs.Canonical.{decimal_text, fraction_digits}
 
-tenth : (f : ℕ) → f < 1000 → decimal (f / 100) ≡ (0x30 + f / 100) ∷ []
+tenth : (f : ℕ) → f < 1000 → decimal (f / 100) ≡ (digit_zero + f / 100) ∷ []
 tenth f h = decimal_digit (f / 100) (omega arith)
 
-hundredth : (f : ℕ) → decimal (f / 10 % 10) ≡ (0x30 + f / 10 % 10) ∷ []
+hundredth : (f : ℕ) → decimal (f / 10 % 10) ≡ (digit_zero + f / 10 % 10) ∷ []
 hundredth f = decimal_digit (f / 10 % 10) (omega arith)
 
-thousandth : (f : ℕ) → decimal (f % 10) ≡ (0x30 + f % 10) ∷ []
+thousandth : (f : ℕ) → decimal (f % 10) ≡ (digit_zero + f % 10) ∷ []
 thousandth f = decimal_digit (f % 10) (omega arith)
 
 pub fraction-one : (f : ℕ) → f < 1000 → f % 100 ≡ 0 → decimal (f / 100) ≡ fraction_digits f

@@ -16,7 +16,7 @@ kind_of e = e.kind
 abbrev pub index_of : Error → Option ℕ
 index_of e = e.index
 
--- a request for memory was refused
+-- out of memory
 abbrev pub out_of_memory : Error
 out_of_memory = error_of kinds.OutOfMemory None
 

@@ -1,7 +1,21 @@
 -- The text of each kind of error.
 use Rattle.std.specs.Prelude.{ℕ, List, codes}
 use Rattle.sfv_base.specs.declared.error.ErrorKind.{ErrorKind}
-use Rattle.sfv_base.specs.declared.error.ErrorKind.TheVariants.{OutOfMemory, OutOfRange, Empty, InvalidCharacter, TrailingCharactersAfterMember, TrailingComma, TrailingCharactersAfterParsedValue, ExpectedInnerListDelimiter, UnterminatedInnerList, ExpectedStartOfBareItem, ExpectedBoolean, InvalidStringCharacter, UnterminatedString, UnterminatedEscapeSequence, InvalidEscapeSequence, UnterminatedByteSequence, InvalidByteSequence, ExpectedDigit, TooManyDigits, TooManyDigitsBeforeDecimalPoint, TooManyDigitsAfterDecimalPoint, TrailingDecimalPoint, Rfc8941Date, NonIntegerDate, Rfc8941DisplayString, ExpectedQuote, InvalidUtf8InDisplayString, InvalidDisplayStringCharacter, UnterminatedDisplayString, ExpectedStartOfKey}
+use Rattle.sfv_base.specs.declared.error.ErrorKind.TheVariants.{OutOfMemory, OutOfRange, Empty, InvalidCharacter}
+use Rattle.sfv_base.specs.declared.error.ErrorKind.TheVariants.{TrailingCharactersAfterMember, TrailingComma}
+use Rattle.sfv_base.specs.declared.error.ErrorKind.TheVariants.{TrailingCharactersAfterParsedValue}
+use Rattle.sfv_base.specs.declared.error.ErrorKind.TheVariants.{ExpectedInnerListDelimiter, UnterminatedInnerList}
+use Rattle.sfv_base.specs.declared.error.ErrorKind.TheVariants.{ExpectedStartOfBareItem, ExpectedBoolean}
+use Rattle.sfv_base.specs.declared.error.ErrorKind.TheVariants.{InvalidStringCharacter, UnterminatedString}
+use Rattle.sfv_base.specs.declared.error.ErrorKind.TheVariants.{UnterminatedEscapeSequence, InvalidEscapeSequence}
+use Rattle.sfv_base.specs.declared.error.ErrorKind.TheVariants.{UnterminatedByteSequence, InvalidByteSequence}
+use Rattle.sfv_base.specs.declared.error.ErrorKind.TheVariants.{ExpectedDigit, TooManyDigits}
+use Rattle.sfv_base.specs.declared.error.ErrorKind.TheVariants.{TooManyDigitsBeforeDecimalPoint}
+use Rattle.sfv_base.specs.declared.error.ErrorKind.TheVariants.{TooManyDigitsAfterDecimalPoint, TrailingDecimalPoint}
+use Rattle.sfv_base.specs.declared.error.ErrorKind.TheVariants.{Rfc8941Date, NonIntegerDate, Rfc8941DisplayString}
+use Rattle.sfv_base.specs.declared.error.ErrorKind.TheVariants.{ExpectedQuote, InvalidUtf8InDisplayString}
+use Rattle.sfv_base.specs.declared.error.ErrorKind.TheVariants.{InvalidDisplayStringCharacter}
+use Rattle.sfv_base.specs.declared.error.ErrorKind.TheVariants.{UnterminatedDisplayString, ExpectedStartOfKey}
 
 -- what a kind of error prints
 abbrev pub message_of : ErrorKind → List ℕ

@@ -43,14 +43,14 @@ impl Date {
         seconds: Integer::ZERO,
     };
 
-    /// The seconds from the Unix epoch.
+    /// Returns the seconds from the Unix epoch.
     pub fn unix_seconds(&self) -> Integer
         ensures { result ≡ self.now }
     {
         self.seconds
     }
 
-    /// The date of so many seconds from the Unix epoch.
+    /// Returns the date of so many seconds from the Unix epoch.
     pub fn from_unix_seconds(v: Integer) -> Date
         ensures { result ≡ v }
     {

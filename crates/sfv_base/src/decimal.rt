@@ -11,7 +11,7 @@ use crate::integer::Integer;
 use std::fmt;
 use std::marker::Model;
 
-/// A number of at most twelve digits before its point and three behind it (RFC 9651, section 3.3.2).
+/// A number of at most twelve digits before its point and three after it (RFC 9651, section 3.3.2).
 ///
 /// A conversion from a whole number gives the same number. One that may fail fails with
 /// `ErrorKind::OutOfRange`, exactly if the number has more than twelve digits.
@@ -49,31 +49,31 @@ impl Decimal {
         thousandths: Integer::ZERO,
     };
 
-    /// The number in thousandths.
+    /// Returns the number in thousandths.
     pub fn as_integer_scaled_1000(&self) -> Integer
         ensures { result ≡ self.now }
     {
         self.thousandths
     }
 
-    /// The decimal of so many thousandths.
+    /// Returns the decimal of so many thousandths.
     pub fn from_integer_scaled_1000(v: Integer) -> Decimal
         ensures { result ≡ v }
     {
         Decimal { thousandths: v }
     }
 
-    // The decimal of a whole number of at most twelve digits.
+    // Returns the decimal of a whole number of at most twelve digits.
     fn whole(v: i64) -> Decimal
         requires { IsWhole v }
         ensures { result ≡ thousandths_of v }
     {
         Decimal {
-            thousandths: Integer::constant(v * 1000),
+            thousandths: Integer::from_validated_i64(v * 1000),
         }
     }
 
-    // What is printed before the digits.
+    // Returns what is printed before the digits.
     fn sign(&self) -> &'static str
         ensures { result.now ≡ minus_text (is_negative self.now) }
     {
@@ -84,7 +84,7 @@ impl Decimal {
         }
     }
 
-    // The thousandths without their sign.
+    // Returns the thousandths without their sign.
     fn magnitude(&self) -> u64
         ensures { result ≡ nat_abs self.now }
     {
@@ -151,10 +151,7 @@ impl TryFrom<i64> for Decimal {
     ghost try_from_gives = { λ v r. GivesIf (IsWhole v) (thousandths_of v) r };
 
     fn try_from(v: i64) -> Result<Decimal, Error> {
-        if v < -999_999_999_999 || v > 999_999_999_999 {
-            return Err(Error::OUT_OF_RANGE);
-        }
-        Ok(Decimal::whole(v))
+        Decimal::try_from(Integer::try_from(v)?)
     }
 }
 
@@ -164,10 +161,7 @@ impl TryFrom<i128> for Decimal {
     ghost try_from_gives = { λ v r. GivesIf (IsWhole v) (thousandths_of v) r };
 
     fn try_from(v: i128) -> Result<Decimal, Error> {
-        match i64::try_from(v) {
-            Ok(v) => Decimal::try_from(v),
-            Err(_) => Err(Error::OUT_OF_RANGE),
-        }
+        Decimal::try_from(Integer::try_from(v)?)
     }
 }
 
@@ -177,10 +171,7 @@ impl TryFrom<isize> for Decimal {
     ghost try_from_gives = { λ v r. GivesIf (IsWhole v) (thousandths_of v) r };
 
     fn try_from(v: isize) -> Result<Decimal, Error> {
-        match i64::try_from(v) {
-            Ok(v) => Decimal::try_from(v),
-            Err(_) => Err(Error::OUT_OF_RANGE),
-        }
+        Decimal::try_from(Integer::try_from(v)?)
     }
 }
 
@@ -190,10 +181,7 @@ impl TryFrom<u64> for Decimal {
     ghost try_from_gives = { λ v r. GivesIf (IsWhole (pos v)) (thousandths_of (pos v)) r };
 
     fn try_from(v: u64) -> Result<Decimal, Error> {
-        match i64::try_from(v) {
-            Ok(v) => Decimal::try_from(v),
-            Err(_) => Err(Error::OUT_OF_RANGE),
-        }
+        Decimal::try_from(Integer::try_from(v)?)
     }
 }
 
@@ -203,10 +191,7 @@ impl TryFrom<u128> for Decimal {
     ghost try_from_gives = { λ v r. GivesIf (IsWhole (pos v)) (thousandths_of (pos v)) r };
 
     fn try_from(v: u128) -> Result<Decimal, Error> {
-        match i64::try_from(v) {
-            Ok(v) => Decimal::try_from(v),
-            Err(_) => Err(Error::OUT_OF_RANGE),
-        }
+        Decimal::try_from(Integer::try_from(v)?)
     }
 }
 
@@ -216,10 +201,7 @@ impl TryFrom<usize> for Decimal {
     ghost try_from_gives = { λ v r. GivesIf (IsWhole (pos v)) (thousandths_of (pos v)) r };
 
     fn try_from(v: usize) -> Result<Decimal, Error> {
-        match i64::try_from(v) {
-            Ok(v) => Decimal::try_from(v),
-            Err(_) => Err(Error::OUT_OF_RANGE),
-        }
+        Decimal::try_from(Integer::try_from(v)?)
     }
 }
 
@@ -253,6 +235,10 @@ impl TryFrom<Integer> for Decimal {
     ghost try_from_gives = { λ n r. GivesIf (IsWhole n) (thousandths_of n) r };
 
     fn try_from(n: Integer) -> Result<Decimal, Error> {
-        Decimal::try_from(i64::from(n))
+        let v = i64::from(n);
+        if v < -999_999_999_999 || v > 999_999_999_999 {
+            return Err(Error::OUT_OF_RANGE);
+        }
+        Ok(Decimal::whole(v))
     }
 }

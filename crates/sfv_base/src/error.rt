@@ -13,7 +13,7 @@ use std::fmt;
 /// `OutOfRange` and `Empty` have none. `Display` prints the kind's text.
 #[derive(Clone, Copy, Debug, PartialEq, Eq)]
 pub enum ErrorKind {
-    /// A request for memory was refused.
+    /// Out of memory.
     OutOfMemory,
     /// A number isn't in the range of its type.
     OutOfRange,
@@ -35,9 +35,9 @@ pub enum ErrorKind {
     ExpectedStartOfBareItem,
     /// After `?` stands neither `0` nor `1`: there, or at the end.
     ExpectedBoolean,
-    /// A string holds a byte that isn't printable ASCII, not directly behind a backslash that escapes: at that byte.
+    /// A string holds a byte that isn't printable ASCII, not directly after a backslash that escapes: at that byte.
     InvalidStringCharacter,
-    /// The input ends in a string, not directly behind a backslash that escapes: at the end.
+    /// The input ends in a string, not directly after a backslash that escapes: at the end.
     UnterminatedString,
     /// The input ends in an escape of a string or a display string: at the end.
     UnterminatedEscapeSequence,
@@ -77,7 +77,7 @@ pub enum ErrorKind {
 }
 
 impl ErrorKind {
-    /// The text of the kind.
+    /// Returns the text of the kind.
     pub fn message(self) -> &'static str
         ensures { result.now ≡ message_of self }
     {
@@ -128,8 +128,8 @@ impl fmt::Display for ErrorKind {
 
 /// An error of this library: its kind and, where it has one, its place.
 ///
-/// `Display` prints the text of its kind, and ` at index N` behind it where it has an index N. Refused memory
-/// (`OutOfMemory`, and the allocator's own errors) becomes the kind `OutOfMemory` without an index.
+/// `Display` prints the text of its kind, and ` at index N` after it where it has an index N. `OutOfMemory` and the
+/// allocator's own errors become the kind `OutOfMemory` without an index.
 #[derive(Clone, Copy, Debug, PartialEq, Eq)]
 pub struct Error {
     kind: ErrorKind,
@@ -145,35 +145,42 @@ impl Error {
         index: None,
     };
 
-    /// The error of this kind, at this zero-based offset in bytes into the input.
+    /// Returns the error of this kind, at this zero-based offset in bytes into the input if it has one.
     pub fn with_kind(kind: ErrorKind, index: Option<usize>) -> Error
         ensures { result ≡ error_of kind index }
     {
         Error { kind, index }
     }
 
-    /// What kind of thing is wrong.
+    /// Returns the error of this kind at this zero-based offset in bytes into the input.
+    pub fn at(kind: ErrorKind, index: usize) -> Error
+        ensures { result ≡ error_of kind (Some index) }
+    {
+        Error::with_kind(kind, Some(index))
+    }
+
+    /// Returns what kind of thing is wrong.
     pub fn kind(&self) -> ErrorKind
         ensures { result ≡ kind_of self.now }
     {
         self.kind
     }
 
-    /// The zero-based offset in bytes into the input at which the error stands, if it has one.
+    /// Returns the zero-based offset in bytes into the input at which the error stands, if it has one.
     pub fn index(&self) -> Option<usize>
         ensures { result ≡ index_of self.now }
     {
         self.index
     }
 
-    /// The text of the error without its index.
+    /// Returns the text of the error without its index.
     pub fn message(&self) -> &'static str
         ensures { result.now ≡ message_of (kind_of self.now) }
     {
         self.kind.message()
     }
 
-    /// Whether a request for memory was refused.
+    /// Returns whether the kind is `OutOfMemory`.
     pub fn is_out_of_memory(&self) -> bool
         ensures { IsTrue result ↔ (kind_of self.now ≡ ErrorKind.OutOfMemory) }
     {
@@ -195,7 +202,7 @@ impl fmt::Display for Error {
 
 impl std::error::Error for Error {}
 
-/// A request for memory was refused. `Display` prints `out of memory`.
+/// Out of memory, which is also what `Display` prints.
 #[derive(Clone, Copy, Debug, PartialEq, Eq)]
 pub struct OutOfMemory;
 
@@ -245,11 +252,11 @@ impl<T: Drop> From<AllocFailed<T>> for Error {
     }
 }
 
-/// Why a text was not read: by itself, or since a visitor of it, whose errors are of type `E`, refused it.
+/// Why a text was not read: it is rejected, or its visitor, whose errors are of type `E`, failed.
 /// `Display` prints what it holds.
 #[derive(Debug, Drop)]
 pub enum ParseError<E> {
-    /// The text is malformed, or a request for memory was refused.
+    /// The text is malformed, or memory ran out.
     Syntax(Error),
     /// The visitor's own error.
     Visitor(E),
@@ -258,7 +265,7 @@ pub enum ParseError<E> {
 impl<E> ParseError<E> {
     ghost use Rattle.sfv_base.specs.ParseErrors.{parse_index};
 
-    /// The zero-based offset in bytes into the input at which the error stands, if it has one. A
+    /// Returns the zero-based offset in bytes into the input at which the error stands, if it has one. A
     /// visitor's error has none.
     pub fn index(&self) -> Option<usize>
         ensures { result ≡ parse_index self.now }

@@ -48,12 +48,32 @@ impl Integer {
     /// Zero.
     pub const ZERO: Integer = Integer { value: 0 };
 
-    /// The integer of this number, which is from -999999999999999 to 999999999999999.
-    pub fn constant(v: i64) -> Integer
+    // Takes a number that is known to be in range.
+    pub(crate) fn from_validated_i64(v: i64) -> Integer
         requires { IsInRange v }
         ensures { result ≡ v }
     {
         Integer { value: v }
+    }
+
+    /// Returns the integer of a number from -999999999999999 to 999999999999999.
+    pub fn constant(v: i64) -> Integer
+        requires { IsInRange v }
+        ensures { result ≡ v }
+    {
+        Integer::from_validated_i64(v)
+    }
+
+    // Tests the range.
+    fn in_range(v: i128) -> Result<Integer, Error>
+        ensures { GivesIf (IsInRange v) v result }
+    {
+        match i64::try_from(v) {
+            Ok(value) if Integer::MIN.value <= value && value <= Integer::MAX.value => {
+                Ok(Integer::from_validated_i64(value))
+            }
+            _ => Err(Error::OUT_OF_RANGE),
+        }
     }
 }
 
@@ -78,7 +98,7 @@ impl From<i8> for Integer {
     ghost from_gives = { λ v n. n ≡ v };
 
     fn from(v: i8) -> Integer {
-        Integer::constant(i64::from(v))
+        Integer::from_validated_i64(i64::from(v))
     }
 }
 
@@ -96,7 +116,7 @@ impl From<i16> for Integer {
     ghost from_gives = { λ v n. n ≡ v };
 
     fn from(v: i16) -> Integer {
-        Integer::constant(i64::from(v))
+        Integer::from_validated_i64(i64::from(v))
     }
 }
 
@@ -114,7 +134,7 @@ impl From<i32> for Integer {
     ghost from_gives = { λ v n. n ≡ v };
 
     fn from(v: i32) -> Integer {
-        Integer::constant(i64::from(v))
+        Integer::from_validated_i64(i64::from(v))
     }
 }
 
@@ -134,10 +154,7 @@ impl TryFrom<i64> for Integer {
     ghost try_from_gives = { λ v r. GivesIf (IsInRange v) v r };
 
     fn try_from(v: i64) -> Result<Integer, Error> {
-        if v < Integer::MIN.value || v > Integer::MAX.value {
-            return Err(Error::OUT_OF_RANGE);
-        }
-        Ok(Integer { value: v })
+        Integer::in_range(i128::from(v))
     }
 }
 
@@ -155,10 +172,7 @@ impl TryFrom<i128> for Integer {
     ghost try_from_gives = { λ v r. GivesIf (IsInRange v) v r };
 
     fn try_from(v: i128) -> Result<Integer, Error> {
-        match i64::try_from(v) {
-            Ok(v) => Integer::try_from(v),
-            Err(_) => Err(Error::OUT_OF_RANGE),
-        }
+        Integer::in_range(v)
     }
 }
 
@@ -176,10 +190,7 @@ impl TryFrom<isize> for Integer {
     ghost try_from_gives = { λ v r. GivesIf (IsInRange v) v r };
 
     fn try_from(v: isize) -> Result<Integer, Error> {
-        match i64::try_from(v) {
-            Ok(v) => Integer::try_from(v),
-            Err(_) => Err(Error::OUT_OF_RANGE),
-        }
+        Integer::in_range(v as i128)
     }
 }
 
@@ -197,7 +208,7 @@ impl From<u8> for Integer {
     ghost from_gives = { λ v n. n ≡ pos v };
 
     fn from(v: u8) -> Integer {
-        Integer::constant(i64::from(v))
+        Integer::from_validated_i64(i64::from(v))
     }
 }
 
@@ -215,7 +226,7 @@ impl From<u16> for Integer {
     ghost from_gives = { λ v n. n ≡ pos v };
 
     fn from(v: u16) -> Integer {
-        Integer::constant(i64::from(v))
+        Integer::from_validated_i64(i64::from(v))
     }
 }
 
@@ -233,7 +244,7 @@ impl From<u32> for Integer {
     ghost from_gives = { λ v n. n ≡ pos v };
 
     fn from(v: u32) -> Integer {
-        Integer::constant(i64::from(v))
+        Integer::from_validated_i64(i64::from(v))
     }
 }
 
@@ -253,10 +264,7 @@ impl TryFrom<u64> for Integer {
     ghost try_from_gives = { λ v r. GivesIf (IsInRange (pos v)) (pos v) r };
 
     fn try_from(v: u64) -> Result<Integer, Error> {
-        match i64::try_from(v) {
-            Ok(v) => Integer::try_from(v),
-            Err(_) => Err(Error::OUT_OF_RANGE),
-        }
+        Integer::in_range(i128::from(v))
     }
 }
 
@@ -276,10 +284,7 @@ impl TryFrom<u128> for Integer {
     ghost try_from_gives = { λ v r. GivesIf (IsInRange (pos v)) (pos v) r };
 
     fn try_from(v: u128) -> Result<Integer, Error> {
-        match i64::try_from(v) {
-            Ok(v) => Integer::try_from(v),
-            Err(_) => Err(Error::OUT_OF_RANGE),
-        }
+        Integer::in_range(i128::try_from(v).unwrap_or(i128::MAX))
     }
 }
 
@@ -299,10 +304,7 @@ impl TryFrom<usize> for Integer {
     ghost try_from_gives = { λ v r. GivesIf (IsInRange (pos v)) (pos v) r };
 
     fn try_from(v: usize) -> Result<Integer, Error> {
-        match i64::try_from(v) {
-            Ok(v) => Integer::try_from(v),
-            Err(_) => Err(Error::OUT_OF_RANGE),
-        }
+        Integer::in_range(v as i128)
     }
 }
 

@@ -5,7 +5,7 @@ ghost use Rattle.sfv_spec.specs.Values.{IsInRange};
 
 use crate::integer::Integer;
 
-/// The integer of this number, which is from -999999999999999 to 999999999999999: `Integer::constant` in short.
+/// Returns the integer of this number, which is from -999999999999999 to 999999999999999: `Integer::constant` in short.
 pub fn integer(v: i64) -> Integer
     requires { IsInRange v }
     ensures { result ≡ v }

@@ -141,14 +141,14 @@ fn numbers_become_integers(rt: HostRuntime) -> Result<(), Fail> {
     assert_eq!(rt; Integer::try_from(999_999_999_999_999u64)?, Integer::MAX);
     assert_eq!(rt; Integer::try_from(7u128)?, integer(7));
     assert_eq!(rt; Integer::try_from(7usize)?, integer(7));
-    let refused = [
+    let rejected = [
         Integer::try_from(i128::MIN),
         Integer::try_from(isize::MAX),
         Integer::try_from(1_000_000_000_000_000u64),
         Integer::try_from(u128::MAX),
         Integer::try_from(usize::MAX),
     ];
-    for result in refused {
+    for result in rejected {
         assert_eq!(rt; result, Err(Error::with_kind(ErrorKind::OutOfRange, None)));
     }
     Ok(())
@@ -199,13 +199,13 @@ fn numbers_become_decimals(rt: HostRuntime) -> Result<(), Fail> {
     for (decimal, want) in cases {
         assert_eq!(rt; decimal.to_string(rt.alloc())?.as_str(), want);
     }
-    let refused = [
+    let rejected = [
         Decimal::try_from(1_000_000_000_000i64),
         Decimal::try_from(-1_000_000_000_000i64),
         Decimal::try_from(u128::MAX),
         Decimal::try_from(Integer::MAX),
     ];
-    for result in refused {
+    for result in rejected {
         assert_eq!(rt; result, Err(Error::with_kind(ErrorKind::OutOfRange, None)));
     }
     Ok(())
@@ -242,7 +242,7 @@ fn errors_print(rt: HostRuntime) -> Result<(), Fail> {
 }
 
 #[test]
-fn refused_memory_prints(rt: HostRuntime) -> Result<(), Fail> {
+fn out_of_memory_prints(rt: HostRuntime) -> Result<(), Fail> {
     assert_eq!(rt;
         OutOfMemory.to_string(rt.alloc())?.as_str(),
         "out of memory"

@@ -33,7 +33,7 @@ module _ (edition : Edition) where
       let pairs : (v, c ∷ more) ≡ (w, []) = cc in
       ap (λ (x : BareValue × List ℕ). x.1) pairs
 
--- where two beginnings of a text end: the second is no longer, or goes on behind the first
+-- where two beginnings of a text end: the second is no longer, or goes on after the first
 parted : (a b c d : List ℕ) → a ++ b ≡ c ++ d → (length c ≤ length a) ⊎ ((more : List ℕ) × (c ≡ a ++ more) × (b ≡ more ++ d))
 parted [] b c d e = inr (c, refl, e)
 parted (x ∷ a) b [] d e = inl (omega arith)

@@ -122,12 +122,12 @@ minus_is_rejected : ¬ IsAccepted rfc9651 item_field (codes "-")
 unfolding give fail ruled bind led branch ahead back up_to span many many_within sign_at long_at decimal_at fraction_at point_at whole_at number_at token_at date_at bare_at parameter_at parameters_at item_at whole_field_at read_field
 minus_is_rejected = rejected rfc9651 item_field (codes "-") (at_reach expected_digit []) refl
 
--- no digit behind the point
+-- no digit after the point
 point_is_rejected : ¬ IsAccepted rfc9651 item_field (codes "1.")
 unfolding give fail ruled bind led branch ahead back up_to span many many_within sign_at long_at decimal_at fraction_at point_at whole_at number_at token_at date_at bare_at parameter_at parameters_at item_at whole_field_at read_field
 point_is_rejected = rejected rfc9651 item_field (codes "1.") (by_rule trailing_decimal_point (codes ".")) refl
 
--- four digits behind the point
+-- four digits after the point
 long_fraction_is_rejected : ¬ IsAccepted rfc9651 item_field (codes "1.2345")
 unfolding give fail ruled bind led branch ahead back up_to span many many_within sign_at long_at decimal_at fraction_at point_at whole_at number_at token_at date_at bare_at parameter_at parameters_at item_at whole_field_at read_field
 long_fraction_is_rejected = rejected rfc9651 item_field (codes "1.2345") (at_reach too_many_digits_after_decimal_point (codes "5")) refl
@@ -151,7 +151,7 @@ leading_tab_is_rejected : ¬ IsAccepted rfc9651 list_field (codes "\t1")
 unfolding fail bind led branch ahead back span many many_within token_at bare_at item_at member_at entry_at members_at whole_field_at read_field
 leading_tab_is_rejected = rejected rfc9651 list_field (codes "\t1") (record { kind = expected_start_of_bare_item; exact = true; rest = codes "\t1"; events = entry ∷ begins_item ∷ [] }) refl
 
--- a tab behind an item
+-- a tab after an item
 trailing_tab_is_rejected : ¬ IsAccepted rfc9651 item_field (codes "1\t")
 unfolding give fail ruled bind led branch ahead back up_to span many many_within sign_at long_at decimal_at fraction_at point_at whole_at number_at token_at date_at bare_at parameter_at parameters_at item_at whole_field_at read_field
 trailing_tab_is_rejected = rejected rfc9651 item_field (codes "1\t") (record { kind = trailing_characters_after_parsed_value; exact = true; rest = codes "\t"; events = bare_item (integer (pos 1)) ∷ parameters_end ∷ [] }) refl

@@ -13,18 +13,18 @@ use Rattle.sfv_reading.specs.Quoted.{string_at, display_at}
 unfoldable pub sign_at : Reader Bool
 sign_at = branch (byte minus_sign) (λ _. give true) (give false)
 
--- a fourth digit behind the point; in a Date the place has a rule of its own
+-- a fourth digit after the point; in a Date the place has a rule of its own
 unfoldable pub long_at : Bool → Reader (Option BareValue)
 long_at dated = if dated then ruled too_many_digits_after_decimal_point else fail too_many_digits_after_decimal_point
 
--- the Decimal of these digits, and nothing if none stands behind the point
+-- the Decimal of these digits, and nothing if none stands after the point
 unfoldable pub decimal_at : Bool → Bool → List ℕ → List ℕ → Reader (Option BareValue)
 decimal_at dated negative whole fraction =
     if length fraction == 0 then give None else
     ahead is_digit (long_at dated)
     (give (Some (decimal (signed negative (place_value whole * 1000 + place_value fraction * 10 ^ (3 - length fraction))))))
 
--- the digits behind the point
+-- the digits after the point
 unfoldable pub fraction_at : Bool → Bool → List ℕ → Reader (Option BareValue)
 fraction_at dated negative whole = up_to is_digit 3 >>= λ fraction. decimal_at dated negative whole fraction
 
@@ -32,7 +32,7 @@ fraction_at dated negative whole = up_to is_digit 3 >>= λ fraction. decimal_at 
 unfoldable pub point_at : Bool → Bool → List ℕ → Reader BareValue
 point_at dated negative whole = back trailing_decimal_point (branch (byte dot) (λ _. fraction_at dated negative whole) (give None))
 
--- behind the first digits, of which there are fifteen at most
+-- after the first digits, of which there are fifteen at most
 unfoldable pub whole_at : Bool → Bool → List ℕ → Reader BareValue
 whole_at dated negative whole =
     if length whole == 0 then fail expected_digit else
@@ -45,7 +45,7 @@ whole_at dated negative whole =
 unfoldable pub number_at : Bool → Reader BareValue
 number_at dated = sign_at >>= λ negative. up_to is_digit 15 >>= λ whole. whole_at dated negative whole
 
--- behind the question mark
+-- after the question mark
 unfoldable pub boolean_at : Reader BareValue
 boolean_at = branch (byte digit_zero) (λ _. give (boolean false)) (branch (byte digit_one) (λ _. give (boolean true)) (fail expected_boolean))
 

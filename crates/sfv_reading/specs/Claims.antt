@@ -43,11 +43,11 @@ FailedBegins = (kind : FieldKind) (es before : List TreeEvent) (e : TreeEvent) (
 abbrev pub ItemIsValue : Type 0
 ItemIsValue = (edition : Edition) (i : RawItem) (t : List ℕ) → IsItemText edition i t → IsFieldValue item_field i
 
--- a comma and blanks at the end, behind a field with a member
+-- a comma and blanks at the end, after a field with a member
 abbrev pub CommaRow : Type 0
 CommaRow = (edition : Edition) (kind : FieldKind) (t : List ℕ) (index : ℕ) → IsTrailingComma edition kind t index → (raw : RawField kind) × (read_field edition kind t ≡ Err (record { kind = trailing_comma; exact = false; rest = drop index t; events = events kind raw }))
 
--- the fault is that of a bare item, which is wanted behind before
+-- the fault is that of a bare item, which is wanted after before
 pub record Origin (edition : Edition) (t : List ℕ) (e : Fault) : Type 0 where
   pub before : List ℕ
   pub item : List ℕ
@@ -58,7 +58,7 @@ pub record Origin (edition : Edition) (t : List ℕ) (e : Fault) : Type 0 where
   pub kind : fault.kind ≡ e.kind
   pub rest : fault.rest ≡ e.rest
 
--- the comma at the end, behind members
+-- the comma at the end, after members
 pub record CommaAt {A : Type 0} (P : A → List ℕ → Type 0) (t : List ℕ) (e : Fault) : Type 0 where
   pub before : List ℕ
   pub whitespace : List ℕ
@@ -125,7 +125,7 @@ IsBytesFault t e =
 abbrev pub BytesRead : Type 0
 BytesRead = Sound bytes_at IsBytesEnd (Mute IsBytesEnd) Quiet × Complete bytes_at IsBytesEnd × ((t : List ℕ) (e : Fault) → (bytes_at t ≡ Err e) ↔ IsBytesFault t e) × Local bytes_at
 
--- In a text in which a bare item is wanted behind before, and a Byte Sequence begins there, the reader gives
+-- In a text in which a bare item is wanted after before, and a Byte Sequence begins there, the reader gives
 -- this fault by its rule, where so much of the whole is left.
 pub record IsFaultOfBytes (edition : Edition) (kind : FieldKind) (whole : List ℕ) (k : SyntaxFault) (index : ℕ) : Type 0 where
   pub before : List ℕ
@@ -163,7 +163,7 @@ StringRead = Sound string_at IsStringEnd (Mute IsStringEnd) Quiet × Complete st
 abbrev pub DisplayRead : Type 0
 DisplayRead = Sound display_at IsDisplayEnd (Mute IsDisplayEnd) Quiet × Complete display_at IsDisplayEnd × Faults false display_at IsDisplayFault × Local display_at × ((t : List ℕ) → StaysButText display_at t (display_at t))
 
--- In a text in which a bare item is wanted behind before, and a Display String begins there, the reader gives
+-- In a text in which a bare item is wanted after before, and a Display String begins there, the reader gives
 -- this fault, where so much of the whole is left.
 pub record IsFaultOfDisplay (edition : Edition) (kind : FieldKind) (whole : List ℕ) (k : SyntaxFault) (index : ℕ) : Type 0 where
   pub known : edition ≡ rfc9651

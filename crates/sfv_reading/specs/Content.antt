@@ -1,4 +1,4 @@
--- Reading a Byte Sequence: its content from left to right, and the reader behind the opening colon.
+-- Reading a Byte Sequence: its content from left to right, and the reader after the opening colon.
 use Rattle.std.specs.Prelude.{◌≡◌, ◌++◌, ℕ, zero, suc, ◌+◌, ◌-◌, ◌*◌, ◌/◌, ◌%◌, ◌==◌, List, [], ◌∷◌, length, drop, Bool, not, ◌&&◌, if◌then◌else◌, Option, Some, None, Ok, Err, codes}
 use Rattle.std.specs.List.{list_any}
 use Rattle.sfv_spec.specs.Ascii.{plus_sign, slash, digit_zero, digit_nine, colon, equals_sign, upper_a, upper_z, lower_a, lower_z}
@@ -26,7 +26,7 @@ padding_in zero t = 0
 padding_in (suc k) [] = 0
 padding_in (suc k) (c ∷ t) = if c == equals_sign then suc (padding_in k t) else 0
 
--- behind n symbols, how many bytes some Base64 text goes on with
+-- after n symbols, how many bytes some Base64 text goes on with
 unfoldable pub valid_from : ℕ → List ℕ → ℕ
 valid_from n [] = 0
 valid_from n (c ∷ t) = if is_symbol c then suc (valid_from (suc n) t) else padding_in (most_padding n) (c ∷ t)
@@ -55,9 +55,9 @@ unfoldable pub fault_place : List ℕ → ℕ
 fault_place content =
     if valid_from 0 content == length content then valid_from 0 content - 1 else valid_from 0 content
 
--- ---- behind the opening colon, with the closing one
+-- ---- after the opening colon, with the closing one
 
--- the texts behind the opening colon
+-- the texts after the opening colon
 abbrev pub IsBytesEnd : List ℕ → List ℕ → Type 0
 IsBytesEnd bytes t = (IsBase64Text bytes ⨾ Exactly (codes ":")) t
 

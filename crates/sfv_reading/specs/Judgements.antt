@@ -4,7 +4,7 @@ use Rattle.sfv_spec.specs.Events.{TreeEvent}
 use Rattle.sfv_spec.specs.Faults.{has_rule, invalid_utf8_in_display_string}
 use Rattle.sfv_reading.specs.Reader.{Fault, Answer, Reader, first}
 
--- W u es: u is a text of the grammar, and es begins what is visited for it. Such a text goes on behind
+-- W u es: u is a text of the grammar, and es begins what is visited for it. Such a text goes on after
 -- what stands before the fault.
 pub record GoesOn (W : List ℕ → List TreeEvent → Type 0) (t : List ℕ) (e : Fault) : Type 0 where
   pub front : List ℕ

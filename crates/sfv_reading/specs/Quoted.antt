@@ -1,4 +1,4 @@
--- Reading Strings and Display Strings: what stands behind the opening quote, from left to right.
+-- Reading Strings and Display Strings: what stands after the opening quote, from left to right.
 use Rattle.std.specs.Prelude.{◌≡◌, ℕ, zero, suc, ◌≤◌, ◌+◌, ◌*◌, Bool, true, false, List, [], ◌∷◌, ◌++◌, length, drop, Ok, Err, IsFalse, IsUtf8, ◌==◌, if◌then◌else◌, codes}
 use Rattle.std.specs.List.{concat, AllZip}
 use Rattle.std.specs.Str.{is_utf8}
@@ -10,20 +10,20 @@ use Rattle.sfv_spec.specs.Strings.{is_escaped_in_string, hexadecimal_value, IsSt
 use Rattle.sfv_spec.specs.Faults.{SyntaxFault, invalid_string_character, unterminated_string, unterminated_escape_sequence, invalid_escape_sequence, invalid_utf8_in_display_string, invalid_display_string_character, unterminated_display_string}
 use Rattle.sfv_reading.specs.Reader.{Answer, Reader, at_reach, by_rule}
 
--- the texts of a String behind its opening quote
+-- the texts of a String after its opening quote
 abbrev pub IsStringEnd : List ℕ → List ℕ → Type 0
 IsStringEnd s t = (IsStringContent s ⨾ Exactly (codes "\"")) t
 
--- the texts of a Display String behind its opening quote
+-- the texts of a Display String after its opening quote
 abbrev pub IsDisplayEnd : List ℕ → List ℕ → Type 0
 IsDisplayEnd s t = (IsDisplayContent s ⨾ Exactly (codes "\"")) t
 
--- an answer behind bytes that were read before
+-- an answer after bytes that were read before
 abbrev pub behind_bytes : List ℕ → Answer (List ℕ) → Answer (List ℕ)
 behind_bytes bytes (Ok x) = Ok (bytes ++ x.0, x.1)
 behind_bytes bytes (Err e) = Err e
 
--- ---- a String, also behind a backslash
+-- ---- a String, also after a backslash
 
 -- the bytes up to the closing quote; true: the next byte is escaped
 unfoldable pub string_from : Bool → Reader (List ℕ)
@@ -38,11 +38,11 @@ string_from true (c ∷ r) =
     if is_escaped_in_string c then behind_bytes (c ∷ []) (string_from false r)
     else Err (at_reach invalid_escape_sequence (c ∷ r))
 
--- behind the opening quote, with the closing one
+-- after the opening quote, with the closing one
 abbrev pub string_at : Reader (List ℕ)
 string_at = string_from false
 
--- ---- a Display String, also behind a percent sign, and behind that and a digit
+-- ---- a Display String, also after a percent sign, and after that and a digit
 
 -- where in a Display String the next byte stands
 pub data Place : Type 0 where
@@ -66,7 +66,7 @@ pieces_from (digit h) (c ∷ r) =
     if is_lower_hexadecimal c then behind_bytes ((16 * hexadecimal_value h + hexadecimal_value c) ∷ []) (pieces_from outside r)
     else Err (by_rule invalid_escape_sequence (c ∷ r))
 
--- what stands behind n pieces
+-- what stands after n pieces
 abbrev pub behind_pieces : ℕ → List ℕ → List ℕ
 behind_pieces zero t = t
 behind_pieces (suc n) [] = []
@@ -77,7 +77,7 @@ abbrev pub checked : List ℕ → Answer (List ℕ) → Answer (List ℕ)
 checked t (Ok x) = if is_utf8 x.0 then Ok x else Err (by_rule invalid_utf8_in_display_string (behind_pieces (utf8_valid_len x.0) t))
 checked t (Err e) = Err e
 
--- behind the opening quote, with the closing one
+-- after the opening quote, with the closing one
 unfoldable pub display_at : Reader (List ℕ)
 display_at t = checked t (pieces_from outside t)
 
@@ -99,7 +99,7 @@ DisplayStops invalid_escape_sequence left there = (digits : List ℕ) × (wrong 
 DisplayStops invalid_display_string_character left there = (wrong : ℕ) × (more : List ℕ) × (left ≡ wrong ∷ more) × (there ≡ wrong ∷ more) × IsFalse (is_string_byte wrong)
 DisplayStops _ left there = ⊥
 
--- The pieces that are read, one for each byte, and what is left behind them.
+-- The pieces that are read, one for each byte, and what is left after them.
 pub record Traced (P : ℕ → List ℕ → Type 0) (t : List ℕ) (Ends : List ℕ → List ℕ → Type 0) : Type 0 where
   pub bytes : List ℕ
   pub pieces : List (List ℕ)

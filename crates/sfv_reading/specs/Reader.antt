@@ -3,7 +3,7 @@ use Rattle.std.specs.Prelude.{◌≡◌, ℕ, zero, suc, Bool, true, false, List
 use Rattle.sfv_spec.specs.Events.{TreeEvent}
 use Rattle.sfv_spec.specs.Faults.{SyntaxFault, unterminated_byte_sequence}
 
--- What is met first that isn't of the grammar. Where it is exact, the rest begins at the first byte behind
+-- What is met first that isn't of the grammar. Where it is exact, the rest begins at the first byte after
 -- which no text of the grammar goes on; the events are those that were visited before.
 pub record Fault : Type 0 where
   pub kind : SyntaxFault
@@ -31,7 +31,7 @@ Answer A = Result (A × List ℕ) Fault
 abbrev pub Reader : Type 0 → Type 0
 Reader A = List ℕ → Answer A
 
--- behind events that were visited before
+-- after events that were visited before
 abbrev pub behind_events : List TreeEvent → Fault → Fault
 behind_events es e = record { kind = e.kind; exact = e.exact; rest = e.rest; events = es ++ e.events }
 
@@ -47,12 +47,12 @@ fail k t = Err (at_reach k t)
 unfoldable pub ruled : {A : Type 0} → SyntaxFault → Reader A
 ruled k t = Err (by_rule k t)
 
--- goes on behind an answer, if it is no fault
+-- goes on after an answer, if it is no fault
 abbrev pub and_then : {A B : Type 0} → Answer A → (A → Reader B) → Answer B
 and_then (Ok x) g = g x.0 x.1
 and_then (Err e) g = Err e
 
--- one reader behind another
+-- one reader after another
 unfoldable pub bind : {A B : Type 0} → Reader A → (A → Reader B) → Reader B
 bind f g t = and_then (f t) g
 
@@ -60,7 +60,7 @@ infixl 10 ◌>>=◌
 abbrev pub ◌>>=◌ : {A B : Type 0} → Reader A → (A → Reader B) → Reader B
 f >>= g = bind f g
 
--- an answer behind these events
+-- an answer after these events
 abbrev pub led_answer : {A : Type 0} → List TreeEvent → Answer A → Answer A
 led_answer es (Ok x) = Ok x
 led_answer es (Err e) = Err (behind_events es e)
@@ -99,7 +99,7 @@ unfoldable pub span : (ℕ → Bool) → Reader (List ℕ)
 span class [] = Ok ([], [])
 span class (c ∷ r) = if class c then and_then (span class r) (λ cs. give (c ∷ cs)) else Ok ([], c ∷ r)
 
--- behind a step: more of them, or the end
+-- after a step: more of them, or the end
 abbrev pub go_on : {A : Type 0} → (A → List TreeEvent) → Reader (List A) → Option A → Reader (List A)
 go_on parts more None = give []
 go_on parts more (Some a) = led (parts a) (more >>= λ vs. give (a ∷ vs))
@@ -113,7 +113,7 @@ many_within parts (suc n) step = step >>= go_on parts (many_within parts n step)
 unfoldable pub many : {A : Type 0} → (A → List TreeEvent) → Reader (Option A) → Reader (List A)
 many parts step t = many_within parts (suc (length t)) step t
 
--- one, and what the steps behind it give
+-- one, and what the steps after it give
 abbrev pub one_and_more : {A : Type 0} → (A → List TreeEvent) → Reader A → Reader (Option A) → Reader (List A)
 one_and_more parts one next = one >>= λ v. led (parts v) (many parts next >>= λ vs. give (v ∷ vs))
 

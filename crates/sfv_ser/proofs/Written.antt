@@ -8,6 +8,7 @@ use Rattle.std.proofs.lemmas.Bool.{and_parts, not-true, leb-true}
 use Rattle.std.proofs.lemmas.List.Folds.{list_all-append}
 use Rattle.std.proofs.lemmas.List.{append-nil, length-append, take_at}
 use Rattle.std.proofs.lemmas.Str.{IsUtf8-string_bytes, IsCharBoundary-from_take}
+use Rattle.sfv_spec.specs.Ascii.{backslash}
 use Rattle.sfv_spec.specs.Texts.{RunOf}
 use Rattle.sfv_spec.specs.Classes.{is_string_byte}
 use Rattle.sfv_spec.specs.Strings.{is_escaped_in_string, is_plain_in_display, is_plain_in_string}
@@ -60,7 +61,7 @@ pub display_itself : (c : ℕ) → is_plain_in_display c ≡ true → display_pi
 display_itself c e = rw e refl
 
 pub string_itself : (c : ℕ) → is_plain_in_string c ≡ true → string_piece c ≡ c ∷ []
-string_itself c e = ap (λ (b : Bool). cond b (0x5c ∷ c ∷ []) (c ∷ [])) (not-true (is_escaped_in_string c) (and_parts (is_string_byte c) (not (is_escaped_in_string c)) e).1)
+string_itself c e = ap (λ (b : Bool). cond b (backslash ∷ c ∷ []) (c ∷ [])) (not-true (is_escaped_in_string c) (and_parts (is_string_byte c) (not (is_escaped_in_string c)) e).1)
 
 -- a text that was added to may be cut where the old one ended
 pub cut_back : {Z T E : Type 0} (old new : String Z) (result : Result T E) (len : ℕ) → len ≡ length (string_bytes old) → OnErr result (Extends (string_bytes old) (string_bytes new)) → OnErr result (IsCharBoundary (string_bytes new) len)

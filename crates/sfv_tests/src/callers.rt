@@ -20,7 +20,7 @@ use sfv::{
 use std::alloc::{AllocError, Global};
 use std::cmp::Ordering;
 
-/// Writes an item of one parameter behind what stands in the text. Where memory is refused, the text holds what was
+/// Writes an item of one parameter after what stands in the text. Where memory is refused, the text holds what was
 /// written before the call that was refused.
 pub fn write_item(
     text: &mut String,
@@ -38,7 +38,7 @@ pub fn write_item(
     Ok(())
 }
 
-/// Writes an item part by part behind what stands in the text: its canonical text.
+/// Writes an item part by part after what stands in the text: its canonical text.
 pub fn write_parts(text: &mut String, item: &Item) -> Result<(), OutOfMemory>
     ensures { OnOk result (string_bytes text.new ≡ string_bytes text.old ++ item_text (item_tree item.now)) }
 {
@@ -139,7 +139,7 @@ pub fn same_date(a: Date, b: Date) -> bool
     a == b
 }
 
-/// Reads a further line of a list: its members stand behind those of the line before.
+/// Reads a further line of a list: its members stand after those of the line before.
 pub fn list_of_lines(
     alloc: Global,
     first: &[u8],
@@ -154,7 +154,7 @@ pub fn list_of_lines(
     Parser::new(second).parse_list_with_visitor(alloc, builder)
 }
 
-/// Reads a further line of a dictionary: as if its members stood behind those of the line before in one field. Each key is
+/// Reads a further line of a dictionary: as if its members stood after those of the line before in one field. Each key is
 /// there once, at its first place, with the whole member of its last occurrence.
 pub fn dictionary_of_lines(
     alloc: Global,

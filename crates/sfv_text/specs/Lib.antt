@@ -1,4 +1,3 @@
-pub mod AsciiTexts
 pub mod CheckedTexts
 pub mod KeyText
 pub mod TokenText

@@ -3,7 +3,6 @@
 ghost use Rattle.std.specs.Prelude.{codes};
 ghost use Rattle.sfv_spec.specs.Classes.{is_key};
 ghost use Rattle.sfv_text.specs.InvalidTexts.{IsInvalidKey};
-ghost use Rattle.sfv_text.specs.AsciiTexts.{key_utf8};
 
 use crate::checked_text::CheckedText;
 use crate::key_ref::KeyRef;
@@ -22,8 +21,7 @@ impl TextClass for KeyClass {
 
     ghost name = { codes "Key" };
 
-    ghost is_utf8 = { key_utf8 };
-
+    #[tactic(auto, using(crate::proofs::Ascii::key_utf8))]
     fn check(bytes: &[u8]) -> Result<(), Error> {
         check_key(bytes)
     }

@@ -4,7 +4,6 @@ ghost use Rattle.std.specs.Prelude.{codes};
 ghost use Rattle.std.specs.List.{list_all};
 ghost use Rattle.sfv_spec.specs.Classes.{is_string_byte};
 ghost use Rattle.sfv_text.specs.InvalidTexts.{IsInvalidString};
-ghost use Rattle.sfv_text.specs.AsciiTexts.{string_utf8};
 
 use crate::checked_text::CheckedText;
 use crate::string_ref::StringRef;
@@ -25,8 +24,7 @@ impl TextClass for StringClass {
 
     ghost name = { codes "String" };
 
-    ghost is_utf8 = { string_utf8 };
-
+    #[tactic(auto, using(crate::proofs::Ascii::string_utf8))]
     fn check(bytes: &[u8]) -> Result<(), Error> {
         check_string(bytes)
     }

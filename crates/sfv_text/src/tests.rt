@@ -92,20 +92,20 @@ fn borrowed_texts_are_owned_and_lent(rt: HostRuntime) -> Result<(), Fail> {
 #[test]
 fn texts_become_owned(rt: HostRuntime) -> Result<(), Fail> {
     let text = StdString::from_str(rt.alloc(), "a")?;
-    let key = Key::from_string(text.clone()?).ok().ok_or("refused")?;
+    let key = Key::from_string(text.clone()?).ok().ok_or("rejected")?;
     assert!(rt; key.clone()? == Key::try_from(text.clone()?)?);
     assert_eq!(rt; StdString::from(key).as_str(), "a");
-    let token = Token::from_string(text.clone()?).ok().ok_or("refused")?;
+    let token = Token::from_string(text.clone()?).ok().ok_or("rejected")?;
     assert!(rt; token.clone()? == Token::try_from(text.clone()?)?);
     assert_eq!(rt; StdString::from(token).as_str(), "a");
-    let string = String::from_string(text.clone()?).ok().ok_or("refused")?;
+    let string = String::from_string(text.clone()?).ok().ok_or("rejected")?;
     assert!(rt; string.clone()? == String::try_from(text)?);
     assert_eq!(rt; StdString::from(string).as_str(), "a");
     Ok(())
 }
 
 #[test]
-fn refused_texts_come_back(rt: HostRuntime) -> Result<(), Fail> {
+fn rejected_texts_come_back(rt: HostRuntime) -> Result<(), Fail> {
     let alloc = rt.alloc();
     let (error, text) = Key::from_string(StdString::from_str(alloc, "key!")?)
         .err()

@@ -1,6 +1,6 @@
 //! Classes of texts: keys, tokens and strings.
 
-ghost use Rattle.std.specs.Prelude.{◌≡◌, IsTrue, List, ℕ, Bool, MatchResult};
+ghost use Rattle.std.specs.Prelude.{◌≡◌, IsTrue, List, ℕ, Bool, IfOk, MatchResult};
 ghost use Rattle.std.specs.Str.{IsUtf8};
 ghost use Rattle.sfv_base.specs.declared.error.Error.{Error as error};
 
@@ -27,13 +27,12 @@ pub trait TextClass: sealed::Sealed + Drop {
 
     ghost name: { List ℕ };
 
-    /// Whether the bytes are a text of the class, or why they are none.
+    /// Tests whether the bytes are a text of the class, or returns why they are none.
     fn check(bytes: &[u8]) -> Result<(), Error>
-        ensures { MatchResult result (λ _. IsTrue (is_valid bytes.now)) (IsInvalid bytes.now) };
+        ensures checked { MatchResult result (λ _. IsTrue (is_valid bytes.now)) (IsInvalid bytes.now) }
+        ensures utf8 { IfOk result (λ _. IsUtf8 bytes.now) };
 
-    /// The name of the type of texts of the class.
+    /// Returns the name of the type of texts of the class.
     fn name() -> &'static str
         ensures { result.now ≡ name };
-
-    ghost is_utf8: { (t : List ℕ) → IsTrue (is_valid t) → IsUtf8 t };
 }

@@ -3,7 +3,6 @@
 ghost use Rattle.std.specs.Prelude.{codes};
 ghost use Rattle.sfv_spec.specs.Classes.{is_token};
 ghost use Rattle.sfv_text.specs.InvalidTexts.{IsInvalidToken};
-ghost use Rattle.sfv_text.specs.AsciiTexts.{token_utf8};
 
 use crate::checked_text::CheckedText;
 use crate::text_class::TextClass;
@@ -22,8 +21,7 @@ impl TextClass for TokenClass {
 
     ghost name = { codes "Token" };
 
-    ghost is_utf8 = { token_utf8 };
-
+    #[tactic(auto, using(crate::proofs::Ascii::token_utf8))]
     fn check(bytes: &[u8]) -> Result<(), Error> {
         check_token(bytes)
     }

@@ -1,9 +1,8 @@
 //! What makes a text a key, a token or a string.
 
-ghost use Rattle.std.specs.Prelude.{◌≡◌, IsTrue, MatchResult, Some, not, position};
+ghost use Rattle.std.specs.Prelude.{◌≡◌, IsTrue, MatchResult, not, position};
 ghost use Rattle.std.specs.List.{list_all};
 ghost use Rattle.sfv_spec.specs.Classes.{is_key, is_key_inner, is_token, is_token_inner, is_string_byte};
-ghost use Rattle.sfv_base.specs.Errors.{error_of};
 ghost use Rattle.sfv_text.specs.InvalidTexts.{IsInvalidKey, IsInvalidToken, IsInvalidString};
 
 use sfv_base::error::{Error, ErrorKind};
@@ -12,34 +11,28 @@ use sfv_base::utils::{
     is_allowed_start_token_char, is_allowed_string_char,
 };
 
-fn invalid_character(index: usize) -> Error
-    ensures { result ≡ error_of ErrorKind.InvalidCharacter (Some index) }
-{
-    Error::with_kind(ErrorKind::InvalidCharacter, Some(index))
-}
-
-/// The index of the first byte that may not stand behind the first of a key.
+/// Returns the index of the first byte that may not stand after the first of a key.
 fn first_outside_keys(bytes: &[u8]) -> Option<usize>
     ensures { result ≡ position (λ b. not (is_key_inner b)) bytes.now }
 {
     bytes.iter().position(|c| !is_allowed_inner_key_char(*c))
 }
 
-/// The index of the first byte that may not stand behind the first of a token.
+/// Returns the index of the first byte that may not stand after the first of a token.
 fn first_outside_tokens(bytes: &[u8]) -> Option<usize>
     ensures { result ≡ position (λ b. not (is_token_inner b)) bytes.now }
 {
     bytes.iter().position(|c| !is_allowed_inner_token_char(*c))
 }
 
-/// The index of the first byte that a string may not hold.
+/// Returns the index of the first byte that a string may not hold.
 fn first_outside_strings(bytes: &[u8]) -> Option<usize>
     ensures { result ≡ position (λ b. not (is_string_byte b)) bytes.now }
 {
     bytes.iter().position(|c| !is_allowed_string_char(*c))
 }
 
-/// Whether the bytes are a key, or why they are none.
+/// Tests whether the bytes are a key, or returns why they are none.
 #[tactic(auto, using(crate::proofs::Outside::all_from_position))]
 pub(crate) fn check_key(bytes: &[u8]) -> Result<(), Error>
     ensures { MatchResult result (λ _. IsTrue (is_key bytes.now)) (IsInvalidKey bytes.now) }
@@ -48,15 +41,15 @@ pub(crate) fn check_key(bytes: &[u8]) -> Result<(), Error>
         return Err(Error::with_kind(ErrorKind::Empty, None));
     };
     if !is_allowed_start_key_char(*start) {
-        return Err(invalid_character(0));
+        return Err(Error::at(ErrorKind::InvalidCharacter, 0));
     }
     match first_outside_keys(inner) {
-        Some(index) => Err(invalid_character(index + 1)),
+        Some(index) => Err(Error::at(ErrorKind::InvalidCharacter, index + 1)),
         None => Ok(()),
     }
 }
 
-/// Whether the bytes are a token, or why they are none.
+/// Tests whether the bytes are a token, or returns why they are none.
 #[tactic(auto, using(crate::proofs::Outside::all_from_position))]
 pub(crate) fn check_token(bytes: &[u8]) -> Result<(), Error>
     ensures { MatchResult result (λ _. IsTrue (is_token bytes.now)) (IsInvalidToken bytes.now) }
@@ -65,15 +58,15 @@ pub(crate) fn check_token(bytes: &[u8]) -> Result<(), Error>
         return Err(Error::with_kind(ErrorKind::Empty, None));
     };
     if !is_allowed_start_token_char(*start) {
-        return Err(invalid_character(0));
+        return Err(Error::at(ErrorKind::InvalidCharacter, 0));
     }
     match first_outside_tokens(inner) {
-        Some(index) => Err(invalid_character(index + 1)),
+        Some(index) => Err(Error::at(ErrorKind::InvalidCharacter, index + 1)),
         None => Ok(()),
     }
 }
 
-/// Whether the bytes may be a string, or why they may not.
+/// Tests whether the bytes are a string, or returns why they are none.
 #[tactic(auto, using(crate::proofs::Outside::all_from_position))]
 pub(crate) fn check_string(bytes: &[u8]) -> Result<(), Error>
     ensures { MatchResult result
@@ -81,7 +74,7 @@ pub(crate) fn check_string(bytes: &[u8]) -> Result<(), Error>
         (IsInvalidString bytes.now) }
 {
     match first_outside_strings(bytes) {
-        Some(index) => Err(invalid_character(index)),
+        Some(index) => Err(Error::at(ErrorKind::InvalidCharacter, index)),
         None => Ok(()),
     }
 }

@@ -47,7 +47,7 @@ fn line(alloc: Global, text: Option<String>) -> Result<String, Error>
 /// Reads the input as an item, and answers its canonical text and a newline.
 fn answer_item(alloc: Global, version: Version, input: &[u8]) -> Result<String, Error>
     ensures accepted { IfOk result (λ text. IsAnswer (edition_of version) item_field input.now (string_bytes text)) }
-    ensures refused { IfErr result (IsParseError (edition_of version) item_field input.now) }
+    ensures rejected { IfErr result (IsParseError (edition_of version) item_field input.now) }
     ensures fault { IfErr result (IsReaderFault (edition_of version) item_field input.now) }
 {
     let parser = Parser::new(input).with_version(version);
@@ -58,7 +58,7 @@ fn answer_item(alloc: Global, version: Version, input: &[u8]) -> Result<String, 
 /// Reads the input as a list, and answers its canonical text and a newline.
 fn answer_list(alloc: Global, version: Version, input: &[u8]) -> Result<String, Error>
     ensures accepted { IfOk result (λ text. IsAnswer (edition_of version) list_field input.now (string_bytes text)) }
-    ensures refused { IfErr result (IsParseError (edition_of version) list_field input.now) }
+    ensures rejected { IfErr result (IsParseError (edition_of version) list_field input.now) }
     ensures fault { IfErr result (IsReaderFault (edition_of version) list_field input.now) }
 {
     let parser = Parser::new(input).with_version(version);
@@ -69,7 +69,7 @@ fn answer_list(alloc: Global, version: Version, input: &[u8]) -> Result<String, 
 /// Reads the input as a dictionary, and answers its canonical text and a newline.
 fn answer_dictionary(alloc: Global, version: Version, input: &[u8]) -> Result<String, Error>
     ensures accepted { IfOk result (λ text. IsAnswer (edition_of version) dictionary_field input.now (string_bytes text)) }
-    ensures refused { IfErr result (IsParseError (edition_of version) dictionary_field input.now) }
+    ensures rejected { IfErr result (IsParseError (edition_of version) dictionary_field input.now) }
     ensures fault { IfErr result (IsReaderFault (edition_of version) dictionary_field input.now) }
 {
     let parser = Parser::new(input).with_version(version);
@@ -82,7 +82,7 @@ fn answer_dictionary(alloc: Global, version: Version, input: &[u8]) -> Result<St
 /// fault that `Parser::parse` answers.
 pub fn answer(alloc: Global, field: Field, version: Version, input: &[u8]) -> Result<String, Error>
     ensures accepted { IfOk result (λ text. IsAnswer (edition_of version) (kind_of_field field) (without_newline input.now) (string_bytes text)) }
-    ensures refused { IfErr result (IsParseError (edition_of version) (kind_of_field field) (without_newline input.now)) }
+    ensures rejected { IfErr result (IsParseError (edition_of version) (kind_of_field field) (without_newline input.now)) }
     ensures fault { IfErr result (IsReaderFault (edition_of version) (kind_of_field field) (without_newline input.now)) }
 {
     let input = without_newline(input);

@@ -12,7 +12,7 @@ use std::env::Env;
 use std::process::ExitCode;
 use std::{env, io};
 
-/// The arguments behind the name of the program.
+/// The arguments after the name of the program.
 fn arguments<R: Env + AllocGlobal>(rt: &R) -> io::Result<Vec<String>> {
     let mut args = Vec::new(rt.alloc());
     for arg in env::args(rt)?.skip(1) {
@@ -27,9 +27,9 @@ fn main(rt: HostRuntime) -> ExitCode {
     let status = run(
         rt.alloc(),
         args.as_slice(),
-        rt.stdin(),
-        rt.stdout(),
-        rt.stderr(),
+        &mut rt.stdin(),
+        &mut rt.stdout(),
+        &mut rt.stderr(),
     );
     ExitCode::from(status)
 }

@@ -6,7 +6,7 @@ use std::io;
 use std::io::{Read, Write};
 use std::test::Fail;
 
-/// A reader that fails behind its bytes.
+/// A reader that fails after its bytes.
 #[derive(Drop)]
 struct Broken<'a> {
     left: &'a [u8],
@@ -35,6 +35,20 @@ impl Write for Full {
     }
 }
 
+/// A writer that can't be flushed.
+#[derive(Drop)]
+struct Unflushed;
+
+impl Write for Unflushed {
+    fn write(&mut self, buf: &[u8]) -> io::Result<usize> {
+        Ok(buf.len())
+    }
+
+    fn flush(&mut self) -> io::Result<()> {
+        Err(io::Error::from(io::ErrorKind::StorageFull))
+    }
+}
+
 fn words(alloc: Global, args: &[&str]) -> Result<Vec<String>, Fail> {
     let mut all = Vec::new(alloc);
     for arg in args {
@@ -56,7 +70,8 @@ fn run_over(alloc: Global, args: &[&str], input: &[u8]) -> Result<Ended, Fail> {
     let args = words(alloc, args)?;
     let mut output = Vec::new(alloc);
     let mut errors = Vec::new(alloc);
-    let status = run(alloc, args.as_slice(), input, &mut output, &mut errors);
+    let mut input = input;
+    let status = run(alloc, args.as_slice(), &mut input, &mut output, &mut errors);
     Ok(Ended {
         output,
         errors,
@@ -117,7 +132,15 @@ fn items(rt: HostRuntime) -> Result<(), Fail> {
 
 #[test]
 fn lists_and_dictionaries(rt: HostRuntime) -> Result<(), Fail> {
-    let rows: [(&str, &str, &[u8], &str, &str, u8); 8] = [
+    let rows: [(&str, &str, &[u8], &str, &str, u8); 9] = [
+        (
+            "dict",
+            "8941",
+            b"a=@1",
+            "",
+            "error: RFC 8941 does not support dates at index 2\n",
+            1,
+        ),
         ("list", "9651", b"1 \t,\t 2\n", "1, 2\n", "", 0),
         ("list", "9651", b"\n", "\n", "", 0),
         (
@@ -185,30 +208,33 @@ fn unreadable_input(rt: HostRuntime) -> Result<(), Fail> {
     let args = words(rt.alloc(), &["item", "9651"])?;
     let mut output = Vec::new(rt.alloc());
     let mut errors = Vec::new(rt.alloc());
-    let input = Broken { left: b"1;a" };
-    let status = run(rt.alloc(), args.as_slice(), input, &mut output, &mut errors);
+    let mut input = Broken { left: b"1;a" };
+    let status = run(
+        rt.alloc(),
+        args.as_slice(),
+        &mut input,
+        &mut output,
+        &mut errors,
+    );
     assert_eq!(rt; errors.as_slice(), b"error: cannot read input\n".as_slice());
     assert_eq!(rt; output.len(), 0);
     assert_eq!(rt; status, 1);
     Ok(())
 }
 
+/// Whether the run over this output says that it can't be written, with status 1.
+fn is_unwritable<W: Write>(alloc: Global, output: &mut W) -> Result<bool, Fail> {
+    let args = words(alloc, &["item", "9651"])?;
+    let mut errors = Vec::new(alloc);
+    let mut input = b"1\n".as_slice();
+    let status = run(alloc, args.as_slice(), &mut input, output, &mut errors);
+    Ok(status == 1 && errors.as_slice() == b"error: cannot write output\n".as_slice())
+}
+
 #[test]
 fn unwritable_output(rt: HostRuntime) -> Result<(), Fail> {
-    let args = words(rt.alloc(), &["item", "9651"])?;
-    let mut errors = Vec::new(rt.alloc());
-    let status = run(
-        rt.alloc(),
-        args.as_slice(),
-        b"1\n".as_slice(),
-        Full,
-        &mut errors,
-    );
-    assert_eq!(rt;
-        errors.as_slice(),
-        b"error: cannot write output\n".as_slice()
-    );
-    assert_eq!(rt; status, 1);
+    assert!(rt; is_unwritable(rt.alloc(), &mut Full)?);
+    assert!(rt; is_unwritable(rt.alloc(), &mut Unflushed)?);
     Ok(())
 }
 
@@ -217,16 +243,17 @@ fn unwritable_output(rt: HostRuntime) -> Result<(), Fail> {
 fn unwritable_errors(rt: HostRuntime) -> Result<(), Fail> {
     let args = words(rt.alloc(), &["item", "9651"])?;
     let mut output = Vec::new(rt.alloc());
+    let mut input = b"1,\n".as_slice();
     let status = run(
         rt.alloc(),
         args.as_slice(),
-        b"1,\n".as_slice(),
+        &mut input,
         &mut output,
-        Full,
+        &mut Full,
     );
     assert_eq!(rt; output.len(), 0);
     assert_eq!(rt; status, 1);
-    let status = run(rt.alloc(), &[], b"1\n".as_slice(), &mut output, Full);
+    let status = run(rt.alloc(), &[], &mut input, &mut output, &mut Full);
     assert_eq!(rt; status, 2);
     Ok(())
 }

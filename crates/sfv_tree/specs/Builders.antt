@@ -2,42 +2,19 @@
 use Rattle.std.specs.Prelude.{ℕ, List, [], ◌∷◌, ◌++◌, Option, Some, None, bytes_eq}
 use Rattle.indexmap.specs.IndexMap.{insert_entry}
 use Rattle.sfv_spec.specs.Values.{BareValue, RawItem, RawInnerList, RawMember, item, inner_list}
-use Rattle.sfv_spec.specs.Events.{TreeEvent, entry, keyed_entry, begins_item, begins_inner_list, bare_item, parameter, parameters_end, inner_list_end}
+use Rattle.sfv_spec.specs.Events.{TreeEvent, entry, keyed_entry, begins_item, begins_inner_list}
+use Rattle.sfv_spec.specs.Events.{bare_item, parameter, parameters_end, inner_list_end}
 use Rattle.sfv_tree.specs.Trees.{item_tree, inner_list_tree, member_tree, list_tree, dictionary_tree}
 use Rattle.sfv_tree.specs.declared.visitor.item_builder.ItemBuilder.{ItemBuilder}
-use Rattle.sfv_tree.specs.declared.visitor.item_builder.Place.{Place}
-use Rattle.sfv_tree.specs.declared.visitor.item_builder.Place.TheVariants as place
 use Rattle.sfv_tree.specs.declared.visitor.partial_member.PartialMember.{PartialMember}
 use Rattle.sfv_tree.specs.declared.visitor.partial_member.PartialMember.TheVariants as partial
 use Rattle.sfv_tree.specs.declared.visitor.list_builder.ListBuilder.{ListBuilder}
 use Rattle.sfv_tree.specs.declared.visitor.dictionary_builder.DictionaryBuilder.{DictionaryBuilder}
 use Rattle.sfv_tree.specs.declared.visitor.dictionary_builder.PartialPair.{PartialPair}
 
--- the place of an item's builder: before its bare item, among its parameters, or behind them
-pub data ItemPlace : Type 0 where
-  at_head : ItemPlace
-  at_parameters : RawItem → ItemPlace
-  at_end : RawItem → ItemPlace
-
 -- a key that is there keeps its place and takes the new value, and a new key goes last
 abbrev pub enters : RawItem → List ℕ → BareValue → RawItem
 enters i key value = record { bare = i.bare; parameters = insert_entry bytes_eq i.parameters key value }
-
--- the place behind an event; every other event changes nothing
-abbrev pub item_step : ItemPlace → TreeEvent → ItemPlace
-item_step at_head (bare_item value) = at_parameters (record { bare = value; parameters = [] })
-item_step (at_parameters i) (parameter key value) = at_parameters (enters i key value)
-item_step (at_parameters i) parameters_end = at_end i
-item_step p e = p
-
-abbrev pub place_of : Place → ItemPlace
-place_of place.Head = at_head
-place_of (place.Params i) = at_parameters (item_tree i)
-place_of (place.Done i) = at_end (item_tree i)
-
--- the place of a builder, with the item so far
-abbrev pub item_place : ItemBuilder → ItemPlace
-item_place b = place_of b.place
 
 -- the place of a member's reading, with what is read of it: an item alone, or the items of an inner list so far and the
 -- item that is being read, or the whole inner list
@@ -63,7 +40,7 @@ adds l i = record { items = l.items ++ i ∷ []; parameters = l.parameters }
 abbrev pub enters_list : RawInnerList → List ℕ → BareValue → RawInnerList
 enters_list l key value = record { items = l.items; parameters = insert_entry bytes_eq l.parameters key value }
 
--- the place behind an event; every other event changes nothing
+-- the place after an event; every other event changes nothing
 abbrev pub member_step : MemberPlace → TreeEvent → MemberPlace
 member_step begun begins_item = item_head
 member_step begun begins_inner_list = inner_items (record { items = []; parameters = [] })
@@ -89,6 +66,28 @@ member_place (partial.InnerParams l i) = inner_parameters (inner_list_tree l) (i
 member_place (partial.ListParams l) = list_parameters (inner_list_tree l)
 member_place (partial.Ended m) = ended (member_tree m)
 
+-- the place of an item's builder, which reads the item as a member is read: before its bare item, among its
+-- parameters, or after them; an event out of its place changes nothing
+abbrev pub ItemPlace : Type 0
+ItemPlace = MemberPlace
+
+abbrev pub at_head : ItemPlace
+at_head = item_head
+
+abbrev pub at_parameters : RawItem → ItemPlace
+at_parameters i = item_parameters i
+
+abbrev pub at_end : RawItem → ItemPlace
+at_end i = ended (item i)
+
+-- the place after an event
+abbrev pub item_step : ItemPlace → TreeEvent → ItemPlace
+item_step p e = member_step p e
+
+-- the place of a builder, with the item so far
+abbrev pub item_place : ItemBuilder → ItemPlace
+item_place b = member_place b.item
+
 -- the place of a list's builder, with the members that are whole: between two members, or within one
 pub data ListPlace : Type 0 where
   between : List RawMember → ListPlace
@@ -99,7 +98,7 @@ abbrev pub settle : List RawMember → MemberPlace → ListPlace
 settle ms (ended m) = between (ms ++ m ∷ [])
 settle ms p = within ms p
 
--- the place behind an event; every other event changes nothing
+-- the place after an event; every other event changes nothing
 abbrev pub list_step : ListPlace → TreeEvent → ListPlace
 list_step (between ms) entry = within ms begun
 list_step (between ms) e = between ms
@@ -118,17 +117,19 @@ place_among ms (Some m) = within ms (member_place m)
 abbrev pub list_place : ListBuilder → ListPlace
 list_place b = place_among (list_tree b.list.items) b.member
 
--- the place of a dictionary's builder, with the pairs that are whole: between two of them, or within the member of a key
+-- the place of a dictionary's builder, with the pairs that are whole: between two of them, or within the member of a
+-- key
 pub data DictionaryPlace : Type 0 where
   between_pairs : List (List ℕ × RawMember) → DictionaryPlace
   within_pair : List (List ℕ × RawMember) → List ℕ → MemberPlace → DictionaryPlace
 
--- a member that has ended is entered: a key that is there keeps its place and takes the new member whole, and a new key goes last
+-- a member that has ended is entered: a key that is there keeps its place and takes the new member whole, and a new key
+-- goes last
 abbrev pub settle_pair : List (List ℕ × RawMember) → List ℕ → MemberPlace → DictionaryPlace
 settle_pair ms key (ended m) = between_pairs (insert_entry bytes_eq ms key m)
 settle_pair ms key p = within_pair ms key p
 
--- the place behind an event; every other event changes nothing
+-- the place after an event; every other event changes nothing
 abbrev pub dictionary_step : DictionaryPlace → TreeEvent → DictionaryPlace
 dictionary_step (between_pairs ms) (keyed_entry key) = within_pair ms key begun
 dictionary_step (between_pairs ms) e = between_pairs ms

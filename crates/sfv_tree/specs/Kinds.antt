@@ -16,8 +16,9 @@ kind_text kinds.Token = codes "token"
 kind_text kinds.Date = codes "date"
 kind_text kinds.DisplayString = codes "display string"
 
--- what the refusal of a visitor of an item prints
+-- what the fault of a visitor of an item prints
 abbrev pub fault_text : ItemFault → List ℕ
-fault_text (faults.WrongType expected got) = codes "unexpected bare item type: expected " ++ kind_text expected ++ codes ", got " ++ kind_text got
+fault_text (faults.WrongType expected got) =
+    codes "unexpected bare item type: expected " ++ kind_text expected ++ codes ", got " ++ kind_text got
 fault_text faults.NoItem = codes "no item"
 fault_text faults.OutOfMemory = codes "out of memory"

@@ -28,7 +28,7 @@ pub struct Item {
 }
 
 impl Item {
-    /// The item of this value, without parameters.
+    /// Returns the item of this value, without parameters.
     pub fn new(alloc: Global, bare_item: BareItem) -> Item
         ensures value { result.bare_item ≡ bare_item }
         ensures params { result.params.entries ≡ [] }
@@ -39,7 +39,7 @@ impl Item {
         }
     }
 
-    /// The item of this value, with these parameters.
+    /// Returns the item of this value, with these parameters.
     pub fn with_params(bare_item: BareItem, params: Parameters) -> Item
         ensures value { result.bare_item ≡ bare_item }
         ensures params { result.params ≡ params }
@@ -48,7 +48,7 @@ impl Item {
     }
 }
 
-// The same parameters, in the same order.
+// Returns the same parameters, in the same order.
 fn copy_params(params: &Parameters) -> Result<Parameters, AllocError>
     ensures { IfOk result (λ copy. pairs_tree copy.entries ≡ pairs_tree params.now.entries) }
 {
@@ -76,7 +76,7 @@ pub struct InnerList {
 }
 
 impl InnerList {
-    /// The inner list of these items, without parameters.
+    /// Returns the inner list of these items, without parameters.
     pub fn new(alloc: Global, items: Vec<Item>) -> InnerList
         ensures items { result.items ≡ items }
         ensures params { result.params.entries ≡ [] }
@@ -84,7 +84,7 @@ impl InnerList {
         InnerList::with_params(items, Parameters::new(alloc))
     }
 
-    /// The inner list of these items, with these parameters.
+    /// Returns the inner list of these items, with these parameters.
     pub fn with_params(items: Vec<Item>, params: Parameters) -> InnerList
         ensures items { result.items ≡ items }
         ensures params { result.params ≡ params }
@@ -92,7 +92,7 @@ impl InnerList {
         InnerList { items, params }
     }
 
-    /// The inner list without items and without parameters. It takes no memory.
+    /// Returns the inner list without items and without parameters. It takes no memory.
     pub fn empty(alloc: Global) -> InnerList
         ensures items { result.items.items ≡ [] }
         ensures params { result.params.entries ≡ [] }
@@ -101,7 +101,7 @@ impl InnerList {
     }
 }
 
-// The same items, in the same order.
+// Returns the same items, in the same order.
 fn copy_items(items: &Vec<Item>) -> Result<Vec<Item>, AllocError>
     ensures { IfOk result (λ copy. map item_tree copy.items ≡ map item_tree items.now.items) }
 {
@@ -166,7 +166,8 @@ impl Clone for ListEntry {
     }
 }
 
-/// The member of this key in a dictionary (RFC 9651, section 3.2), or `None` if there is none. It takes no memory.
+/// Returns the member of this key in a dictionary (RFC 9651, section 3.2), or `None` if there is none. It takes no
+/// memory.
 pub fn find_entry<'a>(dictionary: &'a Dictionary, key: KeyRef<'_>) -> Option<&'a ListEntry>
     ensures { option_copied result ≡ get bytes_eq dictionary.now (key_text key.entry) }
 {
@@ -178,7 +179,8 @@ pub fn find_entry<'a>(dictionary: &'a Dictionary, key: KeyRef<'_>) -> Option<&'a
     None
 }
 
-/// The value of the parameter of this key (RFC 9651, section 3.1.2), or `None` if there is none. It takes no memory.
+/// Returns the value of the parameter of this key (RFC 9651, section 3.1.2), or `None` if there is none. It takes no
+/// memory.
 pub fn find_param<'a>(params: &'a Parameters, key: KeyRef<'_>) -> Option<&'a BareItem>
     ensures { option_copied result ≡ get bytes_eq params.now (key_text key.entry) }
 {

@@ -102,7 +102,7 @@ fn event(letter: char) -> Event<'static> {
     }
 }
 
-// What is built of the events behind a list.
+// What is built of the events after a list.
 fn build(alloc: Global, list: List, letters: &str) -> Result<List, OutOfMemory> {
     let mut builder = ListBuilder::new(alloc, list);
     for letter in letters.chars() {
@@ -164,7 +164,7 @@ fn event_out_of_its_place_changes_no_list(rt: HostRuntime) -> Result<(), Fail> {
     Ok(())
 }
 
-// What is built of the events behind a dictionary.
+// What is built of the events after a dictionary.
 fn build_dictionary(
     alloc: Global,
     dictionary: Dictionary,

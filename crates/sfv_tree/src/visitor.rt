@@ -1,4 +1,4 @@
-//! Visitors of fields, which are told each part of a field while it is read.
+//! Visitors of fields, which visit each part of a field while it is read.
 
 ghost use Rattle.std.specs.Prelude.{◌≡◌, ⊤, Some, OnOk, IfOk, IfErr};
 ghost use Rattle.sfv_spec.specs.Events.{TreeEvent};
@@ -22,8 +22,8 @@ use std::fmt;
 ///
 /// A list member is led by `Entry` and a dictionary member by `KeyedEntry`. An item is then `Item`, `BareItem`, a
 /// `Parameter` for each of its parameters, repeated keys too, and `ParametersEnd`; an inner list is `InnerList`, its
-/// items, `InnerListEnd`, a `Parameter` for each of its parameters, and `ParametersEnd`. An item that is the whole field
-/// begins with `BareItem`.
+/// items, `InnerListEnd`, a `Parameter` for each of its parameters, and `ParametersEnd`. An item that is the whole
+/// field begins with `BareItem`.
 #[derive(Drop)]
 pub enum Event<'de> {
     /// A member of a list is wanted, and a byte stands there.
@@ -44,43 +44,51 @@ pub enum Event<'de> {
     InnerListEnd,
 }
 
-/// Is told each part of a field while it is read, and answers at its end.
+/// Visits each part of a field while it is read, and answers at its end.
 ///
-/// A visitor may refuse a part, or its answer, and that ends the reading. A contract gives a visitor by what it may do in
-/// each state, and sees an event as its value, whether a text in it is borrowed or owned.
+/// A visitor may fail at a part or at its answer, and that ends the reading. A contract gives a visitor by what it may
+/// do in each state, and sees an event as its value, whether a text in it is borrowed or owned.
 pub trait Visitor<'de>: Drop {
-    /// What it answers.
+    /// The answer.
     type Out: Drop;
 
-    /// Why it fails.
+    /// The visitor's error.
     type Error: Drop;
 
-    /// It may be told events: what it calls may be called.
+    /// It may visit events: what it calls may be called.
     ghost is_ready: { Self → Type 0 } = { λ _. ⊤ };
 
-    /// In this state it may take the event, and is then in that state.
+    /// In this state it may take the event, and is in that state after it.
     ghost takes: { Self → TreeEvent → Self → Type 0 };
 
-    /// In this state it may refuse the event, for this reason.
+    /// In this state it may fail at the event, with this error.
     ghost fails: { Self → TreeEvent → Self.Error → Type 0 };
 
     /// In this state it may give this answer.
     ghost finishes: { Self → Self.Out → Type 0 };
 
-    /// In this state it may refuse to answer, for this reason.
+    /// In this state it may fail to answer, with this error.
     ghost finish_fails: { Self → Self.Error → Type 0 };
 
-    /// The reason is that memory was refused.
+    /// The error says that it is out of memory.
     ghost is_memory: { Self.Error → Type 0 };
 
-    /// Takes an event, or fails.
+    /// Visits an event.
+    ///
+    /// # Errors
+    ///
+    /// The visitor's error, which ends the reading.
     fn event(&mut self, event: Event<'de>) -> Result<(), Self::Error>
         requires { is_ready self.old }
         ensures ready { OnOk result (is_ready self.new) }
         ensures taken { OnOk result (takes self.old (event_of event.entry) self.new) }
         ensures failed { IfErr result (λ error. fails self.old (event_of event.entry) error) };
 
-    /// Answers behind the last event, or fails to.
+    /// Answers after the last event.
+    ///
+    /// # Errors
+    ///
+    /// The visitor's error.
     fn finish(self) -> Result<Self::Out, Self::Error>
         requires { is_ready self }
         ensures answered { IfOk result (λ out. finishes self out) }
@@ -99,7 +107,7 @@ pub enum ItemFault {
     },
     /// There is no item.
     NoItem,
-    /// A request for memory was refused.
+    /// Out of memory.
     OutOfMemory,
 }
 
@@ -144,7 +152,7 @@ pub enum BareItemType {
 }
 
 impl BareItemType {
-    // The name of the kind.
+    // Returns the name of the kind.
     fn name(self) -> &'static str
         ensures { result.now ≡ kind_text self }
     {

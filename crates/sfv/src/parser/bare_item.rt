@@ -2,12 +2,12 @@
 
 ghost use Rattle.std.specs.Prelude.{◌≡◌, Bool, true, IfOk};
 ghost use Rattle.sfv_spec.specs.Values.{rfc9651, boolean, date};
-ghost use Rattle.sfv_bare.specs.BareItems.{input_value, read_text, cow_text, edition_of};
+ghost use Rattle.sfv_bare.specs.BareItems.{input_value, read_text};
 ghost use Rattle.sfv_reading.specs.Reader.{byte};
 ghost use Rattle.sfv_reading.specs.Content.{bytes_at};
 ghost use Rattle.sfv_reading.specs.Quoted.{string_at};
 ghost use Rattle.sfv_reading.specs.Bare.{is_number_start, boolean_at, date_at, quoted_at, bare_at};
-ghost use Rattle.sfv.specs.Cursor.{rest, Reads, ReadsOrOutOfMemory, NextIs};
+ghost use Rattle.sfv.specs.Cursor.{edition, rest, Reads, ReadsOrOutOfMemory, NextIs};
 ghost use Rattle.sfv.specs.Texts.{vec_bytes, display_value_of};
 
 use crate::parser::byte_sequence::byte_sequence;
@@ -19,14 +19,13 @@ use crate::parser::string::string;
 use sfv_bare::bare::{BareItemFromInput, GenericBareItem, StringFromInput, Version};
 use sfv_base::date::Date;
 use sfv_base::error::{Error, ErrorKind};
-use std::alloc::Global;
 use std::borrow::CowStr;
 
 impl<'de> Cursor<'de> {
     /// Takes a boolean behind its question mark.
     #[tactic(auto, using(crate::proofs::Steps::boolean_steps))]
     fn boolean(&mut self) -> Result<bool, Error>
-        ensures { Reads (λ b. boolean b) self.old.input self.new result (boolean_at (rest self.old)) }
+        ensures { Reads (λ b. boolean b) self.old self.new result boolean_at }
     {
         if self.take_if(b'0') {
             return Ok(false);
@@ -38,30 +37,30 @@ impl<'de> Cursor<'de> {
     }
 
     /// Takes a string behind its opening quote.
-    fn string(&mut self, alloc: Global) -> Result<StringFromInput<'de>, Error>
-        ensures { ReadsOrOutOfMemory read_text self.old.input self.new result (string_at (rest self.old)) }
+    fn string(&mut self) -> Result<StringFromInput<'de>, Error>
+        ensures { ReadsOrOutOfMemory read_text self.old self.new result string_at }
     {
-        let (text, next) = string(alloc, self.input, self.index)?;
+        let (text, next) = string(self.alloc, self.parser.input, self.index)?;
         self.index = next;
         Ok(text)
     }
 
     /// Takes a byte sequence behind its opening colon.
-    fn byte_sequence(&mut self, alloc: Global) -> Result<Vec<u8>, Error>
-        ensures { ReadsOrOutOfMemory vec_bytes self.old.input self.new result (bytes_at (rest self.old)) }
+    fn byte_sequence(&mut self) -> Result<Vec<u8>, Error>
+        ensures { ReadsOrOutOfMemory vec_bytes self.old self.new result bytes_at }
     {
-        let (bytes, next) = byte_sequence(alloc, self.input, self.index)?;
+        let (bytes, next) = byte_sequence(self.alloc, self.parser.input, self.index)?;
         self.index = next;
         Ok(bytes)
     }
 
     /// Takes a date, which RFC 8941 has not.
     #[tactic(auto, using(crate::proofs::Steps::date_steps))]
-    fn date(&mut self, version: Version) -> Result<Date, Error>
+    fn date(&mut self) -> Result<Date, Error>
         requires { NextIs (byte 0x40) true (rest self.old) }
-        ensures { Reads (λ z. date z) self.old.input self.new result (date_at (edition_of version) (rest self.old)) }
+        ensures { Reads (λ z. date z) self.old self.new result (date_at (edition self.old)) }
     {
-        match version {
+        match self.parser.version {
             Version::Rfc8941 => Err(self.error(ErrorKind::Rfc8941Date)),
             Version::Rfc9651 => self.seconds(),
         }
@@ -70,7 +69,7 @@ impl<'de> Cursor<'de> {
     /// Takes the sign `@` and the seconds of a date.
     fn seconds(&mut self) -> Result<Date, Error>
         requires { NextIs (byte 0x40) true (rest self.old) }
-        ensures { Reads (λ z. date z) self.old.input self.new result (date_at rfc9651 (rest self.old)) }
+        ensures { Reads (λ z. date z) self.old self.new result (date_at rfc9651) }
     {
         let start = self.index;
         self.skip();
@@ -82,27 +81,27 @@ impl<'de> Cursor<'de> {
 
     /// Takes a display string, which RFC 8941 has not.
     #[tactic(auto, using(crate::proofs::Steps::quoted_steps))]
-    fn display_string(&mut self, alloc: Global, version: Version) -> Result<CowStr<'de>, Error>
+    fn display_string(&mut self) -> Result<CowStr<'de>, Error>
         requires { NextIs (byte 0x25) true (rest self.old) }
-        ensures { ReadsOrOutOfMemory display_value_of self.old.input self.new result (quoted_at (edition_of version) (rest self.old)) }
+        ensures { ReadsOrOutOfMemory display_value_of self.old self.new result (quoted_at (edition self.old)) }
     {
-        match version {
+        match self.parser.version {
             Version::Rfc8941 => Err(self.error(ErrorKind::Rfc8941DisplayString)),
-            Version::Rfc9651 => self.quoted(alloc),
+            Version::Rfc9651 => self.quoted(),
         }
     }
 
     /// Takes the sign `%` and the quoted text of a display string.
     #[tactic(auto, using(crate::proofs::Steps::quoted_steps))]
-    fn quoted(&mut self, alloc: Global) -> Result<CowStr<'de>, Error>
+    fn quoted(&mut self) -> Result<CowStr<'de>, Error>
         requires { NextIs (byte 0x25) true (rest self.old) }
-        ensures { ReadsOrOutOfMemory display_value_of self.old.input self.new result (quoted_at rfc9651 (rest self.old)) }
+        ensures { ReadsOrOutOfMemory display_value_of self.old self.new result (quoted_at rfc9651) }
     {
         self.skip();
         if !self.take_if(b'"') {
             return Err(self.error(ErrorKind::ExpectedQuote));
         }
-        let (text, next) = display_string(alloc, self.input, self.index)?;
+        let (text, next) = display_string(self.alloc, self.parser.input, self.index)?;
         self.index = next;
         Ok(text)
     }
@@ -119,27 +118,23 @@ impl<'de> Cursor<'de> {
 
     /// Takes a bare item. Its first byte decides of which kind it is.
     #[tactic(auto, using(crate::proofs::Steps::bare_steps))]
-    pub(crate) fn bare_item(
-        &mut self,
-        alloc: Global,
-        version: Version,
-    ) -> Result<BareItemFromInput<'de>, Error>
-        ensures { ReadsOrOutOfMemory input_value self.old.input self.new result (bare_at (edition_of version) (rest self.old)) }
+    pub(crate) fn bare_item(&mut self) -> Result<BareItemFromInput<'de>, Error>
+        ensures { ReadsOrOutOfMemory input_value self.old self.new result (bare_at (edition self.old)) }
     {
         if self.take_if(b'?') {
             return Ok(GenericBareItem::Boolean(self.boolean()?));
         }
         if self.take_if(b'"') {
-            return Ok(GenericBareItem::String(self.string(alloc)?));
+            return Ok(GenericBareItem::String(self.string()?));
         }
         if self.take_if(b':') {
-            return Ok(GenericBareItem::ByteSequence(self.byte_sequence(alloc)?));
+            return Ok(GenericBareItem::ByteSequence(self.byte_sequence()?));
         }
         if self.next_is(b'@') {
-            return Ok(GenericBareItem::Date(self.date(version)?));
+            return Ok(GenericBareItem::Date(self.date()?));
         }
         if self.next_is(b'%') {
-            return Ok(GenericBareItem::DisplayString(self.display_string(alloc, version)?));
+            return Ok(GenericBareItem::DisplayString(self.display_string()?));
         }
         if self.next_is_number_start() {
             return Ok(match self.number()? {

@@ -1,11 +1,123 @@
-//! Where a reading stands in its input.
+//! Where a reading stands in its input, and its steps: looking at the next byte, and taking it.
 
-ghost use Rattle.std.specs.Prelude.{◌≤◌, length};
+ghost use Rattle.std.specs.Prelude.{◌≡◌, ◌≤◌, ◌+◌, ℕ, Bool, true, false, List, length, Some, Ok};
+ghost use Rattle.sfv_spec.specs.Texts.{RunOf};
+ghost use Rattle.sfv_spec.specs.Classes.{is_digit, is_space, is_space_or_tab};
+ghost use Rattle.sfv_base.specs.Errors.{error_of};
+ghost use Rattle.sfv_reading.specs.Reader.{first, byte, up_to, span};
 
-/// Reads an input from left to right.
+use crate::parser::Parser;
+use crate::parser::runs::{blank_run, digit_run, is_digit_byte, space_run};
+use sfv_base::error::{Error, ErrorKind};
+use std::alloc::Global;
+
+/// Reads the input of a parser from left to right.
 #[derive(Clone, Copy)]
 pub(crate) struct Cursor<'de> {
-    pub(crate) input: &'de [u8],
-    pub(crate) index: usize,
-    ghost within: { index ≤ length input.now },
+    pub(super) parser: Parser<'de>,
+    pub(super) alloc: Global,
+    pub(super) index: usize,
+    ghost within: { index ≤ length parser.input.now },
+}
+
+impl<'de> Cursor<'de> {
+    ghost use Rattle.sfv.specs.Parsers.{input_of};
+    ghost use Rattle.sfv.specs.Cursor.{kept, rest, NextIs, TakesIf, Skips};
+
+    /// At the start of the parser's input. Memory is asked of `alloc`.
+    pub(super) fn new(parser: Parser<'de>, alloc: Global) -> Cursor<'de>
+        ensures rest { rest result ≡ input_of parser.entry }
+        ensures kept { kept result ≡ (parser.entry, alloc) }
+    {
+        Cursor {
+            parser,
+            alloc,
+            index: 0,
+        }
+    }
+
+    /// The next byte.
+    pub(super) fn peek(&self) -> Option<u8>
+        ensures { result ≡ first (rest self.now) }
+    {
+        self.parser.input.get(self.index).copied()
+    }
+
+    /// Passes the next byte.
+    pub(super) fn skip(&mut self)
+        requires { 1 ≤ length (rest self.old) }
+        ensures skips { Skips (rest self.old) (rest self.new) }
+        ensures index { self.new.index ≡ self.old.index + 1 }
+        ensures kept { kept self.new ≡ kept self.old }
+    {
+        prove!(self.index < self.parser.input.len());
+        self.index += 1;
+    }
+
+    /// The error of this kind, at the next byte.
+    pub(super) fn error(&self, kind: ErrorKind) -> Error
+        ensures { result ≡ error_of kind (Some self.now.index) }
+    {
+        Error::with_kind(kind, Some(self.index))
+    }
+
+    /// Whether this byte stands next.
+    pub(super) fn next_is(&self, wanted: u8) -> bool
+        ensures { NextIs (byte wanted) result (rest self.now) }
+    {
+        self.peek() == Some(wanted)
+    }
+
+    /// Whether a digit stands next.
+    pub(super) fn next_is_digit(&self) -> bool
+        ensures { NextIs is_digit result (rest self.now) }
+    {
+        match self.peek() {
+            Some(byte) => is_digit_byte(byte),
+            None => false,
+        }
+    }
+
+    /// Takes the next byte, if it is this one.
+    pub(super) fn take_if(&mut self, wanted: u8) -> bool
+        ensures takes { TakesIf (byte wanted) result (rest self.old) (rest self.new) }
+        ensures kept { kept self.new ≡ kept self.old }
+    {
+        let found = self.next_is(wanted);
+        if found {
+            self.skip();
+        }
+        found
+    }
+
+    /// Takes digits, up to `most`.
+    pub(super) fn digits(&mut self, most: usize) -> &'de [u8]
+        ensures each { RunOf is_digit result.now }
+        ensures most { length result.now ≤ most }
+        ensures digits { up_to is_digit most (rest self.old) ≡ Ok (result.now, rest self.new) }
+        ensures kept { kept self.new ≡ kept self.old }
+    {
+        let len = digit_run(&self.parser.input[self.index..], most);
+        let start = self.index;
+        self.index += len;
+        &self.parser.input[start..self.index]
+    }
+
+    /// Takes spaces.
+    pub(super) fn skip_sp(&mut self)
+        ensures skipped { (s : List ℕ) × (span is_space (rest self.old) ≡ Ok (s, rest self.new)) }
+        ensures kept { kept self.new ≡ kept self.old }
+    {
+        let len = space_run(&self.parser.input[self.index..]);
+        self.index += len;
+    }
+
+    /// Takes spaces and tabs.
+    pub(super) fn skip_ows(&mut self)
+        ensures skipped { (s : List ℕ) × (span is_space_or_tab (rest self.old) ≡ Ok (s, rest self.new)) }
+        ensures kept { kept self.new ≡ kept self.old }
+    {
+        let len = blank_run(&self.parser.input[self.index..]);
+        self.index += len;
+    }
 }

@@ -1,33 +1,32 @@
 //! Reading whole fields (RFC 9651, section 4.2).
 
-ghost use Rattle.sfv_spec.specs.Values.{item_field, list_field, dictionary_field};
-ghost use Rattle.sfv_bare.specs.BareItems.{edition_of};
+ghost use Rattle.sfv_spec.specs.Values.{item_field};
+ghost use Rattle.sfv.specs.Members.{field_of};
+ghost use Rattle.sfv.specs.Parsers.{input_of, parser_edition};
 ghost use Rattle.sfv.specs.Visits.{VisitsField};
 
+use crate::parser::Parser;
 use crate::parser::cursor::Cursor;
-use sfv_bare::bare::Version;
+use crate::parser::item::finish;
+use crate::parser::member::Member;
 use sfv_base::error::{ErrorKind, ParseError};
 use sfv_tree::visitor::Visitor;
 use std::alloc::Global;
 
-/// Reads the input as an item, and tells the visitor its parts. The visitor answers before it is known whether anything
+/// Reads the input as an item, and visits its parts. The visitor answers before it is known whether anything
 /// stands behind the item.
 pub(crate) fn parse_item_field<'de, V: Visitor<'de>>(
+    parser: Parser<'de>,
     alloc: Global,
-    input: &'de [u8],
-    version: Version,
     mut visitor: V,
 ) -> Result<V::Out, ParseError<V::Error>>
     requires { V.is_ready visitor }
-    ensures { VisitsField V.takes V.fails V.finishes V.finish_fails (edition_of version) item_field input.now visitor result }
+    ensures { VisitsField V.takes V.fails V.finishes V.finish_fails (parser_edition parser.entry) item_field (input_of parser.entry) visitor result }
 {
-    let mut cursor = Cursor::new(input);
+    let mut cursor = Cursor::new(parser, alloc);
     cursor.skip_sp();
-    cursor.item(alloc, version, &mut visitor)?;
-    let out = match visitor.finish() {
-        Ok(out) => out,
-        Err(error) => return Err(ParseError::Visitor(error)),
-    };
+    cursor.item(&mut visitor)?;
+    let out = finish(visitor)?;
     cursor.skip_sp();
     if cursor.peek().is_some() {
         let error = cursor.error(ErrorKind::TrailingCharactersAfterParsedValue);
@@ -36,36 +35,16 @@ pub(crate) fn parse_item_field<'de, V: Visitor<'de>>(
     Ok(out)
 }
 
-/// Reads the input as a list, and tells the visitor its parts. The visitor answers where the input has ended.
-pub(crate) fn parse_list_field<'de, V: Visitor<'de>>(
+/// Reads the input as a list or a dictionary, by the kind of its members, and visits its parts. The visitor answers where
+/// the input has ended.
+pub(crate) fn parse_members_field<'de, M: Member<'de, V>, V: Visitor<'de>>(
+    parser: Parser<'de>,
     alloc: Global,
-    input: &'de [u8],
-    version: Version,
     mut visitor: V,
 ) -> Result<V::Out, ParseError<V::Error>>
     requires { V.is_ready visitor }
-    ensures { VisitsField V.takes V.fails V.finishes V.finish_fails (edition_of version) list_field input.now visitor result }
+    ensures { VisitsField V.takes V.fails V.finishes V.finish_fails (parser_edition parser.entry) (field_of M.keyed) (input_of parser.entry) visitor result }
 {
-    Cursor::new(input).entries(alloc, version, &mut visitor)?;
-    match visitor.finish() {
-        Ok(out) => Ok(out),
-        Err(error) => Err(ParseError::Visitor(error)),
-    }
-}
-
-/// Reads the input as a dictionary, and tells the visitor its parts. The visitor answers where the input has ended.
-pub(crate) fn parse_dictionary_field<'de, V: Visitor<'de>>(
-    alloc: Global,
-    input: &'de [u8],
-    version: Version,
-    mut visitor: V,
-) -> Result<V::Out, ParseError<V::Error>>
-    requires { V.is_ready visitor }
-    ensures { VisitsField V.takes V.fails V.finishes V.finish_fails (edition_of version) dictionary_field input.now visitor result }
-{
-    Cursor::new(input).keyed_entries(alloc, version, &mut visitor)?;
-    match visitor.finish() {
-        Ok(out) => Ok(out),
-        Err(error) => Err(ParseError::Visitor(error)),
-    }
+    Cursor::new(parser, alloc).members::<M, V>(&mut visitor)?;
+    finish(visitor)
 }

@@ -1,19 +1,18 @@
 //! Reading parameters and items (RFC 9651, sections 4.2.3 and 4.2.3.2).
 
-ghost use Rattle.std.specs.Prelude.{option_map, OnOk, IfErr};
+ghost use Rattle.std.specs.Prelude.{option_map, OnOk, IfOk, IfErr};
 ghost use Rattle.sfv_spec.specs.Events.{parameters_events, item_events};
-ghost use Rattle.sfv_bare.specs.BareItems.{input_value, edition_of};
+ghost use Rattle.sfv_bare.specs.BareItems.{input_value};
 ghost use Rattle.sfv_tree.specs.Events.{event_of};
 ghost use Rattle.sfv_reading.specs.Items.{value_at, parameter_at, parameters_at, item_at};
-ghost use Rattle.sfv.specs.Cursor.{rest, ReadsOrOutOfMemory};
-ghost use Rattle.sfv.specs.Visits.{Visits, IsErrorOfVisit};
+ghost use Rattle.sfv.specs.Cursor.{edition, ReadsOrOutOfMemory};
+ghost use Rattle.sfv.specs.Visits.{Visits, IsOfVisitor};
 
 use crate::parser::cursor::Cursor;
-use sfv_bare::bare::{BareItemFromInput, GenericBareItem, Version};
+use sfv_bare::bare::{BareItemFromInput, GenericBareItem};
 use sfv_base::error::{Error, ParseError};
 use sfv_text::key_ref::KeyRef;
 use sfv_tree::visitor::{Event, Visitor};
-use std::alloc::Global;
 
 /// A parameter with its key as it stands in the input.
 #[derive(Drop)]
@@ -22,7 +21,7 @@ pub(crate) struct ReadParameter<'de> {
     pub(crate) value: BareItemFromInput<'de>,
 }
 
-/// Tells the visitor an event.
+/// Visits an event. An error is the visitor's.
 pub(crate) fn visit<'de, V: Visitor<'de>>(
     visitor: &mut V,
     event: Event<'de>,
@@ -30,10 +29,22 @@ pub(crate) fn visit<'de, V: Visitor<'de>>(
     requires { V.is_ready visitor.old }
     ensures ready { OnOk result (V.is_ready visitor.new) }
     ensures taken { OnOk result (V.takes visitor.old (event_of event.entry) visitor.new) }
-    ensures failed { IfErr result (IsErrorOfVisit V.fails visitor.old (event_of event.entry)) }
+    ensures failed { IfErr result (IsOfVisitor (V.fails visitor.old (event_of event.entry))) }
 {
     match visitor.event(event) {
         Ok(()) => Ok(()),
+        Err(error) => Err(ParseError::Visitor(error)),
+    }
+}
+
+/// Asks the visitor for its answer. An error is the visitor's.
+pub(crate) fn finish<'de, V: Visitor<'de>>(visitor: V) -> Result<V::Out, ParseError<V::Error>>
+    requires { V.is_ready visitor }
+    ensures answered { IfOk result (V.finishes visitor) }
+    ensures failed { IfErr result (IsOfVisitor (V.finish_fails visitor)) }
+{
+    match visitor.finish() {
+        Ok(out) => Ok(out),
         Err(error) => Err(ParseError::Visitor(error)),
     }
 }
@@ -43,15 +54,11 @@ impl<'de> Cursor<'de> {
 
     /// Takes the value of a parameter behind its key: without `=` it is true.
     #[tactic(auto, using(crate::proofs::Steps::value_steps))]
-    fn parameter_value(
-        &mut self,
-        alloc: Global,
-        version: Version,
-    ) -> Result<BareItemFromInput<'de>, Error>
-        ensures { ReadsOrOutOfMemory input_value self.old.input self.new result (value_at (edition_of version) (rest self.old)) }
+    fn parameter_value(&mut self) -> Result<BareItemFromInput<'de>, Error>
+        ensures { ReadsOrOutOfMemory input_value self.old self.new result (value_at (edition self.old)) }
     {
         if self.take_if(b'=') {
-            self.bare_item(alloc, version)
+            self.bare_item()
         } else {
             Ok(GenericBareItem::Boolean(true))
         }
@@ -59,60 +66,44 @@ impl<'de> Cursor<'de> {
 
     /// Takes a parameter, if a semicolon stands next.
     #[tactic(auto, using(crate::proofs::Steps::parameter_steps))]
-    fn parameter(
-        &mut self,
-        alloc: Global,
-        version: Version,
-    ) -> Result<Option<ReadParameter<'de>>, Error>
-        ensures { ReadsOrOutOfMemory (option_map read_pair) self.old.input self.new result (parameter_at (edition_of version) (rest self.old)) }
+    fn parameter(&mut self) -> Result<Option<ReadParameter<'de>>, Error>
+        ensures { ReadsOrOutOfMemory (option_map read_pair) self.old self.new result (parameter_at (edition self.old)) }
     {
         if !self.take_if(b';') {
             return Ok(None);
         }
         self.skip_sp();
         let key = self.key()?;
-        let value = self.parameter_value(alloc, version)?;
+        let value = self.parameter_value()?;
         Ok(Some(ReadParameter { key, value }))
     }
 
     /// Takes parameters, and tells the visitor each of them and their end.
     pub(crate) fn parameters<V: Visitor<'de>>(
         &mut self,
-        alloc: Global,
-        version: Version,
         visitor: &mut V,
     ) -> Result<(), ParseError<V::Error>>
         requires { V.is_ready visitor.old }
         ensures ready { OnOk result (V.is_ready visitor.new) }
-        ensures visited { Visits V.takes V.fails parameters_events self.old.input self.new visitor.old visitor.new result (parameters_at (edition_of version) (rest self.old)) }
+        ensures visited { Visits V.takes V.fails parameters_events self.old self.new visitor.old visitor.new result parameters_at }
     {
-        while let Some(parameter) = self.parameter(alloc, version)? {
-            let event = Event::Parameter(parameter.key, parameter.value);
-            if let Err(error) = visitor.event(event) {
-                return Err(ParseError::Visitor(error));
-            }
+        while let Some(parameter) = self.parameter()? {
+            visit(visitor, Event::Parameter(parameter.key, parameter.value))?;
         }
-        match visitor.event(Event::ParametersEnd) {
-            Ok(()) => Ok(()),
-            Err(error) => Err(ParseError::Visitor(error)),
-        }
+        visit(visitor, Event::ParametersEnd)
     }
 
     /// Takes an item, and tells the visitor its parts.
     pub(crate) fn item<V: Visitor<'de>>(
         &mut self,
-        alloc: Global,
-        version: Version,
         visitor: &mut V,
     ) -> Result<(), ParseError<V::Error>>
         requires { V.is_ready visitor.old }
         ensures ready { OnOk result (V.is_ready visitor.new) }
-        ensures visited { Visits V.takes V.fails item_events self.old.input self.new visitor.old visitor.new result (item_at (edition_of version) (rest self.old)) }
+        ensures visited { Visits V.takes V.fails item_events self.old self.new visitor.old visitor.new result item_at }
     {
-        let bare_item = self.bare_item(alloc, version)?;
-        if let Err(error) = visitor.event(Event::BareItem(bare_item)) {
-            return Err(ParseError::Visitor(error));
-        }
-        self.parameters(alloc, version, visitor)
+        let bare_item = self.bare_item()?;
+        visit(visitor, Event::BareItem(bare_item))?;
+        self.parameters(visitor)
     }
 }

@@ -6,7 +6,7 @@ ghost use Rattle.sfv_spec.specs.Classes.{is_digit};
 ghost use Rattle.sfv_spec.specs.Numbers.{signed as with_sign};
 ghost use Rattle.sfv_reading.specs.Reader.{byte};
 ghost use Rattle.sfv_reading.specs.Bare.{sign_at, point_at, whole_at, number_at};
-ghost use Rattle.sfv.specs.Cursor.{rest, Reads, NextIs};
+ghost use Rattle.sfv.specs.Cursor.{kept, rest, Reads, NextIs};
 ghost use Rattle.sfv.specs.Numbers.{number_value_of};
 
 use crate::parser::cursor::Cursor;
@@ -36,7 +36,7 @@ impl Cursor<'_> {
     #[tactic(auto, using(crate::proofs::Steps::sign_takes))]
     fn sign(&mut self) -> bool
         ensures sign { sign_at (rest self.old) ≡ Ok (result, rest self.new) }
-        ensures input { self.new.input ≡ self.old.input }
+        ensures kept { kept self.new ≡ kept self.old }
     {
         self.take_if(b'-')
     }
@@ -44,7 +44,7 @@ impl Cursor<'_> {
     /// Takes a number, by itself or as the seconds of a date.
     #[tactic(auto, using(crate::proofs::Steps::number_steps))]
     pub(crate) fn number(&mut self) -> Result<Number, Error>
-        ensures { (dated : Bool) → Reads number_value_of self.old.input self.new result (number_at dated (rest self.old)) }
+        ensures { (dated : Bool) → Reads number_value_of self.old self.new result (number_at dated) }
     {
         let negative = self.sign();
         let whole = self.digits(15);
@@ -56,7 +56,7 @@ impl Cursor<'_> {
     fn behind_whole(&mut self, negative: bool, whole: &[u8]) -> Result<Number, Error>
         requires each { RunOf is_digit whole.now }
         requires most { length whole.now ≤ 15 }
-        ensures { (dated : Bool) → Reads number_value_of self.old.input self.new result (whole_at dated negative whole.now (rest self.old)) }
+        ensures { (dated : Bool) → Reads number_value_of self.old self.new result (whole_at dated negative whole.now) }
     {
         if whole.is_empty() {
             return Err(self.error(ErrorKind::ExpectedDigit));
@@ -79,7 +79,7 @@ impl Cursor<'_> {
         requires each { RunOf is_digit whole.now }
         requires most { length whole.now ≤ 12 }
         requires point { NextIs (byte 0x2e) true (rest self.old) }
-        ensures { (dated : Bool) → Reads number_value_of self.old.input self.new result (point_at dated negative whole.now (rest self.old)) }
+        ensures { (dated : Bool) → Reads number_value_of self.old self.new result (point_at dated negative whole.now) }
     {
         let point = self.index;
         self.skip();

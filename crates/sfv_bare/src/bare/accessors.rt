@@ -9,7 +9,7 @@ use sfv_base::decimal::Decimal;
 use sfv_base::integer::Integer;
 
 impl<S, B, T, D> GenericBareItem<S, B, T, D> {
-    /// The decimal (RFC 9651, section 3.3.2), and `None` for another kind.
+    /// Returns the decimal (RFC 9651, section 3.3.2), and `None` for another kind.
     pub fn as_decimal(&self) -> Option<Decimal>
         ensures { GivesPart code.Decimal (λ z. z) self.now result }
     {
@@ -19,7 +19,7 @@ impl<S, B, T, D> GenericBareItem<S, B, T, D> {
         }
     }
 
-    /// The integer (RFC 9651, section 3.3.1), and `None` for another kind.
+    /// Returns the integer (RFC 9651, section 3.3.1), and `None` for another kind.
     pub fn as_integer(&self) -> Option<Integer>
         ensures { GivesPart code.Integer (λ z. z) self.now result }
     {
@@ -29,7 +29,7 @@ impl<S, B, T, D> GenericBareItem<S, B, T, D> {
         }
     }
 
-    /// The boolean (RFC 9651, section 3.3.6), and `None` for another kind.
+    /// Returns the boolean (RFC 9651, section 3.3.6), and `None` for another kind.
     pub fn as_boolean(&self) -> Option<bool>
         ensures { GivesPart code.Boolean (λ b. b) self.now result }
     {
@@ -39,7 +39,7 @@ impl<S, B, T, D> GenericBareItem<S, B, T, D> {
         }
     }
 
-    /// The date (RFC 9651, section 3.3.7), and `None` for another kind.
+    /// Returns the date (RFC 9651, section 3.3.7), and `None` for another kind.
     pub fn as_date(&self) -> Option<Date>
         ensures { GivesPart code.Date (λ z. z) self.now result }
     {
@@ -49,7 +49,7 @@ impl<S, B, T, D> GenericBareItem<S, B, T, D> {
         }
     }
 
-    /// The display string (RFC 9651, section 3.3.8), and `None` for another kind.
+    /// Returns the display string (RFC 9651, section 3.3.8), and `None` for another kind.
     pub fn as_display_string(&self) -> Option<&D>
         ensures { GivesPart code.DisplayString (λ text. text.now) self.now result }
     {

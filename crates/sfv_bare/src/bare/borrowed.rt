@@ -16,7 +16,7 @@ use std::alloc::Global;
 use std::string::String as StdString;
 
 impl<'a> RefBareItem<'a> {
-    /// The string (RFC 9651, section 3.3.3), and `None` for another kind.
+    /// Returns the string (RFC 9651, section 3.3.3), and `None` for another kind.
     pub fn as_string(&self) -> Option<StringRef<'a>>
         ensures { GivesPart values.string string_text (ref_value self.now) result }
     {
@@ -26,7 +26,7 @@ impl<'a> RefBareItem<'a> {
         }
     }
 
-    /// The bytes (RFC 9651, section 3.3.5), and `None` for another kind.
+    /// Returns the bytes (RFC 9651, section 3.3.5), and `None` for another kind.
     pub fn as_byte_sequence(&self) -> Option<&'a [u8]>
         ensures { GivesPart values.byte_sequence (λ bytes. bytes.now) (ref_value self.now) result }
     {
@@ -36,7 +36,7 @@ impl<'a> RefBareItem<'a> {
         }
     }
 
-    /// The token (RFC 9651, section 3.3.4), and `None` for another kind.
+    /// Returns the token (RFC 9651, section 3.3.4), and `None` for another kind.
     pub fn as_token(&self) -> Option<TokenRef<'a>>
         ensures { GivesPart values.token token_text (ref_value self.now) result }
     {
@@ -46,7 +46,7 @@ impl<'a> RefBareItem<'a> {
         }
     }
 
-    /// The same value (RFC 9651, section 3.3), lent.
+    /// Returns the same value (RFC 9651, section 3.3), lent.
     pub fn as_ref_item(&self) -> RefBareItem<'a>
         ensures { ref_value result ≡ ref_value self.now }
     {
@@ -62,11 +62,11 @@ impl<'a> RefBareItem<'a> {
         }
     }
 
-    /// The same value (RFC 9651, section 3.3) with texts of its own.
+    /// Returns the same value (RFC 9651, section 3.3) with texts of its own.
     ///
     /// # Errors
     ///
-    /// `OutOfMemory` if a request for memory is refused.
+    /// `OutOfMemory` when out of memory.
     pub fn try_to_owned(&self, alloc: Global) -> Result<BareItem, OutOfMemory>
         ensures { IfOk result (λ item. bare_value item ≡ ref_value self.now) }
     {

@@ -47,7 +47,7 @@ impl<S, B, T, D> From<i8> for GenericBareItem<S, B, T, D> {
     ghost from_gives = { λ v item. item ≡ code.Integer v };
 
     fn from(v: i8) -> GenericBareItem<S, B, T, D> {
-        GenericBareItem::Integer(Integer::from(v))
+        GenericBareItem::from(Integer::from(v))
     }
 }
 
@@ -55,7 +55,7 @@ impl<S, B, T, D> From<i16> for GenericBareItem<S, B, T, D> {
     ghost from_gives = { λ v item. item ≡ code.Integer v };
 
     fn from(v: i16) -> GenericBareItem<S, B, T, D> {
-        GenericBareItem::Integer(Integer::from(v))
+        GenericBareItem::from(Integer::from(v))
     }
 }
 
@@ -63,7 +63,7 @@ impl<S, B, T, D> From<i32> for GenericBareItem<S, B, T, D> {
     ghost from_gives = { λ v item. item ≡ code.Integer v };
 
     fn from(v: i32) -> GenericBareItem<S, B, T, D> {
-        GenericBareItem::Integer(Integer::from(v))
+        GenericBareItem::from(Integer::from(v))
     }
 }
 
@@ -71,7 +71,7 @@ impl<S, B, T, D> From<u8> for GenericBareItem<S, B, T, D> {
     ghost from_gives = { λ v item. item ≡ code.Integer (pos v) };
 
     fn from(v: u8) -> GenericBareItem<S, B, T, D> {
-        GenericBareItem::Integer(Integer::from(v))
+        GenericBareItem::from(Integer::from(v))
     }
 }
 
@@ -79,7 +79,7 @@ impl<S, B, T, D> From<u16> for GenericBareItem<S, B, T, D> {
     ghost from_gives = { λ v item. item ≡ code.Integer (pos v) };
 
     fn from(v: u16) -> GenericBareItem<S, B, T, D> {
-        GenericBareItem::Integer(Integer::from(v))
+        GenericBareItem::from(Integer::from(v))
     }
 }
 
@@ -87,7 +87,7 @@ impl<S, B, T, D> From<u32> for GenericBareItem<S, B, T, D> {
     ghost from_gives = { λ v item. item ≡ code.Integer (pos v) };
 
     fn from(v: u32) -> GenericBareItem<S, B, T, D> {
-        GenericBareItem::Integer(Integer::from(v))
+        GenericBareItem::from(Integer::from(v))
     }
 }
 
@@ -97,10 +97,7 @@ impl<S, B, T, D> TryFrom<i64> for GenericBareItem<S, B, T, D> {
     ghost try_from_gives = { λ v r. GivesIf (IsInRange v) (code.Integer v) r };
 
     fn try_from(v: i64) -> Result<GenericBareItem<S, B, T, D>, Error> {
-        match Integer::try_from(v) {
-            Ok(value) => Ok(GenericBareItem::Integer(value)),
-            Err(error) => Err(error),
-        }
+        Ok(GenericBareItem::from(Integer::try_from(v)?))
     }
 }
 
@@ -110,10 +107,7 @@ impl<S, B, T, D> TryFrom<i128> for GenericBareItem<S, B, T, D> {
     ghost try_from_gives = { λ v r. GivesIf (IsInRange v) (code.Integer v) r };
 
     fn try_from(v: i128) -> Result<GenericBareItem<S, B, T, D>, Error> {
-        match Integer::try_from(v) {
-            Ok(value) => Ok(GenericBareItem::Integer(value)),
-            Err(error) => Err(error),
-        }
+        Ok(GenericBareItem::from(Integer::try_from(v)?))
     }
 }
 
@@ -123,10 +117,7 @@ impl<S, B, T, D> TryFrom<isize> for GenericBareItem<S, B, T, D> {
     ghost try_from_gives = { λ v r. GivesIf (IsInRange v) (code.Integer v) r };
 
     fn try_from(v: isize) -> Result<GenericBareItem<S, B, T, D>, Error> {
-        match Integer::try_from(v) {
-            Ok(value) => Ok(GenericBareItem::Integer(value)),
-            Err(error) => Err(error),
-        }
+        Ok(GenericBareItem::from(Integer::try_from(v)?))
     }
 }
 
@@ -136,10 +127,7 @@ impl<S, B, T, D> TryFrom<u64> for GenericBareItem<S, B, T, D> {
     ghost try_from_gives = { λ v r. GivesIf (IsInRange (pos v)) (code.Integer (pos v)) r };
 
     fn try_from(v: u64) -> Result<GenericBareItem<S, B, T, D>, Error> {
-        match Integer::try_from(v) {
-            Ok(value) => Ok(GenericBareItem::Integer(value)),
-            Err(error) => Err(error),
-        }
+        Ok(GenericBareItem::from(Integer::try_from(v)?))
     }
 }
 
@@ -149,10 +137,7 @@ impl<S, B, T, D> TryFrom<u128> for GenericBareItem<S, B, T, D> {
     ghost try_from_gives = { λ v r. GivesIf (IsInRange (pos v)) (code.Integer (pos v)) r };
 
     fn try_from(v: u128) -> Result<GenericBareItem<S, B, T, D>, Error> {
-        match Integer::try_from(v) {
-            Ok(value) => Ok(GenericBareItem::Integer(value)),
-            Err(error) => Err(error),
-        }
+        Ok(GenericBareItem::from(Integer::try_from(v)?))
     }
 }
 
@@ -162,9 +147,6 @@ impl<S, B, T, D> TryFrom<usize> for GenericBareItem<S, B, T, D> {
     ghost try_from_gives = { λ v r. GivesIf (IsInRange (pos v)) (code.Integer (pos v)) r };
 
     fn try_from(v: usize) -> Result<GenericBareItem<S, B, T, D>, Error> {
-        match Integer::try_from(v) {
-            Ok(value) => Ok(GenericBareItem::Integer(value)),
-            Err(error) => Err(error),
-        }
+        Ok(GenericBareItem::from(Integer::try_from(v)?))
     }
 }

@@ -18,7 +18,7 @@ use sfv_text::token_ref::TokenRef;
 use std::alloc::{AllocError, Global};
 
 impl<'a> StringFromInput<'a> {
-    /// The string (RFC 9651, section 3.3.3), lent.
+    /// Returns the string (RFC 9651, section 3.3.3), lent.
     pub fn as_string_ref(&self) -> StringRef<'_>
         ensures { string_text result ≡ read_text self.now }
     {
@@ -28,11 +28,11 @@ impl<'a> StringFromInput<'a> {
         }
     }
 
-    /// The string (RFC 9651, section 3.3.3) with a text of its own.
+    /// Returns the string (RFC 9651, section 3.3.3) with a text of its own.
     ///
     /// # Errors
     ///
-    /// `OutOfMemory` if a request for memory is refused.
+    /// `OutOfMemory` when out of memory.
     pub fn try_into_owned(self, alloc: Global) -> Result<String, OutOfMemory>
         ensures { IfOk result (λ text. text ≡ read_text self.entry) }
     {
@@ -69,7 +69,7 @@ impl<'a> Clone for StringFromInput<'a> {
 }
 
 impl<'a> BareItemFromInput<'a> {
-    /// The string (RFC 9651, section 3.3.3), and `None` for another kind.
+    /// Returns the string (RFC 9651, section 3.3.3), and `None` for another kind.
     pub fn as_string(&self) -> Option<StringRef<'_>>
         ensures { GivesPart values.string string_text (input_value self.now) result }
     {
@@ -79,7 +79,7 @@ impl<'a> BareItemFromInput<'a> {
         }
     }
 
-    /// The bytes (RFC 9651, section 3.3.5), and `None` for another kind.
+    /// Returns the bytes (RFC 9651, section 3.3.5), and `None` for another kind.
     pub fn as_byte_sequence(&self) -> Option<&[u8]>
         ensures { GivesPart values.byte_sequence (λ bytes. bytes.now) (input_value self.now) result }
     {
@@ -89,7 +89,7 @@ impl<'a> BareItemFromInput<'a> {
         }
     }
 
-    /// The token (RFC 9651, section 3.3.4), and `None` for another kind.
+    /// Returns the token (RFC 9651, section 3.3.4), and `None` for another kind.
     pub fn as_token(&self) -> Option<TokenRef<'a>>
         ensures { GivesPart values.token token_text (input_value self.now) result }
     {
@@ -99,7 +99,7 @@ impl<'a> BareItemFromInput<'a> {
         }
     }
 
-    /// The same value (RFC 9651, section 3.3), lent.
+    /// Returns the same value (RFC 9651, section 3.3), lent.
     pub fn as_ref_item(&self) -> RefBareItem<'_>
         ensures { ref_value result ≡ input_value self.now }
     {
@@ -115,11 +115,11 @@ impl<'a> BareItemFromInput<'a> {
         }
     }
 
-    /// The same value (RFC 9651, section 3.3) with texts of its own.
+    /// Returns the same value (RFC 9651, section 3.3) with texts of its own.
     ///
     /// # Errors
     ///
-    /// `OutOfMemory` if a request for memory is refused.
+    /// `OutOfMemory` when out of memory.
     pub fn try_into_owned(self, alloc: Global) -> Result<BareItem, OutOfMemory>
         ensures { IfOk result (λ item. bare_value item ≡ input_value self.entry) }
     {

@@ -13,7 +13,7 @@ use sfv_text::token::Token;
 use sfv_text::token_ref::TokenRef;
 
 impl BareItem {
-    /// The string (RFC 9651, section 3.3.3), and `None` for another kind.
+    /// Returns the string (RFC 9651, section 3.3.3), and `None` for another kind.
     pub fn as_string(&self) -> Option<StringRef<'_>>
         ensures { GivesPart values.string string_text (bare_value self.now) result }
     {
@@ -23,7 +23,7 @@ impl BareItem {
         }
     }
 
-    /// The bytes (RFC 9651, section 3.3.5), and `None` for another kind.
+    /// Returns the bytes (RFC 9651, section 3.3.5), and `None` for another kind.
     pub fn as_byte_sequence(&self) -> Option<&[u8]>
         ensures { GivesPart values.byte_sequence (λ bytes. bytes.now) (bare_value self.now) result }
     {
@@ -33,7 +33,7 @@ impl BareItem {
         }
     }
 
-    /// The token (RFC 9651, section 3.3.4), and `None` for another kind.
+    /// Returns the token (RFC 9651, section 3.3.4), and `None` for another kind.
     pub fn as_token(&self) -> Option<TokenRef<'_>>
         ensures { GivesPart values.token token_text (bare_value self.now) result }
     {
@@ -43,7 +43,7 @@ impl BareItem {
         }
     }
 
-    /// The same value (RFC 9651, section 3.3), lent.
+    /// Returns the same value (RFC 9651, section 3.3), lent.
     pub fn as_ref_item(&self) -> RefBareItem<'_>
         ensures { ref_value result ≡ bare_value self.now }
     {

@@ -107,7 +107,7 @@ padding-padded (suc k) zero (c ∷ rest) h (inl e) = absurd (omega (arith, e))
 padding-padded (suc k) zero (c ∷ rest) h (inr e) = rw e refl
 padding-padded (suc k) (suc n) rest h e = ap suc (padding-padded k n rest (omega arith) (elim e [ inl f ↦ inl (omega (arith, f)) | inr f ↦ inr f ]))
 
--- symbols, padding and what follows, behind n symbols
+-- symbols, padding and what follows, after n symbols
 pub record Shape (n : ℕ) (t : List ℕ) : Type 0 where
   pub run : List ℕ
   pub padding : ℕ
@@ -154,7 +154,7 @@ unfolding padding_in
 padding-nil zero = refl
 padding-nil (suc k) = refl
 
--- what stands behind the symbols
+-- what stands after the symbols
 pub behind_symbols : (n : ℕ) (u : List ℕ) → NotBegun is_symbol u → (valid_from n u ≡ padding_in (most_padding n) u) × (values_in u ≡ [])
 unfolding valid_from values_in
 behind_symbols n [] h = (sym (padding-nil (most_padding n)), refl)

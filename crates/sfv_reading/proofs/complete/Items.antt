@@ -46,7 +46,7 @@ key_complete (c ∷ cs) t q k h =
     let p = and_parts (is_key_start c) (list_all is_key_inner cs) k.0 in
     ap (λ (l : List ℕ). key_at (l ++ q)) k.1 ∙ branch_take _ _ _ c (cs ++ q) p.0 ∙ bind_complete _ _ _ _ _ (span_complete is_key_inner cs q p.1 h)
 
--- behind a sign of a class
+-- after a sign of a class
 behind_sign : {Q : List ℕ → Type 0} (n : ℕ) (t q : List ℕ) (h : (Exactly (n ∷ []) ⨾ Q) t) → t ++ q ≡ n ∷ (h.back ++ q)
 behind_sign n t q h = ap (λ (l : List ℕ). l ++ q) (h.text ∙ ap (λ (l : List ℕ). l ++ h.back) h.first)
 
@@ -55,7 +55,7 @@ unfolding value_at give
 value_complete edition v t q (inl e) h = ap (λ (l : List ℕ). value_at edition (l ++ q)) e.1 ∙ branch_past _ _ _ q (equals_apart q h) ∙ ap (λ (v : BareValue). Ok (v, q)) (sym e.0)
 value_complete edition v t q (inr e) h = ap (value_at edition) (behind_sign equals_sign t q e) ∙ branch_take _ _ _ equals_sign (e.back ++ q) refl ∙ bare_complete edition v e.back q e.second (token_apart q h)
 
--- what stands behind a key is no more of it
+-- what stands after a key is no more of it
 value_apart : (edition : Edition) (v : BareValue) (t q : List ℕ) → IsValueText edition v t → Apart is_key_inner q → Apart is_key_inner (t ++ q)
 value_apart edition v t q (inl e) h = subst (λ (l : List ℕ). Apart is_key_inner (l ++ q)) (sym e.1) h
 value_apart edition v t q (inr e) h = subst (Apart is_key_inner) (sym (behind_sign equals_sign t q e)) (Apart-cons is_key_inner equals_sign (e.back ++ q) refl)

@@ -31,7 +31,7 @@ pub Local-led : {A : Type 0} (es : List TreeEvent) (f : Reader A) → Local f �
 unfolding led
 Local-led es f h = record { lasts = λ t. led_on es f t (f t) (h.lasts t) }
 
--- one reader behaves as another does behind a text
+-- one reader behaves as another does after a text
 pub after : {A : Type 0} (f g : Reader A) (p t : List ℕ) (a : Answer A) → Lasts g t a → ((p' r : List ℕ) → t ≡ p' ++ r → (q : List ℕ) → first q ≡ first r → f (p ++ (p' ++ q)) ≡ g (p' ++ q)) → Lasts f (p ++ t) a
 after f g p t (Ok x) h same = (p ++ h.0, ap (λ (l : List ℕ). p ++ l) h.1 ∙ sym (append_assoc p h.0 x.1), λ r e. ap f (append_assoc p h.0 r) ∙ same h.0 x.1 h.1 r e ∙ h.2 r e)
 after f g p t (Err x) h same = λ l. let w = h l in

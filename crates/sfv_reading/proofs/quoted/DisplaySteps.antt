@@ -51,7 +51,7 @@ Sofar input bytes at whole = behind_bytes bytes (pieces_from outside (drop at in
 pub sofar_none : (input : List ℕ) (start : ℕ) → Sofar input [] start (drop start input)
 sofar_none input start = behind_bytes_none (pieces_from outside (drop start input))
 
--- behind a run of plain bytes
+-- after a run of plain bytes
 pub sofar_run : (input bytes : List ℕ) (at end : ℕ) (whole : List ℕ) → Sofar input bytes at whole → at ≤ end → RunOf is_plain_in_display (slice_range input at end) → Sofar input (bytes ++ slice_range input at end) end whole
 sofar_run input bytes at end whole s l h = sym (behind_bytes_more bytes (slice_range input at end) (pieces_from outside (drop end input))) ∙ ap (behind_bytes bytes) (sym (plain_reads input at end l h)) ∙ s
 
@@ -63,11 +63,11 @@ sofar_quote input bytes at whole s l e =
     let here : drop at input ≡ double_quote ∷ drop (at + 1) input = byte_at input at l ∙ ap (λ (c : ℕ). c ∷ drop (at + 1) input) e in
     sym s ∙ ap (behind_bytes bytes) (ap (pieces_from outside) here ∙ quote_display (drop (at + 1) input)) ∙ ap (λ (l : List ℕ). Ok (l, drop (at + 1) input)) (append-nil bytes)
 
--- the bytes with a run behind them
+-- the bytes with a run after them
 pub sofar_pushed : (input bytes new : List ℕ) (at end : ℕ) (whole : List ℕ) → Sofar input bytes at whole → at ≤ end → RunOf is_plain_in_display (slice_range input at end) → new ≡ bytes ++ slice_range input at end → Sofar input new end whole
 sofar_pushed input bytes new at end whole s l h e = subst (λ (bytes : List ℕ). Sofar input bytes end whole) (sym e) (sofar_run input bytes at end whole s l h)
 
--- behind an escape
+-- after an escape
 pub sofar_escape : (input bytes : List ℕ) (at : ℕ) (whole : List ℕ) (c : ℕ) → Sofar input bytes at whole → at < length input → slice_index input at ≡ percent_sign → IsDisplayPiece c (percent_sign ∷ slice_range input (at + 1) (at + 3)) → Sofar input (bytes ++ c ∷ []) (at + 3) whole
 sofar_escape input bytes at whole c s l e h =
     let here : drop at input ≡ (percent_sign ∷ slice_range input (at + 1) (at + 3)) ++ drop (at + 3) input = byte_at input at l ∙ ap (λ (c : ℕ). c ∷ drop (at + 1) input) e ∙ ap (λ (l : List ℕ). percent_sign ∷ l) (range_at input (at + 1) (at + 3) (omega arith)) in
@@ -131,7 +131,7 @@ read_past input bytes start end next l m h e n =
 
 -- ---- back to the place of a piece
 
--- so many pieces stand there, and behind them the goal
+-- so many pieces stand there, and after them the goal
 pub record LeadsTo (input : List ℕ) (index count : ℕ) (goal : List ℕ) : Type 0 where
   pub within : index ≤ length input
   pub bytes : List ℕ

@@ -22,7 +22,7 @@ pub behind_bytes_more : (xs ys : List ℕ) (a : Answer (List ℕ)) → behind_by
 behind_bytes_more xs ys (Ok x) = ap (λ (l : List ℕ). Ok (l, x.1)) (sym (append_assoc xs ys x.0))
 behind_bytes_more xs ys (Err e) = refl
 
--- what stands behind the bytes that were read
+-- what stands after the bytes that were read
 what_follows : Answer (List ℕ) → List ℕ
 what_follows (Ok x) = x.1
 what_follows (Err e) = []

@@ -1,4 +1,4 @@
--- Each reading is a run of pieces, and what stands behind them.
+-- Each reading is a run of pieces, and what stands after them.
 use Rattle.std.proofs.Common.{◌≡◌, ℕ, ◌+◌, ◌*◌, Bool, true, false, cond, not, ◌||◌, List, [], ◌∷◌, ◌++◌, Ok, Err, refl, sym, ap, subst, ◌∙◌, append_assoc, lit≤, inl, inr}
 use Rattle.std.specs.Prelude.{◌==◌, IsTrue}
 use Rattle.std.specs.List.{concat}
@@ -15,7 +15,7 @@ abbrev pub Ends : Bool → (SyntaxFault → List ℕ → List ℕ → Type 0) �
 Ends exact Stops (Ok x) bytes left = (x.0 ≡ bytes) × (left ≡ double_quote ∷ x.1)
 Ends exact Stops (Err e) bytes left = (e ≡ placed exact e.kind e.rest) × Stops e.kind left e.rest
 
--- behind one more piece
+-- after one more piece
 more_ends : (exact : Bool) (Stops : SyntaxFault → List ℕ → List ℕ → Type 0) (c : ℕ) (a : Answer (List ℕ)) (bytes left : List ℕ) → Ends exact Stops a bytes left → Ends exact Stops (behind_bytes (c ∷ []) a) (c ∷ bytes) left
 more_ends exact Stops c (Ok x) bytes left h = (ap (λ (l : List ℕ). c ∷ l) h.0, h.1)
 more_ends exact Stops c (Err e) bytes left h = h

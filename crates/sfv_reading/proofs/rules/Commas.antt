@@ -1,4 +1,4 @@
--- Behind a field with a member stand a comma and blanks, and the text ends: the comma is the fault.
+-- After a field with a member stand a comma and blanks, and the text ends: the comma is the fault.
 use Rattle.std.proofs.Common.{◌≡◌, ℕ, false, List, ◌∷◌, ◌++◌, length, drop, Err, refl, sym, ap, subst, ◌∙◌, append_assoc}
 use Rattle.std.proofs.lemmas.List.{drop_at}
 use Rattle.sfv_spec.specs.Ascii.{comma}

@@ -53,7 +53,7 @@ drop_one p r b (inl h) n =
     ap (λ (l : List ℕ). behind_pieces (suc n) (l ++ r)) h.1 ∙ ap (λ (x : Bool). behind_pieces n (cond x (drop 2 r) r)) o.0
 drop_one p r b (inr h) n = ap (λ (l : List ℕ). behind_pieces (suc n) (l ++ r)) h.4
 
--- the first n pieces, and what stands behind them
+-- the first n pieces, and what stands after them
 pub behind_split_at : (n : ℕ) (bytes : List ℕ) (pieces : List (List ℕ)) (left : List ℕ) → AllZip IsDisplayPiece bytes pieces → n ≤ length bytes → concat pieces ++ left ≡ concat (take n pieces) ++ behind_pieces n (concat pieces ++ left)
 behind_split_at zero bytes [] left h l = refl
 behind_split_at zero bytes (p ∷ pieces) left h l = refl

@@ -26,7 +26,7 @@ use Rattle.sfv_reading.proofs.rules.Combinators.{Rules, Rules-give, Rules-fail, 
 use Rattle.sfv_reading.proofs.rules.Many.{Rules-many}
 use Rattle.sfv_reading.proofs.rules.Origins.{Comes, origin_behind, origin_led, comes_bind, comes_span, comes_item, comes_entry, comes_keyed}
 
--- no member behind the comma: the text ends
+-- no member after the comma: the text ends
 comma_none : (r q : List ℕ) → comma_at (comma ∷ r) ≡ Ok (None, q) → RunOf is_space_or_tab r
 unfolding comma_at give ahead
 comma_none r q i =
@@ -53,7 +53,7 @@ module _ {A : Type 0} (edition : Edition) (P : A → List ℕ → Type 0) (parts
   Ruled t e = Origin edition t e ⊎ CommaAt P t e
 
   module _ (s t u : List ℕ) (m : A) (vs : List A) (each : RunOf is_space s) (k : P m t) (j : IsJoining (IsNext P parts one) vs u) where
-    -- behind spaces, a member, others and blanks
+    -- after spaces, a member, others and blanks
     place : List ℕ → List ℕ → List ℕ
     place z x = s ++ (t ++ (u ++ (z ++ x)))
 

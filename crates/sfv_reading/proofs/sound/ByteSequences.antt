@@ -61,7 +61,7 @@ content_split (c ∷ t) h = elim (cases_Bool (is_colon c)) [
       rw n (r.0, cc (r.1), rw n r.2)
 ]
 
--- what stands behind the colon
+-- what stands after the colon
 pub behind_colon : (content rest : List ℕ) → drop (length content + 1) (content ++ colon ∷ rest) ≡ rest
 behind_colon content rest = sym (drop-drop 1 (length content) (content ++ colon ∷ rest)) ∙ rw (drop_at content (colon ∷ rest) (length content) refl) refl
 
@@ -118,7 +118,7 @@ sound_closed content rest None e =
       λ l. (refl, refl),
     )
 
--- What is read is a Byte Sequence, and an exact fault stands behind a beginning of one.
+-- What is read is a Byte Sequence, and an exact fault stands after a beginning of one.
 pub Sound-bytes : Sound bytes_at IsBytesEnd (Mute IsBytesEnd) Quiet
 Sound-bytes = record {
   sound = λ t. elim (cases_Bool (list_any is_colon t)) [

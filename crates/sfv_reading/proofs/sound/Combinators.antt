@@ -17,7 +17,7 @@ further W s q e g = record {
   holds = subst (λ (l : List ℕ). W l e.events) (sym (append_assoc s g.front g.more)) g.holds;
 }
 
--- behind a text that was read before
+-- after a text that was read before
 pub behind : {A : Type 0} (P : A → List ℕ → Type 0) (W : List ℕ → List TreeEvent → Type 0) (V : List TreeEvent → Type 0) (s q : List ℕ) (a : Answer A) → Reached (λ v u. P v (s ++ u)) (λ u es. W (s ++ u) es) V q a → Reached P W V (s ++ q) a
 behind P W V s q (Ok x) h = (s ++ h.0, ap (λ (l : List ℕ). s ++ l) h.1 ∙ sym (append_assoc s h.0 x.1), h.2)
 behind P W V s q (Err e) h = ((λ x. further W s q e (h.0 x)), h.1)
@@ -184,7 +184,7 @@ span_at class (c ∷ r) =
 pub Steady-span : (class : ℕ → Bool) → Steady (span class) (IsSpan class)
 Steady-span class = record { steady = λ t. span_at class t }
 
--- behind a run of a class
+-- after a run of a class
 pub Sound-span : {B : Type 0} (class : ℕ → Bool) (g : List ℕ → Reader B) (Q : B → List ℕ → Type 0) (W : List ℕ → List TreeEvent → Type 0) (V : List TreeEvent → Type 0)
     → ((v : List ℕ) → RunOf class v → Sound (g v) (λ w u. Q w (v ++ u)) (λ u es. W (v ++ u) es) V) → Sound (span class >>= g) Q W V
 Sound-span class g Q W V h = Sound-bind (IsSpan class) (span class) g Q W V (Sound-steady _ _ W V (Steady-span class))
@@ -195,7 +195,7 @@ pub Sound-up_to : {B : Type 0} (class : ℕ → Bool) (n : ℕ) (g : List ℕ �
 Sound-up_to class n g Q W V h = Sound-bind (IsRun class n) (up_to class n) g Q W V (Sound-steady _ _ W V (Steady-up_to class n))
     (λ s v k. subst (λ (s : List ℕ). Sound (g v) (λ w u. Q w (s ++ u)) (λ u es. W (s ++ u) es) V) (sym k.same) (h v k.each k.most))
 
--- behind a byte that is named
+-- after a byte that is named
 pub Sound-byte : {A : Type 0} (n : ℕ) (f other : Reader A) (P : A → List ℕ → Type 0) (W : List ℕ → List TreeEvent → Type 0) (V : List TreeEvent → Type 0)
     → Sound f (λ v s. P v (n ∷ s)) (λ s es. W (n ∷ s) es) V → Sound other P W V → Sound (branch (byte n) (λ _. f) other) P W V
 Sound-byte n f other P W V h k = Sound-branch (byte n) (λ _. f) other P W V (λ c e. subst (λ (c : ℕ). Sound f (λ v s. P v (c ∷ s)) (λ s es. W (c ∷ s) es) V) (sym (eqb-true c n e)) h) k

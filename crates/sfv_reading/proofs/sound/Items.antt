@@ -31,7 +31,7 @@ Sound-key = Sound-branch _ _ _ _ _ _
 
 -- ---- parameters
 
--- *SP key, and a value, behind the semicolon
+-- *SP key, and a value, after the semicolon
 parameter_of : (edition : Edition) (spaces k key t : List ℕ) (v : BareValue) → RunOf is_space spaces → IsKeyText key k → IsValueText edition v t → IsParameterText edition (key, v) (semicolon ∷ (spaces ++ (k ++ t)))
 parameter_of edition spaces k key t v each is_key is_value = record {
   front = semicolon ∷ [];
@@ -94,7 +94,7 @@ ParametersGo edition = Goes (IsParametersText edition) parameters_events
 parameters_go : (edition : Edition) (u : List ℕ) (es : List TreeEvent) → ManyGoes (IsParameterText edition) (Exactly []) parameter_event u es → ParametersGo edition u es
 parameters_go edition u es g = (g.0, joined_end (IsParameterText edition) g.0 u g.1, parameters_begin g.0 es g.2)
 
--- with nothing behind it
+-- with nothing after it
 pub as_it_stands : (W : List ℕ → List TreeEvent → Type 0) (u : List ℕ) (es : List TreeEvent) → W u es → (d : List ℕ) × W (u ++ d) es
 as_it_stands W u es h = ([], subst (λ (l : List ℕ). W l es) (sym (append-nil u)) h)
 

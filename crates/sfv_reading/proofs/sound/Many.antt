@@ -21,7 +21,7 @@ pub record Consumes {A : Type 0} (step : Reader (Option A)) : Type 0 where
 
 -- ---- sound
 
--- a step behind the pieces of some values, whose events were visited
+-- a step after the pieces of some values, whose events were visited
 abbrev pub Behind : {A : Type 0} → (A → List TreeEvent) → (List ℕ → List TreeEvent → Type 0) → List ℕ → List A → List ℕ → List TreeEvent → Type 0
 Behind parts W s vs u es = W (s ++ u) (flat_map parts vs ++ es)
 
@@ -74,7 +74,7 @@ unfolding many_within
 Local-many_within parts zero h = Local-ruled unterminated_byte_sequence
 Local-many_within {step = step} parts (suc n) h = Local-bind step (go_on parts (many_within parts n step)) h (λ o. Local-go_on parts (many_within parts n step) o (Local-many_within parts n h))
 
--- an answer behind a value that was read before
+-- an answer after a value that was read before
 abbrev pub put : {A : Type 0} → (A → List TreeEvent) → A → Answer (List A) → Answer (List A)
 put parts v a = led_answer (parts v) (and_then a (λ vs. give (v ∷ vs)))
 
@@ -161,7 +161,7 @@ module _ {A : Type 0} (parts : A → List TreeEvent) (step : Reader (Option A)) 
       let all : s ++ q ≡ j.front ++ (j.back ++ q) = ap (λ (l : List ℕ). l ++ q) j.text ∙ append_assoc j.front j.back q in
       (ap (many parts step) all ∙ many_is (j.front ++ (j.back ++ q)) ∙ rw (one.0, rest.0) refl, subst F (sym all) one.1)
 
-  -- ---- a loop that puts the values behind a front
+  -- ---- a loop that puts the values after a front
 
   pub goes_on : (front : List A) (v : A) (t r : List ℕ) (total : Answer (List A)) → step t ≡ Ok (Some v, r) → in_front parts front (many parts step t) ≡ total → in_front parts (front ++ v ∷ []) (many parts step r) ≡ total
   unfolding bind led

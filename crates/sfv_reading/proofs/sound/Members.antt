@@ -70,7 +70,7 @@ next_item_takes edition i t h = rw (h.text, h.first.text, h.first.first) (omega 
 pub Consumes-next_item : (edition : Edition) → Consumes (next_item_at edition)
 Consumes-next_item edition = Consumes-from (IsNextItem edition) IsClosed (NextItemGoes edition) (Somewhere (NextItemGoes edition)) (next_item_at edition) (Sound-next_item edition) (next_item_takes edition)
 
--- what stands behind the opening parenthesis, with the closing one
+-- what stands after the opening parenthesis, with the closing one
 abbrev pub IsItems : Edition → List RawItem → List ℕ → Type 0
 IsItems edition [] = IsClosed
 IsItems edition (i ∷ is) = Spaces ⨾ IsItemText edition i ⨾ Joined (IsNextItem edition) IsClosed is

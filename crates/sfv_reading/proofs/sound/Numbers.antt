@@ -22,7 +22,7 @@ IsNumber _ t = ⊥
 abbrev pub thousandths : List ℕ → List ℕ → ℕ
 thousandths whole fraction = place_value whole * 1000 + place_value fraction * 10 ^ (3 - length fraction)
 
--- behind a sign and digits, and behind a point and digits
+-- after a sign and digits, and after a point and digits
 abbrev Whole : Bool → List ℕ → List ℕ → List ℕ
 Whole negative whole u = minus_text negative ++ (whole ++ u)
 

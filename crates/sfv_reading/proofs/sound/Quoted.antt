@@ -67,7 +67,7 @@ string_reached t (Err e) h = (
   λ i. absurd (true≢false (sym (ap (λ (e : Fault). e.exact) h.ends.0) ∙ i)),
 )
 
--- What is read is a String, and a fault stands behind a beginning of one.
+-- What is read is a String, and a fault stands after a beginning of one.
 pub Sound-string : Sound string_at IsStringEnd (Mute IsStringEnd) Quiet
 Sound-string = record { sound = λ t. string_reached t (string_at t) (trace_of_string t) }
 

@@ -21,7 +21,7 @@ use Rattle.sfv_reading.proofs.sound.Steps.{StepGoes, Sound-steps}
 use Rattle.sfv_reading.proofs.sound.Items.{as_it_stands}
 use Rattle.sfv_reading.proofs.rules.UpToFault.{bind_met, led_met, many_met}
 
--- a comma, and what may stand behind it
+-- a comma, and what may stand after it
 abbrev pub IsComma : Unit {0} → List ℕ → Type 0
 IsComma u = Exactly (codes ",") ⨾ OptionalWhitespace
 
@@ -113,7 +113,7 @@ module _ {A : Type 0} (P : A → List ℕ → Type 0) (parts : A → List TreeEv
   unfolding comma_at give
   comma_complete behind q each h some = back_complete _ _ _ _ _ (branch_take _ _ _ comma (behind ++ q) refl ∙ bind_complete _ _ _ _ _ (span_complete is_space_or_tab behind q each h) ∙ ahead_any _ _ q some)
 
-  -- F: what may stand behind a member
+  -- F: what may stand after a member
   module _ (F : List ℕ → Type 0) (again : (m : A) (t q : List ℕ) → P m t → F q → one (t ++ q) ≡ Ok (m, q)) (fresh : (m : A) (t q : List ℕ) → P m t → Apart is_space_or_tab (t ++ q) × (1 ≤ length (t ++ q)))
       (ends : (c : ℕ) (q : List ℕ) → is_space_or_tab c ≡ true → F (c ∷ q)) (comma_ends : (q : List ℕ) → F (comma ∷ q)) (end : F []) where
     blank_ends : (s q : List ℕ) → RunOf is_space_or_tab s → F q → F (s ++ q)
@@ -157,7 +157,7 @@ module _ {A : Type 0} (P : A → List ℕ → Type 0) (parts : A → List TreeEv
         ap (members_at parts one) all ∙ bind_complete _ _ _ _ _ (span_complete is_space h.front (o.front ++ (rest ++ [])) h.first (no_space _ n.0)) ∙ ahead_any _ _ (o.front ++ (rest ++ [])) n.1
         ∙ bind_complete _ _ _ _ _ (again m o.front (rest ++ []) o.first more.1) ∙ led_complete _ _ _ _ _ (bind_complete _ _ _ _ _ more.0)
 
-    -- ---- and a comma behind the last
+    -- ---- and a comma after the last
 
     comma_met : (z w : List ℕ) → RunOf is_space_or_tab z → RunOf is_space_or_tab w → (next_at one (z ++ comma ∷ w) ≡ Err (record { kind = trailing_comma; exact = false; rest = comma ∷ w; events = [] }))
     unfolding next_at comma_at back give

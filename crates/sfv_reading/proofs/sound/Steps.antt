@@ -20,7 +20,7 @@ abbrev pub ManyGoes : {A : Type 0} → (A → List ℕ → Type 0) → (List ℕ
 ManyGoes P E parts = Goes (Joined P E) (λ vs. flat_map parts vs)
 
 module _ {A : Type 0} (P : A → List ℕ → Type 0) (E : List ℕ → Type 0) (parts : A → List TreeEvent) (z : List ℕ) (e : E z) where
-  -- behind pieces, a step goes on to an end
+  -- after pieces, a step goes on to an end
   goes_on : (s : List ℕ) (vs : List A) → IsJoining P vs s → (u : List ℕ) (es : List TreeEvent) (o : Option A) → Step P E o u → Begins (step_events parts o) es
       → (d : List ℕ) × ManyGoes P E parts (s ++ (u ++ d)) (flat_map parts vs ++ es)
   goes_on s vs j u es None h b = (

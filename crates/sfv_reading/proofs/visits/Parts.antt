@@ -29,7 +29,7 @@ visited_first {A} {B} f g first parts more t h = on (f t) refl
     on (Ok x) e = (visited more (g x.0 x.1), led_visited (first x.0) parts more (g x.0 x.1) (λ w r i. h x.0 x.1 w r e i))
     on (Err e) i = ([], sym (append-nil e.events))
 
--- a loop: behind the values of a front
+-- a loop: after the values of a front
 pub visited_in_front : {A : Type 0} (parts : A → List TreeEvent) (front : List A) (a : Answer (List A)) → visited (λ vs. flat_map parts vs) (in_front parts front a) ≡ flat_map parts front ++ visited (λ vs. flat_map parts vs) a
 visited_in_front parts front (Ok x) = flat_map-append parts front x.0
 visited_in_front parts front (Err e) = refl

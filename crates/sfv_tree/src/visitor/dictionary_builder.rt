@@ -3,7 +3,8 @@
 ghost use Rattle.std.specs.Prelude.{◌≡◌, ⊤, None, OnOk};
 ghost use Rattle.sfv_tree.specs.Trees.{dictionary_tree};
 ghost use Rattle.sfv_tree.specs.Events.{event_of};
-ghost use Rattle.sfv_tree.specs.Builders.{between_pairs, settle_pair, dictionary_step, dictionary_place, dictionary_members, member_place};
+ghost use Rattle.sfv_tree.specs.Builders.{dictionary_step, dictionary_place, dictionary_members, member_place};
+ghost use Rattle.sfv_tree.specs.Builders.{between_pairs, settle_pair};
 
 use crate::parsed::Dictionary;
 use crate::visitor::partial_member::PartialMember;
@@ -22,8 +23,8 @@ struct PartialPair {
 /// Builds a dictionary of its events, from a dictionary that it begins with. Of a repeated key the last member stands
 /// whole, at the place of the first (RFC 9651, section 4.2.2); so does the last value of a repeated parameter.
 ///
-/// It takes every event, and an event out of its place changes nothing. It fails at an event only where out of memory,
-/// and never its answer, which is the dictionary of the members that are whole.
+/// It takes every event, and an event out of its place changes nothing. It fails only when out of memory, and never at
+/// the end. Its answer is the dictionary of the members that are whole.
 #[derive(Drop)]
 pub struct DictionaryBuilder {
     alloc: Global,
@@ -33,8 +34,8 @@ pub struct DictionaryBuilder {
 }
 
 impl DictionaryBuilder {
-    /// The builder before any event, with the members of `dictionary`, which builds with memory from `alloc`. A further
-    /// line of the same field is read into the dictionary of the lines before it.
+    /// Returns the builder before any event, with the members of `dictionary`, which builds with memory from `alloc`.
+    /// A further line of the same field is read into the dictionary of the lines before it.
     pub fn new(alloc: Global, dictionary: Dictionary) -> DictionaryBuilder
         ensures { dictionary_place result ≡ between_pairs (dictionary_tree dictionary.entries) }
     {
@@ -47,7 +48,8 @@ impl DictionaryBuilder {
 
     fn begin(&mut self, event: Event<'_>) -> Result<(), OutOfMemory>
         requires no_member { self.old.pair ≡ None }
-        ensures { OnOk result (dictionary_place self.new ≡ dictionary_step (dictionary_place self.old) (event_of event.entry)) }
+        ensures { OnOk result
+            (dictionary_place self.new ≡ dictionary_step (dictionary_place self.old) (event_of event.entry)) }
     {
         match event {
             Event::KeyedEntry(key) => {
@@ -63,7 +65,8 @@ impl DictionaryBuilder {
     // Enters a member that has ended, and goes on reading one that has not.
     fn settle(&mut self, key: Key, member: PartialMember) -> Result<(), OutOfMemory>
         requires no_member { self.old.pair ≡ None }
-        ensures { OnOk result (dictionary_place self.new ≡ settle_pair (dictionary_tree self.old.dictionary.entries) key (member_place member)) }
+        ensures { OnOk result (dictionary_place self.new
+            ≡ settle_pair (dictionary_tree self.old.dictionary.entries) key (member_place member)) }
     {
         match member {
             PartialMember::Ended(entry) => {
@@ -75,7 +78,8 @@ impl DictionaryBuilder {
     }
 
     fn step(&mut self, event: Event<'_>) -> Result<(), OutOfMemory>
-        ensures { OnOk result (dictionary_place self.new ≡ dictionary_step (dictionary_place self.old) (event_of event.entry)) }
+        ensures { OnOk result
+            (dictionary_place self.new ≡ dictionary_step (dictionary_place self.old) (event_of event.entry)) }
     {
         match self.pair.take() {
             None => self.begin(event),

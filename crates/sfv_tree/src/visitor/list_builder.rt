@@ -11,11 +11,11 @@ use crate::visitor::{Event, Visitor};
 use sfv_base::error::OutOfMemory;
 use std::alloc::Global;
 
-/// Builds a list of its events, behind the members of a list that it begins with. Of a repeated key the last value stands,
-/// at the place of the first.
+/// Builds a list of its events, after the members of a list that it begins with. Of a repeated key the last value
+/// stands, at the place of the first.
 ///
-/// It takes every event, and an event out of its place changes nothing. It fails at an event only where out of memory,
-/// and never its answer, which is the list of the members that are whole.
+/// It takes every event, and an event out of its place changes nothing. It fails only when out of memory, and never at
+/// the end. Its answer is the list of the members that are whole.
 #[derive(Drop)]
 pub struct ListBuilder {
     alloc: Global,
@@ -25,8 +25,8 @@ pub struct ListBuilder {
 }
 
 impl ListBuilder {
-    /// The builder before any event, with the members of `list`, which builds with memory from `alloc`. A further line of
-    /// the same field is read into the list of the lines before it.
+    /// Returns the builder before any event, with the members of `list`, which builds with memory from `alloc`.
+    /// A further line of the same field is read into the list of the lines before it.
     pub fn new(alloc: Global, list: List) -> ListBuilder
         ensures { list_place result ≡ between (list_tree list.items) }
     {

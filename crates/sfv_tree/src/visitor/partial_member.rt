@@ -32,7 +32,7 @@ pub(crate) enum PartialMember {
     InnerParams { inner: InnerList, item: Item },
     // Among the parameters of an inner list.
     ListParams(InnerList),
-    // Behind the parameters of the member.
+    // After the parameters of the member.
     Ended(ListEntry),
 }
 
@@ -70,7 +70,8 @@ impl PartialMember {
         alloc: Global,
         bare_item: BareItemFromInput<'_>,
     ) -> Result<PartialMember, OutOfMemory>
-        ensures { IfOk result (λ after. member_place after ≡ member_step (member_place self) (tree.bare_item (input_value bare_item.entry))) }
+        ensures { IfOk result (λ after. member_place after
+            ≡ member_step (member_place self) (tree.bare_item (input_value bare_item.entry))) }
     {
         match self {
             PartialMember::Head => {
@@ -92,7 +93,8 @@ impl PartialMember {
         key: KeyRef<'_>,
         value: BareItemFromInput<'_>,
     ) -> Result<PartialMember, OutOfMemory>
-        ensures { IfOk result (λ after. member_place after ≡ member_step (member_place self) (tree.parameter (key_text key.entry) (input_value value.entry))) }
+        ensures { IfOk result (λ after. member_place after
+            ≡ member_step (member_place self) (tree.parameter (key_text key.entry) (input_value value.entry))) }
     {
         match self {
             PartialMember::Params(mut item) => {
@@ -127,7 +129,7 @@ impl PartialMember {
         }
     }
 
-    // What is read of the member behind this event.
+    // Returns what is read of the member after this event.
     pub(crate) fn step(self, alloc: Global, event: Event<'_>) -> Result<PartialMember, OutOfMemory>
         ensures { IfOk result (λ after. member_place after ≡ member_step (member_place self) (event_of event.entry)) }
     {

@@ -4,7 +4,7 @@ use Rattle.sfv_spec.specs.Statements.{IsParsedAs}
 use Rattle.sfv_bare.specs.BareItems.{edition_of}
 use Rattle.sfv_tree.specs.Trees.{dictionary_tree}
 use Rattle.sfv.specs.Parsers.{input_of, parser_edition}
-use Rattle.sfv_tool.proofs.Lines.{dictionary_line, answered}
+use Rattle.sfv_tool.proofs.Lines.{serialized_line, answered}
 use Rattle.sfv_tool.proofs.answer.answer_dictionary.Goals as goal
 
 pub returns-clause-accepted : goal.returns-clause-accepted
@@ -12,4 +12,4 @@ returns-clause-accepted c =
     let version : parser_edition c.with_version-parser.result ≡ edition_of c.args.version = c.with_version-parser.ensures.version in
     let input : input_of c.with_version-parser.result ≡ c.args.input.now = c.with_version-parser.ensures.input ∙ c.new.ensures.input in
     let read : IsParsedAs (edition_of c.args.version) dictionary_field c.args.input.now (dictionary_tree c.in_ok-dictionary.dictionary.entries) = rw (← version, ← input) c.in_ok-dictionary.ensures.read in
-    answered (edition_of c.args.version) dictionary_field c.args.input.now (dictionary_tree c.in_ok-dictionary.dictionary.entries) c.in_ok-serialize.field-0 c.line.result read (dictionary_line c.in_ok-serialize.field-0 _ c.in_ok-serialize.ensures.text) c.line.ensures.line
+    answered (edition_of c.args.version) dictionary_field c.args.input.now (dictionary_tree c.in_ok-dictionary.dictionary.entries) c.in_ok-serialize.field-0 c.line.result read (serialized_line dictionary_field _ c.in_ok-serialize.field-0 c.in_ok-serialize.ensures.text) c.line.ensures.line

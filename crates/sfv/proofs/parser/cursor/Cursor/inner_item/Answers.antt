@@ -1,18 +1,17 @@
-use Rattle.std.proofs.Common.{refl}
 use Rattle.std.proofs.lemmas.Result.{err_from_is_err_and}
 use Rattle.sfv_spec.specs.Events.{begins_item, item_events}
-use Rattle.sfv_bare.specs.BareItems.{edition_of}
 use Rattle.sfv_reading.specs.Items.{item_at}
 use Rattle.sfv_reading.specs.Members.{inner_item_at}
-use Rattle.sfv.proofs.Telling.{led_visits, led_fails}
+use Rattle.sfv.specs.Cursor.{kept, edition}
+use Rattle.sfv.proofs.Visiting.{led_visits, led_fails}
 use Rattle.sfv.proofs.parser.cursor.Cursor.inner_item.Goals as goal
 
 pub returns-in_err-visit-clause-visited : goal.returns-in_err-visit-clause-visited
 unfolding inner_item_at
 returns-in_err-visit-clause-visited g c =
     let p = err_from_is_err_and c.from_residual.result c.from_residual.ensures.1 in
-    rw (p.1, p.2) (led_fails g.V.Visitor.takes g.V.Visitor.fails begins_item item_events (item_at (edition_of c.args.version)) _ _ c.visit.new.visitor c.args.self.now.input c.args.self.now _ c.in_err-visit.ensures.failed)
+    rw (p.1, p.2) (led_fails g.V.Visitor.takes g.V.Visitor.fails begins_item item_events (item_at (edition c.args.self.now)) _ _ c.visit.new.visitor (kept c.args.self.now) c.args.self.now _ c.in_err-visit.ensures.failed)
 
 pub returns-clause-visited : goal.returns-clause-visited
 unfolding inner_item_at
-returns-clause-visited g c = led_visits g.V.Visitor.takes g.V.Visitor.fails begins_item item_events (item_at (edition_of c.args.version)) _ _ _ c.item.new.visitor _ _ c.item.new.self c.item.result refl c.in_ok-visit.ensures.taken c.item.ensures.visited
+returns-clause-visited g c = led_visits g.V.Visitor.takes g.V.Visitor.fails begins_item item_events (item_at (edition c.args.self.now)) _ _ _ c.item.new.visitor _ c.item.new.self c.item.result c.in_ok-visit.ensures.taken c.item.ensures.visited

@@ -11,21 +11,21 @@ behind xs i = take (length xs - (i + 1)) (drop (i + 1) xs)
 
 pub from_utf8_unchecked-text-requires : goal.from_utf8_unchecked-text-requires
 from_utf8_unchecked-text-requires c =
-    let input = c.args.self.now.input.now in
+    let input = c.args.self.now.parser.input.now in
     let i = c.args.self.now.index in
     let read : IsTextAt is_key_start is_key_inner input i c.key_run-len.result (behind input i) = record { head = c.if-not-next_is_key_start.ensures; behind = take_rest input (i + 1); each = c.key_run-len.ensures.each; run = c.key_run-len.ensures.run } in
     key_utf8 _ (key_class input _ i _ read)
 
 pub constant-requires : goal.constant-requires
 constant-requires c =
-    let input = c.args.self.now.input.now in
+    let input = c.args.self.now.parser.input.now in
     let i = c.args.self.now.index in
     let read : IsTextAt is_key_start is_key_inner input i c.key_run-len.result (behind input i) = record { head = c.if-not-next_is_key_start.ensures; behind = take_rest input (i + 1); each = c.key_run-len.ensures.each; run = c.key_run-len.ensures.run } in
     rw c.from_utf8_unchecked-text.ensures (key_class input _ i _ read)
 
 pub returns : goal.returns
 returns c =
-    let input = c.args.self.now.input.now in
+    let input = c.args.self.now.parser.input.now in
     let i = c.args.self.now.index in
     let read : IsTextAt is_key_start is_key_inner input i c.key_run-len.result (behind input i) = record { head = c.if-not-next_is_key_start.ensures; behind = take_rest input (i + 1); each = c.key_run-len.ensures.each; run = c.key_run-len.ensures.run } in
     (rw (c.constant.ensures, c.from_utf8_unchecked-text.ensures) (key_some input _ i _ read), refl)

@@ -1,0 +1,39 @@
+//! Reading keys (RFC 9651, section 4.2.3.3).
+
+ghost use Rattle.sfv_spec.specs.Classes.{is_key_start};
+ghost use Rattle.sfv_text.specs.KeyText.{key_text};
+ghost use Rattle.sfv_reading.specs.Items.{key_at};
+ghost use Rattle.sfv.specs.Cursor.{rest, Reads, NextIs};
+
+use crate::parser::cursor::Cursor;
+use crate::parser::runs::key_run;
+use sfv_base::error::{Error, ErrorKind};
+use sfv_base::utils::is_allowed_start_key_char;
+use sfv_text::key_ref::KeyRef;
+
+impl<'de> Cursor<'de> {
+    /// Whether a byte stands next that a key may begin with.
+    fn next_is_key_start(&self) -> bool
+        ensures { NextIs is_key_start result (rest self.now) }
+    {
+        match self.peek() {
+            Some(byte) => is_allowed_start_key_char(byte),
+            None => false,
+        }
+    }
+
+    /// Takes a key.
+    #[tactic(auto, using(crate::proofs::Steps::key_steps))]
+    pub(crate) fn key(&mut self) -> Result<KeyRef<'de>, Error>
+        ensures { Reads key_text self.old self.new result key_at }
+    {
+        if !self.next_is_key_start() {
+            return Err(self.error(ErrorKind::ExpectedStartOfKey));
+        }
+        let start = self.index;
+        let len = key_run(&self.parser.input[start + 1..]);
+        self.index = start + 1 + len;
+        let text = unsafe { std::str::from_utf8_unchecked(&self.parser.input[start..self.index]) };
+        Ok(KeyRef::constant(text))
+    }
+}

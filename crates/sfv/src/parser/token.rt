@@ -1,0 +1,40 @@
+//! Reading tokens (RFC 9651, section 4.2.6).
+
+ghost use Rattle.sfv_spec.specs.Classes.{is_token_start};
+ghost use Rattle.sfv_spec.specs.Values.{token};
+ghost use Rattle.sfv_text.specs.TokenText.{token_text};
+ghost use Rattle.sfv_reading.specs.Bare.{token_at};
+ghost use Rattle.sfv.specs.Cursor.{rest, Reads, NextIs};
+
+use crate::parser::cursor::Cursor;
+use crate::parser::runs::token_run;
+use sfv_base::error::{Error, ErrorKind};
+use sfv_base::utils::is_allowed_start_token_char;
+use sfv_text::token_ref::TokenRef;
+
+impl<'de> Cursor<'de> {
+    /// Whether a byte stands next that a token may begin with.
+    fn next_is_token_start(&self) -> bool
+        ensures { NextIs is_token_start result (rest self.now) }
+    {
+        match self.peek() {
+            Some(byte) => is_allowed_start_token_char(byte),
+            None => false,
+        }
+    }
+
+    /// Takes a token.
+    #[tactic(auto, using(crate::proofs::Steps::token_steps))]
+    pub(crate) fn token(&mut self) -> Result<TokenRef<'de>, Error>
+        ensures { Reads (λ t. token (token_text t)) self.old self.new result token_at }
+    {
+        if !self.next_is_token_start() {
+            return Err(self.error(ErrorKind::ExpectedStartOfBareItem));
+        }
+        let start = self.index;
+        let len = token_run(&self.parser.input[start + 1..]);
+        self.index = start + 1 + len;
+        let text = unsafe { std::str::from_utf8_unchecked(&self.parser.input[start..self.index]) };
+        Ok(TokenRef::constant(text))
+    }
+}
