@@ -256,6 +256,15 @@ mod tests {
         }
     }
 
+    #[test]
+    fn parts(rt: HostRuntime) {
+        assert!(rt; is_of::<Digit>(b'7') && !is_of::<Digit>(b'a'));
+        assert_eq!(rt; run_end_from::<InnerKey>(b"A=abc;", 2), 5);
+        let (run, rest) = split_run::<PlainInString>(b"ab\\c");
+        assert_eq!(rt; (run.len(), rest.len()), (2, 2));
+        assert!(rt; split_run::<Space>(rest).0.is_empty());
+    }
+
     // Whether the class has just these bytes, each as a byte of a short text and as one of a block.
     fn has_just<C: RunClass>(bytes: &str) -> bool {
         let Some(inside) = bytes.as_bytes().first() else {
