@@ -74,13 +74,13 @@ impl<'de> Parser<'de> {
         T::parse(alloc, self)
     }
 
-    /// Reads the input as an item (RFC 9651, section 4.2), and visits its parts from left to right. Memory for texts with
-    /// escapes and for byte sequences is asked of `alloc`.
+    /// Reads the input as an item (RFC 9651, section 4.2), and visits its parts from left to right. Memory for texts
+    /// with escapes and for byte sequences is asked of `alloc`.
     ///
     /// For an item it returns what the visitor returns after all parts: `BareItem`, a `Parameter` for each parameter,
     /// repeated keys too, and `ParametersEnd`. Where the visitor fails, the reading ends with its error
-    /// (`ParseError::Visitor`). Else the error (`ParseError::Syntax`) is that of `parse`. The visitor is finished before
-    /// it is known whether anything stands after the item, so its error wins.
+    /// (`ParseError::Visitor`). Else the error (`ParseError::Syntax`) is that of `parse`. The visitor is finished
+    /// before it is known whether anything stands after the item, so its error wins.
     pub fn parse_item_with_visitor<V: Visitor<'de>>(
         self,
         alloc: Global,
@@ -92,18 +92,20 @@ impl<'de> Parser<'de> {
         ensures syntax { IfErr result
             (IsSyntaxOf V.takes V.finishes (parser_edition self.entry) item_field (input_of self.entry) visitor) }
         ensures visitor { IfErr result
-            (IsVisitorErrorOf V.takes V.fails V.finish_fails (parser_edition self.entry) item_field (input_of self.entry) visitor) }
+            (IsVisitorErrorOf V.takes V.fails V.finish_fails
+            (parser_edition self.entry) item_field (input_of self.entry) visitor) }
     {
         parse_item_field(self, alloc, visitor)
     }
 
-    /// Reads the input as a list (RFC 9651, section 4.2), and visits its parts from left to right. Memory for texts with
-    /// escapes and for byte sequences is asked of `alloc`.
+    /// Reads the input as a list (RFC 9651, section 4.2), and visits its parts from left to right. Memory for texts
+    /// with escapes and for byte sequences is asked of `alloc`.
     ///
-    /// For a list it returns what the visitor returns after the parts of all members: `Entry`, and then those of an item
-    /// or an inner list. `Entry` is visited where a byte stands where a member is wanted, before that byte is looked at.
-    /// Where the visitor fails, the reading ends with its error (`ParseError::Visitor`). Else the error
-    /// (`ParseError::Syntax`) is that of `parse`. The visitor is finished only where the input has ended without a fault.
+    /// For a list it returns what the visitor returns after the parts of all members: `Entry`, and then those of an
+    /// item or an inner list. `Entry` is visited where a byte stands where a member is wanted, before that byte is
+    /// looked at. Where the visitor fails, the reading ends with its error (`ParseError::Visitor`). Else the error
+    /// (`ParseError::Syntax`) is that of `parse`. The visitor is finished only where the input has ended without a
+    /// fault.
     pub fn parse_list_with_visitor<V: Visitor<'de>>(
         self,
         alloc: Global,
@@ -115,18 +117,20 @@ impl<'de> Parser<'de> {
         ensures syntax { IfErr result
             (IsSyntaxOf V.takes V.finishes (parser_edition self.entry) list_field (input_of self.entry) visitor) }
         ensures visitor { IfErr result
-            (IsVisitorErrorOf V.takes V.fails V.finish_fails (parser_edition self.entry) list_field (input_of self.entry) visitor) }
+            (IsVisitorErrorOf V.takes V.fails V.finish_fails
+            (parser_edition self.entry) list_field (input_of self.entry) visitor) }
     {
         parse_members_field::<Entry, V>(self, alloc, visitor)
     }
 
-    /// Reads the input as a dictionary (RFC 9651, section 4.2), and visits its parts from left to right. Memory for texts
-    /// with escapes and for byte sequences is asked of `alloc`.
+    /// Reads the input as a dictionary (RFC 9651, section 4.2), and visits its parts from left to right. Memory for
+    /// texts with escapes and for byte sequences is asked of `alloc`.
     ///
-    /// For a dictionary it returns what the visitor returns after the parts of all members, those of a repeated key too:
-    /// `KeyedEntry` once the key has been read, and then the parts of an item or an inner list. A member without `=` is
-    /// the item true. Where the visitor fails, the reading ends with its error (`ParseError::Visitor`). Else the error
-    /// (`ParseError::Syntax`) is that of `parse`. The visitor is finished only where the input has ended without a fault.
+    /// For a dictionary it returns what the visitor returns after the parts of all members, those of a repeated key
+    /// too: `KeyedEntry` once the key has been read, and then the parts of an item or an inner list. A member without
+    /// `=` is the item true. Where the visitor fails, the reading ends with its error (`ParseError::Visitor`). Else the
+    /// error (`ParseError::Syntax`) is that of `parse`. The visitor is finished only where the input has ended without
+    /// a fault.
     pub fn parse_dictionary_with_visitor<V: Visitor<'de>>(
         self,
         alloc: Global,
@@ -138,7 +142,8 @@ impl<'de> Parser<'de> {
         ensures syntax { IfErr result
             (IsSyntaxOf V.takes V.finishes (parser_edition self.entry) dictionary_field (input_of self.entry) visitor) }
         ensures visitor { IfErr result
-            (IsVisitorErrorOf V.takes V.fails V.finish_fails (parser_edition self.entry) dictionary_field (input_of self.entry) visitor) }
+            (IsVisitorErrorOf V.takes V.fails V.finish_fails
+            (parser_edition self.entry) dictionary_field (input_of self.entry) visitor) }
     {
         parse_members_field::<KeyedEntry, V>(self, alloc, visitor)
     }

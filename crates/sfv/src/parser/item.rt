@@ -85,7 +85,8 @@ impl<'de> Cursor<'de> {
     ) -> Result<(), ParseError<V::Error>>
         requires { V.is_ready visitor.old }
         ensures ready { OnOk result (V.is_ready visitor.new) }
-        ensures visited { Visits V.takes V.fails parameters_events self.old self.new visitor.old visitor.new result parameters_at }
+        ensures visited { Visits V.takes V.fails parameters_events self.old self.new visitor.old visitor.new
+            result parameters_at }
     {
         while let Some(parameter) = self.parameter()? {
             visit(visitor, Event::Parameter(parameter.key, parameter.value))?;

@@ -19,13 +19,15 @@ impl<'de> Cursor<'de> {
     fn inner_item<V: Visitor<'de>>(&mut self, visitor: &mut V) -> Result<(), ParseError<V::Error>>
         requires { V.is_ready visitor.old }
         ensures ready { OnOk result (V.is_ready visitor.new) }
-        ensures visited { Visits V.takes V.fails inner_item_events self.old self.new visitor.old visitor.new result inner_item_at }
+        ensures visited { Visits V.takes V.fails inner_item_events self.old self.new visitor.old visitor.new
+            result inner_item_at }
     {
         visit(visitor, Event::Item)?;
         self.item(visitor)
     }
 
-    /// Takes the spaces between two items of an inner list, or its closing parenthesis. Returns whether an item is wanted.
+    /// Takes the spaces between two items of an inner list, or its closing parenthesis. Returns whether an item is
+    /// wanted.
     fn consume_item_delimiter(&mut self) -> Result<bool, Error>
         ensures { Reads (λ wants. wants) self.old self.new result item_delimiter_at }
     {
@@ -69,7 +71,8 @@ impl<'de> Cursor<'de> {
     fn inner_list<V: Visitor<'de>>(&mut self, visitor: &mut V) -> Result<(), ParseError<V::Error>>
         requires { V.is_ready visitor.old }
         ensures ready { OnOk result (V.is_ready visitor.new) }
-        ensures visited { Visits V.takes V.fails behind_begin self.old self.new visitor.old visitor.new result inner_at }
+        ensures visited { Visits V.takes V.fails behind_begin self.old self.new visitor.old visitor.new
+            result inner_at }
     {
         self.inner_items(visitor)?;
         visit(visitor, Event::InnerListEnd)?;
@@ -83,7 +86,8 @@ impl<'de> Cursor<'de> {
     ) -> Result<(), ParseError<V::Error>>
         requires { V.is_ready visitor.old }
         ensures ready { OnOk result (V.is_ready visitor.new) }
-        ensures visited { Visits V.takes V.fails member_events self.old self.new visitor.old visitor.new result member_at }
+        ensures visited { Visits V.takes V.fails member_events self.old self.new visitor.old visitor.new
+            result member_at }
     {
         if self.take_if(b'(') {
             visit(visitor, Event::InnerList)?;
@@ -94,8 +98,8 @@ impl<'de> Cursor<'de> {
         }
     }
 
-    /// Takes the comma between two members, with the spaces and tabs around it. Returns whether a member is wanted, and not
-    /// the end of the input.
+    /// Takes the comma between two members, with the spaces and tabs around it. Returns whether a member is wanted, and
+    /// not the end of the input.
     fn consume_comma(&mut self) -> Result<bool, Error>
         ensures { Reads (λ wants. wants) self.old self.new result member_delimiter_at }
     {
@@ -120,7 +124,8 @@ impl<'de> Cursor<'de> {
     fn member_value<V: Visitor<'de>>(&mut self, visitor: &mut V) -> Result<(), ParseError<V::Error>>
         requires { V.is_ready visitor.old }
         ensures ready { OnOk result (V.is_ready visitor.new) }
-        ensures visited { Visits V.takes V.fails member_events self.old self.new visitor.old visitor.new result member_value_at }
+        ensures visited { Visits V.takes V.fails member_events self.old self.new visitor.old visitor.new
+            result member_value_at }
     {
         if self.take_if(b'=') {
             return self.member(visitor);
@@ -138,7 +143,8 @@ impl<'de> Cursor<'de> {
         requires { V.is_ready visitor.old }
         ensures ready { OnOk result (V.is_ready visitor.new) }
         ensures visited { Visits V.takes V.fails (λ members. flat_map (member_parts M.keyed) members) self.old self.new
-            visitor.old visitor.new result (λ edition. members_at (member_parts M.keyed) (one_member_at M.keyed edition)) }
+            visitor.old visitor.new result
+            (λ edition. members_at (member_parts M.keyed) (one_member_at M.keyed edition)) }
         ensures end { OnOk result (rest self.new ≡ []) }
     {
         self.skip_sp();
@@ -161,7 +167,8 @@ pub(super) trait Member<'de, V: Visitor<'de>> {
     fn consume(cursor: &mut Cursor<'de>, visitor: &mut V) -> Result<(), ParseError<V::Error>>
         requires { V.is_ready visitor.old }
         ensures ready { OnOk result (V.is_ready visitor.new) }
-        ensures visited { Visits V.takes V.fails (member_parts keyed) cursor.old cursor.new visitor.old visitor.new result
+        ensures visited { Visits V.takes V.fails (member_parts keyed) cursor.old cursor.new
+            visitor.old visitor.new result
             (one_member_at keyed) };
 }
 

@@ -57,7 +57,8 @@ impl<'de> Cursor<'de> {
     /// Takes the rest of a quoted text behind the bytes `plain`, with its closing quote. Returns the bytes of both.
     fn unescaped<Q: QuotedText>(&mut self, plain: &[u8]) -> Result<Vec<u8>, Error>
         requires { Apart (plain_of Q.display) (rest self.old) }
-        ensures { ReadsOrOutOfMemory vec_bytes self.old self.new result (λ t. behind_bytes plain.now (inside Q.display t)) }
+        ensures { ReadsOrOutOfMemory vec_bytes self.old self.new result
+            (λ t. behind_bytes plain.now (inside Q.display t)) }
     {
         let mut bytes = Vec::from_slice(self.alloc, plain)?;
         while !self.take_if(b'"') {

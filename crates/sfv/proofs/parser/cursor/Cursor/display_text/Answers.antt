@@ -1,11 +1,10 @@
-use Rattle.std.proofs.Common.{◌≡◌, List, ℕ, Ok, drop, sym, subst, refl}
+use Rattle.std.proofs.Common.{◌≡◌, Ok, drop, sym, subst, refl}
 use Rattle.std.specs.declared.alloc.Global.{Global}
 use Rattle.std.proofs.lemmas.Result.{err_from_is_err_and}
-use Rattle.sfv_reading.specs.Quoted.{outside, pieces_from, display_at}
+use Rattle.sfv_reading.specs.Quoted.{outside, pieces_from}
 use Rattle.sfv_reading.proofs.quoted.DisplaySteps.{shown_text, plain_utf8}
 use Rattle.sfv.specs.declared.parser.Parser.{Parser}
-use Rattle.sfv.specs.Cursor.{input, kept_input, rest, IsErrorOf}
-use Rattle.sfv.proofs.Errors.{ErrorOf-fault}
+use Rattle.sfv.specs.Cursor.{input, kept_input, rest}
 use Rattle.sfv.proofs.Escapes.{display_error}
 use Rattle.sfv.proofs.parser.cursor.Cursor.display_text.Goals as goal
 

@@ -1,4 +1,4 @@
-use Rattle.std.proofs.Common.{◌≡◌, ◌∙◌, true, refl, sym, ap}
+use Rattle.std.proofs.Common.{◌∙◌, true, refl, sym}
 use Rattle.std.proofs.lemmas.Result.{err_from_is_err_and}
 use Rattle.std.proofs.lemmas.Bool.{true≢false}
 use Rattle.sfv_reading.specs.Reader.{byte}

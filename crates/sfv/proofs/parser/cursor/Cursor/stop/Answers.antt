@@ -1,7 +1,6 @@
-use Rattle.std.proofs.Common.{refl, ◌∙◌, ap, sym}
+use Rattle.std.proofs.Common.{refl, ◌∙◌, ap}
 use Rattle.std.specs.Prelude.{is_some}
 use Rattle.sfv.specs.Cursor.{kept}
-use Rattle.sfv.specs.Quoted.{stop_of}
 use Rattle.sfv.proofs.Errors.{FaultOf-here}
 use Rattle.sfv.proofs.Escapes.{stops}
 use Rattle.sfv.proofs.parser.cursor.Cursor.stop.Goals as goal
