@@ -33,8 +33,8 @@ impl TextClass for KeyClass {
 
 /// A key that owns its text (RFC 9651, section 3.1.2).
 ///
-/// `from_string` fails with `ErrorKind::Empty` and no index if the text is empty, and otherwise with
-/// `ErrorKind::InvalidCharacter` at the index of the first byte that may not stand there in a key.
+/// `from_string` rejects an empty text with `ErrorKind::Empty` and no index, and another text that is no key with
+/// `ErrorKind::InvalidCharacter` at the index of the first byte that may not stand there.
 pub type Key = CheckedText<KeyClass>;
 
 impl Key {

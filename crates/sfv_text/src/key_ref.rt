@@ -5,6 +5,6 @@ use crate::key::KeyClass;
 
 /// A key whose text is borrowed (RFC 9651, section 3.1.2).
 ///
-/// `from_str` and `from_bytes` fail with `ErrorKind::Empty` and no index if there are no bytes, and otherwise with
-/// `ErrorKind::InvalidCharacter` at the index of the first byte that may not stand there in a key.
+/// `from_str` and `from_bytes` reject an empty text with `ErrorKind::Empty` and no index, and another text that is no
+/// key with `ErrorKind::InvalidCharacter` at the index of the first byte that may not stand there.
 pub type KeyRef<'a> = CheckedTextRef<'a, KeyClass>;

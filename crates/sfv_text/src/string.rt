@@ -36,8 +36,8 @@ impl TextClass for StringClass {
 
 /// A string that owns its text (RFC 9651, section 3.3.3).
 ///
-/// `from_string` fails with `ErrorKind::InvalidCharacter` at the index of the first byte that a string may not hold,
-/// which is one that isn't printable ASCII.
+/// `from_string` rejects a text with `ErrorKind::InvalidCharacter` at the index of the first byte that a string may not
+/// hold, which is one that isn't printable ASCII.
 pub type String = CheckedText<StringClass>;
 
 impl String {

@@ -6,8 +6,8 @@ use std::marker::PhantomData;
 
 /// A string whose text is borrowed (RFC 9651, section 3.3.3).
 ///
-/// `from_str` and `from_bytes` fail with `ErrorKind::InvalidCharacter` at the index of the first byte that a string may
-/// not hold, which is one that isn't printable ASCII. `Default` is the empty string.
+/// `from_str` and `from_bytes` reject a text with `ErrorKind::InvalidCharacter` at the index of the first byte that a
+/// string may not hold, which is one that isn't printable ASCII. `Default` is the empty string.
 pub type StringRef<'a> = CheckedTextRef<'a, StringClass>;
 
 impl StringRef<'_> {

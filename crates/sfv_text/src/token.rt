@@ -33,8 +33,8 @@ impl TextClass for TokenClass {
 
 /// A token that owns its text (RFC 9651, section 3.3.4).
 ///
-/// `from_string` fails with `ErrorKind::Empty` and no index if the text is empty, and otherwise with
-/// `ErrorKind::InvalidCharacter` at the index of the first byte that may not stand there in a token.
+/// `from_string` rejects an empty text with `ErrorKind::Empty` and no index, and another text that is no token with
+/// `ErrorKind::InvalidCharacter` at the index of the first byte that may not stand there.
 pub type Token = CheckedText<TokenClass>;
 
 impl Token {
