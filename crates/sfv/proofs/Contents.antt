@@ -5,6 +5,7 @@ use Rattle.std.specs.List.{list_any}
 use Rattle.std.proofs.lemmas.Bool.{eqb-true, cases_Bool, true≢false}
 use Rattle.std.proofs.lemmas.List.{append-nil, length-take-le, length-drop, take-append-drop, drop-drop, drop_more, drop_all, get_or-drop, take_rest}
 use Rattle.std.proofs.Math.Seq.{take-add}
+use Rattle.sfv_spec.specs.Ascii.{colon, equals_sign}
 use Rattle.sfv_spec.proofs.Settled.{NotBegun}
 use Rattle.sfv_base.specs.declared.error.ErrorKind.TheVariants.{InvalidByteSequence, UnterminatedByteSequence}
 use Rattle.sfv_reading.specs.Reader.{Apart}
@@ -20,10 +21,10 @@ use Rattle.sfv.specs.Runs.{IsSymbolRun, IsPaddingRun}
 use Rattle.sfv.specs.Zeros.{decoded_symbols}
 
 -- the first colon
-first_colon : (u : List ℕ) → list_any (λ c. c == 0x3a) u ≡ true → (k : ℕ) × (k < length u) × (get_or u k 0 ≡ 0x3a) × HasNoColon (take k u)
+first_colon : (u : List ℕ) → list_any (λ c. c == colon) u ≡ true → (k : ℕ) × (k < length u) × (get_or u k 0 ≡ colon) × HasNoColon (take k u)
 first_colon [] h = absurd (true≢false (sym h))
-first_colon (c ∷ u) h = elim (cases_Bool (c == 0x3a)) [
-  | inl p ↦ (0, omega arith, eqb-true c 0x3a p, refl)
+first_colon (c ∷ u) h = elim (cases_Bool (c == colon)) [
+  | inl p ↦ (0, omega arith, eqb-true c colon p, refl)
   | inr p ↦
       let r = first_colon u (rw p at h) in
       (suc r.0, omega (arith, r.1), r.2, rw p r.3)
@@ -38,20 +39,20 @@ pub record Runs (t : List ℕ) (n p : ℕ) : Type 0 where
   pub symbols : IsSymbolRun t n
   pub padding : IsPaddingRun (drop n t) (most_padding n) p
 
-front : (t : List ℕ) (n p : ℕ) → Runs t n p → take (n + p) t ≡ take n t ++ replicate p 0x3d
+front : (t : List ℕ) (n p : ℕ) → Runs t n p → take (n + p) t ≡ take n t ++ replicate p equals_sign
 front t n p r = take-add n p t ∙ ap (λ (u : List ℕ). take n t ++ u) r.padding.each
 
 within : (t : List ℕ) (n p : ℕ) → Runs t n p → n + p ≤ length t
 within t n p r = omega (arith, r.symbols.within, r.padding.within, length-drop n t)
 
 front_apart : (t : List ℕ) (n p : ℕ) → Runs t n p → HasNoColon (take (n + p) t)
-front_apart t n p r = rw (front t n p r) (both_apart (take n t) (replicate p 0x3d) (symbols_apart (take n t) r.symbols.each) (padding_apart p))
+front_apart t n p r = rw (front t n p r) (both_apart (take n t) (replicate p equals_sign) (symbols_apart (take n t) r.symbols.each) (padding_apart p))
 
 valid_runs : (t : List ℕ) (n p : ℕ) → Runs t n p → valid_from 0 t ≡ n + p
 valid_runs t n p r =
     let size : length (take n t) ≡ n = length-take-le n t r.symbols.within in
     let z : 0 + length (take n t) ≡ n = omega (arith, size) in
-    let behind : drop n t ≡ replicate p 0x3d ++ drop (n + p) t = sym (take-append-drop p (drop n t)) ∙ rw (r.padding.each, drop-drop p n t) refl in
+    let behind : drop n t ≡ replicate p equals_sign ++ drop (n + p) t = sym (take-append-drop p (drop n t)) ∙ rw (r.padding.each, drop-drop p n t) refl in
     let s : Shape 0 t = record {
       run = take n t;
       padding = p;
@@ -65,33 +66,33 @@ valid_runs t n p r =
     (shape_valid 0 t s).0 ∙ ap (λ k. k + p) size
 
 -- a content from its place
-closed_at : (input : List ℕ) (start m : ℕ) → m < length (drop start input) → get_or (drop start input) m 0 ≡ 0x3a → HasNoColon (take m (drop start input))
+closed_at : (input : List ℕ) (start m : ℕ) → m < length (drop start input) → get_or (drop start input) m 0 ≡ colon → HasNoColon (take m (drop start input))
     → IsContentAt input start (start + m) (take m (drop start input))
-closed_at input start m lt colon none =
+closed_at input start m lt closes none =
     let t : List ℕ = drop start input in
     let sum : start + (m + 1) ≡ start + m + 1 = omega arith in
     record {
-      text = sym (take-append-drop m t) ∙ ap (λ (u : List ℕ). take m t ++ u) (drop_more t m 0 lt ∙ rw (colon, drop-drop (m + 1) start input, sum) refl);
+      text = sym (take-append-drop m t) ∙ ap (λ (u : List ℕ). take m t ++ u) (drop_more t m 0 lt ∙ rw (closes, drop-drop (m + 1) start input, sum) refl);
       no_colon = none;
       counted = ap (λ k. start + k) (sym (length-take-le m t (omega (arith, lt))));
     }
 
 -- where a colon stands behind the runs
-bytes_closed : (input : List ℕ) (start n p : ℕ) → Runs (drop start input) n p → n + p < length (drop start input) → get_or (drop start input) (n + p) 0 ≡ 0x3a
+bytes_closed : (input : List ℕ) (start n p : ℕ) → Runs (drop start input) n p → n + p < length (drop start input) → get_or (drop start input) (n + p) 0 ≡ colon
     → ¬ (n % 4 ≡ 1) → IsBytesAt input start (decoded_symbols (take n (drop start input))) (start + (n + p))
-bytes_closed input start n p r lt colon lone =
+bytes_closed input start n p r lt closes lone =
     let t : List ℕ = drop start input in
     let size : length (take n t) ≡ n = length-take-le n t r.symbols.within in
     let w = well_formed (take n t) p r.symbols.each (rw size r.padding.room) (λ e. lone (omega (arith, size, e))) in
     record {
       content = take (n + p) t;
-      closed = closed_at input start (n + p) lt colon (front_apart t n p r);
+      closed = closed_at input start (n + p) lt closes (front_apart t n p r);
       value = rw (front t n p r) ((gives_the_bytes _ _).0 w);
     }
 
-lone_closed : (input : List ℕ) (start n p : ℕ) → Runs (drop start input) n p → n + p < length (drop start input) → get_or (drop start input) (n + p) 0 ≡ 0x3a
+lone_closed : (input : List ℕ) (start n p : ℕ) → Runs (drop start input) n p → n + p < length (drop start input) → get_or (drop start input) (n + p) 0 ≡ colon
     → n % 4 ≡ 1 → IsInvalidAt input start (start + (n + p) - 1)
-lone_closed input start n p r lt colon one =
+lone_closed input start n p r lt closes one =
     let t : List ℕ = drop start input in
     let size : length (take n t) ≡ n = length-take-le n t r.symbols.within in
     let none : p ≡ 0 = omega (arith, rw one at r.padding.room) in
@@ -101,23 +102,23 @@ lone_closed input start n p r lt colon one =
     record {
       content = take (n + p) t;
       end = start + (n + p);
-      closed = closed_at input start (n + p) lt colon (front_apart t n p r);
+      closed = closed_at input start (n + p) lt closes (front_apart t n p r);
       no_value = rw z lone.0;
       here = omega (arith, place, size, one, none);
     }
 
 -- where another byte stands there, or the end
-malformed_closed : (input : List ℕ) (start n p : ℕ) → Runs (drop start input) n p → (n + p ≡ length (drop start input)) ⊎ (get_or (drop start input) (n + p) 0 ≡ 0x3a → ⊥)
-    → list_any (λ c. c == 0x3a) (drop (n + p) (drop start input)) ≡ true → IsInvalidAt input start (start + (n + p))
-malformed_closed input start n p r other colon =
+malformed_closed : (input : List ℕ) (start n p : ℕ) → Runs (drop start input) n p → (n + p ≡ length (drop start input)) ⊎ (get_or (drop start input) (n + p) 0 ≡ colon → ⊥)
+    → list_any (λ c. c == colon) (drop (n + p) (drop start input)) ≡ true → IsInvalidAt input start (start + (n + p))
+malformed_closed input start n p r other closes =
     let t : List ℕ = drop start input in
-    let k = first_colon (drop (n + p) t) colon in
-    let at : get_or t (n + p + k.0) 0 ≡ 0x3a = sym (get_or-drop (n + p) t k.0 0) ∙ k.2 in
+    let k = first_colon (drop (n + p) t) closes in
+    let at : get_or t (n + p + k.0) 0 ≡ colon = sym (get_or-drop (n + p) t k.0 0) ∙ k.2 in
     let m : ℕ = n + p + k.0 in
     let fits : m < length t = omega (arith, k.1, length-drop (n + p) t) in
     let later : n + p < m = elim other [
       | inl e ↦ omega (arith, e, fits)
-      | inr a ↦ elim k.0 as (λ j. get_or t (n + p + j) 0 ≡ 0x3a → n + p < n + p + j) [
+      | inr a ↦ elim k.0 as (λ j. get_or t (n + p + j) 0 ≡ colon → n + p < n + p + j) [
         | zero ↦ λ q. let z : n + p + 0 ≡ n + p = omega arith in absurd (a (rw z at q))
         | suc j ↦ λ q. omega arith
       ] at
@@ -136,28 +137,28 @@ malformed_closed input start n p r other colon =
 
 -- ---- what the reader gives, and that its place is within the input
 
-pub bytes_read : (input : List ℕ) (start n p : ℕ) → Runs (drop start input) n p → ¬ (n + p ≡ length (drop start input)) → get_or (drop start input) (n + p) 0 ≡ 0x3a → ¬ (n % 4 ≡ 1)
+pub bytes_read : (input : List ℕ) (start n p : ℕ) → Runs (drop start input) n p → ¬ (n + p ≡ length (drop start input)) → get_or (drop start input) (n + p) 0 ≡ colon → ¬ (n % 4 ≡ 1)
     → (bytes_at (drop start input) ≡ Ok (decoded_symbols (take n (drop start input)), drop (start + (n + p) + 1) input)) × (start + (n + p) + 1 ≤ length input)
-bytes_read input start n p r open_end colon lone =
+bytes_read input start n p r open_end closes lone =
     let l = within (drop start input) n p r in
     let lt : n + p < length (drop start input) = omega (arith, l, open_end) in
-    (gives_value input _ start _ (bytes_closed input start n p r lt colon lone), omega (arith, lt, length-drop start input))
+    (gives_value input _ start _ (bytes_closed input start n p r lt closes lone), omega (arith, lt, length-drop start input))
 
-pub lone_located : (input : List ℕ) (start n p : ℕ) → Runs (drop start input) n p → ¬ (n + p ≡ length (drop start input)) → get_or (drop start input) (n + p) 0 ≡ 0x3a → n % 4 ≡ 1
+pub lone_located : (input : List ℕ) (start n p : ℕ) → Runs (drop start input) n p → ¬ (n + p ≡ length (drop start input)) → get_or (drop start input) (n + p) 0 ≡ colon → n % 4 ≡ 1
     → (located (bytes_at (drop start input)) ≡ Err (InvalidByteSequence, drop (start + (n + p) - 1) input)) × (start + (n + p) - 1 ≤ length input)
-lone_located input start n p r open_end colon one =
+lone_located input start n p r open_end closes one =
     let l = within (drop start input) n p r in
     let lt : n + p < length (drop start input) = omega (arith, l, open_end) in
-    (ap located (gives_fault input start _ (lone_closed input start n p r lt colon one)), omega (arith, lt, length-drop start input))
+    (ap located (gives_fault input start _ (lone_closed input start n p r lt closes one)), omega (arith, lt, length-drop start input))
 
-pub malformed_located : (input : List ℕ) (start n p : ℕ) → Runs (drop start input) n p → (n + p ≡ length (drop start input)) ⊎ (get_or (drop start input) (n + p) 0 ≡ 0x3a → ⊥)
-    → list_any (λ c. c == 0x3a) (drop (n + p) (drop start input)) ≡ true → start ≤ length input
+pub malformed_located : (input : List ℕ) (start n p : ℕ) → Runs (drop start input) n p → (n + p ≡ length (drop start input)) ⊎ (get_or (drop start input) (n + p) 0 ≡ colon → ⊥)
+    → list_any (λ c. c == colon) (drop (n + p) (drop start input)) ≡ true → start ≤ length input
     → (located (bytes_at (drop start input)) ≡ Err (InvalidByteSequence, drop (start + (n + p)) input)) × (start + (n + p) ≤ length input)
-malformed_located input start n p r other colon inside =
+malformed_located input start n p r other closes inside =
     let l = within (drop start input) n p r in
-    (ap located (gives_fault input start _ (malformed_closed input start n p r other colon)), omega (arith, l, inside, length-drop start input))
+    (ap located (gives_fault input start _ (malformed_closed input start n p r other closes)), omega (arith, l, inside, length-drop start input))
 
-pub unterminated_located : (input : List ℕ) (start n p : ℕ) → Runs (drop start input) n p → list_any (λ c. c == 0x3a) (drop (n + p) (drop start input)) ≡ false
+pub unterminated_located : (input : List ℕ) (start n p : ℕ) → Runs (drop start input) n p → list_any (λ c. c == colon) (drop (n + p) (drop start input)) ≡ false
     → (located (bytes_at (drop start input)) ≡ Err (UnterminatedByteSequence, drop (length input) input)) × (length input ≤ length input)
 unterminated_located input start n p r none =
     let t : List ℕ = drop start input in

@@ -2,6 +2,7 @@
 use Rattle.std.proofs.Common.{◌≡◌, ℕ, Bool, true, false, not, List, [], ◌∷◌, Option, Some, None, Ok, Err, refl, sym, ap, ◌∙◌}
 use Rattle.std.specs.Prelude.{is_some}
 use Rattle.std.proofs.lemmas.Bool.{true≢false}
+use Rattle.sfv_spec.specs.Ascii.{right_parenthesis, comma}
 use Rattle.sfv_spec.specs.Classes.{is_space, is_space_or_tab}
 use Rattle.sfv_spec.specs.Values.{Edition, RawItem}
 use Rattle.sfv_spec.specs.Events.{TreeEvent, inner_item_events}
@@ -36,20 +37,20 @@ first_of parts one next = one >>= λ v. led (parts v) (many parts next >>= λ vs
 
 -- ---- items of an inner list
 
-pub parted_item : (b : Bool) (t r s q w : List ℕ) → TakesIf is_space true t r → span is_space r ≡ Ok (s, q) → TakesIf (byte 0x29) b q w → item_delimiter_at t ≡ Ok (not b, w)
+pub parted_item : (b : Bool) (t r s q w : List ℕ) → TakesIf is_space true t r → span is_space r ≡ Ok (s, q) → TakesIf (byte right_parenthesis) b q w → item_delimiter_at t ≡ Ok (not b, w)
 unfolding item_delimiter_at give
-parted_item true t r s q w sp e m = branch_true is_space _ _ t r sp ∙ bind_complete (span is_space) _ r q s e ∙ branch_true (byte 0x29) (λ _. give false) (give true) q w m
-parted_item false t r s q w sp e m = branch_true is_space _ _ t r sp ∙ bind_complete (span is_space) _ r q s e ∙ branch_false (byte 0x29) (λ _. give false) (give true) q w m
+parted_item true t r s q w sp e m = branch_true is_space _ _ t r sp ∙ bind_complete (span is_space) _ r q s e ∙ branch_true (byte right_parenthesis) (λ _. give false) (give true) q w m
+parted_item false t r s q w sp e m = branch_true is_space _ _ t r sp ∙ bind_complete (span is_space) _ r q s e ∙ branch_false (byte right_parenthesis) (λ _. give false) (give true) q w m
 
-pub closed_item : (t r q : List ℕ) → TakesIf is_space false t r → TakesIf (byte 0x29) true r q → item_delimiter_at t ≡ Ok (false, q)
+pub closed_item : (t r q : List ℕ) → TakesIf is_space false t r → TakesIf (byte right_parenthesis) true r q → item_delimiter_at t ≡ Ok (false, q)
 unfolding item_delimiter_at give
-closed_item t r q sp m = branch_false is_space _ _ t r sp ∙ branch_true (byte 0x29) _ _ r q m
+closed_item t r q sp m = branch_false is_space _ _ t r sp ∙ branch_true (byte right_parenthesis) _ _ r q m
 
-no_item_here : (t r q : List ℕ) → TakesIf is_space false t r → TakesIf (byte 0x29) false r q → item_delimiter_at t ≡ ahead any (fail expected_inner_list_delimiter) (fail unterminated_inner_list) q
+no_item_here : (t r q : List ℕ) → TakesIf is_space false t r → TakesIf (byte right_parenthesis) false r q → item_delimiter_at t ≡ ahead any (fail expected_inner_list_delimiter) (fail unterminated_inner_list) q
 unfolding item_delimiter_at
-no_item_here t r q sp m = branch_false is_space _ _ t r sp ∙ branch_false (byte 0x29) _ _ r q m
+no_item_here t r q sp m = branch_false is_space _ _ t r sp ∙ branch_false (byte right_parenthesis) _ _ r q m
 
-pub undelimited_item : (t r q : List ℕ) → TakesIf is_space false t r → TakesIf (byte 0x29) false r q → is_some (first q) ≡ true → located (item_delimiter_at t) ≡ Err (ExpectedInnerListDelimiter, q)
+pub undelimited_item : (t r q : List ℕ) → TakesIf is_space false t r → TakesIf (byte right_parenthesis) false r q → is_some (first q) ≡ true → located (item_delimiter_at t) ≡ Err (ExpectedInnerListDelimiter, q)
 unfolding ahead fail
 undelimited_item t r q sp m h = ap located (no_item_here t r q sp m) ∙ on q h
   where
@@ -57,7 +58,7 @@ undelimited_item t r q sp m h = ap located (no_item_here t r q sp m) ∙ on q h
     on [] h = absurd cc
     on (c ∷ q) h = refl
 
-pub unended_item : (t r q : List ℕ) → TakesIf is_space false t r → TakesIf (byte 0x29) false r q → is_some (first q) ≡ false → located (item_delimiter_at t) ≡ Err (UnterminatedInnerList, q)
+pub unended_item : (t r q : List ℕ) → TakesIf is_space false t r → TakesIf (byte right_parenthesis) false r q → is_some (first q) ≡ false → located (item_delimiter_at t) ≡ Err (UnterminatedInnerList, q)
 unfolding ahead fail
 unended_item t r q sp m h = ap located (no_item_here t r q sp m) ∙ on q h
   where
@@ -71,21 +72,21 @@ unfolding next_item_at item_delimiter_at bind branch ahead give fail
 next_item_is edition [] = refl
 next_item_is edition (c ∷ r) = on (is_space c) refl
   where
-    parted : (q : List ℕ) → branch (byte 0x29) (λ _. give None) (one_if (inner_item_at edition) true) q ≡ and_then (branch (byte 0x29) (λ _. give false) (give true) q) (one_if (inner_item_at edition))
+    parted : (q : List ℕ) → branch (byte right_parenthesis) (λ _. give None) (one_if (inner_item_at edition) true) q ≡ and_then (branch (byte right_parenthesis) (λ _. give false) (give true) q) (one_if (inner_item_at edition))
     parted [] = refl
-    parted (d ∷ q) = here (byte 0x29 d) refl
+    parted (d ∷ q) = here (byte right_parenthesis d) refl
       where
-        here : (b : Bool) → byte 0x29 d ≡ b → branch (byte 0x29) (λ _. give None) (one_if (inner_item_at edition) true) (d ∷ q) ≡ and_then (branch (byte 0x29) (λ _. give false) (give true) (d ∷ q)) (one_if (inner_item_at edition))
+        here : (b : Bool) → byte right_parenthesis d ≡ b → branch (byte right_parenthesis) (λ _. give None) (one_if (inner_item_at edition) true) (d ∷ q) ≡ and_then (branch (byte right_parenthesis) (λ _. give false) (give true) (d ∷ q)) (one_if (inner_item_at edition))
         here true e = rw e refl
         here false e = rw e refl
 
-    closed : (b : Bool) → is_space c ≡ false → byte 0x29 c ≡ b → next_item_at edition (c ∷ r) ≡ (item_delimiter_at >>= one_if (inner_item_at edition)) (c ∷ r)
+    closed : (b : Bool) → is_space c ≡ false → byte right_parenthesis c ≡ b → next_item_at edition (c ∷ r) ≡ (item_delimiter_at >>= one_if (inner_item_at edition)) (c ∷ r)
     closed true n e = rw (n, e) refl
     closed false n e = rw (n, e) refl
 
     on : (b : Bool) → is_space c ≡ b → next_item_at edition (c ∷ r) ≡ (item_delimiter_at >>= one_if (inner_item_at edition)) (c ∷ r)
     on true e = let q = span_total is_space r in rw (e, q.2) (parted q.1)
-    on false e = closed (byte 0x29 c) e refl
+    on false e = closed (byte right_parenthesis c) e refl
 
 pub items_none : (edition : Edition) (t : List ℕ) → is_some (first t) ≡ false → located (inner_items_at edition t) ≡ Err (UnterminatedInnerList, t)
 unfolding inner_items_at ahead fail
@@ -95,20 +96,20 @@ items_none edition (c ∷ t) h = absurd cc
 -- behind the spaces before the first item
 abbrev pub items_behind : Edition → Reader (List RawItem)
 items_behind edition =
-    branch (byte 0x29) (λ _. give []) (inner_item_at edition >>= λ i. led (inner_item_events i) (many inner_item_events (next_item_at edition) >>= λ is. give (i ∷ is)))
+    branch (byte right_parenthesis) (λ _. give []) (inner_item_at edition >>= λ i. led (inner_item_events i) (many inner_item_events (next_item_at edition) >>= λ is. give (i ∷ is)))
 
 items_some : (edition : Edition) (t s q : List ℕ) → is_some (first t) ≡ true → span is_space t ≡ Ok (s, q) → inner_items_at edition t ≡ items_behind edition q
 unfolding inner_items_at ahead
 items_some edition [] s q h e = absurd cc
 items_some edition (c ∷ t) s q h e = bind_complete (span is_space) (λ _. items_behind edition) (c ∷ t) q s e
 
-pub items_closed : (edition : Edition) (t s q w : List ℕ) → is_some (first t) ≡ true → span is_space t ≡ Ok (s, q) → TakesIf (byte 0x29) true q w → inner_items_at edition t ≡ Ok ([], w)
+pub items_closed : (edition : Edition) (t s q w : List ℕ) → is_some (first t) ≡ true → span is_space t ≡ Ok (s, q) → TakesIf (byte right_parenthesis) true q w → inner_items_at edition t ≡ Ok ([], w)
 unfolding give
-items_closed edition t s q w h e m = items_some edition t s q h e ∙ branch_true (byte 0x29) _ _ q w m
+items_closed edition t s q w h e m = items_some edition t s q h e ∙ branch_true (byte right_parenthesis) _ _ q w m
 
-pub items_first : (edition : Edition) (t s q w : List ℕ) → is_some (first t) ≡ true → span is_space t ≡ Ok (s, q) → TakesIf (byte 0x29) false q w → inner_items_at edition t ≡ first_of inner_item_events (inner_item_at edition) (next_item_at edition) w
+pub items_first : (edition : Edition) (t s q w : List ℕ) → is_some (first t) ≡ true → span is_space t ≡ Ok (s, q) → TakesIf (byte right_parenthesis) false q w → inner_items_at edition t ≡ first_of inner_item_events (inner_item_at edition) (next_item_at edition) w
 unfolding first_of
-items_first edition t s q w h e m = items_some edition t s q h e ∙ branch_false (byte 0x29) _ _ q w m
+items_first edition t s q w h e m = items_some edition t s q h e ∙ branch_false (byte right_parenthesis) _ _ q w m
 
 -- ---- members
 
@@ -118,7 +119,7 @@ at_end (c ∷ q) h = absurd cc
 
 -- behind optional whitespace
 abbrev at_comma : Reader Bool
-at_comma = ahead any (ahead (byte 0x2c) (back trailing_comma comma_at >>= λ _. give true) (fail trailing_characters_after_member)) (give false)
+at_comma = ahead any (ahead (byte comma) (back trailing_comma comma_at >>= λ _. give true) (fail trailing_characters_after_member)) (give false)
 
 member_is : (t s q : List ℕ) → span is_space_or_tab t ≡ Ok (s, q) → member_delimiter_at t ≡ at_comma q
 unfolding member_delimiter_at
@@ -134,7 +135,7 @@ no_member t s q e h = member_is t s q e ∙ on q h
 
 -- a member behind its delimiter, or the end
 abbrev wanted : {A : Type 0} → Reader A → Reader (Option A)
-wanted one = ahead any (ahead (byte 0x2c) (back trailing_comma comma_at >>= λ _. one >>= λ m. give (Some m)) (fail trailing_characters_after_member)) (give None)
+wanted one = ahead any (ahead (byte comma) (back trailing_comma comma_at >>= λ _. one >>= λ m. give (Some m)) (fail trailing_characters_after_member)) (give None)
 
 -- a member behind its delimiter is the next one
 pub next_member_is : {A : Type 0} (one : Reader A) (t : List ℕ) → next_at one t ≡ (member_delimiter_at >>= one_if one) t
@@ -145,13 +146,13 @@ next_member_is {A} one t = let q = span_total is_space_or_tab t in rw q.2 (on q.
     behind (Ok x) = refl
     behind (Err f) = refl
 
-    at : (c : ℕ) (r : List ℕ) (b : Bool) → byte 0x2c c ≡ b → wanted one (c ∷ r) ≡ and_then (at_comma (c ∷ r)) (one_if one)
+    at : (c : ℕ) (r : List ℕ) (b : Bool) → byte comma c ≡ b → wanted one (c ∷ r) ≡ and_then (at_comma (c ∷ r)) (one_if one)
     at c r true e = rw e (behind (back trailing_comma comma_at (c ∷ r)))
     at c r false e = rw e refl
 
     on : (q : List ℕ) → wanted one q ≡ and_then (at_comma q) (one_if one)
     on [] = refl
-    on (c ∷ r) = at c r (byte 0x2c c) refl
+    on (c ∷ r) = at c r (byte comma c) refl
 
 pub members_none : {A : Type 0} (parts : A → List TreeEvent) (one : Reader A) (t s q : List ℕ) → span is_space t ≡ Ok (s, q) → is_some (first q) ≡ false → members_at parts one t ≡ Ok ([], q)
 unfolding members_at ahead give
@@ -182,7 +183,7 @@ ends_there t r e = let q = span_total is_space_or_tab t in on q.1 (sym (member_i
         absurd (true≢false (ap (λ (p : Bool × List ℕ). p.0) same))
     never (Err f) e = absurd cc
 
-    at : (c : ℕ) (q : List ℕ) (b : Bool) → byte 0x2c c ≡ b → at_comma (c ∷ q) ≡ Ok (false, r) → r ≡ []
+    at : (c : ℕ) (q : List ℕ) (b : Bool) → byte comma c ≡ b → at_comma (c ∷ q) ≡ Ok (false, r) → r ≡ []
     at c q true e h = never (back trailing_comma comma_at (c ∷ q)) (rw e at h)
     at c q false e h = let n = rw e at h in absurd cc
 
@@ -192,21 +193,21 @@ ends_there t r e = let q = span_total is_space_or_tab t in on q.1 (sym (member_i
         let there : Bool × List ℕ = (false, r) in
         let same : here ≡ there = cc in
         sym (ap (λ (p : Bool × List ℕ). p.1) same)
-    on (c ∷ q) h = at c q (byte 0x2c c) refl h
+    on (c ∷ q) h = at c q (byte comma c) refl h
 
 -- behind the comma
 abbrev behind_comma : Reader Bool
 behind_comma = back trailing_comma comma_at >>= λ _. give true
 
-comma_met : (q w : List ℕ) → TakesIf (byte 0x2c) true q w → at_comma q ≡ behind_comma q
+comma_met : (q w : List ℕ) → TakesIf (byte comma) true q w → at_comma q ≡ behind_comma q
 unfolding ahead
 comma_met q w m = ap at_comma m.1 ∙ rw m.2 refl ∙ ap behind_comma (sym m.1)
 
-pub no_comma : (t s q w : List ℕ) → span is_space_or_tab t ≡ Ok (s, q) → is_some (first q) ≡ true → TakesIf (byte 0x2c) false q w → located (member_delimiter_at t) ≡ Err (TrailingCharactersAfterMember, w)
+pub no_comma : (t s q w : List ℕ) → span is_space_or_tab t ≡ Ok (s, q) → is_some (first q) ≡ true → TakesIf (byte comma) false q w → located (member_delimiter_at t) ≡ Err (TrailingCharactersAfterMember, w)
 unfolding ahead fail
 no_comma t s q w e h m = ap located (member_is t s q e) ∙ on q h m ∙ ap (λ (l : List ℕ). Err (TrailingCharactersAfterMember, l)) (sym m.0)
   where
-    on : (q : List ℕ) → is_some (first q) ≡ true → TakesIf (byte 0x2c) false q w → located (at_comma q) ≡ Err (TrailingCharactersAfterMember, q)
+    on : (q : List ℕ) → is_some (first q) ≡ true → TakesIf (byte comma) false q w → located (at_comma q) ≡ Err (TrailingCharactersAfterMember, q)
     on [] h m = absurd cc
     on (c ∷ q) h m = rw (m.1.apart c refl) refl
 
@@ -214,11 +215,11 @@ no_comma t s q w e h m = ap located (member_is t s q e) ∙ on q h m ∙ ap (λ 
 abbrev more_or_end : Reader (Option (Unit {0}))
 more_or_end = ahead any (give (Some tt)) (give None)
 
-comma_is : (q w s x : List ℕ) → TakesIf (byte 0x2c) true q w → span is_space_or_tab w ≡ Ok (s, x) → comma_at q ≡ more_or_end x
+comma_is : (q w s x : List ℕ) → TakesIf (byte comma) true q w → span is_space_or_tab w ≡ Ok (s, x) → comma_at q ≡ more_or_end x
 unfolding comma_at
-comma_is q w s x m e = branch_true (byte 0x2c) _ _ q w m ∙ bind_complete (span is_space_or_tab) _ w x s e
+comma_is q w s x m e = branch_true (byte comma) _ _ q w m ∙ bind_complete (span is_space_or_tab) _ w x s e
 
-pub comma_last : (t s q w s' x : List ℕ) → span is_space_or_tab t ≡ Ok (s, q) → TakesIf (byte 0x2c) true q w → span is_space_or_tab w ≡ Ok (s', x) → is_some (first x) ≡ false → located (member_delimiter_at t) ≡ Err (TrailingComma, q)
+pub comma_last : (t s q w s' x : List ℕ) → span is_space_or_tab t ≡ Ok (s, q) → TakesIf (byte comma) true q w → span is_space_or_tab w ≡ Ok (s', x) → is_some (first x) ≡ false → located (member_delimiter_at t) ≡ Err (TrailingComma, q)
 unfolding back bind ahead give
 comma_last t s q w s' x e m k h =
     let none : comma_at q ≡ Ok (None, x) = comma_is q w s' x m k ∙ on x h in
@@ -228,7 +229,7 @@ comma_last t s q w s' x e m k h =
     on [] h = refl
     on (c ∷ x) h = absurd cc
 
-pub comma_more : (t s q w s' x : List ℕ) → span is_space_or_tab t ≡ Ok (s, q) → TakesIf (byte 0x2c) true q w → span is_space_or_tab w ≡ Ok (s', x) → is_some (first x) ≡ true → member_delimiter_at t ≡ Ok (true, x)
+pub comma_more : (t s q w s' x : List ℕ) → span is_space_or_tab t ≡ Ok (s, q) → TakesIf (byte comma) true q w → span is_space_or_tab w ≡ Ok (s', x) → is_some (first x) ≡ true → member_delimiter_at t ≡ Ok (true, x)
 unfolding back bind ahead give
 comma_more t s q w s' x e m k h =
     let some : comma_at q ≡ Ok (Some tt, x) = comma_is q w s' x m k ∙ on x h in

@@ -5,6 +5,7 @@ use Rattle.std.specs.List.{concat}
 use Rattle.std.specs.declared.alloc.Global.{Global}
 use Rattle.std.proofs.lemmas.Bool.{and_parts, and_from, and_cases, or_parts, or_from, not-true, not_from_false, both_ways, eqb-true}
 use Rattle.std.proofs.lemmas.List.{append-nil}
+use Rattle.sfv_spec.specs.Ascii.{double_quote, percent_sign, backslash}
 use Rattle.sfv_spec.specs.Texts.{RunOf}
 use Rattle.sfv_spec.specs.Classes.{is_string_byte, is_lower_hexadecimal}
 use Rattle.sfv_spec.specs.Strings.{is_escaped_in_string, hexadecimal_value, IsStringPiece, IsDisplayPiece}
@@ -28,7 +29,7 @@ unfolding string_from pieces_from
 opens true t = refl
 opens false t = refl
 
-closes : (d : Bool) (t : List ℕ) → inside d (0x22 ∷ t) ≡ Ok ([], t)
+closes : (d : Bool) (t : List ℕ) → inside d (double_quote ∷ t) ≡ Ok ([], t)
 unfolding string_from pieces_from
 closes true t = refl
 closes false t = refl
@@ -38,14 +39,14 @@ plain_byte true c t h = step_display c (c ∷ []) t (inl (h, refl))
 plain_byte false c t h = step_string c (c ∷ []) t (inl (h, refl))
 
 -- a byte that is not plain, and neither the quote nor the mark
-no_string_byte : (d : Bool) (c : ℕ) → plain_of d c ≡ false → byte 0x22 c ≡ false → byte (mark_of d) c ≡ false → is_string_byte c ≡ false
+no_string_byte : (d : Bool) (c : ℕ) → plain_of d c ≡ false → byte double_quote c ≡ false → byte (mark_of d) c ≡ false → is_string_byte c ≡ false
 no_string_byte true c h q m = outside_byte c h q m
 no_string_byte false c h q m = elim (and_cases (is_string_byte c) (not (is_escaped_in_string c)) h) as (λ x. is_string_byte c ≡ false) [
   | inl e ↦ e
-  | inr e ↦ absurd (both_ways (not (is_escaped_in_string c)) e (not_from_false (is_escaped_in_string c) (or_from (c == 0x22) (c == 0x5c) q m)))
+  | inr e ↦ absurd (both_ways (not (is_escaped_in_string c)) e (not_from_false (is_escaped_in_string c) (or_from (c == double_quote) (c == backslash) q m)))
 ]
 
-pub stops : (d : Bool) (t : List ℕ) → Apart (plain_of d) t → Apart (byte 0x22) t → Apart (byte (mark_of d)) t → located (inside d t) ≡ Err (stop_of d (is_some (first t)), t)
+pub stops : (d : Bool) (t : List ℕ) → Apart (plain_of d) t → Apart (byte double_quote) t → Apart (byte (mark_of d)) t → located (inside d t) ≡ Err (stop_of d (is_some (first t)), t)
 unfolding string_from pieces_from
 stops true [] p q m = refl
 stops false [] p q m = refl
@@ -67,15 +68,15 @@ begins d run t p q each taken same = ap (inside d) taken ∙ plain_reads d run p
 at_byte : (m : ℕ) (t r : List ℕ) → TakesIf (byte m) true t r → t ≡ m ∷ r
 at_byte m t r h = h.1 ∙ ap (λ (c : ℕ). c ∷ r) (eqb-true h.0 m h.2)
 
-pub closed : (d : Bool) (t r : List ℕ) → TakesIf (byte 0x22) true t r → inside d t ≡ Ok ([], r)
-closed d t r h = ap (inside d) (at_byte 0x22 t r h) ∙ closes d r
+pub closed : (d : Bool) (t r : List ℕ) → TakesIf (byte double_quote) true t r → inside d t ≡ Ok ([], r)
+closed d t r h = ap (inside d) (at_byte double_quote t r h) ∙ closes d r
 
 -- and the quote stands behind them
-pub all_plain : (d : Bool) (run t p r : List ℕ) → RunOf (plain_of d) run → t ≡ run ++ p → TakesIf (byte 0x22) true p r → inside d t ≡ Ok (run, r)
+pub all_plain : (d : Bool) (run t p r : List ℕ) → RunOf (plain_of d) run → t ≡ run ++ p → TakesIf (byte double_quote) true p r → inside d t ≡ Ok (run, r)
 all_plain d run t p r each taken quote = begins d run t p p each taken refl ∙ ap (behind_bytes run) (closed d p r quote) ∙ ap (λ (l : List ℕ). Ok (l, r)) (append-nil run)
 
 -- the closing quote behind bytes that were read
-pub closed_behind : (d : Bool) (bytes t r : List ℕ) (whole : Answer (List ℕ)) → behind_bytes bytes (inside d t) ≡ whole → TakesIf (byte 0x22) true t r → whole ≡ Ok (bytes, r)
+pub closed_behind : (d : Bool) (bytes t r : List ℕ) (whole : Answer (List ℕ)) → behind_bytes bytes (inside d t) ≡ whole → TakesIf (byte double_quote) true t r → whole ≡ Ok (bytes, r)
 closed_behind d bytes t r whole sofar quote = sym sofar ∙ ap (behind_bytes bytes) (closed d t r quote) ∙ ap (λ (l : List ℕ). Ok (l, r)) (append-nil bytes)
 
 -- ---- escapes
@@ -132,18 +133,18 @@ abbrev no_mark : Bool → ℕ → Bool
 no_mark d c = not (c == mark_of d)
 
 plain_no_mark : (d : Bool) (c : ℕ) → plain_of d c ≡ true → no_mark d c ≡ true
-plain_no_mark true c p = not_from_false (c == 0x25) (or_parts (c == 0x25) (c == 0x22) (not-true _ (and_parts (is_string_byte c) _ p).1)).0
-plain_no_mark false c p = not_from_false (c == 0x5c) (or_parts (c == 0x22) (c == 0x5c) (not-true _ (and_parts (is_string_byte c) _ p).1)).1
+plain_no_mark true c p = not_from_false (c == percent_sign) (or_parts (c == percent_sign) (c == double_quote) (not-true _ (and_parts (is_string_byte c) _ p).1)).0
+plain_no_mark false c p = not_from_false (c == backslash) (or_parts (c == double_quote) (c == backslash) (not-true _ (and_parts (is_string_byte c) _ p).1)).1
 
-quote_no_mark : (d : Bool) → no_mark d 0x22 ≡ true
+quote_no_mark : (d : Bool) → no_mark d double_quote ≡ true
 quote_no_mark true = refl
 quote_no_mark false = refl
 
 -- none in plain bytes and the quote
-pub no_escape : (d : Bool) (run t p r : List ℕ) → RunOf (plain_of d) run → t ≡ run ++ p → TakesIf (byte 0x22) true p r → (s : List ℕ) × (t ≡ s ++ r) × RunOf (no_mark d) s
-no_escape d run t p r each taken quote = (run ++ 0x22 ∷ [], taken ∙ ap (λ (l : List ℕ). run ++ l) (at_byte 0x22 p r quote) ∙ sym (append_assoc run (0x22 ∷ []) r), on run each)
+pub no_escape : (d : Bool) (run t p r : List ℕ) → RunOf (plain_of d) run → t ≡ run ++ p → TakesIf (byte double_quote) true p r → (s : List ℕ) × (t ≡ s ++ r) × RunOf (no_mark d) s
+no_escape d run t p r each taken quote = (run ++ double_quote ∷ [], taken ∙ ap (λ (l : List ℕ). run ++ l) (at_byte double_quote p r quote) ∙ sym (append_assoc run (double_quote ∷ []) r), on run each)
   where
-    on : (run : List ℕ) → RunOf (plain_of d) run → RunOf (no_mark d) (run ++ 0x22 ∷ [])
+    on : (run : List ℕ) → RunOf (plain_of d) run → RunOf (no_mark d) (run ++ double_quote ∷ [])
     on [] h = and_from _ _ (quote_no_mark d) refl
     on (c ∷ run) h = let p = and_parts _ _ h in and_from _ _ (plain_no_mark d c p.0) (on run p.1)
 

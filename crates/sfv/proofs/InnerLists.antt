@@ -2,6 +2,7 @@
 use Rattle.std.proofs.Common.{◌≡◌, ℕ, true, false, List, [], ◌∷◌, ◌++◌, Ok, Err, refl, sym, ap, subst, ◌∙◌, append_assoc, flat_map}
 use Rattle.std.specs.Prelude.{Result}
 use Rattle.std.specs.declared.alloc.Global.{Global}
+use Rattle.sfv_spec.specs.Ascii.{left_parenthesis}
 use Rattle.sfv_spec.specs.Values.{Edition, RawParameters, RawItem, RawMember, item, inner_list}
 use Rattle.sfv_spec.specs.Events.{TreeEvent, begins_item, begins_inner_list, inner_list_end, parameters_events, item_events, member_events, inner_item_events}
 use Rattle.sfv_spec.specs.Visiting.{RunsTo}
@@ -72,16 +73,16 @@ module _ {S E : Type 0} (takes : S → TreeEvent → S → Type 0) (fails : S �
 
   -- ---- a member
 
-  member_list : (t q : List ℕ) → TakesIf (byte 0x28) true t q → member_at edition t ≡ led (begins_inner_list ∷ []) (inner_at edition) q
+  member_list : (t q : List ℕ) → TakesIf (byte left_parenthesis) true t q → member_at edition t ≡ led (begins_inner_list ∷ []) (inner_at edition) q
   unfolding member_at
-  member_list t q m = branch_true (byte 0x28) _ _ t q m
+  member_list t q m = branch_true (byte left_parenthesis) _ _ t q m
 
   abbrev as_item : Reader RawMember
   as_item = item_at edition >>= λ i. give (item i)
 
-  member_item : (t q : List ℕ) → TakesIf (byte 0x28) false t q → member_at edition t ≡ led (begins_item ∷ []) as_item q
+  member_item : (t q : List ℕ) → TakesIf (byte left_parenthesis) false t q → member_at edition t ≡ led (begins_item ∷ []) as_item q
   unfolding member_at
-  member_item t q m = branch_false (byte 0x28) _ _ t q m
+  member_item t q m = branch_false (byte left_parenthesis) _ _ t q m
 
   -- what an inner list gives begins as one
   given_list : (is : List RawItem) (a : Answer RawParameters) (v : RawMember) (r : List ℕ) → led_answer (closed_events is) (and_then a (λ ps. give (inner_of is ps))) ≡ Ok (v, r) → member_events v ≡ begins_inner_list ∷ behind_begin v
@@ -109,7 +110,7 @@ module _ {S E : Type 0} (takes : S → TreeEvent → S → Type 0) (fails : S �
       on (Ok x) e = inner (led_answer (closed_events x.0) (and_then (parameters_at edition x.1) (λ ps. give (inner_of x.0 ps)))) (given_list x.0 (parameters_at edition x.1)) e
       on (Err f) e = absurd cc
 
-  pub list_member_visits : (t q : List ℕ) (from middle to : S) (k : Parser × Global) (after : Cursor) (r : Result (Unit {0}) (ParseError E)) → TakesIf (byte 0x28) true t q → takes from begins_inner_list middle
+  pub list_member_visits : (t q : List ℕ) (from middle to : S) (k : Parser × Global) (after : Cursor) (r : Result (Unit {0}) (ParseError E)) → TakesIf (byte left_parenthesis) true t q → takes from begins_inner_list middle
       → VisitsAnswer takes fails behind_begin k after middle to r (inner_at edition q) → VisitsAnswer takes fails member_events k after from to r (member_at edition t)
   list_member_visits t q from middle to k after r m taken h =
       visits_as takes fails (λ v. begins_inner_list ∷ behind_begin v) member_events (led (begins_inner_list ∷ []) (inner_at edition) q) (member_at edition t) from to k after r (member_list t q m) (begins_as_list q)
@@ -124,7 +125,7 @@ module _ {S E : Type 0} (takes : S → TreeEvent → S → Type 0) (fails : S �
       on (Ok x) = refl
       on (Err f) = refl
 
-  pub item_member_visits : (t q : List ℕ) (from middle to : S) (k : Parser × Global) (after : Cursor) (r : Result (Unit {0}) (ParseError E)) → TakesIf (byte 0x28) false t q → takes from begins_item middle
+  pub item_member_visits : (t q : List ℕ) (from middle to : S) (k : Parser × Global) (after : Cursor) (r : Result (Unit {0}) (ParseError E)) → TakesIf (byte left_parenthesis) false t q → takes from begins_item middle
       → VisitsAnswer takes fails item_events k after middle to r (item_at edition q) → VisitsAnswer takes fails member_events k after from to r (member_at edition t)
   item_member_visits t q from middle to k after r m taken h =
       visits_as takes fails member_events member_events ((led (begins_item ∷ []) (item_at edition) >>= λ i. give (item i)) q) (member_at edition t) from to k after r (member_item t q m ∙ item_first q) (λ v s e. refl)
@@ -132,12 +133,12 @@ module _ {S E : Type 0} (takes : S → TreeEvent → S → Type 0) (fails : S �
       (led_visits takes fails begins_item item_events (item_at edition) q from middle to k after r taken h))
 
   -- the visitor fails at the beginning of a member
-  pub list_begin_fails : (t q : List ℕ) (from to : S) (k : Parser × Global) (after : Cursor) (error : ParseError E) → TakesIf (byte 0x28) true t q → IsOfVisitor (fails from begins_inner_list) error → VisitsAnswer takes fails member_events k after from to (Err error) (member_at edition t)
+  pub list_begin_fails : (t q : List ℕ) (from to : S) (k : Parser × Global) (after : Cursor) (error : ParseError E) → TakesIf (byte left_parenthesis) true t q → IsOfVisitor (fails from begins_inner_list) error → VisitsAnswer takes fails member_events k after from to (Err error) (member_at edition t)
   list_begin_fails t q from to k after error m h =
       visits_as takes fails (λ v. begins_inner_list ∷ behind_begin v) member_events (led (begins_inner_list ∷ []) (inner_at edition) q) (member_at edition t) from to k after (Err error) (member_list t q m) (begins_as_list q)
       (led_fails takes fails begins_inner_list behind_begin (inner_at edition) q from to k after error h)
 
-  pub item_begin_fails : (t q : List ℕ) (from to : S) (k : Parser × Global) (after : Cursor) (error : ParseError E) → TakesIf (byte 0x28) false t q → IsOfVisitor (fails from begins_item) error → VisitsAnswer takes fails member_events k after from to (Err error) (member_at edition t)
+  pub item_begin_fails : (t q : List ℕ) (from to : S) (k : Parser × Global) (after : Cursor) (error : ParseError E) → TakesIf (byte left_parenthesis) false t q → IsOfVisitor (fails from begins_item) error → VisitsAnswer takes fails member_events k after from to (Err error) (member_at edition t)
   item_begin_fails t q from to k after error m h =
       visits_as takes fails member_events member_events ((led (begins_item ∷ []) (item_at edition) >>= λ i. give (item i)) q) (member_at edition t) from to k after (Err error) (member_item t q m ∙ item_first q) (λ v s e. refl)
       (map_visits takes fails (λ i. item i) (λ i. begins_item ∷ item_events i) member_events (led (begins_item ∷ []) (item_at edition)) q from to k after (Err error) (λ i. refl)

@@ -2,6 +2,7 @@
 use Rattle.std.proofs.Common.{◌≡◌, ℕ, true, false, List, [], ◌∷◌, ◌++◌, Ok, Err, refl, sym, ap, ◌∙◌}
 use Rattle.std.specs.Prelude.{Result}
 use Rattle.std.specs.declared.alloc.Global.{Global}
+use Rattle.sfv_spec.specs.Ascii.{equals_sign}
 use Rattle.sfv_spec.specs.Values.{Edition, boolean, RawParameters, RawMember}
 use Rattle.sfv_spec.specs.Events.{TreeEvent, keyed_entry, begins_item, bare_item, parameters_events, member_events, keyed_events}
 use Rattle.sfv_spec.specs.Grammar.{true_with}
@@ -43,9 +44,9 @@ pair_events edition key q w r e = on (member_value_at edition q) e
 module _ {S E : Type 0} (takes : S → TreeEvent → S → Type 0) (fails : S → TreeEvent → E → Type 0) (edition : Edition) where
   -- ---- behind the key
 
-  pub value_visits : (t q : List ℕ) (from to : S) (k : Parser × Global) (after : Cursor) (r : Result (Unit {0}) (ParseError E)) → TakesIf (byte 0x3d) true t q → VisitsAnswer takes fails member_events k after from to r (member_at edition q) → VisitsAnswer takes fails member_events k after from to r (member_value_at edition t)
+  pub value_visits : (t q : List ℕ) (from to : S) (k : Parser × Global) (after : Cursor) (r : Result (Unit {0}) (ParseError E)) → TakesIf (byte equals_sign) true t q → VisitsAnswer takes fails member_events k after from to r (member_at edition q) → VisitsAnswer takes fails member_events k after from to r (member_value_at edition t)
   unfolding member_value_at
-  value_visits t q from to k after r m h = visits_as takes fails member_events member_events (member_at edition q) (member_value_at edition t) from to k after r (branch_true (byte 0x3d) _ _ t q m) (λ v s e. refl) h
+  value_visits t q from to k after r m h = visits_as takes fails member_events member_events (member_at edition q) (member_value_at edition t) from to k after r (branch_true (byte equals_sign) _ _ t q m) (λ v s e. refl) h
 
   -- the item true, with its parameters
   abbrev true_at : Reader RawParameters
@@ -54,15 +55,15 @@ module _ {S E : Type 0} (takes : S → TreeEvent → S → Type 0) (fails : S �
   abbrev true_events : RawParameters → List TreeEvent
   true_events ps = begins_item ∷ bare_item (boolean true) ∷ parameters_events ps
 
-  true_is : (t q : List ℕ) → TakesIf (byte 0x3d) false t q → member_value_at edition t ≡ (true_at >>= λ ps. give (true_with ps)) q
+  true_is : (t q : List ℕ) → TakesIf (byte equals_sign) false t q → member_value_at edition t ≡ (true_at >>= λ ps. give (true_with ps)) q
   unfolding member_value_at bind led give
-  true_is t q m = branch_false (byte 0x3d) _ _ t q m ∙ on (parameters_at edition q)
+  true_is t q m = branch_false (byte equals_sign) _ _ t q m ∙ on (parameters_at edition q)
     where
       on : (a : Answer RawParameters) → led_answer (begins_item ∷ bare_item (boolean true) ∷ []) (and_then a (λ ps. give (true_with ps))) ≡ and_then (led_answer (begins_item ∷ []) (led_answer (bare_item (boolean true) ∷ []) a)) (λ ps. give (true_with ps))
       on (Ok x) = refl
       on (Err f) = refl
 
-  as_true : (t q : List ℕ) (from to : S) (k : Parser × Global) (after : Cursor) (r : Result (Unit {0}) (ParseError E)) → TakesIf (byte 0x3d) false t q → VisitsAnswer takes fails true_events k after from to r (true_at q) → VisitsAnswer takes fails member_events k after from to r (member_value_at edition t)
+  as_true : (t q : List ℕ) (from to : S) (k : Parser × Global) (after : Cursor) (r : Result (Unit {0}) (ParseError E)) → TakesIf (byte equals_sign) false t q → VisitsAnswer takes fails true_events k after from to r (true_at q) → VisitsAnswer takes fails member_events k after from to r (member_value_at edition t)
   as_true t q from to k after r m h =
       visits_as takes fails member_events member_events ((true_at >>= λ ps. give (true_with ps)) q) (member_value_at edition t) from to k after r (true_is t q m) (λ v s e. refl)
       (map_visits takes fails (λ ps. true_with ps) true_events member_events true_at q from to k after r (λ ps. refl) h)
@@ -73,17 +74,17 @@ module _ {S E : Type 0} (takes : S → TreeEvent → S → Type 0) (fails : S �
   abbrev bare_true_events : RawParameters → List TreeEvent
   bare_true_events ps = bare_item (boolean true) ∷ parameters_events ps
 
-  pub true_begin_fails : (t q : List ℕ) (from to : S) (k : Parser × Global) (after : Cursor) (error : ParseError E) → TakesIf (byte 0x3d) false t q → IsOfVisitor (fails from begins_item) error → VisitsAnswer takes fails member_events k after from to (Err error) (member_value_at edition t)
+  pub true_begin_fails : (t q : List ℕ) (from to : S) (k : Parser × Global) (after : Cursor) (error : ParseError E) → TakesIf (byte equals_sign) false t q → IsOfVisitor (fails from begins_item) error → VisitsAnswer takes fails member_events k after from to (Err error) (member_value_at edition t)
   true_begin_fails t q from to k after error m h = as_true t q from to k after (Err error) m (led_fails takes fails begins_item bare_true_events bare_true q from to k after error h)
 
-  pub true_bare_fails : (t q : List ℕ) (from middle to : S) (k : Parser × Global) (after : Cursor) (error : ParseError E) → TakesIf (byte 0x3d) false t q → takes from begins_item middle → IsOfVisitor (fails middle (bare_item (boolean true))) error
+  pub true_bare_fails : (t q : List ℕ) (from middle to : S) (k : Parser × Global) (after : Cursor) (error : ParseError E) → TakesIf (byte equals_sign) false t q → takes from begins_item middle → IsOfVisitor (fails middle (bare_item (boolean true))) error
       → VisitsAnswer takes fails member_events k after from to (Err error) (member_value_at edition t)
   true_bare_fails t q from middle to k after error m taken h =
       as_true t q from to k after (Err error) m
       (led_visits takes fails begins_item bare_true_events bare_true q from middle to k after (Err error) taken
       (led_fails takes fails (bare_item (boolean true)) parameters_events (parameters_at edition) q middle to k after error h))
 
-  pub true_visits : (t q : List ℕ) (from middle next to : S) (k : Parser × Global) (after : Cursor) (r : Result (Unit {0}) (ParseError E)) → TakesIf (byte 0x3d) false t q → takes from begins_item middle → takes middle (bare_item (boolean true)) next
+  pub true_visits : (t q : List ℕ) (from middle next to : S) (k : Parser × Global) (after : Cursor) (r : Result (Unit {0}) (ParseError E)) → TakesIf (byte equals_sign) false t q → takes from begins_item middle → takes middle (bare_item (boolean true)) next
       → VisitsAnswer takes fails parameters_events k after next to r (parameters_at edition q) → VisitsAnswer takes fails member_events k after from to r (member_value_at edition t)
   true_visits t q from middle next to k after r m taken bare h =
       as_true t q from to k after r m

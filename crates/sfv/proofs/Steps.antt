@@ -3,6 +3,7 @@ use Rattle.std.proofs.Common.{◌≡◌, ℕ, ◌+◌, ◌-◌, ◌*◌, ◌^◌
 use Rattle.std.specs.Prelude.{IsTrue, ℤ, MatchOption}
 use Rattle.std.proofs.lemmas.List.{drop_more, drop-drop, length-drop}
 use Rattle.std.proofs.lemmas.Bool.{and_from}
+use Rattle.sfv_spec.specs.Ascii.{double_quote, percent_sign, minus_sign, dot, digit_zero, digit_one, colon, semicolon, equals_sign, question_mark, at_sign}
 use Rattle.sfv_spec.specs.Texts.{RunOf}
 use Rattle.sfv_spec.specs.Classes.{is_digit, is_space, is_key_start, is_key_inner, is_key, is_token_start, is_token_inner, is_token}
 use Rattle.sfv_spec.specs.Values.{Edition, rfc8941, rfc9651, RawParameters, RawItem, BareValue, integer, decimal, token, boolean, date, display_string, string, byte_sequence}
@@ -32,10 +33,10 @@ branch_true class taken other t r m = ap (branch class taken other) m.1 ∙ bran
 pub branch_false : {A : Type 0} (class : ℕ → Bool) (taken : ℕ → Reader A) (other : Reader A) (t r : List ℕ) → TakesIf class false t r → branch class taken other t ≡ other r
 branch_false class taken other t r m = branch_past class taken other t m.1 ∙ ap other (sym m.0)
 
-pub sign_takes : (b : Bool) (t r : List ℕ) → TakesIf (byte 0x2d) b t r → sign_at t ≡ Ok (b, r)
+pub sign_takes : (b : Bool) (t r : List ℕ) → TakesIf (byte minus_sign) b t r → sign_at t ≡ Ok (b, r)
 unfolding sign_at give
-sign_takes true t r m = branch_true (byte 0x2d) (λ _. give true) (give false) t r m
-sign_takes false t r m = branch_false (byte 0x2d) (λ _. give true) (give false) t r m
+sign_takes true t r m = branch_true (byte minus_sign) (λ _. give true) (give false) t r m
+sign_takes false t r m = branch_false (byte minus_sign) (λ _. give true) (give false) t r m
 
 -- ---- a number
 
@@ -55,17 +56,17 @@ pub whole_digit : (dated negative : Bool) (whole t : List ℕ) → eqb (length w
 unfolding whole_at fail
 whole_digit dated negative whole t e m = rw e (ap located (ahead_true _ _ _ t m))
 
-pub whole_integer : (dated negative : Bool) (whole t : List ℕ) → eqb (length whole) 0 ≡ false → Apart is_digit t → Apart (byte 0x2e) t → whole_at dated negative whole t ≡ Ok (integer (signed negative (place_value whole)), t)
+pub whole_integer : (dated negative : Bool) (whole t : List ℕ) → eqb (length whole) 0 ≡ false → Apart is_digit t → Apart (byte dot) t → whole_at dated negative whole t ≡ Ok (integer (signed negative (place_value whole)), t)
 unfolding whole_at give
 whole_integer dated negative whole t e m k = rw e (ahead_past _ _ _ t m ∙ ahead_past _ _ _ t k)
 
-pub whole_long : (dated negative : Bool) (whole t : List ℕ) → eqb (length whole) 0 ≡ false → Apart is_digit t → NextIs (byte 0x2e) true t → ltb 12 (length whole) ≡ true → located (whole_at dated negative whole t) ≡ Err (TooManyDigitsBeforeDecimalPoint, t)
+pub whole_long : (dated negative : Bool) (whole t : List ℕ) → eqb (length whole) 0 ≡ false → Apart is_digit t → NextIs (byte dot) true t → ltb 12 (length whole) ≡ true → located (whole_at dated negative whole t) ≡ Err (TooManyDigitsBeforeDecimalPoint, t)
 unfolding whole_at fail
 whole_long dated negative whole t e m k l =
     let long : whole_at dated negative whole t ≡ fail too_many_digits_before_decimal_point t = rw e (ahead_past _ _ _ t m ∙ ahead_true _ _ _ t k ∙ rw l refl) in
     ap located long
 
-pub whole_point : (dated negative : Bool) (whole t : List ℕ) → eqb (length whole) 0 ≡ false → Apart is_digit t → NextIs (byte 0x2e) true t → ltb 12 (length whole) ≡ false → whole_at dated negative whole t ≡ point_at dated negative whole t
+pub whole_point : (dated negative : Bool) (whole t : List ℕ) → eqb (length whole) 0 ≡ false → Apart is_digit t → NextIs (byte dot) true t → ltb 12 (length whole) ≡ false → whole_at dated negative whole t ≡ point_at dated negative whole t
 unfolding whole_at
 whole_point dated negative whole t e m k l = rw e (ahead_past _ _ _ t m ∙ ahead_true _ _ _ t k ∙ rw l refl)
 
@@ -74,14 +75,14 @@ pub ruleset whole_steps = (whole_empty, whole_digit, whole_integer, whole_long, 
 -- ---- at the point
 
 -- the byte that was skipped is the point
-at_point : (dated negative : Bool) (whole t r : List ℕ) → NextIs (byte 0x2e) true t → Skips t r → point_at dated negative whole t ≡ at_start trailing_decimal_point t (fraction_at dated negative whole r)
+at_point : (dated negative : Bool) (whole t r : List ℕ) → NextIs (byte dot) true t → Skips t r → point_at dated negative whole t ≡ at_start trailing_decimal_point t (fraction_at dated negative whole r)
 unfolding point_at back
 at_point dated negative whole t r m k =
     let same : m.0 ∷ m.1 ≡ k.0 ∷ r = sym m.2 ∙ k.1 in
     let after : m.1 ≡ r = cc in
-    ap (at_start trailing_decimal_point t) (branch_true (byte 0x2e) _ _ t r (m.0, m.2 ∙ ap (λ (l : List ℕ). m.0 ∷ l) after, m.3))
+    ap (at_start trailing_decimal_point t) (branch_true (byte dot) _ _ t r (m.0, m.2 ∙ ap (λ (l : List ℕ). m.0 ∷ l) after, m.3))
 
-pub point_empty : (dated negative : Bool) (whole t r f q : List ℕ) → NextIs (byte 0x2e) true t → Skips t r → up_to is_digit 3 r ≡ Ok (f, q) → eqb (length f) 0 ≡ true → located (point_at dated negative whole t) ≡ Err (TrailingDecimalPoint, t)
+pub point_empty : (dated negative : Bool) (whole t r f q : List ℕ) → NextIs (byte dot) true t → Skips t r → up_to is_digit 3 r ≡ Ok (f, q) → eqb (length f) 0 ≡ true → located (point_at dated negative whole t) ≡ Err (TrailingDecimalPoint, t)
 unfolding fraction_at decimal_at give
 point_empty dated negative whole t r f q m k d e =
     let inner : fraction_at dated negative whole r ≡ Ok (None, q) = bind_complete _ _ r q f d ∙ rw e refl in
@@ -92,13 +93,13 @@ unfolding long_at fail ruled
 long_located true q k t = refl
 long_located false q k t = refl
 
-pub point_digit : (dated negative : Bool) (whole t r f q : List ℕ) → NextIs (byte 0x2e) true t → Skips t r → up_to is_digit 3 r ≡ Ok (f, q) → eqb (length f) 0 ≡ false → NextIs is_digit true q → located (point_at dated negative whole t) ≡ Err (TooManyDigitsAfterDecimalPoint, q)
+pub point_digit : (dated negative : Bool) (whole t r f q : List ℕ) → NextIs (byte dot) true t → Skips t r → up_to is_digit 3 r ≡ Ok (f, q) → eqb (length f) 0 ≡ false → NextIs is_digit true q → located (point_at dated negative whole t) ≡ Err (TooManyDigitsAfterDecimalPoint, q)
 unfolding fraction_at decimal_at
 point_digit dated negative whole t r f q m k d e n =
     let inner : fraction_at dated negative whole r ≡ long_at dated q = bind_complete _ _ r q f d ∙ rw e (ahead_true _ _ _ q n) in
     ap located (at_point dated negative whole t r m k ∙ ap (at_start trailing_decimal_point t) inner) ∙ long_located dated q t t
 
-pub point_decimal : (dated negative : Bool) (whole t r f q : List ℕ) → NextIs (byte 0x2e) true t → Skips t r → up_to is_digit 3 r ≡ Ok (f, q) → eqb (length f) 0 ≡ false → Apart is_digit q → point_at dated negative whole t ≡ Ok (decimal (signed negative (place_value whole * 1000 + place_value f * 10 ^ (3 - length f))), q)
+pub point_decimal : (dated negative : Bool) (whole t r f q : List ℕ) → NextIs (byte dot) true t → Skips t r → up_to is_digit 3 r ≡ Ok (f, q) → eqb (length f) 0 ≡ false → Apart is_digit q → point_at dated negative whole t ≡ Ok (decimal (signed negative (place_value whole * 1000 + place_value f * 10 ^ (3 - length f))), q)
 unfolding fraction_at decimal_at give
 point_decimal dated negative whole t r f q m k d e n =
     let value : BareValue = decimal (signed negative (place_value whole * 1000 + place_value f * 10 ^ (3 - length f))) in
@@ -165,15 +166,15 @@ pub ruleset token_steps = (meets_within, token_none)
 
 -- ---- booleans
 
-pub boolean_false : (t r : List ℕ) → TakesIf (byte 0x30) true t r → boolean_at t ≡ Ok (boolean false, r)
+pub boolean_false : (t r : List ℕ) → TakesIf (byte digit_zero) true t r → boolean_at t ≡ Ok (boolean false, r)
 unfolding boolean_at give
 boolean_false t r m = branch_true _ _ _ t r m
 
-pub boolean_true : (t r q : List ℕ) → TakesIf (byte 0x30) false t r → TakesIf (byte 0x31) true r q → boolean_at t ≡ Ok (boolean true, q)
+pub boolean_true : (t r q : List ℕ) → TakesIf (byte digit_zero) false t r → TakesIf (byte digit_one) true r q → boolean_at t ≡ Ok (boolean true, q)
 unfolding boolean_at give
 boolean_true t r q m k = branch_false _ _ _ t r m ∙ branch_true _ _ _ r q k
 
-pub boolean_none : (t r q : List ℕ) → TakesIf (byte 0x30) false t r → TakesIf (byte 0x31) false r q → located (boolean_at t) ≡ Err (ExpectedBoolean, q)
+pub boolean_none : (t r q : List ℕ) → TakesIf (byte digit_zero) false t r → TakesIf (byte digit_one) false r q → located (boolean_at t) ≡ Err (ExpectedBoolean, q)
 unfolding boolean_at fail
 boolean_none t r q m k = ap located (branch_false _ _ _ t r m ∙ branch_false _ _ _ r q k)
 
@@ -185,29 +186,29 @@ pub date_older : (t : List ℕ) → located (date_at rfc8941 t) ≡ Err (Rfc8941
 unfolding date_at fail
 date_older t = refl
 
-at_sign : (t r : List ℕ) → NextIs (byte 0x40) true t → Skips t r → date_at rfc9651 t ≡ at_start non_integer_date t ((number_at true >>= λ v. give (as_date v)) r)
+date_is : (t r : List ℕ) → NextIs (byte at_sign) true t → Skips t r → date_at rfc9651 t ≡ at_start non_integer_date t ((number_at true >>= λ v. give (as_date v)) r)
 unfolding date_at back
-at_sign t r m k =
+date_is t r m k =
     let same : m.0 ∷ m.1 ≡ k.0 ∷ r = sym m.2 ∙ k.1 in
     let after : m.1 ≡ r = cc in
-    ap (at_start non_integer_date t) (branch_true (byte 0x40) _ _ t r (m.0, m.2 ∙ ap (λ (l : List ℕ). m.0 ∷ l) after, m.3))
+    ap (at_start non_integer_date t) (branch_true (byte at_sign) _ _ t r (m.0, m.2 ∙ ap (λ (l : List ℕ). m.0 ∷ l) after, m.3))
 
-pub date_integer : (t r q : List ℕ) (z : ℤ) → NextIs (byte 0x40) true t → Skips t r → number_at true r ≡ Ok (integer z, q) → date_at rfc9651 t ≡ Ok (date z, q)
+pub date_integer : (t r q : List ℕ) (z : ℤ) → NextIs (byte at_sign) true t → Skips t r → number_at true r ≡ Ok (integer z, q) → date_at rfc9651 t ≡ Ok (date z, q)
 unfolding give
-date_integer t r q z m k n = at_sign t r m k ∙ ap (at_start non_integer_date t) (bind_complete _ _ r q (integer z) n)
+date_integer t r q z m k n = date_is t r m k ∙ ap (at_start non_integer_date t) (bind_complete _ _ r q (integer z) n)
 
-pub date_decimal : (t r q : List ℕ) (z : ℤ) → NextIs (byte 0x40) true t → Skips t r → number_at true r ≡ Ok (decimal z, q) → located (date_at rfc9651 t) ≡ Err (NonIntegerDate, t)
+pub date_decimal : (t r q : List ℕ) (z : ℤ) → NextIs (byte at_sign) true t → Skips t r → number_at true r ≡ Ok (decimal z, q) → located (date_at rfc9651 t) ≡ Err (NonIntegerDate, t)
 unfolding give
-date_decimal t r q z m k n = ap located (at_sign t r m k ∙ ap (at_start non_integer_date t) (bind_complete _ _ r q (decimal z) n))
+date_decimal t r q z m k n = ap located (date_is t r m k ∙ ap (at_start non_integer_date t) (bind_complete _ _ r q (decimal z) n))
 
 start_fault : (k t s : List ℕ) (o : Answer (Option BareValue)) (kind : ErrorKind) → located o ≡ Err (kind, s) → located (at_start non_integer_date t o) ≡ Err (kind, s)
 start_fault k t s (Ok x) kind h = absurd cc
 start_fault k t s (Err f) kind h = ap (λ (p : ErrorKind × List ℕ). Err p) cc
 
-date_faulty : (t r : List ℕ) (kind : ErrorKind) (s : List ℕ) → NextIs (byte 0x40) true t → Skips t r → located (number_at true r) ≡ Err (kind, s) → located (date_at rfc9651 t) ≡ Err (kind, s)
-date_faulty t r kind s m k n = ap located (at_sign t r m k) ∙ start_fault t t s _ kind (fault_bind _ _ r kind s n)
+date_faulty : (t r : List ℕ) (kind : ErrorKind) (s : List ℕ) → NextIs (byte at_sign) true t → Skips t r → located (number_at true r) ≡ Err (kind, s) → located (date_at rfc9651 t) ≡ Err (kind, s)
+date_faulty t r kind s m k n = ap located (date_is t r m k) ∙ start_fault t t s _ kind (fault_bind _ _ r kind s n)
 
-pub date_fault : (t r : List ℕ) (i j : Parser × Global) (e : Error) → NextIs (byte 0x40) true t → Skips t r → i ≡ j → IsFaultOf (kept_input i) e (number_at true r) → IsFaultOf (kept_input j) e (date_at rfc9651 t)
+pub date_fault : (t r : List ℕ) (i j : Parser × Global) (e : Error) → NextIs (byte at_sign) true t → Skips t r → i ≡ j → IsFaultOf (kept_input i) e (number_at true r) → IsFaultOf (kept_input j) e (date_at rfc9651 t)
 date_fault t r i j e m k same h = subst (λ (i : Parser × Global). IsFaultOf (kept_input i) e (date_at rfc9651 t)) same (on e.index h)
   where
     on : (o : Option ℕ) → MatchOption o ⊥ (λ index. (located (number_at true r) ≡ Err (e.kind, drop index (kept_input i))) × (index ≤ length (kept_input i)))
@@ -221,18 +222,18 @@ pub quoted_older : (t : List ℕ) → located (quoted_at rfc8941 t) ≡ Err (Rfc
 unfolding quoted_at fail
 quoted_older t = refl
 
-quoted_is : (t r : List ℕ) → NextIs (byte 0x25) true t → Skips t r → quoted_at rfc9651 t ≡ branch (byte 0x22) (λ _. display_at >>= λ s. give (display_string s)) (fail expected_quote) r
+quoted_is : (t r : List ℕ) → NextIs (byte percent_sign) true t → Skips t r → quoted_at rfc9651 t ≡ branch (byte double_quote) (λ _. display_at >>= λ s. give (display_string s)) (fail expected_quote) r
 unfolding quoted_at
 quoted_is t r m k =
     let same : m.0 ∷ m.1 ≡ k.0 ∷ r = sym m.2 ∙ k.1 in
     let after : m.1 ≡ r = cc in
-    branch_true (byte 0x25) _ _ t r (m.0, m.2 ∙ ap (λ (l : List ℕ). m.0 ∷ l) after, m.3)
+    branch_true (byte percent_sign) _ _ t r (m.0, m.2 ∙ ap (λ (l : List ℕ). m.0 ∷ l) after, m.3)
 
-pub quoted_no_quote : (t r q : List ℕ) → NextIs (byte 0x25) true t → Skips t r → TakesIf (byte 0x22) false r q → located (quoted_at rfc9651 t) ≡ Err (ExpectedQuote, q)
+pub quoted_no_quote : (t r q : List ℕ) → NextIs (byte percent_sign) true t → Skips t r → TakesIf (byte double_quote) false r q → located (quoted_at rfc9651 t) ≡ Err (ExpectedQuote, q)
 unfolding fail
 quoted_no_quote t r q m k n = ap located (quoted_is t r m k ∙ branch_false _ _ _ r q n)
 
-pub quoted_reads : (t r q : List ℕ) → NextIs (byte 0x25) true t → Skips t r → TakesIf (byte 0x22) true r q → quoted_at rfc9651 t ≡ (display_at >>= λ s. give (display_string s)) q
+pub quoted_reads : (t r q : List ℕ) → NextIs (byte percent_sign) true t → Skips t r → TakesIf (byte double_quote) true r q → quoted_at rfc9651 t ≡ (display_at >>= λ s. give (display_string s)) q
 quoted_reads t r q m k n = quoted_is t r m k ∙ branch_true _ _ _ r q n
 
 pub ruleset quoted_steps = quoted_older
@@ -241,44 +242,44 @@ pub ruleset date_steps = date_older
 
 -- ---- bare items
 
-pub bare_boolean : (edition : Edition) (t r : List ℕ) → TakesIf (byte 0x3f) true t r → bare_at edition t ≡ boolean_at r
+pub bare_boolean : (edition : Edition) (t r : List ℕ) → TakesIf (byte question_mark) true t r → bare_at edition t ≡ boolean_at r
 unfolding bare_at
 bare_boolean edition t r m = branch_true _ _ _ t r m
 
-pub bare_string : (edition : Edition) (t r q : List ℕ) → TakesIf (byte 0x3f) false t r → TakesIf (byte 0x22) true r q → bare_at edition t ≡ (string_at >>= λ s. give (string s)) q
+pub bare_string : (edition : Edition) (t r q : List ℕ) → TakesIf (byte question_mark) false t r → TakesIf (byte double_quote) true r q → bare_at edition t ≡ (string_at >>= λ s. give (string s)) q
 unfolding bare_at
 bare_string edition t r q m k = branch_false _ _ _ t r m ∙ branch_true _ _ _ r q k
 
 -- none of the first three openers stands next
 pub record NoOpener (t r q w : List ℕ) : Type 0 where
-  pub no_boolean : TakesIf (byte 0x3f) false t r
-  pub no_string : TakesIf (byte 0x22) false r q
-  pub no_bytes : TakesIf (byte 0x3a) false q w
+  pub no_boolean : TakesIf (byte question_mark) false t r
+  pub no_string : TakesIf (byte double_quote) false r q
+  pub no_bytes : TakesIf (byte colon) false q w
 
-pub bare_bytes : (edition : Edition) (t r q w : List ℕ) → TakesIf (byte 0x3f) false t r → TakesIf (byte 0x22) false r q → TakesIf (byte 0x3a) true q w → bare_at edition t ≡ (bytes_at >>= λ s. give (byte_sequence s)) w
+pub bare_bytes : (edition : Edition) (t r q w : List ℕ) → TakesIf (byte question_mark) false t r → TakesIf (byte double_quote) false r q → TakesIf (byte colon) true q w → bare_at edition t ≡ (bytes_at >>= λ s. give (byte_sequence s)) w
 unfolding bare_at
 bare_bytes edition t r q w m k n = branch_false _ _ _ t r m ∙ branch_false _ _ _ r q k ∙ branch_true _ _ _ q w n
 
 others : (edition : Edition) → Reader BareValue
-others edition = ahead (byte 0x40) (date_at edition) (ahead (byte 0x25) (quoted_at edition) (ahead is_number_start (number_at false) token_at))
+others edition = ahead (byte at_sign) (date_at edition) (ahead (byte percent_sign) (quoted_at edition) (ahead is_number_start (number_at false) token_at))
 
 bare_others : (edition : Edition) (t r q w : List ℕ) → NoOpener t r q w → bare_at edition t ≡ others edition w
 unfolding bare_at others
 bare_others edition t r q w h = branch_false _ _ _ t r h.no_boolean ∙ branch_false _ _ _ r q h.no_string ∙ branch_false _ _ _ q w h.no_bytes
 
-pub bare_date : (edition : Edition) (t r q w : List ℕ) → NoOpener t r q w → NextIs (byte 0x40) true w → bare_at edition t ≡ date_at edition w
+pub bare_date : (edition : Edition) (t r q w : List ℕ) → NoOpener t r q w → NextIs (byte at_sign) true w → bare_at edition t ≡ date_at edition w
 unfolding others
 bare_date edition t r q w h m = bare_others edition t r q w h ∙ ahead_true _ _ _ w m
 
-pub bare_quoted : (edition : Edition) (t r q w : List ℕ) → NoOpener t r q w → Apart (byte 0x40) w → NextIs (byte 0x25) true w → bare_at edition t ≡ quoted_at edition w
+pub bare_quoted : (edition : Edition) (t r q w : List ℕ) → NoOpener t r q w → Apart (byte at_sign) w → NextIs (byte percent_sign) true w → bare_at edition t ≡ quoted_at edition w
 unfolding others
 bare_quoted edition t r q w h m k = bare_others edition t r q w h ∙ ahead_past _ _ _ w m ∙ ahead_true _ _ _ w k
 
-pub bare_number : (edition : Edition) (t r q w : List ℕ) → NoOpener t r q w → Apart (byte 0x40) w → Apart (byte 0x25) w → NextIs is_number_start true w → bare_at edition t ≡ number_at false w
+pub bare_number : (edition : Edition) (t r q w : List ℕ) → NoOpener t r q w → Apart (byte at_sign) w → Apart (byte percent_sign) w → NextIs is_number_start true w → bare_at edition t ≡ number_at false w
 unfolding others
 bare_number edition t r q w h m k n = bare_others edition t r q w h ∙ ahead_past _ _ _ w m ∙ ahead_past _ _ _ w k ∙ ahead_true _ _ _ w n
 
-pub bare_token : (edition : Edition) (t r q w : List ℕ) → NoOpener t r q w → Apart (byte 0x40) w → Apart (byte 0x25) w → Apart is_number_start w → bare_at edition t ≡ token_at w
+pub bare_token : (edition : Edition) (t r q w : List ℕ) → NoOpener t r q w → Apart (byte at_sign) w → Apart (byte percent_sign) w → Apart is_number_start w → bare_at edition t ≡ token_at w
 unfolding others
 bare_token edition t r q w h m k n = bare_others edition t r q w h ∙ ahead_past _ _ _ w m ∙ ahead_past _ _ _ w k ∙ ahead_past _ _ _ w n
 
@@ -291,29 +292,29 @@ pub ruleset bare_steps = bare_boolean
 
 -- ---- parameters
 
-pub value_given : (edition : Edition) (t r : List ℕ) → TakesIf (byte 0x3d) true t r → value_at edition t ≡ bare_at edition r
+pub value_given : (edition : Edition) (t r : List ℕ) → TakesIf (byte equals_sign) true t r → value_at edition t ≡ bare_at edition r
 unfolding value_at
 value_given edition t r m = branch_true _ _ _ t r m
 
-pub value_left_out : (edition : Edition) (t r : List ℕ) → TakesIf (byte 0x3d) false t r → value_at edition t ≡ Ok (boolean true, r)
+pub value_left_out : (edition : Edition) (t r : List ℕ) → TakesIf (byte equals_sign) false t r → value_at edition t ≡ Ok (boolean true, r)
 unfolding value_at give
 value_left_out edition t r m = branch_false _ _ _ t r m
 
 pub ruleset value_steps = (value_given, value_left_out)
 
-pub parameter_none : (edition : Edition) (t r : List ℕ) → TakesIf (byte 0x3b) false t r → parameter_at edition t ≡ Ok (None, r)
+pub parameter_none : (edition : Edition) (t r : List ℕ) → TakesIf (byte semicolon) false t r → parameter_at edition t ≡ Ok (None, r)
 unfolding parameter_at give
 parameter_none edition t r m = branch_false _ _ _ t r m
 
 -- behind the semicolon and spaces
-pub parameter_is : (edition : Edition) (t r s q : List ℕ) → TakesIf (byte 0x3b) true t r → span is_space r ≡ Ok (s, q) → parameter_at edition t ≡ (key_at >>= λ key. value_at edition >>= λ v. give (Some (key, v))) q
+pub parameter_is : (edition : Edition) (t r s q : List ℕ) → TakesIf (byte semicolon) true t r → span is_space r ≡ Ok (s, q) → parameter_at edition t ≡ (key_at >>= λ key. value_at edition >>= λ v. give (Some (key, v))) q
 unfolding parameter_at
 parameter_is edition t r s q m i = branch_true _ _ _ t r m ∙ bind_complete _ _ r q s i
 
-pub parameter_keyed : (edition : Edition) (t r s q key w : List ℕ) → TakesIf (byte 0x3b) true t r → span is_space r ≡ Ok (s, q) → key_at q ≡ Ok (key, w) → parameter_at edition t ≡ (value_at edition >>= λ v. give (Some (key, v))) w
+pub parameter_keyed : (edition : Edition) (t r s q key w : List ℕ) → TakesIf (byte semicolon) true t r → span is_space r ≡ Ok (s, q) → key_at q ≡ Ok (key, w) → parameter_at edition t ≡ (value_at edition >>= λ v. give (Some (key, v))) w
 parameter_keyed edition t r s q key w m i k = parameter_is edition t r s q m i ∙ bind_complete _ _ q w key k
 
-pub parameter_some : (edition : Edition) (t r s q key w x : List ℕ) (v : BareValue) → TakesIf (byte 0x3b) true t r → span is_space r ≡ Ok (s, q) → key_at q ≡ Ok (key, w) → value_at edition w ≡ Ok (v, x) → parameter_at edition t ≡ Ok (Some (key, v), x)
+pub parameter_some : (edition : Edition) (t r s q key w x : List ℕ) (v : BareValue) → TakesIf (byte semicolon) true t r → span is_space r ≡ Ok (s, q) → key_at q ≡ Ok (key, w) → value_at edition w ≡ Ok (v, x) → parameter_at edition t ≡ Ok (Some (key, v), x)
 unfolding give
 parameter_some edition t r s q key w x v m i k e = parameter_keyed edition t r s q key w m i k ∙ bind_complete _ _ w x v e
 

@@ -3,6 +3,7 @@
 use Rattle.std.specs.Prelude.{◌≡◌, ℕ, ◌<◌, Bool, true, false, not, ◌==◌, List, [], ◌∷◌, ◌++◌, length, Result, Ok, Err, IsTrue, string_bytes}
 use Rattle.std.specs.declared.alloc.Global.{Global}
 use Rattle.std.specs.declared.string.String as std_string
+use Rattle.sfv_spec.specs.Ascii.{percent_sign, backslash}
 use Rattle.sfv_spec.specs.Texts.{RunOf}
 use Rattle.sfv_spec.specs.Classes.{is_lower_hexadecimal}
 use Rattle.sfv_spec.specs.Strings.{is_plain_in_string, is_plain_in_display}
@@ -23,8 +24,8 @@ plain_of false = is_plain_in_string
 
 -- the byte that opens an escape
 abbrev pub mark_of : Bool → ℕ
-mark_of true = 0x25
-mark_of false = 0x5c
+mark_of true = percent_sign
+mark_of false = backslash
 
 -- what is wrong at another byte, or at the end of the input
 abbrev pub stop_of : Bool → Bool → ErrorKind

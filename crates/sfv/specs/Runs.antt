@@ -1,5 +1,6 @@
 -- Runs of symbols of Base64, and of padding.
 use Rattle.std.specs.Prelude.{◌≡◌, ℕ, ◌≤◌, ◌⊎◌, List, length, take, drop, replicate}
+use Rattle.sfv_spec.specs.Ascii.{equals_sign}
 use Rattle.sfv_spec.specs.Texts.{RunOf}
 use Rattle.sfv_spec.specs.Base64.{is_symbol}
 use Rattle.sfv_reading.specs.Reader.{Apart, byte}
@@ -14,5 +15,5 @@ pub record IsSymbolRun (t : List ℕ) (n : ℕ) : Type 0 where
 pub record IsPaddingRun (t : List ℕ) (most n : ℕ) : Type 0 where
   pub within : n ≤ length t
   pub room : n ≤ most
-  pub each : take n t ≡ replicate n 0x3d
-  pub ends : (n ≡ most) ⊎ Apart (byte 0x3d) (drop n t)
+  pub each : take n t ≡ replicate n equals_sign
+  pub ends : (n ≡ most) ⊎ Apart (byte equals_sign) (drop n t)

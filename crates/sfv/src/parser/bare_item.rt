@@ -1,6 +1,7 @@
 //! Reading bare items (RFC 9651, sections 4.2.3.1 and 4.2.5 to 4.2.10).
 
 ghost use Rattle.std.specs.Prelude.{◌≡◌, Bool, true, IfOk};
+ghost use Rattle.sfv_spec.specs.Ascii.{percent_sign, at_sign};
 ghost use Rattle.sfv_spec.specs.Values.{rfc9651, boolean, date};
 ghost use Rattle.sfv_bare.specs.BareItems.{input_value};
 ghost use Rattle.sfv_reading.specs.Reader.{byte};
@@ -34,7 +35,7 @@ impl<'de> Cursor<'de> {
     /// Takes a date, which RFC 8941 has not.
     #[tactic(auto, using(crate::proofs::Steps::date_steps))]
     fn date(&mut self) -> Result<Date, Error>
-        requires { NextIs (byte 0x40) true (rest self.old) }
+        requires { NextIs (byte at_sign) true (rest self.old) }
         ensures { Reads (λ z. date z) self.old self.new result (date_at (edition self.old)) }
     {
         match self.parser.version {
@@ -45,7 +46,7 @@ impl<'de> Cursor<'de> {
 
     /// Takes the sign `@` and the seconds of a date.
     fn seconds(&mut self) -> Result<Date, Error>
-        requires { NextIs (byte 0x40) true (rest self.old) }
+        requires { NextIs (byte at_sign) true (rest self.old) }
         ensures { Reads (λ z. date z) self.old self.new result (date_at rfc9651) }
     {
         let start = self.index;
@@ -59,7 +60,7 @@ impl<'de> Cursor<'de> {
     /// Takes a display string, which RFC 8941 has not.
     #[tactic(auto, using(crate::proofs::Steps::quoted_steps))]
     fn display_string(&mut self) -> Result<CowStr<'de>, Error>
-        requires { NextIs (byte 0x25) true (rest self.old) }
+        requires { NextIs (byte percent_sign) true (rest self.old) }
         ensures { ReadsOrOutOfMemory display_value_of self.old self.new result (quoted_at (edition self.old)) }
     {
         match self.parser.version {
@@ -71,7 +72,7 @@ impl<'de> Cursor<'de> {
     /// Takes the sign `%` and the quoted text of a display string.
     #[tactic(auto, using(crate::proofs::Steps::quoted_steps))]
     fn quoted(&mut self) -> Result<CowStr<'de>, Error>
-        requires { NextIs (byte 0x25) true (rest self.old) }
+        requires { NextIs (byte percent_sign) true (rest self.old) }
         ensures { ReadsOrOutOfMemory display_value_of self.old self.new result (quoted_at rfc9651) }
     {
         self.skip();

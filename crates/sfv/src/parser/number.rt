@@ -1,6 +1,7 @@
 //! Reading numbers (RFC 9651, section 4.2.4).
 
 ghost use Rattle.std.specs.Prelude.{◌≡◌, ◌≤◌, ◌<◌, ◌^◌, Bool, true, length, Ok};
+ghost use Rattle.sfv_spec.specs.Ascii.{dot};
 ghost use Rattle.sfv_spec.specs.Texts.{RunOf};
 ghost use Rattle.sfv_spec.specs.Classes.{is_digit};
 ghost use Rattle.sfv_spec.specs.Numbers.{signed as with_sign};
@@ -78,7 +79,7 @@ impl Cursor<'_> {
     fn fraction(&mut self, negative: bool, whole: &[u8]) -> Result<Number, Error>
         requires each { RunOf is_digit whole.now }
         requires most { length whole.now ≤ 12 }
-        requires point { NextIs (byte 0x2e) true (rest self.old) }
+        requires point { NextIs (byte dot) true (rest self.old) }
         ensures { (dated : Bool) → Reads number_value_of self.old self.new result (point_at dated negative whole.now) }
     {
         let point = self.index;

@@ -1,6 +1,7 @@
 //! Reading what stands between two quotes: the inside of a string or of a display string.
 
 ghost use Rattle.std.specs.Prelude.{◌≡◌, ◌++◌, ◌↔◌, Bool, List, length, IfOk, IsTrue};
+ghost use Rattle.sfv_spec.specs.Ascii.{double_quote};
 ghost use Rattle.sfv_spec.specs.Texts.{RunOf};
 ghost use Rattle.sfv_reading.specs.Reader.{Apart, byte};
 ghost use Rattle.sfv_reading.specs.Quoted.{behind_bytes};
@@ -47,7 +48,7 @@ impl<'de> Cursor<'de> {
     /// The error where a quoted text can't go on.
     fn stop<Q: QuotedText>(&self) -> Error
         requires plain { Apart (plain_of Q.display) (rest self.now) }
-        requires quote { Apart (byte 0x22) (rest self.now) }
+        requires quote { Apart (byte double_quote) (rest self.now) }
         requires mark { Apart (byte (mark_of Q.display)) (rest self.now) }
         ensures { IsFaultOf (input self.now) result (inside Q.display (rest self.now)) }
     {
