@@ -15,8 +15,8 @@ use Rattle.sfv_tree.specs.declared.parsed.ListEntry.{ListEntry}
 use Rattle.sfv_tree.specs.declared.visitor.list_builder.ListBuilder.{ListBuilder}
 use Rattle.sfv_tree.specs.declared.visitor.dictionary_builder.DictionaryBuilder.{DictionaryBuilder}
 use Rattle.sfv.specs.Parsers.{IsAnswerOf}
-use Rattle.sfv.proofs.BuiltLists.{built_list_behind}
-use Rattle.sfv.proofs.BuiltDictionaries.{built_dictionary_behind}
+use Rattle.sfv.proofs.built.Lists.{built_list_behind}
+use Rattle.sfv.proofs.built.Dictionaries.{built_dictionary_behind}
 
 -- no key stands twice in what was parsed
 parsed_is_ordered : (t : List ℕ) (held : List (List ℕ × RawMember)) → IsParsedAs rfc9651 dictionary_field t held → IsOrdered dictionary_field held

@@ -19,7 +19,7 @@ use std::borrow::CowStr;
 
 impl<'de> Cursor<'de> {
     /// Takes a boolean behind its question mark.
-    #[tactic(auto, using(crate::proofs::Steps::boolean_steps))]
+    #[tactic(auto, using(crate::proofs::reads::Steps::boolean_steps))]
     fn boolean(&mut self) -> Result<bool, Error>
         ensures { Reads (λ b. boolean b) self.old self.new result boolean_at }
     {
@@ -33,7 +33,7 @@ impl<'de> Cursor<'de> {
     }
 
     /// Takes a date, which RFC 8941 has not.
-    #[tactic(auto, using(crate::proofs::Steps::date_steps))]
+    #[tactic(auto, using(crate::proofs::reads::Steps::date_steps))]
     fn date(&mut self) -> Result<Date, Error>
         requires { NextIs (byte at_sign) true (rest self.old) }
         ensures { Reads (λ z. date z) self.old self.new result (date_at (edition self.old)) }
@@ -58,7 +58,7 @@ impl<'de> Cursor<'de> {
     }
 
     /// Takes a display string, which RFC 8941 has not.
-    #[tactic(auto, using(crate::proofs::Steps::quoted_steps))]
+    #[tactic(auto, using(crate::proofs::reads::Steps::quoted_steps))]
     fn display_string(&mut self) -> Result<CowStr<'de>, Error>
         requires { NextIs (byte percent_sign) true (rest self.old) }
         ensures { ReadsOrOutOfMemory display_value_of self.old self.new result (quoted_at (edition self.old)) }
@@ -70,7 +70,7 @@ impl<'de> Cursor<'de> {
     }
 
     /// Takes the sign `%` and the quoted text of a display string.
-    #[tactic(auto, using(crate::proofs::Steps::quoted_steps))]
+    #[tactic(auto, using(crate::proofs::reads::Steps::quoted_steps))]
     fn quoted(&mut self) -> Result<CowStr<'de>, Error>
         requires { NextIs (byte percent_sign) true (rest self.old) }
         ensures { ReadsOrOutOfMemory display_value_of self.old self.new result (quoted_at rfc9651) }
@@ -93,7 +93,7 @@ impl<'de> Cursor<'de> {
     }
 
     /// Takes a bare item. Its first byte decides of which kind it is.
-    #[tactic(auto, using(crate::proofs::Steps::bare_steps))]
+    #[tactic(auto, using(crate::proofs::reads::Steps::bare_steps))]
     pub(crate) fn bare_item(&mut self) -> Result<BareItemFromInput<'de>, Error>
         ensures { ReadsOrOutOfMemory input_value self.old self.new result (bare_at (edition self.old)) }
     {

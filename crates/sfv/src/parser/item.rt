@@ -53,7 +53,7 @@ impl<'de> Cursor<'de> {
     ghost use Rattle.sfv.specs.Items.{read_pair};
 
     /// Takes the value of a parameter behind its key: without `=` it is true.
-    #[tactic(auto, using(crate::proofs::Steps::value_steps))]
+    #[tactic(auto, using(crate::proofs::reads::Steps::value_steps))]
     fn parameter_value(&mut self) -> Result<BareItemFromInput<'de>, Error>
         ensures { ReadsOrOutOfMemory input_value self.old self.new result (value_at (edition self.old)) }
     {
@@ -65,7 +65,7 @@ impl<'de> Cursor<'de> {
     }
 
     /// Takes a parameter, if a semicolon stands next.
-    #[tactic(auto, using(crate::proofs::Steps::parameter_steps))]
+    #[tactic(auto, using(crate::proofs::reads::Steps::parameter_steps))]
     fn parameter(&mut self) -> Result<Option<ReadParameter<'de>>, Error>
         ensures { ReadsOrOutOfMemory (option_map read_pair) self.old self.new result (parameter_at (edition self.old)) }
     {

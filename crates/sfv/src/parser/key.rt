@@ -23,7 +23,7 @@ impl<'de> Cursor<'de> {
     }
 
     /// Takes a key.
-    #[tactic(auto, using(crate::proofs::Steps::key_steps))]
+    #[tactic(auto, using(crate::proofs::reads::Steps::key_steps))]
     pub(crate) fn key(&mut self) -> Result<KeyRef<'de>, Error>
         ensures { Reads key_text self.old self.new result key_at }
     {

@@ -34,7 +34,7 @@ fn signed(negative: bool, magnitude: u64) -> Integer
 
 impl Cursor<'_> {
     /// Takes a minus, if it stands next.
-    #[tactic(auto, using(crate::proofs::Steps::sign_takes))]
+    #[tactic(auto, using(crate::proofs::reads::Steps::sign_takes))]
     fn sign(&mut self) -> bool
         ensures sign { sign_at (rest self.old) ≡ Ok (result, rest self.new) }
         ensures kept { kept self.new ≡ kept self.old }
@@ -43,7 +43,7 @@ impl Cursor<'_> {
     }
 
     /// Takes a number, by itself or as the seconds of a date.
-    #[tactic(auto, using(crate::proofs::Steps::number_steps))]
+    #[tactic(auto, using(crate::proofs::reads::Steps::number_steps))]
     pub(crate) fn number(&mut self) -> Result<Number, Error>
         ensures { (dated : Bool) → Reads number_value_of self.old self.new result (number_at dated) }
     {
@@ -53,7 +53,7 @@ impl Cursor<'_> {
     }
 
     /// Takes what stands behind the whole part of a number.
-    #[tactic(auto, using(crate::proofs::Steps::whole_steps))]
+    #[tactic(auto, using(crate::proofs::reads::Steps::whole_steps))]
     fn behind_whole(&mut self, negative: bool, whole: &[u8]) -> Result<Number, Error>
         requires each { RunOf is_digit whole.now }
         requires most { length whole.now ≤ 15 }
@@ -75,7 +75,7 @@ impl Cursor<'_> {
     }
 
     /// Takes the point and the fraction of a decimal.
-    #[tactic(auto, using(crate::proofs::Steps::point_steps))]
+    #[tactic(auto, using(crate::proofs::reads::Steps::point_steps))]
     fn fraction(&mut self, negative: bool, whole: &[u8]) -> Result<Number, Error>
         requires each { RunOf is_digit whole.now }
         requires most { length whole.now ≤ 12 }

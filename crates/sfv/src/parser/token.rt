@@ -24,7 +24,7 @@ impl<'de> Cursor<'de> {
     }
 
     /// Takes a token.
-    #[tactic(auto, using(crate::proofs::Steps::token_steps))]
+    #[tactic(auto, using(crate::proofs::reads::Steps::token_steps))]
     pub(crate) fn token(&mut self) -> Result<TokenRef<'de>, Error>
         ensures { Reads (λ t. token (token_text t)) self.old self.new result token_at }
     {

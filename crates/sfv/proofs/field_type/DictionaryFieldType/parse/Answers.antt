@@ -3,7 +3,7 @@ use Rattle.sfv_tree.specs.Trees.{dictionary_tree}
 use Rattle.sfv_tree.specs.Builders.{between_pairs}
 use Rattle.sfv_tree.specs.declared.parsed.ListEntry.{ListEntry}
 use Rattle.sfv.specs.Parsers.{input_of, parser_edition}
-use Rattle.sfv.proofs.BuiltDictionaries.{built_dictionary}
+use Rattle.sfv.proofs.built.Dictionaries.{built_dictionary}
 use Rattle.sfv.proofs.field_type.DictionaryFieldType.parse.Goals as goal
 
 pub returns-in-Ok-clause-read : goal.returns-in-Ok-clause-read

@@ -1,5 +1,5 @@
 use Rattle.sfv.specs.Parsers.{input_of, parser_edition}
-use Rattle.sfv.proofs.Built.{built}
+use Rattle.sfv.proofs.built.Items.{built}
 use Rattle.sfv.proofs.field_type.ItemFieldType.parse.Goals as goal
 
 pub returns-in-Ok-clause-read : goal.returns-in-Ok-clause-read

@@ -3,7 +3,7 @@ use Rattle.sfv_tree.specs.Trees.{list_tree}
 use Rattle.sfv_tree.specs.Builders.{between}
 use Rattle.sfv_tree.specs.declared.parsed.ListEntry.{ListEntry}
 use Rattle.sfv.specs.Parsers.{input_of, parser_edition}
-use Rattle.sfv.proofs.BuiltLists.{built_list}
+use Rattle.sfv.proofs.built.Lists.{built_list}
 use Rattle.sfv.proofs.field_type.ListFieldType.parse.Goals as goal
 
 pub returns-in-Ok-clause-read : goal.returns-in-Ok-clause-read

@@ -1,6 +1,6 @@
 use Rattle.sfv_spec.specs.Values.{item_field}
 use Rattle.sfv.specs.Parsers.{input_of, parser_edition}
-use Rattle.sfv.proofs.Visited.{visits_answer, visits_syntax, visits_failure}
+use Rattle.sfv.proofs.visits.Fields.{visits_answer, visits_syntax, visits_failure}
 use Rattle.sfv.proofs.parser.Parser.parse_item_with_visitor.Goals as goal
 
 pub returns-clause-visited : goal.returns-clause-visited

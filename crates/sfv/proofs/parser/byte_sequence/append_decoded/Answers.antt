@@ -1,7 +1,7 @@
 use Rattle.std.proofs.Common.{◌≡◌, drop, sym, ◌∙◌}
 use Rattle.std.proofs.lemmas.List.{take-append-drop}
 use Rattle.sfv.specs.Zeros.{decoded_symbols}
-use Rattle.sfv.proofs.Coded.{decoded}
+use Rattle.sfv.proofs.reads.Coded.{decoded}
 use Rattle.sfv.proofs.parser.byte_sequence.append_decoded.Goals as goal
 
 pub unreachable-requires : goal.unreachable-requires

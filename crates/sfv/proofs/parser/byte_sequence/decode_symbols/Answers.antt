@@ -1,7 +1,7 @@
 use Rattle.std.proofs.Common.{◌≡◌, ◌+◌, ◌*◌, ◌/◌, ◌-◌, ◌%◌, ◌++◌, List, ℕ, length, take, get_or, ◌∙◌, ap, arith, refl}
 use Rattle.std.proofs.lemmas.List.{length-take-le}
 use Rattle.sfv.specs.Zeros.{decoded_symbols}
-use Rattle.sfv.proofs.Coded.{symbols_taken, symbol_at, rounded_is, groups_exact, two_exact, three_exact, with_two, with_three, with_none}
+use Rattle.sfv.proofs.reads.Coded.{symbols_taken, symbol_at, rounded_is, groups_exact, two_exact, three_exact, with_two, with_three, with_none}
 use Rattle.sfv.proofs.parser.byte_sequence.decode_symbols.Goals as goal
 use Rattle.sfv.proofs.parser.byte_sequence.decode_symbols.Goals.{in-2+in_ok-append_decoded-in-2, in-3+in_ok-append_decoded-in-3, in_default}
 

@@ -6,9 +6,9 @@ use Rattle.sfv_reading.specs.Reader.{span}
 use Rattle.sfv_reading.specs.Items.{item_at}
 use Rattle.sfv.specs.Cursor.{rest}
 use Rattle.sfv.specs.Parsers.{input_of, parser_edition}
-use Rattle.sfv.proofs.Whole.{field_trailing_error, field_done}
-use Rattle.sfv.proofs.Visiting.{kept_visits}
-use Rattle.sfv.proofs.Visited.{item_fails, finish_failed, finished_first}
+use Rattle.sfv.proofs.visits.Whole.{field_trailing_error, field_done}
+use Rattle.sfv.proofs.visits.Parts.{kept_visits}
+use Rattle.sfv.proofs.visits.Fields.{item_fails, finish_failed, finished_first}
 use Rattle.sfv.proofs.parser.field.parse_item_field.Goals as goal
 
 pub returns-in_err-item : goal.returns-in_err-item

@@ -3,8 +3,8 @@ use Rattle.std.proofs.lemmas.Result.{err_from_is_err_and}
 use Rattle.sfv_reading.specs.Fields.{members_at}
 use Rattle.sfv.specs.Members.{member_parts, one_member_at}
 use Rattle.sfv.specs.Parsers.{input_of, parser_edition}
-use Rattle.sfv.proofs.Visiting.{start_visits}
-use Rattle.sfv.proofs.Visited.{members_fail, members_finish}
+use Rattle.sfv.proofs.visits.Parts.{start_visits}
+use Rattle.sfv.proofs.visits.Fields.{members_fail, members_finish}
 use Rattle.sfv.proofs.parser.field.parse_members_field.Goals as goal
 
 pub returns-in_err-members : goal.returns-in_err-members

@@ -1,6 +1,6 @@
 use Rattle.std.proofs.Common.{arith}
 use Rattle.sfv_spec.specs.Classes.{is_digit}
-use Rattle.sfv.proofs.Runs.{up_to_run}
+use Rattle.sfv.proofs.reads.Runs.{up_to_run}
 use Rattle.sfv.proofs.parser.runs.digit_run.Goals as goal
 
 pub returns-else-is_digit_byte-clause-run : goal.returns-else-is_digit_byte-clause-run

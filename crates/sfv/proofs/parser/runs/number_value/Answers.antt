@@ -1,5 +1,5 @@
 use Rattle.std.proofs.Common.{arith}
-use Rattle.sfv.proofs.Runs.{number_step, pow_within}
+use Rattle.sfv.proofs.reads.Runs.{number_step, pow_within}
 use Rattle.sfv.proofs.parser.runs.number_value.Goals as goal
 
 pub overflow_mul-number : goal.overflow_mul-number

@@ -1,5 +1,5 @@
 use Rattle.std.proofs.Common.{arith}
-use Rattle.sfv.proofs.Symbols.{table_symbol}
+use Rattle.sfv.proofs.reads.Symbols.{table_symbol}
 use Rattle.sfv.proofs.parser.symbols.is_symbol_byte.Goals as goal
 
 pub returns : goal.returns

@@ -1,5 +1,5 @@
 use Rattle.std.proofs.Common.{arith}
-use Rattle.sfv.proofs.Symbols.{table_value, table_below}
+use Rattle.sfv.proofs.reads.Symbols.{table_value, table_below}
 use Rattle.sfv.proofs.parser.symbols.value_of.Goals as goal
 
 pub returns-clause-value : goal.returns-clause-value

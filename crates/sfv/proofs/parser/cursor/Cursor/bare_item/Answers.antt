@@ -5,8 +5,8 @@ use Rattle.sfv_reading.specs.Bare.{date_at, quoted_at, number_at, token_at}
 use Rattle.sfv_reading.specs.Quoted.{string_at}
 use Rattle.sfv_reading.specs.Content.{bytes_at}
 use Rattle.sfv.specs.Cursor.{rest}
-use Rattle.sfv.proofs.Errors.{kept_reads, ErrorOf-fault, ErrorOf-same, ErrorOf-part}
-use Rattle.sfv.proofs.Steps.{NoOpener, bare_string, bare_bytes, bare_date, bare_quoted, bare_number, bare_token, given}
+use Rattle.sfv.proofs.reads.Errors.{kept_reads, ErrorOf-fault, ErrorOf-same, ErrorOf-part}
+use Rattle.sfv.proofs.reads.Steps.{NoOpener, bare_string, bare_bytes, bare_date, bare_quoted, bare_number, bare_token, given}
 use Rattle.sfv.proofs.parser.cursor.Cursor.bare_item.Goals as goal
 use Rattle.sfv.proofs.parser.cursor.Cursor.bare_item.Goals.{in-Integer, in-Decimal}
 

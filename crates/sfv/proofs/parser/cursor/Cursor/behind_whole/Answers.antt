@@ -2,9 +2,9 @@ use Rattle.std.proofs.Common.{length, arith, refl, sym}
 use Rattle.std.proofs.lemmas.Bool.{le-ltb}
 use Rattle.sfv_reading.specs.Bare.{whole_at, point_at}
 use Rattle.sfv.specs.Numbers.{number_value_of}
-use Rattle.sfv.proofs.Errors.{reads_same}
-use Rattle.sfv.proofs.Steps.{whole_point}
-use Rattle.sfv.proofs.Runs.{pow_within}
+use Rattle.sfv.proofs.reads.Errors.{reads_same}
+use Rattle.sfv.proofs.reads.Steps.{whole_point}
+use Rattle.sfv.proofs.reads.Runs.{pow_within}
 use Rattle.sfv.proofs.parser.cursor.Cursor.behind_whole.Goals as goal
 
 pub signed-requires : goal.signed-requires

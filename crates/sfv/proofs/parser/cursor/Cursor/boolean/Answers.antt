@@ -1,5 +1,5 @@
 use Rattle.std.proofs.Common.{◌∙◌}
-use Rattle.sfv.proofs.Steps.{boolean_false, boolean_true}
+use Rattle.sfv.proofs.reads.Steps.{boolean_false, boolean_true}
 use Rattle.sfv.proofs.parser.cursor.Cursor.boolean.Goals as goal
 
 pub returns-then-take_if : goal.returns-then-take_if

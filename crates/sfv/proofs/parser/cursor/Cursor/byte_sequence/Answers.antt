@@ -1,6 +1,6 @@
 use Rattle.std.proofs.Common.{◌≡◌, ◌+◌, List, ℕ, length, drop, sym, ◌∙◌, inl, inr, ◌⊎◌, get_or, arith, refl}
 use Rattle.std.proofs.lemmas.List.{take_rest}
-use Rattle.sfv.proofs.Contents.{runs_of, bytes_read, lone_located, malformed_located, unterminated_located}
+use Rattle.sfv.proofs.reads.Contents.{runs_of, bytes_read, lone_located, malformed_located, unterminated_located}
 use Rattle.sfv.proofs.parser.cursor.Cursor.byte_sequence.Goals as goal
 use Rattle.sfv.proofs.parser.cursor.Cursor.byte_sequence.Goals.{then-end-content-via-then-end-content, then-end-content-via-else-end-content+then-content-end-ne58, then-contains, else-contains}
 use Rattle.sfv_spec.specs.Ascii.{colon}

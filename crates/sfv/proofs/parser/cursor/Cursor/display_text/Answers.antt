@@ -5,7 +5,7 @@ use Rattle.sfv_reading.specs.Quoted.{outside, pieces_from}
 use Rattle.sfv_reading.proofs.quoted.DisplaySteps.{shown_text, plain_utf8}
 use Rattle.sfv.specs.declared.parser.Parser.{Parser}
 use Rattle.sfv.specs.Cursor.{input, kept_input, rest}
-use Rattle.sfv.proofs.Escapes.{display_error}
+use Rattle.sfv.proofs.reads.Escapes.{display_error}
 use Rattle.sfv.proofs.parser.cursor.Cursor.display_text.Goals as goal
 
 pub returns-in_err-bytes-clause-read : goal.returns-in_err-bytes-clause-read

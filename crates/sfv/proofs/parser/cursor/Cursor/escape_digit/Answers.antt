@@ -1,7 +1,7 @@
 use Rattle.std.proofs.Common.{refl, ◌∙◌, sym}
 use Rattle.sfv.specs.Cursor.{kept, rest}
-use Rattle.sfv.proofs.Errors.{FaultOf-here}
-use Rattle.sfv.proofs.Escapes.{digit_cut, digit_wrong, no_first, first_is}
+use Rattle.sfv.proofs.reads.Errors.{FaultOf-here}
+use Rattle.sfv.proofs.reads.Escapes.{digit_cut, digit_wrong, no_first, first_is}
 use Rattle.sfv.proofs.parser.cursor.Cursor.escape_digit.Goals as goal
 
 pub returns-in_default : goal.returns-in_default

@@ -1,6 +1,6 @@
 use Rattle.std.proofs.Common.{length, arith, sym, ◌∙◌}
-use Rattle.sfv.proofs.Steps.{point_decimal}
-use Rattle.sfv.proofs.Runs.{pow_within}
+use Rattle.sfv.proofs.reads.Steps.{point_decimal}
+use Rattle.sfv.proofs.reads.Runs.{pow_within}
 use Rattle.sfv.proofs.parser.cursor.Cursor.fraction.Goals as goal
 
 pub overflow_mul-magnitude : goal.overflow_mul-magnitude

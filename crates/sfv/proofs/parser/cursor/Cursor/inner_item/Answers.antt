@@ -3,7 +3,7 @@ use Rattle.sfv_spec.specs.Events.{begins_item, item_events}
 use Rattle.sfv_reading.specs.Items.{item_at}
 use Rattle.sfv_reading.specs.Members.{inner_item_at}
 use Rattle.sfv.specs.Cursor.{kept, edition}
-use Rattle.sfv.proofs.Visiting.{led_visits, led_fails}
+use Rattle.sfv.proofs.visits.Parts.{led_visits, led_fails}
 use Rattle.sfv.proofs.parser.cursor.Cursor.inner_item.Goals as goal
 
 pub returns-in_err-visit-clause-visited : goal.returns-in_err-visit-clause-visited

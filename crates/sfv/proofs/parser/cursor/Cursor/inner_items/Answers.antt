@@ -1,9 +1,9 @@
 use Rattle.std.proofs.Common.{◌∙◌, ap, not, refl, []}
 use Rattle.std.proofs.lemmas.Result.{err_from_is_err_and}
 use Rattle.sfv.specs.Cursor.{kept}
-use Rattle.sfv.proofs.Errors.{ErrorOf-here}
-use Rattle.sfv.proofs.Delimiters.{items_none, items_closed, items_first}
-use Rattle.sfv.proofs.Loops.{begun, shorter, first_fails, more, ended, delimiter_fails, one_fails, items_loop}
+use Rattle.sfv.proofs.reads.Errors.{ErrorOf-here}
+use Rattle.sfv.proofs.reads.Delimiters.{items_none, items_closed, items_first}
+use Rattle.sfv.proofs.visits.Loops.{begun, shorter, first_fails, more, ended, delimiter_fails, one_fails, items_loop}
 use Rattle.sfv.proofs.parser.cursor.Cursor.inner_items.Goals as goal
 
 pub returns-in_err-inner_item-clause-visited : goal.returns-in_err-inner_item-clause-visited

@@ -2,8 +2,8 @@ use Rattle.std.proofs.lemmas.Result.{err_from_is_err_and}
 use Rattle.sfv_spec.specs.Events.{parameters_events}
 use Rattle.sfv_reading.specs.Items.{parameters_at}
 use Rattle.sfv.specs.Cursor.{kept, edition}
-use Rattle.sfv.proofs.InnerLists.{items_fail, end_fails, inner_list_visits}
-use Rattle.sfv.proofs.Visiting.{kept_visits}
+use Rattle.sfv.proofs.visits.InnerLists.{items_fail, end_fails, inner_list_visits}
+use Rattle.sfv.proofs.visits.Parts.{kept_visits}
 use Rattle.sfv.proofs.parser.cursor.Cursor.inner_list.Goals as goal
 
 pub returns-in_err-inner_items-clause-visited : goal.returns-in_err-inner_items-clause-visited

@@ -4,10 +4,10 @@ use Rattle.sfv_spec.specs.Events.{parameters_events, item_events}
 use Rattle.sfv_reading.specs.Bare.{bare_at}
 use Rattle.sfv_reading.specs.Items.{parameters_at}
 use Rattle.sfv.specs.Cursor.{kept}
-use Rattle.sfv.proofs.Errors.{ErrorOf-part}
-use Rattle.sfv.proofs.Steps.{item_is}
-use Rattle.sfv.proofs.Parameters.{of_visitor, bare_failed, item_visits}
-use Rattle.sfv.proofs.Visiting.{kept_visits}
+use Rattle.sfv.proofs.reads.Errors.{ErrorOf-part}
+use Rattle.sfv.proofs.reads.Steps.{item_is}
+use Rattle.sfv.proofs.visits.Parameters.{of_visitor, bare_failed, item_visits}
+use Rattle.sfv.proofs.visits.Parts.{kept_visits}
 use Rattle.sfv.proofs.parser.cursor.Cursor.item.Goals as goal
 
 pub returns-in_err-bare_item-clause-visited : goal.returns-in_err-bare_item-clause-visited

@@ -2,8 +2,8 @@ use Rattle.std.proofs.Common.{ℕ, ◌+◌, ◌-◌, List, take, drop, length, r
 use Rattle.std.proofs.lemmas.List.{take_rest}
 use Rattle.sfv_spec.specs.Classes.{is_key_start, is_key_inner}
 use Rattle.sfv_text.proofs.Ascii.{key_utf8}
-use Rattle.sfv.proofs.Runs.{span_run}
-use Rattle.sfv.proofs.Steps.{IsTextAt, key_some, key_class}
+use Rattle.sfv.proofs.reads.Runs.{span_run}
+use Rattle.sfv.proofs.reads.Steps.{IsTextAt, key_some, key_class}
 use Rattle.sfv.proofs.parser.cursor.Cursor.key.Goals as goal
 
 -- the bytes behind the first

@@ -4,8 +4,8 @@ use Rattle.sfv_reading.specs.Items.{item_at}
 use Rattle.sfv_reading.specs.Members.{inner_at}
 use Rattle.sfv.specs.Cursor.{kept, edition}
 use Rattle.sfv.specs.Members.{behind_begin}
-use Rattle.sfv.proofs.InnerLists.{list_member_visits, item_member_visits, list_begin_fails, item_begin_fails}
-use Rattle.sfv.proofs.Visiting.{kept_visits}
+use Rattle.sfv.proofs.visits.InnerLists.{list_member_visits, item_member_visits, list_begin_fails, item_begin_fails}
+use Rattle.sfv.proofs.visits.Parts.{kept_visits}
 use Rattle.sfv.proofs.parser.cursor.Cursor.member.Goals as goal
 
 pub returns-in_err-visit-clause-visited : goal.returns-in_err-visit-clause-visited

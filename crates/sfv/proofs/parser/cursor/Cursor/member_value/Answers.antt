@@ -3,8 +3,8 @@ use Rattle.sfv_spec.specs.Events.{member_events, parameters_events}
 use Rattle.sfv_reading.specs.Items.{parameters_at}
 use Rattle.sfv_reading.specs.Members.{member_at}
 use Rattle.sfv.specs.Cursor.{kept, edition}
-use Rattle.sfv.proofs.Keyed.{value_visits, true_begin_fails, true_bare_fails, true_visits}
-use Rattle.sfv.proofs.Visiting.{kept_visits}
+use Rattle.sfv.proofs.visits.Keyed.{value_visits, true_begin_fails, true_bare_fails, true_visits}
+use Rattle.sfv.proofs.visits.Parts.{kept_visits}
 use Rattle.sfv.proofs.parser.cursor.Cursor.member_value.Goals as goal
 
 pub returns-then-take_if-clause-visited : goal.returns-then-take_if-clause-visited

@@ -2,8 +2,8 @@ use Rattle.std.proofs.Common.{◌∙◌, ap, not, refl, []}
 use Rattle.std.proofs.lemmas.Result.{err_from_is_err_and}
 use Rattle.sfv.specs.Cursor.{edition}
 use Rattle.sfv.specs.Members.{member_parts, one_member_at}
-use Rattle.sfv.proofs.Delimiters.{at_end, members_none, members_first, ends_there}
-use Rattle.sfv.proofs.Loops.{begun, shorter, first_fails, more, ended, delimiter_fails, one_fails, members_loop}
+use Rattle.sfv.proofs.reads.Delimiters.{at_end, members_none, members_first, ends_there}
+use Rattle.sfv.proofs.visits.Loops.{begun, shorter, first_fails, more, ended, delimiter_fails, one_fails, members_loop}
 use Rattle.sfv.proofs.parser.cursor.Cursor.members.Goals as goal
 
 pub returns-in_err-consume-clause-visited : goal.returns-in_err-consume-clause-visited

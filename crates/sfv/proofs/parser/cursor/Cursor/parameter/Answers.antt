@@ -1,8 +1,8 @@
 use Rattle.std.proofs.Common.{◌∙◌}
 use Rattle.std.proofs.lemmas.Result.{err_from_is_err_and}
 use Rattle.sfv_reading.specs.Items.{key_at, value_at}
-use Rattle.sfv.proofs.Errors.{kept_reads, ErrorOf-fault, ErrorOf-part}
-use Rattle.sfv.proofs.Steps.{parameter_is, parameter_keyed, parameter_some}
+use Rattle.sfv.proofs.reads.Errors.{kept_reads, ErrorOf-fault, ErrorOf-part}
+use Rattle.sfv.proofs.reads.Steps.{parameter_is, parameter_keyed, parameter_some}
 use Rattle.sfv.proofs.parser.cursor.Cursor.parameter.Goals as goal
 
 pub returns-in_err-key : goal.returns-in_err-key

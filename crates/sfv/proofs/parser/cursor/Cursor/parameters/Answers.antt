@@ -4,8 +4,8 @@ use Rattle.sfv_spec.specs.Events.{parameters_events}
 use Rattle.sfv_reading.specs.Items.{parameter_at}
 use Rattle.sfv_reading.proofs.sound.Items.{Consumes-parameter}
 use Rattle.sfv.specs.Cursor.{edition, kept, rest}
-use Rattle.sfv.proofs.Errors.{kept_reads}
-use Rattle.sfv.proofs.Parameters.{of_visitor, visited_none, visited_more, visited_error, parameter_failed, end_visits}
+use Rattle.sfv.proofs.reads.Errors.{kept_reads}
+use Rattle.sfv.proofs.visits.Parameters.{of_visitor, visited_none, visited_more, visited_error, parameter_failed, end_visits}
 use Rattle.sfv.proofs.parser.cursor.Cursor.parameters.Goals as goal
 
 pub loop-parameter-init : goal.loop-parameter-init

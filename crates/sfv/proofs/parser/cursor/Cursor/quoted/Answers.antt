@@ -1,6 +1,6 @@
 use Rattle.std.proofs.Common.{◌∙◌}
-use Rattle.sfv.proofs.Errors.{ErrorOf-here, behind_quote}
-use Rattle.sfv.proofs.Steps.{quoted_no_quote, quoted_reads}
+use Rattle.sfv.proofs.reads.Errors.{ErrorOf-here, behind_quote}
+use Rattle.sfv.proofs.reads.Steps.{quoted_no_quote, quoted_reads}
 use Rattle.sfv.proofs.parser.cursor.Cursor.quoted.Goals as goal
 
 pub returns-then-not-take_if : goal.returns-then-not-take_if

@@ -5,8 +5,8 @@ use Rattle.sfv_reading.specs.Reader.{byte}
 use Rattle.sfv_reading.specs.Quoted.{behind_bytes}
 use Rattle.sfv.specs.Cursor.{rest, kept, NextIs}
 use Rattle.sfv.specs.Quoted.{mark_of, inside}
-use Rattle.sfv.proofs.Errors.{ErrorOf-same}
-use Rattle.sfv.proofs.Escapes.{begins, all_plain, behind_fault, no_escape, some_escape}
+use Rattle.sfv.proofs.reads.Errors.{ErrorOf-same}
+use Rattle.sfv.proofs.reads.Escapes.{begins, all_plain, behind_fault, no_escape, some_escape}
 use Rattle.sfv.proofs.parser.cursor.Cursor.quoted_text.Goals as goal
 
 pub returns-then-take_if-clause-read : goal.returns-then-take_if-clause-read

@@ -1,5 +1,5 @@
 use Rattle.sfv_reading.proofs.texts.Ranges.{range_at}
-use Rattle.sfv.proofs.Runs.{stops_at}
+use Rattle.sfv.proofs.reads.Runs.{stops_at}
 use Rattle.sfv.proofs.parser.cursor.Cursor.run.Goals as goal
 
 pub returns-clause-taken : goal.returns-clause-taken

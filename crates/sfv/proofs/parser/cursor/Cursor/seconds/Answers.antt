@@ -1,6 +1,6 @@
 use Rattle.std.proofs.Common.{◌∙◌, true}
 use Rattle.std.proofs.lemmas.Result.{err_from_is_err_and}
-use Rattle.sfv.proofs.Steps.{date_integer, date_decimal, date_fault}
+use Rattle.sfv.proofs.reads.Steps.{date_integer, date_decimal, date_fault}
 use Rattle.sfv.proofs.parser.cursor.Cursor.seconds.Goals as goal
 
 pub returns-in_err-seconds : goal.returns-in_err-seconds

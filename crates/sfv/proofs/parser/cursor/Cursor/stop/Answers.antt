@@ -1,8 +1,8 @@
 use Rattle.std.proofs.Common.{refl, ◌∙◌, ap}
 use Rattle.std.specs.Prelude.{is_some}
 use Rattle.sfv.specs.Cursor.{kept}
-use Rattle.sfv.proofs.Errors.{FaultOf-here}
-use Rattle.sfv.proofs.Escapes.{stops}
+use Rattle.sfv.proofs.reads.Errors.{FaultOf-here}
+use Rattle.sfv.proofs.reads.Escapes.{stops}
 use Rattle.sfv.proofs.parser.cursor.Cursor.stop.Goals as goal
 
 pub returns : goal.returns

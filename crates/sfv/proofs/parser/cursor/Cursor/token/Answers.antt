@@ -2,8 +2,8 @@ use Rattle.std.proofs.Common.{ℕ, ◌+◌, ◌-◌, List, take, drop, length, r
 use Rattle.std.proofs.lemmas.List.{take_rest}
 use Rattle.sfv_spec.specs.Classes.{is_token_start, is_token_inner}
 use Rattle.sfv_text.proofs.Ascii.{token_utf8}
-use Rattle.sfv.proofs.Runs.{span_run}
-use Rattle.sfv.proofs.Steps.{IsTextAt, token_some, token_class}
+use Rattle.sfv.proofs.reads.Runs.{span_run}
+use Rattle.sfv.proofs.reads.Steps.{IsTextAt, token_some, token_class}
 use Rattle.sfv.proofs.parser.cursor.Cursor.token.Goals as goal
 
 -- the bytes behind the first

@@ -4,7 +4,7 @@ use Rattle.sfv_reading.specs.Reader.{byte}
 use Rattle.sfv_reading.specs.Quoted.{behind_bytes}
 use Rattle.sfv.specs.Cursor.{kept, rest, TakesIf}
 use Rattle.sfv.specs.Quoted.{mark_of, inside}
-use Rattle.sfv.proofs.Escapes.{closed_behind, past_escape, escape_shorter, escape_fails, behind_fault}
+use Rattle.sfv.proofs.reads.Escapes.{closed_behind, past_escape, escape_shorter, escape_fails, behind_fault}
 use Rattle.sfv.proofs.parser.cursor.Cursor.unescaped.Goals as goal
 
 pub returns-then-not-take_if : goal.returns-then-not-take_if

@@ -1,6 +1,6 @@
 use Rattle.std.proofs.Common.{◌∙◌, ap, arith, length, ℕ}
 use Rattle.std.proofs.lemmas.Result.{err_from_is_err_and}
-use Rattle.sfv.proofs.Escapes.{both_digits, second_fault}
+use Rattle.sfv.proofs.reads.Escapes.{both_digits, second_fault}
 use Rattle.sfv.proofs.parser.display_string.InDisplayStringQuotedText.escaped.Goals as goal
 
 pub returns-in_err-high : goal.returns-in_err-high

@@ -2,7 +2,7 @@ use Rattle.std.proofs.lemmas.Result.{err_from_is_err_and}
 use Rattle.sfv_spec.specs.Events.{entry, member_events}
 use Rattle.sfv_reading.specs.Members.{member_at, entry_at}
 use Rattle.sfv.specs.Cursor.{kept, edition}
-use Rattle.sfv.proofs.Visiting.{led_visits, led_fails}
+use Rattle.sfv.proofs.visits.Parts.{led_visits, led_fails}
 use Rattle.sfv.proofs.parser.member.EntryMember.consume.Goals as goal
 
 pub returns-in_err-visit-clause-visited : goal.returns-in_err-visit-clause-visited

@@ -2,9 +2,9 @@ use Rattle.std.proofs.lemmas.Result.{err_from_is_err_and}
 use Rattle.sfv_spec.specs.Events.{member_events}
 use Rattle.sfv_reading.specs.Members.{member_value_at}
 use Rattle.sfv.specs.Cursor.{kept, edition}
-use Rattle.sfv.proofs.Errors.{ErrorOf-fault}
-use Rattle.sfv.proofs.Keyed.{key_fails, keyed_fails, keyed_visits}
-use Rattle.sfv.proofs.Visiting.{kept_visits}
+use Rattle.sfv.proofs.reads.Errors.{ErrorOf-fault}
+use Rattle.sfv.proofs.visits.Keyed.{key_fails, keyed_fails, keyed_visits}
+use Rattle.sfv.proofs.visits.Parts.{kept_visits}
 use Rattle.sfv.proofs.parser.member.KeyedEntryMember.consume.Goals as goal
 
 pub returns-in_err-key-clause-visited : goal.returns-in_err-key-clause-visited

@@ -1,7 +1,7 @@
 use Rattle.std.proofs.Common.{refl, ◌∙◌, sym, ap, arith, length, ℕ}
 use Rattle.sfv.specs.Cursor.{kept, rest}
-use Rattle.sfv.proofs.Errors.{FaultOf-here}
-use Rattle.sfv.proofs.Escapes.{string_cut, string_wrong, string_escaped, no_first, first_is}
+use Rattle.sfv.proofs.reads.Errors.{FaultOf-here}
+use Rattle.sfv.proofs.reads.Escapes.{string_cut, string_wrong, string_escaped, no_first, first_is}
 use Rattle.sfv.proofs.parser.string.InStringQuotedText.escaped.Goals as goal
 
 pub returns-in_default : goal.returns-in_default

@@ -14,7 +14,7 @@ use Rattle.sfv_reading.specs.Fields.{comma_at, next_at, members_at}
 use Rattle.sfv_reading.proofs.complete.Combinators.{bind_complete}
 use Rattle.sfv.specs.Cursor.{located, TakesIf}
 use Rattle.sfv.specs.Members.{item_delimiter_at, member_delimiter_at}
-use Rattle.sfv.proofs.Steps.{branch_true, branch_false}
+use Rattle.sfv.proofs.reads.Steps.{branch_true, branch_false}
 
 -- a run is read wherever it is wanted
 pub span_total : (class : ℕ → Bool) (t : List ℕ) → (s : List ℕ) × (r : List ℕ) × (span class t ≡ Ok (s, r))

@@ -17,10 +17,10 @@ use Rattle.sfv.specs.declared.parser.cursor.Cursor.{Cursor}
 use Rattle.sfv.specs.Cursor.{TakesIf}
 use Rattle.sfv.specs.Members.{behind_begin}
 use Rattle.sfv.specs.Visits.{VisitsAnswer, IsOfVisitor}
-use Rattle.sfv.proofs.Errors.{ErrorOf-part}
-use Rattle.sfv.proofs.Steps.{branch_true, branch_false}
-use Rattle.sfv.proofs.Parameters.{runs_on, of_visitor}
-use Rattle.sfv.proofs.Visiting.{visits_as, map_visits, then_visits, first_failed, failed_longer, failed_behind, led_visits, led_fails}
+use Rattle.sfv.proofs.reads.Errors.{ErrorOf-part}
+use Rattle.sfv.proofs.reads.Steps.{branch_true, branch_false}
+use Rattle.sfv.proofs.visits.Parameters.{runs_on, of_visitor}
+use Rattle.sfv.proofs.visits.Parts.{visits_as, map_visits, then_visits, first_failed, failed_longer, failed_behind, led_visits, led_fails}
 
 -- the parameters behind the items
 list_parameters : RawMember → List TreeEvent

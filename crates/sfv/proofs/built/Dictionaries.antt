@@ -19,8 +19,8 @@ use Rattle.sfv_tree.specs.Builders.{MemberPlace, begun, item_head, item_paramete
 use Rattle.sfv_tree.specs.declared.parsed.ListEntry.{ListEntry}
 use Rattle.sfv_tree.specs.declared.visitor.dictionary_builder.DictionaryBuilder.{DictionaryBuilder}
 use Rattle.sfv.specs.Parsers.{IsAnswerOf}
-use Rattle.sfv.proofs.Built.{insert_entry-entered}
-use Rattle.sfv.proofs.BuiltMembers.{IsOpen, member_built, runs_fold}
+use Rattle.sfv.proofs.built.Items.{insert_entry-entered}
+use Rattle.sfv.proofs.built.Members.{IsOpen, member_built, runs_fold}
 
 -- values that are changed one by one are collapsed before or after
 module _ {A B : Type 0} (f : A → B) where

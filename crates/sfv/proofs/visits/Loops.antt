@@ -27,10 +27,10 @@ use Rattle.sfv.specs.declared.parser.cursor.Cursor.{Cursor}
 use Rattle.sfv.specs.Cursor.{kept, kept_input, edition, input, rest, located, IsFaultOf, IsErrorOf}
 use Rattle.sfv.specs.Members.{item_delimiter_at, member_delimiter_at, MemberValue, member_parts, one_member_at}
 use Rattle.sfv.specs.Visits.{VisitsAnswer, Visits}
-use Rattle.sfv.proofs.Errors.{ErrorOf-fault, ErrorOf-same, ErrorOf-part}
-use Rattle.sfv.proofs.Parameters.{runs_on}
-use Rattle.sfv.proofs.Delimiters.{one_if, first_of, next_item_is, next_member_is}
-use Rattle.sfv.proofs.Visiting.{kept_visits, first_failed}
+use Rattle.sfv.proofs.reads.Errors.{ErrorOf-fault, ErrorOf-same, ErrorOf-part}
+use Rattle.sfv.proofs.visits.Parameters.{runs_on}
+use Rattle.sfv.proofs.reads.Delimiters.{one_if, first_of, next_item_is, next_member_is}
+use Rattle.sfv.proofs.visits.Parts.{kept_visits, first_failed}
 
 -- the events of what was read
 abbrev pub all_events : {A : Type 0} → (A → List TreeEvent) → List A → List TreeEvent

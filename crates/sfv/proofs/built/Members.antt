@@ -9,7 +9,7 @@ use Rattle.sfv_spec.specs.Ordered.{collapse, ordered_item, ordered_member}
 use Rattle.sfv_spec.specs.Visiting.{RunsTo}
 use Rattle.sfv_spec.proofs.Collapse.{collapse-push}
 use Rattle.sfv_tree.specs.Builders.{MemberPlace, begun, item_head, item_parameters, inner_items, inner_head, inner_parameters, list_parameters, ended, adds, member_step}
-use Rattle.sfv.proofs.Built.{insert_entry-entered, with_bare}
+use Rattle.sfv.proofs.built.Items.{insert_entry-entered, with_bare}
 
 -- a member that has not ended
 abbrev pub IsOpen : MemberPlace → Type 0

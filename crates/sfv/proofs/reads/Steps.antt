@@ -20,7 +20,7 @@ use Rattle.sfv_reading.specs.Content.{bytes_at}
 use Rattle.sfv_reading.specs.Items.{key_at, value_at, parameter_at, parameters_at, item_of, item_at}
 use Rattle.sfv_spec.specs.Events.{TreeEvent, bare_item}
 use Rattle.sfv_reading.proofs.complete.Combinators.{branch_past, branch_take, ahead_past, ahead_take, bind_complete, led_complete}
-use Rattle.sfv.proofs.Errors.{fault_bind}
+use Rattle.sfv.proofs.reads.Errors.{fault_bind}
 use Rattle.sfv.specs.declared.parser.Parser.{Parser}
 use Rattle.sfv.specs.Cursor.{kept_input, located, IsFaultOf, NextIs, TakesIf, Skips}
 

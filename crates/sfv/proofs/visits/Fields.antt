@@ -31,9 +31,9 @@ use Rattle.sfv.specs.Fields.{located_whole}
 use Rattle.sfv.specs.Members.{MemberValue, member_parts, one_member_at, field_of}
 use Rattle.sfv.specs.Visits.{VisitsAnswer, IsOfVisitor, VisitsField, IsFinishedFirst, IsAskedThere}
 use Rattle.sfv.specs.Parsers.{IsAnswerOf, IsSyntaxOf, IsVisitorErrorOf}
-use Rattle.sfv.proofs.Whole.{spaced, field_error, ending_located}
+use Rattle.sfv.proofs.visits.Whole.{spaced, field_error, ending_located}
 use Rattle.sfv.proofs.Parsed.{reader_fault}
-use Rattle.sfv.proofs.Delimiters.{span_total}
+use Rattle.sfv.proofs.reads.Delimiters.{span_total}
 
 whole_is : (edition : Edition) (t s r : List ℕ) → span is_space t ≡ Ok (s, r) → whole_field_at edition item_field t ≡ spaced edition r
 unfolding whole_field_at spaced

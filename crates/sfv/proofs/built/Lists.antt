@@ -17,7 +17,7 @@ use Rattle.sfv_tree.specs.Builders.{MemberPlace, begun, item_head, item_paramete
 use Rattle.sfv_tree.specs.declared.parsed.ListEntry.{ListEntry}
 use Rattle.sfv_tree.specs.declared.visitor.list_builder.ListBuilder.{ListBuilder}
 use Rattle.sfv.specs.Parsers.{IsAnswerOf}
-use Rattle.sfv.proofs.BuiltMembers.{IsOpen, member_built, runs_fold}
+use Rattle.sfv.proofs.built.Members.{IsOpen, member_built, runs_fold}
 
 -- what the builder does with an event, and with the end
 abbrev Steps : ListBuilder → TreeEvent → ListBuilder → Type 0

@@ -16,8 +16,8 @@ use Rattle.sfv.specs.declared.parser.Parser.{Parser}
 use Rattle.sfv.specs.declared.parser.cursor.Cursor.{Cursor}
 use Rattle.sfv.specs.Cursor.{kept, kept_input, kept_edition, rest, located}
 use Rattle.sfv.specs.Visits.{Visits, VisitsAnswer, IsOfVisitor}
-use Rattle.sfv.proofs.Errors.{ErrorOf-part, ErrorOf-located}
-use Rattle.sfv.proofs.Parameters.{runs_on, of_visitor}
+use Rattle.sfv.proofs.reads.Errors.{ErrorOf-part, ErrorOf-located}
+use Rattle.sfv.proofs.visits.Parameters.{runs_on, of_visitor}
 
 visited_as : {A : Type 0} (parts parts' : A → List TreeEvent) (a : Answer A) → ((v : A) (s : List ℕ) → a ≡ Ok (v, s) → parts' v ≡ parts v) → visited parts' a ≡ visited parts a
 visited_as parts parts' (Ok x) each = each x.0 x.1 refl

@@ -16,7 +16,7 @@ use Rattle.sfv.specs.declared.parser.Parser.{Parser}
 use Rattle.sfv.specs.declared.parser.cursor.Cursor.{Cursor}
 use Rattle.sfv.specs.Cursor.{kept, kept_input, rest, located, IsErrorOf}
 use Rattle.sfv.specs.Fields.{located_whole}
-use Rattle.sfv.proofs.Errors.{fault_bind}
+use Rattle.sfv.proofs.reads.Errors.{fault_bind}
 
 -- an item and the spaces behind it
 unfoldable pub spaced : Edition → Reader RawItem

@@ -16,10 +16,10 @@ use Rattle.sfv.specs.declared.parser.Parser.{Parser}
 use Rattle.sfv.specs.declared.parser.cursor.Cursor.{Cursor}
 use Rattle.sfv.specs.Cursor.{TakesIf, kept_input, IsErrorOf}
 use Rattle.sfv.specs.Visits.{VisitsAnswer, IsOfVisitor}
-use Rattle.sfv.proofs.Errors.{ErrorOf-part}
-use Rattle.sfv.proofs.Steps.{branch_true, branch_false}
-use Rattle.sfv.proofs.Parameters.{of_visitor}
-use Rattle.sfv.proofs.Visiting.{visits_as, map_visits, then_visits, led_visits, led_fails}
+use Rattle.sfv.proofs.reads.Errors.{ErrorOf-part}
+use Rattle.sfv.proofs.reads.Steps.{branch_true, branch_false}
+use Rattle.sfv.proofs.visits.Parameters.{of_visitor}
+use Rattle.sfv.proofs.visits.Parts.{visits_as, map_visits, then_visits, led_visits, led_fails}
 
 -- the pair of a key and what stands behind it
 abbrev pair_at : Edition → List ℕ → Reader (List ℕ × RawMember)

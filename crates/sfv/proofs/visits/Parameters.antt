@@ -22,8 +22,8 @@ use Rattle.sfv.specs.declared.parser.Parser.{Parser}
 use Rattle.sfv.specs.declared.parser.cursor.Cursor.{Cursor}
 use Rattle.sfv.specs.Cursor.{kept, kept_input, kept_edition, rest, located, IsErrorOf}
 use Rattle.sfv.specs.Visits.{VisitsAnswer, IsOfVisitor}
-use Rattle.sfv.proofs.Errors.{ErrorOf-part, ErrorOf-located}
-use Rattle.sfv.proofs.Steps.{item_located, item_some}
+use Rattle.sfv.proofs.reads.Errors.{ErrorOf-part, ErrorOf-located}
+use Rattle.sfv.proofs.reads.Steps.{item_located, item_some}
 
 -- one run behind another
 pub runs_on : {S : Type 0} (takes : S → TreeEvent → S → Type 0) (es fs : List TreeEvent) (from middle to : S) → RunsTo takes from es middle → RunsTo takes middle fs to → RunsTo takes from (es ++ fs) to

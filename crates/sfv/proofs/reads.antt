@@ -1,0 +1,9 @@
+-- What a reader gives, by what the code found out.
+pub mod Runs
+pub mod Steps
+pub mod Symbols
+pub mod Contents
+pub mod Coded
+pub mod Escapes
+pub mod Errors
+pub mod Delimiters

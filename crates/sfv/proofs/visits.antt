@@ -1,0 +1,8 @@
+-- What a visitor is given by each reading.
+pub mod Parts
+pub mod Loops
+pub mod InnerLists
+pub mod Keyed
+pub mod Parameters
+pub mod Fields
+pub mod Whole
