@@ -86,7 +86,7 @@ impl FieldType for List {
     ghost written = { option_map string_bytes };
 
     fn parse(alloc: Global, parser: Parser<'_>) -> Result<List, Error> {
-        let builder = ListBuilder::new(alloc, List::new(alloc));
+        let builder = ListBuilder::new(List::new(alloc));
         match parser.parse_list_with_visitor(alloc, builder) {
             Ok(list) => Ok(list),
             Err(ParseError::Syntax(error)) => Err(error),
@@ -109,7 +109,7 @@ impl FieldType for Dictionary {
     ghost written = { option_map string_bytes };
 
     fn parse(alloc: Global, parser: Parser<'_>) -> Result<Dictionary, Error> {
-        let builder = DictionaryBuilder::new(alloc, Dictionary::new(alloc));
+        let builder = DictionaryBuilder::new(Dictionary::new(alloc));
         match parser.parse_dictionary_with_visitor(alloc, builder) {
             Ok(dictionary) => Ok(dictionary),
             Err(ParseError::Syntax(error)) => Err(error),

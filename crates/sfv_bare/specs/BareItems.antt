@@ -1,5 +1,5 @@
 -- The values of bare items, whatever owns their texts.
-use Rattle.std.specs.Prelude.{◌≡◌, ℕ, List, Bool, true, false, Option, MatchOption, string_bytes, codes}
+use Rattle.std.specs.Prelude.{◌≡◌, ⊤, ℕ, List, Bool, true, false, Option, MatchOption, string_bytes, codes}
 use Rattle.std.specs.Borrow.{Bor}
 use Rattle.std.specs.declared.alloc.Global.{Global}
 use Rattle.std.specs.declared.vec.Vec.{Vec}
@@ -68,15 +68,16 @@ abbrev pub is_borrowed_string : StringFromInput → Bool
 is_borrowed_string (input.Borrowed s) = true
 is_borrowed_string (input.Owned s) = false
 
-abbrev pub is_borrowed_cow : CowStr Global → Bool
-is_borrowed_cow (cow.Borrowed s) = true
-is_borrowed_cow (cow.Owned s) = false
+-- a text that was read is borrowed from the input
+abbrev pub is_borrowed_text : CowStr Global → Bool
+is_borrowed_text (cow.Borrowed s) = true
+is_borrowed_text (cow.Owned s) = false
 
 -- the text of a bare item that was read is borrowed from the input
 abbrev pub is_borrowed : GenericBareItem StringFromInput (Vec ℕ Global) TokenRef (CowStr Global) → Bool
 is_borrowed (bare.String s) = is_borrowed_string s
 is_borrowed (bare.Token t) = true
-is_borrowed (bare.DisplayString d) = is_borrowed_cow d
+is_borrowed (bare.DisplayString d) = is_borrowed_text d
 is_borrowed item = false
 
 -- a copy is of the same kind, and what it holds is a copy as its type makes one
@@ -91,6 +92,16 @@ IsCopyBy s b t d (bare.Boolean x) copy = copy ≡ bare.Boolean x
 IsCopyBy {S} {B} {T} s b t d (bare.Token x) copy = (y : T) × t x y × (copy ≡ bare.Token y)
 IsCopyBy s b t d (bare.Date z) copy = copy ≡ bare.Date z
 IsCopyBy {S} {B} {T} {D} s b t d (bare.DisplayString x) copy = (y : D) × d x y × (copy ≡ bare.DisplayString y)
+
+-- a copy takes no memory: of a number or a boolean, and of a text or bytes that are copied without memory
+abbrev pub TakesNoMemoryBy :
+    {S B T D : Type 0} → (S → Type 0) → (B → Type 0) → (T → Type 0) → (D → Type 0)
+    → GenericBareItem S B T D → Type 0
+TakesNoMemoryBy s b t d (bare.String x) = s x
+TakesNoMemoryBy s b t d (bare.ByteSequence x) = b x
+TakesNoMemoryBy s b t d (bare.Token x) = t x
+TakesNoMemoryBy s b t d (bare.DisplayString x) = d x
+TakesNoMemoryBy s b t d item = ⊤
 
 -- what a value of this kind holds, and nothing from a value of another kind
 abbrev pub GivesPart : {A V P : Type 0} → (A → V) → (P → A) → V → Option P → Type 0

@@ -1,7 +1,7 @@
 //! Bare items (RFC 9651, section 3.3), and the versions of the standard.
 
 ghost use Rattle.std.specs.Prelude.{◌≡◌, Some};
-ghost use Rattle.sfv_bare.specs.BareItems.{IsCopyBy, version_text};
+ghost use Rattle.sfv_bare.specs.BareItems.{IsCopyBy, TakesNoMemoryBy, version_text};
 
 mod accessors;
 mod borrowed;
@@ -25,7 +25,7 @@ use std::string::String as StdString;
 ///
 /// `BareItem` owns its text, `RefBareItem` borrows it, and `BareItemFromInput` borrows what of it
 /// stands in the input. Each is compared by its value, and a copy has the same value; what is borrowed stays
-/// borrowed.
+/// borrowed. A copy of a number, a boolean or a borrowed text takes no memory.
 ///
 /// `From` gives the bare item of its kind, and `From` a number the integer of the same number. `TryFrom` a
 /// number fails with `ErrorKind::OutOfRange` and no index, exactly if an integer (section 3.3.1) doesn't hold
@@ -77,6 +77,8 @@ pub enum StringFromInput<'a> {
 
 impl<S: Clone, B: Clone, T: Clone, D: Clone> Clone for GenericBareItem<S, B, T, D> {
     ghost is_clone = { IsCopyBy S.is_clone B.is_clone T.is_clone D.is_clone };
+
+    ghost is_infallible = { TakesNoMemoryBy S.is_infallible B.is_infallible T.is_infallible D.is_infallible };
 
     fn clone(&self) -> Result<GenericBareItem<S, B, T, D>, AllocError> {
         Ok(match self {

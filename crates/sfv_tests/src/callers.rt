@@ -150,7 +150,7 @@ pub fn list_of_lines(
         × (list_tree list.items ≡ held ++ ordered list_field raw)) }
 {
     let held = Parser::new(first).parse::<List>(alloc)?;
-    let builder = ListBuilder::new(alloc, held);
+    let builder = ListBuilder::new(held);
     Parser::new(second).parse_list_with_visitor(alloc, builder)
 }
 
@@ -166,6 +166,6 @@ pub fn dictionary_of_lines(
         × (dictionary_tree dictionary.entries ≡ ordered dictionary_field (held ++ raw))) }
 {
     let held = Parser::new(first).parse::<Dictionary>(alloc)?;
-    let builder = DictionaryBuilder::new(alloc, held);
+    let builder = DictionaryBuilder::new(held);
     Parser::new(second).parse_dictionary_with_visitor(alloc, builder)
 }

@@ -24,9 +24,11 @@ pub struct CheckedTextRef<'a, C: TextClass> {
 impl<C: TextClass> Copy for CheckedTextRef<'_, C> {}
 
 impl<C: TextClass> Clone for CheckedTextRef<'_, C> {
-    ghost use Rattle.std.specs.Prelude.{◌≡◌};
+    ghost use Rattle.std.specs.Prelude.{◌≡◌, ⊤};
 
     ghost is_clone = { λ x y. y ≡ x };
+
+    ghost is_infallible = { λ _. ⊤ };
 
     fn clone(&self) -> Result<Self, AllocError> {
         Ok(*self)

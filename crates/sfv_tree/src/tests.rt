@@ -103,8 +103,8 @@ fn event(letter: char) -> Event<'static> {
 }
 
 // What is built of the events after a list.
-fn build(alloc: Global, list: List, letters: &str) -> Result<List, OutOfMemory> {
-    let mut builder = ListBuilder::new(alloc, list);
+fn build(list: List, letters: &str) -> Result<List, OutOfMemory> {
+    let mut builder = ListBuilder::new(list);
     for letter in letters.chars() {
         builder.event(event(letter))?;
     }
@@ -122,7 +122,7 @@ fn first_key(list: &List) -> Option<KeyRef<'_>> {
 #[test]
 fn list_is_built_event_by_event(rt: HostRuntime) -> Result<(), Fail> {
     let alloc = rt.alloc();
-    let list = build(alloc, List::new(alloc), ",i5abA;,(i5a;i6;)aA;")?;
+    let list = build(List::new(alloc), ",i5abA;,(i5a;i6;)aA;")?;
     assert!(rt; first_key(&list) == Some(key_ref("a")));
     let mut item = item_of(alloc, 5, key_ref("a"), 2)?;
     item.params
@@ -140,8 +140,8 @@ fn list_is_built_event_by_event(rt: HostRuntime) -> Result<(), Fail> {
 #[test]
 fn event_out_of_its_place_changes_no_list(rt: HostRuntime) -> Result<(), Fail> {
     let alloc = rt.alloc();
-    let held = build(alloc, List::new(alloc), ",i6;")?;
-    let want = build(alloc, held.clone()?, ",(i5b;)a;,i5;")?;
+    let held = build(List::new(alloc), ",i6;")?;
+    let want = build(held.clone()?, ",(i5b;)a;,i5;")?;
     assert_eq!(rt; want.len(), 3);
     let cases = [
         // between the members
@@ -159,18 +159,14 @@ fn event_out_of_its_place_changes_no_list(rt: HostRuntime) -> Result<(), Fail> {
         ",(i5b;)a;,i5;,(i6;i5",
     ];
     for letters in cases {
-        assert!(rt; build(alloc, held.clone()?, letters)? == want, "{letters}");
+        assert!(rt; build(held.clone()?, letters)? == want, "{letters}");
     }
     Ok(())
 }
 
 // What is built of the events after a dictionary.
-fn build_dictionary(
-    alloc: Global,
-    dictionary: Dictionary,
-    letters: &str,
-) -> Result<Dictionary, OutOfMemory> {
-    let mut builder = DictionaryBuilder::new(alloc, dictionary);
+fn build_dictionary(dictionary: Dictionary, letters: &str) -> Result<Dictionary, OutOfMemory> {
+    let mut builder = DictionaryBuilder::new(dictionary);
     for letter in letters.chars() {
         builder.event(event(letter))?;
     }
@@ -180,7 +176,7 @@ fn build_dictionary(
 #[test]
 fn keys_are_found(rt: HostRuntime) -> Result<(), Fail> {
     let alloc = rt.alloc();
-    let dictionary = build_dictionary(alloc, Dictionary::new(alloc), "ki5;li6ab;")?;
+    let dictionary = build_dictionary(Dictionary::new(alloc), "ki5;li6ab;")?;
     let six = find_entry(&dictionary, key_ref("b"));
     assert!(rt;
         matches!(six, Some(ListEntry::Item(item)) if item.bare_item == BareItem::from(6u8))
@@ -195,7 +191,7 @@ fn keys_are_found(rt: HostRuntime) -> Result<(), Fail> {
 #[test]
 fn dictionary_is_built_event_by_event(rt: HostRuntime) -> Result<(), Fail> {
     let alloc = rt.alloc();
-    let held = build_dictionary(alloc, Dictionary::new(alloc), "li5ab;k(i5a;i6;)aA;")?;
+    let held = build_dictionary(Dictionary::new(alloc), "li5ab;k(i5a;i6;)aA;")?;
     assert_eq!(rt; held.len(), 2);
     let items = vec![in alloc;
         item_of(alloc, 5, key_ref("a"), 1)?,
@@ -205,7 +201,7 @@ fn dictionary_is_built_event_by_event(rt: HostRuntime) -> Result<(), Fail> {
     assert!(rt; find_entry(&held, key_ref("a")) == Some(&ListEntry::from(inner)));
 
     // A key that is there keeps its place, and takes the new member with its parameters.
-    let dictionary = build_dictionary(alloc, held, "mi5;li6A;li6;")?;
+    let dictionary = build_dictionary(held, "mi5;li6A;li6;")?;
     let plain = ListEntry::from(Item::new(alloc, BareItem::from(6u8)));
     assert_eq!(rt; dictionary.len(), 3);
     assert!(rt; find_entry(&dictionary, key_ref("b")) == Some(&plain));
@@ -219,8 +215,8 @@ fn dictionary_is_built_event_by_event(rt: HostRuntime) -> Result<(), Fail> {
 #[test]
 fn event_out_of_its_place_changes_no_dictionary(rt: HostRuntime) -> Result<(), Fail> {
     let alloc = rt.alloc();
-    let held = build_dictionary(alloc, Dictionary::new(alloc), "mi6;")?;
-    let want = build_dictionary(alloc, held.clone()?, "k(i5b;)a;li5;")?;
+    let held = build_dictionary(Dictionary::new(alloc), "mi6;")?;
+    let want = build_dictionary(held.clone()?, "k(i5b;)a;li5;")?;
     assert_eq!(rt; want.len(), 3);
     let cases = [
         // between the members
@@ -239,7 +235,7 @@ fn event_out_of_its_place_changes_no_dictionary(rt: HostRuntime) -> Result<(), F
     ];
     for letters in cases {
         assert!(rt;
-            build_dictionary(alloc, held.clone()?, letters)? == want,
+            build_dictionary(held.clone()?, letters)? == want,
             "{letters}"
         );
     }

@@ -62,6 +62,8 @@ impl<'a> Eq for StringFromInput<'a> {
 impl<'a> Clone for StringFromInput<'a> {
     ghost is_clone = { λ text copy. copy ≡ text };
 
+    ghost is_infallible = { λ text. IsTrue (is_borrowed_string text) };
+
     fn clone(&self) -> Result<StringFromInput<'a>, AllocError> {
         Ok(match self {
             StringFromInput::Borrowed(text) => StringFromInput::Borrowed(*text),

@@ -11,7 +11,6 @@ use crate::visitor::partial_member::PartialMember;
 use crate::visitor::{Event, Visitor};
 use sfv_base::error::OutOfMemory;
 use sfv_text::key::Key;
-use std::alloc::Global;
 
 // A key, and what is read of its member.
 #[derive(Drop)]
@@ -27,20 +26,18 @@ struct PartialPair {
 /// text, a parameter or the end of an item or a member that it takes, and never at the end. Its answer is the dictionary of the members that are whole.
 #[derive(Drop)]
 pub struct DictionaryBuilder {
-    alloc: Global,
     dictionary: Dictionary,
     // The member that is being read.
     pair: Option<PartialPair>,
 }
 
 impl DictionaryBuilder {
-    /// Returns the builder before any event, with the members of `dictionary`, which builds with memory from `alloc`.
-    /// A further line of the same field is read into the dictionary of the lines before it.
-    pub fn new(alloc: Global, dictionary: Dictionary) -> DictionaryBuilder
+    /// Returns the builder before any event, with the members of `dictionary`, which builds with memory from the
+    /// dictionary's allocator. A further line of the same field is read into the dictionary of the lines before it.
+    pub fn new(dictionary: Dictionary) -> DictionaryBuilder
         ensures { dictionary_place result ≡ between_pairs (dictionary_tree dictionary.entries) }
     {
         DictionaryBuilder {
-            alloc,
             dictionary,
             pair: None,
         }
@@ -55,7 +52,7 @@ impl DictionaryBuilder {
     {
         match event {
             Event::KeyedEntry(key) => {
-                let key = key.to_owned(self.alloc)?;
+                let key = key.to_owned(*self.dictionary.allocator())?;
                 let member = PartialMember::Begun;
                 self.pair = Some(PartialPair { key, member });
                 Ok(())
@@ -90,7 +87,7 @@ impl DictionaryBuilder {
         match self.pair.take() {
             None => self.begin(event),
             Some(PartialPair { key, member }) => {
-                let member = member.step(self.alloc, event)?;
+                let member = member.step(*self.dictionary.allocator(), event)?;
                 self.settle(key, member)
             }
         }

@@ -10,7 +10,6 @@ use crate::parsed::List;
 use crate::visitor::partial_member::PartialMember;
 use crate::visitor::{Event, Visitor};
 use sfv_base::error::OutOfMemory;
-use std::alloc::Global;
 
 /// Builds a list of its events, after the members of a list that it begins with. Of a repeated key the last value
 /// stands, at the place of the first.
@@ -19,23 +18,18 @@ use std::alloc::Global;
 /// parameter or the end of an item or a member that it takes, and never at the end. Its answer is the list of the members that are whole.
 #[derive(Drop)]
 pub struct ListBuilder {
-    alloc: Global,
     list: List,
     // The member that is being read.
     member: Option<PartialMember>,
 }
 
 impl ListBuilder {
-    /// Returns the builder before any event, with the members of `list`, which builds with memory from `alloc`.
-    /// A further line of the same field is read into the list of the lines before it.
-    pub fn new(alloc: Global, list: List) -> ListBuilder
+    /// Returns the builder before any event, with the members of `list`, which builds with memory from the list's
+    /// allocator. A further line of the same field is read into the list of the lines before it.
+    pub fn new(list: List) -> ListBuilder
         ensures { list_place result ≡ between (list_tree list.items) }
     {
-        ListBuilder {
-            alloc,
-            list,
-            member: None,
-        }
+        ListBuilder { list, member: None }
     }
 
     fn begin(&mut self, event: Event<'_>)
@@ -71,7 +65,7 @@ impl ListBuilder {
                 Ok(())
             }
             Some(member) => {
-                let member = member.step(self.alloc, event)?;
+                let member = member.step(*self.list.allocator(), event)?;
                 self.settle(member)
             }
         }
