@@ -2,6 +2,7 @@
 
 ghost use Rattle.std.specs.Prelude.{◌≡◌, Bool, true, IfOk};
 ghost use Rattle.sfv_spec.specs.Values.{rfc9651, boolean, date};
+ghost use Rattle.sfv_base.specs.Numbers.{seconds_of};
 ghost use Rattle.sfv_bare.specs.BareItems.{input_value, read_text, cow_text, edition_of};
 ghost use Rattle.sfv_reading.specs.Reader.{byte};
 ghost use Rattle.sfv_reading.specs.Content.{bytes_at};
@@ -59,7 +60,7 @@ impl<'de> Cursor<'de> {
     #[tactic(auto, using(crate::proofs::Steps::date_steps))]
     fn date(&mut self, version: Version) -> Result<Date, Error>
         requires { NextIs (byte 0x40) true (rest self.old) }
-        ensures { Reads (λ z. date z) self.old.input self.new result (date_at (edition_of version) (rest self.old)) }
+        ensures { Reads (λ d. date (seconds_of d)) self.old.input self.new result (date_at (edition_of version) (rest self.old)) }
     {
         match version {
             Version::Rfc8941 => Err(self.error(ErrorKind::Rfc8941Date)),
@@ -70,7 +71,7 @@ impl<'de> Cursor<'de> {
     /// Takes the sign `@` and the seconds of a date.
     fn seconds(&mut self) -> Result<Date, Error>
         requires { NextIs (byte 0x40) true (rest self.old) }
-        ensures { Reads (λ z. date z) self.old.input self.new result (date_at rfc9651 (rest self.old)) }
+        ensures { Reads (λ d. date (seconds_of d)) self.old.input self.new result (date_at rfc9651 (rest self.old)) }
     {
         let start = self.index;
         self.skip();

@@ -4,6 +4,7 @@ ghost use Rattle.std.specs.Prelude.{◌≡◌, ◌≤◌, ◌<◌, ◌^◌, Bool
 ghost use Rattle.sfv_spec.specs.Texts.{RunOf};
 ghost use Rattle.sfv_spec.specs.Classes.{is_digit};
 ghost use Rattle.sfv_spec.specs.Numbers.{signed as with_sign};
+ghost use Rattle.sfv_base.specs.Numbers.{integer_of};
 ghost use Rattle.sfv_reading.specs.Reader.{byte};
 ghost use Rattle.sfv_reading.specs.Bare.{sign_at, point_at, whole_at, number_at};
 ghost use Rattle.sfv.specs.Cursor.{rest, Reads, NextIs};
@@ -25,7 +26,7 @@ pub(crate) enum Number {
 /// The number of this sign and magnitude.
 fn signed(negative: bool, magnitude: u64) -> Integer
     requires { magnitude < 10 ^ 15 }
-    ensures { result ≡ with_sign negative magnitude }
+    ensures { integer_of result ≡ with_sign negative magnitude }
 {
     let magnitude = magnitude as i64;
     Integer::constant(if negative { -magnitude } else { magnitude })
