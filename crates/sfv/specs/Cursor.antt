@@ -47,7 +47,7 @@ abbrev pub IsErrorOf : {A : Type 0} → List ℕ → Error → Answer A → Type
 IsErrorOf input e answer =
     MatchOption (index_of e) (kind_of e ≡ OutOfMemory) (λ index. (located answer ≡ Err (kind_of e, drop index input)) × (index ≤ length input))
 
--- What a reading returned, seen by view, is what the reader gives, and the cursor stands behind it.
+-- What a reading returned, seen by view, is what the reader gives, and the cursor stands after it.
 abbrev pub Reads : {X Y : Type 0} → (X → Y) → Cursor → Cursor → Result X Error → Reader Y → Type 0
 Reads view before after (Ok x) reader = (reader (rest before) ≡ Ok (view x, rest after)) × (kept after ≡ kept before)
 Reads view before after (Err e) reader = IsFaultOf (input before) e (reader (rest before))

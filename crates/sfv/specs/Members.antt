@@ -6,15 +6,15 @@ use Rattle.sfv_reading.specs.Reader.{Reader, give}
 use Rattle.sfv_reading.specs.Members.{entry_at, keyed_at, item_delimited}
 use Rattle.sfv_reading.specs.Fields.{member_delimited}
 
--- behind an item of an inner list: whether another one follows, and not the closing parenthesis
+-- after an item of an inner list: whether another one follows, and not the closing parenthesis
 unfoldable pub item_delimiter_at : Reader Bool
 item_delimiter_at = item_delimited (give false) (give true)
 
--- behind a member: whether another one follows a comma, and not the end
+-- after a member: whether another one follows a comma, and not the end
 unfoldable pub member_delimiter_at : Reader Bool
 member_delimiter_at = member_delimited (give false) (give true)
 
--- the events of a member behind the one that begins it
+-- the events of a member after the one that begins it
 abbrev pub behind_begin : RawMember → List TreeEvent
 behind_begin (item i) = item_events i
 behind_begin (inner_list l) = flat_map inner_item_events l.items ++ inner_list_end ∷ parameters_events l.parameters

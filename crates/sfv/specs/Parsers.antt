@@ -45,17 +45,17 @@ pub record IsFaultOfReader (edition : Edition) (kind : FieldKind) (t : List ℕ)
 abbrev pub IsReaderFault : Edition → FieldKind → List ℕ → Error → Type 0
 IsReaderFault edition kind t e = (e ≡ out_of_memory) ⊎ IsFaultOfReader edition kind t e
 
--- the text is accepted, and the answer is the visitor's behind all events of its tree
+-- the text is accepted, and the answer is the visitor's after all events of its tree
 abbrev pub IsAnswerOf : {S O : Type 0} → (S → TreeEvent → S → Type 0) → (S → O → Type 0) → Edition → FieldKind → List ℕ → S → O → Type 0
 IsAnswerOf takes finishes edition kind t from out = (raw : RawField kind) × IsFieldText edition kind raw t × IsVisited takes finishes from (events kind raw) out
 
--- an error of the reading is what `parse` answers, and what stands behind an item is looked at behind the visitor's answer
+-- an error of the reading is what `parse` answers, and what stands after an item is looked at after the visitor's answer
 abbrev pub IsSyntaxOf : {S O E : Type 0} → (S → TreeEvent → S → Type 0) → (S → O → Type 0) → Edition → FieldKind → List ℕ → S → ParseError E → Type 0
 IsSyntaxOf takes finishes edition kind t from (Syntax e) = IsParseError edition kind t e × IsReaderFault edition kind t e × IsFinishedFirst takes finishes edition kind t from e
 IsSyntaxOf takes finishes edition kind t from (Visitor fault) = ⊤
 
--- A refusal of the visitor comes on an accepted text behind exactly the events before it; on a text that isn't accepted, and
--- for an item on every text, behind those of some field.
+-- A refusal of the visitor comes on an accepted text after exactly the events before it; on a text that isn't accepted, and
+-- for an item on every text, after those of some field.
 abbrev pub IsVisitorErrorOf : {S E : Type 0} → (S → TreeEvent → S → Type 0) → (S → TreeEvent → E → Type 0) → (S → E → Type 0) → Edition → FieldKind → List ℕ → S → ParseError E → Type 0
 IsVisitorErrorOf takes fails finish_fails edition kind t from (Syntax e) = ⊤
 IsVisitorErrorOf takes fails finish_fails edition kind t from (Visitor fault) =

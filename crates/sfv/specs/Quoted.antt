@@ -1,4 +1,4 @@
--- What the code reads behind the opening quotes of strings and display strings. A flag says which: true is a display
+-- What the code reads after the opening quotes of strings and display strings. A flag says which: true is a display
 -- string.
 use Rattle.std.specs.Prelude.{◌≡◌, ℕ, ◌<◌, Bool, true, false, not, ◌==◌, List, [], ◌∷◌, ◌++◌, length, Result, Ok, Err, IsTrue, string_bytes}
 use Rattle.std.specs.declared.alloc.Global.{Global}
@@ -34,7 +34,7 @@ stop_of true false = UnterminatedDisplayString
 stop_of false true = InvalidStringCharacter
 stop_of false false = UnterminatedString
 
--- what is read from a byte of the text on, and behind the mark of an escape
+-- what is read from a byte of the text on, and after the mark of an escape
 abbrev pub inside : Bool → Reader (List ℕ)
 inside true = pieces_from outside
 inside false = string_from false
@@ -55,7 +55,7 @@ is_plain (quoted.Unescaped v) = false
 abbrev pub HasNoMark : Bool → Cursor → Cursor → Type 0
 HasNoMark display before after = (s : List ℕ) × (rest before ≡ s ++ rest after) × RunOf (λ c. not (c == mark_of display)) s
 
--- the byte was taken that an escape stands for, behind its mark
+-- the byte was taken that an escape stands for, after its mark
 abbrev pub ReadsEscape : Bool → Cursor → Cursor → Result ℕ Error → Type 0
 ReadsEscape display before after (Ok c) =
     (behind_mark display (rest before) ≡ behind_bytes (c ∷ []) (inside display (rest after))) × (length (rest after) < length (rest before)) × (kept after ≡ kept before)
@@ -68,7 +68,7 @@ ReadsDigit before after (Ok c) = (rest before ≡ c ∷ rest after) × IsTrue (i
 ReadsDigit before after (Err e) =
     IsFaultOf (input before) e (pieces_from percent (rest before)) × ((high : ℕ) → IsFaultOf (input before) e (pieces_from (digit high) (rest before)))
 
--- The reader gives this text, and the rest behind it.
+-- The reader gives this text, and the rest after it.
 abbrev pub GivesText : List ℕ → Result (std_string.String Global) Error → List ℕ → Answer (List ℕ) → Type 0
 GivesText input (Ok text) rest answer = answer ≡ Ok (string_bytes text, rest)
 GivesText input (Err e) rest answer = IsFaultOf input e answer

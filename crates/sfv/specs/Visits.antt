@@ -33,18 +33,18 @@ abbrev pub IsOfVisitor : {E : Type 0} → (E → Type 0) → ParseError E → Ty
 IsOfVisitor is (Syntax error) = ⊥
 IsOfVisitor is (Visitor fault) = is fault
 
--- Where a field of this type stands at the beginning, an error with an index is answered only behind the visitor's answer.
+-- Where a field of this type stands at the beginning, an error with an index is answered only after the visitor's answer.
 abbrev pub IsFinishedFirst : {S O : Type 0} → (S → TreeEvent → S → Type 0) → (S → O → Type 0) → Edition → FieldKind → List ℕ → S → Error → Type 0
 IsFinishedFirst {S} {O} takes finishes edition kind t from e =
     (raw : RawField kind) (q : List ℕ) → whole_field_at edition kind t ≡ Ok (raw, q) → MatchOption (index_of e) ⊤ (λ index. (s : S) × (out : O) × RunsTo takes from (events kind raw) s × finishes s out)
 
--- The visitor is asked for its answer behind an item whatever follows, and behind members at the end alone.
+-- The visitor is asked for its answer after an item whatever follows, and after members at the end alone.
 abbrev pub IsAskedThere : FieldKind → List ℕ → Type 0
 IsAskedThere item_field q = ⊤
 IsAskedThere list_field q = q ≡ []
 IsAskedThere dictionary_field q = q ≡ []
 
--- The same of a whole field, behind which the visitor gives its answer, or fails to.
+-- The same of a whole field, after which the visitor gives its answer, or fails to.
 abbrev pub VisitsField : {S O E : Type 0} → (S → TreeEvent → S → Type 0) → (S → TreeEvent → E → Type 0) → (S → O → Type 0) → (S → E → Type 0) → Edition → (kind : FieldKind) → List ℕ → S → Result O (ParseError E) → Type 0
 VisitsField takes fails finishes finish_fails edition kind t from (Ok out) = (raw : RawField kind) × (read_field edition kind t ≡ Ok raw) × IsVisited takes finishes from (events kind raw) out
 VisitsField takes fails finishes finish_fails edition kind t from (Err (Syntax e)) =

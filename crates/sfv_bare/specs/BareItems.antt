@@ -1,5 +1,5 @@
 -- The values of bare items, whatever owns their texts.
-use Rattle.std.specs.Prelude.{◌≡◌, ⊤, ℕ, List, Bool, true, false, Option, MatchOption, string_bytes, codes}
+use Rattle.std.specs.Prelude.{◌≡◌, ⊤, ℕ, ℤ, List, Bool, true, false, Option, MatchOption, string_bytes, codes}
 use Rattle.std.specs.Borrow.{Bor}
 use Rattle.std.specs.declared.alloc.Global.{Global}
 use Rattle.std.specs.declared.vec.Vec.{Vec}
@@ -8,6 +8,8 @@ use Rattle.std.specs.declared.borrow.CowStr.{CowStr}
 use Rattle.std.specs.declared.borrow.CowStr.TheVariants as cow
 use Rattle.sfv_spec.specs.Values.{Edition, rfc8941, rfc9651, BareValue}
 use Rattle.sfv_spec.specs.Values as values
+use Rattle.sfv_base.specs.Numbers.{integer_of, thousandths_of, seconds_of}
+use Rattle.sfv_base.specs.declared.integer.Integer.{Integer}
 use Rattle.sfv_text.specs.TokenText.{TokenRef, token_text}
 use Rattle.sfv_text.specs.StringText.{StringRef, string_text}
 use Rattle.sfv_bare.specs.declared.bare.GenericBareItem.{GenericBareItem}
@@ -21,14 +23,18 @@ use Rattle.sfv_bare.specs.declared.bare.Version.TheVariants as version
 abbrev pub value_by :
     {S B T D : Type 0} → (S → List ℕ) → (B → List ℕ) → (T → List ℕ) → (D → List ℕ)
     → GenericBareItem S B T D → BareValue
-value_by s b t d (bare.Decimal z) = values.decimal z
-value_by s b t d (bare.Integer z) = values.integer z
+value_by s b t d (bare.Decimal z) = values.decimal (thousandths_of z)
+value_by s b t d (bare.Integer z) = values.integer (integer_of z)
 value_by s b t d (bare.String x) = values.string (s x)
 value_by s b t d (bare.ByteSequence x) = values.byte_sequence (b x)
 value_by s b t d (bare.Boolean x) = values.boolean x
 value_by s b t d (bare.Token x) = values.token (t x)
-value_by s b t d (bare.Date z) = values.date z
+value_by s b t d (bare.Date z) = values.date (seconds_of z)
 value_by s b t d (bare.DisplayString x) = values.display_string (d x)
+
+-- the integer of this number, as a bare item
+abbrev pub IsInteger : {S B T D : Type 0} → ℤ → GenericBareItem S B T D → Type 0
+IsInteger z item = (n : Integer) × (item ≡ bare.Integer n) × (integer_of n ≡ z)
 
 -- the value of a bare item that owns its text
 abbrev pub bare_value : GenericBareItem (List ℕ) (Vec ℕ Global) (List ℕ) (std_string.String Global) → BareValue

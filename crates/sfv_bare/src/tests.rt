@@ -160,10 +160,10 @@ fn texts_of_bare_items_are_seen(rt: HostRuntime) -> Result<(), Fail> {
 }
 
 // Whether the item, its copies and what it lends are equal.
-fn equals_its_copies(item: &RefBareItem<'_>, alloc: Global) -> Result<bool, Fail> {
+fn equals_its_copies(item: RefBareItem<'_>, alloc: Global) -> Result<bool, Fail> {
     let owned = item.try_to_owned(alloc)?;
     let copy = owned.clone()?;
-    Ok(owned.as_ref_item() == *item && copy == owned && item.as_ref_item() == *item)
+    Ok(owned.as_ref_item() == item && copy == owned && item.as_ref_item() == item)
 }
 
 #[test]
@@ -172,14 +172,14 @@ fn bare_items_are_copied(rt: HostRuntime) -> Result<(), Fail> {
     let half = Decimal::from_integer_scaled_1000(integer(500));
     let first = Date::from_unix_seconds(integer(1));
     let (string, token) = (string_ref("s"), token_ref("t"));
-    assert!(rt; equals_its_copies(&RefBareItem::from(half), alloc)?);
-    assert!(rt; equals_its_copies(&RefBareItem::from(7u8), alloc)?);
-    assert!(rt; equals_its_copies(&RefBareItem::from(string), alloc)?);
-    assert!(rt; equals_its_copies(&RefBareItem::from(b"b".as_slice()), alloc)?);
-    assert!(rt; equals_its_copies(&RefBareItem::from(true), alloc)?);
-    assert!(rt; equals_its_copies(&RefBareItem::from(token), alloc)?);
-    assert!(rt; equals_its_copies(&RefBareItem::from(first), alloc)?);
-    assert!(rt; equals_its_copies(&GenericBareItem::DisplayString("d"), alloc)?);
+    assert!(rt; equals_its_copies(RefBareItem::from(half), alloc)?);
+    assert!(rt; equals_its_copies(RefBareItem::from(7u8), alloc)?);
+    assert!(rt; equals_its_copies(RefBareItem::from(string), alloc)?);
+    assert!(rt; equals_its_copies(RefBareItem::from(b"b".as_slice()), alloc)?);
+    assert!(rt; equals_its_copies(RefBareItem::from(true), alloc)?);
+    assert!(rt; equals_its_copies(RefBareItem::from(token), alloc)?);
+    assert!(rt; equals_its_copies(RefBareItem::from(first), alloc)?);
+    assert!(rt; equals_its_copies(GenericBareItem::DisplayString("d"), alloc)?);
     assert!(rt; RefBareItem::from(7u8) != RefBareItem::from(true));
     assert!(rt; BareItem::from(7u8) != BareItem::from(8u8));
     Ok(())

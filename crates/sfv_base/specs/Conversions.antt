@@ -18,9 +18,9 @@ abbrev pub IsWhole : ℤ → Type 0
 IsWhole z = nat_abs z < 10 ^ 12
 
 -- a decimal is held in thousandths
-abbrev pub thousandths_of : ℤ → ℤ
-thousandths_of z = z *ℤ pos 1000
+abbrev pub in_thousandths : ℤ → ℤ
+in_thousandths z = z *ℤ pos 1000
 
--- the value exactly if it fits, and else that it is out of range
-abbrev pub GivesIf : {A : Type 0} → Type 0 → A → Result A Error → Type 0
-GivesIf fits value r = MatchResult r (λ x. (x ≡ value) × fits) (λ e. (e ≡ error_of OutOfRange None) × ¬ fits)
+-- a value of which this holds exactly if the number fits, and else that it is out of range
+abbrev pub GivesIf : {A : Type 0} → Type 0 → (A → Type 0) → Result A Error → Type 0
+GivesIf fits Is r = MatchResult r (λ x. Is x × fits) (λ e. (e ≡ error_of OutOfRange None) × ¬ fits)

@@ -3,28 +3,18 @@
 ghost use Rattle.std.specs.Prelude.{◌≡◌, Some, pos};
 ghost use Rattle.sfv_spec.specs.Values.{date as date_value};
 ghost use Rattle.sfv_spec.specs.Canonical.{bare_text};
+ghost use Rattle.sfv_base.specs.Numbers.{integer_of, seconds_of};
 
 use crate::integer::Integer;
 use std::fmt;
-use std::marker::Model;
 
 /// A point in time, in whole seconds from the Unix epoch (RFC 9651, section 3.3.7). RFC 8941 has none.
 /// `Default` is the epoch, comparisons and `Hash` go by the seconds, and `Display` prints the canonical text.
 ///
-/// A contract sees it as its seconds.
+/// A contract speaks of its seconds as `seconds_of`.
 #[derive(Clone, Copy, Debug, PartialEq, Eq, PartialOrd, Ord, Hash)]
 pub struct Date {
     seconds: Integer,
-}
-
-impl Model for Date {
-    ghost use Rattle.std.specs.Prelude.{ℤ};
-
-    ghost Value = { ℤ };
-
-    ghost view = { λ d. d.seconds };
-
-    ghost inverse = { λ z. record { seconds = z } };
 }
 
 impl Date {
@@ -45,21 +35,21 @@ impl Date {
 
     /// Returns the seconds from the Unix epoch.
     pub fn unix_seconds(&self) -> Integer
-        ensures { result ≡ self.now }
+        ensures { integer_of result ≡ seconds_of self.now }
     {
         self.seconds
     }
 
     /// Returns the date of so many seconds from the Unix epoch.
     pub fn from_unix_seconds(v: Integer) -> Date
-        ensures { result ≡ v }
+        ensures { seconds_of result ≡ integer_of v }
     {
         Date { seconds: v }
     }
 }
 
 impl Default for Date {
-    ghost is_default = { λ d. d ≡ pos 0 };
+    ghost is_default = { λ d. seconds_of d ≡ pos 0 };
 
     fn default() -> Date {
         Date::UNIX_EPOCH
@@ -67,7 +57,7 @@ impl Default for Date {
 }
 
 impl fmt::Display for Date {
-    ghost output = { λ d. Some (bare_text (date_value d)) };
+    ghost output = { λ d. Some (bare_text (date_value (seconds_of d))) };
 
     fn fmt<W: fmt::Write>(&self, f: &mut fmt::Formatter<W>) -> fmt::Result {
         let seconds = self.seconds;

@@ -4,12 +4,12 @@ ghost use Rattle.std.specs.Prelude.{◌≡◌, Some, pos, nat_abs};
 ghost use Rattle.sfv_spec.specs.Numbers.{minus_text, is_negative};
 ghost use Rattle.sfv_spec.specs.Values.{decimal as decimal_value};
 ghost use Rattle.sfv_spec.specs.Canonical.{bare_text};
-ghost use Rattle.sfv_base.specs.Conversions.{IsWhole, thousandths_of, GivesIf};
+ghost use Rattle.sfv_base.specs.Numbers.{integer_of, thousandths_of};
+ghost use Rattle.sfv_base.specs.Conversions.{IsWhole, in_thousandths, GivesIf};
 
 use crate::error::Error;
 use crate::integer::Integer;
 use std::fmt;
-use std::marker::Model;
 
 /// A number of at most twelve digits before its point and three after it (RFC 9651, section 3.3.2).
 ///
@@ -17,20 +17,10 @@ use std::marker::Model;
 /// `ErrorKind::OutOfRange`, exactly if the number has more than twelve digits.
 /// `Default` is zero, comparisons and `Hash` go by the number, and `Display` prints its canonical text.
 ///
-/// A contract sees it as its thousandths.
+/// A contract speaks of its thousandths as `thousandths_of`.
 #[derive(Clone, Copy, Debug, PartialEq, Eq, PartialOrd, Ord, Hash)]
 pub struct Decimal {
     thousandths: Integer,
-}
-
-impl Model for Decimal {
-    ghost use Rattle.std.specs.Prelude.{ℤ};
-
-    ghost Value = { ℤ };
-
-    ghost view = { λ d. d.thousandths };
-
-    ghost inverse = { λ z. record { thousandths = z } };
 }
 
 impl Decimal {
@@ -51,14 +41,14 @@ impl Decimal {
 
     /// Returns the number in thousandths.
     pub fn as_integer_scaled_1000(&self) -> Integer
-        ensures { result ≡ self.now }
+        ensures { integer_of result ≡ thousandths_of self.now }
     {
         self.thousandths
     }
 
     /// Returns the decimal of so many thousandths.
     pub fn from_integer_scaled_1000(v: Integer) -> Decimal
-        ensures { result ≡ v }
+        ensures { thousandths_of result ≡ integer_of v }
     {
         Decimal { thousandths: v }
     }
@@ -66,7 +56,7 @@ impl Decimal {
     // Returns the decimal of a whole number of at most twelve digits.
     fn whole(v: i64) -> Decimal
         requires { IsWhole v }
-        ensures { result ≡ thousandths_of v }
+        ensures { thousandths_of result ≡ in_thousandths v }
     {
         Decimal {
             thousandths: Integer::from_validated_i64(v * 1000),
@@ -75,7 +65,7 @@ impl Decimal {
 
     // Returns what is printed before the digits.
     fn sign(&self) -> &'static str
-        ensures { result.now ≡ minus_text (is_negative self.now) }
+        ensures { result.now ≡ minus_text (is_negative (thousandths_of self.now)) }
     {
         if self.thousandths < Integer::ZERO {
             "-"
@@ -86,14 +76,14 @@ impl Decimal {
 
     // Returns the thousandths without their sign.
     fn magnitude(&self) -> u64
-        ensures { result ≡ nat_abs self.now }
+        ensures { result ≡ nat_abs (thousandths_of self.now) }
     {
         i64::from(self.thousandths).unsigned_abs()
     }
 }
 
 impl Default for Decimal {
-    ghost is_default = { λ d. d ≡ pos 0 };
+    ghost is_default = { λ d. thousandths_of d ≡ pos 0 };
 
     fn default() -> Decimal {
         Decimal::ZERO
@@ -101,7 +91,7 @@ impl Default for Decimal {
 }
 
 impl fmt::Display for Decimal {
-    ghost output = { λ d. Some (bare_text (decimal_value d)) };
+    ghost output = { λ d. Some (bare_text (decimal_value (thousandths_of d))) };
 
     fn fmt<W: fmt::Write>(&self, f: &mut fmt::Formatter<W>) -> fmt::Result {
         let sign = self.sign();
@@ -122,7 +112,7 @@ impl fmt::Display for Decimal {
 }
 
 impl From<i8> for Decimal {
-    ghost from_gives = { λ v d. d ≡ thousandths_of v };
+    ghost from_gives = { λ v d. thousandths_of d ≡ in_thousandths v };
 
     fn from(v: i8) -> Decimal {
         Decimal::whole(i64::from(v))
@@ -130,7 +120,7 @@ impl From<i8> for Decimal {
 }
 
 impl From<i16> for Decimal {
-    ghost from_gives = { λ v d. d ≡ thousandths_of v };
+    ghost from_gives = { λ v d. thousandths_of d ≡ in_thousandths v };
 
     fn from(v: i16) -> Decimal {
         Decimal::whole(i64::from(v))
@@ -138,7 +128,7 @@ impl From<i16> for Decimal {
 }
 
 impl From<i32> for Decimal {
-    ghost from_gives = { λ v d. d ≡ thousandths_of v };
+    ghost from_gives = { λ v d. thousandths_of d ≡ in_thousandths v };
 
     fn from(v: i32) -> Decimal {
         Decimal::whole(i64::from(v))
@@ -148,7 +138,7 @@ impl From<i32> for Decimal {
 impl TryFrom<i64> for Decimal {
     type Error = Error;
 
-    ghost try_from_gives = { λ v r. GivesIf (IsWhole v) (thousandths_of v) r };
+    ghost try_from_gives = { λ v r. GivesIf (IsWhole v) (λ d. thousandths_of d ≡ in_thousandths v) r };
 
     fn try_from(v: i64) -> Result<Decimal, Error> {
         Decimal::try_from(Integer::try_from(v)?)
@@ -158,7 +148,7 @@ impl TryFrom<i64> for Decimal {
 impl TryFrom<i128> for Decimal {
     type Error = Error;
 
-    ghost try_from_gives = { λ v r. GivesIf (IsWhole v) (thousandths_of v) r };
+    ghost try_from_gives = { λ v r. GivesIf (IsWhole v) (λ d. thousandths_of d ≡ in_thousandths v) r };
 
     fn try_from(v: i128) -> Result<Decimal, Error> {
         Decimal::try_from(Integer::try_from(v)?)
@@ -168,7 +158,7 @@ impl TryFrom<i128> for Decimal {
 impl TryFrom<isize> for Decimal {
     type Error = Error;
 
-    ghost try_from_gives = { λ v r. GivesIf (IsWhole v) (thousandths_of v) r };
+    ghost try_from_gives = { λ v r. GivesIf (IsWhole v) (λ d. thousandths_of d ≡ in_thousandths v) r };
 
     fn try_from(v: isize) -> Result<Decimal, Error> {
         Decimal::try_from(Integer::try_from(v)?)
@@ -178,7 +168,7 @@ impl TryFrom<isize> for Decimal {
 impl TryFrom<u64> for Decimal {
     type Error = Error;
 
-    ghost try_from_gives = { λ v r. GivesIf (IsWhole (pos v)) (thousandths_of (pos v)) r };
+    ghost try_from_gives = { λ v r. GivesIf (IsWhole (pos v)) (λ d. thousandths_of d ≡ in_thousandths (pos v)) r };
 
     fn try_from(v: u64) -> Result<Decimal, Error> {
         Decimal::try_from(Integer::try_from(v)?)
@@ -188,7 +178,7 @@ impl TryFrom<u64> for Decimal {
 impl TryFrom<u128> for Decimal {
     type Error = Error;
 
-    ghost try_from_gives = { λ v r. GivesIf (IsWhole (pos v)) (thousandths_of (pos v)) r };
+    ghost try_from_gives = { λ v r. GivesIf (IsWhole (pos v)) (λ d. thousandths_of d ≡ in_thousandths (pos v)) r };
 
     fn try_from(v: u128) -> Result<Decimal, Error> {
         Decimal::try_from(Integer::try_from(v)?)
@@ -198,7 +188,7 @@ impl TryFrom<u128> for Decimal {
 impl TryFrom<usize> for Decimal {
     type Error = Error;
 
-    ghost try_from_gives = { λ v r. GivesIf (IsWhole (pos v)) (thousandths_of (pos v)) r };
+    ghost try_from_gives = { λ v r. GivesIf (IsWhole (pos v)) (λ d. thousandths_of d ≡ in_thousandths (pos v)) r };
 
     fn try_from(v: usize) -> Result<Decimal, Error> {
         Decimal::try_from(Integer::try_from(v)?)
@@ -206,7 +196,7 @@ impl TryFrom<usize> for Decimal {
 }
 
 impl From<u8> for Decimal {
-    ghost from_gives = { λ v d. d ≡ thousandths_of (pos v) };
+    ghost from_gives = { λ v d. thousandths_of d ≡ in_thousandths (pos v) };
 
     fn from(v: u8) -> Decimal {
         Decimal::whole(i64::from(v))
@@ -214,7 +204,7 @@ impl From<u8> for Decimal {
 }
 
 impl From<u16> for Decimal {
-    ghost from_gives = { λ v d. d ≡ thousandths_of (pos v) };
+    ghost from_gives = { λ v d. thousandths_of d ≡ in_thousandths (pos v) };
 
     fn from(v: u16) -> Decimal {
         Decimal::whole(i64::from(v))
@@ -222,7 +212,7 @@ impl From<u16> for Decimal {
 }
 
 impl From<u32> for Decimal {
-    ghost from_gives = { λ v d. d ≡ thousandths_of (pos v) };
+    ghost from_gives = { λ v d. thousandths_of d ≡ in_thousandths (pos v) };
 
     fn from(v: u32) -> Decimal {
         Decimal::whole(i64::from(v))
@@ -232,7 +222,7 @@ impl From<u32> for Decimal {
 impl TryFrom<Integer> for Decimal {
     type Error = Error;
 
-    ghost try_from_gives = { λ n r. GivesIf (IsWhole n) (thousandths_of n) r };
+    ghost try_from_gives = { λ n r. GivesIf (IsWhole (integer_of n)) (λ d. thousandths_of d ≡ in_thousandths (integer_of n)) r };
 
     fn try_from(n: Integer) -> Result<Decimal, Error> {
         let v = i64::from(n);

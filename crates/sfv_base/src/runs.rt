@@ -50,7 +50,7 @@ impl RunClass for PlainInDisplayString {
     }
 }
 
-/// The bytes that may stand in a token behind its first.
+/// The bytes that may stand in a token after its first.
 pub struct InnerToken;
 
 impl RunClass for InnerToken {
@@ -64,7 +64,7 @@ impl RunClass for InnerToken {
     }
 }
 
-/// The bytes that may stand in a key behind its first.
+/// The bytes that may stand in a key after its first.
 pub struct InnerKey;
 
 impl RunClass for InnerKey {

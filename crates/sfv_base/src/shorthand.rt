@@ -2,13 +2,14 @@
 
 ghost use Rattle.std.specs.Prelude.{◌≡◌};
 ghost use Rattle.sfv_spec.specs.Values.{IsInRange};
+ghost use Rattle.sfv_base.specs.Numbers.{integer_of};
 
 use crate::integer::Integer;
 
 /// Returns the integer of this number, which is from -999999999999999 to 999999999999999: `Integer::constant` in short.
 pub fn integer(v: i64) -> Integer
     requires { IsInRange v }
-    ensures { result ≡ v }
+    ensures { integer_of result ≡ v }
 {
     Integer::constant(v)
 }

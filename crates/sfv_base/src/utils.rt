@@ -54,7 +54,7 @@ pub fn is_allowed_string_char(c: u8) -> bool
     row(c) & STRING != 0
 }
 
-/// Whether a string writes the byte behind a backslash.
+/// Whether a string writes the byte after a backslash.
 #[inline(always)]
 pub fn is_escaped_in_string(c: u8) -> bool
     ensures { result ≡ is_escaped_in_string c }
@@ -70,7 +70,7 @@ pub fn is_allowed_start_token_char(c: u8) -> bool
     row(c) & TOKEN_START != 0
 }
 
-/// Whether the byte may stand in a token behind its first.
+/// Whether the byte may stand in a token after its first.
 #[inline(always)]
 pub fn is_allowed_inner_token_char(c: u8) -> bool
     ensures { result ≡ is_token_inner c }
@@ -86,7 +86,7 @@ pub fn is_allowed_start_key_char(c: u8) -> bool
     row(c) & KEY_START != 0
 }
 
-/// Whether the byte may stand in a key behind its first.
+/// Whether the byte may stand in a key after its first.
 #[inline(always)]
 pub fn is_allowed_inner_key_char(c: u8) -> bool
     ensures { result ≡ is_key_inner c }

@@ -23,7 +23,7 @@ joined_behind s x y (z ∷ zs) =
     ∙ sym (append_assoc (y ++ s) (joined s (z ∷ zs) ++ s) x)
     ∙ ap (λ (t : List ℕ). t ++ x) (sym (append_assoc (y ++ s) (joined s (z ∷ zs)) s))
 
--- one more text, behind the separator unless it is the first
+-- one more text, after the separator unless it is the first
 joined_push : (s x : List ℕ) (ys : List (List ℕ)) → joined s (ys ++ x ∷ []) ≡ (joined s ys ++ cond (is_none ys) [] s) ++ x
 joined_push s x [] = refl
 joined_push s x (y ∷ ys) = joined_behind s x y ys

@@ -19,7 +19,7 @@ flat_map_append : (f : ℕ → List ℕ) (xs ys : List ℕ) → flat_map f (xs +
 flat_map_append f [] ys = refl
 flat_map_append f (x ∷ xs) ys = ap (λ (l : List ℕ). f x ++ l) (flat_map_append f xs ys) ∙ sym (append_assoc (f x) (flat_map f xs) (flat_map f ys))
 
--- behind the text that stood there before, the bytes are written up to the rest of them
+-- after the text that stood there before, the bytes are written up to the rest of them
 pub record IsWrittenUpTo (piece : ℕ → List ℕ) (before bytes rest output : List ℕ) : Type 0 where
   pub front : List ℕ
   pub whole : bytes ≡ front ++ rest

@@ -5,7 +5,7 @@ use Rattle.std.specs.declared.string.String.{String}
 use Rattle.sfv_spec.specs.Values.{RawParameters}
 use Rattle.sfv_tree.specs.Trees.{OwnedBareItem, pairs_tree}
 
--- something may stand behind the old text
+-- something may stand after the old text
 abbrev pub Extends : List ℕ → List ℕ → Type 0
 Extends old new = (more : List ℕ) × (new ≡ old ++ more)
 

@@ -1,21 +1,22 @@
 //! Callers of the library in another crate: what their contracts promise follows from its contracts alone.
 
-ghost use Rattle.std.specs.Prelude.{◌≡◌, ◌++◌, ◌∷◌, ◌↔◌, [], ◌⊎◌, OnOk, OnErr, IfOk, IsTrue, string_bytes};
+ghost use Rattle.std.specs.Prelude.{◌≡◌, ◌++◌, ◌∷◌, ◌↔◌, [], ◌⊎◌, pos, OnOk, OnErr, IfOk, IsTrue, string_bytes};
 ghost use Rattle.std.specs.Cmp.Lexicographic.{slice_cmp};
-ghost use Rattle.std.specs.Ordering.{nat_cmp};
+ghost use Rattle.std.specs.Ordering.{nat_cmp, int_cmp};
 ghost use Rattle.sfv_spec.specs.Canonical.{bare_text, item_text};
+ghost use Rattle.sfv_base.specs.Numbers.{integer_of, thousandths_of, seconds_of};
 ghost use Rattle.sfv_bare.specs.BareItems.{bare_value, ref_value, input_value, read_text};
 ghost use Rattle.sfv_text.specs.KeyText.{key_text};
 ghost use Rattle.sfv_tree.specs.Trees.{item_tree, list_tree, dictionary_tree};
-ghost use Rattle.sfv_spec.specs.Values.{rfc9651, list_field, dictionary_field, RawField};
+ghost use Rattle.sfv_spec.specs.Values.{rfc9651, integer, list_field, dictionary_field, RawField};
 ghost use Rattle.sfv_spec.specs.Grammar.{IsFieldText};
 ghost use Rattle.sfv_spec.specs.Ordered.{ordered};
 ghost use Rattle.sfv_spec.specs.Statements.{IsParsedAs};
 
 use sfv::visitor::{DictionaryBuilder, ListBuilder};
 use sfv::{
-    BareItem, BareItemFromInput, Date, Decimal, Dictionary, Integer, Item, ItemSerializer, KeyRef,
-    List, OutOfMemory, ParseError, Parser, RefBareItem, StringFromInput,
+    BareItem, BareItemFromInput, Date, Decimal, Dictionary, Error, Integer, Item, ItemSerializer,
+    KeyRef, List, OutOfMemory, ParseError, Parser, RefBareItem, StringFromInput,
 };
 use std::alloc::{AllocError, Global};
 use std::cmp::Ordering;
@@ -24,18 +25,44 @@ use std::cmp::Ordering;
 /// written before the call that was refused.
 pub fn write_item(
     text: &mut String,
-    value: &RefBareItem<'_>,
+    value: RefBareItem<'_>,
     key: KeyRef<'_>,
-    param: &RefBareItem<'_>,
+    param: RefBareItem<'_>,
 ) -> Result<(), OutOfMemory>
     ensures ok { OnOk result (string_bytes text.new ≡ string_bytes text.old
-        ++ item_text (record { bare = ref_value value.now; parameters = (key_text key.entry, ref_value param.now) ∷ [] })) }
+        ++ item_text (record { bare = ref_value value.entry; parameters = (key_text key.entry, ref_value param.entry) ∷ [] })) }
     ensures err { OnErr result ((string_bytes text.new ≡ string_bytes text.old)
-        ⊎ (string_bytes text.new ≡ string_bytes text.old ++ bare_text (ref_value value.now))) }
+        ⊎ (string_bytes text.new ≡ string_bytes text.old ++ bare_text (ref_value value.entry))) }
 {
     let params = ItemSerializer::with_buffer(text).bare_item(value)?;
     params.parameter(key, param)?.finish();
     Ok(())
+}
+
+/// Writes an item whose parameter has the same value: a value that borrows its text is copied.
+pub fn write_twice(
+    text: &mut String,
+    value: RefBareItem<'_>,
+    key: KeyRef<'_>,
+) -> Result<(), OutOfMemory>
+    ensures { OnOk result (string_bytes text.new ≡ string_bytes text.old
+        ++ item_text (record { bare = ref_value value.entry; parameters = (key_text key.entry, ref_value value.entry) ∷ [] })) }
+{
+    write_item(text, value, key, value)
+}
+
+/// The bare item of a number has its value.
+pub fn item_of_byte(v: u8) -> RefBareItem<'static>
+    ensures { ref_value result ≡ integer (pos v) }
+{
+    RefBareItem::from(v)
+}
+
+/// The bare item of a number has its value, if it has one.
+pub fn item_of_number(v: i64) -> Result<RefBareItem<'static>, Error>
+    ensures { IfOk result (λ item. ref_value item ≡ integer v) }
+{
+    RefBareItem::try_from(v)
 }
 
 /// Writes an item part by part after what stands in the text: its canonical text.
@@ -43,7 +70,7 @@ pub fn write_parts(text: &mut String, item: &Item) -> Result<(), OutOfMemory>
     ensures { OnOk result (string_bytes text.new ≡ string_bytes text.old ++ item_text (item_tree item.now)) }
 {
     let value = item.bare_item.as_ref_item();
-    let params = ItemSerializer::with_buffer(text).bare_item(&value)?;
+    let params = ItemSerializer::with_buffer(text).bare_item(value)?;
     params.parameters(item.params.iter())?.finish();
     Ok(())
 }
@@ -84,10 +111,10 @@ pub fn same(a: &BareItem, b: &BareItem) -> bool
 }
 
 /// Borrowed bare items compare by value.
-pub fn same_borrowed(a: &RefBareItem<'_>, b: &RefBareItem<'_>) -> bool
-    ensures { IsTrue result ↔ (ref_value a.now ≡ ref_value b.now) }
+pub fn same_borrowed(a: RefBareItem<'_>, b: RefBareItem<'_>) -> bool
+    ensures { IsTrue result ↔ (ref_value a.entry ≡ ref_value b.entry) }
 {
-    *a == *b
+    a == b
 }
 
 /// Bare items that were read compare by value, whether a text in them is borrowed or owned.
@@ -120,23 +147,44 @@ pub fn order_of_keys(a: KeyRef<'_>, b: KeyRef<'_>) -> Ordering
 
 /// Numbers compare by their value.
 pub fn same_number(a: Integer, b: Integer) -> bool
-    ensures { IsTrue result ↔ (a ≡ b) }
+    ensures { IsTrue result ↔ (integer_of a ≡ integer_of b) }
 {
     a == b
 }
 
 /// Decimals compare by their thousandths.
 pub fn same_decimal(a: Decimal, b: Decimal) -> bool
-    ensures { IsTrue result ↔ (a ≡ b) }
+    ensures { IsTrue result ↔ (thousandths_of a ≡ thousandths_of b) }
 {
     a == b
 }
 
 /// Dates compare by their seconds.
 pub fn same_date(a: Date, b: Date) -> bool
-    ensures { IsTrue result ↔ (a ≡ b) }
+    ensures { IsTrue result ↔ (seconds_of a ≡ seconds_of b) }
 {
     a == b
+}
+
+/// Numbers are ordered by their value.
+pub fn order_of_numbers(a: Integer, b: Integer) -> Ordering
+    ensures { result ≡ int_cmp (integer_of a) (integer_of b) }
+{
+    a.cmp(&b)
+}
+
+/// Decimals are ordered by their thousandths.
+pub fn order_of_decimals(a: Decimal, b: Decimal) -> Ordering
+    ensures { result ≡ int_cmp (thousandths_of a) (thousandths_of b) }
+{
+    a.cmp(&b)
+}
+
+/// Dates are ordered by their seconds.
+pub fn order_of_dates(a: Date, b: Date) -> Ordering
+    ensures { result ≡ int_cmp (seconds_of a) (seconds_of b) }
+{
+    a.cmp(&b)
 }
 
 /// Reads a further line of a list: its members stand after those of the line before.

@@ -1,4 +1,4 @@
--- The builder of a dictionary: behind all events of a tree each key that it was given or that stands in the tree is there once,
+-- The builder of a dictionary: after all events of a tree each key that it was given or that stands in the tree is there once,
 -- at its first place, with its last member.
 use Rattle.std.proofs.Common.{◌≡◌, ℕ, Bool, true, false, cond, List, [], ◌∷◌, ◌++◌, map, refl, sym, ap, ◌∙◌, append_assoc}
 use Rattle.std.specs.Prelude.{bytes_eq, fold}
@@ -84,7 +84,7 @@ pairs_built ms (m ∷ raw) =
     ∙ pairs_built (ms ++ (m.0, ordered_member m.1) ∷ []) raw
     ∙ ap (λ (qs : List (List ℕ × RawMember)). between_pairs (collapse qs)) (append_assoc ms ((m.0, ordered_member m.1) ∷ []) (ordered_pairs raw))
 
--- behind all events the pairs are entered in turn, each member ordered
+-- after all events the pairs are entered in turn, each member ordered
 pub dictionary_built : (held raw : List (List ℕ × RawMember)) (s last : DictionaryBuilder) → no_repeats (keys held) ≡ true → dictionary_place s ≡ between_pairs held → RunsTo Steps s (events dictionary_field raw) last → dictionary_place last ≡ between_pairs (collapse (held ++ ordered_pairs raw))
 dictionary_built held raw s last distinct here run =
     runs_fold dictionary_place dictionary_step (events dictionary_field raw) s last run

@@ -1,4 +1,4 @@
--- The builder of an item: behind all events of a tree it has the ordered item.
+-- The builder of an item: after all events of a tree it has the ordered item.
 use Rattle.std.proofs.Common.{◌≡◌, ℕ, cond, List, [], ◌∷◌, ◌++◌, refl, sym, ap, ◌∙◌, append_assoc}
 use Rattle.std.specs.Prelude.{bytes_eq}
 use Rattle.std.proofs.lemmas.List.{append-nil}

@@ -1,4 +1,4 @@
--- The builder of a list: behind all events of a tree it has the ordered members behind those that it was given.
+-- The builder of a list: after all events of a tree it has the ordered members after those that it was given.
 use Rattle.std.proofs.Common.{◌≡◌, ℕ, List, [], ◌∷◌, ◌++◌, map, refl, sym, ap, ◌∙◌, append_assoc}
 use Rattle.std.specs.Prelude.{fold}
 use Rattle.std.specs.declared.alloc.Global.{Global}
@@ -44,14 +44,14 @@ members_built ms (m ∷ raw) =
     ∙ members_built (ms ++ ordered_member m ∷ []) raw
     ∙ ap between (append_assoc ms (ordered_member m ∷ []) (map ordered_member raw))
 
--- behind all events the members stand last, each of them ordered
+-- after all events the members stand last, each of them ordered
 pub list_built : (ms raw : List RawMember) (s last : ListBuilder) → list_place s ≡ between ms → RunsTo Steps s (events list_field raw) last → list_place last ≡ between (ms ++ ordered list_field raw)
 list_built ms raw s last here run =
     runs_fold list_place list_step (events list_field raw) s last run
     ∙ ap (λ (p : ListPlace). fold list_step p (events list_field raw)) here
     ∙ members_built ms raw
 
--- what was built behind the members of earlier lines is those, and then the ordered members of the only tree
+-- what was built after the members of earlier lines is those, and then the ordered members of the only tree
 pub built_list_behind : (edition : Edition) (t : List ℕ) (held : List RawMember) (from : ListBuilder) (list : Vec ListEntry Global) → list_place from ≡ between held → IsAnswerOf Steps Ends edition list_field t from list
     → (raw : List RawMember) × IsFieldText edition list_field raw t × ((other : List RawMember) → IsFieldText edition list_field other t → other ≡ raw) × (list_tree list.items ≡ held ++ ordered list_field raw)
 built_list_behind edition t held from list here h =

@@ -1,4 +1,4 @@
--- A member that a builder reads: behind all events of a member it has ended, as the ordered member.
+-- A member that a builder reads: after all events of a member it has ended, as the ordered member.
 use Rattle.std.proofs.Common.{◌≡◌, ℕ, List, [], ◌∷◌, ◌++◌, map, refl, sym, ap, subst, ◌∙◌, append_assoc}
 use Rattle.std.specs.Prelude.{⊤, bytes_eq, fold, flat_map}
 use Rattle.std.proofs.lemmas.List.{append-nil}

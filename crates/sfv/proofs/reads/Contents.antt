@@ -77,7 +77,7 @@ closed_at input start m lt closes none =
       counted = ap (λ k. start + k) (sym (length-take-le m t (omega (arith, lt))));
     }
 
--- where a colon stands behind the runs
+-- where a colon stands after the runs
 bytes_closed : (input : List ℕ) (start n p : ℕ) → Runs (drop start input) n p → n + p < length (drop start input) → get_or (drop start input) (n + p) 0 ≡ colon
     → ¬ (n % 4 ≡ 1) → IsBytesAt input start (decoded_symbols (take n (drop start input))) (start + (n + p))
 bytes_closed input start n p r lt closes lone =

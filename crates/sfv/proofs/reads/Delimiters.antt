@@ -31,7 +31,7 @@ abbrev pub one_if : {A : Type 0} → Reader A → Bool → Reader (Option A)
 one_if one true = one >>= λ v. give (Some v)
 one_if one false = give None
 
--- the first, and those behind it
+-- the first, and those after it
 unfoldable pub first_of : {A : Type 0} → (A → List TreeEvent) → Reader A → Reader (Option A) → Reader (List A)
 first_of parts one next = one >>= λ v. led (parts v) (many parts next >>= λ vs. give (v ∷ vs))
 
@@ -66,7 +66,7 @@ unended_item t r q sp m h = ap located (no_item_here t r q sp m) ∙ on q h
     on [] h = refl
     on (c ∷ q) h = absurd cc
 
--- an item behind its delimiter is the next one
+-- an item after its delimiter is the next one
 pub next_item_is : (edition : Edition) (t : List ℕ) → next_item_at edition t ≡ (item_delimiter_at >>= one_if (inner_item_at edition)) t
 unfolding next_item_at item_delimiter_at bind branch ahead give fail
 next_item_is edition [] = refl
@@ -93,7 +93,7 @@ unfolding inner_items_at ahead fail
 items_none edition [] h = refl
 items_none edition (c ∷ t) h = absurd cc
 
--- behind the spaces before the first item
+-- after the spaces before the first item
 abbrev pub items_behind : Edition → Reader (List RawItem)
 items_behind edition =
     branch (byte right_parenthesis) (λ _. give []) (inner_item_at edition >>= λ i. led (inner_item_events i) (many inner_item_events (next_item_at edition) >>= λ is. give (i ∷ is)))
@@ -117,7 +117,7 @@ pub at_end : (q : List ℕ) → is_some (first q) ≡ false → q ≡ []
 at_end [] h = refl
 at_end (c ∷ q) h = absurd cc
 
--- behind optional whitespace
+-- after optional whitespace
 abbrev at_comma : Reader Bool
 at_comma = ahead any (ahead (byte comma) (back trailing_comma comma_at >>= λ _. give true) (fail trailing_characters_after_member)) (give false)
 
@@ -133,11 +133,11 @@ no_member t s q e h = member_is t s q e ∙ on q h
     on [] h = refl
     on (c ∷ q) h = absurd cc
 
--- a member behind its delimiter, or the end
+-- a member after its delimiter, or the end
 abbrev wanted : {A : Type 0} → Reader A → Reader (Option A)
 wanted one = ahead any (ahead (byte comma) (back trailing_comma comma_at >>= λ _. one >>= λ m. give (Some m)) (fail trailing_characters_after_member)) (give None)
 
--- a member behind its delimiter is the next one
+-- a member after its delimiter is the next one
 pub next_member_is : {A : Type 0} (one : Reader A) (t : List ℕ) → next_at one t ≡ (member_delimiter_at >>= one_if one) t
 unfolding next_at member_delimiter_at bind ahead fail give
 next_member_is {A} one t = let q = span_total is_space_or_tab t in rw q.2 (on q.1)
@@ -195,7 +195,7 @@ ends_there t r e = let q = span_total is_space_or_tab t in on q.1 (sym (member_i
         sym (ap (λ (p : Bool × List ℕ). p.1) same)
     on (c ∷ q) h = at c q (byte comma c) refl h
 
--- behind the comma
+-- after the comma
 abbrev behind_comma : Reader Bool
 behind_comma = back trailing_comma comma_at >>= λ _. give true
 
@@ -211,7 +211,7 @@ no_comma t s q w e h m = ap located (member_is t s q e) ∙ on q h m ∙ ap (λ 
     on [] h m = absurd cc
     on (c ∷ q) h m = rw (m.1.apart c refl) refl
 
--- whether anything stands behind it
+-- whether anything stands after it
 abbrev more_or_end : Reader (Option (Unit {0}))
 more_or_end = ahead any (give (Some tt)) (give None)
 

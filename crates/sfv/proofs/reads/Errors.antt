@@ -30,7 +30,7 @@ fault_bind {A} {B} f g t k r = on (f t)
 pub kept_reads : {A : Type 0} (f : Edition → Reader A) (t : List ℕ) (i j : Parser × Global) → i ≡ j → f (kept_edition j) t ≡ f (kept_edition i) t
 kept_reads f t i j same = ap (λ (k : Parser × Global). f (kept_edition k) t) (sym same)
 
--- a reading of a part, behind which nothing stands
+-- a reading of a part, after which nothing stands
 pub reads_same : {X Y : Type 0} (view : X → Y) (before middle after : Cursor) (r : Result X Error) (f g : Reader Y) → kept middle ≡ kept before → g (rest before) ≡ f (rest middle) → Reads view middle after r f → Reads view before after r g
 reads_same view before middle after (Ok x) f g same eq h = (eq ∙ h.0, h.1 ∙ same)
 reads_same view before middle after (Err e) f g same eq h = rw eq (subst (λ (k : Parser × Global). IsFaultOf (kept_input k) e (f (rest middle))) same h)
@@ -54,7 +54,7 @@ ErrorOf-fault input e a = on e.index
 pub ErrorOf-same : {A : Type 0} (i j : Parser × Global) (e : Error) (f : Edition → Reader A) (t : List ℕ) (a : Answer A) → i ≡ j → a ≡ f (kept_edition j) t → IsErrorOf (kept_input i) e (f (kept_edition i) t) → IsErrorOf (kept_input j) e a
 ErrorOf-same i j e f t a same eq h = rw eq (subst (λ (k : Parser × Global). IsErrorOf (kept_input k) e (f (kept_edition k) t)) same h)
 
--- the whole goes on behind that part
+-- the whole goes on after that part
 pub ErrorOf-part : {A B : Type 0} (i j : Parser × Global) (e : Error) (f : Edition → Reader A) (g : A → Reader B) (t : List ℕ) (a : Answer B) → i ≡ j → a ≡ (f (kept_edition j) >>= g) t → IsErrorOf (kept_input i) e (f (kept_edition i) t) → IsErrorOf (kept_input j) e a
 ErrorOf-part i j e f g t a same eq h = rw eq (on e.index (subst (λ (k : Parser × Global). IsErrorOf (kept_input k) e (f (kept_edition k) t)) same h))
   where

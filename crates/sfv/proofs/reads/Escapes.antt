@@ -71,11 +71,11 @@ at_byte m t r h = h.1 ∙ ap (λ (c : ℕ). c ∷ r) (eqb-true h.0 m h.2)
 pub closed : (d : Bool) (t r : List ℕ) → TakesIf (byte double_quote) true t r → inside d t ≡ Ok ([], r)
 closed d t r h = ap (inside d) (at_byte double_quote t r h) ∙ closes d r
 
--- and the quote stands behind them
+-- and the quote stands after them
 pub all_plain : (d : Bool) (run t p r : List ℕ) → RunOf (plain_of d) run → t ≡ run ++ p → TakesIf (byte double_quote) true p r → inside d t ≡ Ok (run, r)
 all_plain d run t p r each taken quote = begins d run t p p each taken refl ∙ ap (behind_bytes run) (closed d p r quote) ∙ ap (λ (l : List ℕ). Ok (l, r)) (append-nil run)
 
--- the closing quote behind bytes that were read
+-- the closing quote after bytes that were read
 pub closed_behind : (d : Bool) (bytes t r : List ℕ) (whole : Answer (List ℕ)) → behind_bytes bytes (inside d t) ≡ whole → TakesIf (byte double_quote) true t r → whole ≡ Ok (bytes, r)
 closed_behind d bytes t r whole sofar quote = sym sofar ∙ ap (behind_bytes bytes) (closed d t r quote) ∙ ap (λ (l : List ℕ). Ok (l, r)) (append-nil bytes)
 
@@ -84,7 +84,7 @@ closed_behind d bytes t r whole sofar quote = sym sofar ∙ ap (behind_bytes byt
 at_mark : (d : Bool) (t q r : List ℕ) → q ≡ t → TakesIf (byte (mark_of d)) true q r → inside d t ≡ behind_mark d r
 at_mark d t q r same mark = ap (inside d) (sym same ∙ at_byte (mark_of d) q r mark) ∙ opens d r
 
--- behind an escape and the bytes behind it
+-- after an escape and the bytes after it
 pub past_escape : (d : Bool) (bytes run : List ℕ) (c : ℕ) (t q r e n : List ℕ) → q ≡ t → TakesIf (byte (mark_of d)) true q r → behind_mark d r ≡ behind_bytes (c ∷ []) (inside d e) → RunOf (plain_of d) run → e ≡ run ++ n
     → behind_bytes ((bytes ++ c ∷ []) ++ run) (inside d n) ≡ behind_bytes bytes (inside d t)
 past_escape d bytes run c t q r e n same mark escaped each taken =
@@ -102,7 +102,7 @@ behind_located : (bytes : List ℕ) (a : Answer (List ℕ)) (x : ErrorKind × Li
 behind_located bytes (Ok y) x h = absurd cc
 behind_located bytes (Err f) x h = h
 
--- a fault behind bytes that were read
+-- a fault after bytes that were read
 pub behind_fault : (i j : Parser × Global) (e : Error) (bytes : List ℕ) (a whole : Answer (List ℕ)) → i ≡ j → behind_bytes bytes a ≡ whole → IsFaultOf (kept_input i) e a → IsErrorOf (kept_input j) e whole
 behind_fault i j e bytes a whole same eq h = rw (← eq) (on (index_of e) (subst (λ (k : Parser × Global). IsFaultOf (kept_input k) e a) same h))
   where
@@ -215,7 +215,7 @@ pub both_digits : (t r s : List ℕ) (high low : ℕ) → t ≡ high ∷ r → i
     → pieces_from percent t ≡ behind_bytes ((16 * hexadecimal_value high + hexadecimal_value low) ∷ []) (pieces_from outside s)
 both_digits t r s high low e h f l = ap (pieces_from percent) e ∙ first_digit high r h ∙ ap (pieces_from (digit high)) f ∙ second_digit high low s l
 
--- the second digit's fault is one behind the percent sign
+-- the second digit's fault is one after the percent sign
 pub second_fault : (i j : Parser × Global) (e : Error) (t r : List ℕ) (high : ℕ) → i ≡ j → t ≡ high ∷ r → is_lower_hexadecimal high ≡ true → IsFaultOf (kept_input i) e (pieces_from (digit high) r) → IsFaultOf (kept_input j) e (pieces_from percent t)
 second_fault i j e t r high same at h f = subst (λ (k : Parser × Global). IsFaultOf (kept_input k) e (pieces_from percent t)) same (subst (IsFaultOf (kept_input i) e) (sym (ap (pieces_from percent) at ∙ first_digit high r h)) f)
 

@@ -46,7 +46,7 @@ number_is dated b t r q whole s d = bind_complete _ _ t r b s ∙ bind_complete 
 
 pub ruleset number_steps = number_is
 
--- ---- behind the whole part
+-- ---- after the whole part
 
 pub whole_empty : (dated negative : Bool) (whole t : List ℕ) → eqb (length whole) 0 ≡ true → located (whole_at dated negative whole t) ≡ Err (ExpectedDigit, t)
 unfolding whole_at fail
@@ -122,7 +122,7 @@ token_none t m = ap located (branch_past _ _ _ t m)
 pub meets_within : (class : ℕ → Bool) (xs : List ℕ) (i : ℕ) → NextIs class true (drop i xs) → i < length xs
 meets_within class xs i m = let e = ap length m.2 in omega (arith, e, length-drop i xs)
 
--- a byte of the first class stands at i, and so many of the second behind it, in t
+-- a byte of the first class stands at i, and so many of the second after it, in t
 pub record IsTextAt (start inner : ℕ → Bool) (xs : List ℕ) (i len : ℕ) (t : List ℕ) : Type 0 where
   pub head : NextIs start true (drop i xs)
   pub behind : t ≡ drop (i + 1) xs
@@ -306,7 +306,7 @@ pub parameter_none : (edition : Edition) (t r : List ℕ) → TakesIf (byte semi
 unfolding parameter_at give
 parameter_none edition t r m = branch_false _ _ _ t r m
 
--- behind the semicolon and spaces
+-- after the semicolon and spaces
 pub parameter_is : (edition : Edition) (t r s q : List ℕ) → TakesIf (byte semicolon) true t r → span is_space r ≡ Ok (s, q) → parameter_at edition t ≡ (key_at >>= λ key. value_at edition >>= λ v. give (Some (key, v))) q
 unfolding parameter_at
 parameter_is edition t r s q m i = branch_true _ _ _ t r m ∙ bind_complete _ _ r q s i
@@ -322,7 +322,7 @@ pub ruleset parameter_steps = parameter_none
 
 -- ---- items
 
--- what stands behind a bare item
+-- what stands after a bare item
 pub item_behind : Edition → BareValue → Reader RawItem
 item_behind edition bare = led (bare_item bare ∷ []) (parameters_at edition >>= λ ps. give (item_of bare ps))
 

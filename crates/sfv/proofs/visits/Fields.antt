@@ -49,7 +49,7 @@ whole_fault : (edition : Edition) (t s r : List ℕ) (f : Fault) → span is_spa
 unfolding spaced bind
 whole_fault edition t s r f e k = whole_is edition t s r e ∙ ap (λ a. and_then a (λ i. span is_space >>= λ _. give i)) k
 
--- the spaces before and behind an item hand out nothing
+-- the spaces before and after an item hand out nothing
 whole_visited : (edition : Edition) (t s r : List ℕ) → span is_space t ≡ Ok (s, r) → visited (events item_field) (whole_field_at edition item_field t) ≡ visited item_events (item_at edition r)
 whole_visited edition t s r e = on (item_at edition r) refl
   where
@@ -100,7 +100,7 @@ no_item {S} {O} takes finishes edition t s r q from i e raw skipped error whole 
     on None h = tt
     on (Some n) h = absurd (never (item_at edition r) _ _ refl h.0)
 
--- what stands behind an item is looked at behind the answer
+-- what stands after an item is looked at after the answer
 pub finished_first : {S O : Type 0} (takes : S → TreeEvent → S → Type 0) (finishes : S → O → Type 0) (edition : Edition) (t s r q : List ℕ) (item : RawItem) (from to : S) (out : O) (e : Error) → span is_space t ≡ Ok (s, r) → item_at edition r ≡ Ok (item, q) → RunsTo takes from (item_events item) to → finishes to out → IsFinishedFirst takes finishes edition item_field t from e
 finished_first {S} {O} takes finishes edition t s r q item from to out e skipped read run finished raw w whole = on (index_of e)
   where
@@ -118,7 +118,7 @@ item_fails takes fails finishes finish_fails edition k s r from to after (Syntax
     (field_error edition (kept_input k) s r (kept_input k) e skipped h, λ raw q whole. no_item takes finishes edition (kept_input k) s r q from (kept_input k) e raw skipped h whole)
 item_fails takes fails finishes finish_fails edition k s r from to after (Visitor f) skipped h = inl (whole_failed takes fails edition (kept_input k) s r from f skipped h)
 
--- the visitor fails to answer behind the item
+-- the visitor fails to answer after the item
 pub finish_failed : {S O E : Type 0} (takes : S → TreeEvent → S → Type 0) (fails : S → TreeEvent → E → Type 0) (finishes : S → O → Type 0) (finish_fails : S → E → Type 0) (edition : Edition) (t s r q : List ℕ) (raw : RawItem) (from to : S) (error : ParseError E) → span is_space t ≡ Ok (s, r) → item_at edition r ≡ Ok (raw, q) → RunsTo takes from (item_events raw) to → IsOfVisitor (finish_fails to) error
     → VisitsField takes fails finishes finish_fails edition item_field t from (Err error)
 finish_failed takes fails finishes finish_fails edition t s r q raw from to (Syntax e) skipped k run failed = absurd failed

@@ -22,12 +22,12 @@ use Rattle.sfv.proofs.reads.Steps.{branch_true, branch_false}
 use Rattle.sfv.proofs.visits.Parameters.{runs_on, of_visitor}
 use Rattle.sfv.proofs.visits.Parts.{visits_as, map_visits, then_visits, first_failed, failed_longer, failed_behind, led_visits, led_fails}
 
--- the parameters behind the items
+-- the parameters after the items
 list_parameters : RawMember → List TreeEvent
 list_parameters (item i) = []
 list_parameters (inner_list l) = parameters_events l.parameters
 
--- what stands behind the items
+-- what stands after the items
 abbrev closing : Edition → List RawItem → Reader RawMember
 closing edition is = parameters_at edition >>= λ ps. give (inner_of is ps)
 

@@ -21,11 +21,11 @@ use Rattle.sfv.proofs.reads.Steps.{branch_true, branch_false}
 use Rattle.sfv.proofs.visits.Parameters.{of_visitor}
 use Rattle.sfv.proofs.visits.Parts.{visits_as, map_visits, then_visits, led_visits, led_fails}
 
--- the pair of a key and what stands behind it
+-- the pair of a key and what stands after it
 abbrev pair_at : Edition → List ℕ → Reader (List ℕ × RawMember)
 pair_at edition key = member_value_at edition >>= λ m. give (key, m)
 
--- what is visited behind the key
+-- what is visited after the key
 abbrev behind_key : List ℕ × RawMember → List TreeEvent
 behind_key m = member_events m.1
 
@@ -42,7 +42,7 @@ pair_events edition key q w r e = on (member_value_at edition q) e
     on (Err f) h = absurd cc
 
 module _ {S E : Type 0} (takes : S → TreeEvent → S → Type 0) (fails : S → TreeEvent → E → Type 0) (edition : Edition) where
-  -- ---- behind the key
+  -- ---- after the key
 
   pub value_visits : (t q : List ℕ) (from to : S) (k : Parser × Global) (after : Cursor) (r : Result (Unit {0}) (ParseError E)) → TakesIf (byte equals_sign) true t q → VisitsAnswer takes fails member_events k after from to r (member_at edition q) → VisitsAnswer takes fails member_events k after from to r (member_value_at edition t)
   unfolding member_value_at

@@ -1,4 +1,4 @@
--- Readings one by one, each behind a delimiter: the loops of inner lists and of members.
+-- Readings one by one, each after a delimiter: the loops of inner lists and of members.
 use Rattle.std.proofs.Common.{◌≡◌, ℕ, ◌<◌, ◌≤◌, Bool, true, false, List, [], ◌∷◌, ◌++◌, length, drop, Option, Some, None, Ok, Err, refl, sym, ap, subst, ◌∙◌}
 use Rattle.std.specs.Prelude.{MatchOption, flat_map}
 use Rattle.std.specs.declared.alloc.Global.{Global}
@@ -47,7 +47,7 @@ put_visited parts v (Ok x) = refl
 put_visited parts v (Err f) = refl
 
 -- A loop over readings: the events of what is read, how one is read, what stands between two, and how the next is
--- read behind that.
+-- read after that.
 pub record Loop (A : Type 0) : Type 0 where
   pub parts : A → List TreeEvent
   pub one : Edition → Reader A
@@ -93,7 +93,7 @@ module _ {A : Type 0} (l : Loop A) (edition : Edition) where
       on (Some n) q = (faulty h.front t total _ _ h.so_far q.0, q.1)
 
   module _ {S E : Type 0} (takes : S → TreeEvent → S → Type 0) (fails : S → TreeEvent → E → Type 0) where
-    -- behind the first
+    -- after the first
     begun_at : (t q : List ℕ) (v : A) (from to : S) → (l.one edition) t ≡ Ok (v, q) → RunsTo takes from (l.parts v) to → SoFar takes l edition (first_of l.parts (l.one edition) (l.next edition) t) q from to
     unfolding first_of bind led
     begun_at t q v from to e run = record {
@@ -128,7 +128,7 @@ module _ {A : Type 0} (l : Loop A) (edition : Edition) where
     first_fails_at t total from to i after (Syntax e) whole h = ErrorOf-same i i e (λ _. first_of l.parts (l.one edition) (l.next edition)) t total refl whole (first_error t i e h)
     first_fails_at t total from to i after (Visitor fault) whole h = subst (λ total. VisitorFails takes fails (all_events l.parts) total from fault) (sym whole) (first_failure t from fault h)
 
-    -- behind one more
+    -- after one more
     more_at : (t r q : List ℕ) (v : A) (total : Answer (List A)) (from middle to : S) → SoFar takes l edition total t from middle → l.delimiter t ≡ Ok (true, r) → (l.one edition) r ≡ Ok (v, q) → RunsTo takes middle (l.parts v) to → SoFar takes l edition total q from to
     more_at t r q v total from middle to h e k run = record {
       front = h.front ++ v ∷ [];
@@ -145,7 +145,7 @@ module _ {A : Type 0} (l : Loop A) (edition : Edition) where
     one_error : (t r : List ℕ) (total : Answer (List A)) (from to : S) (i : Parser × Global) (e : Error) → SoFar takes l edition total t from to → l.delimiter t ≡ Ok (true, r) → IsErrorOf (kept_input i) e ((l.one edition) r) → IsErrorOf (kept_input i) e total
     one_error t r total from to i e h k error = error_of_total takes t total from to i e h (ErrorOf-part i i e (λ _. (l.one edition)) (λ v. give (Some v)) r ((l.next edition) t) refl (next_one t r k) error)
 
-    -- what is visited behind a delimiter
+    -- what is visited after a delimiter
     behind_visited : (t r : List ℕ) → l.delimiter t ≡ Ok (true, r) → (rest : List TreeEvent) × (visited (all_events l.parts) (many l.parts (l.next edition) t) ≡ visited l.parts ((l.one edition) r) ++ rest)
     unfolding bind led give
     behind_visited t r e = on ((l.one edition) r) refl
@@ -190,7 +190,7 @@ module _ {A S E : Type 0} (takes : S → TreeEvent → S → Type 0) (fails : S 
   abbrev IsFirst : Cursor → Type 0
   IsFirst middle = (total ≡ first_of l.parts (l.one (edition start)) (l.next (edition start)) (rest middle)) × (kept middle ≡ kept start)
 
-  -- behind the first
+  -- after the first
   pub begun : (middle after : Cursor) (from to : S) → IsFirst middle → Visits takes fails l.parts middle after from to (Ok tt) l.one → VisitedSoFar takes l start total after from to
   begun middle after from to first h =
       let read = kept_visits takes fails l.parts l.one middle after from to (kept start) (Ok tt) first.1 h in
@@ -206,7 +206,7 @@ module _ {A S E : Type 0} (takes : S → TreeEvent → S → Type 0) (fails : S 
   delimiter_fails now after from to last e h fault =
       delimiter_error l (edition start) takes fails (rest now) total from to (kept start) e h.read (subst (λ (k : Parser × Global). IsErrorOf (kept_input k) e (l.delimiter (rest now))) h.same (ErrorOf-fault (input now) e (l.delimiter (rest now)) fault))
 
-  -- behind one more
+  -- after one more
   pub more : (now middle after : Cursor) (from at to : S) → VisitedSoFar takes l start total now from at → Wants l true now middle → Visits takes fails l.parts middle after at to (Ok tt) l.one → VisitedSoFar takes l start total after from to
   more now middle after from at to h wanted one =
       let read = kept_visits takes fails l.parts l.one middle after at to (kept start) (Ok tt) (wanted.1 ∙ h.same) one in

@@ -25,7 +25,7 @@ use Rattle.sfv.specs.Visits.{VisitsAnswer, IsOfVisitor}
 use Rattle.sfv.proofs.reads.Errors.{ErrorOf-part, ErrorOf-located}
 use Rattle.sfv.proofs.reads.Steps.{item_located, item_some}
 
--- one run behind another
+-- one run after another
 pub runs_on : {S : Type 0} (takes : S → TreeEvent → S → Type 0) (es fs : List TreeEvent) (from middle to : S) → RunsTo takes from es middle → RunsTo takes middle fs to → RunsTo takes from (es ++ fs) to
 runs_on takes [] fs from middle to h k = subst (λ s. RunsTo takes s fs to) (sym h) k
 runs_on takes (e ∷ es) fs from middle to h k = (h.0, h.1, runs_on takes es fs h.0 middle to h.2 k)
@@ -64,7 +64,7 @@ visited_all takes edition start now r from middle to h read taken = (
   runs_on takes (pair_events h.raw) (parameters_end ∷ []) from middle to h.taken (to, taken, refl),
 )
 
--- what is visited behind parameters that stand in front
+-- what is visited after parameters that stand in front
 front_events : (front : RawParameters) → flat_map parameter_event front ≡ pair_events front
 front_events [] = refl
 front_events (p ∷ front) = ap (λ (es : List TreeEvent). parameter p.0 p.1 ∷ es) (front_events front)
@@ -103,7 +103,7 @@ end_failed takes fails edition start now r from middle fault h read failed = rec
   failed = failed;
 }
 
--- behind the last parameter, their end is visited
+-- after the last parameter, their end is visited
 pub end_visits : {S E : Type 0} (takes : S → TreeEvent → S → Type 0) (fails : S → TreeEvent → E → Type 0) (edition : Edition) (start now : List ℕ) (from middle to : S) (k : Parser × Global) (after : Cursor) (r : Result (Unit {0}) (ParseError E)) → VisitedParameters takes edition start now from middle → parameter_at edition now ≡ Ok (None, rest after) → kept after ≡ k
     → OnOk r (takes middle parameters_end to) → IfErr r (IsOfVisitor (fails middle parameters_end)) → VisitsAnswer takes fails parameters_events k after from to r (parameters_at edition start)
 end_visits takes fails edition start now from middle to k after (Ok u) h read same taken failed = let all = visited_all takes edition start now (rest after) from middle to h read taken in (h.raw, all.0, all.1, same)
@@ -174,7 +174,7 @@ parameters_failed takes fails edition t q b from middle fault e taken r = record
   failed = r.failed;
 }
 
--- an item, by its bare item and the parameters behind it
+-- an item, by its bare item and the parameters after it
 pub item_visits : {S E : Type 0} (takes : S → TreeEvent → S → Type 0) (fails : S → TreeEvent → E → Type 0) (edition : Edition) (t q : List ℕ) (b : BareValue) (from middle to : S) (k : Parser × Global) (after : Cursor) (r : Result (Unit {0}) (ParseError E)) → bare_at edition t ≡ Ok (b, q) → takes from (bare_item b) middle
     → VisitsAnswer takes fails parameters_events k after middle to r (parameters_at edition q) → VisitsAnswer takes fails item_events k after from to r (item_at edition t)
 item_visits takes fails edition t q b from middle to k after (Ok u) e taken h = (item_of b h.0, item_some edition t q (rest after) b h.0 e h.1, (middle, taken, h.2), h.3)

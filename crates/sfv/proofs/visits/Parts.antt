@@ -94,7 +94,7 @@ module _ {S E : Type 0} (takes : S → TreeEvent → S → Type 0) (fails : S �
       mapped : visited parts' ((f >>= λ v. give (g v)) t) ≡ visited parts (f t)
       mapped = on (f t)
 
-  -- one reading behind another, whose events were visited
+  -- one reading after another, whose events were visited
   pub then_visits : {A B : Type 0} (f : Reader A) (g : A → Reader B) (first : A → List TreeEvent) (parts more : B → List TreeEvent) (t q : List ℕ) (v : A) (from middle to : S) (k : Parser × Global) (after : Cursor) (r : Result (Unit {0}) (ParseError E))
       → f t ≡ Ok (v, q) → RunsTo takes from (first v) middle → ((w : B) (s : List ℕ) → g v q ≡ Ok (w, s) → parts w ≡ first v ++ more w)
       → VisitsAnswer takes fails more k after middle to r (g v q) → VisitsAnswer takes fails parts k after from to r ((f >>= λ v. led (first v) (g v)) t)
@@ -131,7 +131,7 @@ module _ {S E : Type 0} (takes : S → TreeEvent → S → Type 0) (fails : S �
       let w = visited_first f g first parts more t each in
       failed_within takes fails first (f t) parts ((f >>= λ v. led (first v) (g v)) t) [] w.0 w.1 from from fault refl (λ es to run. run) h
 
-  -- a refusal, where more is visited behind what was read
+  -- a refusal, where more is visited after what was read
   pub failed_longer : {A : Type 0} (parts longer : A → List TreeEvent) (a : Answer A) (from : S) (fault : E) → ((v : A) → (more : List TreeEvent) × (longer v ≡ parts v ++ more)) → VisitorFails takes fails parts a from fault → VisitorFails takes fails longer a from fault
   failed_longer {A} parts longer a from fault each h =
       let w = on a in
@@ -141,6 +141,6 @@ module _ {S E : Type 0} (takes : S → TreeEvent → S → Type 0) (fails : S �
       on (Ok x) = each x.0
       on (Err x) = ([], sym (append-nil x.events))
 
-  -- a refusal behind what was read
+  -- a refusal after what was read
   pub failed_behind : {A : Type 0} (parts longer : A → List TreeEvent) (e : TreeEvent) (a : Answer A) (v : A) (q : List ℕ) (from middle : S) (fault : E) → a ≡ Ok (v, q) → longer v ≡ parts v ++ e ∷ [] → RunsTo takes from (parts v) middle → fails middle e fault → VisitorFails takes fails longer a from fault
   failed_behind parts longer e a v q from middle fault read all run h = record { before = parts v; e = e; after = []; s = middle; all = ap (visited longer) read ∙ all; taken = run; failed = h }

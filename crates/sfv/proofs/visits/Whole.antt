@@ -18,7 +18,7 @@ use Rattle.sfv.specs.Cursor.{kept, kept_input, rest, located, IsErrorOf}
 use Rattle.sfv.specs.Fields.{located_whole}
 use Rattle.sfv.proofs.reads.Errors.{fault_bind}
 
--- an item and the spaces behind it
+-- an item and the spaces after it
 unfoldable pub spaced : Edition → Reader RawItem
 spaced edition = item_at edition >>= λ i. span is_space >>= λ _. give i
 
@@ -44,7 +44,7 @@ field_error edition t s r i e skipped error = on e.index error
     on None h = h
     on (Some n) h = (field_faulty edition t s r _ _ skipped h.0, h.1)
 
--- behind an item and spaces
+-- after an item and spaces
 behind : (edition : Edition) (t s r q s' w : List ℕ) (raw : RawItem) → span is_space t ≡ Ok (s, r) → item_at edition r ≡ Ok (raw, q) → span is_space q ≡ Ok (s', w) → read_field edition item_field t ≡ ending (events item_field) (Ok (raw, w))
 unfolding spaced give
 behind edition t s r q s' w raw e k n =
@@ -57,7 +57,7 @@ field_trailing edition t s r q s' w raw e k n h = ap located_whole (behind editi
     on [] h = absurd cc
     on (c ∷ w) h = refl
 
--- the byte behind an item and spaces is where the error stands
+-- the byte after an item and spaces is where the error stands
 pub field_trailing_error : (edition : Edition) (t s r q s' : List ℕ) (p : Cursor) (j : Parser × Global) (raw : RawItem) → kept p ≡ j → span is_space t ≡ Ok (s, r) → item_at edition r ≡ Ok (raw, q) → span is_space q ≡ Ok (s', rest p) → is_some (first (rest p)) ≡ true
     → (located_whole (read_field edition item_field t) ≡ Err (TrailingCharactersAfterParsedValue, drop p.index (kept_input j))) × (p.index ≤ length (kept_input j))
 field_trailing_error edition t s r q s' p j raw same e k n h =

@@ -3,6 +3,7 @@
 ghost use Rattle.std.specs.Prelude.{◌≡◌, Bool, true, IfOk};
 ghost use Rattle.sfv_spec.specs.Ascii.{percent_sign, at_sign};
 ghost use Rattle.sfv_spec.specs.Values.{rfc9651, boolean, date};
+ghost use Rattle.sfv_base.specs.Numbers.{seconds_of};
 ghost use Rattle.sfv_bare.specs.BareItems.{input_value};
 ghost use Rattle.sfv_reading.specs.Reader.{byte};
 ghost use Rattle.sfv_reading.specs.Bare.{is_number_start, boolean_at, date_at, quoted_at, bare_at};
@@ -18,7 +19,7 @@ use sfv_base::error::{Error, ErrorKind};
 use std::borrow::CowStr;
 
 impl<'de> Cursor<'de> {
-    /// Takes a boolean behind its question mark.
+    /// Takes a boolean after its question mark.
     #[tactic(auto, using(crate::proofs::reads::Steps::boolean_steps))]
     fn boolean(&mut self) -> Result<bool, Error>
         ensures { Reads (λ b. boolean b) self.old self.new result boolean_at }
@@ -36,7 +37,7 @@ impl<'de> Cursor<'de> {
     #[tactic(auto, using(crate::proofs::reads::Steps::date_steps))]
     fn date(&mut self) -> Result<Date, Error>
         requires { NextIs (byte at_sign) true (rest self.old) }
-        ensures { Reads (λ z. date z) self.old self.new result (date_at (edition self.old)) }
+        ensures { Reads (λ d. date (seconds_of d)) self.old self.new result (date_at (edition self.old)) }
     {
         match self.parser.version {
             Version::Rfc8941 => Err(self.error(ErrorKind::Rfc8941Date)),
@@ -47,7 +48,7 @@ impl<'de> Cursor<'de> {
     /// Takes the sign `@` and the seconds of a date.
     fn seconds(&mut self) -> Result<Date, Error>
         requires { NextIs (byte at_sign) true (rest self.old) }
-        ensures { Reads (λ z. date z) self.old self.new result (date_at rfc9651) }
+        ensures { Reads (λ d. date (seconds_of d)) self.old self.new result (date_at rfc9651) }
     {
         let start = self.index;
         self.skip();

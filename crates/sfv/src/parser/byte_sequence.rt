@@ -38,7 +38,7 @@ fn decode_symbols(alloc: Global, symbols: &[u8]) -> Result<Vec<u8>, AllocError>
     ensures { IfOk result (λ bytes. bytes.items ≡ decoded_symbols symbols.now) }
 {
     let mut bytes = Vec::with_capacity(alloc, decoded_len_estimate(symbols.len()))?;
-    // Whole groups of four have no spare bits. Of the symbols behind them only the last one has some.
+    // Whole groups of four have no spare bits. Of the symbols after them only the last one has some.
     let whole = symbols.len() / 4 * 4;
     append_decoded(&symbols[..whole], &mut bytes)?;
     match symbols.len() - whole {
@@ -60,7 +60,7 @@ fn decode_symbols(alloc: Global, symbols: &[u8]) -> Result<Vec<u8>, AllocError>
 }
 
 impl Cursor<'_> {
-    /// Takes a byte sequence behind its opening colon, with the closing one.
+    /// Takes a byte sequence after its opening colon, with the closing one.
     pub(super) fn byte_sequence(&mut self) -> Result<Vec<u8>, Error>
         ensures { ReadsOrOutOfMemory vec_bytes self.old self.new result bytes_at }
     {

@@ -58,7 +58,7 @@ impl QuotedText for InDisplayString {
     }
 }
 
-/// Where what stands behind the first `count` bytes begins, each of them plain or an escape.
+/// Where what stands after the first `count` bytes begins, each of them plain or an escape.
 fn place(input: &[u8], start: usize, count: usize) -> usize
     requires within { start ≤ length input.now }
     requires pieces { (bytes : List ℕ) × (rest : List ℕ)
@@ -105,7 +105,7 @@ impl<'de> Cursor<'de> {
         Ok(byte)
     }
 
-    /// Takes a display string behind its opening quote, with the closing one: a slice of the input if it has no escape.
+    /// Takes a display string after its opening quote, with the closing one: a slice of the input if it has no escape.
     pub(super) fn display_text(&mut self) -> Result<CowStr<'de>, Error>
         ensures read { ReadsOrOutOfMemory cow_text self.old self.new result display_at }
         ensures borrowed { IfOk result (λ text. IsTrue (is_borrowed_text text) ↔ HasNoMark true self.old self.new) }

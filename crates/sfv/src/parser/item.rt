@@ -52,7 +52,7 @@ pub(crate) fn finish<'de, V: Visitor<'de>>(visitor: V) -> Result<V::Out, ParseEr
 impl<'de> Cursor<'de> {
     ghost use Rattle.sfv.specs.Items.{read_pair};
 
-    /// Takes the value of a parameter behind its key: without `=` it is true.
+    /// Takes the value of a parameter after its key: without `=` it is true.
     #[tactic(auto, using(crate::proofs::reads::Steps::value_steps))]
     fn parameter_value(&mut self) -> Result<BareItemFromInput<'de>, Error>
         ensures { ReadsOrOutOfMemory input_value self.old self.new result (value_at (edition self.old)) }

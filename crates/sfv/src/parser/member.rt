@@ -45,7 +45,7 @@ impl<'de> Cursor<'de> {
         }
     }
 
-    /// Takes the items of an inner list behind its opening parenthesis, and the closing one. Visits the items.
+    /// Takes the items of an inner list after its opening parenthesis, and the closing one. Visits the items.
     fn inner_items<V: Visitor<'de>>(&mut self, visitor: &mut V) -> Result<(), ParseError<V::Error>>
         requires { V.is_ready visitor.old }
         ensures ready { OnOk result (V.is_ready visitor.new) }
@@ -67,7 +67,7 @@ impl<'de> Cursor<'de> {
         Ok(())
     }
 
-    /// Takes an inner list behind its opening parenthesis, and its parameters. Visits its parts.
+    /// Takes an inner list after its opening parenthesis, and its parameters. Visits its parts.
     fn inner_list<V: Visitor<'de>>(&mut self, visitor: &mut V) -> Result<(), ParseError<V::Error>>
         requires { V.is_ready visitor.old }
         ensures ready { OnOk result (V.is_ready visitor.new) }
@@ -107,7 +107,7 @@ impl<'de> Cursor<'de> {
         if self.peek().is_none() {
             return Ok(false);
         }
-        // The fault that stands here if the input ends behind the comma.
+        // The fault that stands here if the input ends after the comma.
         let comma = self.error(ErrorKind::TrailingComma);
         if !self.take_if(b',') {
             return Err(self.error(ErrorKind::TrailingCharactersAfterMember));
@@ -119,7 +119,7 @@ impl<'de> Cursor<'de> {
         Ok(true)
     }
 
-    /// Takes what stands behind the key of a member of a dictionary, and visits its parts. Without `=` it is the item
+    /// Takes what stands after the key of a member of a dictionary, and visits its parts. Without `=` it is the item
     /// true.
     fn member_value<V: Visitor<'de>>(&mut self, visitor: &mut V) -> Result<(), ParseError<V::Error>>
         requires { V.is_ready visitor.old }

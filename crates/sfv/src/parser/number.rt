@@ -5,6 +5,7 @@ ghost use Rattle.sfv_spec.specs.Ascii.{dot};
 ghost use Rattle.sfv_spec.specs.Texts.{RunOf};
 ghost use Rattle.sfv_spec.specs.Classes.{is_digit};
 ghost use Rattle.sfv_spec.specs.Numbers.{signed as with_sign};
+ghost use Rattle.sfv_base.specs.Numbers.{integer_of};
 ghost use Rattle.sfv_reading.specs.Reader.{byte};
 ghost use Rattle.sfv_reading.specs.Bare.{sign_at, point_at, whole_at, number_at};
 ghost use Rattle.sfv.specs.Cursor.{kept, rest, Reads, NextIs};
@@ -26,7 +27,7 @@ pub(crate) enum Number {
 /// The number of this sign and magnitude.
 fn signed(negative: bool, magnitude: u64) -> Integer
     requires { magnitude < 10 ^ 15 }
-    ensures { result ≡ with_sign negative magnitude }
+    ensures { integer_of result ≡ with_sign negative magnitude }
 {
     let magnitude = magnitude as i64;
     Integer::constant(if negative { -magnitude } else { magnitude })
@@ -52,7 +53,7 @@ impl Cursor<'_> {
         self.behind_whole(negative, whole)
     }
 
-    /// Takes what stands behind the whole part of a number.
+    /// Takes what stands after the whole part of a number.
     #[tactic(auto, using(crate::proofs::reads::Steps::whole_steps))]
     fn behind_whole(&mut self, negative: bool, whole: &[u8]) -> Result<Number, Error>
         requires each { RunOf is_digit whole.now }

@@ -31,7 +31,7 @@ pub(super) trait QuotedText {
         ensures ends { Apart (plain_of display) (rest cursor.new) }
         ensures kept { kept cursor.new ≡ kept cursor.old };
 
-    /// Takes the byte that an escape stands for, behind its mark.
+    /// Takes the byte that an escape stands for, after its mark.
     fn escaped(cursor: &mut Cursor<'_>) -> Result<u8, Error>
         ensures { ReadsEscape display cursor.old cursor.new result };
 }
@@ -55,7 +55,7 @@ impl<'de> Cursor<'de> {
         self.error(Q::stop(self.peek().is_some()))
     }
 
-    /// Takes the rest of a quoted text behind the bytes `plain`, with its closing quote. Returns the bytes of both.
+    /// Takes the rest of a quoted text after the bytes `plain`, with its closing quote. Returns the bytes of both.
     fn unescaped<Q: QuotedText>(&mut self, plain: &[u8]) -> Result<Vec<u8>, Error>
         requires { Apart (plain_of Q.display) (rest self.old) }
         ensures { ReadsOrOutOfMemory vec_bytes self.old self.new result
@@ -73,7 +73,7 @@ impl<'de> Cursor<'de> {
         Ok(bytes)
     }
 
-    /// Takes a quoted text behind its opening quote, with the closing one.
+    /// Takes a quoted text after its opening quote, with the closing one.
     pub(super) fn quoted_text<Q: QuotedText>(&mut self) -> Result<QuotedBytes<'de>, Error>
         ensures read { ReadsOrOutOfMemory quoted_bytes self.old self.new result (inside Q.display) }
         ensures each { IfOk result (λ text. IsTrue (is_plain text) → RunOf (plain_of Q.display) (quoted_bytes text)) }

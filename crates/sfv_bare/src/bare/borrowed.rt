@@ -50,16 +50,7 @@ impl<'a> RefBareItem<'a> {
     pub fn as_ref_item(&self) -> RefBareItem<'a>
         ensures { ref_value result ≡ ref_value self.now }
     {
-        match self {
-            GenericBareItem::Decimal(value) => GenericBareItem::Decimal(*value),
-            GenericBareItem::Integer(value) => GenericBareItem::Integer(*value),
-            GenericBareItem::String(text) => GenericBareItem::String(*text),
-            GenericBareItem::ByteSequence(bytes) => GenericBareItem::ByteSequence(*bytes),
-            GenericBareItem::Boolean(value) => GenericBareItem::Boolean(*value),
-            GenericBareItem::Token(token) => GenericBareItem::Token(*token),
-            GenericBareItem::Date(value) => GenericBareItem::Date(*value),
-            GenericBareItem::DisplayString(text) => GenericBareItem::DisplayString(*text),
-        }
+        *self
     }
 
     /// Returns the same value (RFC 9651, section 3.3) with texts of its own. Only a text or a byte sequence takes memory.

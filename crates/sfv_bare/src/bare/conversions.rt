@@ -3,6 +3,7 @@
 ghost use Rattle.std.specs.Prelude.{◌≡◌, pos};
 ghost use Rattle.sfv_spec.specs.Values.{IsInRange};
 ghost use Rattle.sfv_base.specs.Conversions.{GivesIf};
+ghost use Rattle.sfv_bare.specs.BareItems.{IsInteger};
 ghost use Rattle.sfv_bare.specs.declared.bare.GenericBareItem.TheVariants as code;
 
 use crate::bare::GenericBareItem;
@@ -44,7 +45,7 @@ impl<S, B, T, D> From<Date> for GenericBareItem<S, B, T, D> {
 }
 
 impl<S, B, T, D> From<i8> for GenericBareItem<S, B, T, D> {
-    ghost from_gives = { λ v item. item ≡ code.Integer v };
+    ghost from_gives = { IsInteger };
 
     fn from(v: i8) -> GenericBareItem<S, B, T, D> {
         GenericBareItem::from(Integer::from(v))
@@ -52,7 +53,7 @@ impl<S, B, T, D> From<i8> for GenericBareItem<S, B, T, D> {
 }
 
 impl<S, B, T, D> From<i16> for GenericBareItem<S, B, T, D> {
-    ghost from_gives = { λ v item. item ≡ code.Integer v };
+    ghost from_gives = { IsInteger };
 
     fn from(v: i16) -> GenericBareItem<S, B, T, D> {
         GenericBareItem::from(Integer::from(v))
@@ -60,7 +61,7 @@ impl<S, B, T, D> From<i16> for GenericBareItem<S, B, T, D> {
 }
 
 impl<S, B, T, D> From<i32> for GenericBareItem<S, B, T, D> {
-    ghost from_gives = { λ v item. item ≡ code.Integer v };
+    ghost from_gives = { IsInteger };
 
     fn from(v: i32) -> GenericBareItem<S, B, T, D> {
         GenericBareItem::from(Integer::from(v))
@@ -68,7 +69,7 @@ impl<S, B, T, D> From<i32> for GenericBareItem<S, B, T, D> {
 }
 
 impl<S, B, T, D> From<u8> for GenericBareItem<S, B, T, D> {
-    ghost from_gives = { λ v item. item ≡ code.Integer (pos v) };
+    ghost from_gives = { λ v item. IsInteger (pos v) item };
 
     fn from(v: u8) -> GenericBareItem<S, B, T, D> {
         GenericBareItem::from(Integer::from(v))
@@ -76,7 +77,7 @@ impl<S, B, T, D> From<u8> for GenericBareItem<S, B, T, D> {
 }
 
 impl<S, B, T, D> From<u16> for GenericBareItem<S, B, T, D> {
-    ghost from_gives = { λ v item. item ≡ code.Integer (pos v) };
+    ghost from_gives = { λ v item. IsInteger (pos v) item };
 
     fn from(v: u16) -> GenericBareItem<S, B, T, D> {
         GenericBareItem::from(Integer::from(v))
@@ -84,7 +85,7 @@ impl<S, B, T, D> From<u16> for GenericBareItem<S, B, T, D> {
 }
 
 impl<S, B, T, D> From<u32> for GenericBareItem<S, B, T, D> {
-    ghost from_gives = { λ v item. item ≡ code.Integer (pos v) };
+    ghost from_gives = { λ v item. IsInteger (pos v) item };
 
     fn from(v: u32) -> GenericBareItem<S, B, T, D> {
         GenericBareItem::from(Integer::from(v))
@@ -94,7 +95,7 @@ impl<S, B, T, D> From<u32> for GenericBareItem<S, B, T, D> {
 impl<S, B, T, D> TryFrom<i64> for GenericBareItem<S, B, T, D> {
     type Error = Error;
 
-    ghost try_from_gives = { λ v r. GivesIf (IsInRange v) (code.Integer v) r };
+    ghost try_from_gives = { λ v r. GivesIf (IsInRange v) (IsInteger v) r };
 
     fn try_from(v: i64) -> Result<GenericBareItem<S, B, T, D>, Error> {
         Ok(GenericBareItem::from(Integer::try_from(v)?))
@@ -104,7 +105,7 @@ impl<S, B, T, D> TryFrom<i64> for GenericBareItem<S, B, T, D> {
 impl<S, B, T, D> TryFrom<i128> for GenericBareItem<S, B, T, D> {
     type Error = Error;
 
-    ghost try_from_gives = { λ v r. GivesIf (IsInRange v) (code.Integer v) r };
+    ghost try_from_gives = { λ v r. GivesIf (IsInRange v) (IsInteger v) r };
 
     fn try_from(v: i128) -> Result<GenericBareItem<S, B, T, D>, Error> {
         Ok(GenericBareItem::from(Integer::try_from(v)?))
@@ -114,7 +115,7 @@ impl<S, B, T, D> TryFrom<i128> for GenericBareItem<S, B, T, D> {
 impl<S, B, T, D> TryFrom<isize> for GenericBareItem<S, B, T, D> {
     type Error = Error;
 
-    ghost try_from_gives = { λ v r. GivesIf (IsInRange v) (code.Integer v) r };
+    ghost try_from_gives = { λ v r. GivesIf (IsInRange v) (IsInteger v) r };
 
     fn try_from(v: isize) -> Result<GenericBareItem<S, B, T, D>, Error> {
         Ok(GenericBareItem::from(Integer::try_from(v)?))
@@ -124,7 +125,7 @@ impl<S, B, T, D> TryFrom<isize> for GenericBareItem<S, B, T, D> {
 impl<S, B, T, D> TryFrom<u64> for GenericBareItem<S, B, T, D> {
     type Error = Error;
 
-    ghost try_from_gives = { λ v r. GivesIf (IsInRange (pos v)) (code.Integer (pos v)) r };
+    ghost try_from_gives = { λ v r. GivesIf (IsInRange (pos v)) (IsInteger (pos v)) r };
 
     fn try_from(v: u64) -> Result<GenericBareItem<S, B, T, D>, Error> {
         Ok(GenericBareItem::from(Integer::try_from(v)?))
@@ -134,7 +135,7 @@ impl<S, B, T, D> TryFrom<u64> for GenericBareItem<S, B, T, D> {
 impl<S, B, T, D> TryFrom<u128> for GenericBareItem<S, B, T, D> {
     type Error = Error;
 
-    ghost try_from_gives = { λ v r. GivesIf (IsInRange (pos v)) (code.Integer (pos v)) r };
+    ghost try_from_gives = { λ v r. GivesIf (IsInRange (pos v)) (IsInteger (pos v)) r };
 
     fn try_from(v: u128) -> Result<GenericBareItem<S, B, T, D>, Error> {
         Ok(GenericBareItem::from(Integer::try_from(v)?))
@@ -144,7 +145,7 @@ impl<S, B, T, D> TryFrom<u128> for GenericBareItem<S, B, T, D> {
 impl<S, B, T, D> TryFrom<usize> for GenericBareItem<S, B, T, D> {
     type Error = Error;
 
-    ghost try_from_gives = { λ v r. GivesIf (IsInRange (pos v)) (code.Integer (pos v)) r };
+    ghost try_from_gives = { λ v r. GivesIf (IsInRange (pos v)) (IsInteger (pos v)) r };
 
     fn try_from(v: usize) -> Result<GenericBareItem<S, B, T, D>, Error> {
         Ok(GenericBareItem::from(Integer::try_from(v)?))

@@ -37,10 +37,10 @@ fn or_truncate<A: Allocator>(
 
 /// Appends a bare item; out of memory, the output keeps its text.
 pub(crate) fn append_bare_item<A: Allocator>(
-    value: &RefBareItem<'_>,
+    value: RefBareItem<'_>,
     output: &mut StdString<A>,
 ) -> Result<(), OutOfMemory>
-    ensures text { AppendsOrKeeps output.old output.new (bare_text (ref_value value.now)) result }
+    ensures text { AppendsOrKeeps output.old output.new (bare_text (ref_value value.entry)) result }
 {
     let len = output.len();
     let written = serialize_bare_item(value, output);
@@ -50,11 +50,11 @@ pub(crate) fn append_bare_item<A: Allocator>(
 /// Appends a parameter; out of memory, the output keeps its text.
 pub(crate) fn append_parameter<A: Allocator>(
     key: KeyRef<'_>,
-    value: &RefBareItem<'_>,
+    value: RefBareItem<'_>,
     output: &mut StdString<A>,
 ) -> Result<(), OutOfMemory>
     ensures text { AppendsOrKeeps output.old output.new
-        (codes ";" ++ key_text key.entry ++ value_text (ref_value value.now)) result }
+        (codes ";" ++ key_text key.entry ++ value_text (ref_value value.entry)) result }
 {
     let len = output.len();
     let written = serialize_parameter(key, value, output);
@@ -130,7 +130,7 @@ mod tests {
         ]
     }
 
-    /// Whether it was out of memory; the text is the old one then, and else that with this behind it.
+    /// Whether it was out of memory; the text is the old one then, and else that with this after it.
     fn out_of_memory(
         rt: &impl Abort,
         written: Result<(), OutOfMemory>,
@@ -153,7 +153,7 @@ mod tests {
                 let Ok(mut text) = StdString::from_str(&heap, "X: ") else {
                     continue;
                 };
-                let written = append_bare_item(value, &mut text);
+                let written = append_bare_item(*value, &mut text);
                 if out_of_memory(&rt, written, text.as_str(), behind) {
                     was_out_of_memory = true;
                 } else {
@@ -179,7 +179,7 @@ mod tests {
                 let Ok(mut text) = StdString::from_str(&heap, "X: ") else {
                     continue;
                 };
-                let written = append_parameter(key_ref("a-key"), value, &mut text);
+                let written = append_parameter(key_ref("a-key"), *value, &mut text);
                 if out_of_memory(&rt, written, text.as_str(), behind.as_str()) {
                     was_out_of_memory = true;
                 } else {

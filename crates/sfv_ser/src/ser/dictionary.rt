@@ -27,7 +27,7 @@ fn serialize_item_after_key<A: Allocator>(
         (value_text (bare_value item.now.bare_item) ++ parameters_text (pairs_tree item.now.params.entries)) result }
     ensures value { OnOk result (IsValue item_field (item_tree item.now)) }
 {
-    serialize_value(&item.bare_item.as_ref_item(), output)?;
+    serialize_value(item.bare_item.as_ref_item(), output)?;
     serialize_all_parameters(&item.params, output)
 }
 

@@ -61,39 +61,39 @@ fn serialize_bool<A: Allocator>(value: bool, output: &mut StdString<A>) -> Resul
 
 /// Appends a bare item.
 pub(crate) fn serialize_bare_item<A: Allocator>(
-    value: &RefBareItem<'_>,
+    value: RefBareItem<'_>,
     output: &mut StdString<A>,
 ) -> Result<(), OutOfMemory>
-    ensures text { Appends output.old output.new (bare_text (ref_value value.now)) result }
-    ensures value { IsBareValue (ref_value value.now) }
+    ensures text { Appends output.old output.new (bare_text (ref_value value.entry)) result }
+    ensures value { IsBareValue (ref_value value.entry) }
 {
     match value {
-        GenericBareItem::Decimal(value) => serialize_decimal(*value, output),
-        GenericBareItem::Integer(value) => serialize_integer(*value, output),
-        GenericBareItem::String(value) => serialize_string(*value, output),
+        GenericBareItem::Decimal(value) => serialize_decimal(value, output),
+        GenericBareItem::Integer(value) => serialize_integer(value, output),
+        GenericBareItem::String(value) => serialize_string(value, output),
         GenericBareItem::ByteSequence(value) => serialize_byte_sequence(value, output),
-        GenericBareItem::Boolean(value) => serialize_bool(*value, output),
-        GenericBareItem::Token(value) => serialize_token(*value, output),
-        GenericBareItem::Date(value) => serialize_date(*value, output),
+        GenericBareItem::Boolean(value) => serialize_bool(value, output),
+        GenericBareItem::Token(value) => serialize_token(value, output),
+        GenericBareItem::Date(value) => serialize_date(value, output),
         GenericBareItem::DisplayString(value) => serialize_display_string(value, output),
     }
 }
 
 /// Whether the value is true, which isn't written after a key.
-fn is_true(value: &RefBareItem<'_>) -> bool
-    ensures { MatchBool result (ref_value value.now ≡ boolean true)
-        (value_text (ref_value value.now) ≡ codes "=" ++ bare_text (ref_value value.now)) }
+fn is_true(value: RefBareItem<'_>) -> bool
+    ensures { MatchBool result (ref_value value.entry ≡ boolean true)
+        (value_text (ref_value value.entry) ≡ codes "=" ++ bare_text (ref_value value.entry)) }
 {
     matches!(value, GenericBareItem::Boolean(true))
 }
 
 /// Appends what stands after a key: nothing for true, and else an equals sign and the value.
 pub(crate) fn serialize_value<A: Allocator>(
-    value: &RefBareItem<'_>,
+    value: RefBareItem<'_>,
     output: &mut StdString<A>,
 ) -> Result<(), OutOfMemory>
-    ensures text { Appends output.old output.new (value_text (ref_value value.now)) result }
-    ensures value { OnOk result (IsBareValue (ref_value value.now)) }
+    ensures text { Appends output.old output.new (value_text (ref_value value.entry)) result }
+    ensures value { OnOk result (IsBareValue (ref_value value.entry)) }
 {
     if is_true(value) {
         return Ok(());
@@ -105,13 +105,13 @@ pub(crate) fn serialize_value<A: Allocator>(
 /// Appends a parameter.
 pub(crate) fn serialize_parameter<A: Allocator>(
     key: KeyRef<'_>,
-    value: &RefBareItem<'_>,
+    value: RefBareItem<'_>,
     output: &mut StdString<A>,
 ) -> Result<(), OutOfMemory>
     ensures text { Appends output.old output.new
-        (codes ";" ++ key_text key.entry ++ value_text (ref_value value.now)) result }
+        (codes ";" ++ key_text key.entry ++ value_text (ref_value value.entry)) result }
     ensures key { IsTrue (is_key (key_text key.entry)) }
-    ensures value { OnOk result (IsBareValue (ref_value value.now)) }
+    ensures value { OnOk result (IsBareValue (ref_value value.entry)) }
 {
     output.push(';')?;
     serialize_key(key, output)?;
@@ -132,7 +132,7 @@ pub(crate) fn serialize_parameters<
     ensures out_of_memory { OnErr result (Extends (string_bytes output.old) (string_bytes output.new)) }
 {
     for (key, value) in params {
-        serialize_parameter(key.as_key_ref(), &value.as_ref_item(), output)?;
+        serialize_parameter(key.as_key_ref(), value.as_ref_item(), output)?;
     }
     Ok(())
 }
@@ -158,6 +158,6 @@ pub fn serialize_item<A: Allocator>(
     ensures text { Appends output.old output.new (item_text (item_tree item.now)) result }
     ensures value { OnOk result (IsValue item_field (item_tree item.now)) }
 {
-    serialize_bare_item(&item.bare_item.as_ref_item(), output)?;
+    serialize_bare_item(item.bare_item.as_ref_item(), output)?;
     serialize_all_parameters(&item.params, output)
 }

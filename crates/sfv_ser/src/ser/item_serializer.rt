@@ -37,11 +37,11 @@ impl<'a> ItemSerializer<'a> {
     /// `OutOfMemory`; the text is then as it was.
     pub fn bare_item(
         self,
-        bare_item: &RefBareItem<'_>,
+        bare_item: RefBareItem<'_>,
     ) -> Result<ParameterSerializer<'a, StdString>, OutOfMemory>
         ensures* out_of_memory { sem 𝓛 (RestsIfOutOfMemory (item_buffer self.entry) result) }
         ensures lent { IfOk result (λ p. (params_sink p).ghost_name ≡ (item_buffer self.entry).ghost_name) }
-        ensures text { HoldsMore (item_buffer self.entry) (bare_text (ref_value bare_item.now)) result }
+        ensures text { HoldsMore (item_buffer self.entry) (bare_text (ref_value bare_item.entry)) result }
     {
         let ItemSerializer { buffer } = self;
         append_bare_item(bare_item, buffer)?;

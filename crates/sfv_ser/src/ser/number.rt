@@ -4,6 +4,7 @@ ghost use Rattle.std.specs.Prelude.{◌≡◌, ◌++◌, ◌+◌, ◌<◌, codes
 ghost use Rattle.std.specs.Fmt.{signed_decimal};
 ghost use Rattle.sfv_spec.specs.Values.{IsInRange};
 ghost use Rattle.sfv_spec.specs.Canonical.{fraction_digits, decimal_text};
+ghost use Rattle.sfv_base.specs.Numbers.{integer_of, thousandths_of, seconds_of};
 ghost use Rattle.sfv_ser.specs.Written.{Appends};
 
 use itoa::Buffer;
@@ -19,8 +20,8 @@ pub(crate) fn serialize_integer<A: Allocator>(
     value: Integer,
     output: &mut StdString<A>,
 ) -> Result<(), OutOfMemory>
-    ensures text { Appends output.old output.new (signed_decimal value) result }
-    ensures range { IsInRange value }
+    ensures text { Appends output.old output.new (signed_decimal (integer_of value)) result }
+    ensures range { IsInRange (integer_of value) }
 {
     let mut buffer = Buffer::new();
     output.push_str(buffer.format(i64::from(value)))?;
@@ -32,8 +33,8 @@ pub(crate) fn serialize_date<A: Allocator>(
     value: Date,
     output: &mut StdString<A>,
 ) -> Result<(), OutOfMemory>
-    ensures text { Appends output.old output.new (codes "@" ++ signed_decimal value) result }
-    ensures range { IsInRange value }
+    ensures text { Appends output.old output.new (codes "@" ++ signed_decimal (seconds_of value)) result }
+    ensures range { IsInRange (seconds_of value) }
 {
     output.push('@')?;
     serialize_integer(value.unix_seconds(), output)
@@ -74,8 +75,8 @@ pub(crate) fn serialize_decimal<A: Allocator>(
     value: Decimal,
     output: &mut StdString<A>,
 ) -> Result<(), OutOfMemory>
-    ensures text { Appends output.old output.new (decimal_text value) result }
-    ensures range { IsInRange value }
+    ensures text { Appends output.old output.new (decimal_text (thousandths_of value)) result }
+    ensures range { IsInRange (thousandths_of value) }
 {
     let value = i64::from(value.as_integer_scaled_1000());
     if value < 0 {

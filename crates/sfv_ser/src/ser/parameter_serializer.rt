@@ -52,12 +52,12 @@ impl<'s> ParameterSerializer<'s, StdString> {
     pub fn parameter(
         self,
         name: KeyRef<'_>,
-        value: &RefBareItem<'_>,
+        value: RefBareItem<'_>,
     ) -> Result<ParameterSerializer<'s, StdString>, OutOfMemory>
         ensures* out_of_memory { sem 𝓛 (RestsIfOutOfMemory (params_sink self.entry) result) }
         ensures lent { IfOk result (λ p. (params_sink p).ghost_name ≡ (params_sink self.entry).ghost_name) }
         ensures text { HoldsMore (params_sink self.entry)
-            (codes ";" ++ key_text name.entry ++ value_text (ref_value value.now)) result }
+            (codes ";" ++ key_text name.entry ++ value_text (ref_value value.entry)) result }
     {
         let ParameterSerializer { sink } = self;
         append_parameter(name, value, sink)?;

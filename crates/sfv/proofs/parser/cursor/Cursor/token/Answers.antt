@@ -6,7 +6,7 @@ use Rattle.sfv.proofs.reads.Runs.{span_run}
 use Rattle.sfv.proofs.reads.Steps.{IsTextAt, token_some, token_class}
 use Rattle.sfv.proofs.parser.cursor.Cursor.token.Goals as goal
 
--- the bytes behind the first
+-- the bytes after the first
 abbrev behind : List ℕ → ℕ → List ℕ
 behind xs i = take (length xs - (i + 1)) (drop (i + 1) xs)
 
