@@ -1,8 +1,11 @@
 -- Masks of lanes, computed lane by lane from a vector of bytes.
-use Rattle.std.proofs.Common.{◌≡◌, ℕ, ◌+◌, ◌*◌, ◌/◌, ◌%◌, ◌^◌, ◌<◌, Bool, true, false, not, cond, eqb, List, [], ◌∷◌, ◌++◌, map, length, get_or, replicate, bit_and, refl, sym, ap, ap₂, ◌∙◌, arith, w8, Fits}
+use Rattle.std.proofs.Common.{◌≡◌, ℕ, ◌+◌, ◌*◌, ◌/◌, ◌%◌, ◌^◌, ◌<◌, Bool, true, false, not, cond, eqb, List, [], ◌∷◌}
+use Rattle.std.proofs.Common.{◌++◌, map, length, get_or, replicate, bit_and, refl, sym, ap, ap₂, ◌∙◌, arith, w8, Fits}
 use Rattle.std.proofs.lemmas.Bool.{agree_below, agree_below_at}
 use Rattle.std.proofs.lemmas.Nat.{and_le_r, and_mask}
-use Rattle.std.proofs.lemmas.Simd.{zip2_splat, zip2_of_maps, map-map, mask_l-mod, Each1-all, Each1-weaker, Each1-zip2, Each2-splat, Each1-get_or, below_from_Fits, swz_l, SwzOk, SwzOk-from_below, length-swz_l, get_or-swz_l_below}
+use Rattle.std.proofs.lemmas.Simd.{zip2_splat, zip2_of_maps, map-map, mask_l-mod, Each1-all, Each1-weaker, Each1-zip2}
+use Rattle.std.proofs.lemmas.Simd.{Each2-splat, Each1-get_or, below_from_Fits, swz_l, SwzOk, SwzOk-from_below}
+use Rattle.std.proofs.lemmas.Simd.{length-swz_l, get_or-swz_l_below}
 use Rattle.std.proofs.lemmas.List.{get_or-map, get_or_append_left, length-map, ext_get_or}
 use Rattle.std.proofs.lemmas.List.FromFn.{get_or-map-range_with_len}
 use Rattle.std.specs.List.{range_with_len}
@@ -18,20 +21,25 @@ map_same f g all [] fits = refl
 map_same f g all (x ∷ xs) fits = ap₂ (λ a b. a ∷ b) (all x fits.0.fits) (map_same f g all xs fits.1)
 
 -- an operation of a vector that was computed lane by lane and a splat
-pub to_splat : (h : ℕ → ℕ → ℕ) (f : ℕ → ℕ) (y n : ℕ) (v : List ℕ) {a : List ℕ} → length v ≡ n → a ≡ map f v → zip2 h a (replicate n y) ≡ map (λ x. h (f x) y) v
+pub to_splat : (h : ℕ → ℕ → ℕ) (f : ℕ → ℕ) (y n : ℕ) (v : List ℕ) {a : List ℕ} → length v ≡ n → a ≡ map f v
+    → zip2 h a (replicate n y) ≡ map (λ x. h (f x) y) v
 to_splat h f y n v {a} long e =
     ap (λ l. zip2 h l (replicate n y)) e ∙ zip2_splat h (map f v) n y (length-map v f ∙ long) ∙ map-map (λ x. h x y) f v
 
 -- the mask of the lanes z, which were computed from the bytes v
-pub mask_of : (f : ℕ → ℕ) (class : ℕ → Bool) (v z : List ℕ) → length v ≡ 32 → Each1 (Fits w8) v → z ≡ map f v → ((x : ℕ) → x < 256 → top 7 (f x) ≡ not (class x))
+pub mask_of : (f : ℕ → ℕ) (class : ℕ → Bool) (v z : List ℕ) → length v ≡ 32 → Each1 (Fits w8) v → z ≡ map f v
+    → ((x : ℕ) → x < 256 → top 7 (f x) ≡ not (class x))
     → mask_l (map (top 7) z) % 2 ^ 64 ≡ outside_mask class v
 mask_of f class v z long fits e all =
-    ap (λ l. mask_l l % 2 ^ 64) (ap (map (top 7)) e ∙ map-map (top 7) f v ∙ map_same (λ x. top 7 (f x)) (λ x. not (class x)) all v fits)
+    ap (λ l. mask_l l % 2 ^ 64) (ap (map (top 7)) e ∙ map-map (top 7) f v
+    ∙ map_same (λ x. top 7 (f x)) (λ x. not (class x)) all v fits)
     ∙ mask_l-mod (map (λ x. not (class x)) v) 64 (omega (arith, length-map v (λ x. not (class x))))
 
 -- classes that agree at each byte have one mask
-pub mask_same : (class other : ℕ → Bool) (v : List ℕ) → Each1 (Fits w8) v → agree_below class other 256 ≡ true → outside_mask class v ≡ outside_mask other v
-mask_same class other v fits all = ap mask_l (map_same (λ x. not (class x)) (λ x. not (other x)) (λ x lt. ap not (agree_below_at class other 256 x all lt)) v fits)
+pub mask_same : (class other : ℕ → Bool) (v : List ℕ) → Each1 (Fits w8) v → agree_below class other 256 ≡ true
+    → outside_mask class v ≡ outside_mask other v
+mask_same class other v fits all = ap mask_l (map_same (λ x. not (class x)) (λ x. not (other x))
+    (λ x lt. ap not (agree_below_at class other 256 x all lt)) v fits)
 
 -- one lane of `simd_eq`
 abbrev pub hit : ℕ → ℕ → ℕ
@@ -42,7 +50,8 @@ hit a b = cond (eqb a b) 255 0
 pub low_halves : (v : List ℕ) → length v ≡ 32 → Each1 (λ j. j < 16) (zip2 bit_and v (replicate 32 15))
 low_halves v long =
     Each1-zip2 bit_and (λ j. j < 16) v (replicate 32 15)
-    (Each2-splat (λ a b. bit_and a b < 16) v 32 15 (Each1-all (λ a. bit_and a 15 < 16) (λ a. omega (arith, and_le_r a 15)) v))
+    (Each2-splat (λ a b. bit_and a b < 16) v 32 15
+    (Each1-all (λ a. bit_and a 15 < 16) (λ a. omega (arith, and_le_r a 15)) v))
 
 abbrev pub down : ℕ → ℕ → ℕ
 down a b = a / 2 ^ b
@@ -50,7 +59,8 @@ down a b = a / 2 ^ b
 pub high_halves : (v : List ℕ) → Each1 (Fits w8) v → Each1 (λ j. j < 16) (zip2 down v (replicate 32 4))
 high_halves v fits =
     Each1-zip2 down (λ j. j < 16) v (replicate 32 4)
-    (Each2-splat (λ a b. down a b < 16) v 32 4 (Each1-weaker (λ a. a < 256) (λ a. a / 16 < 16) (λ a h. omega arith) v (below_from_Fits w8 v fits)))
+    (Each2-splat (λ a b. down a b < 16) v 32 4 (Each1-weaker (λ a. a < 256) (λ a. a / 16 < 16) (λ a h. omega arith) v
+    (below_from_Fits w8 v fits)))
 
 pub places_ok : (js : List ℕ) → length js ≡ 32 → Each1 (λ j. j < 16) js → SwzOk w8 16 32 0 js
 places_ok js long small = SwzOk-from_below w8 16 2 32 0 js refl (omega arith) small
@@ -74,7 +84,8 @@ looked_up table js size long small =
     ∙ sym (get_or-map (λ j. get_or table j 0) js i 0 0 lt))
 
 -- the test of one byte
-pub marked_at : (table : List ℕ) (class : ℕ → Bool) (b : ℕ) → b < 256 → agree_below (is_marked table) class 256 ≡ true → is_marked table b ≡ class b
+pub marked_at : (table : List ℕ) (class : ℕ → Bool) (b : ℕ) → b < 256 → agree_below (is_marked table) class 256 ≡ true
+    → is_marked table b ≡ class b
 marked_at table class b lt all = agree_below_at (is_marked table) class 256 b all lt
 
 flag : (b : Bool) → top 7 (cond b 255 0) ≡ not (not b)
@@ -83,11 +94,17 @@ flag false = refl
 
 -- a class by two look-ups
 pub by_look_ups : (table v by_low by_high : List ℕ) → length v ≡ 32 → Each1 (Fits w8) v
-    → by_low ≡ map (λ j. get_or table j 0) (zip2 bit_and v (replicate 32 15)) → by_high ≡ map (λ j. get_or HIGH j 0) (zip2 down v (replicate 32 4))
-    → mask_l (map (top 7) (zip2 hit (zip2 bit_and by_low by_high) (replicate 32 0))) % 2 ^ 64 ≡ outside_mask (is_marked table) v
+    → by_low ≡ map (λ j. get_or table j 0) (zip2 bit_and v (replicate 32 15))
+    → by_high ≡ map (λ j. get_or HIGH j 0) (zip2 down v (replicate 32 4))
+    → mask_l (map (top 7) (zip2 hit (zip2 bit_and by_low by_high) (replicate 32 0))) % 2 ^ 64
+    ≡ outside_mask (is_marked table) v
 by_look_ups table v by_low by_high long fits low high =
-    mask_of (λ x. hit (bit_and (get_or table (bit_and x 15) 0) (get_or HIGH (down x 4) 0)) 0) (is_marked table) v _ long fits
+    mask_of (λ x. hit (bit_and (get_or table (bit_and x 15) 0) (get_or HIGH (down x 4) 0)) 0) (is_marked table) v _ long
+    fits
     (to_splat hit _ 0 32 v long (zip2_of_maps bit_and _ _ v
-    (low ∙ ap (map (λ j. get_or table j 0)) (zip2_splat bit_and v 32 15 long) ∙ map-map (λ j. get_or table j 0) (λ x. bit_and x 15) v)
-    (high ∙ ap (map (λ j. get_or HIGH j 0)) (zip2_splat down v 32 4 long) ∙ map-map (λ j. get_or HIGH j 0) (λ x. down x 4) v)))
-    (λ x lt. flag (eqb (bit_and (get_or table (bit_and x 15) 0) (get_or HIGH (down x 4) 0)) 0) ∙ ap (λ j. not (not (eqb (bit_and (get_or table j 0) (get_or HIGH (down x 4) 0)) 0))) (and_mask x 4))
+    (low ∙ ap (map (λ j. get_or table j 0)) (zip2_splat bit_and v 32 15 long)
+    ∙ map-map (λ j. get_or table j 0) (λ x. bit_and x 15) v)
+    (high ∙ ap (map (λ j. get_or HIGH j 0)) (zip2_splat down v 32 4 long)
+    ∙ map-map (λ j. get_or HIGH j 0) (λ x. down x 4) v)))
+    (λ x lt. flag (eqb (bit_and (get_or table (bit_and x 15) 0) (get_or HIGH (down x 4) 0)) 0)
+    ∙ ap (λ j. not (not (eqb (bit_and (get_or table j 0) (get_or HIGH (down x 4) 0)) 0))) (and_mask x 4))

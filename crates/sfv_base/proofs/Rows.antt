@@ -1,10 +1,12 @@
 -- The table's rule, and the classes as bits of a row.
-use Rattle.std.proofs.Common.{◌≡◌, ℕ, ◌<◌, Bool, true, false, not, ◌&&◌, eqb, map, get_or, bit_and, refl, ap, ◌∙◌, arith}
+use Rattle.std.proofs.Common.{◌≡◌, ℕ, ◌<◌, Bool, true, false, not, ◌&&◌, eqb, map, get_or, bit_and, refl, ap, ◌∙◌}
+use Rattle.std.proofs.Common.{arith}
 use Rattle.std.proofs.lemmas.Bool.{and_parts}
 use Rattle.std.proofs.lemmas.List.FromFn.{get_or-map-range_with_len}
 use Rattle.std.specs.List.{range_with_len}
 use mathlib.Core.Bool.{beq}
-use Rattle.sfv_spec.specs.Classes.{is_string_byte, is_token_start, is_token_inner, is_key_start, is_key_inner, is_lower_hexadecimal}
+use Rattle.sfv_spec.specs.Classes.{is_string_byte, is_token_start, is_token_inner, is_key_start, is_key_inner}
+use Rattle.sfv_spec.specs.Classes.{is_lower_hexadecimal}
 use Rattle.sfv_base.specs.Rows.{row_of, sum_of}
 use Rattle.sfv_base.specs.declared.utils.TheConstants.{ROWS}
 
@@ -41,7 +43,8 @@ module _ (weight : ℕ) (part : Bool → Bool → Bool → Bool → Bool → Boo
   bit_of : every (λ a. every (λ b. every (λ c. every (λ d. every (λ e. every (λ f. right a b c d e f)))))) ≡ true
       → (a b c d e f : Bool) → has_bit weight (sum_of a b c d e f) ≡ part a b c d e f
   bit_of all a b c d e f =
-      let at_a = every_at (λ a. every (λ b. every (λ c. every (λ d. every (λ e. every (λ f. right a b c d e f)))))) all a in
+      let at_a = every_at (λ a. every (λ b. every (λ c. every (λ d. every (λ e. every (λ f. right a b c d e f)))))) all
+      a in
       let at_b = every_at (λ b. every (λ c. every (λ d. every (λ e. every (λ f. right a b c d e f))))) at_a b in
       let at_c = every_at (λ c. every (λ d. every (λ e. every (λ f. right a b c d e f)))) at_b c in
       let at_d = every_at (λ d. every (λ e. every (λ f. right a b c d e f))) at_c d in
@@ -67,4 +70,11 @@ key_inner_bit byte row is = rw is (bit_of 16 (λ a b c d e f. e) refl _ _ _ _ _ 
 pub lower_hexadecimal_bit : (byte row : ℕ) → row ≡ row_of byte → has_bit 32 row ≡ is_lower_hexadecimal byte
 lower_hexadecimal_bit byte row is = rw is (bit_of 32 (λ a b c d e f. f) refl _ _ _ _ _ _)
 
-pub ruleset class_bits = (string_bit, token_start_bit, token_inner_bit, key_start_bit, key_inner_bit, lower_hexadecimal_bit)
+pub ruleset class_bits = (
+  string_bit,
+  token_start_bit,
+  token_inner_bit,
+  key_start_bit,
+  key_inner_bit,
+  lower_hexadecimal_bit,
+)

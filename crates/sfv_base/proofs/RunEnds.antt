@@ -1,5 +1,6 @@
 -- A run of a class, seen 32 bytes at a time through the mask of those outside it.
-use Rattle.std.proofs.Common.{◌≡◌, ℕ, zero, suc, ◌+◌, ◌*◌, ◌/◌, ◌<◌, ◌≤◌, Bool, true, false, not, cond, eqb, List, [], ◌∷◌, length, get_or, take, drop, refl, sym, ap, ap₂, ◌∙◌, arith, drop-drop}
+use Rattle.std.proofs.Common.{◌≡◌, ℕ, zero, suc, ◌+◌, ◌*◌, ◌/◌, ◌<◌, ◌≤◌, Bool, true, false, not, cond, eqb, List, []}
+use Rattle.std.proofs.Common.{◌∷◌, length, get_or, take, drop, refl, sym, ap, ap₂, ◌∙◌, arith, drop-drop}
 use Rattle.std.proofs.lemmas.Simd.{chunk-drop, length-chunk, leading_from_mask_l, trailing_mask_l}
 use Rattle.std.proofs.lemmas.List.Folds.{prefix_len-append}
 use Rattle.std.proofs.lemmas.List.Sums.{prefix_len-le-length, prefix_len_stops}
@@ -18,7 +19,8 @@ chunk_at n (suc k) xs (suc i) lt =
     let e : n + n * i ≡ n * suc i = grind arith in
     chunk_at n k (drop n xs) i (omega arith) ∙ ap (take n) (drop-drop (n * i) n xs ∙ ap (λ j. drop j xs) e)
 
-none_outside : (b : Bool) (n l m : ℕ) → n ≤ l → cond b (1 + n) 0 ≡ 1 + l → (n ≡ l → m ≡ 0) → cond (not b) 1 0 + 2 * m ≡ 0
+none_outside : (b : Bool) (n l m : ℕ) → n ≤ l → cond b (1 + n) 0 ≡ 1 + l → (n ≡ l → m ≡ 0)
+    → cond (not b) 1 0 + 2 * m ≡ 0
 none_outside false n l m le e ih = let no : ⊥ = omega arith in absurd no
 none_outside true n l m le e ih = let z = ih (omega arith) in omega arith
 
@@ -38,27 +40,34 @@ module _ (class : ℕ → Bool) where
   whole [] e = refl
   whole (x ∷ xs) e = none_outside (class x) _ (length xs) _ (prefix_len-le-length class xs) (omega arith) (whole xs)
 
-  split : (d : List ℕ) (i n : ℕ) → prefix_len class (drop i d) ≡ cond (eqb (prefix_len class (chunk i n d)) (length (chunk i n d))) (length (chunk i n d) + prefix_len class (drop (i + n) d)) (prefix_len class (chunk i n d))
+  split : (d : List ℕ) (i n : ℕ) → prefix_len class (drop i d)
+      ≡ cond (eqb (prefix_len class (chunk i n d)) (length (chunk i n d)))
+      (length (chunk i n d) + prefix_len class (drop (i + n) d)) (prefix_len class (chunk i n d))
   split d i n = ap (prefix_len class) (chunk-drop i n d) ∙ prefix_len-append class (chunk i n d) (drop (i + n) d)
 
   -- no byte of the chunk is outside
-  pub run_through : (d : List ℕ) (i n : ℕ) → i + n ≤ length d → outside_mask class (chunk i n d) ≡ 0 → prefix_len class (drop i d) ≡ n + prefix_len class (drop (i + n) d)
+  pub run_through : (d : List ℕ) (i n : ℕ) → i + n ≤ length d → outside_mask class (chunk i n d) ≡ 0
+      → prefix_len class (drop i d) ≡ n + prefix_len class (drop (i + n) d)
   run_through d i n room none =
       let c = chunk i n d in
-      split d i n ∙ ap (λ b. cond b (length c + prefix_len class (drop (i + n) d)) (prefix_len class c)) (eq-eqb _ _ (same_run c ∙ leading_from_mask_l other c none))
+      split d i n ∙ ap (λ b. cond b (length c + prefix_len class (drop (i + n) d)) (prefix_len class c))
+      (eq-eqb _ _ (same_run c ∙ leading_from_mask_l other c none))
       ∙ ap (λ k. k + prefix_len class (drop (i + n) d)) (length-chunk i n d room)
 
   -- the lowest bit is the end
-  pub run_stops : (d : List ℕ) (i n : ℕ) → i + n ≤ length d → n ≤ 64 → 0 < outside_mask class (chunk i n d) → prefix_len class (drop i d) ≡ count_trailing_zeros 64 (outside_mask class (chunk i n d))
+  pub run_stops : (d : List ℕ) (i n : ℕ) → i + n ≤ length d → n ≤ 64 → 0 < outside_mask class (chunk i n d)
+      → prefix_len class (drop i d) ≡ count_trailing_zeros 64 (outside_mask class (chunk i n d))
   run_stops d i n room short some =
       let c = chunk i n d in
-      split d i n ∙ ap (λ b. cond b (length c + prefix_len class (drop (i + n) d)) (prefix_len class c)) (ne_eqb _ _ (λ (e : prefix_len class c ≡ length c). omega (arith, whole c e)))
+      split d i n ∙ ap (λ b. cond b (length c + prefix_len class (drop (i + n) d)) (prefix_len class c))
+      (ne_eqb _ _ (λ (e : prefix_len class c ≡ length c). omega (arith, whole c e)))
       ∙ same_run c ∙ sym (trailing_mask_l other 64 c (omega (arith, length-chunk i n d room)) some)
 
   -- ---- one block of 32 bytes, of which those before let the run go on
 
   module _ (xs : List ℕ) (blocks : List (List ℕ)) (i end mask : ℕ)
-      (front : blocks ≡ first_chunks 32 (length xs / 32) xs) (count : length blocks ≡ length xs / 32) (lt : i < length blocks)
+      (front : blocks ≡ first_chunks 32 (length xs / 32) xs) (count : length blocks
+      ≡ length xs / 32) (lt : i < length blocks)
       (so_far : prefix_len class xs ≡ end + prefix_len class (drop end xs)) (place : end ≡ 32 * i)
       (masked : mask ≡ outside_mask class (get_or blocks i [])) where
     room : end + 32 ≤ length xs
@@ -66,7 +75,8 @@ module _ (class : ℕ → Bool) where
 
     mask_is : mask ≡ outside_mask class (chunk end 32 xs)
     mask_is =
-        masked ∙ ap (outside_mask class) (ap (λ l. get_or l i []) front ∙ chunk_at 32 (length xs / 32) xs i (omega arith))
+        masked ∙ ap (outside_mask class) (ap (λ l. get_or l i []) front
+        ∙ chunk_at 32 (length xs / 32) xs i (omega arith))
         ∙ ap (λ k. outside_mask class (chunk k 32 xs)) (sym place)
 
     pub block_passed : mask ≡ 0 → prefix_len class xs ≡ end + 32 + prefix_len class (drop (end + 32) xs)
@@ -74,7 +84,8 @@ module _ (class : ℕ → Bool) where
 
     pub block_ends : (mask ≡ 0 → ⊥) → prefix_len class xs ≡ end + count_trailing_zeros 64 mask
     block_ends some =
-        so_far ∙ ap (λ k. end + k) (run_stops xs end 32 room (omega arith) (omega (arith, mask_is)) ∙ ap (count_trailing_zeros 64) (sym mask_is))
+        so_far ∙ ap (λ k. end + k) (run_stops xs end 32 room (omega arith) (omega (arith, mask_is))
+        ∙ ap (count_trailing_zeros 64) (sym mask_is))
 
   -- ---- what the end tells
 
@@ -82,8 +93,10 @@ module _ (class : ℕ → Bool) where
   each_of [] = refl
   each_of (x ∷ xs) = go (class x) refl (each_of xs)
     where
-      go : (b : Bool) → class x ≡ b → list_all class (take (prefix_len class xs) xs) ≡ true → list_all class (take (cond b (1 + prefix_len class xs) 0) (x ∷ xs)) ≡ true
-      go true e rest = let s : 1 + prefix_len class xs ≡ suc (prefix_len class xs) = omega arith in rw s (and_from _ _ e rest)
+      go : (b : Bool) → class x ≡ b → list_all class (take (prefix_len class xs) xs) ≡ true
+          → list_all class (take (cond b (1 + prefix_len class xs) 0) (x ∷ xs)) ≡ true
+      go true e rest = let s : 1 + prefix_len class xs ≡ suc (prefix_len class xs) = omega arith in
+          rw s (and_from _ _ e rest)
       go false e rest = refl
 
   pub end_within : (xs : List ℕ) (r : ℕ) → r ≡ prefix_len class xs → r ≤ length xs

@@ -1,6 +1,7 @@
 //! Where runs of bytes of a class end.
 
-ghost use Rattle.std.specs.Prelude.{◌≡◌, ◌++◌, ◌≤◌, ◌<◌, ℕ, Bool, IsTrue, IsFalse, length, take, slice_index, slice_range};
+ghost use Rattle.std.specs.Prelude.{◌≡◌, ◌++◌, ◌≤◌, ◌<◌, ℕ, Bool, IsTrue, IsFalse, length, take, slice_index};
+ghost use Rattle.std.specs.Prelude.{slice_range};
 ghost use Rattle.std.specs.List.{prefix_len};
 ghost use Rattle.sfv_spec.specs.Texts.{RunOf};
 ghost use Rattle.sfv_spec.specs.Classes.{is_digit, is_space, is_space_or_tab, is_token_inner, is_key_inner};

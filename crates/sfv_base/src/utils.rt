@@ -2,7 +2,8 @@
 #![tactic(auto, using(crate::proofs::Rows::class_bits))]
 
 ghost use Rattle.std.specs.Prelude.{◌≡◌};
-ghost use Rattle.sfv_spec.specs.Classes.{is_string_byte, is_token_start, is_token_inner, is_key_start, is_key_inner, is_lower_hexadecimal};
+ghost use Rattle.sfv_spec.specs.Classes.{is_string_byte, is_token_start, is_token_inner, is_key_start, is_key_inner};
+ghost use Rattle.sfv_spec.specs.Classes.{is_lower_hexadecimal};
 ghost use Rattle.sfv_spec.specs.Strings.{is_escaped_in_string};
 ghost use Rattle.sfv_base.specs.Rows.{row_of};
 

@@ -1,5 +1,6 @@
 -- A bare item is read as the longest text of one.
-use Rattle.std.proofs.Common.{◌≡◌, ℕ, ◌≤◌, true, false, List, [], ◌∷◌, ◌++◌, length, Ok, refl, sym, ap, subst, ◌∙◌, arith, inl, inr}
+use Rattle.std.proofs.Common.{◌≡◌, ℕ, ◌≤◌, true, false, List, [], ◌∷◌, ◌++◌, length, Ok, refl, sym, ap, subst, ◌∙◌}
+use Rattle.std.proofs.Common.{arith, inl, inr}
 use Rattle.std.specs.Prelude.{◌==◌, not, ◌⊎◌, codes}
 use Rattle.std.specs.List.{list_all}
 use Rattle.std.proofs.lemmas.Bool.{or_cases, eqb-true, and_parts, not-true, true≢false}
@@ -22,10 +23,13 @@ use Rattle.sfv_reading.proofs.complete.Bare.{bare_complete}
 module _ (edition : Edition) where
   -- a text of a value is read to its end
   read_whole : (v : BareValue) (s : List ℕ) → IsBareText edition v s → bare_at edition s ≡ Ok (v, [])
-  read_whole v s h = ap (bare_at edition) (sym (append-nil s)) ∙ bare_complete edition v s [] h (Apart-nil is_token_inner)
+  read_whole v s h = ap (bare_at edition) (sym (append-nil s))
+      ∙ bare_complete edition v s [] h (Apart-nil is_token_inner)
 
   -- the reader stops where it did, if the text is cut off further on
-  no_longer : (p rest : List ℕ) (v w : BareValue) (more behind : List ℕ) → ((r : List ℕ) → first r ≡ first rest → bare_at edition (p ++ r) ≡ Ok (v, r)) → rest ≡ more ++ behind → IsBareText edition w (p ++ more) → more ≡ []
+  no_longer : (p rest : List ℕ) (v w : BareValue) (more behind : List ℕ)
+      → ((r : List ℕ) → first r ≡ first rest → bare_at edition (p ++ r) ≡ Ok (v, r)) → rest ≡ more ++ behind
+      → IsBareText edition w (p ++ more) → more ≡ []
   no_longer p rest v w [] behind lasts e h = refl
   no_longer p rest v w (c ∷ more) behind lasts e h =
       let short = lasts (c ∷ more) (ap first (sym e)) in
@@ -34,16 +38,21 @@ module _ (edition : Edition) where
       ap (λ (x : BareValue × List ℕ). x.1) pairs
 
 -- where two beginnings of a text end: the second is no longer, or goes on after the first
-parted : (a b c d : List ℕ) → a ++ b ≡ c ++ d → (length c ≤ length a) ⊎ ((more : List ℕ) × (c ≡ a ++ more) × (b ≡ more ++ d))
+parted : (a b c d : List ℕ) → a ++ b ≡ c ++ d → (length c ≤ length a)
+    ⊎ ((more : List ℕ) × (c ≡ a ++ more) × (b ≡ more ++ d))
 parted [] b c d e = inr (c, refl, e)
 parted (x ∷ a) b [] d e = inl (omega arith)
 parted (x ∷ a) b (y ∷ c) d e =
     let same : x ≡ y = cc in
     let tails : a ++ b ≡ c ++ d = cc in
-    elim (parted a b c d tails) [ inl l ↦ inl (omega arith) | inr w ↦ inr (w.0, ap (λ (z : ℕ). z ∷ c) (sym same) ∙ ap (λ (l : List ℕ). x ∷ l) w.1, w.2) ]
+    elim (parted a b c d tails) [
+      | inl l ↦ inl (omega arith)
+      | inr w ↦ inr (w.0, ap (λ (z : ℕ). z ∷ c) (sym same) ∙ ap (λ (l : List ℕ). x ∷ l) w.1, w.2)
+    ]
 
 -- the longest text
-begins_on : (edition : Edition) (t : List ℕ) (v : BareValue) (rest s : List ℕ) → t ≡ s ++ rest → IsBareText edition v s → Lasts (bare_at edition) t (Ok (v, rest)) → BeginsWithBare edition t v rest
+begins_on : (edition : Edition) (t : List ℕ) (v : BareValue) (rest s : List ℕ) → t ≡ s ++ rest → IsBareText edition v s
+    → Lasts (bare_at edition) t (Ok (v, rest)) → BeginsWithBare edition t v rest
 begins_on edition t v rest s parts means l =
     let same : l.0 ≡ s = append_cancel_right l.0 s rest (sym l.1 ∙ parts) in
     record {
@@ -51,22 +60,29 @@ begins_on edition t v rest s parts means l =
       text = parts;
       means = means;
       only = λ w o.
-          let pairs : (w, []) ≡ (v, []) = let one = read_whole edition v s means in let other = read_whole edition w s o in cc in ap (λ (x : BareValue × List ℕ). x.0) pairs;
+          let pairs : (w, []) ≡ (v, []) = let one = read_whole edition v s means in
+          let other = read_whole edition w s o in cc in ap (λ (x : BareValue × List ℕ). x.0) pairs;
       longest = λ longer behind e w. elim (parted s rest longer behind (sym parts ∙ e)) [
         | inl m ↦ m
         | inr m ↦
-            let none = no_longer edition l.0 rest v w.0 m.0 behind l.2 m.2 (subst (IsBareText edition w.0) (m.1 ∙ ap (λ (p : List ℕ). p ++ m.0) (sym same)) w.1) in
+            let none = no_longer edition l.0 rest v w.0 m.0 behind l.2 m.2 (subst (IsBareText edition w.0) (m.1
+            ∙ ap (λ (p : List ℕ). p ++ m.0) (sym same)) w.1) in
             omega (arith, ap (length {A = ℕ}) m.1, length-append s m.0, ap (length {A = ℕ}) none)
       ];
     }
 
 -- ---- what ends a bare item
 
-none_of : (bytes : List ℕ) (c : ℕ) → list_all (λ b. not (is_token_inner b)) bytes ≡ true → is_one_of bytes c ≡ true → is_token_inner c ≡ false
+none_of : (bytes : List ℕ) (c : ℕ) → list_all (λ b. not (is_token_inner b)) bytes ≡ true → is_one_of bytes c ≡ true
+    → is_token_inner c ≡ false
 none_of [] c h e = absurd (true≢false (sym e))
 none_of (b ∷ bytes) c h e =
     let p = and_parts (not (is_token_inner b)) (list_all (λ b. not (is_token_inner b)) bytes) h in
-    elim (or_cases (b == c) (is_one_of bytes c) e) as (λ x. is_token_inner c ≡ false) [ inl i ↦ ap is_token_inner (sym (eqb-true b c i)) ∙ not-true (is_token_inner b) p.0 | inr i ↦ none_of bytes c p.1 i ]
+    elim (or_cases (b == c) (is_one_of bytes c) e) as (λ x. is_token_inner c ≡ false) [
+      | inl i ↦
+          ap is_token_inner (sym (eqb-true b c i)) ∙ not-true (is_token_inner b) p.0
+      | inr i ↦ none_of bytes c p.1 i
+    ]
 
 ended_apart : (rest : List ℕ) → IsEnded rest → Apart is_token_inner rest
 ended_apart [] h = Apart-nil is_token_inner
@@ -75,7 +91,9 @@ ended_apart (c ∷ rest) h = Apart-cons is_token_inner c rest (none_of (codes ";
 pub bare_is_exact : BareIsExact
 bare_is_exact = (
   (λ edition t v rest e.
-      let h = subst (Reached (IsBareText edition) (BareGoes edition) (Somewhere (BareGoes edition)) t) e ((Sound-bare edition).sound t) in
+      let h = subst (Reached (IsBareText edition) (BareGoes edition) (Somewhere (BareGoes edition)) t) e
+      ((Sound-bare edition).sound t) in
       begins_on edition t v rest h.0 h.1 h.2 (subst (Lasts (bare_at edition) t) e ((Local-bare edition).lasts t))),
-  (λ edition t fault e s rest parts w ended. let read = bare_complete edition w.0 s rest w.1 (ended_apart rest ended) in let text = ap (bare_at edition) parts in absurd cc),
+  (λ edition t fault e s rest parts w ended. let read = bare_complete edition w.0 s rest w.1 (ended_apart rest ended) in
+      let text = ap (bare_at edition) parts in absurd cc),
 )

@@ -1,10 +1,16 @@
 -- Reading bare items.
-use Rattle.std.specs.Prelude.{ℕ, ◌+◌, ◌-◌, ◌*◌, ◌^◌, Bool, true, false, ◌||◌, List, ◌∷◌, length, Option, Some, None, nat_lt, ◌==◌, if◌then◌else◌}
-use Rattle.sfv_spec.specs.Ascii.{double_quote, percent_sign, minus_sign, dot, digit_zero, digit_one, colon, question_mark, at_sign}
+use Rattle.std.specs.Prelude.{ℕ, ◌+◌, ◌-◌, ◌*◌, ◌^◌, Bool, true, false, ◌||◌, List, ◌∷◌, length, Option, Some, None}
+use Rattle.std.specs.Prelude.{nat_lt, ◌==◌, if◌then◌else◌}
+use Rattle.sfv_spec.specs.Ascii.{double_quote, percent_sign, minus_sign, dot, digit_zero, digit_one, colon}
+use Rattle.sfv_spec.specs.Ascii.{question_mark, at_sign}
 use Rattle.sfv_spec.specs.Classes.{is_digit, is_token_start, is_token_inner}
 use Rattle.sfv_spec.specs.Numbers.{place_value, signed}
-use Rattle.sfv_spec.specs.Values.{Edition, rfc8941, rfc9651, BareValue, integer, decimal, string, token, byte_sequence, boolean, date, display_string}
-use Rattle.sfv_spec.specs.Faults.{expected_digit, too_many_digits, too_many_digits_before_decimal_point, too_many_digits_after_decimal_point, trailing_decimal_point, rfc8941_date, non_integer_date, rfc8941_display_string, expected_quote, expected_boolean, expected_start_of_bare_item}
+use Rattle.sfv_spec.specs.Values.{Edition, rfc8941, rfc9651, BareValue, integer, decimal, string, token, byte_sequence}
+use Rattle.sfv_spec.specs.Values.{boolean, date, display_string}
+use Rattle.sfv_spec.specs.Faults.{expected_digit, too_many_digits, too_many_digits_before_decimal_point}
+use Rattle.sfv_spec.specs.Faults.{too_many_digits_after_decimal_point, trailing_decimal_point, rfc8941_date}
+use Rattle.sfv_spec.specs.Faults.{non_integer_date, rfc8941_display_string, expected_quote, expected_boolean}
+use Rattle.sfv_spec.specs.Faults.{expected_start_of_bare_item}
 use Rattle.sfv_reading.specs.Reader.{Reader, give, fail, ruled, ◌>>=◌, branch, ahead, back, up_to, span, byte}
 use Rattle.sfv_reading.specs.Content.{bytes_at}
 use Rattle.sfv_reading.specs.Quoted.{string_at, display_at}
@@ -22,7 +28,8 @@ unfoldable pub decimal_at : Bool → Bool → List ℕ → List ℕ → Reader (
 decimal_at dated negative whole fraction =
     if length fraction == 0 then give None else
     ahead is_digit (long_at dated)
-    (give (Some (decimal (signed negative (place_value whole * 1000 + place_value fraction * 10 ^ (3 - length fraction))))))
+    (give (Some (decimal (signed negative (place_value whole * 1000
+    + place_value fraction * 10 ^ (3 - length fraction))))))
 
 -- the digits after the point
 unfoldable pub fraction_at : Bool → Bool → List ℕ → Reader (Option BareValue)
@@ -30,7 +37,8 @@ fraction_at dated negative whole = up_to is_digit 3 >>= λ fraction. decimal_at 
 
 -- at the point
 unfoldable pub point_at : Bool → Bool → List ℕ → Reader BareValue
-point_at dated negative whole = back trailing_decimal_point (branch (byte dot) (λ _. fraction_at dated negative whole) (give None))
+point_at dated negative whole = back trailing_decimal_point
+    (branch (byte dot) (λ _. fraction_at dated negative whole) (give None))
 
 -- after the first digits, of which there are fifteen at most
 unfoldable pub whole_at : Bool → Bool → List ℕ → Reader BareValue
@@ -47,11 +55,13 @@ number_at dated = sign_at >>= λ negative. up_to is_digit 15 >>= λ whole. whole
 
 -- after the question mark
 unfoldable pub boolean_at : Reader BareValue
-boolean_at = branch (byte digit_zero) (λ _. give (boolean false)) (branch (byte digit_one) (λ _. give (boolean true)) (fail expected_boolean))
+boolean_at = branch (byte digit_zero) (λ _. give (boolean false))
+    (branch (byte digit_one) (λ _. give (boolean true)) (fail expected_boolean))
 
 -- a token, or no bare item at all
 unfoldable pub token_at : Reader BareValue
-token_at = branch is_token_start (λ c. span is_token_inner >>= λ cs. give (token (c ∷ cs))) (fail expected_start_of_bare_item)
+token_at = branch is_token_start (λ c. span is_token_inner >>= λ cs. give (token (c ∷ cs)))
+    (fail expected_start_of_bare_item)
 
 -- a Decimal is no Date
 abbrev pub as_date : BareValue → Option BareValue
@@ -61,12 +71,15 @@ as_date _ = None
 -- at the sign "@", which only RFC 9651 knows
 unfoldable pub date_at : Edition → Reader BareValue
 date_at rfc8941 = fail rfc8941_date
-date_at rfc9651 = back non_integer_date (branch (byte at_sign) (λ _. number_at true >>= λ v. give (as_date v)) (give None))
+date_at rfc9651 = back non_integer_date
+    (branch (byte at_sign) (λ _. number_at true >>= λ v. give (as_date v)) (give None))
 
 -- at the percent sign, which only RFC 9651 knows
 unfoldable pub quoted_at : Edition → Reader BareValue
 quoted_at rfc8941 = fail rfc8941_display_string
-quoted_at rfc9651 = branch (byte percent_sign) (λ _. branch (byte double_quote) (λ _. display_at >>= λ s. give (display_string s)) (fail expected_quote)) (fail expected_start_of_bare_item)
+quoted_at rfc9651 = branch (byte percent_sign)
+    (λ _. branch (byte double_quote) (λ _. display_at >>= λ s. give (display_string s)) (fail expected_quote))
+    (fail expected_start_of_bare_item)
 
 -- a number begins with a digit or a minus sign
 abbrev pub is_number_start : ℕ → Bool

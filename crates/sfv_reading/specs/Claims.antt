@@ -1,5 +1,6 @@
 -- What the readers of fields have to do with the grammar.
-use Rattle.std.specs.Prelude.{◌≡◌, ◌↔◌, ℕ, ◌+◌, ◌≤◌, ◌%◌, Bool, List, [], ◌∷◌, ◌++◌, length, drop, true, false, IsTrue, ⊤, Some, None, Ok, Err, ◌⊎◌, codes}
+use Rattle.std.specs.Prelude.{◌≡◌, ◌↔◌, ℕ, ◌+◌, ◌≤◌, ◌%◌, Bool, List, [], ◌∷◌, ◌++◌, length, drop, true, false, IsTrue}
+use Rattle.std.specs.Prelude.{⊤, Some, None, Ok, Err, ◌⊎◌, codes}
 use Rattle.sfv_spec.specs.Ascii.{comma, colon, question_mark}
 use Rattle.sfv_spec.specs.Texts.{RunOf}
 use Rattle.sfv_spec.specs.Classes.{is_space_or_tab, is_one_of}
@@ -9,10 +10,16 @@ use Rattle.sfv_spec.specs.Events.{TreeEvent, events}
 use Rattle.sfv_spec.specs.Reach.{IsReach}
 use Rattle.sfv_spec.specs.Visiting.{BeginsEvents}
 use Rattle.sfv_spec.specs.Base64.{IsBase64Text, symbols}
-use Rattle.sfv_spec.specs.Faults.{has_rule, SyntaxFault, trailing_comma, unterminated_byte_sequence, invalid_byte_sequence, unterminated_escape_sequence, invalid_escape_sequence, unterminated_display_string, invalid_display_string_character, invalid_utf8_in_display_string, IsTrailingComma, WantsBetween, IsUnterminatedByteSequence, IsLoneSymbol, IsUnterminatedDisplay, IsUnterminatedEscape, IsInvalidEscape, IsInvalidDisplayByte, IsInvalidUtf8, IsBase64FaultPlace}
+use Rattle.sfv_spec.specs.Faults.{has_rule, SyntaxFault, trailing_comma, unterminated_byte_sequence}
+use Rattle.sfv_spec.specs.Faults.{invalid_byte_sequence, unterminated_escape_sequence, invalid_escape_sequence}
+use Rattle.sfv_spec.specs.Faults.{unterminated_display_string, invalid_display_string_character}
+use Rattle.sfv_spec.specs.Faults.{invalid_utf8_in_display_string, IsTrailingComma, WantsBetween}
+use Rattle.sfv_spec.specs.Faults.{IsUnterminatedByteSequence, IsLoneSymbol, IsUnterminatedDisplay, IsUnterminatedEscape}
+use Rattle.sfv_spec.specs.Faults.{IsInvalidEscape, IsInvalidDisplayByte, IsInvalidUtf8, IsBase64FaultPlace}
 use Rattle.sfv_reading.specs.Reader.{Fault, Reader, by_rule, visited}
 use Rattle.sfv_reading.specs.Judgements.{Sound, Mute, Quiet, IsFault, Local, Complete, StaysButText}
-use Rattle.sfv_reading.specs.Content.{valid_from, bytes_of, fault_place, IsBytesEnd, HasNoColon, content_fault, bytes_at}
+use Rattle.sfv_reading.specs.Content.{valid_from, bytes_of, fault_place, IsBytesEnd, HasNoColon, content_fault}
+use Rattle.sfv_reading.specs.Content.{bytes_at}
 use Rattle.sfv_reading.specs.Quoted.{IsStringEnd, string_at, IsStringFault, IsDisplayEnd, display_at, IsDisplayFault}
 use Rattle.sfv_reading.specs.Bare.{bare_at}
 use Rattle.sfv_reading.specs.Fields.{whole_field_at, read_field}
@@ -25,19 +32,23 @@ pub record IsFaultOf (edition : Edition) (kind : FieldKind) (t : List ℕ) (e : 
 
 -- a field is read as the grammar accepts it
 abbrev pub ReadIsAccepted : Type 0
-ReadIsAccepted = (edition : Edition) (kind : FieldKind) (t : List ℕ) (raw : RawField kind) → (read_field edition kind t ≡ Ok raw) ↔ IsFieldText edition kind raw t
+ReadIsAccepted = (edition : Edition) (kind : FieldKind) (t : List ℕ) (raw : RawField kind)
+    → (read_field edition kind t ≡ Ok raw) ↔ IsFieldText edition kind raw t
 
 -- each fault of a field stands where it should
 abbrev pub FaultIsPlaced : Type 0
-FaultIsPlaced = (edition : Edition) (kind : FieldKind) (t : List ℕ) (e : Fault) → read_field edition kind t ≡ Err e → IsFaultOf edition kind t e
+FaultIsPlaced = (edition : Edition) (kind : FieldKind) (t : List ℕ) (e : Fault) → read_field edition kind t ≡ Err e
+    → IsFaultOf edition kind t e
 
 -- what is visited by an answer, a success or a fault, begins some field's events
 abbrev pub VisitedBegins : Type 0
-VisitedBegins = (edition : Edition) (kind : FieldKind) (t : List ℕ) → BeginsEvents kind (visited (events kind) (whole_field_at edition kind t))
+VisitedBegins = (edition : Edition) (kind : FieldKind) (t : List ℕ)
+    → BeginsEvents kind (visited (events kind) (whole_field_at edition kind t))
 
 -- so does what a visitor took before it rejected, with what it rejected
 abbrev pub FailedBegins : Type 0
-FailedBegins = (kind : FieldKind) (es before : List TreeEvent) (e : TreeEvent) (after : List TreeEvent) → BeginsEvents kind es → es ≡ before ++ e ∷ after → BeginsEvents kind (before ++ e ∷ [])
+FailedBegins = (kind : FieldKind) (es before : List TreeEvent) (e : TreeEvent) (after : List TreeEvent)
+    → BeginsEvents kind es → es ≡ before ++ e ∷ after → BeginsEvents kind (before ++ e ∷ [])
 
 -- what is accepted as an item is a value
 abbrev pub ItemIsValue : Type 0
@@ -45,7 +56,14 @@ ItemIsValue = (edition : Edition) (i : RawItem) (t : List ℕ) → IsItemText ed
 
 -- a comma and blanks at the end, after a field with a member
 abbrev pub CommaRow : Type 0
-CommaRow = (edition : Edition) (kind : FieldKind) (t : List ℕ) (index : ℕ) → IsTrailingComma edition kind t index → (raw : RawField kind) × (read_field edition kind t ≡ Err (record { kind = trailing_comma; exact = false; rest = drop index t; events = events kind raw }))
+CommaRow = (edition : Edition) (kind : FieldKind) (t : List ℕ) (index : ℕ) → IsTrailingComma edition kind t index
+    → (raw : RawField kind)
+    × (read_field edition kind t ≡ Err (record {
+      kind = trailing_comma;
+      exact = false;
+      rest = drop index t;
+      events = events kind raw;
+    }))
 
 -- the fault is that of a bare item, which is wanted after before
 pub record Origin (edition : Edition) (t : List ℕ) (e : Fault) : Type 0 where
@@ -72,8 +90,10 @@ pub record CommaAt {A : Type 0} (P : A → List ℕ → Type 0) (t : List ℕ) (
 
 -- a fault that isn't exact is that of a bare item, or of the comma at the end
 abbrev pub RuledComes : Type 0
-RuledComes = (edition : Edition) (kind : FieldKind) (t : List ℕ) (e : Fault) → read_field edition kind t ≡ Err e → e.exact ≡ false →
-    Origin edition t e ⊎ ((index : ℕ) × (drop index t ≡ e.rest) × (e.kind ≡ trailing_comma) × IsTrailingComma edition kind t index)
+RuledComes = (edition : Edition) (kind : FieldKind) (t : List ℕ) (e : Fault) → read_field edition kind t ≡ Err e
+    → e.exact ≡ false →
+    Origin edition t e ⊎ ((index : ℕ) × (drop index t ≡ e.rest) × (e.kind ≡ trailing_comma)
+    × IsTrailingComma edition kind t index)
 
 -- ---- bare items
 
@@ -87,7 +107,8 @@ pub record BeginsWithBare (edition : Edition) (t : List ℕ) (value : BareValue)
   pub text : t ≡ front ++ rest
   pub means : IsBareText edition value front
   pub only : (other : BareValue) → IsBareText edition other front → other ≡ value
-  pub longest : (longer behind : List ℕ) → t ≡ longer ++ behind → IsSomeBareText edition longer → length longer ≤ length front
+  pub longest : (longer behind : List ℕ) → t ≡ longer ++ behind → IsSomeBareText edition longer
+      → length longer ≤ length front
 
 -- a bare item ends here: at the end, or at a semicolon, SP, a tab, a comma or a closing parenthesis
 abbrev pub IsEnded : List ℕ → Type 0
@@ -97,8 +118,10 @@ IsEnded (c ∷ cs) = IsTrue (is_one_of (codes "; \t,)") c)
 -- what is read is the longest text; where nothing is read, no text of a value stands there and is ended
 abbrev pub BareIsExact : Type 0
 BareIsExact =
-    ((edition : Edition) (t : List ℕ) (value : BareValue) (rest : List ℕ) → bare_at edition t ≡ Ok (value, rest) → BeginsWithBare edition t value rest)
-    × ((edition : Edition) (t : List ℕ) (e : Fault) → bare_at edition t ≡ Err e → (s rest : List ℕ) → t ≡ s ++ rest → IsSomeBareText edition s → ¬ IsEnded rest)
+    ((edition : Edition) (t : List ℕ) (value : BareValue) (rest : List ℕ) → bare_at edition t ≡ Ok (value, rest)
+    → BeginsWithBare edition t value rest)
+    × ((edition : Edition) (t : List ℕ) (e : Fault) → bare_at edition t ≡ Err e → (s rest : List ℕ) → t ≡ s ++ rest
+    → IsSomeBareText edition s → ¬ IsEnded rest)
 
 -- ---- the insides of byte sequences, strings and display strings
 
@@ -119,15 +142,18 @@ LeavesOneOver = (content : List ℕ) → bytes_of content ≡ None
 abbrev pub IsBytesFault : List ℕ → Fault → Type 0
 IsBytesFault t e =
     (HasNoColon t × (e ≡ by_rule unterminated_byte_sequence []))
-    ⊎ ((content : List ℕ) × (rest : List ℕ) × (t ≡ content ++ colon ∷ rest) × HasNoColon content × (bytes_of content ≡ None) × (e ≡ content_fault content (drop (fault_place content) t)))
+    ⊎ ((content : List ℕ) × (rest : List ℕ) × (t ≡ content ++ colon ∷ rest) × HasNoColon content
+    × (bytes_of content ≡ None) × (e ≡ content_fault content (drop (fault_place content) t)))
 
 -- a Byte Sequence is read exactly, and exactly these are its faults
 abbrev pub BytesRead : Type 0
-BytesRead = Sound bytes_at IsBytesEnd (Mute IsBytesEnd) Quiet × Complete bytes_at IsBytesEnd × ((t : List ℕ) (e : Fault) → (bytes_at t ≡ Err e) ↔ IsBytesFault t e) × Local bytes_at
+BytesRead = Sound bytes_at IsBytesEnd (Mute IsBytesEnd) Quiet × Complete bytes_at IsBytesEnd
+    × ((t : List ℕ) (e : Fault) → (bytes_at t ≡ Err e) ↔ IsBytesFault t e) × Local bytes_at
 
 -- In a text in which a bare item is wanted after before, and a Byte Sequence begins there, the reader gives
 -- this fault by its rule, where so much of the whole is left.
-pub record IsFaultOfBytes (edition : Edition) (kind : FieldKind) (whole : List ℕ) (k : SyntaxFault) (index : ℕ) : Type 0 where
+pub record IsFaultOfBytes (edition : Edition) (kind : FieldKind) (whole : List ℕ) (k : SyntaxFault)
+    (index : ℕ) : Type 0 where
   pub before : List ℕ
   pub inside : List ℕ
   pub there : List ℕ
@@ -138,14 +164,18 @@ pub record IsFaultOfBytes (edition : Edition) (kind : FieldKind) (whole : List �
 -- the faults of a Byte Sequence that have rules are those of these rules, each at its place
 abbrev pub BytesRules : Type 0
 BytesRules =
-    ((edition : Edition) (kind : FieldKind) (whole : List ℕ) (index : ℕ) → IsFaultOfBytes edition kind whole unterminated_byte_sequence index ↔ IsUnterminatedByteSequence edition kind whole index)
-    × ((edition : Edition) (kind : FieldKind) (whole : List ℕ) (index : ℕ) → IsFaultOfBytes edition kind whole invalid_byte_sequence index ↔ IsLoneSymbol edition kind whole index)
+    ((edition : Edition) (kind : FieldKind) (whole : List ℕ) (index : ℕ)
+    → IsFaultOfBytes edition kind whole unterminated_byte_sequence index
+    ↔ IsUnterminatedByteSequence edition kind whole index)
+    × ((edition : Edition) (kind : FieldKind) (whole : List ℕ) (index : ℕ)
+    → IsFaultOfBytes edition kind whole invalid_byte_sequence index ↔ IsLoneSymbol edition kind whole index)
 
 -- where a question mark comes, the reader of Byte Sequences faults, or it was done before
 abbrev pub ShunsMark : List ℕ → Type 0
 ShunsMark u =
     ((c : List ℕ) → IsFault (bytes_at (u ++ question_mark ∷ c)))
-    ⊎ ((rest : List ℕ) × (bytes : List ℕ) × ((c : List ℕ) → bytes_at (u ++ question_mark ∷ c) ≡ Ok (bytes, rest ++ question_mark ∷ c)))
+    ⊎ ((rest : List ℕ) × (bytes : List ℕ)
+    × ((c : List ℕ) → bytes_at (u ++ question_mark ∷ c) ≡ Ok (bytes, rest ++ question_mark ∷ c)))
 
 -- a question mark stands in no Byte Sequence
 abbrev pub ShunsMarks : Type 0
@@ -157,15 +187,19 @@ Faults exact f P = (t : List ℕ) (e : Fault) → (f t ≡ Err e) ↔ (P t e.kin
 
 -- a String is read exactly, and exactly these are its faults, each at the reach
 abbrev pub StringRead : Type 0
-StringRead = Sound string_at IsStringEnd (Mute IsStringEnd) Quiet × Complete string_at IsStringEnd × Faults true string_at IsStringFault × Local string_at
+StringRead = Sound string_at IsStringEnd (Mute IsStringEnd) Quiet × Complete string_at IsStringEnd
+    × Faults true string_at IsStringFault × Local string_at
 
 -- a Display String is read exactly, and exactly these are its faults, each with a rule of its own
 abbrev pub DisplayRead : Type 0
-DisplayRead = Sound display_at IsDisplayEnd (Mute IsDisplayEnd) Quiet × Complete display_at IsDisplayEnd × Faults false display_at IsDisplayFault × Local display_at × ((t : List ℕ) → StaysButText display_at t (display_at t))
+DisplayRead = Sound display_at IsDisplayEnd (Mute IsDisplayEnd) Quiet × Complete display_at IsDisplayEnd
+    × Faults false display_at IsDisplayFault × Local display_at
+    × ((t : List ℕ) → StaysButText display_at t (display_at t))
 
 -- In a text in which a bare item is wanted after before, and a Display String begins there, the reader gives
 -- this fault, where so much of the whole is left.
-pub record IsFaultOfDisplay (edition : Edition) (kind : FieldKind) (whole : List ℕ) (k : SyntaxFault) (index : ℕ) : Type 0 where
+pub record IsFaultOfDisplay (edition : Edition) (kind : FieldKind) (whole : List ℕ) (k : SyntaxFault)
+    (index : ℕ) : Type 0 where
   pub known : edition ≡ rfc9651
   pub before : List ℕ
   pub inside : List ℕ
@@ -176,10 +210,12 @@ pub record IsFaultOfDisplay (edition : Edition) (kind : FieldKind) (whole : List
 
 -- a rule of the fault table says where the reader gives this fault
 abbrev pub RuleOf : (Edition → FieldKind → List ℕ → ℕ → Type 0) → SyntaxFault → Type 0
-RuleOf R k = (edition : Edition) (kind : FieldKind) (whole : List ℕ) (index : ℕ) → IsFaultOfDisplay edition kind whole k index ↔ R edition kind whole index
+RuleOf R k = (edition : Edition) (kind : FieldKind) (whole : List ℕ) (index : ℕ)
+    → IsFaultOfDisplay edition kind whole k index ↔ R edition kind whole index
 
 -- the faults of a Display String are those of its rules, each at its place
 abbrev pub DisplayRules : Type 0
 DisplayRules =
-    RuleOf IsUnterminatedDisplay unterminated_display_string × RuleOf IsUnterminatedEscape unterminated_escape_sequence × RuleOf IsInvalidEscape invalid_escape_sequence
+    RuleOf IsUnterminatedDisplay unterminated_display_string × RuleOf IsUnterminatedEscape unterminated_escape_sequence
+    × RuleOf IsInvalidEscape invalid_escape_sequence
     × RuleOf IsInvalidDisplayByte invalid_display_string_character × RuleOf IsInvalidUtf8 invalid_utf8_in_display_string

@@ -1,7 +1,9 @@
 -- Reading a Byte Sequence: its content from left to right, and the reader after the opening colon.
-use Rattle.std.specs.Prelude.{◌≡◌, ◌++◌, ℕ, zero, suc, ◌+◌, ◌-◌, ◌*◌, ◌/◌, ◌%◌, ◌==◌, List, [], ◌∷◌, length, drop, Bool, not, ◌&&◌, if◌then◌else◌, Option, Some, None, Ok, Err, codes}
+use Rattle.std.specs.Prelude.{◌≡◌, ◌++◌, ℕ, zero, suc, ◌+◌, ◌-◌, ◌*◌, ◌/◌, ◌%◌, ◌==◌, List, [], ◌∷◌, length, drop, Bool}
+use Rattle.std.specs.Prelude.{not, ◌&&◌, if◌then◌else◌, Option, Some, None, Ok, Err, codes}
 use Rattle.std.specs.List.{list_any}
-use Rattle.sfv_spec.specs.Ascii.{plus_sign, slash, digit_zero, digit_nine, colon, equals_sign, upper_a, upper_z, lower_a, lower_z}
+use Rattle.sfv_spec.specs.Ascii.{plus_sign, slash, digit_zero, digit_nine, colon, equals_sign, upper_a, upper_z}
+use Rattle.sfv_spec.specs.Ascii.{lower_a, lower_z}
 use Rattle.sfv_spec.specs.Texts.{RunOf, Exactly, ◌⨾◌}
 use Rattle.sfv_spec.specs.Classes.{is_between}
 use Rattle.sfv_spec.specs.Base64.{is_symbol, IsBase64Text}
@@ -86,7 +88,8 @@ closed_by t content None = Err (content_fault content (drop (fault_place content
 
 -- a Byte Sequence, or the fault of its content
 unfoldable pub bytes_at : Reader (List ℕ)
-bytes_at t = if list_any is_colon t then closed_by t (content_in t) (bytes_of (content_in t)) else Err (by_rule unterminated_byte_sequence [])
+bytes_at t = if list_any is_colon t then closed_by t (content_in t) (bytes_of (content_in t))
+    else Err (by_rule unterminated_byte_sequence [])
 
 -- ---- a reading from a place of an input
 

@@ -13,12 +13,14 @@ pub record GoesOn (W : List ℕ → List TreeEvent → Type 0) (t : List ℕ) (e
   pub holds : W (front ++ more) e.events
 
 -- P v s: the text s means v. V es: es begins what is visited for some text.
-abbrev pub Reached : {A : Type 0} → (A → List ℕ → Type 0) → (List ℕ → List TreeEvent → Type 0) → (List TreeEvent → Type 0) → List ℕ → Answer A → Type 0
+abbrev pub Reached : {A : Type 0} → (A → List ℕ → Type 0) → (List ℕ → List TreeEvent → Type 0)
+    → (List TreeEvent → Type 0) → List ℕ → Answer A → Type 0
 Reached P W V t (Ok x) = (s : List ℕ) × (t ≡ s ++ x.1) × P x.0 s
 Reached P W V t (Err e) = (e.exact ≡ true → GoesOn W t e) × (e.exact ≡ false → V e.events × (has_rule e.kind ≡ true))
 
 -- what is read is of P; in front of an exact fault stands a beginning of a text of W
-pub record Sound {A : Type 0} (f : Reader A) (P : A → List ℕ → Type 0) (W : List ℕ → List TreeEvent → Type 0) (V : List TreeEvent → Type 0) : Type 0 where
+pub record Sound {A : Type 0} (f : Reader A) (P : A → List ℕ → Type 0)
+    (W : List ℕ → List TreeEvent → Type 0) (V : List TreeEvent → Type 0) : Type 0 where
   pub sound : (t : List ℕ) → Reached P W V t (f t)
 
 -- a text of P, for which nothing is visited
@@ -36,7 +38,8 @@ IsFault a = (e : Fault) × (a ≡ Err e)
 -- an answer rests on the bytes up to its place, and on the one that stands there
 abbrev pub Lasts : {A : Type 0} → Reader A → List ℕ → Answer A → Type 0
 Lasts f t (Ok x) = (p : List ℕ) × (t ≡ p ++ x.1) × ((r : List ℕ) → first r ≡ first x.1 → f (p ++ r) ≡ Ok (x.0, r))
-Lasts f t (Err e) = e.exact ≡ true → (p : List ℕ) × (t ≡ p ++ e.rest) × ((r : List ℕ) → first r ≡ first e.rest → IsFault (f (p ++ r)))
+Lasts f t (Err e) = e.exact ≡ true → (p : List ℕ) × (t ≡ p ++ e.rest)
+    × ((r : List ℕ) → first r ≡ first e.rest → IsFault (f (p ++ r)))
 
 -- all answers of a reader rest so
 pub record Local {A : Type 0} (f : Reader A) : Type 0 where
@@ -53,7 +56,8 @@ with_rest e r = record { kind = e.kind; exact = e.exact; rest = r; events = e.ev
 -- an answer of any kind rests so, and stays the same
 abbrev pub Stays : {A : Type 0} → Reader A → List ℕ → Answer A → Type 0
 Stays f t (Ok x) = (p : List ℕ) × (t ≡ p ++ x.1) × ((r : List ℕ) → f (p ++ r) ≡ Ok (x.0, r))
-Stays f t (Err e) = (p : List ℕ) × (t ≡ p ++ e.rest) × ((r : List ℕ) → first r ≡ first e.rest → f (p ++ r) ≡ Err (with_rest e r))
+Stays f t (Err e) = (p : List ℕ) × (t ≡ p ++ e.rest)
+    × ((r : List ℕ) → first r ≡ first e.rest → f (p ++ r) ≡ Err (with_rest e r))
 
 -- all but the place in bytes that aren't UTF-8, which the closing quote decides
 abbrev pub StaysButText : {A : Type 0} → Reader A → List ℕ → Answer A → Type 0

@@ -1,13 +1,17 @@
 -- Reading Strings and Display Strings: what stands after the opening quote, from left to right.
-use Rattle.std.specs.Prelude.{◌≡◌, ℕ, zero, suc, ◌≤◌, ◌+◌, ◌*◌, Bool, true, false, List, [], ◌∷◌, ◌++◌, length, drop, Ok, Err, IsFalse, IsUtf8, ◌==◌, if◌then◌else◌, codes}
+use Rattle.std.specs.Prelude.{◌≡◌, ℕ, zero, suc, ◌≤◌, ◌+◌, ◌*◌, Bool, true, false, List, [], ◌∷◌, ◌++◌, length, drop}
+use Rattle.std.specs.Prelude.{Ok, Err, IsFalse, IsUtf8, ◌==◌, if◌then◌else◌, codes}
 use Rattle.std.specs.List.{concat, AllZip}
 use Rattle.std.specs.Str.{is_utf8}
 use Rattle.std.specs.Str.Lossy.{utf8_valid_len}
 use Rattle.sfv_spec.specs.Ascii.{double_quote, percent_sign, backslash}
 use Rattle.sfv_spec.specs.Texts.{RunOf, Exactly, ◌⨾◌}
 use Rattle.sfv_spec.specs.Classes.{is_string_byte, is_lower_hexadecimal}
-use Rattle.sfv_spec.specs.Strings.{is_escaped_in_string, hexadecimal_value, IsStringPiece, IsStringContent, IsDisplayPiece, IsDisplayContent}
-use Rattle.sfv_spec.specs.Faults.{SyntaxFault, invalid_string_character, unterminated_string, unterminated_escape_sequence, invalid_escape_sequence, invalid_utf8_in_display_string, invalid_display_string_character, unterminated_display_string}
+use Rattle.sfv_spec.specs.Strings.{is_escaped_in_string, hexadecimal_value, IsStringPiece, IsStringContent}
+use Rattle.sfv_spec.specs.Strings.{IsDisplayPiece, IsDisplayContent}
+use Rattle.sfv_spec.specs.Faults.{SyntaxFault, invalid_string_character, unterminated_string}
+use Rattle.sfv_spec.specs.Faults.{unterminated_escape_sequence, invalid_escape_sequence, invalid_utf8_in_display_string}
+use Rattle.sfv_spec.specs.Faults.{invalid_display_string_character, unterminated_display_string}
 use Rattle.sfv_reading.specs.Reader.{Answer, Reader, at_reach, by_rule}
 
 -- the texts of a String after its opening quote
@@ -63,7 +67,8 @@ pieces_from percent (c ∷ r) =
     else Err (by_rule invalid_escape_sequence (c ∷ r))
 pieces_from (digit h) [] = Err (by_rule unterminated_escape_sequence [])
 pieces_from (digit h) (c ∷ r) =
-    if is_lower_hexadecimal c then behind_bytes ((16 * hexadecimal_value h + hexadecimal_value c) ∷ []) (pieces_from outside r)
+    if is_lower_hexadecimal c
+    then behind_bytes ((16 * hexadecimal_value h + hexadecimal_value c) ∷ []) (pieces_from outside r)
     else Err (by_rule invalid_escape_sequence (c ∷ r))
 
 -- what stands after n pieces
@@ -74,7 +79,8 @@ behind_pieces (suc n) (c ∷ r) = behind_pieces n (if c == percent_sign then dro
 
 -- the bytes must be UTF-8
 abbrev pub checked : List ℕ → Answer (List ℕ) → Answer (List ℕ)
-checked t (Ok x) = if is_utf8 x.0 then Ok x else Err (by_rule invalid_utf8_in_display_string (behind_pieces (utf8_valid_len x.0) t))
+checked t (Ok x) = if is_utf8 x.0 then Ok x
+    else Err (by_rule invalid_utf8_in_display_string (behind_pieces (utf8_valid_len x.0) t))
 checked t (Err e) = Err e
 
 -- after the opening quote, with the closing one
@@ -87,16 +93,22 @@ display_at t = checked t (pieces_from outside t)
 abbrev pub StringStops : SyntaxFault → List ℕ → List ℕ → Type 0
 StringStops unterminated_string left there = (left ≡ []) × (there ≡ [])
 StringStops unterminated_escape_sequence left there = (left ≡ backslash ∷ []) × (there ≡ [])
-StringStops invalid_escape_sequence left there = (wrong : ℕ) × (more : List ℕ) × (left ≡ backslash ∷ wrong ∷ more) × (there ≡ wrong ∷ more) × IsFalse (is_escaped_in_string wrong)
-StringStops invalid_string_character left there = (wrong : ℕ) × (more : List ℕ) × (left ≡ wrong ∷ more) × (there ≡ wrong ∷ more) × IsFalse (is_string_byte wrong)
+StringStops invalid_escape_sequence left there = (wrong : ℕ) × (more : List ℕ) × (left ≡ backslash ∷ wrong ∷ more)
+    × (there ≡ wrong ∷ more) × IsFalse (is_escaped_in_string wrong)
+StringStops invalid_string_character left there = (wrong : ℕ) × (more : List ℕ) × (left ≡ wrong ∷ more)
+    × (there ≡ wrong ∷ more) × IsFalse (is_string_byte wrong)
 StringStops _ left there = ⊥
 
 -- a Display String's inside stops so
 abbrev pub DisplayStops : SyntaxFault → List ℕ → List ℕ → Type 0
 DisplayStops unterminated_display_string left there = (left ≡ []) × (there ≡ [])
-DisplayStops unterminated_escape_sequence left there = (digits : List ℕ) × (left ≡ percent_sign ∷ digits) × (there ≡ []) × RunOf is_lower_hexadecimal digits × (length digits ≤ 1)
-DisplayStops invalid_escape_sequence left there = (digits : List ℕ) × (wrong : ℕ) × (more : List ℕ) × (left ≡ percent_sign ∷ (digits ++ wrong ∷ more)) × (there ≡ wrong ∷ more) × RunOf is_lower_hexadecimal digits × (length digits ≤ 1) × IsFalse (is_lower_hexadecimal wrong)
-DisplayStops invalid_display_string_character left there = (wrong : ℕ) × (more : List ℕ) × (left ≡ wrong ∷ more) × (there ≡ wrong ∷ more) × IsFalse (is_string_byte wrong)
+DisplayStops unterminated_escape_sequence left there = (digits : List ℕ) × (left ≡ percent_sign ∷ digits) × (there ≡ [])
+    × RunOf is_lower_hexadecimal digits × (length digits ≤ 1)
+DisplayStops invalid_escape_sequence left there = (digits : List ℕ) × (wrong : ℕ) × (more : List ℕ)
+    × (left ≡ percent_sign ∷ (digits ++ wrong ∷ more)) × (there ≡ wrong ∷ more) × RunOf is_lower_hexadecimal digits
+    × (length digits ≤ 1) × IsFalse (is_lower_hexadecimal wrong)
+DisplayStops invalid_display_string_character left there = (wrong : ℕ) × (more : List ℕ) × (left ≡ wrong ∷ more)
+    × (there ≡ wrong ∷ more) × IsFalse (is_string_byte wrong)
 DisplayStops _ left there = ⊥
 
 -- The pieces that are read, one for each byte, and what is left after them.
@@ -114,5 +126,7 @@ IsStringFault t kind there = Traced IsStringPiece t (λ bytes left. StringStops 
 
 -- the faults of a Display String whose inside is t: all but that of UTF-8 stop the pieces
 abbrev pub IsDisplayFault : List ℕ → SyntaxFault → List ℕ → Type 0
-IsDisplayFault t invalid_utf8_in_display_string there = Traced IsDisplayPiece t (λ bytes left. (rest : List ℕ) × (left ≡ double_quote ∷ rest) × (¬ IsUtf8 bytes) × (there ≡ behind_pieces (utf8_valid_len bytes) t))
+IsDisplayFault t invalid_utf8_in_display_string there =
+    Traced IsDisplayPiece t (λ bytes left. (rest : List ℕ) × (left ≡ double_quote ∷ rest) × (¬ IsUtf8 bytes)
+    × (there ≡ behind_pieces (utf8_valid_len bytes) t))
 IsDisplayFault t kind there = Traced IsDisplayPiece t (λ bytes left. DisplayStops kind left there)

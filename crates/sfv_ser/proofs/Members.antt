@@ -26,22 +26,30 @@ keys-dictionary_tree [] = refl
 keys-dictionary_tree (e ∷ es) = ap (λ (ks : List (List ℕ)). e.0 ∷ ks) (keys-dictionary_tree es)
 
 -- a map has no key twice
-pub members_distinct : (es : List (List ℕ × ListEntry)) → IsDistinct bytes_eq (keys_of es) → IsTrue (no_repeats (keys (dictionary_tree es)))
+pub members_distinct : (es : List (List ℕ × ListEntry)) → IsDistinct bytes_eq (keys_of es)
+    → IsTrue (no_repeats (keys (dictionary_tree es)))
 members_distinct es h = rw (keys-dictionary_tree es) (no_repeats-distinct (keys_of es) h)
 
 -- the members so far and those to come, when one more was taken
-pub member_taken : (taken : List (Bor (List ℕ) × Bor ListEntry)) (p : Bor (List ℕ) × Bor ListEntry) (left rest es : List (List ℕ × ListEntry))
+pub member_taken : (taken : List (Bor (List ℕ) × Bor ListEntry)) (p : Bor (List ℕ)
+    × Bor ListEntry) (left rest es : List (List ℕ × ListEntry))
     → lent_members taken ++ left ≡ es → left ≡ (p.0.now, p.1.now) ∷ rest → lent_members (taken ++ p ∷ []) ++ rest ≡ es
 member_taken taken p left rest es h e =
     let q : List ℕ × ListEntry = (p.0.now, p.1.now) in
-    ap (λ (l : List (List ℕ × ListEntry)). l ++ rest) (map-append (λ (p : Bor (List ℕ) × Bor ListEntry). (p.0.now, p.1.now)) taken (p ∷ []))
-    ∙ append_assoc (lent_members taken) (q ∷ []) rest ∙ ap (λ (l : List (List ℕ × ListEntry)). lent_members taken ++ l) (sym e) ∙ h
+    ap (λ (l : List (List ℕ × ListEntry)). l ++ rest)
+    (map-append (λ (p : Bor (List ℕ) × Bor ListEntry). (p.0.now, p.1.now)) taken (p ∷ []))
+    ∙ append_assoc (lent_members taken) (q ∷ []) rest
+    ∙ ap (λ (l : List (List ℕ × ListEntry)). lent_members taken ++ l) (sym e) ∙ h
 
 pub member_pushed : (taken : List (Bor (List ℕ) × Bor ListEntry)) (p : Bor (List ℕ) × Bor ListEntry)
-    → dictionary_tree (lent_members (taken ++ p ∷ [])) ≡ dictionary_tree (lent_members taken) ++ (p.0.now, member_tree p.1.now) ∷ []
+    → dictionary_tree (lent_members (taken ++ p ∷ []))
+    ≡ dictionary_tree (lent_members taken) ++ (p.0.now, member_tree p.1.now) ∷ []
 member_pushed [] p = refl
-member_pushed (q ∷ taken) p = ap (λ (ms : List (List ℕ × RawMember)). (q.0.now, member_tree q.1.now) ∷ ms) (member_pushed taken p)
+member_pushed (q ∷ taken) p = ap (λ (ms : List (List ℕ × RawMember)). (q.0.now, member_tree q.1.now) ∷ ms)
+    (member_pushed taken p)
 
 -- all of them were taken
-pub members_all : (taken : List (Bor (List ℕ) × Bor ListEntry)) (left es : List (List ℕ × ListEntry)) → lent_members taken ++ left ≡ es → left ≡ [] → lent_members taken ≡ es
-members_all taken left es h e = sym (append-nil (lent_members taken)) ∙ ap (λ (l : List (List ℕ × ListEntry)). lent_members taken ++ l) (sym e) ∙ h
+pub members_all : (taken : List (Bor (List ℕ) × Bor ListEntry)) (left es : List (List ℕ × ListEntry))
+    → lent_members taken ++ left ≡ es → left ≡ [] → lent_members taken ≡ es
+members_all taken left es h e = sym (append-nil (lent_members taken))
+    ∙ ap (λ (l : List (List ℕ × ListEntry)). lent_members taken ++ l) (sym e) ∙ h

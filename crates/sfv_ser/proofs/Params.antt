@@ -17,7 +17,8 @@ pub run_of_bytes : (xs : List ℕ) → ((i : ℕ) → Fits w8 (get_or xs i 0)) �
 run_of_bytes [] h = refl
 run_of_bytes (x ∷ xs) h = and_from _ _ (below x (h 0)) (run_of_bytes xs (λ i. h (suc i)))
 
-none_equal : (k : List ℕ) (ks : List (List ℕ)) → AllByRecursion (λ j. bytes_eq k j ≡ false) ks → list_any (bytes_eq k) ks ≡ false
+none_equal : (k : List ℕ) (ks : List (List ℕ)) → AllByRecursion (λ j. bytes_eq k j ≡ false) ks
+    → list_any (bytes_eq k) ks ≡ false
 none_equal k [] h = refl
 none_equal k (j ∷ ks) h = rw (h.0, none_equal k ks h.1) refl
 
@@ -31,5 +32,6 @@ keys-pairs_tree [] = refl
 keys-pairs_tree (e ∷ es) = ap (λ (ks : List (List ℕ)). e.0 ∷ ks) (keys-pairs_tree es)
 
 -- a map has no key twice
-pub pairs_distinct : (es : List (List ℕ × OwnedBareItem)) → IsDistinct bytes_eq (keys_of es) → IsTrue (no_repeats (keys (pairs_tree es)))
+pub pairs_distinct : (es : List (List ℕ × OwnedBareItem)) → IsDistinct bytes_eq (keys_of es)
+    → IsTrue (no_repeats (keys (pairs_tree es)))
 pairs_distinct es h = rw (keys-pairs_tree es) (no_repeats-distinct (keys_of es) h)

@@ -1,5 +1,6 @@
 -- A text is written run by run.
-use Rattle.std.proofs.Common.{◌≡◌, ℕ, ◌<◌, Bool, true, cond, not, List, [], ◌∷◌, ◌++◌, length, take, refl, sym, ap, subst, ◌∙◌, append_assoc, arith}
+use Rattle.std.proofs.Common.{◌≡◌, ℕ, ◌<◌, Bool, true, cond, not, List, [], ◌∷◌, ◌++◌, length, take, refl, sym, ap}
+use Rattle.std.proofs.Common.{subst, ◌∙◌, append_assoc, arith}
 use Rattle.std.specs.Prelude.{string_bytes, Result, Ok, Err, OnErr, IsUtf8}
 use Rattle.std.specs.Str.{IsCharBoundary}
 use Rattle.std.specs.declared.string.String.{String}
@@ -17,7 +18,8 @@ use Rattle.sfv_ser.specs.Written.{Extends}
 
 flat_map_append : (f : ℕ → List ℕ) (xs ys : List ℕ) → flat_map f (xs ++ ys) ≡ flat_map f xs ++ flat_map f ys
 flat_map_append f [] ys = refl
-flat_map_append f (x ∷ xs) ys = ap (λ (l : List ℕ). f x ++ l) (flat_map_append f xs ys) ∙ sym (append_assoc (f x) (flat_map f xs) (flat_map f ys))
+flat_map_append f (x ∷ xs) ys = ap (λ (l : List ℕ). f x ++ l) (flat_map_append f xs ys)
+    ∙ sym (append_assoc (f x) (flat_map f xs) (flat_map f ys))
 
 -- after the text that stood there before, the bytes are written up to the rest of them
 pub record IsWrittenUpTo (piece : ℕ → List ℕ) (before bytes rest output : List ℕ) : Type 0 where
@@ -26,52 +28,74 @@ pub record IsWrittenUpTo (piece : ℕ → List ℕ) (before bytes rest output : 
   pub done : output ≡ before ++ flat_map piece front
 
 -- what holds of each byte holds of the rest of them
-pub rest_of : (test : ℕ → Bool) {piece : ℕ → List ℕ} {before bytes rest output : List ℕ} → IsWrittenUpTo piece before bytes rest output → RunOf test bytes → RunOf test rest
-rest_of test {rest = rest} w h = (and_parts _ _ (sym (list_all-append test w.front rest) ∙ ap (list_all test) (sym w.whole) ∙ h)).1
+pub rest_of : (test : ℕ → Bool) {piece : ℕ → List ℕ} {before bytes rest output : List ℕ}
+    → IsWrittenUpTo piece before bytes rest output → RunOf test bytes → RunOf test rest
+rest_of test {rest = rest} w h = (and_parts _ _ (sym (list_all-append test w.front rest)
+    ∙ ap (list_all test) (sym w.whole) ∙ h)).1
 
 module _ (piece : ℕ → List ℕ) (before bytes : List ℕ) where
   -- more bytes are written
-  more_written : (rest output front behind new : List ℕ) → IsWrittenUpTo piece before bytes rest output → rest ≡ front ++ behind → new ≡ output ++ flat_map piece front → IsWrittenUpTo piece before bytes behind new
+  more_written : (rest output front behind new : List ℕ) → IsWrittenUpTo piece before bytes rest output
+      → rest ≡ front ++ behind → new ≡ output ++ flat_map piece front → IsWrittenUpTo piece before bytes behind new
   more_written rest output front behind new w e n = record {
     front = w.front ++ front;
     whole = w.whole ∙ ap (λ (l : List ℕ). w.front ++ l) e ∙ sym (append_assoc w.front front behind);
-    done = n ∙ ap (λ (l : List ℕ). l ++ flat_map piece front) w.done ∙ append_assoc before (flat_map piece w.front) (flat_map piece front)
+    done = n ∙ ap (λ (l : List ℕ). l ++ flat_map piece front) w.done
+        ∙ append_assoc before (flat_map piece w.front) (flat_map piece front)
         ∙ ap (λ (l : List ℕ). before ++ l) (sym (flat_map_append piece w.front front));
   }
 
   -- a run of bytes that are written for themselves
-  pub run_written : (plain : ℕ → Bool) → ((c : ℕ) → plain c ≡ true → piece c ≡ c ∷ []) → (rest output run behind new : List ℕ)
-      → IsWrittenUpTo piece before bytes rest output → rest ≡ run ++ behind → RunOf plain run → new ≡ output ++ run → IsWrittenUpTo piece before bytes behind new
+  pub run_written : (plain : ℕ → Bool) → ((c : ℕ) → plain c ≡ true → piece c ≡ c ∷ [])
+      → (rest output run behind new : List ℕ)
+      → IsWrittenUpTo piece before bytes rest output → rest ≡ run ++ behind → RunOf plain run → new ≡ output ++ run
+      → IsWrittenUpTo piece before bytes behind new
   run_written plain itself rest output run behind new w e h n =
       more_written rest output run behind new w e (n ∙ ap (λ (l : List ℕ). output ++ l) (sym (run_itself run h)))
     where
       run_itself : (run : List ℕ) → RunOf plain run → flat_map piece run ≡ run
       run_itself [] h = refl
-      run_itself (c ∷ run) h = let a = and_parts (plain c) (list_all plain run) h in ap (λ (l : List ℕ). l ++ flat_map piece run) (itself c a.0) ∙ ap (λ (l : List ℕ). c ∷ l) (run_itself run a.1)
+      run_itself (c ∷ run) h = let a = and_parts (plain c) (list_all plain run) h in
+          ap (λ (l : List ℕ). l ++ flat_map piece run) (itself c a.0) ∙ ap (λ (l : List ℕ). c ∷ l) (run_itself run a.1)
 
-  pub byte_written : (rest output behind new : List ℕ) (byte : ℕ) → IsWrittenUpTo piece before bytes rest output → rest ≡ byte ∷ behind → new ≡ output ++ piece byte → IsWrittenUpTo piece before bytes behind new
-  byte_written rest output behind new byte w e n = more_written rest output (byte ∷ []) behind new w e (n ∙ ap (λ (l : List ℕ). output ++ l) (sym (append-nil (piece byte))))
+  pub byte_written : (rest output behind new : List ℕ) (byte : ℕ) → IsWrittenUpTo piece before bytes rest output
+      → rest ≡ byte ∷ behind → new ≡ output ++ piece byte → IsWrittenUpTo piece before bytes behind new
+  byte_written rest output behind new byte w e n =
+      more_written rest output (byte ∷ []) behind new w e (n
+      ∙ ap (λ (l : List ℕ). output ++ l) (sym (append-nil (piece byte))))
 
   -- no byte is left
-  pub all_written : (rest output : List ℕ) → IsWrittenUpTo piece before bytes rest output → length rest ≡ 0 → output ≡ before ++ flat_map piece bytes
-  all_written [] output w e = w.done ∙ ap (λ (l : List ℕ). before ++ flat_map piece l) (sym (w.whole ∙ append-nil w.front))
+  pub all_written : (rest output : List ℕ) → IsWrittenUpTo piece before bytes rest output → length rest ≡ 0
+      → output ≡ before ++ flat_map piece bytes
+  all_written [] output w e = w.done ∙ ap (λ (l : List ℕ). before ++ flat_map piece l) (sym (w.whole
+      ∙ append-nil w.front))
   all_written (x ∷ rest) output w e = absurd (omega (arith, e))
 
 pub display_itself : (c : ℕ) → is_plain_in_display c ≡ true → display_piece c ≡ c ∷ []
 display_itself c e = rw e refl
 
 pub string_itself : (c : ℕ) → is_plain_in_string c ≡ true → string_piece c ≡ c ∷ []
-string_itself c e = ap (λ (b : Bool). cond b (backslash ∷ c ∷ []) (c ∷ [])) (not-true (is_escaped_in_string c) (and_parts (is_string_byte c) (not (is_escaped_in_string c)) e).1)
+string_itself c e = ap (λ (b : Bool). cond b (backslash ∷ c ∷ []) (c ∷ []))
+    (not-true (is_escaped_in_string c) (and_parts (is_string_byte c) (not (is_escaped_in_string c)) e).1)
 
 -- a text that was added to may be cut where the old one ended
-pub cut_back : {Z T E : Type 0} (old new : String Z) (result : Result T E) (len : ℕ) → len ≡ length (string_bytes old) → OnErr result (Extends (string_bytes old) (string_bytes new)) → OnErr result (IsCharBoundary (string_bytes new) len)
+pub cut_back : {Z T E : Type 0} (old new : String Z) (result : Result T E) (len : ℕ) → len ≡ length (string_bytes old)
+    → OnErr result (Extends (string_bytes old) (string_bytes new))
+    → OnErr result (IsCharBoundary (string_bytes new) len)
 cut_back old new (Ok x) len is more = tt
 cut_back old new (Err e) len is more =
-    let front : take len (string_bytes new) ≡ string_bytes old = ap (take len) more.1 ∙ take_at (string_bytes old) more.0 len (sym is) in
+    let front : take len (string_bytes new) ≡ string_bytes old = ap (take len) more.1
+    ∙ take_at (string_bytes old) more.0 len (sym is) in
     let long = ap (length {A = ℕ}) more.1 in
-    IsCharBoundary-from_take (string_bytes new) len (IsUtf8-string_bytes new) (omega (arith, is, long, length-append (string_bytes old) more.0)) (subst IsUtf8 (sym front) (IsUtf8-string_bytes old))
+    IsCharBoundary-from_take (string_bytes new) len (IsUtf8-string_bytes new) (omega (
+      arith,
+      is,
+      long,
+      length-append (string_bytes old) more.0,
+    )) (subst IsUtf8 (sym front) (IsUtf8-string_bytes old))
 
-pub string_byte_below : (byte : ℕ) (behind rest : List ℕ) → RunOf is_string_byte rest → rest ≡ byte ∷ behind → byte < 128
+pub string_byte_below : (byte : ℕ) (behind rest : List ℕ) → RunOf is_string_byte rest → rest ≡ byte ∷ behind
+    → byte < 128
 string_byte_below byte behind rest h e =
     let a = and_parts (is_string_byte byte) (list_all is_string_byte behind) (subst (RunOf is_string_byte) e h) in
     omega (arith, leb-true byte 0x7e (and_parts _ _ a.0).1)

@@ -25,8 +25,10 @@ params_sink s = s.sink
 -- out of memory, the text that was lent is as it was
 abbrev pub RestsIfOutOfMemory : MutBor (String Global) → Result (ParameterSerializer (String Global)) OutOfMemory → Fml
 RestsIfOutOfMemory lent result =
-    RestsIfErr text_row lent (λ p. (params_sink p).ghost_name) result (λ last. string_bytes last ≡ string_bytes lent.now)
+    RestsIfErr text_row lent (λ p. (params_sink p).ghost_name) result
+    (λ last. string_bytes last ≡ string_bytes lent.now)
 
 -- the serializer that is returned has the same text, with more at its end
-abbrev pub HoldsMore : MutBor (String Global) → List ℕ → Result (ParameterSerializer (String Global)) OutOfMemory → Type 0
+abbrev pub HoldsMore : MutBor (String Global) → List ℕ → Result (ParameterSerializer (String Global)) OutOfMemory
+    → Type 0
 HoldsMore lent more result = IfOk result (λ p. string_bytes (params_sink p).now ≡ string_bytes lent.now ++ more)

@@ -12,7 +12,8 @@ Extends old new = (more : List ℕ) × (new ≡ old ++ more)
 -- the text is added, or else the old text is still in front
 abbrev pub Appends : {Z T E : Type 0} → String Z → String Z → List ℕ → Result T E → Type 0
 Appends old new text result =
-    MatchResult result (λ _. string_bytes new ≡ string_bytes old ++ text) (λ _. Extends (string_bytes old) (string_bytes new))
+    MatchResult result (λ _. string_bytes new ≡ string_bytes old ++ text)
+    (λ _. Extends (string_bytes old) (string_bytes new))
 
 -- the text is added, or else the old text stands alone
 abbrev pub AppendsOrKeeps : {Z T E : Type 0} → String Z → String Z → List ℕ → Result T E → Type 0

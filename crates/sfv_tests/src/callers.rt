@@ -30,7 +30,10 @@ pub fn write_item(
     param: RefBareItem<'_>,
 ) -> Result<(), OutOfMemory>
     ensures ok { OnOk result (string_bytes text.new ≡ string_bytes text.old
-        ++ item_text (record { bare = ref_value value.entry; parameters = (key_text key.entry, ref_value param.entry) ∷ [] })) }
+        ++ item_text (record {
+          bare = ref_value value.entry;
+          parameters = (key_text key.entry, ref_value param.entry) ∷ [];
+        })) }
     ensures err { OnErr result ((string_bytes text.new ≡ string_bytes text.old)
         ⊎ (string_bytes text.new ≡ string_bytes text.old ++ bare_text (ref_value value.entry))) }
 {
@@ -46,7 +49,10 @@ pub fn write_twice(
     key: KeyRef<'_>,
 ) -> Result<(), OutOfMemory>
     ensures { OnOk result (string_bytes text.new ≡ string_bytes text.old
-        ++ item_text (record { bare = ref_value value.entry; parameters = (key_text key.entry, ref_value value.entry) ∷ [] })) }
+        ++ item_text (record {
+          bare = ref_value value.entry;
+          parameters = (key_text key.entry, ref_value value.entry) ∷ [];
+        })) }
 {
     write_item(text, value, key, value)
 }
@@ -202,8 +208,8 @@ pub fn list_of_lines(
     Parser::new(second).parse_list_with_visitor(alloc, builder)
 }
 
-/// Reads a further line of a dictionary: as if its members stood after those of the line before in one field. Each key is
-/// there once, at its first place, with the whole member of its last occurrence.
+/// Reads a further line of a dictionary: as if its members stood after those of the line before in one field. Each key
+/// is there once, at its first place, with the whole member of its last occurrence.
 pub fn dictionary_of_lines(
     alloc: Global,
     first: &[u8],

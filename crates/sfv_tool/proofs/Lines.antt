@@ -23,7 +23,10 @@ serialized_line kind value None h = empty_text kind value h
 serialized_line kind value (Some text) h = h.1.text
 
 -- the line of a field that was read
-pub answered : (edition : Edition) (kind : FieldKind) (input : List ℕ) (value : RawField kind) (o : Option (String Global)) (r : Result (String Global) Error) → IsParsedAs edition kind input value → text_or_empty o ≡ canonical kind value → IfOk r (λ line. string_bytes line ≡ text_or_empty o ++ codes "\n")
+pub answered : (edition : Edition) (kind : FieldKind) (input : List ℕ) (value : RawField kind)
+    (o : Option (String Global)) (r : Result (String Global) Error) → IsParsedAs edition kind input value
+    → text_or_empty o ≡ canonical kind value → IfOk r (λ line. string_bytes line ≡ text_or_empty o ++ codes "\n")
     → IfOk r (λ text. IsAnswer edition kind input (string_bytes text))
-answered edition kind input value o (Ok line) parsed same h = record { value = value; parsed = parsed; written = h ∙ ap (λ (t : List ℕ). t ++ codes "\n") same }
+answered edition kind input value o (Ok line) parsed same h =
+    record { value = value; parsed = parsed; written = h ∙ ap (λ (t : List ℕ). t ++ codes "\n") same }
 answered edition kind input value o (Err e) parsed same h = tt

@@ -1,5 +1,6 @@
 -- What the program answers.
-use Rattle.std.specs.Prelude.{◌≡◌, ℕ, ◌-◌, ◌++◌, ◌==◌, List, [], length, take, slice_index, if◌then◌else◌, codes, string_bytes, Option, Some, None}
+use Rattle.std.specs.Prelude.{◌≡◌, ℕ, ◌-◌, ◌++◌, ◌==◌, List, [], length, take, slice_index, if◌then◌else◌, codes}
+use Rattle.std.specs.Prelude.{string_bytes, Option, Some, None}
 use Rattle.std.specs.declared.alloc.Global.{Global}
 use Rattle.std.specs.declared.string.String.{String}
 use Rattle.sfv_spec.specs.Values.{Edition, FieldKind, item_field, list_field, dictionary_field, RawField}

@@ -68,7 +68,8 @@ fn answer_list(alloc: Global, version: Version, input: &[u8]) -> Result<String, 
 
 /// Reads the input as a dictionary, and returns its canonical text and a newline.
 fn answer_dictionary(alloc: Global, version: Version, input: &[u8]) -> Result<String, Error>
-    ensures accepted { IfOk result (λ text. IsAnswer (edition_of version) dictionary_field input.now (string_bytes text)) }
+    ensures accepted { IfOk result (λ text. IsAnswer (edition_of version) dictionary_field input.now
+        (string_bytes text)) }
     ensures rejected { IfErr result (IsParseError (edition_of version) dictionary_field input.now) }
     ensures fault { IfErr result (IsReaderFault (edition_of version) dictionary_field input.now) }
 {
@@ -81,9 +82,12 @@ fn answer_dictionary(alloc: Global, version: Version, input: &[u8]) -> Result<St
 /// canonical text and a newline, for a list or a dictionary without members the newline alone, or the
 /// fault that `Parser::parse` returns.
 pub fn answer(alloc: Global, field: Field, version: Version, input: &[u8]) -> Result<String, Error>
-    ensures accepted { IfOk result (λ text. IsAnswer (edition_of version) (kind_of_field field) (without_newline input.now) (string_bytes text)) }
-    ensures rejected { IfErr result (IsParseError (edition_of version) (kind_of_field field) (without_newline input.now)) }
-    ensures fault { IfErr result (IsReaderFault (edition_of version) (kind_of_field field) (without_newline input.now)) }
+    ensures accepted { IfOk result (λ text. IsAnswer (edition_of version) (kind_of_field field)
+        (without_newline input.now) (string_bytes text)) }
+    ensures rejected { IfErr result (IsParseError (edition_of version) (kind_of_field field)
+        (without_newline input.now)) }
+    ensures fault { IfErr result (IsReaderFault (edition_of version) (kind_of_field field)
+        (without_newline input.now)) }
 {
     let input = without_newline(input);
     match field {

@@ -14,14 +14,18 @@ module _ {A B : Type 0} (f : A → B) where
   cond_seen true x y = refl
   cond_seen false x y = refl
 
-  seen-insert : (es : List (List ℕ × A)) (k : List ℕ) (v : A) → seen (insert_entry bytes_eq es k v) ≡ insert_entry bytes_eq (seen es) k (f v)
+  seen-insert : (es : List (List ℕ × A)) (k : List ℕ) (v : A)
+      → seen (insert_entry bytes_eq es k v) ≡ insert_entry bytes_eq (seen es) k (f v)
   seen-insert [] k v = refl
   seen-insert (e ∷ es) k v =
       cond_seen (bytes_eq k e.0) ((e.0, v) ∷ es) (e ∷ insert_entry bytes_eq es k v)
-      ∙ ap (λ (rest : List (List ℕ × B)). cond (bytes_eq k e.0) ((e.0, f v) ∷ seen es) ((e.0, f e.1) ∷ rest)) (seen-insert es k v)
+      ∙ ap (λ (rest : List (List ℕ × B)). cond (bytes_eq k e.0) ((e.0, f v) ∷ seen es) ((e.0, f e.1) ∷ rest))
+      (seen-insert es k v)
 
-pub pairs_tree-insert : (es : List (List ℕ × OwnedBareItem)) (k : List ℕ) (v : OwnedBareItem) → pairs_tree (insert_entry bytes_eq es k v) ≡ insert_entry bytes_eq (pairs_tree es) k (bare_value v)
+pub pairs_tree-insert : (es : List (List ℕ × OwnedBareItem)) (k : List ℕ) (v : OwnedBareItem)
+    → pairs_tree (insert_entry bytes_eq es k v) ≡ insert_entry bytes_eq (pairs_tree es) k (bare_value v)
 pairs_tree-insert = seen-insert bare_value
 
-pub dictionary_tree-insert : (es : List (List ℕ × ListEntry)) (k : List ℕ) (v : ListEntry) → dictionary_tree (insert_entry bytes_eq es k v) ≡ insert_entry bytes_eq (dictionary_tree es) k (member_tree v)
+pub dictionary_tree-insert : (es : List (List ℕ × ListEntry)) (k : List ℕ) (v : ListEntry)
+    → dictionary_tree (insert_entry bytes_eq es k v) ≡ insert_entry bytes_eq (dictionary_tree es) k (member_tree v)
 dictionary_tree-insert = seen-insert member_tree

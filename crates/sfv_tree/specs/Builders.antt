@@ -1,5 +1,6 @@
 -- What the builders of owned trees do with the events of a field.
-use Rattle.std.specs.Prelude.{ℕ, List, [], ◌∷◌, ◌++◌, Bool, true, false, ◌&&◌, ◌||◌, Option, Some, None, is_none, bytes_eq}
+use Rattle.std.specs.Prelude.{ℕ, List, [], ◌∷◌, ◌++◌, Bool, true, false, ◌&&◌, ◌||◌, Option, Some, None, is_none}
+use Rattle.std.specs.Prelude.{bytes_eq}
 use Rattle.std.specs.Map.{lookup}
 use Rattle.indexmap.specs.IndexMap.{insert_entry}
 use Rattle.sfv_spec.specs.Values.{BareValue, RawItem, RawInnerList, RawMember, item, inner_list}
@@ -58,8 +59,8 @@ member_step (list_parameters l) (parameter key value) = list_parameters (enters_
 member_step (list_parameters l) parameters_end = ended (inner_list l)
 member_step p e = p
 
--- an event takes memory here: a text, which is copied where it is borrowed; a parameter, with its key; and the end of an
--- inner list's item, which goes into the list. A byte sequence is moved, and an event out of its place takes none
+-- an event takes memory here: a text, which is copied where it is borrowed; a parameter, with its key; and the end of
+-- an inner list's item, which goes into the list. A byte sequence is moved, and an event out of its place takes none
 abbrev pub takes_memory : MemberPlace → TreeEvent → Bool
 takes_memory item_head (bare_item value) = is_text value
 takes_memory (item_parameters i) (parameter key value) = true
@@ -161,8 +162,8 @@ dictionary_step (within_pair ms key p) e = settle_pair ms key (member_step p e)
 abbrev pub settle_takes_memory : List (List ℕ × RawMember) → List ℕ → MemberPlace → Bool
 settle_takes_memory ms key p = has_ended p && is_none (lookup (bytes_eq key) ms)
 
--- an event takes memory here: a key, which is copied; and within the member of a key, where it does there, and where the
--- member ends and is entered
+-- an event takes memory here: a key, which is copied; and within the member of a key, where it does there, and where
+-- the member ends and is entered
 abbrev pub dictionary_takes_memory : DictionaryPlace → TreeEvent → Bool
 dictionary_takes_memory (between_pairs ms) (keyed_entry key) = true
 dictionary_takes_memory (between_pairs ms) e = false

@@ -53,7 +53,8 @@ impl<'a> RefBareItem<'a> {
         *self
     }
 
-    /// Returns the same value (RFC 9651, section 3.3) with texts of its own. Only a text or a byte sequence takes memory.
+    /// Returns the same value (RFC 9651, section 3.3) with texts of its own. Only a text or a byte sequence takes
+    /// memory.
     ///
     /// # Errors
     ///

@@ -29,7 +29,8 @@ impl<'a> StringFromInput<'a> {
         }
     }
 
-    /// Returns the string (RFC 9651, section 3.3.3) with a text of its own. An owned text is moved, and takes no memory.
+    /// Returns the string (RFC 9651, section 3.3.3) with a text of its own. An owned text is moved, and takes no
+    /// memory.
     ///
     /// # Errors
     ///
@@ -119,8 +120,8 @@ impl<'a> BareItemFromInput<'a> {
         }
     }
 
-    /// Returns the same value (RFC 9651, section 3.3) with texts of its own. What is owned is moved: only a text that is
-    /// borrowed takes memory.
+    /// Returns the same value (RFC 9651, section 3.3) with texts of its own. What is owned is moved: only a text that
+    /// is borrowed takes memory.
     ///
     /// # Errors
     ///

@@ -1,5 +1,6 @@
 -- The bits of values and of bytes.
-use Rattle.std.proofs.Common.{◌≡◌, ℕ, suc, ◌<◌, ◌+◌, ◌*◌, ◌/◌, ◌%◌, List, [], ◌∷◌, ◌++◌, length, refl, sym, ◌∙◌, ap, Bool, true, append_assoc, arith}
+use Rattle.std.proofs.Common.{◌≡◌, ℕ, suc, ◌<◌, ◌+◌, ◌*◌, ◌/◌, ◌%◌, List, [], ◌∷◌, ◌++◌, length, refl, sym, ◌∙◌, ap}
+use Rattle.std.proofs.Common.{Bool, true, append_assoc, arith}
 use Rattle.std.specs.Prelude.{nat_lt, flat_map}
 use Rattle.std.specs.List.{list_all}
 use Rattle.std.proofs.lemmas.Bool.{and_parts, ltb-true, lt-ltb}
@@ -62,11 +63,13 @@ third_byte c d ld =
 pub head_value : (v : ℕ) (vs : List ℕ) → list_all is_value (v ∷ vs) ≡ true → (v < 64) × (list_all is_value vs ≡ true)
 head_value v vs h = let p = and_parts (is_value v) (list_all is_value vs) h in (ltb-true v 64 p.0, p.1)
 
-pub two_bits : (a b : ℕ) → b < 64 → flat_map (bits 6) (a ∷ b ∷ []) ≡ flat_map (bits 8) (bytes_from (a ∷ b ∷ [])) ++ bits 4 b
+pub two_bits : (a b : ℕ) → b < 64 → flat_map (bits 6) (a ∷ b ∷ [])
+    ≡ flat_map (bits 8) (bytes_from (a ∷ b ∷ [])) ++ bits 4 b
 unfolding bytes_from
 two_bits a b lb = simp (append-nil) (first_byte a b lb)
 
-pub three_bits : (a b c : ℕ) → b < 64 → c < 64 → flat_map (bits 6) (a ∷ b ∷ c ∷ []) ≡ flat_map (bits 8) (bytes_from (a ∷ b ∷ c ∷ [])) ++ bits 2 c
+pub three_bits : (a b c : ℕ) → b < 64 → c < 64 → flat_map (bits 6) (a ∷ b ∷ c ∷ [])
+    ≡ flat_map (bits 8) (bytes_from (a ∷ b ∷ c ∷ [])) ++ bits 2 c
 unfolding bytes_from
 three_bits a b c lb lc =
     let x : List Bool = bits 8 (a * 4 + b / 16) in
@@ -78,7 +81,8 @@ three_bits a b c lb lc =
     simp (append-nil, append_assoc) e
 
 four_bits : (a b c d : ℕ) (t : List Bool) → b < 64 → c < 64 → d < 64
-    → bits 6 a ++ (bits 6 b ++ (bits 6 c ++ (bits 6 d ++ t))) ≡ bits 8 (a * 4 + b / 16) ++ (bits 8 (b % 16 * 16 + c / 4) ++ (bits 8 (c % 4 * 64 + d) ++ t))
+    → bits 6 a ++ (bits 6 b ++ (bits 6 c ++ (bits 6 d ++ t)))
+    ≡ bits 8 (a * 4 + b / 16) ++ (bits 8 (b % 16 * 16 + c / 4) ++ (bits 8 (c % 4 * 64 + d) ++ t))
 four_bits a b c d t lb lc ld =
     let x : List Bool = bits 8 (a * 4 + b / 16) in
     let y : List Bool = bits 8 (b % 16 * 16 + c / 4) in
@@ -89,9 +93,11 @@ four_bits a b c d t lb lc ld =
     ∙ ap (λ (s : List Bool). x ++ s) (sym (append_assoc (bits 4 b) (bits 6 c) w)
     ∙ ap (λ (s : List Bool). s ++ w) (second_byte b c lc)
     ∙ append_assoc y (bits 2 c) w
-    ∙ ap (λ (s : List Bool). y ++ s) (sym (append_assoc (bits 2 c) (bits 6 d) t) ∙ ap (λ (s : List Bool). s ++ t) (third_byte c d ld)))
+    ∙ ap (λ (s : List Bool). y ++ s) (sym (append_assoc (bits 2 c) (bits 6 d) t)
+    ∙ ap (λ (s : List Bool). s ++ t) (third_byte c d ld)))
 
-pub same_bits : (vs : List ℕ) → list_all is_value vs ≡ true → ¬ (length vs % 4 ≡ 1) → flat_map (bits 6) vs ≡ flat_map (bits 8) (bytes_from vs) ++ spare_of vs
+pub same_bits : (vs : List ℕ) → list_all is_value vs ≡ true → ¬ (length vs % 4 ≡ 1)
+    → flat_map (bits 6) vs ≡ flat_map (bits 8) (bytes_from vs) ++ spare_of vs
 unfolding bytes_from spare_of
 same_bits [] h n = refl
 same_bits (a ∷ []) h n = absurd (n refl)
@@ -104,7 +110,8 @@ same_bits (a ∷ b ∷ c ∷ d ∷ rest) h n =
     let q = head_value c (d ∷ rest) p.1 in
     let r = head_value d rest q.1 in
     let m : ¬ (length rest % 4 ≡ 1) = λ e. n (omega arith) in
-    rw (same_bits rest r.1 m) (four_bits a b c d (flat_map (bits 8) (bytes_from rest) ++ spare_of rest) p.0 q.0 r.0 ∙ simp append_assoc)
+    rw (same_bits rest r.1 m) (four_bits a b c d (flat_map (bits 8) (bytes_from rest) ++ spare_of rest) p.0 q.0 r.0
+    ∙ simp append_assoc)
 
 pub spare_length : (vs : List ℕ) → ¬ (length vs % 4 ≡ 1) → length (spare_of vs) ≡ 2 * most_padding (length vs)
 unfolding spare_of bits
@@ -138,4 +145,8 @@ bytes_within (a ∷ b ∷ c ∷ d ∷ rest) h =
     let p = head_value b (c ∷ d ∷ rest) o.1 in
     let q = head_value c (d ∷ rest) p.1 in
     let r = head_value d rest q.1 in
-    rw (byte_below (a * 4 + b / 16) (omega arith), byte_below (b % 16 * 16 + c / 4) (omega arith), byte_below (c % 4 * 64 + d) (omega arith)) (bytes_within rest r.1)
+    rw (
+      byte_below (a * 4 + b / 16) (omega arith),
+      byte_below (b % 16 * 16 + c / 4) (omega arith),
+      byte_below (c % 4 * 64 + d) (omega arith),
+    ) (bytes_within rest r.1)

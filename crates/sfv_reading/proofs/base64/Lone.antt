@@ -1,5 +1,6 @@
 -- A content of symbols alone, of which one is left over.
-use Rattle.std.proofs.Common.{◌≡◌, ℕ, ◌≤◌, ◌+◌, ◌-◌, ◌%◌, List, [], ◌∷◌, ◌++◌, length, replicate, refl, sym, ◌∙◌, ap, Bool, true, arith, inl, inr, None}
+use Rattle.std.proofs.Common.{◌≡◌, ℕ, ◌≤◌, ◌+◌, ◌-◌, ◌%◌, List, [], ◌∷◌, ◌++◌, length, replicate, refl, sym, ◌∙◌, ap}
+use Rattle.std.proofs.Common.{Bool, true, arith, inl, inr, None}
 use Rattle.std.specs.Prelude.{◌==◌}
 use Rattle.std.specs.List.{list_all}
 use Rattle.std.proofs.lemmas.Bool.{and_parts, eqb-true, eqb-false, cases_Bool, true≢false}
@@ -35,11 +36,13 @@ is_of_symbols c h = found_in symbols is_symbol c refl h
 
 pub run_of_symbols : (cs : List ℕ) → list_all is_symbol cs ≡ true → RunOf (is_one_of symbols) cs
 run_of_symbols [] h = refl
-run_of_symbols (c ∷ cs) h = let p = and_parts (is_symbol c) (list_all is_symbol cs) h in rw (one_of_symbols c p.0) (run_of_symbols cs p.1)
+run_of_symbols (c ∷ cs) h = let p = and_parts (is_symbol c) (list_all is_symbol cs) h in
+    rw (one_of_symbols c p.0) (run_of_symbols cs p.1)
 
 pub symbols_of_run : (cs : List ℕ) → RunOf (is_one_of symbols) cs → list_all is_symbol cs ≡ true
 symbols_of_run [] h = refl
-symbols_of_run (c ∷ cs) h = let p = and_parts (is_one_of symbols c) (list_all (is_one_of symbols) cs) h in rw (is_of_symbols c p.0) (symbols_of_run cs p.1)
+symbols_of_run (c ∷ cs) h = let p = and_parts (is_one_of symbols c) (list_all (is_one_of symbols) cs) h in
+    rw (is_of_symbols c p.0) (symbols_of_run cs p.1)
 
 -- a content that is at fault at its end is symbols, and one of them is left over
 pub left_over_is : (content : List ℕ) → bytes_of content ≡ None → valid_from 0 content ≡ length content
@@ -47,7 +50,8 @@ pub left_over_is : (content : List ℕ) → bytes_of content ≡ None → valid_
 left_over_is content none all =
     let s = shape_of 0 content in
     let v = shape_valid 0 content s in
-    let size : length content ≡ length s.run + (s.padding + length s.rest) = ap (length {A = ℕ}) s.text ∙ simp (length-append, length-replicate) in
+    let size : length content ≡ length s.run + (s.padding + length s.rest) = ap (length {A = ℕ}) s.text
+    ∙ simp (length-append, length-replicate) in
     let whole : length s.rest ≡ 0 = omega (arith, all, v.0, size) in
     let gone : s.rest ≡ [] = nil_from_length s.rest whole in
     let text : content ≡ s.run ++ replicate s.padding equals_sign = s.text ∙ rw (gone, append-nil) refl in
@@ -63,11 +67,13 @@ left_over_is content none all =
           let same : length content % 4 ≡ 1 = rw run one in
           (rw run (run_of_symbols s.run s.symbols), same, omega (arith, at, same))
       | inr n ↦
-          let some = (gives_the_bytes _ _).0 (well_formed s.run s.padding s.symbols most (eqb-false (length s.run % 4) 1 n)) in
+          let some = (gives_the_bytes _ _).0 (well_formed s.run s.padding s.symbols most
+          (eqb-false (length s.run % 4) 1 n)) in
           let both = sym (rw text at none) ∙ some in absurd (cc)
     ]
 
-pub is_left_over : (content : List ℕ) → RunOf (is_one_of symbols) content → length content % 4 ≡ 1 → (bytes_of content ≡ None) × (fault_place content + 1 ≡ length content)
+pub is_left_over : (content : List ℕ) → RunOf (is_one_of symbols) content → length content % 4 ≡ 1
+    → (bytes_of content ≡ None) × (fault_place content + 1 ≡ length content)
 is_left_over content h one =
     let lone = lone_symbol content (symbols_of_run content h) one in
     (lone.0, omega (arith, lone.1, one))
@@ -77,5 +83,6 @@ leaves_one_over content none = (
   λ all. let l = left_over_is content none all in (l.0, l.1),
   λ h.
       let v = valid_run 0 content [] (symbols_of_run content h.0) refl in
-      ap (valid_from 0) (sym (append-nil content)) ∙ v.0 ∙ omega (arith, padding-nil (most_padding (0 + length content))),
+      ap (valid_from 0) (sym (append-nil content)) ∙ v.0
+      ∙ omega (arith, padding-nil (most_padding (0 + length content))),
 )

@@ -1,7 +1,9 @@
 -- A text is symbols, padding, and what no Base64 text goes on with.
-use Rattle.std.proofs.Common.{◌≡◌, ℕ, zero, suc, ◌<◌, ◌≤◌, ◌+◌, List, [], ◌∷◌, ◌++◌, length, map, take, replicate, refl, sym, ◌∙◌, ap, Bool, true, false, arith, ◌⊎◌, inl, inr}
+use Rattle.std.proofs.Common.{◌≡◌, ℕ, zero, suc, ◌<◌, ◌≤◌, ◌+◌, List, [], ◌∷◌, ◌++◌, length, map, take, replicate, refl}
+use Rattle.std.proofs.Common.{sym, ◌∙◌, ap, Bool, true, false, arith, ◌⊎◌, inl, inr}
 use Rattle.std.specs.Prelude.{◌==◌, ◌||◌}
-use Rattle.sfv_spec.specs.Ascii.{plus_sign, slash, digit_zero, digit_nine, equals_sign, upper_a, upper_z, lower_a, lower_z}
+use Rattle.sfv_spec.specs.Ascii.{plus_sign, slash, digit_zero, digit_nine, equals_sign, upper_a, upper_z, lower_a}
+use Rattle.sfv_spec.specs.Ascii.{lower_z}
 use Rattle.sfv_spec.specs.Classes.{is_between}
 use Rattle.std.specs.List.{list_all}
 use Rattle.std.proofs.lemmas.Bool.{and_parts, eqb-true, ltb-true, cases_Bool, true≢false, or_cases}
@@ -23,27 +25,32 @@ symbol-is_symbol v h = implied is_value (λ v. is_symbol (symbol v)) refl v (bel
 
 pub value-symbol : (v : ℕ) → is_value v ≡ true → symbol_value (symbol v) ≡ v
 unfolding symbol_value
-value-symbol v h = eqb-true (symbol_value (symbol v)) v (implied is_value (λ v. symbol_value (symbol v) == v) refl v (below_128 v h) h)
+value-symbol v h = eqb-true (symbol_value (symbol v)) v
+    (implied is_value (λ v. symbol_value (symbol v) == v) refl v (below_128 v h) h)
 
 pub symbol_below : (c : ℕ) → is_symbol c ≡ true → c < 128
 unfolding is_symbol
-symbol_below c h = elim (or_cases (is_between upper_a upper_z c || is_between lower_a lower_z c || is_between digit_zero digit_nine c || c == plus_sign) (c == slash) h) [
-  | inl g ↦ elim (or_cases (is_between upper_a upper_z c || is_between lower_a lower_z c || is_between digit_zero digit_nine c) (c == plus_sign) g) [
-    | inl f ↦ elim (or_cases (is_between upper_a upper_z c || is_between lower_a lower_z c) (is_between digit_zero digit_nine c) f) [
-      | inl e ↦ elim (or_cases (is_between upper_a upper_z c) (is_between lower_a lower_z c) e) [
-        | inl d ↦ between_below upper_a upper_z c (omega arith) d
-        | inr d ↦ between_below lower_a lower_z c (omega arith) d
-      ]
-      | inr e ↦ between_below digit_zero digit_nine c (omega arith) e
+symbol_below c h = elim (or_cases (is_between upper_a upper_z c || is_between lower_a lower_z c
+    || is_between digit_zero digit_nine c || c == plus_sign) (c == slash) h) [
+      | inl g ↦ elim (or_cases (is_between upper_a upper_z c || is_between lower_a lower_z c
+          || is_between digit_zero digit_nine c) (c == plus_sign) g) [
+            | inl f ↦ elim (or_cases (is_between upper_a upper_z c || is_between lower_a lower_z c)
+                (is_between digit_zero digit_nine c) f) [
+                  | inl e ↦ elim (or_cases (is_between upper_a upper_z c) (is_between lower_a lower_z c) e) [
+                    | inl d ↦ between_below upper_a upper_z c (omega arith) d
+                    | inr d ↦ between_below lower_a lower_z c (omega arith) d
+                  ]
+                  | inr e ↦ between_below digit_zero digit_nine c (omega arith) e
+                ]
+            | inr f ↦ omega (arith, eqb-true c plus_sign f)
+          ]
+      | inr g ↦ omega (arith, eqb-true c slash g)
     ]
-    | inr f ↦ omega (arith, eqb-true c plus_sign f)
-  ]
-  | inr g ↦ omega (arith, eqb-true c slash g)
-]
 
 pub symbol-value : (c : ℕ) → is_symbol c ≡ true → symbol (symbol_value c) ≡ c
 unfolding is_symbol symbol_value
-symbol-value c h = eqb-true (symbol (symbol_value c)) c (implied is_symbol (λ c. symbol (symbol_value c) == c) refl c (symbol_below c h) h)
+symbol-value c h = eqb-true (symbol (symbol_value c)) c
+    (implied is_symbol (λ c. symbol (symbol_value c) == c) refl c (symbol_below c h) h)
 
 pub value_within : (c : ℕ) → is_symbol c ≡ true → is_value (symbol_value c) ≡ true
 unfolding is_symbol symbol_value
@@ -59,19 +66,23 @@ equals_apart c h = elim (cases_Bool (is_equals c)) [
 -- the same along a list
 pub are_symbols : (vs : List ℕ) → list_all is_value vs ≡ true → list_all is_symbol (map symbol vs) ≡ true
 are_symbols [] h = refl
-are_symbols (v ∷ vs) h = let p = and_parts (is_value v) (list_all is_value vs) h in rw (symbol-is_symbol v p.0) (are_symbols vs p.1)
+are_symbols (v ∷ vs) h = let p = and_parts (is_value v) (list_all is_value vs) h in
+    rw (symbol-is_symbol v p.0) (are_symbols vs p.1)
 
 pub values-symbols : (vs : List ℕ) → list_all is_value vs ≡ true → map symbol_value (map symbol vs) ≡ vs
 values-symbols [] h = refl
-values-symbols (v ∷ vs) h = let p = and_parts (is_value v) (list_all is_value vs) h in cc (value-symbol v p.0, values-symbols vs p.1)
+values-symbols (v ∷ vs) h = let p = and_parts (is_value v) (list_all is_value vs) h in
+    cc (value-symbol v p.0, values-symbols vs p.1)
 
 pub symbols-values : (cs : List ℕ) → list_all is_symbol cs ≡ true → map symbol (map symbol_value cs) ≡ cs
 symbols-values [] h = refl
-symbols-values (c ∷ cs) h = let p = and_parts (is_symbol c) (list_all is_symbol cs) h in cc (symbol-value c p.0, symbols-values cs p.1)
+symbols-values (c ∷ cs) h = let p = and_parts (is_symbol c) (list_all is_symbol cs) h in
+    cc (symbol-value c p.0, symbols-values cs p.1)
 
 pub are_values : (cs : List ℕ) → list_all is_symbol cs ≡ true → list_all is_value (map symbol_value cs) ≡ true
 are_values [] h = refl
-are_values (c ∷ cs) h = let p = and_parts (is_symbol c) (list_all is_symbol cs) h in rw (value_within c p.0) (are_values cs p.1)
+are_values (c ∷ cs) h = let p = and_parts (is_symbol c) (list_all is_symbol cs) h in
+    rw (value_within c p.0) (are_values cs p.1)
 
 -- padding, up to so much, and what follows
 pub record Padded (most : ℕ) (t : List ℕ) : Type 0 where
@@ -98,14 +109,19 @@ padded (suc k) (c ∷ t) = elim (cases_Bool (is_equals c)) [
   | inr p ↦ record { padding = 0; rest = c ∷ t; text = refl; within = omega arith; ends = inr p }
 ]
 
-pub padding-padded : (most n : ℕ) (rest : List ℕ) → n ≤ most → (n ≡ most) ⊎ NotBegun is_equals rest → padding_in most (replicate n equals_sign ++ rest) ≡ n
+pub padding-padded : (most n : ℕ) (rest : List ℕ) → n ≤ most → (n ≡ most) ⊎ NotBegun is_equals rest
+    → padding_in most (replicate n equals_sign ++ rest) ≡ n
 unfolding padding_in
 padding-padded zero zero rest h e = refl
 padding-padded zero (suc n) rest h e = absurd (omega arith)
 padding-padded (suc k) zero [] h e = refl
 padding-padded (suc k) zero (c ∷ rest) h (inl e) = absurd (omega (arith, e))
 padding-padded (suc k) zero (c ∷ rest) h (inr e) = rw e refl
-padding-padded (suc k) (suc n) rest h e = ap suc (padding-padded k n rest (omega arith) (elim e [ inl f ↦ inl (omega (arith, f)) | inr f ↦ inr f ]))
+padding-padded (suc k) (suc n) rest h e = ap suc (padding-padded k n rest (omega arith) (elim e [
+  | inl f ↦
+      inl (omega (arith, f))
+  | inr f ↦ inr f
+]))
 
 -- symbols, padding and what follows, after n symbols
 pub record Shape (n : ℕ) (t : List ℕ) : Type 0 where
@@ -119,7 +135,16 @@ pub record Shape (n : ℕ) (t : List ℕ) : Type 0 where
   pub apart : NotBegun is_symbol (replicate padding equals_sign ++ rest)
 
 pub shape_of : (n : ℕ) (t : List ℕ) → Shape n t
-shape_of n [] = record { run = []; padding = 0; rest = []; text = refl; symbols = refl; within = omega arith; ends = inr refl; apart = refl }
+shape_of n [] = record {
+  run = [];
+  padding = 0;
+  rest = [];
+  text = refl;
+  symbols = refl;
+  within = omega arith;
+  ends = inr refl;
+  apart = refl;
+}
 shape_of n (c ∷ t) = elim (cases_Bool (is_symbol c)) [
   | inl p ↦
       let h = shape_of (suc n) t in
@@ -155,13 +180,15 @@ padding-nil zero = refl
 padding-nil (suc k) = refl
 
 -- what stands after the symbols
-pub behind_symbols : (n : ℕ) (u : List ℕ) → NotBegun is_symbol u → (valid_from n u ≡ padding_in (most_padding n) u) × (values_in u ≡ [])
+pub behind_symbols : (n : ℕ) (u : List ℕ) → NotBegun is_symbol u
+    → (valid_from n u ≡ padding_in (most_padding n) u) × (values_in u ≡ [])
 unfolding valid_from values_in
 behind_symbols n [] h = (sym (padding-nil (most_padding n)), refl)
 behind_symbols n (c ∷ u) h = rw h (refl, refl)
 
 pub valid_run : (n : ℕ) (run u : List ℕ) → list_all is_symbol run ≡ true → NotBegun is_symbol u
-    → (valid_from n (run ++ u) ≡ length run + padding_in (most_padding (n + length run)) u) × (values_in (run ++ u) ≡ map symbol_value run)
+    → (valid_from n (run ++ u) ≡ length run + padding_in (most_padding (n + length run)) u)
+    × (values_in (run ++ u) ≡ map symbol_value run)
 unfolding valid_from values_in
 valid_run n [] u h a =
     let e : n + 0 ≡ n = omega arith in
@@ -172,15 +199,24 @@ valid_run n (c ∷ run) u h a =
     let p = and_parts (is_symbol c) (list_all is_symbol run) h in
     let r = valid_run (suc n) run u p.1 a in
     let e : suc n + length run ≡ n + suc (length run) = omega arith in
-    rw p.0 (ap suc r.0 ∙ omega (arith, ap (λ k. padding_in (most_padding k) u) e), ap (λ (l : List ℕ). symbol_value c ∷ l) r.1)
+    rw p.0 (
+      ap suc r.0 ∙ omega (arith, ap (λ k. padding_in (most_padding k) u) e),
+      ap (λ (l : List ℕ). symbol_value c ∷ l) r.1,
+    )
 
-pub shape_valid : (n : ℕ) (t : List ℕ) (s : Shape n t) → (valid_from n t ≡ length s.run + s.padding) × (values_in t ≡ map symbol_value s.run)
+pub shape_valid : (n : ℕ) (t : List ℕ) (s : Shape n t)
+    → (valid_from n t ≡ length s.run + s.padding) × (values_in t ≡ map symbol_value s.run)
 shape_valid n t s =
     let v = valid_run n s.run (replicate s.padding equals_sign ++ s.rest) s.symbols s.apart in
-    rw (s.text) (v.0 ∙ ap (λ k. length s.run + k) (padding-padded (most_padding (n + length s.run)) s.padding s.rest s.within s.ends), v.1)
+    rw (s.text) (
+      v.0 ∙ ap (λ k. length s.run + k) (padding-padded (most_padding (n + length s.run)) s.padding s.rest
+          s.within s.ends),
+      v.1,
+    )
 
 -- an answer rests on the bytes up to its place, and on the one that stands there
-padding_local : (k : ℕ) (t : List ℕ) (m : ℕ) (more : List ℕ) → padding_in k t < m → m ≤ length t → padding_in k (take m t ++ more) ≡ padding_in k t
+padding_local : (k : ℕ) (t : List ℕ) (m : ℕ) (more : List ℕ) → padding_in k t < m → m ≤ length t
+    → padding_in k (take m t ++ more) ≡ padding_in k t
 unfolding padding_in
 padding_local zero t m more h l = refl
 padding_local (suc k) [] m more h l = absurd (omega arith)
@@ -192,7 +228,8 @@ padding_local (suc k) (c ∷ t) (suc m) more h l = elim (cases_Bool (is_equals c
   | inr p ↦ rw p refl
 ]
 
-pub valid_local : (n : ℕ) (t : List ℕ) (m : ℕ) (more : List ℕ) → valid_from n t < m → m ≤ length t → valid_from n (take m t ++ more) ≡ valid_from n t
+pub valid_local : (n : ℕ) (t : List ℕ) (m : ℕ) (more : List ℕ) → valid_from n t < m → m ≤ length t
+    → valid_from n (take m t ++ more) ≡ valid_from n t
 unfolding valid_from
 valid_local n [] m more h l = absurd (omega arith)
 valid_local n (c ∷ t) zero more h l = absurd (omega arith)

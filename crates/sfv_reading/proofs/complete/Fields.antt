@@ -20,22 +20,32 @@ use Rattle.sfv_reading.proofs.complete.Members.{entry_complete, entry_fresh, key
 
 spaces_end : (s : List ℕ) → RunOf is_space s → Apart lengthens_item s
 spaces_end [] each = Apart-nil lengthens_item
-spaces_end (c ∷ s) each = subst (λ (c : ℕ). Apart lengthens_item (c ∷ s)) (sym (eqb-true c space (run_head is_space c s each))) (space_ends s)
+spaces_end (c ∷ s) each = subst (λ (c : ℕ). Apart lengthens_item (c ∷ s))
+    (sym (eqb-true c space (run_head is_space c s each))) (space_ends s)
 
-item_field_complete : (edition : Edition) (i : RawItem) (t : List ℕ) → IsFieldText edition item_field i t → whole_field_at edition item_field t ≡ Ok (i, [])
+item_field_complete : (edition : Edition) (i : RawItem) (t : List ℕ) → IsFieldText edition item_field i t
+    → whole_field_at edition item_field t ≡ Ok (i, [])
 unfolding whole_field_at give
 item_field_complete edition i t h =
     let o = h.second in
-    let end : span is_space o.back ≡ Ok (o.back, []) = ap (span is_space) (sym (append-nil o.back)) ∙ span_complete is_space o.back [] o.second (Apart-nil is_space) in
+    let end : span is_space o.back ≡ Ok (o.back, []) = ap (span is_space) (sym (append-nil o.back))
+    ∙ span_complete is_space o.back [] o.second (Apart-nil is_space) in
     ap (whole_field_at edition item_field) (h.text ∙ ap (λ (l : List ℕ). h.front ++ l) o.text)
-    ∙ bind_complete _ _ _ _ _ (span_complete is_space h.front (o.front ++ o.back) h.first (item_no space edition i o.front o.back refl o.first))
-    ∙ bind_complete _ _ _ _ _ (item_complete edition i o.front o.back o.first (spaces_end o.back o.second)) ∙ bind_complete _ _ _ _ _ end
+    ∙ bind_complete _ _ _ _ _ (span_complete is_space h.front (o.front ++ o.back) h.first
+    (item_no space edition i o.front o.back refl o.first))
+    ∙ bind_complete _ _ _ _ _ (item_complete edition i o.front o.back o.first (spaces_end o.back o.second))
+    ∙ bind_complete _ _ _ _ _ end
 
 pub comma_ends : (q : List ℕ) → Apart lengthens_item (comma ∷ q)
 comma_ends q = Apart-cons lengthens_item comma q refl
 
-pub field_complete : (edition : Edition) (kind : FieldKind) (raw : RawField kind) (t : List ℕ) → IsFieldText edition kind raw t → whole_field_at edition kind t ≡ Ok (raw, [])
+pub field_complete : (edition : Edition) (kind : FieldKind) (raw : RawField kind) (t : List ℕ)
+    → IsFieldText edition kind raw t → whole_field_at edition kind t ≡ Ok (raw, [])
 unfolding whole_field_at
 field_complete edition item_field i t h = item_field_complete edition i t h
-field_complete edition list_field ms t h = members_complete (IsMemberText edition) entry_events (entry_at edition) (Apart lengthens_item) (entry_complete edition) (entry_fresh edition) blank_ends comma_ends (Apart-nil lengthens_item) (Sound-entry edition) ms t h
-field_complete edition dictionary_field ms t h = members_complete (IsDictionaryMemberText edition) keyed_events (keyed_at edition) (Apart lengthens_item) (keyed_complete edition) (keyed_fresh edition) blank_ends comma_ends (Apart-nil lengthens_item) (Sound-keyed edition) ms t h
+field_complete edition list_field ms t h = members_complete (IsMemberText edition) entry_events (entry_at edition)
+    (Apart lengthens_item) (entry_complete edition) (entry_fresh edition) blank_ends comma_ends
+    (Apart-nil lengthens_item) (Sound-entry edition) ms t h
+field_complete edition dictionary_field ms t h = members_complete (IsDictionaryMemberText edition) keyed_events
+    (keyed_at edition) (Apart lengthens_item) (keyed_complete edition) (keyed_fresh edition) blank_ends comma_ends
+    (Apart-nil lengthens_item) (Sound-keyed edition) ms t h

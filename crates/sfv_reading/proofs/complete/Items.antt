@@ -1,5 +1,6 @@
 -- A text of parameters, an item, a member is read, as that.
-use Rattle.std.proofs.Common.{◌≡◌, ℕ, ◌≤◌, Bool, true, false, eqb, ◌||◌, List, [], ◌∷◌, ◌++◌, length, Some, None, Ok, refl, sym, ap, subst, ◌∙◌, append_assoc, arith, inl, inr}
+use Rattle.std.proofs.Common.{◌≡◌, ℕ, ◌≤◌, Bool, true, false, eqb, ◌||◌, List, [], ◌∷◌, ◌++◌, length, Some, None, Ok}
+use Rattle.std.proofs.Common.{refl, sym, ap, subst, ◌∙◌, append_assoc, arith, inl, inr}
 use Rattle.std.specs.List.{list_all}
 use Rattle.std.proofs.lemmas.Bool.{eqb-true, or_parts, or_cases, ne_eqb, and_parts, true≢false}
 use Rattle.sfv_spec.specs.Ascii.{tab, space, semicolon, equals_sign}
@@ -11,7 +12,8 @@ use Rattle.sfv_spec.proofs.Settled.{begins, begins-append}
 use Rattle.sfv_spec.proofs.Bare.{is_bare_start, bare_begins}
 use Rattle.sfv_reading.specs.Reader.{Apart, byte, give}
 use Rattle.sfv_reading.specs.Items.{key_at, value_at, parameter_at, parameter_event, parameters_at, item_at}
-use Rattle.sfv_reading.proofs.complete.Combinators.{Apart-cons, Apart-part, branch_past, branch_take, bind_complete, led_complete, span_complete}
+use Rattle.sfv_reading.proofs.complete.Combinators.{Apart-cons, Apart-part, branch_past, branch_take, bind_complete}
+use Rattle.sfv_reading.proofs.complete.Combinators.{led_complete, span_complete}
 use Rattle.sfv_reading.proofs.texts.Joining.{end_joined}
 use Rattle.sfv_reading.proofs.sound.Many.{many_complete}
 use Rattle.sfv_reading.proofs.complete.Bare.{bare_complete}
@@ -25,58 +27,76 @@ abbrev pub lengthens_item : ℕ → Bool
 lengthens_item b = lengthens b || eqb b semicolon
 
 token_apart : (q : List ℕ) → Apart lengthens q → Apart is_token_inner q
-token_apart q h = Apart-part is_token_inner lengthens q (λ c e. (or_parts (is_token_inner c) (is_key_inner c || eqb c equals_sign) e).0) h
+token_apart q h = Apart-part is_token_inner lengthens q
+    (λ c e. (or_parts (is_token_inner c) (is_key_inner c || eqb c equals_sign) e).0) h
 
 pub key_apart : (q : List ℕ) → Apart lengthens q → Apart is_key_inner q
-key_apart q h = Apart-part is_key_inner lengthens q (λ c e. (or_parts (is_key_inner c) (eqb c equals_sign) (or_parts (is_token_inner c) (is_key_inner c || eqb c equals_sign) e).1).0) h
+key_apart q h = Apart-part is_key_inner lengthens q
+    (λ c e. (or_parts (is_key_inner c) (eqb c equals_sign)
+    (or_parts (is_token_inner c) (is_key_inner c || eqb c equals_sign) e).1).0) h
 
 pub equals_apart : (q : List ℕ) → Apart lengthens q → Apart (byte equals_sign) q
-equals_apart q h = Apart-part (byte equals_sign) lengthens q (λ c e. (or_parts (is_key_inner c) (eqb c equals_sign) (or_parts (is_token_inner c) (is_key_inner c || eqb c equals_sign) e).1).1) h
+equals_apart q h = Apart-part (byte equals_sign) lengthens q
+    (λ c e. (or_parts (is_key_inner c) (eqb c equals_sign)
+    (or_parts (is_token_inner c) (is_key_inner c || eqb c equals_sign) e).1).1) h
 
 pub item_part : (q : List ℕ) → Apart lengthens_item q → Apart lengthens q
 item_part q h = Apart-part lengthens lengthens_item q (λ c e. (or_parts (lengthens c) (eqb c semicolon) e).0) h
 
 semicolon_apart : (q : List ℕ) → Apart lengthens_item q → Apart (byte semicolon) q
-semicolon_apart q h = Apart-part (byte semicolon) lengthens_item q (λ c e. (or_parts (lengthens c) (eqb c semicolon) e).1) h
+semicolon_apart q h = Apart-part (byte semicolon) lengthens_item q
+    (λ c e. (or_parts (lengthens c) (eqb c semicolon) e).1) h
 
 pub key_complete : (key t q : List ℕ) → IsKeyText key t → Apart is_key_inner q → key_at (t ++ q) ≡ Ok (key, q)
 unfolding key_at give
 key_complete [] t q k h = absurd (true≢false (sym k.0))
 key_complete (c ∷ cs) t q k h =
     let p = and_parts (is_key_start c) (list_all is_key_inner cs) k.0 in
-    ap (λ (l : List ℕ). key_at (l ++ q)) k.1 ∙ branch_take _ _ _ c (cs ++ q) p.0 ∙ bind_complete _ _ _ _ _ (span_complete is_key_inner cs q p.1 h)
+    ap (λ (l : List ℕ). key_at (l ++ q)) k.1 ∙ branch_take _ _ _ c (cs ++ q) p.0
+    ∙ bind_complete _ _ _ _ _ (span_complete is_key_inner cs q p.1 h)
 
 -- after a sign of a class
 behind_sign : {Q : List ℕ → Type 0} (n : ℕ) (t q : List ℕ) (h : (Exactly (n ∷ []) ⨾ Q) t) → t ++ q ≡ n ∷ (h.back ++ q)
 behind_sign n t q h = ap (λ (l : List ℕ). l ++ q) (h.text ∙ ap (λ (l : List ℕ). l ++ h.back) h.first)
 
-value_complete : (edition : Edition) (v : BareValue) (t q : List ℕ) → IsValueText edition v t → Apart lengthens q → value_at edition (t ++ q) ≡ Ok (v, q)
+value_complete : (edition : Edition) (v : BareValue) (t q : List ℕ) → IsValueText edition v t → Apart lengthens q
+    → value_at edition (t ++ q) ≡ Ok (v, q)
 unfolding value_at give
-value_complete edition v t q (inl e) h = ap (λ (l : List ℕ). value_at edition (l ++ q)) e.1 ∙ branch_past _ _ _ q (equals_apart q h) ∙ ap (λ (v : BareValue). Ok (v, q)) (sym e.0)
-value_complete edition v t q (inr e) h = ap (value_at edition) (behind_sign equals_sign t q e) ∙ branch_take _ _ _ equals_sign (e.back ++ q) refl ∙ bare_complete edition v e.back q e.second (token_apart q h)
+value_complete edition v t q (inl e) h = ap (λ (l : List ℕ). value_at edition (l ++ q)) e.1
+    ∙ branch_past _ _ _ q (equals_apart q h) ∙ ap (λ (v : BareValue). Ok (v, q)) (sym e.0)
+value_complete edition v t q (inr e) h = ap (value_at edition) (behind_sign equals_sign t q e)
+    ∙ branch_take _ _ _ equals_sign (e.back ++ q) refl ∙ bare_complete edition v e.back q e.second (token_apart q h)
 
 -- what stands after a key is no more of it
-value_apart : (edition : Edition) (v : BareValue) (t q : List ℕ) → IsValueText edition v t → Apart is_key_inner q → Apart is_key_inner (t ++ q)
+value_apart : (edition : Edition) (v : BareValue) (t q : List ℕ) → IsValueText edition v t → Apart is_key_inner q
+    → Apart is_key_inner (t ++ q)
 value_apart edition v t q (inl e) h = subst (λ (l : List ℕ). Apart is_key_inner (l ++ q)) (sym e.1) h
-value_apart edition v t q (inr e) h = subst (Apart is_key_inner) (sym (behind_sign equals_sign t q e)) (Apart-cons is_key_inner equals_sign (e.back ++ q) refl)
+value_apart edition v t q (inr e) h = subst (Apart is_key_inner) (sym (behind_sign equals_sign t q e))
+    (Apart-cons is_key_inner equals_sign (e.back ++ q) refl)
 
 -- a key begins with no byte n that begins none
 pub key_no : (n : ℕ) (key t q : List ℕ) → is_key_start n ≡ false → IsKeyText key t → Apart (byte n) (t ++ q)
 key_no n [] t q none k = absurd (true≢false (sym k.0))
 key_no n (c ∷ cs) t q none k =
     let p = and_parts (is_key_start c) (list_all is_key_inner cs) k.0 in
-    subst (λ (l : List ℕ). Apart (byte n) (l ++ q)) (sym k.1) (Apart-cons (byte n) c (cs ++ q) (ne_eqb c n (λ i. true≢false (sym p.0 ∙ ap is_key_start i ∙ none))))
+    subst (λ (l : List ℕ). Apart (byte n) (l ++ q)) (sym k.1)
+    (Apart-cons (byte n) c (cs ++ q) (ne_eqb c n (λ i. true≢false (sym p.0 ∙ ap is_key_start i ∙ none))))
 
-parameter_complete : (edition : Edition) (p : List ℕ × BareValue) (t q : List ℕ) → IsParameterText edition p t → Apart lengthens q → (parameter_at edition (t ++ q) ≡ Ok (Some p, q)) × Apart lengthens (t ++ q)
+parameter_complete : (edition : Edition) (p : List ℕ × BareValue) (t q : List ℕ) → IsParameterText edition p t
+    → Apart lengthens q → (parameter_at edition (t ++ q) ≡ Ok (Some p, q)) × Apart lengthens (t ++ q)
 unfolding parameter_at give
 parameter_complete edition p t q i h =
     let s = i.second in
     let k = s.second in
-    let inner : i.back ++ q ≡ s.front ++ (k.front ++ (k.back ++ q)) = ap (λ (l : List ℕ). l ++ q) (s.text ∙ ap (λ (l : List ℕ). s.front ++ l) k.text) ∙ simp append_assoc in
-    let all : t ++ q ≡ semicolon ∷ (s.front ++ (k.front ++ (k.back ++ q))) = behind_sign semicolon t q i ∙ ap (λ (l : List ℕ). semicolon ∷ l) inner in (
+    let inner : i.back ++ q ≡ s.front ++ (k.front ++ (k.back ++ q)) =
+    ap (λ (l : List ℕ). l ++ q) (s.text ∙ ap (λ (l : List ℕ). s.front ++ l) k.text) ∙ simp append_assoc in
+    let all : t ++ q ≡ semicolon ∷ (s.front ++ (k.front ++ (k.back ++ q))) = behind_sign semicolon t q i
+    ∙ ap (λ (l : List ℕ). semicolon ∷ l) inner in (
       ap (parameter_at edition) all ∙ branch_take _ _ _ semicolon (s.front ++ (k.front ++ (k.back ++ q))) refl
-          ∙ bind_complete _ _ _ _ _ (span_complete is_space s.front (k.front ++ (k.back ++ q)) s.first (key_no space p.0 k.front (k.back ++ q) refl k.first))
-          ∙ bind_complete _ _ _ _ _ (key_complete p.0 k.front (k.back ++ q) k.first (value_apart edition p.1 k.back q k.second (key_apart q h)))
+          ∙ bind_complete _ _ _ _ _ (span_complete is_space s.front (k.front ++ (k.back ++ q)) s.first
+          (key_no space p.0 k.front (k.back ++ q) refl k.first))
+          ∙ bind_complete _ _ _ _ _ (key_complete p.0 k.front (k.back ++ q) k.first
+          (value_apart edition p.1 k.back q k.second (key_apart q h)))
           ∙ bind_complete _ _ _ _ _ (value_complete edition p.1 k.back q k.second h),
       subst (Apart lengthens) (sym all) (Apart-cons lengthens semicolon _ refl),
     )
@@ -85,17 +105,28 @@ no_parameter : (edition : Edition) (q : List ℕ) → Apart (byte semicolon) q �
 unfolding parameter_at give
 no_parameter edition q stop = branch_past _ _ _ q stop
 
-pub parameters_complete : (edition : Edition) (ps : RawParameters) (t q : List ℕ) → IsParametersText edition ps t → Apart lengthens_item q → (parameters_at edition (t ++ q) ≡ Ok (ps, q)) × Apart lengthens (t ++ q)
+pub parameters_complete : (edition : Edition) (ps : RawParameters) (t q : List ℕ) → IsParametersText edition ps t
+    → Apart lengthens_item q → (parameters_at edition (t ++ q) ≡ Ok (ps, q)) × Apart lengthens (t ++ q)
 unfolding parameters_at
-parameters_complete edition ps t q i h = many_complete parameter_event (parameter_at edition) (Consumes-parameter edition) (IsParameterText edition) (Exactly []) (Apart lengthens) q (λ p a q i f. parameter_complete edition p a q i f)
-    (λ e n. (ap (λ (l : List ℕ). parameter_at edition (l ++ q)) n ∙ no_parameter edition q (semicolon_apart q h), subst (λ (l : List ℕ). Apart lengthens (l ++ q)) (sym n) (item_part q h))) ps t (end_joined (IsParameterText edition) ps t i)
+parameters_complete edition ps t q i h = many_complete parameter_event (parameter_at edition)
+    (Consumes-parameter edition) (IsParameterText edition) (Exactly []) (Apart lengthens) q
+    (λ p a q i f. parameter_complete edition p a q i f)
+    (λ e n. (
+      ap (λ (l : List ℕ). parameter_at edition (l ++ q)) n
+          ∙ no_parameter edition q (semicolon_apart q h),
+      subst (λ (l : List ℕ). Apart lengthens (l ++ q)) (sym n) (item_part q h),
+    )) ps t
+    (end_joined (IsParameterText edition) ps t i)
 
-pub item_complete : (edition : Edition) (i : RawItem) (t q : List ℕ) → IsItemText edition i t → Apart lengthens_item q → item_at edition (t ++ q) ≡ Ok (i, q)
+pub item_complete : (edition : Edition) (i : RawItem) (t q : List ℕ) → IsItemText edition i t → Apart lengthens_item q
+    → item_at edition (t ++ q) ≡ Ok (i, q)
 unfolding item_at give
 item_complete edition i t q h f =
     let ps = parameters_complete edition i.parameters h.back q h.second f in
     let all : t ++ q ≡ h.front ++ (h.back ++ q) = ap (λ (l : List ℕ). l ++ q) h.text ∙ append_assoc h.front h.back q in
-    ap (item_at edition) all ∙ bind_complete _ _ _ _ _ (bare_complete edition i.bare h.front (h.back ++ q) h.first (token_apart (h.back ++ q) ps.1)) ∙ led_complete _ _ _ _ _ (bind_complete _ _ _ _ _ ps.0)
+    ap (item_at edition) all ∙ bind_complete _ _ _ _ _
+    (bare_complete edition i.bare h.front (h.back ++ q) h.first (token_apart (h.back ++ q) ps.1))
+    ∙ led_complete _ _ _ _ _ (bind_complete _ _ _ _ _ ps.0)
 
 -- ---- how items begin
 
@@ -104,10 +135,15 @@ pub begun_apart : (class : ℕ → Bool) (n : ℕ) (t : List ℕ) → class n �
 begun_apart class n [] none b = absurd (true≢false (sym b))
 begun_apart class n (c ∷ t) none b = Apart-cons (byte n) c t (ne_eqb c n (λ i. true≢false (sym b ∙ ap class i ∙ none)))
 
-pub item_begun : (edition : Edition) (i : RawItem) (t q : List ℕ) → IsItemText edition i t → begins is_bare_start (t ++ q) ≡ true
-item_begun edition i t q h = subst (λ (l : List ℕ). begins is_bare_start l ≡ true) (sym (ap (λ (l : List ℕ). l ++ q) h.text ∙ append_assoc h.front h.back q)) (begins-append is_bare_start h.front (h.back ++ q) (bare_begins edition i.bare h.front h.first))
+pub item_begun : (edition : Edition) (i : RawItem) (t q : List ℕ) → IsItemText edition i t
+    → begins is_bare_start (t ++ q) ≡ true
+item_begun edition i t q h = subst (λ (l : List ℕ). begins is_bare_start l
+    ≡ true) (sym (ap (λ (l : List ℕ). l ++ q) h.text
+    ∙ append_assoc h.front h.back q)) (begins-append is_bare_start h.front (h.back ++ q)
+    (bare_begins edition i.bare h.front h.first))
 
-pub item_no : (n : ℕ) (edition : Edition) (i : RawItem) (t q : List ℕ) → is_bare_start n ≡ false → IsItemText edition i t → Apart (byte n) (t ++ q)
+pub item_no : (n : ℕ) (edition : Edition) (i : RawItem) (t q : List ℕ) → is_bare_start n ≡ false
+    → IsItemText edition i t → Apart (byte n) (t ++ q)
 item_no n edition i t q none h = begun_apart is_bare_start n (t ++ q) none (item_begun edition i t q h)
 
 pub begun_some : (class : ℕ → Bool) (t : List ℕ) → begins class t ≡ true → 1 ≤ length t

@@ -14,5 +14,7 @@ use Rattle.sfv_reading.proofs.sound.Separated.{Local-members}
 pub Local-field : (edition : Edition) (kind : FieldKind) → Local (whole_field_at edition kind)
 unfolding whole_field_at
 Local-field edition item_field = search (local_rules, Local-item) depth 40
-Local-field edition list_field = Local-members (IsMemberText edition) entry_events (entry_at edition) (Sound-entry edition) (Local-entry edition)
-Local-field edition dictionary_field = Local-members (IsDictionaryMemberText edition) keyed_events (keyed_at edition) (Sound-keyed edition) (Local-keyed edition)
+Local-field edition list_field = Local-members (IsMemberText edition) entry_events (entry_at edition)
+    (Sound-entry edition) (Local-entry edition)
+Local-field edition dictionary_field = Local-members (IsDictionaryMemberText edition) keyed_events (keyed_at edition)
+    (Sound-keyed edition) (Local-keyed edition)

@@ -23,7 +23,8 @@ Local-parameter edition = search (local_rules, Local-key, Local-value) depth 40
 
 pub Local-parameters : (edition : Edition) → Local (parameters_at edition)
 unfolding parameters_at
-Local-parameters edition = Local-many parameter_event (parameter_at edition) (Consumes-parameter edition) (Local-parameter edition)
+Local-parameters edition = Local-many parameter_event (parameter_at edition) (Consumes-parameter edition)
+    (Local-parameter edition)
 
 pub Local-item : (edition : Edition) → Local (item_at edition)
 unfolding item_at

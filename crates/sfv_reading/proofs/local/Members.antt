@@ -3,7 +3,8 @@ use Rattle.sfv_spec.specs.Values.{Edition}
 use Rattle.sfv_spec.specs.Events.{inner_item_events}
 use Rattle.sfv_reading.specs.Judgements.{Local}
 use Rattle.sfv_reading.specs.Reader.{many}
-use Rattle.sfv_reading.specs.Members.{inner_item_at, next_item_at, inner_items_at, inner_at, member_at, entry_at, member_value_at, keyed_at}
+use Rattle.sfv_reading.specs.Members.{inner_item_at, next_item_at, inner_items_at, inner_at, member_at, entry_at}
+use Rattle.sfv_reading.specs.Members.{member_value_at, keyed_at}
 use Rattle.sfv_reading.proofs.local.Combinators.{local_rules}
 use Rattle.sfv_reading.proofs.sound.Many.{Local-many}
 use Rattle.sfv_reading.proofs.local.Items.{Local-key, Local-parameters, Local-item}
@@ -20,7 +21,8 @@ unfolding next_item_at
 Local-next_item edition = search (local_rules, Local-inner_item) depth 40
 
 Local-next_items : (edition : Edition) → Local (many inner_item_events (next_item_at edition))
-Local-next_items edition = Local-many inner_item_events (next_item_at edition) (Consumes-next_item edition) (Local-next_item edition)
+Local-next_items edition = Local-many inner_item_events (next_item_at edition) (Consumes-next_item edition)
+    (Local-next_item edition)
 
 Local-items : (edition : Edition) → Local (inner_items_at edition)
 unfolding inner_items_at

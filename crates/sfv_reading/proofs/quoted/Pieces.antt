@@ -1,5 +1,6 @@
 -- Pieces are read one by one, and a reader stops where no piece follows.
-use Rattle.std.proofs.Common.{◌≡◌, ℕ, zero, suc, ◌≤◌, Bool, true, false, cond, not, ◌&&◌, ◌||◌, List, [], ◌∷◌, ◌++◌, length, take, Ok, Err, refl, sym, ap, subst, ◌∙◌, append_assoc, arith, inl, inr}
+use Rattle.std.proofs.Common.{◌≡◌, ℕ, zero, suc, ◌≤◌, Bool, true, false, cond, not, ◌&&◌, ◌||◌, List, [], ◌∷◌, ◌++◌}
+use Rattle.std.proofs.Common.{length, take, Ok, Err, refl, sym, ap, subst, ◌∙◌, append_assoc, arith, inl, inr}
 use Rattle.std.specs.Prelude.{◌==◌}
 use Rattle.std.specs.List.{concat, AllZip}
 use Rattle.std.proofs.lemmas.Bool.{and_parts, and_left, ne_eqb, or_parts, not-true, both_ways}
@@ -8,9 +9,12 @@ use Rattle.sfv_spec.specs.Ascii.{double_quote, percent_sign, backslash}
 use Rattle.sfv_spec.specs.Texts.{RunOf}
 use Rattle.sfv_spec.specs.Classes.{is_string_byte, is_lower_hexadecimal}
 use Rattle.sfv_spec.specs.Strings.{is_escaped_in_string, is_plain_in_display, IsStringPiece, IsDisplayPiece}
-use Rattle.sfv_spec.specs.Faults.{has_rule, SyntaxFault, invalid_string_character, unterminated_string, unterminated_escape_sequence, invalid_escape_sequence, invalid_display_string_character, unterminated_display_string}
+use Rattle.sfv_spec.specs.Faults.{has_rule, SyntaxFault, invalid_string_character, unterminated_string}
+use Rattle.sfv_spec.specs.Faults.{unterminated_escape_sequence, invalid_escape_sequence}
+use Rattle.sfv_spec.specs.Faults.{invalid_display_string_character, unterminated_display_string}
 use Rattle.sfv_reading.specs.Reader.{first, Answer, Reader, at_reach, by_rule}
-use Rattle.sfv_reading.specs.Quoted.{behind_bytes, string_from, Place, outside, percent, digit, pieces_from, StringStops, DisplayStops}
+use Rattle.sfv_reading.specs.Quoted.{behind_bytes, string_from, Place, outside, percent, digit, pieces_from}
+use Rattle.sfv_reading.specs.Quoted.{StringStops, DisplayStops}
 
 -- ---- values in front
 
@@ -18,7 +22,8 @@ pub behind_bytes_none : (a : Answer (List ℕ)) → behind_bytes [] a ≡ a
 behind_bytes_none (Ok x) = refl
 behind_bytes_none (Err e) = refl
 
-pub behind_bytes_more : (xs ys : List ℕ) (a : Answer (List ℕ)) → behind_bytes xs (behind_bytes ys a) ≡ behind_bytes (xs ++ ys) a
+pub behind_bytes_more : (xs ys : List ℕ) (a : Answer (List ℕ))
+    → behind_bytes xs (behind_bytes ys a) ≡ behind_bytes (xs ++ ys) a
 behind_bytes_more xs ys (Ok x) = ap (λ (l : List ℕ). Ok (l, x.1)) (sym (append_assoc xs ys x.0))
 behind_bytes_more xs ys (Err e) = refl
 
@@ -27,14 +32,16 @@ what_follows : Answer (List ℕ) → List ℕ
 what_follows (Ok x) = x.1
 what_follows (Err e) = []
 
-pub behind_bytes_ok : (xs : List ℕ) (a : Answer (List ℕ)) (ys rest : List ℕ) → behind_bytes xs a ≡ Ok (ys, rest) → (zs : List ℕ) × (a ≡ Ok (zs, rest))
+pub behind_bytes_ok : (xs : List ℕ) (a : Answer (List ℕ)) (ys rest : List ℕ) → behind_bytes xs a ≡ Ok (ys, rest)
+    → (zs : List ℕ) × (a ≡ Ok (zs, rest))
 unfolding what_follows
 behind_bytes_ok xs (Ok x) ys rest e = (x.0, ap (λ (l : List ℕ). Ok (x.0, l)) (ap what_follows e))
 behind_bytes_ok xs (Err x) ys rest e = absurd cc
 
 -- ---- a piece is read as its byte
 
-pub step_string : (c : ℕ) (p t : List ℕ) → IsStringPiece c p → string_from false (p ++ t) ≡ behind_bytes (c ∷ []) (string_from false t)
+pub step_string : (c : ℕ) (p t : List ℕ) → IsStringPiece c p
+    → string_from false (p ++ t) ≡ behind_bytes (c ∷ []) (string_from false t)
 unfolding string_from
 step_string c p t (inl h) =
     let a = and_parts (is_string_byte c) (not (is_escaped_in_string c)) h.0 in
@@ -42,28 +49,36 @@ step_string c p t (inl h) =
     ap (λ (l : List ℕ). string_from false (l ++ t)) h.1 ∙ rw (o.0, o.1, a.0) refl
 step_string c p t (inr h) = ap (λ (l : List ℕ). string_from false (l ++ t)) h.1 ∙ rw h.0 refl
 
-pub step_display : (c : ℕ) (p t : List ℕ) → IsDisplayPiece c p → pieces_from outside (p ++ t) ≡ behind_bytes (c ∷ []) (pieces_from outside t)
+pub step_display : (c : ℕ) (p t : List ℕ) → IsDisplayPiece c p
+    → pieces_from outside (p ++ t) ≡ behind_bytes (c ∷ []) (pieces_from outside t)
 unfolding pieces_from
 step_display c p t (inl h) =
     let a = and_parts (is_string_byte c) (not ((c == percent_sign) || (c == double_quote))) h.0 in
-    let o = or_parts (c == percent_sign) (c == double_quote) (not-true ((c == percent_sign) || (c == double_quote)) a.1) in
+    let o = or_parts (c == percent_sign) (c == double_quote)
+    (not-true ((c == percent_sign) || (c == double_quote)) a.1) in
     ap (λ (l : List ℕ). pieces_from outside (l ++ t)) h.1 ∙ rw (o.1, o.0, a.0) refl
 step_display c p t (inr h) =
     let a = and_parts (is_lower_hexadecimal h.0) (is_lower_hexadecimal h.1) h.2 in
-    ap (λ (l : List ℕ). pieces_from outside (l ++ t)) h.4 ∙ rw (a.0, a.1) (ap (λ (v : ℕ). behind_bytes (v ∷ []) (pieces_from outside t)) (sym h.3))
+    ap (λ (l : List ℕ). pieces_from outside (l ++ t)) h.4
+    ∙ rw (a.0, a.1) (ap (λ (v : ℕ). behind_bytes (v ∷ []) (pieces_from outside t)) (sym h.3))
 
-module _ (P : ℕ → List ℕ → Type 0) (f : Reader (List ℕ)) (step : (c : ℕ) (p t : List ℕ) → P c p → f (p ++ t) ≡ behind_bytes (c ∷ []) (f t)) where
-  pub past_pieces : (bytes : List ℕ) (pieces : List (List ℕ)) (t : List ℕ) → AllZip P bytes pieces → f (concat pieces ++ t) ≡ behind_bytes bytes (f t)
+module _ (P : ℕ → List ℕ → Type 0) (f : Reader (List ℕ)) (step : (c : ℕ) (p t : List ℕ) → P c p
+    → f (p ++ t) ≡ behind_bytes (c ∷ []) (f t)) where
+  pub past_pieces : (bytes : List ℕ) (pieces : List (List ℕ)) (t : List ℕ) → AllZip P bytes pieces
+      → f (concat pieces ++ t) ≡ behind_bytes bytes (f t)
   past_pieces [] [] t h = sym (behind_bytes_none (f t))
   past_pieces [] (p ∷ ps) t h = absurd h
   past_pieces (c ∷ bytes) [] t h = absurd h
   past_pieces (c ∷ bytes) (p ∷ ps) t h =
-      ap f (append_assoc p (concat ps) t) ∙ step c p (concat ps ++ t) h.0 ∙ ap (behind_bytes (c ∷ [])) (past_pieces bytes ps t h.1) ∙ behind_bytes_more (c ∷ []) bytes (f t)
+      ap f (append_assoc p (concat ps) t) ∙ step c p (concat ps ++ t) h.0
+      ∙ ap (behind_bytes (c ∷ [])) (past_pieces bytes ps t h.1) ∙ behind_bytes_more (c ∷ []) bytes (f t)
 
-pub past_string : (bytes : List ℕ) (pieces : List (List ℕ)) (t : List ℕ) → AllZip IsStringPiece bytes pieces → string_from false (concat pieces ++ t) ≡ behind_bytes bytes (string_from false t)
+pub past_string : (bytes : List ℕ) (pieces : List (List ℕ)) (t : List ℕ) → AllZip IsStringPiece bytes pieces
+    → string_from false (concat pieces ++ t) ≡ behind_bytes bytes (string_from false t)
 past_string = past_pieces IsStringPiece (string_from false) step_string
 
-pub past_display : (bytes : List ℕ) (pieces : List (List ℕ)) (t : List ℕ) → AllZip IsDisplayPiece bytes pieces → pieces_from outside (concat pieces ++ t) ≡ behind_bytes bytes (pieces_from outside t)
+pub past_display : (bytes : List ℕ) (pieces : List (List ℕ)) (t : List ℕ) → AllZip IsDisplayPiece bytes pieces
+    → pieces_from outside (concat pieces ++ t) ≡ behind_bytes bytes (pieces_from outside t)
 past_display = past_pieces IsDisplayPiece (pieces_from outside) step_display
 
 -- ---- the closing quote, and the faults
@@ -80,19 +95,23 @@ quote_display t = refl
 not_byte : (w n : ℕ) → is_string_byte w ≡ false → is_string_byte n ≡ true → (w == n) ≡ false
 not_byte w n h k = ne_eqb w n (λ e. both_ways (is_string_byte n) (subst (λ (c : ℕ). is_string_byte c ≡ false) e h) k)
 
-wrong_string : (w : ℕ) (more : List ℕ) → is_string_byte w ≡ false → string_from false (w ∷ more) ≡ Err (at_reach invalid_string_character (w ∷ more))
+wrong_string : (w : ℕ) (more : List ℕ) → is_string_byte w ≡ false
+    → string_from false (w ∷ more) ≡ Err (at_reach invalid_string_character (w ∷ more))
 unfolding string_from
 wrong_string w more h = rw (not_byte w double_quote h refl, not_byte w backslash h refl, h) refl
 
-wrong_display : (w : ℕ) (more : List ℕ) → is_string_byte w ≡ false → pieces_from outside (w ∷ more) ≡ Err (by_rule invalid_display_string_character (w ∷ more))
+wrong_display : (w : ℕ) (more : List ℕ) → is_string_byte w ≡ false
+    → pieces_from outside (w ∷ more) ≡ Err (by_rule invalid_display_string_character (w ∷ more))
 unfolding pieces_from
 wrong_display w more h = rw (not_byte w double_quote h refl, not_byte w percent_sign h refl, h) refl
 
-wrong_escape : (w : ℕ) (more : List ℕ) → is_escaped_in_string w ≡ false → string_from false (backslash ∷ w ∷ more) ≡ Err (at_reach invalid_escape_sequence (w ∷ more))
+wrong_escape : (w : ℕ) (more : List ℕ) → is_escaped_in_string w ≡ false
+    → string_from false (backslash ∷ w ∷ more) ≡ Err (at_reach invalid_escape_sequence (w ∷ more))
 unfolding string_from
 wrong_escape w more h = rw h refl
 
-pub string_stops : (k : SyntaxFault) (left there : List ℕ) → StringStops k left there → string_from false left ≡ Err (at_reach k there)
+pub string_stops : (k : SyntaxFault) (left there : List ℕ) → StringStops k left there
+    → string_from false left ≡ Err (at_reach k there)
 unfolding string_from
 string_stops unterminated_string left there h = rw (h.0, h.1) refl
 string_stops unterminated_escape_sequence left there h = rw (h.0, h.1) refl
@@ -100,19 +119,23 @@ string_stops invalid_escape_sequence left there h = rw (h.2, h.3) (wrong_escape 
 string_stops invalid_string_character left there h = rw (h.2, h.3) (wrong_string h.0 h.1 h.4)
 string_stops _ left there h = absurd h
 
-cut_percent : (digits : List ℕ) → RunOf is_lower_hexadecimal digits → length digits ≤ 1 → pieces_from outside (percent_sign ∷ digits) ≡ Err (by_rule unterminated_escape_sequence [])
+cut_percent : (digits : List ℕ) → RunOf is_lower_hexadecimal digits → length digits ≤ 1
+    → pieces_from outside (percent_sign ∷ digits) ≡ Err (by_rule unterminated_escape_sequence [])
 unfolding pieces_from
 cut_percent [] h l = refl
 cut_percent (d ∷ []) h l = rw (and_parts (is_lower_hexadecimal d) true h).0 refl
 cut_percent (d ∷ e ∷ ds) h l = absurd (omega (arith, l))
 
-wrong_percent : (digits : List ℕ) (w : ℕ) (more : List ℕ) → RunOf is_lower_hexadecimal digits → length digits ≤ 1 → is_lower_hexadecimal w ≡ false → pieces_from outside (percent_sign ∷ (digits ++ w ∷ more)) ≡ Err (by_rule invalid_escape_sequence (w ∷ more))
+wrong_percent : (digits : List ℕ) (w : ℕ) (more : List ℕ) → RunOf is_lower_hexadecimal digits → length digits ≤ 1
+    → is_lower_hexadecimal w ≡ false → pieces_from outside (percent_sign ∷ (digits ++ w ∷ more))
+    ≡ Err (by_rule invalid_escape_sequence (w ∷ more))
 unfolding pieces_from
 wrong_percent [] w more h l n = rw n refl
 wrong_percent (d ∷ []) w more h l n = rw ((and_parts (is_lower_hexadecimal d) true h).0, n) refl
 wrong_percent (d ∷ e ∷ ds) w more h l n = absurd (omega (arith, l))
 
-pub display_stops : (k : SyntaxFault) (left there : List ℕ) → DisplayStops k left there → pieces_from outside left ≡ Err (by_rule k there)
+pub display_stops : (k : SyntaxFault) (left there : List ℕ) → DisplayStops k left there
+    → pieces_from outside left ≡ Err (by_rule k there)
 unfolding pieces_from
 display_stops unterminated_display_string left there h = rw (h.0, h.1) refl
 display_stops unterminated_escape_sequence left there h = rw (h.1, h.2) (cut_percent h.0 h.3 h.4)
@@ -123,7 +146,8 @@ display_stops _ left there h = absurd h
 -- ---- a fault rests on the bytes before its place, and on the one that stands there
 
 abbrev pub StopsWhole : (SyntaxFault → List ℕ → List ℕ → Type 0) → SyntaxFault → List ℕ → List ℕ → Type 0
-StopsWhole Stops k left there = (h : List ℕ) × (left ≡ h ++ there) × ((r : List ℕ) → first r ≡ first there → Stops k (h ++ r) r)
+StopsWhole Stops k left there = (h : List ℕ) × (left ≡ h ++ there)
+    × ((r : List ℕ) → first r ≡ first there → Stops k (h ++ r) r)
 
 no_first : (r : List ℕ) → first r ≡ first [] → r ≡ []
 no_first [] e = refl
@@ -134,18 +158,44 @@ same_first : (w : ℕ) (more r : List ℕ) → first r ≡ first (w ∷ more) �
 same_first w more [] e = absurd cc
 same_first w more (c ∷ r) e = let same : c ≡ w = cc in (r, ap (λ (c : ℕ). c ∷ r) same)
 
-pub string_stops_whole : (k : SyntaxFault) (left there : List ℕ) → StringStops k left there → StopsWhole StringStops k left there
-string_stops_whole unterminated_string left there h = ([], h.0 ∙ sym h.1, λ r e. let n : r ≡ [] = no_first r (e ∙ ap first h.1) in (n, n))
-string_stops_whole unterminated_escape_sequence left there h = (backslash ∷ [], h.0 ∙ ap (λ (l : List ℕ). backslash ∷ l) (sym h.1), λ r e. let n : r ≡ [] = no_first r (e ∙ ap first h.1) in (ap (λ (l : List ℕ). backslash ∷ l) n, n))
-string_stops_whole invalid_escape_sequence left there h = (backslash ∷ [], h.2 ∙ ap (λ (l : List ℕ). backslash ∷ l) (sym h.3), λ r e. let s = same_first h.0 h.1 r (e ∙ ap first h.3) in (h.0, s.0, ap (λ (l : List ℕ). backslash ∷ l) s.1, s.1, h.4))
-string_stops_whole invalid_string_character left there h = ([], h.2 ∙ sym h.3, λ r e. let s = same_first h.0 h.1 r (e ∙ ap first h.3) in (h.0, s.0, s.1, s.1, h.4))
+pub string_stops_whole : (k : SyntaxFault) (left there : List ℕ) → StringStops k left there
+    → StopsWhole StringStops k left there
+string_stops_whole unterminated_string left there h =
+    ([], h.0 ∙ sym h.1, λ r e. let n : r ≡ [] = no_first r (e ∙ ap first h.1) in (n, n))
+string_stops_whole unterminated_escape_sequence left there h = (
+  backslash ∷ [],
+  h.0 ∙ ap (λ (l : List ℕ). backslash ∷ l) (sym h.1),
+  λ r e. let n : r ≡ [] =
+      no_first r (e ∙ ap first h.1) in (ap (λ (l : List ℕ). backslash ∷ l) n, n),
+)
+string_stops_whole invalid_escape_sequence left there h = (
+  backslash ∷ [],
+  h.2 ∙ ap (λ (l : List ℕ). backslash ∷ l) (sym h.3),
+  λ r e. let s =
+      same_first h.0 h.1 r (e ∙ ap first h.3) in (h.0, s.0, ap (λ (l : List ℕ). backslash ∷ l) s.1, s.1, h.4),
+)
+string_stops_whole invalid_string_character left there h =
+    ([], h.2 ∙ sym h.3, λ r e. let s = same_first h.0 h.1 r (e ∙ ap first h.3) in (h.0, s.0, s.1, s.1, h.4))
 string_stops_whole _ left there h = absurd h
 
-pub display_stops_whole : (k : SyntaxFault) (left there : List ℕ) → DisplayStops k left there → StopsWhole DisplayStops k left there
-display_stops_whole unterminated_display_string left there h = ([], h.0 ∙ sym h.1, λ r e. let n : r ≡ [] = no_first r (e ∙ ap first h.1) in (n, n))
-display_stops_whole unterminated_escape_sequence left there h = (percent_sign ∷ h.0, rw (h.1, h.2) (ap (λ (l : List ℕ). percent_sign ∷ l) (sym (append-nil h.0))), λ r e. let n : r ≡ [] = no_first r (e ∙ ap first h.2) in (h.0, rw n (ap (λ (l : List ℕ). percent_sign ∷ l) (append-nil h.0)), n, h.3, h.4))
-display_stops_whole invalid_escape_sequence left there h = (percent_sign ∷ h.0, rw (h.3, h.4) refl, λ r e. let s = same_first h.1 h.2 r (e ∙ ap first h.4) in (h.0, h.1, s.0, ap (λ (l : List ℕ). percent_sign ∷ (h.0 ++ l)) s.1, s.1, h.5, h.6, h.7))
-display_stops_whole invalid_display_string_character left there h = ([], h.2 ∙ sym h.3, λ r e. let s = same_first h.0 h.1 r (e ∙ ap first h.3) in (h.0, s.0, s.1, s.1, h.4))
+pub display_stops_whole : (k : SyntaxFault) (left there : List ℕ) → DisplayStops k left there
+    → StopsWhole DisplayStops k left there
+display_stops_whole unterminated_display_string left there h =
+    ([], h.0 ∙ sym h.1, λ r e. let n : r ≡ [] = no_first r (e ∙ ap first h.1) in (n, n))
+display_stops_whole unterminated_escape_sequence left there h = (
+  percent_sign ∷ h.0,
+  rw (h.1, h.2) (ap (λ (l : List ℕ). percent_sign ∷ l) (sym (append-nil h.0))),
+  λ r e. let n : r ≡ [] = no_first r (e ∙ ap first h.2) in
+      (h.0, rw n (ap (λ (l : List ℕ). percent_sign ∷ l) (append-nil h.0)), n, h.3, h.4),
+)
+display_stops_whole invalid_escape_sequence left there h = (
+  percent_sign ∷ h.0,
+  rw (h.3, h.4) refl,
+  λ r e. let s = same_first h.1 h.2 r (e ∙ ap first h.4) in
+      (h.0, h.1, s.0, ap (λ (l : List ℕ). percent_sign ∷ (h.0 ++ l)) s.1, s.1, h.5, h.6, h.7),
+)
+display_stops_whole invalid_display_string_character left there h =
+    ([], h.2 ∙ sym h.3, λ r e. let s = same_first h.0 h.1 r (e ∙ ap first h.3) in (h.0, s.0, s.1, s.1, h.4))
 display_stops_whole _ left there h = absurd h
 
 pub display_ruled : (k : SyntaxFault) (left there : List ℕ) → DisplayStops k left there → has_rule k ≡ true
@@ -169,19 +219,23 @@ closed_piece : (c : ℕ) (p t : List ℕ) → IsDisplayPiece c p → closed outs
 unfolding closed
 closed_piece c p t (inl h) =
     let a = and_parts (is_string_byte c) (not ((c == percent_sign) || (c == double_quote))) h.0 in
-    let o = or_parts (c == percent_sign) (c == double_quote) (not-true ((c == percent_sign) || (c == double_quote)) a.1) in
+    let o = or_parts (c == percent_sign) (c == double_quote)
+    (not-true ((c == percent_sign) || (c == double_quote)) a.1) in
     ap (λ (l : List ℕ). closed outside (l ++ t)) h.1 ∙ rw (o.0, o.1, a.0) refl
 closed_piece c p t (inr h) =
     let a = and_parts (is_lower_hexadecimal h.0) (is_lower_hexadecimal h.1) h.2 in
     ap (λ (l : List ℕ). closed outside (l ++ t)) h.4 ∙ rw (a.0, a.1) refl
 
-pub closed_past : (bytes : List ℕ) (pieces : List (List ℕ)) (t : List ℕ) → AllZip IsDisplayPiece bytes pieces → closed outside (concat pieces ++ t) ≡ closed outside t
+pub closed_past : (bytes : List ℕ) (pieces : List (List ℕ)) (t : List ℕ) → AllZip IsDisplayPiece bytes pieces
+    → closed outside (concat pieces ++ t) ≡ closed outside t
 closed_past [] [] t h = refl
 closed_past [] (p ∷ ps) t h = absurd h
 closed_past (c ∷ bytes) [] t h = absurd h
-closed_past (c ∷ bytes) (p ∷ ps) t h = ap (closed outside) (append_assoc p (concat ps) t) ∙ closed_piece c p (concat ps ++ t) h.0 ∙ closed_past bytes ps t h.1
+closed_past (c ∷ bytes) (p ∷ ps) t h = ap (closed outside) (append_assoc p (concat ps) t)
+    ∙ closed_piece c p (concat ps ++ t) h.0 ∙ closed_past bytes ps t h.1
 
-pub closed_pieces : (bytes : List ℕ) (pieces : List (List ℕ)) → AllZip IsDisplayPiece bytes pieces → closed outside (concat pieces) ≡ true
+pub closed_pieces : (bytes : List ℕ) (pieces : List (List ℕ)) → AllZip IsDisplayPiece bytes pieces
+    → closed outside (concat pieces) ≡ true
 unfolding closed
 closed_pieces bytes pieces h = ap (closed outside) (sym (append-nil (concat pieces))) ∙ closed_past bytes pieces [] h
 
@@ -205,7 +259,8 @@ stuck_cut (d ∷ []) h l (suc zero) m = rw (and_parts (is_lower_hexadecimal d) t
 stuck_cut (d ∷ []) h l (suc (suc n)) m = absurd (omega (arith, m))
 stuck_cut (d ∷ e ∷ ds) h l n m = absurd (omega (arith, l))
 
-stuck_wrong : (digits : List ℕ) (w : ℕ) (more : List ℕ) → RunOf is_lower_hexadecimal digits → length digits ≤ 1 → is_lower_hexadecimal w ≡ false → IsStuck (percent_sign ∷ (digits ++ w ∷ more))
+stuck_wrong : (digits : List ℕ) (w : ℕ) (more : List ℕ) → RunOf is_lower_hexadecimal digits → length digits ≤ 1
+    → is_lower_hexadecimal w ≡ false → IsStuck (percent_sign ∷ (digits ++ w ∷ more))
 unfolding closed
 stuck_wrong [] w more h l k zero m = refl
 stuck_wrong [] w more h l k (suc n) m = rw k refl
@@ -218,5 +273,7 @@ pub stuck : (k : SyntaxFault) (left there : List ℕ) → DisplayStops k left th
 stuck unterminated_display_string left there h = subst IsStuck (sym h.0) (λ n m. absurd (omega (arith, m)))
 stuck unterminated_escape_sequence left there h = subst IsStuck (sym h.1) (stuck_cut h.0 h.3 h.4)
 stuck invalid_escape_sequence left there h = subst IsStuck (sym h.3) (stuck_wrong h.0 h.1 h.2 h.5 h.6 h.7)
-stuck invalid_display_string_character left there h = subst IsStuck (sym h.2) (stuck_byte h.0 h.1 (not_byte h.0 percent_sign h.4 refl) (and_left (is_string_byte h.0) _ h.4))
+stuck invalid_display_string_character left there h =
+    subst IsStuck (sym h.2) (stuck_byte h.0 h.1 (not_byte h.0 percent_sign h.4 refl)
+    (and_left (is_string_byte h.0) _ h.4))
 stuck _ left there h = absurd h

@@ -17,19 +17,32 @@ use Rattle.sfv_reading.proofs.sound.Separated.{Sound-members}
 abbrev pub FieldGoes : Edition → FieldKind → List ℕ → List TreeEvent → Type 0
 FieldGoes edition kind = Goes (IsFieldText edition kind) (events kind)
 
-spaced : (edition : Edition) (i : RawItem) (s t z : List ℕ) → RunOf is_space s → IsItemText edition i t → RunOf is_space z → IsFieldText edition item_field i (s ++ (t ++ z))
-spaced edition i s t z each h each' = record { front = s; back = t ++ z; text = refl; first = each; second = record { front = t; back = z; text = refl; first = h; second = each' } }
+spaced : (edition : Edition) (i : RawItem) (s t z : List ℕ) → RunOf is_space s → IsItemText edition i t
+    → RunOf is_space z → IsFieldText edition item_field i (s ++ (t ++ z))
+spaced edition i s t z each h each' = record {
+  front = s;
+  back = t ++ z;
+  text = refl;
+  first = each;
+  second = record { front = t; back = z; text = refl; first = h; second = each' };
+}
 
-Sound-item_field : (edition : Edition) → Reads (whole_field_at edition item_field) (IsFieldText edition item_field) (FieldGoes edition item_field)
+Sound-item_field : (edition : Edition) → Reads (whole_field_at edition item_field) (IsFieldText edition item_field)
+    (FieldGoes edition item_field)
 unfolding whole_field_at
 Sound-item_field edition = Sound-span _ _ _ _ _ (λ s each.
     Sound-bind (IsItemText edition) (item_at edition) _ _ _ _
-    (Sound-within (λ u. s ++ u) (λ es. es) (item_at edition) (IsItemText edition) (ItemGoes edition) _ (FieldGoes edition item_field) (Sound-item edition) (λ v t h. h)
+    (Sound-within (λ u. s ++ u) (λ es. es) (item_at edition) (IsItemText edition) (ItemGoes edition) _
+    (FieldGoes edition item_field) (Sound-item edition) (λ v t h. h)
     (λ u es g. ([], (g.0, spaced edition g.0 s u [] each g.1 refl, g.2))))
-    (λ t i h. Sound-span _ _ _ _ _ (λ z each'. Sound-give _ _ _ _ (spaced edition i s t (z ++ []) each h (subst (RunOf is_space) (sym (append-nil z)) each')))))
+    (λ t i h. Sound-span _ _ _ _ _ (λ z each'. Sound-give _ _ _ _
+    (spaced edition i s t (z ++ []) each h (subst (RunOf is_space) (sym (append-nil z)) each')))))
 
-pub Sound-field : (edition : Edition) (kind : FieldKind) → Reads (whole_field_at edition kind) (IsFieldText edition kind) (FieldGoes edition kind)
+pub Sound-field : (edition : Edition) (kind : FieldKind)
+    → Reads (whole_field_at edition kind) (IsFieldText edition kind) (FieldGoes edition kind)
 unfolding whole_field_at
 Sound-field edition item_field = Sound-item_field edition
-Sound-field edition list_field = Sound-members (IsMemberText edition) entry_events (entry_at edition) (Sound-entry edition)
-Sound-field edition dictionary_field = Sound-members (IsDictionaryMemberText edition) keyed_events (keyed_at edition) (Sound-keyed edition)
+Sound-field edition list_field = Sound-members (IsMemberText edition) entry_events (entry_at edition)
+    (Sound-entry edition)
+Sound-field edition dictionary_field = Sound-members (IsDictionaryMemberText edition) keyed_events (keyed_at edition)
+    (Sound-keyed edition)

@@ -1,5 +1,6 @@
 -- What the readers of Strings and Display Strings give.
-use Rattle.std.proofs.Common.{◌≡◌, ℕ, Bool, true, false, cond, List, [], ◌∷◌, ◌++◌, Ok, Err, refl, sym, ap, subst, ◌∙◌, append_assoc, inr}
+use Rattle.std.proofs.Common.{◌≡◌, ℕ, Bool, true, false, cond, List, [], ◌∷◌, ◌++◌, Ok, Err, refl, sym, ap, subst, ◌∙◌}
+use Rattle.std.proofs.Common.{append_assoc, inr}
 use Rattle.std.specs.List.{concat, AllZip}
 use Rattle.std.specs.Str.{is_utf8}
 use Rattle.std.specs.Str.Lossy.{utf8_valid_len}
@@ -8,29 +9,49 @@ use Rattle.std.proofs.lemmas.List.{append-nil}
 use Rattle.std.proofs.lemmas.Str.{IsUtf8-from_is_utf8}
 use Rattle.sfv_spec.specs.Ascii.{double_quote, backslash}
 use Rattle.sfv_spec.specs.Strings.{IsStringPiece, IsDisplayPiece}
-use Rattle.sfv_spec.specs.Faults.{SyntaxFault, invalid_string_character, unterminated_string, unterminated_escape_sequence, invalid_escape_sequence, invalid_utf8_in_display_string}
+use Rattle.sfv_spec.specs.Faults.{SyntaxFault, invalid_string_character, unterminated_string}
+use Rattle.sfv_spec.specs.Faults.{unterminated_escape_sequence, invalid_escape_sequence, invalid_utf8_in_display_string}
 use Rattle.sfv_reading.specs.Reader.{first, Fault, Answer, placed, at_reach, by_rule}
 use Rattle.sfv_reading.specs.Judgements.{GoesOn, Reached, Sound, Mute, Quiet}
-use Rattle.sfv_reading.specs.Quoted.{IsStringEnd, IsDisplayEnd, string_at, outside, pieces_from, behind_pieces, checked, display_at, StringStops, DisplayStops, Traced, IsDisplayFault}
+use Rattle.sfv_reading.specs.Quoted.{IsStringEnd, IsDisplayEnd, string_at, outside, pieces_from, behind_pieces, checked}
+use Rattle.sfv_reading.specs.Quoted.{display_at, StringStops, DisplayStops, Traced, IsDisplayFault}
 use Rattle.sfv_reading.proofs.quoted.Traces.{Ends, trace_of_string, trace_of_display}
 use Rattle.sfv_reading.proofs.quoted.Pieces.{display_ruled}
 
 -- where a reader stopped, without how its fault is placed
-pub stopped_at : (exact : Bool) (P : ℕ → List ℕ → Type 0) (Stops : SyntaxFault → List ℕ → List ℕ → Type 0) (t : List ℕ) (e : Fault) → Traced P t (Ends exact Stops (Err e)) → Traced P t (λ bytes left. Stops e.kind left e.rest)
-stopped_at exact P Stops t e h = record { bytes = h.bytes; pieces = h.pieces; left = h.left; text = h.text; content = h.content; ends = h.ends.1 }
+pub stopped_at : (exact : Bool) (P : ℕ → List ℕ → Type 0)
+    (Stops : SyntaxFault → List ℕ → List ℕ → Type 0) (t : List ℕ) (e : Fault) → Traced P t (Ends exact Stops (Err e))
+    → Traced P t (λ bytes left. Stops e.kind left e.rest)
+stopped_at exact P Stops t e h = record {
+  bytes = h.bytes;
+  pieces = h.pieces;
+  left = h.left;
+  text = h.text;
+  content = h.content;
+  ends = h.ends.1;
+}
 
 -- a fault is placed so by its parts
 pub placed_by : (exact : Bool) (e : Fault) → e.exact ≡ exact → e.events ≡ [] → placed exact e.kind e.rest ≡ e
-placed_by exact e x n = ap (λ (b : Bool). placed b e.kind e.rest) (sym x) ∙ ap (λ es. record { kind = e.kind; exact = e.exact; rest = e.rest; events = es }) (sym n)
+placed_by exact e x n = ap (λ (b : Bool). placed b e.kind e.rest) (sym x)
+    ∙ ap (λ es. record { kind = e.kind; exact = e.exact; rest = e.rest; events = es }) (sym n)
 
 -- ---- strings
 
 -- a beginning up to a fault can be completed
-completed : (bytes : List ℕ) (pieces : List (List ℕ)) (p : List ℕ) → AllZip IsStringPiece bytes pieces → p ≡ concat pieces → IsStringEnd bytes (p ++ double_quote ∷ [])
-completed bytes pieces p h e = record { front = p; back = double_quote ∷ []; text = refl; first = record { pieces = pieces; text = e; each = h }; second = refl }
+completed : (bytes : List ℕ) (pieces : List (List ℕ)) (p : List ℕ) → AllZip IsStringPiece bytes pieces
+    → p ≡ concat pieces → IsStringEnd bytes (p ++ double_quote ∷ [])
+completed bytes pieces p h e = record {
+  front = p;
+  back = double_quote ∷ [];
+  text = refl;
+  first = record { pieces = pieces; text = e; each = h };
+  second = refl;
+}
 
 -- one more piece at the end
-pub zip_more : (P : ℕ → List ℕ → Type 0) (bytes : List ℕ) (pieces : List (List ℕ)) (c : ℕ) (p : List ℕ) → AllZip P bytes pieces → P c p → AllZip P (bytes ++ c ∷ []) (pieces ++ p ∷ [])
+pub zip_more : (P : ℕ → List ℕ → Type 0) (bytes : List ℕ) (pieces : List (List ℕ)) (c : ℕ) (p : List ℕ)
+    → AllZip P bytes pieces → P c p → AllZip P (bytes ++ c ∷ []) (pieces ++ p ∷ [])
 zip_more P [] [] c p h q = (q, tt)
 zip_more P [] (x ∷ pieces) c p h q = absurd h
 zip_more P (b ∷ bytes) [] c p h q = absurd h
@@ -40,30 +61,65 @@ pub concat_more : (pieces : List (List ℕ)) (p : List ℕ) → concat (pieces +
 concat_more [] p = append-nil p
 concat_more (x ∷ pieces) p = ap (λ (l : List ℕ). x ++ l) (concat_more pieces p) ∙ sym (append_assoc x (concat pieces) p)
 
-escape_completed : (bytes : List ℕ) (pieces : List (List ℕ)) → AllZip IsStringPiece bytes pieces → IsStringEnd (bytes ++ double_quote ∷ []) (concat pieces ++ backslash ∷ [] ++ double_quote ∷ double_quote ∷ [])
+escape_completed : (bytes : List ℕ) (pieces : List (List ℕ)) → AllZip IsStringPiece bytes pieces
+    → IsStringEnd (bytes ++ double_quote ∷ []) (concat pieces ++ backslash ∷ [] ++ double_quote ∷ double_quote ∷ [])
 escape_completed bytes pieces h = record {
   front = concat pieces ++ backslash ∷ double_quote ∷ [];
   back = double_quote ∷ [];
   text = simp append_assoc;
-  first = record { pieces = pieces ++ (backslash ∷ double_quote ∷ []) ∷ []; text = sym (concat_more pieces (backslash ∷ double_quote ∷ [])); each = zip_more IsStringPiece bytes pieces double_quote (backslash ∷ double_quote ∷ []) h (inr (refl, refl)) };
+  first = record {
+    pieces = pieces ++ (backslash ∷ double_quote ∷ []) ∷ [];
+    text = sym (concat_more pieces (backslash ∷ double_quote ∷ []));
+    each = zip_more IsStringPiece bytes pieces double_quote (backslash ∷ double_quote ∷ []) h (inr (refl, refl));
+  };
   second = refl;
 }
 
-string_completed : (k : SyntaxFault) (left there : List ℕ) (t : List ℕ) (bytes : List ℕ) (pieces : List (List ℕ)) → t ≡ concat pieces ++ left → AllZip IsStringPiece bytes pieces → StringStops k left there → GoesOn (Mute IsStringEnd) t (at_reach k there)
-string_completed unterminated_string left there t bytes pieces e h s = record { front = concat pieces; more = double_quote ∷ []; parts = rw (e, s.0, s.1) refl; holds = (bytes, completed bytes pieces (concat pieces) h refl, refl) }
-string_completed unterminated_escape_sequence left there t bytes pieces e h s = record { front = concat pieces ++ backslash ∷ []; more = double_quote ∷ double_quote ∷ []; parts = rw (e, s.0, s.1) (sym (append-nil _)); holds = (bytes ++ double_quote ∷ [], escape_completed bytes pieces h, refl) }
-string_completed invalid_escape_sequence left there t bytes pieces e h s = record { front = concat pieces ++ backslash ∷ []; more = double_quote ∷ double_quote ∷ []; parts = rw (e, s.2, s.3) (sym (append_assoc (concat pieces) (backslash ∷ []) (s.0 ∷ s.1))); holds = (bytes ++ double_quote ∷ [], escape_completed bytes pieces h, refl) }
-string_completed invalid_string_character left there t bytes pieces e h s = record { front = concat pieces; more = double_quote ∷ []; parts = rw (e, s.2, s.3) refl; holds = (bytes, completed bytes pieces (concat pieces) h refl, refl) }
+string_completed : (k : SyntaxFault) (left there : List ℕ) (t : List ℕ) (bytes : List ℕ) (pieces : List (List ℕ))
+    → t ≡ concat pieces ++ left → AllZip IsStringPiece bytes pieces → StringStops k left there
+    → GoesOn (Mute IsStringEnd) t (at_reach k there)
+string_completed unterminated_string left there t bytes pieces e h s =
+    record {
+      front = concat pieces;
+      more = double_quote ∷ [];
+      parts = rw (e, s.0, s.1) refl;
+      holds = (bytes, completed bytes pieces (concat pieces) h refl, refl);
+    }
+string_completed unterminated_escape_sequence left there t bytes pieces e h s =
+    record {
+      front = concat pieces ++ backslash ∷ [];
+      more = double_quote ∷ double_quote ∷ [];
+      parts = rw (e, s.0, s.1) (sym (append-nil _));
+      holds = (bytes ++ double_quote ∷ [], escape_completed bytes pieces h, refl);
+    }
+string_completed invalid_escape_sequence left there t bytes pieces e h s =
+    record {
+      front = concat pieces ++ backslash ∷ [];
+      more = double_quote ∷ double_quote ∷ [];
+      parts = rw (e, s.2, s.3) (sym (append_assoc (concat pieces) (backslash ∷ []) (s.0 ∷ s.1)));
+      holds = (bytes ++ double_quote ∷ [], escape_completed bytes pieces h, refl);
+    }
+string_completed invalid_string_character left there t bytes pieces e h s =
+    record {
+      front = concat pieces;
+      more = double_quote ∷ [];
+      parts = rw (e, s.2, s.3) refl;
+      holds = (bytes, completed bytes pieces (concat pieces) h refl, refl);
+    }
 string_completed _ left there t bytes pieces e h s = absurd s
 
-string_reached : (t : List ℕ) (a : Answer (List ℕ)) → Traced IsStringPiece t (Ends true StringStops a) → Reached IsStringEnd (Mute IsStringEnd) Quiet t a
+string_reached : (t : List ℕ) (a : Answer (List ℕ)) → Traced IsStringPiece t (Ends true StringStops a)
+    → Reached IsStringEnd (Mute IsStringEnd) Quiet t a
 string_reached t (Ok x) h = (
   concat h.pieces ++ double_quote ∷ [],
-  h.text ∙ ap (λ (l : List ℕ). concat h.pieces ++ l) h.ends.1 ∙ sym (append_assoc (concat h.pieces) (double_quote ∷ []) x.1),
-  subst (λ (s : List ℕ). IsStringEnd s (concat h.pieces ++ double_quote ∷ [])) (sym h.ends.0) (completed h.bytes h.pieces (concat h.pieces) h.content refl),
+  h.text ∙ ap (λ (l : List ℕ). concat h.pieces ++ l) h.ends.1
+      ∙ sym (append_assoc (concat h.pieces) (double_quote ∷ []) x.1),
+  subst (λ (s : List ℕ). IsStringEnd s (concat h.pieces ++ double_quote ∷ [])) (sym h.ends.0)
+      (completed h.bytes h.pieces (concat h.pieces) h.content refl),
 )
 string_reached t (Err e) h = (
-  λ _. subst (λ (e : Fault). GoesOn (Mute IsStringEnd) t e) (sym h.ends.0) (string_completed e.kind h.left e.rest t h.bytes h.pieces h.text h.content h.ends.1),
+  λ _. subst (λ (e : Fault). GoesOn (Mute IsStringEnd) t e) (sym h.ends.0)
+      (string_completed e.kind h.left e.rest t h.bytes h.pieces h.text h.content h.ends.1),
   λ i. absurd (true≢false (sym (ap (λ (e : Fault). e.exact) h.ends.0) ∙ i)),
 )
 
@@ -73,18 +129,29 @@ Sound-string = record { sound = λ t. string_reached t (string_at t) (trace_of_s
 
 -- ---- display strings
 
-display_reached : (t : List ℕ) (a : Answer (List ℕ)) → Traced IsDisplayPiece t (Ends false DisplayStops a) → Reached IsDisplayEnd (Mute IsDisplayEnd) Quiet t (checked t a)
+display_reached : (t : List ℕ) (a : Answer (List ℕ)) → Traced IsDisplayPiece t (Ends false DisplayStops a)
+    → Reached IsDisplayEnd (Mute IsDisplayEnd) Quiet t (checked t a)
 display_reached t (Ok x) h =
     let wrong : Answer (List ℕ) = Err (by_rule invalid_utf8_in_display_string (behind_pieces (utf8_valid_len x.0) t)) in
-    let on : (b : Bool) → is_utf8 x.0 ≡ b → Reached IsDisplayEnd (Mute IsDisplayEnd) Quiet t (cond b (Ok x) wrong) = λ b. elim b as (λ (b : Bool). is_utf8 x.0 ≡ b → Reached IsDisplayEnd (Mute IsDisplayEnd) Quiet t (cond b (Ok x) wrong)) [
+    let on : (b : Bool) → is_utf8 x.0 ≡ b → Reached IsDisplayEnd (Mute IsDisplayEnd) Quiet t (cond b (Ok x) wrong) =
+    λ b. elim b as (λ (b : Bool). is_utf8 x.0 ≡ b
+    → Reached IsDisplayEnd (Mute IsDisplayEnd) Quiet t (cond b (Ok x) wrong)) [
       | true ↦ λ e. (
         concat h.pieces ++ double_quote ∷ [],
-        h.text ∙ ap (λ (l : List ℕ). concat h.pieces ++ l) h.ends.1 ∙ sym (append_assoc (concat h.pieces) (double_quote ∷ []) x.1),
+        h.text ∙ ap (λ (l : List ℕ). concat h.pieces ++ l) h.ends.1
+            ∙ sym (append_assoc (concat h.pieces) (double_quote ∷ []) x.1),
         record {
           front = concat h.pieces;
           back = double_quote ∷ [];
           text = refl;
-          first = (record { pieces = h.pieces; text = refl; each = subst (λ (s : List ℕ). AllZip IsDisplayPiece s h.pieces) (sym h.ends.0) h.content }, IsUtf8-from_is_utf8 x.0 e);
+          first = (
+            record {
+              pieces = h.pieces;
+              text = refl;
+              each = subst (λ (s : List ℕ). AllZip IsDisplayPiece s h.pieces) (sym h.ends.0) h.content;
+            },
+            IsUtf8-from_is_utf8 x.0 e,
+          );
           second = refl;
         },
       )
@@ -100,6 +167,7 @@ pub Sound-display : Sound display_at IsDisplayEnd (Mute IsDisplayEnd) Quiet
 unfolding display_at
 Sound-display = record { sound = λ t. display_reached t (pieces_from outside t) (trace_of_display t) }
 
-pub stopped : (t there : List ℕ) (k : SyntaxFault) → Traced IsDisplayPiece t (λ bytes left. DisplayStops k left there) → IsDisplayFault t k there
+pub stopped : (t there : List ℕ) (k : SyntaxFault) → Traced IsDisplayPiece t (λ bytes left. DisplayStops k left there)
+    → IsDisplayFault t k there
 stopped t there invalid_utf8_in_display_string h = absurd h.ends
 stopped t there k h = h

@@ -13,37 +13,47 @@ abbrev pub step_events : {A : Type 0} → (A → List TreeEvent) → Option A �
 step_events parts (Some v) = parts v
 step_events parts None = []
 
-abbrev pub StepGoes : {A : Type 0} → (A → List ℕ → Type 0) → (List ℕ → Type 0) → (A → List TreeEvent) → List ℕ → List TreeEvent → Type 0
+abbrev pub StepGoes : {A : Type 0} → (A → List ℕ → Type 0) → (List ℕ → Type 0) → (A → List TreeEvent) → List ℕ
+    → List TreeEvent → Type 0
 StepGoes P E parts = Goes (Step P E) (step_events parts)
 
-abbrev pub ManyGoes : {A : Type 0} → (A → List ℕ → Type 0) → (List ℕ → Type 0) → (A → List TreeEvent) → List ℕ → List TreeEvent → Type 0
+abbrev pub ManyGoes : {A : Type 0} → (A → List ℕ → Type 0) → (List ℕ → Type 0) → (A → List TreeEvent) → List ℕ
+    → List TreeEvent → Type 0
 ManyGoes P E parts = Goes (Joined P E) (λ vs. flat_map parts vs)
 
-module _ {A : Type 0} (P : A → List ℕ → Type 0) (E : List ℕ → Type 0) (parts : A → List TreeEvent) (z : List ℕ) (e : E z) where
+module _ {A : Type 0} (P : A → List ℕ → Type 0) (E : List ℕ → Type 0) (parts : A
+    → List TreeEvent) (z : List ℕ) (e : E z) where
   -- after pieces, a step goes on to an end
-  goes_on : (s : List ℕ) (vs : List A) → IsJoining P vs s → (u : List ℕ) (es : List TreeEvent) (o : Option A) → Step P E o u → Begins (step_events parts o) es
+  goes_on : (s : List ℕ) (vs : List A) → IsJoining P vs s → (u : List ℕ) (es : List TreeEvent) (o : Option A)
+      → Step P E o u → Begins (step_events parts o) es
       → (d : List ℕ) × ManyGoes P E parts (s ++ (u ++ d)) (flat_map parts vs ++ es)
   goes_on s vs j u es None h b = (
     [],
     (
       vs,
       joined_split P E vs s (u ++ []) j (subst E (sym (append-nil u)) h),
-      subst (λ (l : List TreeEvent). Begins l (flat_map parts vs ++ es)) (append-nil (flat_map parts vs)) (begins_behind (flat_map parts vs) [] es b),
+      subst (λ (l : List TreeEvent). Begins l (flat_map parts vs ++ es)) (append-nil (flat_map parts vs))
+          (begins_behind (flat_map parts vs) [] es b),
     ),
   )
   goes_on s vs j u es (Some v) h b = (
     z,
     (
       vs ++ v ∷ [],
-      subst (λ (l : List ℕ). Joined P E (vs ++ v ∷ []) l) (append_assoc s u z) (joined_split P E (vs ++ v ∷ []) (s ++ u) z (joining_push P vs v s u j h) e),
+      subst (λ (l : List ℕ). Joined P E (vs ++ v ∷ []) l) (append_assoc s u z)
+          (joined_split P E (vs ++ v ∷ []) (s ++ u) z (joining_push P vs v s u j h) e),
       subst (λ (l : List TreeEvent). Begins l (flat_map parts vs ++ es))
-          (sym (sym (append-nil (flat_map parts (vs ++ v ∷ []))) ∙ events_push parts vs v [] ∙ ap (λ (l : List TreeEvent). flat_map parts vs ++ l) (append-nil (parts v))))
+          (sym (sym (append-nil (flat_map parts (vs ++ v ∷ []))) ∙ events_push parts vs v []
+          ∙ ap (λ (l : List TreeEvent). flat_map parts vs ++ l) (append-nil (parts v))))
           (begins_behind (flat_map parts vs) (parts v) es b),
     ),
   )
 
-  pub Sound-steps : (step : Reader (Option A)) → Reads step (Step P E) (StepGoes P E parts) → Reads (many parts step) (Joined P E) (ManyGoes P E parts)
+  pub Sound-steps : (step : Reader (Option A)) → Reads step (Step P E) (StepGoes P E parts)
+      → Reads (many parts step) (Joined P E) (ManyGoes P E parts)
   Sound-steps step k = Sound-many P E (ManyGoes P E parts) (Somewhere (ManyGoes P E parts)) parts step
-      (λ s vs j. Sound-weaker (Step P E) (StepGoes P E parts) (Somewhere (StepGoes P E parts)) step (Step P E) (Behind parts (ManyGoes P E parts) s vs) (Told parts (Somewhere (ManyGoes P E parts)) vs) k
-      (λ v t p. p) (λ u es g. goes_on s vs j u es g.0 g.1 g.2) (λ es g. let m = goes_on s vs j g.0 es g.1.0 g.1.1 g.1.2 in (s ++ (g.0 ++ m.0), m.1)))
+      (λ s vs j. Sound-weaker (Step P E) (StepGoes P E parts) (Somewhere (StepGoes P E parts)) step (Step P E)
+      (Behind parts (ManyGoes P E parts) s vs) (Told parts (Somewhere (ManyGoes P E parts)) vs) k
+      (λ v t p. p) (λ u es g. goes_on s vs j u es g.0 g.1 g.2) (λ es g. let m =
+      goes_on s vs j g.0 es g.1.0 g.1.1 g.1.2 in (s ++ (g.0 ++ m.0), m.1)))
       (λ s vs j. let m = goes_on s vs j z [] None e ([], refl) in (s ++ (z ++ m.0), m.1))

@@ -14,16 +14,28 @@ use Rattle.sfv_reading.specs.Claims.{VisitedBegins, FailedBegins, ItemIsValue}
 use Rattle.sfv_reading.proofs.sound.Combinators.{Somewhere}
 use Rattle.sfv_reading.proofs.sound.Fields.{FieldGoes, Sound-field}
 
-begun_by : (edition : Edition) (kind : FieldKind) (es : List TreeEvent) → Somewhere (FieldGoes edition kind) es → BeginsEvents kind es
-begun_by edition kind es g = record { raw = g.1.0; is_value = (accepted_is_value_lem edition kind g.0 g.1.0 g.1.1).0; more = g.1.2.0; all = g.1.2.1 }
+begun_by : (edition : Edition) (kind : FieldKind) (es : List TreeEvent) → Somewhere (FieldGoes edition kind) es
+    → BeginsEvents kind es
+begun_by edition kind es g = record {
+  raw = g.1.0;
+  is_value = (accepted_is_value_lem edition kind g.0 g.1.0 g.1.1).0;
+  more = g.1.2.0;
+  all = g.1.2.1;
+}
 
-visited_on : (edition : Edition) (kind : FieldKind) (t : List ℕ) (a : Answer (RawField kind)) → Reached (IsFieldText edition kind) (FieldGoes edition kind) (Somewhere (FieldGoes edition kind)) t a → Somewhere (FieldGoes edition kind) (visited (events kind) a)
+visited_on : (edition : Edition) (kind : FieldKind) (t : List ℕ) (a : Answer (RawField kind))
+    → Reached (IsFieldText edition kind) (FieldGoes edition kind) (Somewhere (FieldGoes edition kind)) t a
+    → Somewhere (FieldGoes edition kind) (visited (events kind) a)
 visited_on edition kind t (Ok x) h = (h.0, (x.0, h.2, ([], sym (append-nil (events kind x.0)))))
-visited_on edition kind t (Err x) h = elim (cases_Bool x.exact) [ inl e ↦ let g = h.0 e in (g.front ++ g.more, g.holds) | inr e ↦ (h.1 e).0 ]
+visited_on edition kind t (Err x) h = elim (cases_Bool x.exact) [
+  | inl e ↦ let g = h.0 e in (g.front ++ g.more, g.holds)
+  | inr e ↦ (h.1 e).0
+]
 
 -- what is visited, on a success or before a fault, begins some field's events
 pub visited_begins : VisitedBegins
-visited_begins edition kind t = begun_by edition kind _ (visited_on edition kind t (whole_field_at edition kind t) ((Sound-field edition kind).sound t))
+visited_begins edition kind t = begun_by edition kind _
+    (visited_on edition kind t (whole_field_at edition kind t) ((Sound-field edition kind).sound t))
 
 -- and so does each beginning of it, with the event that is failed
 pub failed_begins : FailedBegins
@@ -31,9 +43,16 @@ failed_begins kind es before e after h i = record {
   raw = h.raw;
   is_value = h.is_value;
   more = after ++ h.more;
-  all = h.all ∙ ap (λ (l : List TreeEvent). l ++ h.more) i ∙ append_assoc before (e ∷ after) h.more ∙ sym (append_assoc before (e ∷ []) (after ++ h.more));
+  all = h.all ∙ ap (λ (l : List TreeEvent). l ++ h.more) i ∙ append_assoc before (e ∷ after) h.more
+      ∙ sym (append_assoc before (e ∷ []) (after ++ h.more));
 }
 
 -- an item that was read is a value, whatever follows: its visitor may be finished
 pub item_is_value : ItemIsValue
-item_is_value edition i t h = (accepted_is_value_lem edition item_field t i (record { front = []; back = t; text = refl; first = refl; second = record { front = t; back = []; text = sym (append-nil t); first = h; second = refl } })).0
+item_is_value edition i t h = (accepted_is_value_lem edition item_field t i (record {
+  front = [];
+  back = t;
+  text = refl;
+  first = refl;
+  second = record { front = t; back = []; text = sym (append-nil t); first = h; second = refl };
+})).0

@@ -1,6 +1,7 @@
 //! Writing inner lists and lists (RFC 9651, sections 4.1.1 and 4.1.1.1).
 
-ghost use Rattle.std.specs.Prelude.{◌≡◌, [], false, OnOk, IfOk, IfErr, if◌then◌else◌, map, option_map, codes, string_bytes};
+ghost use Rattle.std.specs.Prelude.{◌≡◌, [], false, OnOk, IfOk, IfErr, if◌then◌else◌, map, option_map, codes};
+ghost use Rattle.std.specs.Prelude.{string_bytes};
 ghost use Rattle.std.specs.List.{AllByRecursion};
 ghost use Rattle.sfv_spec.specs.Texts.{joined};
 ghost use Rattle.sfv_spec.specs.Values.{IsItem, IsMember, HasMember, inner_list, list_field};

@@ -23,7 +23,8 @@ struct PartialPair {
 /// whole, at the place of the first (RFC 9651, section 4.2.2); so does the last value of a repeated parameter.
 ///
 /// It takes every event, and an event out of its place changes nothing. It fails only when out of memory, at a key, a
-/// text, a parameter or the end of an item or a member that it takes, and never at the end. Its answer is the dictionary of the members that are whole.
+/// text, a parameter or the end of an item or a member that it takes, and never at the end. Its answer is the
+/// dictionary of the members that are whole.
 #[derive(Drop)]
 pub struct DictionaryBuilder {
     dictionary: Dictionary,

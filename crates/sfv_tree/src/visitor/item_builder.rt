@@ -14,8 +14,8 @@ use std::alloc::Global;
 
 /// Builds an item of its events. Of a repeated key the last value stands, at the place of the first.
 ///
-/// It takes every event, and an event out of its place changes nothing. It fails only when out of memory, at a text or a
-/// parameter that it takes, and at the end with `ItemFault::NoItem` only where it visited no whole item.
+/// It takes every event, and an event out of its place changes nothing. It fails only when out of memory, at a text or
+/// a parameter that it takes, and at the end with `ItemFault::NoItem` only where it visited no whole item.
 #[derive(Drop)]
 pub struct ItemBuilder {
     alloc: Global,

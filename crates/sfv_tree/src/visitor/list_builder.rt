@@ -15,7 +15,8 @@ use sfv_base::error::OutOfMemory;
 /// stands, at the place of the first.
 ///
 /// It takes every event, and an event out of its place changes nothing. It fails only when out of memory, at a text, a
-/// parameter or the end of an item or a member that it takes, and never at the end. Its answer is the list of the members that are whole.
+/// parameter or the end of an item or a member that it takes, and never at the end. Its answer is the list of the
+/// members that are whole.
 #[derive(Drop)]
 pub struct ListBuilder {
     list: List,

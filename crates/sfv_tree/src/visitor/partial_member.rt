@@ -118,7 +118,8 @@ impl PartialMember {
     }
 
     fn end_parameters(self) -> Result<PartialMember, OutOfMemory>
-        ensures place { IfOk result (λ after. member_place after ≡ member_step (member_place self) tree.parameters_end) }
+        ensures place { IfOk result (λ after. member_place after
+            ≡ member_step (member_place self) tree.parameters_end) }
         ensures memory { OnErr result (IsTrue (takes_memory (member_place self) tree.parameters_end)) }
     {
         match self {

@@ -8,4 +8,5 @@ pub looked_up-by_high-requires : goal.looked_up-by_high-requires
 looked_up-by_high-requires c = high_halves c.args.lanes c.fits-lanes.1
 
 pub returns : goal.returns
-returns c = by_look_ups c.args.low.now c.args.lanes _ _ c.fits-lanes.0 c.fits-lanes.1 c.looked_up-by_low.ensures c.looked_up-by_high.ensures
+returns c = by_look_ups c.args.low.now c.args.lanes _ _ c.fits-lanes.0 c.fits-lanes.1 c.looked_up-by_low.ensures
+    c.looked_up-by_high.ensures

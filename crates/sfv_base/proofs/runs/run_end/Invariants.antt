@@ -3,4 +3,5 @@ use Rattle.std.specs.List.{prefix_len}
 use Rattle.sfv_base.proofs.runs.run_end.Given as goal
 
 abbrev pub invariant-loop-end : goal.invariant-loop-end
-invariant-loop-end g l = prefix_len g.C.RunClass.class l.bytes ≡ l.end + prefix_len g.C.RunClass.class (drop l.end l.bytes)
+invariant-loop-end g l = prefix_len g.C.RunClass.class l.bytes
+    ≡ l.end + prefix_len g.C.RunClass.class (drop l.end l.bytes)

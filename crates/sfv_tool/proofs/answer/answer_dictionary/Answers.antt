@@ -9,7 +9,14 @@ use Rattle.sfv_tool.proofs.answer.answer_dictionary.Goals as goal
 
 pub returns-clause-accepted : goal.returns-clause-accepted
 returns-clause-accepted c =
-    let version : parser_edition c.with_version-parser.result ≡ edition_of c.args.version = c.with_version-parser.ensures.version in
-    let input : input_of c.with_version-parser.result ≡ c.args.input.now = c.with_version-parser.ensures.input ∙ c.new.ensures.input in
-    let read : IsParsedAs (edition_of c.args.version) dictionary_field c.args.input.now (dictionary_tree c.in_ok-dictionary.dictionary.entries) = rw (← version, ← input) c.in_ok-dictionary.ensures.read in
-    answered (edition_of c.args.version) dictionary_field c.args.input.now (dictionary_tree c.in_ok-dictionary.dictionary.entries) c.in_ok-serialize.field-0 c.line.result read (serialized_line dictionary_field _ c.in_ok-serialize.field-0 c.in_ok-serialize.ensures.text) c.line.ensures.line
+    let version : parser_edition c.with_version-parser.result ≡ edition_of c.args.version =
+    c.with_version-parser.ensures.version in
+    let input : input_of c.with_version-parser.result ≡ c.args.input.now = c.with_version-parser.ensures.input
+    ∙ c.new.ensures.input in
+    let read : IsParsedAs (edition_of c.args.version) dictionary_field c.args.input.now
+    (dictionary_tree c.in_ok-dictionary.dictionary.entries) =
+    rw (← version, ← input) c.in_ok-dictionary.ensures.read in
+    answered (edition_of c.args.version) dictionary_field c.args.input.now
+    (dictionary_tree c.in_ok-dictionary.dictionary.entries) c.in_ok-serialize.field-0 c.line.result read
+    (serialized_line dictionary_field _ c.in_ok-serialize.field-0 c.in_ok-serialize.ensures.text)
+    c.line.ensures.line

@@ -14,12 +14,15 @@ returns-then-is_empty-clause-text c =
 pub returns-in_err-serialize_dictionary-clause-out_of_memory : goal.returns-in_err-serialize_dictionary-clause-out_of_memory
 returns-in_err-serialize_dictionary-clause-out_of_memory c =
     let some : 0 < length c.args.dictionary.now.entries = search rules in
-    anyway (HasMember dictionary_field (dictionary_tree c.args.dictionary.now.entries)) c.from_residual.result (first_of_some entry_tree c.args.dictionary.now.entries some)
+    anyway (HasMember dictionary_field (dictionary_tree c.args.dictionary.now.entries)) c.from_residual.result
+    (first_of_some entry_tree c.args.dictionary.now.entries some)
 
 pub returns-clause-text : goal.returns-clause-text
 returns-clause-text c =
     let members = dictionary_tree c.args.dictionary.now.entries in
     let some : 0 < length c.args.dictionary.now.entries = search rules in (
       first_of_some entry_tree c.args.dictionary.now.entries some,
-      written dictionary_field members _ c.in_ok-serialize_dictionary.ensures.value (c.in_ok-serialize_dictionary.ensures.text ∙ ap (λ (s : List ℕ). s ++ canonical dictionary_field members) c.new-text.ensures.bytes),
+      written dictionary_field members _ c.in_ok-serialize_dictionary.ensures.value
+          (c.in_ok-serialize_dictionary.ensures.text
+          ∙ ap (λ (s : List ℕ). s ++ canonical dictionary_field members) c.new-text.ensures.bytes),
     )

@@ -8,4 +8,5 @@ use Rattle.sfv_ser.proofs.ser.dictionary.serialize_dictionary.Given as goal
 abbrev pub invariant-loop-key : goal.invariant-loop-key
 invariant-loop-key g l =
     (lent_members l.yielded ++ l.key-iterator ≡ l.dictionary.entries)
-    × IsRow dictionary_member_text IsGoodMember (codes ", ") (dictionary_tree (lent_members l.yielded)) l.is_first (string_bytes l.fn.output) (string_bytes l.output)
+    × IsRow dictionary_member_text IsGoodMember (codes ", ") (dictionary_tree (lent_members l.yielded)) l.is_first
+    (string_bytes l.fn.output) (string_bytes l.output)

@@ -10,14 +10,23 @@ from_utf8_unchecked-requires g c = plain_utf8 _ c.split_run.ensures.each
 
 pub loop-byte-preserved : goal.loop-byte-preserved
 loop-byte-preserved g c =
-    let run = run_written display_piece (string_bytes c.args.output.now ++ codes "%\"") c.args.value.now is_plain_in_display display_itself _ _ c.split_run.result.0.now c.split_run.result.1.now (string_bytes c.push_str-in-loop-byte.new.self) c.loop-byte.invariant c.split_run.ensures.whole c.split_run.ensures.each
-    (c.in_ok-push_str-2.ensures.bytes ∙ ap (λ (l : List ℕ). string_bytes c.loop-byte.output ++ l) c.from_utf8_unchecked.ensures) in
-    byte_written display_piece (string_bytes c.args.output.now ++ codes "%\"") c.args.value.now _ _ _ _ _ run c.in-Some.ensures.cases.0 c.in_ok-push_byte.ensures.text
+    let run = run_written display_piece (string_bytes c.args.output.now ++ codes "%\"") c.args.value.now
+    is_plain_in_display display_itself _ _ c.split_run.result.0.now c.split_run.result.1.now
+    (string_bytes c.push_str-in-loop-byte.new.self) c.loop-byte.invariant c.split_run.ensures.whole
+    c.split_run.ensures.each
+    (c.in_ok-push_str-2.ensures.bytes ∙ ap (λ (l : List ℕ). string_bytes c.loop-byte.output ++ l)
+    c.from_utf8_unchecked.ensures) in
+    byte_written display_piece (string_bytes c.args.output.now ++ codes "%\"") c.args.value.now _ _ _ _ _ run
+    c.in-Some.ensures.cases.0 c.in_ok-push_byte.ensures.text
 
 pub returns : goal.returns
 returns g c =
-    let run = run_written display_piece (string_bytes c.args.output.now ++ codes "%\"") c.args.value.now is_plain_in_display display_itself _ _ c.split_run.result.0.now c.split_run.result.1.now (string_bytes c.push_str-in-loop-byte.new.self) c.loop-byte.invariant c.split_run.ensures.whole c.split_run.ensures.each
-    (c.in_ok-push_str-2.ensures.bytes ∙ ap (λ (l : List ℕ). string_bytes c.loop-byte.output ++ l) c.from_utf8_unchecked.ensures) in
+    let run = run_written display_piece (string_bytes c.args.output.now ++ codes "%\"") c.args.value.now
+    is_plain_in_display display_itself _ _ c.split_run.result.0.now c.split_run.result.1.now
+    (string_bytes c.push_str-in-loop-byte.new.self) c.loop-byte.invariant c.split_run.ensures.whole
+    c.split_run.ensures.each
+    (c.in_ok-push_str-2.ensures.bytes ∙ ap (λ (l : List ℕ). string_bytes c.loop-byte.output ++ l)
+    c.from_utf8_unchecked.ensures) in
     let none : length c.split_run.result.1.now ≡ 0 = search rules in
     let all = all_written display_piece (string_bytes c.args.output.now ++ codes "%\"") c.args.value.now _ _ run none in
     record { text = c.in_ok-push.ensures.bytes ∙ rw (all, c.in_ok-push.ensures.ascii (lit< tt)) (simp append_assoc) }

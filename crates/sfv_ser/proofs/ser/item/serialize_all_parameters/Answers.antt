@@ -9,13 +9,15 @@ use Rattle.sfv_ser.proofs.ser.item.serialize_all_parameters.Goals as goal
 pub returns-clause-text : goal.returns-clause-text
 returns-clause-text g c =
     let written = c.in_ok-serialize_parameters.ensures.text in
-    let lent : lent_pairs written.0 ≡ pairs_tree c.args.params.now.entries = lent_all c.iter.result written.0 c.iter.ensures.runs written.1 ∙ ap pairs_tree c.iter.ensures.rest in
+    let lent : lent_pairs written.0 ≡ pairs_tree c.args.params.now.entries =
+    lent_all c.iter.result written.0 c.iter.ensures.runs written.1 ∙ ap pairs_tree c.iter.ensures.rest in
     rw (sym lent) written.2
 
 pub returns-clause-value : goal.returns-clause-value
 returns-clause-value g c =
     let written = c.in_ok-serialize_parameters.ensures.text in
-    let lent : lent_pairs written.0 ≡ pairs_tree c.args.params.now.entries = lent_all c.iter.result written.0 c.iter.ensures.runs written.1 ∙ ap pairs_tree c.iter.ensures.rest in
+    let lent : lent_pairs written.0 ≡ pairs_tree c.args.params.now.entries =
+    lent_all c.iter.result written.0 c.iter.ensures.runs written.1 ∙ ap pairs_tree c.iter.ensures.rest in
     subst AreParameters lent written.3
 
 pub returns-clause-distinct : goal.returns-clause-distinct

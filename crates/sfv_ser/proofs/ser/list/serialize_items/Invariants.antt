@@ -8,4 +8,5 @@ use Rattle.sfv_ser.proofs.ser.list.serialize_items.Given as goal
 
 abbrev pub invariant-loop-item : goal.invariant-loop-item
 invariant-loop-item g l =
-    IsRow item_text (λ i. IsItem i × IsOrderedItem i) (codes " ") (map item_tree (take l.item-index l.items)) l.is_first (string_bytes l.fn.output) (string_bytes l.output)
+    IsRow item_text (λ i. IsItem i × IsOrderedItem i) (codes " ") (map item_tree (take l.item-index l.items)) l.is_first
+    (string_bytes l.fn.output) (string_bytes l.output)

@@ -14,20 +14,27 @@ pub loop-member-preserved : goal.loop-member-preserved
 loop-member-preserved g c =
     let within : c.loop-member.member-index < length c.args.list.now.items = search rules in
     let x : ListEntry = c.member-item.result in
-    let is : x ≡ get_or c.args.list.now.items c.loop-member.member-index x = c.member-item.is ∙ ap (λ xs. get_or xs c.loop-member.member-index x) c.deref-member-items.ensures.value in
-    row_more member_text (λ m. IsMember m × IsOrderedMember m) (codes ", ") _ _ _ _ _ _ _ _ (member_tree c.member-item.result) c.loop-member.invariant c.in_ok-serialize_separator.ensures.first
+    let is : x ≡ get_or c.args.list.now.items c.loop-member.member-index x = c.member-item.is
+    ∙ ap (λ xs. get_or xs c.loop-member.member-index x) c.deref-member-items.ensures.value in
+    row_more member_text (λ m. IsMember m × IsOrderedMember m) (codes ", ") _ _ _ _ _ _ _ _
+    (member_tree c.member-item.result) c.loop-member.invariant c.in_ok-serialize_separator.ensures.first
     (mapped_more member_tree c.args.list.now.items c.loop-member.member-index c.member-item.result within is)
-    c.in_ok-serialize_separator.ensures.text c.in_ok-serialize_member.ensures.text c.in_ok-serialize_member.ensures.value
+    c.in_ok-serialize_separator.ensures.text c.in_ok-serialize_member.ensures.text
+    c.in_ok-serialize_member.ensures.value
 
 pub returns-clause-text : goal.returns-clause-text
 returns-clause-text g c =
     let members : List ListEntry = c.args.list.now.items in
     c.loop-member.invariant.text
-    ∙ ap (λ (ms : List ListEntry). string_bytes c.args.output.now ++ joined (codes ", ") (map member_text (list_tree ms))) (take_all c.loop-member.member-index members (search rules))
+    ∙ ap (λ (ms : List ListEntry). string_bytes c.args.output.now
+    ++ joined (codes ", ") (map member_text (list_tree ms)))
+    (take_all c.loop-member.member-index members (search rules))
 
 pub returns-clause-value : goal.returns-clause-value
 returns-clause-value g c =
     let members : List ListEntry = c.args.list.now.items in
-    let good = subst (λ ms. AllByRecursion (λ m. IsMember m × IsOrderedMember m) (list_tree ms)) (take_all c.loop-member.member-index members (search rules)) c.loop-member.invariant.good in
+    let good = subst (λ ms. AllByRecursion (λ m. IsMember m
+    × IsOrderedMember m) (list_tree ms)) (take_all c.loop-member.member-index members (search rules))
+    c.loop-member.invariant.good in
     let both = all_both IsMember IsOrderedMember (list_tree members) good in
     record { parts = both.0; distinct = both.1 }

@@ -8,4 +8,5 @@ use Rattle.sfv_ser.proofs.ser.list.serialize_list.Given as goal
 
 abbrev pub invariant-loop-member : goal.invariant-loop-member
 invariant-loop-member g l =
-    IsRow member_text (λ m. IsMember m × IsOrderedMember m) (codes ", ") (list_tree (take l.member-index l.list.items)) l.is_first (string_bytes l.fn.output) (string_bytes l.output)
+    IsRow member_text (λ m. IsMember m × IsOrderedMember m) (codes ", ") (list_tree (take l.member-index l.list.items))
+    l.is_first (string_bytes l.fn.output) (string_bytes l.output)

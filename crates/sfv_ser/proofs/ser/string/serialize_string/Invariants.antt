@@ -5,7 +5,8 @@ use Rattle.sfv_ser.proofs.Written.{IsWrittenUpTo}
 use Rattle.sfv_ser.proofs.ser.string.serialize_string.Given as goal
 
 abbrev pub invariant-loop-byte : goal.invariant-loop-byte
-invariant-loop-byte g l = IsWrittenUpTo string_piece (string_bytes l.fn.output ++ codes "\"") (string_text l.fn.value) l.rest (string_bytes l.output)
+invariant-loop-byte g l = IsWrittenUpTo string_piece (string_bytes l.fn.output ++ codes "\"") (string_text l.fn.value)
+    l.rest (string_bytes l.output)
 
 abbrev pub decreases-loop-byte : goal.decreases-loop-byte
 decreases-loop-byte g l = length l.rest
