@@ -1,6 +1,6 @@
 //! Callers of the library in another crate: what their contracts promise follows from its contracts alone.
 
-ghost use Rattle.std.specs.Prelude.{◌≡◌, ◌++◌, ◌∷◌, ◌↔◌, [], ◌⊎◌, pos, OnOk, OnErr, IfOk, IsTrue, string_bytes};
+ghost use Rattle.std.specs.Prelude.{◌≡◌, ◌++◌, ◌∷◌, ◌↔◌, [], ◌⊎◌, pos, neg_ℤ, OnOk, OnErr, IfOk, IsTrue, string_bytes};
 ghost use Rattle.std.specs.Cmp.Lexicographic.{slice_cmp};
 ghost use Rattle.std.specs.Ordering.{nat_cmp, int_cmp};
 ghost use Rattle.sfv_spec.specs.Canonical.{bare_text, item_text};
@@ -55,6 +55,30 @@ pub fn write_twice(
         })) }
 {
     write_item(text, value, key, value)
+}
+
+/// The least and the greatest integer are of fifteen digits.
+pub fn integers() -> (Integer, Integer)
+    ensures least { integer_of result.0 ≡ neg_ℤ (pos 999999999999999) }
+    ensures greatest { integer_of result.1 ≡ pos 999999999999999 }
+{
+    (Integer::MIN, Integer::MAX)
+}
+
+/// The least and the greatest decimal are of fifteen digits, three of them after the point.
+pub fn decimals() -> (Decimal, Decimal)
+    ensures least { thousandths_of result.0 ≡ neg_ℤ (pos 999999999999999) }
+    ensures greatest { thousandths_of result.1 ≡ pos 999999999999999 }
+{
+    (Decimal::MIN, Decimal::MAX)
+}
+
+/// The first and the last date are of fifteen digits.
+pub fn dates() -> (Date, Date)
+    ensures first { seconds_of result.0 ≡ neg_ℤ (pos 999999999999999) }
+    ensures last { seconds_of result.1 ≡ pos 999999999999999 }
+{
+    (Date::MIN, Date::MAX)
 }
 
 /// The bare item of a number has its value.
