@@ -45,7 +45,8 @@ IsFaultOf input e answer =
 -- the same, or want of memory
 abbrev pub IsErrorOf : {A : Type 0} → List ℕ → Error → Answer A → Type 0
 IsErrorOf input e answer =
-    MatchOption (index_of e) (kind_of e ≡ OutOfMemory) (λ index. (located answer ≡ Err (kind_of e, drop index input)) × (index ≤ length input))
+    MatchOption (index_of e) (kind_of e ≡ OutOfMemory) (λ index. (located answer ≡ Err (kind_of e, drop index input))
+    × (index ≤ length input))
 
 -- What a reading returned, seen by view, is what the reader gives, and the cursor stands after it.
 abbrev pub Reads : {X Y : Type 0} → (X → Y) → Cursor → Cursor → Result X Error → Reader Y → Type 0
@@ -54,7 +55,8 @@ Reads view before after (Err e) reader = IsFaultOf (input before) e (reader (res
 
 -- The same of a reading that may want memory.
 abbrev pub ReadsOrOutOfMemory : {X Y : Type 0} → (X → Y) → Cursor → Cursor → Result X Error → Reader Y → Type 0
-ReadsOrOutOfMemory view before after (Ok x) reader = (reader (rest before) ≡ Ok (view x, rest after)) × (kept after ≡ kept before)
+ReadsOrOutOfMemory view before after (Ok x) reader = (reader (rest before) ≡ Ok (view x, rest after))
+    × (kept after ≡ kept before)
 ReadsOrOutOfMemory view before after (Err e) reader = IsErrorOf (input before) e (reader (rest before))
 
 -- a byte of the class stands next, or none does

@@ -1,7 +1,8 @@
 -- Between two items of an inner list, and between two members.
 use Rattle.std.specs.Prelude.{true, false, Bool, ℕ, List, flat_map, ◌∷◌, ◌++◌}
 use Rattle.sfv_spec.specs.Values.{Edition, FieldKind, list_field, dictionary_field, RawMember, item, inner_list}
-use Rattle.sfv_spec.specs.Events.{TreeEvent, item_events, inner_list_end, parameters_events, inner_item_events, entry_events, keyed_events}
+use Rattle.sfv_spec.specs.Events.{TreeEvent, item_events, inner_list_end, parameters_events, inner_item_events}
+use Rattle.sfv_spec.specs.Events.{entry_events, keyed_events}
 use Rattle.sfv_reading.specs.Reader.{Reader, give}
 use Rattle.sfv_reading.specs.Members.{entry_at, keyed_at, item_delimited}
 use Rattle.sfv_reading.specs.Fields.{member_delimited}

@@ -46,18 +46,25 @@ abbrev pub IsReaderFault : Edition → FieldKind → List ℕ → Error → Type
 IsReaderFault edition kind t e = (e ≡ out_of_memory) ⊎ IsFaultOfReader edition kind t e
 
 -- the text is accepted, and the answer is the visitor's after all events of its tree
-abbrev pub IsAnswerOf : {S O : Type 0} → (S → TreeEvent → S → Type 0) → (S → O → Type 0) → Edition → FieldKind → List ℕ → S → O → Type 0
-IsAnswerOf takes finishes edition kind t from out = (raw : RawField kind) × IsFieldText edition kind raw t × IsVisited takes finishes from (events kind raw) out
+abbrev pub IsAnswerOf : {S O : Type 0} → (S → TreeEvent → S → Type 0) → (S → O → Type 0) → Edition → FieldKind → List ℕ
+    → S → O → Type 0
+IsAnswerOf takes finishes edition kind t from out = (raw : RawField kind) × IsFieldText edition kind raw t
+    × IsVisited takes finishes from (events kind raw) out
 
--- an error of the reading is what `parse` answers, and what stands after an item is looked at after the visitor's answer
-abbrev pub IsSyntaxOf : {S O E : Type 0} → (S → TreeEvent → S → Type 0) → (S → O → Type 0) → Edition → FieldKind → List ℕ → S → ParseError E → Type 0
-IsSyntaxOf takes finishes edition kind t from (Syntax e) = IsParseError edition kind t e × IsReaderFault edition kind t e × IsFinishedFirst takes finishes edition kind t from e
+-- An error of the text is what `parse` returns, and what stands after an item is looked at after the visitor's answer.
+abbrev pub IsSyntaxOf : {S O E : Type 0} → (S → TreeEvent → S → Type 0) → (S → O → Type 0) → Edition → FieldKind
+    → List ℕ → S → ParseError E → Type 0
+IsSyntaxOf takes finishes edition kind t from (Syntax e) = IsParseError edition kind t e
+    × IsReaderFault edition kind t e × IsFinishedFirst takes finishes edition kind t from e
 IsSyntaxOf takes finishes edition kind t from (Visitor fault) = ⊤
 
--- A refusal of the visitor comes on an accepted text after exactly the events before it; on a text that isn't accepted, and
--- for an item on every text, after those of some field.
-abbrev pub IsVisitorErrorOf : {S E : Type 0} → (S → TreeEvent → S → Type 0) → (S → TreeEvent → E → Type 0) → (S → E → Type 0) → Edition → FieldKind → List ℕ → S → ParseError E → Type 0
+-- The visitor's error comes on an accepted text after exactly the events before it; on a text that isn't accepted,
+-- and for an item on every text, after those of some field.
+abbrev pub IsVisitorErrorOf : {S E : Type 0} → (S → TreeEvent → S → Type 0) → (S → TreeEvent → E → Type 0)
+    → (S → E → Type 0) → Edition → FieldKind → List ℕ → S → ParseError E → Type 0
 IsVisitorErrorOf takes fails finish_fails edition kind t from (Syntax e) = ⊤
 IsVisitorErrorOf takes fails finish_fails edition kind t from (Visitor fault) =
-    ((raw : RawField kind) → IsFieldText edition kind raw t → IsVisitorError takes fails finish_fails from (events kind raw) fault)
-    × ((kind ≡ item_field) ⊎ ((raw : RawField kind) → IsFieldText edition kind raw t → ⊥) → IsEarlyVisitorError takes fails finish_fails kind from fault)
+    ((raw : RawField kind) → IsFieldText edition kind raw t
+    → IsVisitorError takes fails finish_fails from (events kind raw) fault)
+    × ((kind ≡ item_field) ⊎ ((raw : RawField kind) → IsFieldText edition kind raw t → ⊥)
+    → IsEarlyVisitorError takes fails finish_fails kind from fault)

@@ -1,6 +1,7 @@
 -- What the code reads after the opening quotes of strings and display strings. A flag says which: true is a display
 -- string.
-use Rattle.std.specs.Prelude.{◌≡◌, ℕ, ◌<◌, Bool, true, false, not, ◌==◌, List, [], ◌∷◌, ◌++◌, length, Result, Ok, Err, IsTrue, string_bytes}
+use Rattle.std.specs.Prelude.{◌≡◌, ℕ, ◌<◌, Bool, true, false, not, ◌==◌, List, [], ◌∷◌, ◌++◌, length, Result, Ok, Err}
+use Rattle.std.specs.Prelude.{IsTrue, string_bytes}
 use Rattle.std.specs.declared.alloc.Global.{Global}
 use Rattle.std.specs.declared.string.String as std_string
 use Rattle.sfv_spec.specs.Ascii.{percent_sign, backslash}
@@ -9,7 +10,9 @@ use Rattle.sfv_spec.specs.Classes.{is_lower_hexadecimal}
 use Rattle.sfv_spec.specs.Strings.{is_plain_in_string, is_plain_in_display}
 use Rattle.sfv_base.specs.declared.error.Error.{Error}
 use Rattle.sfv_base.specs.declared.error.ErrorKind.{ErrorKind}
-use Rattle.sfv_base.specs.declared.error.ErrorKind.TheVariants.{UnterminatedString, InvalidStringCharacter, UnterminatedDisplayString, InvalidDisplayStringCharacter}
+use Rattle.sfv_base.specs.declared.error.ErrorKind.TheVariants.{UnterminatedString, InvalidStringCharacter}
+use Rattle.sfv_base.specs.declared.error.ErrorKind.TheVariants.{UnterminatedDisplayString}
+use Rattle.sfv_base.specs.declared.error.ErrorKind.TheVariants.{InvalidDisplayStringCharacter}
 use Rattle.sfv_reading.specs.Reader.{Answer, Reader}
 use Rattle.sfv_reading.specs.Quoted.{behind_bytes, string_from, outside, percent, digit, pieces_from}
 use Rattle.sfv.specs.declared.parser.cursor.Cursor.{Cursor}
@@ -53,20 +56,24 @@ is_plain (quoted.Unescaped v) = false
 
 -- no escape stands in what was taken
 abbrev pub HasNoMark : Bool → Cursor → Cursor → Type 0
-HasNoMark display before after = (s : List ℕ) × (rest before ≡ s ++ rest after) × RunOf (λ c. not (c == mark_of display)) s
+HasNoMark display before after = (s : List ℕ) × (rest before ≡ s ++ rest after)
+    × RunOf (λ c. not (c == mark_of display)) s
 
 -- the byte was taken that an escape stands for, after its mark
 abbrev pub ReadsEscape : Bool → Cursor → Cursor → Result ℕ Error → Type 0
 ReadsEscape display before after (Ok c) =
-    (behind_mark display (rest before) ≡ behind_bytes (c ∷ []) (inside display (rest after))) × (length (rest after) < length (rest before)) × (kept after ≡ kept before)
+    (behind_mark display (rest before) ≡ behind_bytes (c ∷ []) (inside display (rest after)))
+    × (length (rest after) < length (rest before)) × (kept after ≡ kept before)
 ReadsEscape display before after (Err e) = IsFaultOf (input before) e (behind_mark display (rest before))
 
--- A digit of a display string's escape was taken; without one, the reader gives this fault, be it the first digit or the
--- second.
+-- A digit of a display string's escape was taken; without one, the reader gives this fault, be it the first digit or
+-- the second.
 abbrev pub ReadsDigit : Cursor → Cursor → Result ℕ Error → Type 0
-ReadsDigit before after (Ok c) = (rest before ≡ c ∷ rest after) × IsTrue (is_lower_hexadecimal c) × (kept after ≡ kept before)
+ReadsDigit before after (Ok c) = (rest before ≡ c ∷ rest after) × IsTrue (is_lower_hexadecimal c)
+    × (kept after ≡ kept before)
 ReadsDigit before after (Err e) =
-    IsFaultOf (input before) e (pieces_from percent (rest before)) × ((high : ℕ) → IsFaultOf (input before) e (pieces_from (digit high) (rest before)))
+    IsFaultOf (input before) e (pieces_from percent (rest before))
+    × ((high : ℕ) → IsFaultOf (input before) e (pieces_from (digit high) (rest before)))
 
 -- The reader gives this text, and the rest after it.
 abbrev pub GivesText : List ℕ → Result (std_string.String Global) Error → List ℕ → Answer (List ℕ) → Type 0

@@ -19,24 +19,31 @@ use Rattle.sfv.specs.Fields.{located_whole}
 
 -- A value was read, and the visitor took its events; or the reader's fault is met, or out of memory; or
 -- the visitor fails at one of the events that the reader gives.
-abbrev pub VisitsAnswer : {A S E : Type 0} → (S → TreeEvent → S → Type 0) → (S → TreeEvent → E → Type 0) → (A → List TreeEvent) → Parser × Global → Cursor → S → S → Result (Unit {0}) (ParseError E) → Answer A → Type 0
-VisitsAnswer {A} takes fails parts k after from to (Ok u) answer = (v : A) × (answer ≡ Ok (v, rest after)) × RunsTo takes from (parts v) to × (kept after ≡ k)
+abbrev pub VisitsAnswer : {A S E : Type 0} → (S → TreeEvent → S → Type 0) → (S → TreeEvent → E → Type 0)
+    → (A → List TreeEvent) → Parser × Global → Cursor → S → S → Result (Unit {0}) (ParseError E) → Answer A → Type 0
+VisitsAnswer {A} takes fails parts k after from to (Ok u) answer = (v : A) × (answer ≡ Ok (v, rest after))
+    × RunsTo takes from (parts v) to × (kept after ≡ k)
 VisitsAnswer takes fails parts k after from to (Err (Syntax e)) answer = IsErrorOf (kept_input k) e answer
 VisitsAnswer takes fails parts k after from to (Err (Visitor f)) answer = VisitorFails takes fails parts answer from f
 
 -- The same of what the cursor's edition reads from the next byte on.
-abbrev pub Visits : {A S E : Type 0} → (S → TreeEvent → S → Type 0) → (S → TreeEvent → E → Type 0) → (A → List TreeEvent) → Cursor → Cursor → S → S → Result (Unit {0}) (ParseError E) → (Edition → Reader A) → Type 0
-Visits takes fails parts before after from to result reader = VisitsAnswer takes fails parts (kept before) after from to result (reader (edition before) (rest before))
+abbrev pub Visits : {A S E : Type 0} → (S → TreeEvent → S → Type 0) → (S → TreeEvent → E → Type 0)
+    → (A → List TreeEvent) → Cursor → Cursor → S → S → Result (Unit {0}) (ParseError E) → (Edition → Reader A) → Type 0
+Visits takes fails parts before after from to result reader =
+    VisitsAnswer takes fails parts (kept before) after from to result (reader (edition before) (rest before))
 
 -- it is such an error of the visitor
 abbrev pub IsOfVisitor : {E : Type 0} → (E → Type 0) → ParseError E → Type 0
 IsOfVisitor is (Syntax error) = ⊥
 IsOfVisitor is (Visitor fault) = is fault
 
--- Where a field of this type stands at the beginning, an error with an index is answered only after the visitor's answer.
-abbrev pub IsFinishedFirst : {S O : Type 0} → (S → TreeEvent → S → Type 0) → (S → O → Type 0) → Edition → FieldKind → List ℕ → S → Error → Type 0
+-- Where a field of this type stands at the beginning, an error with an index comes only after the visitor's answer.
+abbrev pub IsFinishedFirst : {S O : Type 0} → (S → TreeEvent → S → Type 0) → (S → O → Type 0) → Edition → FieldKind
+    → List ℕ → S → Error → Type 0
 IsFinishedFirst {S} {O} takes finishes edition kind t from e =
-    (raw : RawField kind) (q : List ℕ) → whole_field_at edition kind t ≡ Ok (raw, q) → MatchOption (index_of e) ⊤ (λ index. (s : S) × (out : O) × RunsTo takes from (events kind raw) s × finishes s out)
+    (raw : RawField kind) (q : List ℕ) → whole_field_at edition kind t ≡ Ok (raw, q)
+    → MatchOption (index_of e) ⊤ (λ index. (s : S) × (out : O) × RunsTo takes from (events kind raw) s
+    × finishes s out)
 
 -- The visitor is asked for its answer after an item whatever follows, and after members at the end alone.
 abbrev pub IsAskedThere : FieldKind → List ℕ → Type 0
@@ -45,11 +52,15 @@ IsAskedThere list_field q = q ≡ []
 IsAskedThere dictionary_field q = q ≡ []
 
 -- The same of a whole field, after which the visitor gives its answer, or fails to.
-abbrev pub VisitsField : {S O E : Type 0} → (S → TreeEvent → S → Type 0) → (S → TreeEvent → E → Type 0) → (S → O → Type 0) → (S → E → Type 0) → Edition → (kind : FieldKind) → List ℕ → S → Result O (ParseError E) → Type 0
-VisitsField takes fails finishes finish_fails edition kind t from (Ok out) = (raw : RawField kind) × (read_field edition kind t ≡ Ok raw) × IsVisited takes finishes from (events kind raw) out
+abbrev pub VisitsField : {S O E : Type 0} → (S → TreeEvent → S → Type 0) → (S → TreeEvent → E → Type 0)
+    → (S → O → Type 0) → (S → E → Type 0) → Edition → (kind : FieldKind) → List ℕ → S → Result O (ParseError E) → Type 0
+VisitsField takes fails finishes finish_fails edition kind t from (Ok out) = (raw : RawField kind)
+    × (read_field edition kind t ≡ Ok raw) × IsVisited takes finishes from (events kind raw) out
 VisitsField takes fails finishes finish_fails edition kind t from (Err (Syntax e)) =
-    MatchOption (index_of e) (kind_of e ≡ OutOfMemory) (λ index. (located_whole (read_field edition kind t) ≡ Err (kind_of e, drop index t)) × (index ≤ length t))
+    MatchOption (index_of e) (kind_of e ≡ OutOfMemory)
+    (λ index. (located_whole (read_field edition kind t) ≡ Err (kind_of e, drop index t)) × (index ≤ length t))
     × IsFinishedFirst takes finishes edition kind t from e
 VisitsField {S} takes fails finishes finish_fails edition kind t from (Err (Visitor f)) =
     VisitorFails takes fails (events kind) (whole_field_at edition kind t) from f
-    ⊎ ((raw : RawField kind) × (q : List ℕ) × (s : S) × (whole_field_at edition kind t ≡ Ok (raw, q)) × RunsTo takes from (events kind raw) s × finish_fails s f × IsAskedThere kind q)
+    ⊎ ((raw : RawField kind) × (q : List ℕ) × (s : S) × (whole_field_at edition kind t ≡ Ok (raw, q))
+    × RunsTo takes from (events kind raw) s × finish_fails s f × IsAskedThere kind q)

@@ -37,7 +37,8 @@ pub struct Parser<'de> {
 }
 
 impl<'de> Parser<'de> {
-    ghost use Rattle.sfv.specs.Parsers.{input_of, parser_edition, IsParseError, IsReaderFault, IsAnswerOf, IsSyntaxOf, IsVisitorErrorOf};
+    ghost use Rattle.sfv.specs.Parsers.{input_of, parser_edition, IsParseError, IsReaderFault, IsAnswerOf, IsSyntaxOf};
+    ghost use Rattle.sfv.specs.Parsers.{IsVisitorErrorOf};
 
     /// Reads this input, under RFC 9651.
     pub fn new(input: &'de [u8]) -> Parser<'de>

@@ -1,6 +1,7 @@
--- The builder of a dictionary: after all events of a tree each key that it was given or that stands in the tree is there once,
--- at its first place, with its last member.
-use Rattle.std.proofs.Common.{◌≡◌, ℕ, Bool, true, false, cond, List, [], ◌∷◌, ◌++◌, map, refl, sym, ap, ◌∙◌, append_assoc}
+-- The builder of a dictionary: after all events of a tree each key that it was given or that stands in the tree is there
+-- once, at its first place, with its last member.
+use Rattle.std.proofs.Common.{◌≡◌, ℕ, Bool, true, false, cond, List, [], ◌∷◌, ◌++◌, map, refl, sym, ap, ◌∙◌}
+use Rattle.std.proofs.Common.{append_assoc}
 use Rattle.std.specs.Prelude.{bytes_eq, fold}
 use Rattle.std.proofs.lemmas.List.{append-nil, map-append}
 use Rattle.std.proofs.lemmas.List.Sums.{fold-append}
@@ -15,7 +16,10 @@ use Rattle.sfv_spec.proofs.Collapse.{collapse-push, collapse-distinct}
 use Rattle.sfv_spec.proofs.Laws.{ordered_same}
 use Rattle.sfv_spec.proofs.Structure.{one_field_lem}
 use Rattle.sfv_tree.specs.Trees.{dictionary_tree}
-use Rattle.sfv_tree.specs.Builders.{MemberPlace, begun, item_head, item_parameters, inner_items, inner_head, inner_parameters, list_parameters, ended, member_step, DictionaryPlace, between_pairs, within_pair, settle_pair, dictionary_step, dictionary_members, dictionary_place}
+use Rattle.sfv_tree.specs.Builders.{MemberPlace, begun, item_head, item_parameters, inner_items, inner_head}
+use Rattle.sfv_tree.specs.Builders.{inner_parameters, list_parameters, ended, member_step, DictionaryPlace}
+use Rattle.sfv_tree.specs.Builders.{between_pairs, within_pair, settle_pair, dictionary_step, dictionary_members}
+use Rattle.sfv_tree.specs.Builders.{dictionary_place}
 use Rattle.sfv_tree.specs.declared.parsed.ListEntry.{ListEntry}
 use Rattle.sfv_tree.specs.declared.visitor.dictionary_builder.DictionaryBuilder.{DictionaryBuilder}
 use Rattle.sfv.specs.Parsers.{IsAnswerOf}
@@ -31,17 +35,20 @@ module _ {A B : Type 0} (f : A → B) where
   cond_over true x y = refl
   cond_over false x y = refl
 
-  last_value-over : (key : List ℕ) (d : A) (ps : List (List ℕ × A)) → last_value key (f d) (over ps) ≡ f (last_value key d ps)
+  last_value-over : (key : List ℕ) (d : A) (ps : List (List ℕ × A))
+      → last_value key (f d) (over ps) ≡ f (last_value key d ps)
   unfolding last_value
   last_value-over key d [] = refl
   last_value-over key d ((k, v) ∷ ps) =
-      ap (λ (x : B). last_value key x (over ps)) (cond_over (bytes_eq key k) v d) ∙ last_value-over key (cond (bytes_eq key k) v d) ps
+      ap (λ (x : B). last_value key x (over ps)) (cond_over (bytes_eq key k) v d)
+      ∙ last_value-over key (cond (bytes_eq key k) v d) ps
 
   without-over : (key : List ℕ) (ps : List (List ℕ × A)) → without key (over ps) ≡ over (without key ps)
   without-over key [] = refl
   without-over key ((k, v) ∷ ps) = go (without-over key ps) (bytes_eq key k) refl
     where
-      go : without key (over ps) ≡ over (without key ps) → (b : Bool) → bytes_eq key k ≡ b → without key (over ((k, v) ∷ ps)) ≡ over (without key ((k, v) ∷ ps))
+      go : without key (over ps) ≡ over (without key ps) → (b : Bool) → bytes_eq key k ≡ b
+          → without key (over ((k, v) ∷ ps)) ≡ over (without key ((k, v) ∷ ps))
       go ih true e = simp e ih
       go ih false e = simp e (ap (λ (x : List (List ℕ × B)). (k, f v) ∷ x) ih)
 
@@ -61,7 +68,8 @@ Steps s e after = dictionary_place after ≡ dictionary_step (dictionary_place s
 abbrev Ends : {S : Type 0} → DictionaryBuilder → IndexMap (List ℕ) ListEntry S → Type 0
 Ends s dictionary = dictionary_tree dictionary.entries ≡ dictionary_members (dictionary_place s)
 
-within_each : (ms : List (List ℕ × RawMember)) (key : List ℕ) (p : MemberPlace) (e : TreeEvent) → IsOpen p → dictionary_step (settle_pair ms key p) e ≡ settle_pair ms key (member_step p e)
+within_each : (ms : List (List ℕ × RawMember)) (key : List ℕ) (p : MemberPlace) (e : TreeEvent) → IsOpen p
+    → dictionary_step (settle_pair ms key p) e ≡ settle_pair ms key (member_step p e)
 within_each ms key begun e h = refl
 within_each ms key item_head e h = refl
 within_each ms key (item_parameters i) e h = refl
@@ -71,45 +79,74 @@ within_each ms key (inner_parameters l i) e h = refl
 within_each ms key (list_parameters l) e h = refl
 within_each ms key (ended m) e h = absurd h
 
-pair_built : (ms : List (List ℕ × RawMember)) (key : List ℕ) (m : RawMember) → fold dictionary_step (within_pair (collapse ms) key begun) (member_events m) ≡ between_pairs (collapse (ms ++ (key, ordered_member m) ∷ []))
+pair_built : (ms : List (List ℕ × RawMember)) (key : List ℕ) (m : RawMember)
+    → fold dictionary_step (within_pair (collapse ms) key begun) (member_events m)
+    ≡ between_pairs (collapse (ms ++ (key, ordered_member m) ∷ []))
 pair_built ms key m =
     member_built dictionary_step (settle_pair (collapse ms) key) (within_each (collapse ms) key) m
-    ∙ ap between_pairs (insert_entry-entered (collapse ms) key (ordered_member m) ∙ sym (collapse-push ms key (ordered_member m)))
+    ∙ ap between_pairs (insert_entry-entered (collapse ms) key (ordered_member m)
+    ∙ sym (collapse-push ms key (ordered_member m)))
 
-pairs_built : (ms raw : List (List ℕ × RawMember)) → fold dictionary_step (between_pairs (collapse ms)) (events dictionary_field raw) ≡ between_pairs (collapse (ms ++ ordered_pairs raw))
+pairs_built : (ms raw : List (List ℕ × RawMember))
+    → fold dictionary_step (between_pairs (collapse ms)) (events dictionary_field raw)
+    ≡ between_pairs (collapse (ms ++ ordered_pairs raw))
 pairs_built ms [] = ap (λ (qs : List (List ℕ × RawMember)). between_pairs (collapse qs)) (sym (append-nil ms))
 pairs_built ms (m ∷ raw) =
     fold-append dictionary_step (within_pair (collapse ms) m.0 begun) (member_events m.1) (events dictionary_field raw)
     ∙ ap (λ (p : DictionaryPlace). fold dictionary_step p (events dictionary_field raw)) (pair_built ms m.0 m.1)
     ∙ pairs_built (ms ++ (m.0, ordered_member m.1) ∷ []) raw
-    ∙ ap (λ (qs : List (List ℕ × RawMember)). between_pairs (collapse qs)) (append_assoc ms ((m.0, ordered_member m.1) ∷ []) (ordered_pairs raw))
+    ∙ ap (λ (qs : List (List ℕ × RawMember)). between_pairs (collapse qs))
+    (append_assoc ms ((m.0, ordered_member m.1) ∷ []) (ordered_pairs raw))
 
 -- after all events the pairs are entered in turn, each member ordered
-pub dictionary_built : (held raw : List (List ℕ × RawMember)) (s last : DictionaryBuilder) → no_repeats (keys held) ≡ true → dictionary_place s ≡ between_pairs held → RunsTo Steps s (events dictionary_field raw) last → dictionary_place last ≡ between_pairs (collapse (held ++ ordered_pairs raw))
+pub dictionary_built : (held raw : List (List ℕ × RawMember)) (s last : DictionaryBuilder)
+    → no_repeats (keys held) ≡ true → dictionary_place s ≡ between_pairs held
+    → RunsTo Steps s (events dictionary_field raw) last
+    → dictionary_place last ≡ between_pairs (collapse (held ++ ordered_pairs raw))
 dictionary_built held raw s last distinct here run =
     runs_fold dictionary_place dictionary_step (events dictionary_field raw) s last run
-    ∙ ap (λ (p : DictionaryPlace). fold dictionary_step p (events dictionary_field raw)) (here ∙ ap between_pairs (sym (collapse-distinct held distinct)))
+    ∙ ap (λ (p : DictionaryPlace). fold dictionary_step p (events dictionary_field raw)) (here
+    ∙ ap between_pairs (sym (collapse-distinct held distinct)))
     ∙ pairs_built held raw
 
 -- to a dictionary without repeats the field adds its pairs as if all stood in one field
-joined : (held raw : List (List ℕ × RawMember)) → IsOrdered dictionary_field held → collapse (held ++ ordered_pairs raw) ≡ ordered dictionary_field (held ++ raw)
+joined : (held raw : List (List ℕ × RawMember)) → IsOrdered dictionary_field held
+    → collapse (held ++ ordered_pairs raw) ≡ ordered dictionary_field (held ++ raw)
 joined held raw h =
-    let same : held ≡ ordered_pairs held = sym (ap ordered_pairs (sym (collapse-distinct held h.0)) ∙ ordered_same dictionary_field held h) in
+    let same : held ≡ ordered_pairs held = sym (ap ordered_pairs (sym (collapse-distinct held h.0))
+    ∙ ordered_same dictionary_field held h) in
     ap (λ (qs : List (List ℕ × RawMember)). collapse (qs ++ ordered_pairs raw)) same
     ∙ ap collapse (sym (map-append (λ (m : List ℕ × RawMember). (m.0, ordered_member m.1)) held raw))
     ∙ collapse-over ordered_member (held ++ raw)
 
 -- what was built from the pairs of earlier lines: the pairs of the only tree are entered into them
-pub built_dictionary_behind : {S : Type 0} (edition : Edition) (t : List ℕ) (held : List (List ℕ × RawMember)) (from : DictionaryBuilder) (dictionary : IndexMap (List ℕ) ListEntry S) → no_repeats (keys held) ≡ true → dictionary_place from ≡ between_pairs held → IsAnswerOf Steps Ends edition dictionary_field t from dictionary
-    → (raw : List (List ℕ × RawMember)) × IsFieldText edition dictionary_field raw t × ((other : List (List ℕ × RawMember)) → IsFieldText edition dictionary_field other t → other ≡ raw)
-    × (dictionary_tree dictionary.entries ≡ collapse (held ++ ordered_pairs raw)) × (IsOrdered dictionary_field held → dictionary_tree dictionary.entries ≡ ordered dictionary_field (held ++ raw))
+pub built_dictionary_behind : {S : Type 0} (edition : Edition) (t : List ℕ) (held : List (List ℕ
+    × RawMember)) (from : DictionaryBuilder) (dictionary : IndexMap (List ℕ) ListEntry S)
+    → no_repeats (keys held) ≡ true → dictionary_place from ≡ between_pairs held
+    → IsAnswerOf Steps Ends edition dictionary_field t from dictionary
+    → (raw : List (List ℕ × RawMember)) × IsFieldText edition dictionary_field raw t
+    × ((other : List (List ℕ × RawMember)) → IsFieldText edition dictionary_field other t → other ≡ raw)
+    × (dictionary_tree dictionary.entries ≡ collapse (held ++ ordered_pairs raw))
+    × (IsOrdered dictionary_field held → dictionary_tree dictionary.entries
+    ≡ ordered dictionary_field (held ++ raw))
 built_dictionary_behind edition t held from dictionary distinct here h =
-    let whole : dictionary_place h.2.last ≡ between_pairs (collapse (held ++ ordered_pairs h.0)) = dictionary_built held h.0 from h.2.last distinct here h.2.taken in
-    let there : dictionary_tree dictionary.entries ≡ collapse (held ++ ordered_pairs h.0) = h.2.answered ∙ ap dictionary_members whole in
-    (h.0, h.1, λ other k. one_field_lem edition dictionary_field t other h.0 k h.1, there, λ k. there ∙ joined held h.0 k)
+    let whole : dictionary_place h.2.last ≡ between_pairs (collapse (held ++ ordered_pairs h.0)) =
+    dictionary_built held h.0 from h.2.last distinct here h.2.taken in
+    let there : dictionary_tree dictionary.entries ≡ collapse (held ++ ordered_pairs h.0) = h.2.answered
+    ∙ ap dictionary_members whole in (
+      h.0,
+      h.1,
+      λ other k. one_field_lem edition dictionary_field t other h.0 k h.1,
+      there,
+      λ k. there
+          ∙ joined held h.0 k,
+    )
 
 -- what was built is the ordered dictionary of the only tree
-pub built_dictionary : {S : Type 0} (edition : Edition) (t : List ℕ) (from : DictionaryBuilder) (dictionary : IndexMap (List ℕ) ListEntry S) → dictionary_place from ≡ between_pairs [] → IsAnswerOf Steps Ends edition dictionary_field t from dictionary → IsParsedAs edition dictionary_field t (dictionary_tree dictionary.entries)
+pub built_dictionary : {S : Type 0} (edition : Edition) (t : List ℕ) (from : DictionaryBuilder)
+    (dictionary : IndexMap (List ℕ) ListEntry S) → dictionary_place from ≡ between_pairs []
+    → IsAnswerOf Steps Ends edition dictionary_field t from dictionary
+    → IsParsedAs edition dictionary_field t (dictionary_tree dictionary.entries)
 built_dictionary edition t from dictionary here h =
     let whole = built_dictionary_behind edition t [] from dictionary refl here h in
     record { raw = whole.0; accepted = whole.1; only = whole.2; ordered_value = whole.4 (refl, tt) }

@@ -23,32 +23,49 @@ Steps s e after = item_place after ≡ item_step (item_place s) e
 abbrev Ends : ItemBuilder → Item → Type 0
 Ends s item = item_place s ≡ at_end (item_tree item)
 
-pub insert_entry-entered : {A : Type 0} (ps : List (List ℕ × A)) (k : List ℕ) (v : A) → insert_entry bytes_eq ps k v ≡ entered ps k v
+pub insert_entry-entered : {A : Type 0} (ps : List (List ℕ × A)) (k : List ℕ) (v : A)
+    → insert_entry bytes_eq ps k v ≡ entered ps k v
 insert_entry-entered [] k v = refl
-insert_entry-entered {A} (p ∷ ps) k v = ap (λ (rest : List (List ℕ × A)). cond (bytes_eq k p.0) ((p.0, v) ∷ ps) (p ∷ rest)) (insert_entry-entered ps k v)
+insert_entry-entered {A} (p ∷ ps) k v = ap (λ (rest : List (List ℕ × A)).
+    cond (bytes_eq k p.0) ((p.0, v) ∷ ps) (p ∷ rest)) (insert_entry-entered ps k v)
 
 abbrev pub with_bare : BareValue → RawParameters → RawItem
 with_bare b ps = record { bare = b; parameters = ps }
 
-parameters_built : (ps front : RawParameters) (b : BareValue) (s last : ItemBuilder) → item_place s ≡ at_parameters (with_bare b (collapse front)) → RunsTo Steps s (parameters_events ps) last → item_place last ≡ at_end (with_bare b (collapse (front ++ ps)))
+parameters_built : (ps front : RawParameters) (b : BareValue) (s last : ItemBuilder)
+    → item_place s ≡ at_parameters (with_bare b (collapse front)) → RunsTo Steps s (parameters_events ps) last
+    → item_place last ≡ at_end (with_bare b (collapse (front ++ ps)))
 parameters_built [] front b s last here run =
-    ap item_place (sym run.2) ∙ run.1 ∙ ap (λ (p : ItemPlace). item_step p parameters_end) here ∙ ap (λ (ps : RawParameters). at_end (with_bare b (collapse ps))) (sym (append-nil front))
+    ap item_place (sym run.2) ∙ run.1 ∙ ap (λ (p : ItemPlace). item_step p parameters_end) here
+    ∙ ap (λ (ps : RawParameters). at_end (with_bare b (collapse ps))) (sym (append-nil front))
 parameters_built (p ∷ ps) front b s last here run =
-    let more : insert_entry bytes_eq (collapse front) p.0 p.1 ≡ collapse (front ++ p ∷ []) = insert_entry-entered (collapse front) p.0 p.1 ∙ sym (collapse-push front p.0 p.1) in
-    let next : item_place run.0 ≡ at_parameters (with_bare b (collapse (front ++ p ∷ []))) = run.1 ∙ ap (λ (q : ItemPlace). item_step q (parameter p.0 p.1)) here ∙ ap (λ (qs : RawParameters). at_parameters (with_bare b qs)) more in
-    parameters_built ps (front ++ p ∷ []) b run.0 last next run.2 ∙ ap (λ (qs : RawParameters). at_end (with_bare b (collapse qs))) (append_assoc front (p ∷ []) ps)
+    let more : insert_entry bytes_eq (collapse front) p.0 p.1 ≡ collapse (front ++ p ∷ []) =
+    insert_entry-entered (collapse front) p.0 p.1 ∙ sym (collapse-push front p.0 p.1) in
+    let next : item_place run.0 ≡ at_parameters (with_bare b (collapse (front ++ p ∷ []))) = run.1
+    ∙ ap (λ (q : ItemPlace). item_step q (parameter p.0 p.1)) here
+    ∙ ap (λ (qs : RawParameters). at_parameters (with_bare b qs)) more in
+    parameters_built ps (front ++ p ∷ []) b run.0 last next run.2
+    ∙ ap (λ (qs : RawParameters). at_end (with_bare b (collapse qs))) (append_assoc front (p ∷ []) ps)
 
-item_built : (raw : RawItem) (s last : ItemBuilder) → item_place s ≡ at_head → RunsTo Steps s (item_events raw) last → item_place last ≡ at_end (ordered_item raw)
+item_built : (raw : RawItem) (s last : ItemBuilder) → item_place s ≡ at_head → RunsTo Steps s (item_events raw) last
+    → item_place last ≡ at_end (ordered_item raw)
 unfolding collapse
 item_built raw s last here run =
-    let next : item_place run.0 ≡ at_parameters (with_bare raw.bare (collapse [])) = run.1 ∙ ap (λ (p : ItemPlace). item_step p (bare_item raw.bare)) here in
+    let next : item_place run.0 ≡ at_parameters (with_bare raw.bare (collapse [])) = run.1
+    ∙ ap (λ (p : ItemPlace). item_step p (bare_item raw.bare)) here in
     parameters_built raw.parameters [] raw.bare run.0 last next run.2
 
 item_at_end : (i j : RawItem) → at_end i ≡ at_end j → i ≡ j
 item_at_end i j e = cc
 
 -- what was built is the ordered item of the only tree
-pub built : (edition : Edition) (t : List ℕ) (from : ItemBuilder) (item : Item) → item_place from ≡ at_head → IsAnswerOf Steps Ends edition item_field t from item → IsParsedAs edition item_field t (item_tree item)
+pub built : (edition : Edition) (t : List ℕ) (from : ItemBuilder) (item : Item) → item_place from ≡ at_head
+    → IsAnswerOf Steps Ends edition item_field t from item → IsParsedAs edition item_field t (item_tree item)
 built edition t from item here h =
     let whole = item_built h.0 from h.2.last here h.2.taken in
-    record { raw = h.0; accepted = h.1; only = λ other k. one_field_lem edition item_field t other h.0 k h.1; ordered_value = item_at_end (item_tree item) (ordered_item h.0) (sym h.2.answered ∙ whole) }
+    record {
+      raw = h.0;
+      accepted = h.1;
+      only = λ other k. one_field_lem edition item_field t other h.0 k h.1;
+      ordered_value = item_at_end (item_tree item) (ordered_item h.0) (sym h.2.answered ∙ whole);
+    }

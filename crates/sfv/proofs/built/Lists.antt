@@ -13,7 +13,9 @@ use Rattle.sfv_spec.specs.Statements.{IsParsedAs}
 use Rattle.sfv_spec.specs.Visiting.{RunsTo}
 use Rattle.sfv_spec.proofs.Structure.{one_field_lem}
 use Rattle.sfv_tree.specs.Trees.{list_tree}
-use Rattle.sfv_tree.specs.Builders.{MemberPlace, begun, item_head, item_parameters, inner_items, inner_head, inner_parameters, list_parameters, ended, member_step, ListPlace, between, within, settle, list_step, list_members, list_place}
+use Rattle.sfv_tree.specs.Builders.{MemberPlace, begun, item_head, item_parameters, inner_items, inner_head}
+use Rattle.sfv_tree.specs.Builders.{inner_parameters, list_parameters, ended, member_step, ListPlace, between, within}
+use Rattle.sfv_tree.specs.Builders.{settle, list_step, list_members, list_place}
 use Rattle.sfv_tree.specs.declared.parsed.ListEntry.{ListEntry}
 use Rattle.sfv_tree.specs.declared.visitor.list_builder.ListBuilder.{ListBuilder}
 use Rattle.sfv.specs.Parsers.{IsAnswerOf}
@@ -26,7 +28,8 @@ Steps s e after = list_place after ≡ list_step (list_place s) e
 abbrev Ends : ListBuilder → Vec ListEntry Global → Type 0
 Ends s list = list_tree list.items ≡ list_members (list_place s)
 
-within_each : (ms : List RawMember) (p : MemberPlace) (e : TreeEvent) → IsOpen p → list_step (settle ms p) e ≡ settle ms (member_step p e)
+within_each : (ms : List RawMember) (p : MemberPlace) (e : TreeEvent) → IsOpen p
+    → list_step (settle ms p) e ≡ settle ms (member_step p e)
 within_each ms begun e h = refl
 within_each ms item_head e h = refl
 within_each ms (item_parameters i) e h = refl
@@ -36,30 +39,40 @@ within_each ms (inner_parameters l i) e h = refl
 within_each ms (list_parameters l) e h = refl
 within_each ms (ended m) e h = absurd h
 
-members_built : (ms raw : List RawMember) → fold list_step (between ms) (events list_field raw) ≡ between (ms ++ ordered list_field raw)
+members_built : (ms raw : List RawMember) → fold list_step (between ms) (events list_field raw)
+    ≡ between (ms ++ ordered list_field raw)
 members_built ms [] = ap between (sym (append-nil ms))
 members_built ms (m ∷ raw) =
     fold-append list_step (within ms begun) (member_events m) (events list_field raw)
-    ∙ ap (λ (p : ListPlace). fold list_step p (events list_field raw)) (member_built list_step (settle ms) (within_each ms) m)
+    ∙ ap (λ (p : ListPlace). fold list_step p (events list_field raw))
+    (member_built list_step (settle ms) (within_each ms) m)
     ∙ members_built (ms ++ ordered_member m ∷ []) raw
     ∙ ap between (append_assoc ms (ordered_member m ∷ []) (map ordered_member raw))
 
 -- after all events the members stand last, each of them ordered
-pub list_built : (ms raw : List RawMember) (s last : ListBuilder) → list_place s ≡ between ms → RunsTo Steps s (events list_field raw) last → list_place last ≡ between (ms ++ ordered list_field raw)
+pub list_built : (ms raw : List RawMember) (s last : ListBuilder) → list_place s ≡ between ms
+    → RunsTo Steps s (events list_field raw) last → list_place last ≡ between (ms ++ ordered list_field raw)
 list_built ms raw s last here run =
     runs_fold list_place list_step (events list_field raw) s last run
     ∙ ap (λ (p : ListPlace). fold list_step p (events list_field raw)) here
     ∙ members_built ms raw
 
 -- what was built after the members of earlier lines is those, and then the ordered members of the only tree
-pub built_list_behind : (edition : Edition) (t : List ℕ) (held : List RawMember) (from : ListBuilder) (list : Vec ListEntry Global) → list_place from ≡ between held → IsAnswerOf Steps Ends edition list_field t from list
-    → (raw : List RawMember) × IsFieldText edition list_field raw t × ((other : List RawMember) → IsFieldText edition list_field other t → other ≡ raw) × (list_tree list.items ≡ held ++ ordered list_field raw)
+pub built_list_behind : (edition : Edition) (t : List ℕ) (held : List RawMember) (from : ListBuilder)
+    (list : Vec ListEntry Global) → list_place from ≡ between held
+    → IsAnswerOf Steps Ends edition list_field t from list
+    → (raw : List RawMember) × IsFieldText edition list_field raw t
+    × ((other : List RawMember) → IsFieldText edition list_field other t → other ≡ raw)
+    × (list_tree list.items ≡ held ++ ordered list_field raw)
 built_list_behind edition t held from list here h =
-    let whole : list_place h.2.last ≡ between (held ++ ordered list_field h.0) = list_built held h.0 from h.2.last here h.2.taken in
+    let whole : list_place h.2.last ≡ between (held ++ ordered list_field h.0) =
+    list_built held h.0 from h.2.last here h.2.taken in
     (h.0, h.1, λ other k. one_field_lem edition list_field t other h.0 k h.1, h.2.answered ∙ ap list_members whole)
 
 -- what was built is the ordered list of the only tree
-pub built_list : (edition : Edition) (t : List ℕ) (from : ListBuilder) (list : Vec ListEntry Global) → list_place from ≡ between [] → IsAnswerOf Steps Ends edition list_field t from list → IsParsedAs edition list_field t (list_tree list.items)
+pub built_list : (edition : Edition) (t : List ℕ) (from : ListBuilder) (list : Vec ListEntry Global)
+    → list_place from ≡ between [] → IsAnswerOf Steps Ends edition list_field t from list
+    → IsParsedAs edition list_field t (list_tree list.items)
 built_list edition t from list here h =
     let whole = built_list_behind edition t [] from list here h in
     record { raw = whole.0; accepted = whole.1; only = whole.2; ordered_value = whole.3 }

@@ -4,11 +4,13 @@ use Rattle.std.specs.Prelude.{⊤, bytes_eq, fold, flat_map}
 use Rattle.std.proofs.lemmas.List.{append-nil}
 use Rattle.indexmap.specs.IndexMap.{insert_entry}
 use Rattle.sfv_spec.specs.Values.{BareValue, RawParameters, RawItem, RawInnerList, RawMember, item, inner_list}
-use Rattle.sfv_spec.specs.Events.{TreeEvent, begins_item, parameter, parameters_end, inner_list_end, parameters_events, item_events, member_events}
+use Rattle.sfv_spec.specs.Events.{TreeEvent, begins_item, parameter, parameters_end, inner_list_end, parameters_events}
+use Rattle.sfv_spec.specs.Events.{item_events, member_events}
 use Rattle.sfv_spec.specs.Ordered.{collapse, ordered_item, ordered_member}
 use Rattle.sfv_spec.specs.Visiting.{RunsTo}
 use Rattle.sfv_spec.proofs.Collapse.{collapse-push}
-use Rattle.sfv_tree.specs.Builders.{MemberPlace, begun, item_head, item_parameters, inner_items, inner_head, inner_parameters, list_parameters, ended, adds, member_step}
+use Rattle.sfv_tree.specs.Builders.{MemberPlace, begun, item_head, item_parameters, inner_items, inner_head}
+use Rattle.sfv_tree.specs.Builders.{inner_parameters, list_parameters, ended, adds, member_step}
 use Rattle.sfv.proofs.built.Items.{insert_entry-entered, with_bare}
 
 -- a member that has not ended
@@ -27,24 +29,45 @@ goes_on (e ∷ es) fs p q r h k = (h.0, goes_on es fs (member_step p e) q r h.1 
 
 -- parameters, wherever they stand in a member
 module _ (place after : RawParameters → MemberPlace) (opened : (ps : RawParameters) → IsOpen (place ps))
-    (enters : (ps : RawParameters) (k : List ℕ) (v : BareValue) → member_step (place ps) (parameter k v) ≡ place (insert_entry bytes_eq ps k v))
+    (enters : (ps : RawParameters) (k : List ℕ) (v : BareValue)
+    → member_step (place ps) (parameter k v) ≡ place (insert_entry bytes_eq ps k v))
     (closes : (ps : RawParameters) → member_step (place ps) parameters_end ≡ after ps) where
-  parameters_go : (ps front : RawParameters) → Goes (place (collapse front)) (parameters_events ps) (after (collapse (front ++ ps)))
-  parameters_go [] front = (opened (collapse front), closes (collapse front) ∙ ap (λ (qs : RawParameters). after (collapse qs)) (sym (append-nil front)))
+  parameters_go : (ps front : RawParameters) → Goes (place (collapse front)) (parameters_events ps)
+      (after (collapse (front ++ ps)))
+  parameters_go [] front = (
+    opened (collapse front),
+    closes (collapse front)
+        ∙ ap (λ (qs : RawParameters). after (collapse qs)) (sym (append-nil front)),
+  )
   parameters_go (p ∷ ps) front =
-      let more : insert_entry bytes_eq (collapse front) p.0 p.1 ≡ collapse (front ++ p ∷ []) = insert_entry-entered (collapse front) p.0 p.1 ∙ sym (collapse-push front p.0 p.1) in
-      let next : member_step (place (collapse front)) (parameter p.0 p.1) ≡ place (collapse (front ++ p ∷ [])) = enters (collapse front) p.0 p.1 ∙ ap place more in
+      let more : insert_entry bytes_eq (collapse front) p.0 p.1 ≡ collapse (front ++ p ∷ []) =
+      insert_entry-entered (collapse front) p.0 p.1 ∙ sym (collapse-push front p.0 p.1) in
+      let next : member_step (place (collapse front)) (parameter p.0 p.1) ≡ place (collapse (front ++ p ∷ [])) =
+      enters (collapse front) p.0 p.1 ∙ ap place more in
       let rest : Goes (place (collapse (front ++ p ∷ []))) (parameters_events ps) (after (collapse (front ++ p ∷ ps))) =
-      subst (λ (qs : RawParameters). Goes (place (collapse (front ++ p ∷ []))) (parameters_events ps) (after (collapse qs))) (append_assoc front (p ∷ []) ps) (parameters_go ps (front ++ p ∷ [])) in
-      (opened (collapse front), subst (λ (s : MemberPlace). Goes s (parameters_events ps) (after (collapse (front ++ p ∷ ps)))) (sym next) rest)
+      subst (λ (qs : RawParameters). Goes (place (collapse (front ++ p ∷ []))) (parameters_events ps)
+      (after (collapse qs))) (append_assoc front (p ∷ []) ps) (parameters_go ps (front ++ p ∷ [])) in (
+        opened (collapse front),
+        subst (λ (s : MemberPlace).
+            Goes s (parameters_events ps) (after (collapse (front ++ p ∷ ps)))) (sym next) rest,
+      )
 
 item_goes : (i : RawItem) → Goes item_head (item_events i) (ended (item (ordered_item i)))
 unfolding collapse
-item_goes i = (tt, parameters_go (λ ps. item_parameters (with_bare i.bare ps)) (λ ps. ended (item (with_bare i.bare ps))) (λ ps. tt) (λ ps k v. refl) (λ ps. refl) i.parameters [])
+item_goes i = (
+  tt,
+  parameters_go (λ ps. item_parameters (with_bare i.bare ps))
+      (λ ps. ended (item (with_bare i.bare ps))) (λ ps. tt) (λ ps k v. refl) (λ ps. refl) i.parameters [],
+)
 
-inner_item_goes : (l : RawInnerList) (i : RawItem) → Goes (inner_head l) (item_events i) (inner_items (adds l (ordered_item i)))
+inner_item_goes : (l : RawInnerList) (i : RawItem)
+    → Goes (inner_head l) (item_events i) (inner_items (adds l (ordered_item i)))
 unfolding collapse
-inner_item_goes l i = (tt, parameters_go (λ ps. inner_parameters l (with_bare i.bare ps)) (λ ps. inner_items (adds l (with_bare i.bare ps))) (λ ps. tt) (λ ps k v. refl) (λ ps. refl) i.parameters [])
+inner_item_goes l i = (
+  tt,
+  parameters_go (λ ps. inner_parameters l (with_bare i.bare ps))
+      (λ ps. inner_items (adds l (with_bare i.bare ps))) (λ ps. tt) (λ ps k v. refl) (λ ps. refl) i.parameters [],
+)
 
 abbrev list_of : List RawItem → RawParameters → RawInnerList
 list_of xs ps = record { items = xs; parameters = ps }
@@ -52,29 +75,39 @@ list_of xs ps = record { items = xs; parameters = ps }
 abbrev items_events : List RawItem → List TreeEvent
 items_events xs = flat_map (λ i. begins_item ∷ item_events i) xs
 
-inner_items_go : (xs done : List RawItem) → Goes (inner_items (list_of done [])) (items_events xs) (inner_items (list_of (done ++ map ordered_item xs) []))
+inner_items_go : (xs done : List RawItem) → Goes (inner_items (list_of done [])) (items_events xs)
+    (inner_items (list_of (done ++ map ordered_item xs) []))
 inner_items_go [] done = ap (λ (ys : List RawItem). inner_items (list_of ys [])) (sym (append-nil done))
 inner_items_go (x ∷ xs) done =
     let more : List RawItem = done ++ ordered_item x ∷ [] in
     let whole : List RawItem = done ++ map ordered_item (x ∷ xs) in
     let rest : Goes (inner_items (list_of more [])) (items_events xs) (inner_items (list_of whole [])) =
-    subst (λ (ys : List RawItem). Goes (inner_items (list_of more [])) (items_events xs) (inner_items (list_of ys []))) (append_assoc done (ordered_item x ∷ []) (map ordered_item xs)) (inner_items_go xs more) in
-    goes_on (begins_item ∷ item_events x) (items_events xs) (inner_items (list_of done [])) (inner_items (list_of more [])) (inner_items (list_of whole [])) (tt, inner_item_goes (list_of done []) x) rest
+    subst (λ (ys : List RawItem). Goes (inner_items (list_of more [])) (items_events xs) (inner_items (list_of ys [])))
+    (append_assoc done (ordered_item x ∷ []) (map ordered_item xs)) (inner_items_go xs more) in
+    goes_on (begins_item ∷ item_events x) (items_events xs) (inner_items (list_of done []))
+    (inner_items (list_of more [])) (inner_items (list_of whole [])) (tt, inner_item_goes (list_of done []) x) rest
 
 inner_list_goes : (l : RawInnerList) → Goes begun (member_events (inner_list l)) (ended (ordered_member (inner_list l)))
 unfolding collapse
 inner_list_goes l =
     let xs = map ordered_item l.items in
-    let behind : Goes (list_parameters (list_of xs [])) (parameters_events l.parameters) (ended (inner_list (list_of xs (collapse l.parameters)))) =
-    parameters_go (λ ps. list_parameters (list_of xs ps)) (λ ps. ended (inner_list (list_of xs ps))) (λ ps. tt) (λ ps k v. refl) (λ ps. refl) l.parameters [] in
-    (tt, goes_on (items_events l.items) (inner_list_end ∷ parameters_events l.parameters) (inner_items (list_of [] [])) (inner_items (list_of xs [])) (ended (inner_list (list_of xs (collapse l.parameters)))) (inner_items_go l.items []) (tt, behind))
+    let behind : Goes (list_parameters (list_of xs [])) (parameters_events l.parameters)
+    (ended (inner_list (list_of xs (collapse l.parameters)))) =
+    parameters_go (λ ps. list_parameters (list_of xs ps)) (λ ps. ended (inner_list (list_of xs ps))) (λ ps. tt)
+    (λ ps k v. refl) (λ ps. refl) l.parameters [] in (
+      tt,
+      goes_on (items_events l.items) (inner_list_end ∷ parameters_events l.parameters) (inner_items (list_of [] []))
+          (inner_items (list_of xs [])) (ended (inner_list (list_of xs (collapse l.parameters))))
+          (inner_items_go l.items []) (tt, behind),
+    )
 
 pub member_goes : (m : RawMember) → Goes begun (member_events m) (ended (ordered_member m))
 member_goes (item i) = (tt, item_goes i)
 member_goes (inner_list l) = inner_list_goes l
 
 -- a builder whose place holds that of a member goes with it
-module _ {P : Type 0} (step : P → TreeEvent → P) (settled : MemberPlace → P) (each : (p : MemberPlace) (e : TreeEvent) → IsOpen p → step (settled p) e ≡ settled (member_step p e)) where
+module _ {P : Type 0} (step : P → TreeEvent → P) (settled : MemberPlace → P) (each : (p : MemberPlace) (e : TreeEvent)
+    → IsOpen p → step (settled p) e ≡ settled (member_step p e)) where
   goes_along : (es : List TreeEvent) (p q : MemberPlace) → Goes p es q → fold step (settled p) es ≡ settled q
   goes_along [] p q h = ap settled h
   goes_along (e ∷ es) p q h = ap (λ (s : P). fold step s es) (each p e h.0) ∙ goes_along es (member_step p e) q h.1
@@ -83,6 +116,8 @@ module _ {P : Type 0} (step : P → TreeEvent → P) (settled : MemberPlace → 
   member_built m = goes_along (member_events m) begun (ended (ordered_member m)) (member_goes m)
 
 -- where each event is a step of the place, a run is all steps
-pub runs_fold : {S P : Type 0} (place : S → P) (step : P → TreeEvent → P) (es : List TreeEvent) (s last : S) → RunsTo (λ s e after. place after ≡ step (place s) e) s es last → place last ≡ fold step (place s) es
+pub runs_fold : {S P : Type 0} (place : S → P) (step : P → TreeEvent → P) (es : List TreeEvent) (s last : S)
+    → RunsTo (λ s e after. place after ≡ step (place s) e) s es last → place last ≡ fold step (place s) es
 runs_fold place step [] s last h = ap place (sym h)
-runs_fold {S} {P} place step (e ∷ es) s last h = runs_fold place step es h.0 last h.2 ∙ ap (λ (p : P). fold step p es) h.1
+runs_fold {S} {P} place step (e ∷ es) s last h = runs_fold place step es h.0 last h.2
+    ∙ ap (λ (p : P). fold step p es) h.1

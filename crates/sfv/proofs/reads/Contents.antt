@@ -1,9 +1,12 @@
 -- What the runs of symbols and of padding show of a content.
-use Rattle.std.proofs.Common.{◌≡◌, ℕ, zero, suc, ◌<◌, ◌≤◌, ◌+◌, ◌-◌, ◌%◌, List, [], ◌∷◌, ◌++◌, length, take, drop, replicate, get_or, Ok, Err, refl, sym, ◌∙◌, ap, subst, Bool, true, false, arith, ◌⊎◌, inl, inr}
+use Rattle.std.proofs.Common.{◌≡◌, ℕ, zero, suc, ◌<◌, ◌≤◌, ◌+◌, ◌-◌, ◌%◌, List, [], ◌∷◌, ◌++◌, length, take, drop}
+use Rattle.std.proofs.Common.{replicate, get_or, Ok, Err, refl, sym, ◌∙◌, ap, subst, Bool, true, false, arith, ◌⊎◌, inl}
+use Rattle.std.proofs.Common.{inr}
 use Rattle.std.specs.Prelude.{◌==◌}
 use Rattle.std.specs.List.{list_any}
 use Rattle.std.proofs.lemmas.Bool.{eqb-true, cases_Bool, true≢false}
-use Rattle.std.proofs.lemmas.List.{append-nil, length-take-le, length-drop, take-append-drop, drop-drop, drop_more, drop_all, get_or-drop, take_rest}
+use Rattle.std.proofs.lemmas.List.{append-nil, length-take-le, length-drop, take-append-drop, drop-drop, drop_more}
+use Rattle.std.proofs.lemmas.List.{drop_all, get_or-drop, take_rest}
 use Rattle.std.proofs.Math.Seq.{take-add}
 use Rattle.sfv_spec.specs.Ascii.{colon, equals_sign}
 use Rattle.sfv_spec.proofs.Settled.{NotBegun}
@@ -21,7 +24,8 @@ use Rattle.sfv.specs.Runs.{IsSymbolRun, IsPaddingRun}
 use Rattle.sfv.specs.Zeros.{decoded_symbols}
 
 -- the first colon
-first_colon : (u : List ℕ) → list_any (λ c. c == colon) u ≡ true → (k : ℕ) × (k < length u) × (get_or u k 0 ≡ colon) × HasNoColon (take k u)
+first_colon : (u : List ℕ) → list_any (λ c. c == colon) u ≡ true
+    → (k : ℕ) × (k < length u) × (get_or u k 0 ≡ colon) × HasNoColon (take k u)
 first_colon [] h = absurd (true≢false (sym h))
 first_colon (c ∷ u) h = elim (cases_Bool (c == colon)) [
   | inl p ↦ (0, omega arith, eqb-true c colon p, refl)
@@ -46,13 +50,15 @@ within : (t : List ℕ) (n p : ℕ) → Runs t n p → n + p ≤ length t
 within t n p r = omega (arith, r.symbols.within, r.padding.within, length-drop n t)
 
 front_apart : (t : List ℕ) (n p : ℕ) → Runs t n p → HasNoColon (take (n + p) t)
-front_apart t n p r = rw (front t n p r) (both_apart (take n t) (replicate p equals_sign) (symbols_apart (take n t) r.symbols.each) (padding_apart p))
+front_apart t n p r = rw (front t n p r) (both_apart (take n t) (replicate p equals_sign)
+    (symbols_apart (take n t) r.symbols.each) (padding_apart p))
 
 valid_runs : (t : List ℕ) (n p : ℕ) → Runs t n p → valid_from 0 t ≡ n + p
 valid_runs t n p r =
     let size : length (take n t) ≡ n = length-take-le n t r.symbols.within in
     let z : 0 + length (take n t) ≡ n = omega (arith, size) in
-    let behind : drop n t ≡ replicate p equals_sign ++ drop (n + p) t = sym (take-append-drop p (drop n t)) ∙ rw (r.padding.each, drop-drop p n t) refl in
+    let behind : drop n t ≡ replicate p equals_sign ++ drop (n + p) t = sym (take-append-drop p (drop n t))
+    ∙ rw (r.padding.each, drop-drop p n t) refl in
     let s : Shape 0 t = record {
       run = take n t;
       padding = p;
@@ -60,25 +66,32 @@ valid_runs t n p r =
       text = sym (take-append-drop n t) ∙ ap (λ (u : List ℕ). take n t ++ u) behind;
       symbols = r.symbols.each;
       within = rw z r.padding.room;
-      ends = rw z (elim r.padding.ends [ inl e ↦ inl e | inr a ↦ inr (subst (λ (u : List ℕ). NotBegun is_equals u) (drop-drop p n t) (begun is_equals (drop p (drop n t)) a)) ]);
+      ends = rw z (elim r.padding.ends [
+        | inl e ↦ inl e
+        | inr a ↦ inr (subst (λ (u : List ℕ). NotBegun is_equals u) (drop-drop p n t)
+            (begun is_equals (drop p (drop n t)) a))
+      ]);
       apart = subst (λ (u : List ℕ). NotBegun is_symbol u) behind (begun is_symbol (drop n t) r.symbols.ends);
     } in
     (shape_valid 0 t s).0 ∙ ap (λ k. k + p) size
 
 -- a content from its place
-closed_at : (input : List ℕ) (start m : ℕ) → m < length (drop start input) → get_or (drop start input) m 0 ≡ colon → HasNoColon (take m (drop start input))
+closed_at : (input : List ℕ) (start m : ℕ) → m < length (drop start input) → get_or (drop start input) m 0 ≡ colon
+    → HasNoColon (take m (drop start input))
     → IsContentAt input start (start + m) (take m (drop start input))
 closed_at input start m lt closes none =
     let t : List ℕ = drop start input in
     let sum : start + (m + 1) ≡ start + m + 1 = omega arith in
     record {
-      text = sym (take-append-drop m t) ∙ ap (λ (u : List ℕ). take m t ++ u) (drop_more t m 0 lt ∙ rw (closes, drop-drop (m + 1) start input, sum) refl);
+      text = sym (take-append-drop m t) ∙ ap (λ (u : List ℕ). take m t ++ u) (drop_more t m 0 lt
+          ∙ rw (closes, drop-drop (m + 1) start input, sum) refl);
       no_colon = none;
       counted = ap (λ k. start + k) (sym (length-take-le m t (omega (arith, lt))));
     }
 
 -- where a colon stands after the runs
-bytes_closed : (input : List ℕ) (start n p : ℕ) → Runs (drop start input) n p → n + p < length (drop start input) → get_or (drop start input) (n + p) 0 ≡ colon
+bytes_closed : (input : List ℕ) (start n p : ℕ) → Runs (drop start input) n p → n + p < length (drop start input)
+    → get_or (drop start input) (n + p) 0 ≡ colon
     → ¬ (n % 4 ≡ 1) → IsBytesAt input start (decoded_symbols (take n (drop start input))) (start + (n + p))
 bytes_closed input start n p r lt closes lone =
     let t : List ℕ = drop start input in
@@ -90,7 +103,8 @@ bytes_closed input start n p r lt closes lone =
       value = rw (front t n p r) ((gives_the_bytes _ _).0 w);
     }
 
-lone_closed : (input : List ℕ) (start n p : ℕ) → Runs (drop start input) n p → n + p < length (drop start input) → get_or (drop start input) (n + p) 0 ≡ colon
+lone_closed : (input : List ℕ) (start n p : ℕ) → Runs (drop start input) n p → n + p < length (drop start input)
+    → get_or (drop start input) (n + p) 0 ≡ colon
     → n % 4 ≡ 1 → IsInvalidAt input start (start + (n + p) - 1)
 lone_closed input start n p r lt closes one =
     let t : List ℕ = drop start input in
@@ -108,7 +122,8 @@ lone_closed input start n p r lt closes one =
     }
 
 -- where another byte stands there, or the end
-malformed_closed : (input : List ℕ) (start n p : ℕ) → Runs (drop start input) n p → (n + p ≡ length (drop start input)) ⊎ (get_or (drop start input) (n + p) 0 ≡ colon → ⊥)
+malformed_closed : (input : List ℕ) (start n p : ℕ) → Runs (drop start input) n p
+    → (n + p ≡ length (drop start input)) ⊎ (get_or (drop start input) (n + p) 0 ≡ colon → ⊥)
     → list_any (λ c. c == colon) (drop (n + p) (drop start input)) ≡ true → IsInvalidAt input start (start + (n + p))
 malformed_closed input start n p r other closes =
     let t : List ℕ = drop start input in
@@ -124,9 +139,11 @@ malformed_closed input start n p r other closes =
       ] at
     ] in
     let size : length (take m t) ≡ m = length-take-le m t (omega (arith, fits)) in
-    let valid : valid_from 0 (take m t) ≡ n + p = ap (valid_from 0) (sym (append-nil (take m t))) ∙ valid_local 0 t m [] (rw (valid_runs t n p r) later) (omega (arith, fits)) ∙ valid_runs t n p r in
+    let valid : valid_from 0 (take m t) ≡ n + p = ap (valid_from 0) (sym (append-nil (take m t)))
+    ∙ valid_local 0 t m [] (rw (valid_runs t n p r) later) (omega (arith, fits)) ∙ valid_runs t n p r in
     let rejected = rejected_at (take m t) (n + p) valid (omega (arith, size, later)) in
-    let apart : HasNoColon (take m t) = rw (take-add (n + p) k.0 t) (both_apart (take (n + p) t) (take k.0 (drop (n + p) t)) (front_apart t n p r) k.3) in
+    let apart : HasNoColon (take m t) = rw (take-add (n + p) k.0 t)
+    (both_apart (take (n + p) t) (take k.0 (drop (n + p) t)) (front_apart t n p r) k.3) in
     record {
       content = take m t;
       end = start + m;
@@ -137,37 +154,56 @@ malformed_closed input start n p r other closes =
 
 -- ---- what the reader gives, and that its place is within the input
 
-pub bytes_read : (input : List ℕ) (start n p : ℕ) → Runs (drop start input) n p → ¬ (n + p ≡ length (drop start input)) → get_or (drop start input) (n + p) 0 ≡ colon → ¬ (n % 4 ≡ 1)
-    → (bytes_at (drop start input) ≡ Ok (decoded_symbols (take n (drop start input)), drop (start + (n + p) + 1) input)) × (start + (n + p) + 1 ≤ length input)
+pub bytes_read : (input : List ℕ) (start n p : ℕ) → Runs (drop start input) n p → ¬ (n + p ≡ length (drop start input))
+    → get_or (drop start input) (n + p) 0 ≡ colon → ¬ (n % 4 ≡ 1)
+    → (bytes_at (drop start input) ≡ Ok (decoded_symbols (take n (drop start input)), drop (start + (n + p) + 1) input))
+    × (start + (n + p) + 1 ≤ length input)
 bytes_read input start n p r open_end closes lone =
     let l = within (drop start input) n p r in
-    let lt : n + p < length (drop start input) = omega (arith, l, open_end) in
-    (gives_value input _ start _ (bytes_closed input start n p r lt closes lone), omega (arith, lt, length-drop start input))
+    let lt : n + p < length (drop start input) = omega (arith, l, open_end) in (
+      gives_value input _ start _ (bytes_closed input start n p r lt closes lone),
+      omega (arith, lt, length-drop start input),
+    )
 
-pub lone_located : (input : List ℕ) (start n p : ℕ) → Runs (drop start input) n p → ¬ (n + p ≡ length (drop start input)) → get_or (drop start input) (n + p) 0 ≡ colon → n % 4 ≡ 1
-    → (located (bytes_at (drop start input)) ≡ Err (InvalidByteSequence, drop (start + (n + p) - 1) input)) × (start + (n + p) - 1 ≤ length input)
+pub lone_located : (input : List ℕ) (start n p : ℕ) → Runs (drop start input) n p
+    → ¬ (n + p ≡ length (drop start input)) → get_or (drop start input) (n + p) 0 ≡ colon → n % 4 ≡ 1
+    → (located (bytes_at (drop start input)) ≡ Err (InvalidByteSequence, drop (start + (n + p) - 1) input))
+    × (start + (n + p) - 1 ≤ length input)
 lone_located input start n p r open_end closes one =
     let l = within (drop start input) n p r in
-    let lt : n + p < length (drop start input) = omega (arith, l, open_end) in
-    (ap located (gives_fault input start _ (lone_closed input start n p r lt closes one)), omega (arith, lt, length-drop start input))
+    let lt : n + p < length (drop start input) = omega (arith, l, open_end) in (
+      ap located (gives_fault input start _ (lone_closed input start n p r lt closes one)),
+      omega (arith, lt, length-drop start input),
+    )
 
-pub malformed_located : (input : List ℕ) (start n p : ℕ) → Runs (drop start input) n p → (n + p ≡ length (drop start input)) ⊎ (get_or (drop start input) (n + p) 0 ≡ colon → ⊥)
+pub malformed_located : (input : List ℕ) (start n p : ℕ) → Runs (drop start input) n p
+    → (n + p ≡ length (drop start input)) ⊎ (get_or (drop start input) (n + p) 0 ≡ colon → ⊥)
     → list_any (λ c. c == colon) (drop (n + p) (drop start input)) ≡ true → start ≤ length input
-    → (located (bytes_at (drop start input)) ≡ Err (InvalidByteSequence, drop (start + (n + p)) input)) × (start + (n + p) ≤ length input)
+    → (located (bytes_at (drop start input)) ≡ Err (InvalidByteSequence, drop (start + (n + p)) input))
+    × (start + (n + p) ≤ length input)
 malformed_located input start n p r other closes inside =
-    let l = within (drop start input) n p r in
-    (ap located (gives_fault input start _ (malformed_closed input start n p r other closes)), omega (arith, l, inside, length-drop start input))
+    let l = within (drop start input) n p r in (
+      ap located (gives_fault input start _ (malformed_closed input start n p r other closes)),
+      omega (arith, l, inside, length-drop start input),
+    )
 
-pub unterminated_located : (input : List ℕ) (start n p : ℕ) → Runs (drop start input) n p → list_any (λ c. c == colon) (drop (n + p) (drop start input)) ≡ false
-    → (located (bytes_at (drop start input)) ≡ Err (UnterminatedByteSequence, drop (length input) input)) × (length input ≤ length input)
+pub unterminated_located : (input : List ℕ) (start n p : ℕ) → Runs (drop start input) n p
+    → list_any (λ c. c == colon) (drop (n + p) (drop start input)) ≡ false
+    → (located (bytes_at (drop start input)) ≡ Err (UnterminatedByteSequence, drop (length input) input))
+    × (length input ≤ length input)
 unterminated_located input start n p r none =
     let t : List ℕ = drop start input in
-    let apart : HasNoColon t = subst HasNoColon (take-append-drop (n + p) t) (both_apart (take (n + p) t) (drop (n + p) t) (front_apart t n p r) (no_colon (drop (n + p) t) none)) in
+    let apart : HasNoColon t = subst HasNoColon (take-append-drop (n + p) t)
+    (both_apart (take (n + p) t) (drop (n + p) t) (front_apart t n p r) (no_colon (drop (n + p) t) none)) in
     (ap located (gives_unclosed input start apart) ∙ rw (drop_all (length input) input (omega arith)) refl, omega arith)
 
 -- the runs in what stands from a place on, as the code cuts it out
 abbrev pub cut : List ℕ → ℕ → List ℕ
 cut t n = take (length t - n) (drop n t)
 
-pub runs_of : (input : List ℕ) (start n most p : ℕ) → IsSymbolRun (cut input start) n → most ≡ most_padding n → IsPaddingRun (cut (cut input start) n) most p → Runs (drop start input) n p
-runs_of input start n most p symbols e padding = record { symbols = simp take_rest at symbols; padding = simp (take_rest, e) at padding }
+pub runs_of : (input : List ℕ) (start n most p : ℕ) → IsSymbolRun (cut input start) n → most ≡ most_padding n
+    → IsPaddingRun (cut (cut input start) n) most p → Runs (drop start input) n p
+runs_of input start n most p symbols e padding = record {
+  symbols = simp take_rest at symbols;
+  padding = simp (take_rest, e) at padding;
+}

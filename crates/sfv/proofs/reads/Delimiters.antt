@@ -1,14 +1,18 @@
 -- What stands between two items of an inner list, and between two members, by what the code found out.
-use Rattle.std.proofs.Common.{◌≡◌, ℕ, Bool, true, false, not, List, [], ◌∷◌, Option, Some, None, Ok, Err, refl, sym, ap, ◌∙◌}
+use Rattle.std.proofs.Common.{◌≡◌, ℕ, Bool, true, false, not, List, [], ◌∷◌, Option, Some, None, Ok, Err, refl, sym, ap}
+use Rattle.std.proofs.Common.{◌∙◌}
 use Rattle.std.specs.Prelude.{is_some}
 use Rattle.std.proofs.lemmas.Bool.{true≢false}
 use Rattle.sfv_spec.specs.Ascii.{right_parenthesis, comma}
 use Rattle.sfv_spec.specs.Classes.{is_space, is_space_or_tab}
 use Rattle.sfv_spec.specs.Values.{Edition, RawItem}
 use Rattle.sfv_spec.specs.Events.{TreeEvent, inner_item_events}
-use Rattle.sfv_spec.specs.Faults.{trailing_comma, trailing_characters_after_member, expected_inner_list_delimiter, unterminated_inner_list}
-use Rattle.sfv_base.specs.declared.error.ErrorKind.TheVariants.{ExpectedInnerListDelimiter, UnterminatedInnerList, TrailingCharactersAfterMember, TrailingComma}
-use Rattle.sfv_reading.specs.Reader.{Answer, Reader, first, byte, any, give, fail, back, ahead, branch, and_then, bind, span, led, many, ◌>>=◌}
+use Rattle.sfv_spec.specs.Faults.{trailing_comma, trailing_characters_after_member, expected_inner_list_delimiter}
+use Rattle.sfv_spec.specs.Faults.{unterminated_inner_list}
+use Rattle.sfv_base.specs.declared.error.ErrorKind.TheVariants.{ExpectedInnerListDelimiter, UnterminatedInnerList}
+use Rattle.sfv_base.specs.declared.error.ErrorKind.TheVariants.{TrailingCharactersAfterMember, TrailingComma}
+use Rattle.sfv_reading.specs.Reader.{Answer, Reader, first, byte, any, give, fail, back, ahead, branch, and_then, bind}
+use Rattle.sfv_reading.specs.Reader.{span, led, many, ◌>>=◌}
 use Rattle.sfv_reading.specs.Members.{inner_item_at, next_item_at, inner_items_at}
 use Rattle.sfv_reading.specs.Fields.{comma_at, next_at, members_at}
 use Rattle.sfv_reading.proofs.complete.Combinators.{bind_complete}
@@ -22,7 +26,8 @@ unfolding span give
 span_total class [] = ([], [], refl)
 span_total class (c ∷ t) = on (span_total class t) (class c) refl
   where
-    on : ((s : List ℕ) × (r : List ℕ) × (span class t ≡ Ok (s, r))) → (b : Bool) → class c ≡ b → (s : List ℕ) × (r : List ℕ) × (span class (c ∷ t) ≡ Ok (s, r))
+    on : ((s : List ℕ) × (r : List ℕ) × (span class t ≡ Ok (s, r))) → (b : Bool) → class c ≡ b
+        → (s : List ℕ) × (r : List ℕ) × (span class (c ∷ t) ≡ Ok (s, r))
     on h true e = (c ∷ h.0, h.1, rw (e, h.2) refl)
     on h false e = ([], c ∷ t, rw e refl)
 
@@ -37,58 +42,77 @@ first_of parts one next = one >>= λ v. led (parts v) (many parts next >>= λ vs
 
 -- ---- items of an inner list
 
-pub parted_item : (b : Bool) (t r s q w : List ℕ) → TakesIf is_space true t r → span is_space r ≡ Ok (s, q) → TakesIf (byte right_parenthesis) b q w → item_delimiter_at t ≡ Ok (not b, w)
+pub parted_item : (b : Bool) (t r s q w : List ℕ) → TakesIf is_space true t r → span is_space r ≡ Ok (s, q)
+    → TakesIf (byte right_parenthesis) b q w → item_delimiter_at t ≡ Ok (not b, w)
 unfolding item_delimiter_at give
-parted_item true t r s q w sp e m = branch_true is_space _ _ t r sp ∙ bind_complete (span is_space) _ r q s e ∙ branch_true (byte right_parenthesis) (λ _. give false) (give true) q w m
-parted_item false t r s q w sp e m = branch_true is_space _ _ t r sp ∙ bind_complete (span is_space) _ r q s e ∙ branch_false (byte right_parenthesis) (λ _. give false) (give true) q w m
+parted_item true t r s q w sp e m = branch_true is_space _ _ t r sp ∙ bind_complete (span is_space) _ r q s e
+    ∙ branch_true (byte right_parenthesis) (λ _. give false) (give true) q w m
+parted_item false t r s q w sp e m = branch_true is_space _ _ t r sp ∙ bind_complete (span is_space) _ r q s e
+    ∙ branch_false (byte right_parenthesis) (λ _. give false) (give true) q w m
 
-pub closed_item : (t r q : List ℕ) → TakesIf is_space false t r → TakesIf (byte right_parenthesis) true r q → item_delimiter_at t ≡ Ok (false, q)
+pub closed_item : (t r q : List ℕ) → TakesIf is_space false t r → TakesIf (byte right_parenthesis) true r q
+    → item_delimiter_at t ≡ Ok (false, q)
 unfolding item_delimiter_at give
 closed_item t r q sp m = branch_false is_space _ _ t r sp ∙ branch_true (byte right_parenthesis) _ _ r q m
 
-no_item_here : (t r q : List ℕ) → TakesIf is_space false t r → TakesIf (byte right_parenthesis) false r q → item_delimiter_at t ≡ ahead any (fail expected_inner_list_delimiter) (fail unterminated_inner_list) q
+no_item_here : (t r q : List ℕ) → TakesIf is_space false t r → TakesIf (byte right_parenthesis) false r q
+    → item_delimiter_at t ≡ ahead any (fail expected_inner_list_delimiter) (fail unterminated_inner_list) q
 unfolding item_delimiter_at
 no_item_here t r q sp m = branch_false is_space _ _ t r sp ∙ branch_false (byte right_parenthesis) _ _ r q m
 
-pub undelimited_item : (t r q : List ℕ) → TakesIf is_space false t r → TakesIf (byte right_parenthesis) false r q → is_some (first q) ≡ true → located (item_delimiter_at t) ≡ Err (ExpectedInnerListDelimiter, q)
+pub undelimited_item : (t r q : List ℕ) → TakesIf is_space false t r → TakesIf (byte right_parenthesis) false r q
+    → is_some (first q) ≡ true → located (item_delimiter_at t) ≡ Err (ExpectedInnerListDelimiter, q)
 unfolding ahead fail
 undelimited_item t r q sp m h = ap located (no_item_here t r q sp m) ∙ on q h
   where
-    on : (q : List ℕ) → is_some (first q) ≡ true → located {A = Bool} (ahead any (fail expected_inner_list_delimiter) (fail unterminated_inner_list) q) ≡ Err (ExpectedInnerListDelimiter, q)
+    on : (q : List ℕ) → is_some (first q) ≡ true → located {A =
+        Bool} (ahead any (fail expected_inner_list_delimiter) (fail unterminated_inner_list) q)
+        ≡ Err (ExpectedInnerListDelimiter, q)
     on [] h = absurd cc
     on (c ∷ q) h = refl
 
-pub unended_item : (t r q : List ℕ) → TakesIf is_space false t r → TakesIf (byte right_parenthesis) false r q → is_some (first q) ≡ false → located (item_delimiter_at t) ≡ Err (UnterminatedInnerList, q)
+pub unended_item : (t r q : List ℕ) → TakesIf is_space false t r → TakesIf (byte right_parenthesis) false r q
+    → is_some (first q) ≡ false → located (item_delimiter_at t) ≡ Err (UnterminatedInnerList, q)
 unfolding ahead fail
 unended_item t r q sp m h = ap located (no_item_here t r q sp m) ∙ on q h
   where
-    on : (q : List ℕ) → is_some (first q) ≡ false → located {A = Bool} (ahead any (fail expected_inner_list_delimiter) (fail unterminated_inner_list) q) ≡ Err (UnterminatedInnerList, q)
+    on : (q : List ℕ) → is_some (first q) ≡ false → located {A =
+        Bool} (ahead any (fail expected_inner_list_delimiter) (fail unterminated_inner_list) q)
+        ≡ Err (UnterminatedInnerList, q)
     on [] h = refl
     on (c ∷ q) h = absurd cc
 
 -- an item after its delimiter is the next one
-pub next_item_is : (edition : Edition) (t : List ℕ) → next_item_at edition t ≡ (item_delimiter_at >>= one_if (inner_item_at edition)) t
+pub next_item_is : (edition : Edition) (t : List ℕ)
+    → next_item_at edition t ≡ (item_delimiter_at >>= one_if (inner_item_at edition)) t
 unfolding next_item_at item_delimiter_at bind branch ahead give fail
 next_item_is edition [] = refl
 next_item_is edition (c ∷ r) = on (is_space c) refl
   where
-    parted : (q : List ℕ) → branch (byte right_parenthesis) (λ _. give None) (one_if (inner_item_at edition) true) q ≡ and_then (branch (byte right_parenthesis) (λ _. give false) (give true) q) (one_if (inner_item_at edition))
+    parted : (q : List ℕ) → branch (byte right_parenthesis) (λ _. give None) (one_if (inner_item_at edition) true) q
+        ≡ and_then (branch (byte right_parenthesis) (λ _. give false) (give true) q) (one_if (inner_item_at edition))
     parted [] = refl
     parted (d ∷ q) = here (byte right_parenthesis d) refl
       where
-        here : (b : Bool) → byte right_parenthesis d ≡ b → branch (byte right_parenthesis) (λ _. give None) (one_if (inner_item_at edition) true) (d ∷ q) ≡ and_then (branch (byte right_parenthesis) (λ _. give false) (give true) (d ∷ q)) (one_if (inner_item_at edition))
+        here : (b : Bool) → byte right_parenthesis d ≡ b
+            → branch (byte right_parenthesis) (λ _. give None) (one_if (inner_item_at edition) true) (d ∷ q)
+            ≡ and_then (branch (byte right_parenthesis) (λ _. give false) (give true) (d ∷ q))
+            (one_if (inner_item_at edition))
         here true e = rw e refl
         here false e = rw e refl
 
-    closed : (b : Bool) → is_space c ≡ false → byte right_parenthesis c ≡ b → next_item_at edition (c ∷ r) ≡ (item_delimiter_at >>= one_if (inner_item_at edition)) (c ∷ r)
+    closed : (b : Bool) → is_space c ≡ false → byte right_parenthesis c ≡ b
+        → next_item_at edition (c ∷ r) ≡ (item_delimiter_at >>= one_if (inner_item_at edition)) (c ∷ r)
     closed true n e = rw (n, e) refl
     closed false n e = rw (n, e) refl
 
-    on : (b : Bool) → is_space c ≡ b → next_item_at edition (c ∷ r) ≡ (item_delimiter_at >>= one_if (inner_item_at edition)) (c ∷ r)
+    on : (b : Bool) → is_space c ≡ b → next_item_at edition (c ∷ r)
+        ≡ (item_delimiter_at >>= one_if (inner_item_at edition)) (c ∷ r)
     on true e = let q = span_total is_space r in rw (e, q.2) (parted q.1)
     on false e = closed (byte right_parenthesis c) e refl
 
-pub items_none : (edition : Edition) (t : List ℕ) → is_some (first t) ≡ false → located (inner_items_at edition t) ≡ Err (UnterminatedInnerList, t)
+pub items_none : (edition : Edition) (t : List ℕ) → is_some (first t) ≡ false
+    → located (inner_items_at edition t) ≡ Err (UnterminatedInnerList, t)
 unfolding inner_items_at ahead fail
 items_none edition [] h = refl
 items_none edition (c ∷ t) h = absurd cc
@@ -96,18 +120,23 @@ items_none edition (c ∷ t) h = absurd cc
 -- after the spaces before the first item
 abbrev pub items_behind : Edition → Reader (List RawItem)
 items_behind edition =
-    branch (byte right_parenthesis) (λ _. give []) (inner_item_at edition >>= λ i. led (inner_item_events i) (many inner_item_events (next_item_at edition) >>= λ is. give (i ∷ is)))
+    branch (byte right_parenthesis) (λ _. give []) (inner_item_at edition
+    >>= λ i. led (inner_item_events i) (many inner_item_events (next_item_at edition) >>= λ is. give (i ∷ is)))
 
-items_some : (edition : Edition) (t s q : List ℕ) → is_some (first t) ≡ true → span is_space t ≡ Ok (s, q) → inner_items_at edition t ≡ items_behind edition q
+items_some : (edition : Edition) (t s q : List ℕ) → is_some (first t) ≡ true → span is_space t ≡ Ok (s, q)
+    → inner_items_at edition t ≡ items_behind edition q
 unfolding inner_items_at ahead
 items_some edition [] s q h e = absurd cc
 items_some edition (c ∷ t) s q h e = bind_complete (span is_space) (λ _. items_behind edition) (c ∷ t) q s e
 
-pub items_closed : (edition : Edition) (t s q w : List ℕ) → is_some (first t) ≡ true → span is_space t ≡ Ok (s, q) → TakesIf (byte right_parenthesis) true q w → inner_items_at edition t ≡ Ok ([], w)
+pub items_closed : (edition : Edition) (t s q w : List ℕ) → is_some (first t) ≡ true → span is_space t ≡ Ok (s, q)
+    → TakesIf (byte right_parenthesis) true q w → inner_items_at edition t ≡ Ok ([], w)
 unfolding give
 items_closed edition t s q w h e m = items_some edition t s q h e ∙ branch_true (byte right_parenthesis) _ _ q w m
 
-pub items_first : (edition : Edition) (t s q w : List ℕ) → is_some (first t) ≡ true → span is_space t ≡ Ok (s, q) → TakesIf (byte right_parenthesis) false q w → inner_items_at edition t ≡ first_of inner_item_events (inner_item_at edition) (next_item_at edition) w
+pub items_first : (edition : Edition) (t s q w : List ℕ) → is_some (first t) ≡ true → span is_space t ≡ Ok (s, q)
+    → TakesIf (byte right_parenthesis) false q w → inner_items_at edition t
+    ≡ first_of inner_item_events (inner_item_at edition) (next_item_at edition) w
 unfolding first_of
 items_first edition t s q w h e m = items_some edition t s q h e ∙ branch_false (byte right_parenthesis) _ _ q w m
 
@@ -119,13 +148,15 @@ at_end (c ∷ q) h = absurd cc
 
 -- after optional whitespace
 abbrev at_comma : Reader Bool
-at_comma = ahead any (ahead (byte comma) (back trailing_comma comma_at >>= λ _. give true) (fail trailing_characters_after_member)) (give false)
+at_comma = ahead any (ahead (byte comma) (back trailing_comma comma_at
+    >>= λ _. give true) (fail trailing_characters_after_member)) (give false)
 
 member_is : (t s q : List ℕ) → span is_space_or_tab t ≡ Ok (s, q) → member_delimiter_at t ≡ at_comma q
 unfolding member_delimiter_at
 member_is t s q e = bind_complete (span is_space_or_tab) _ t q s e
 
-pub no_member : (t s q : List ℕ) → span is_space_or_tab t ≡ Ok (s, q) → is_some (first q) ≡ false → member_delimiter_at t ≡ Ok (false, q)
+pub no_member : (t s q : List ℕ) → span is_space_or_tab t ≡ Ok (s, q) → is_some (first q) ≡ false
+    → member_delimiter_at t ≡ Ok (false, q)
 unfolding ahead give
 no_member t s q e h = member_is t s q e ∙ on q h
   where
@@ -135,18 +166,21 @@ no_member t s q e h = member_is t s q e ∙ on q h
 
 -- a member after its delimiter, or the end
 abbrev wanted : {A : Type 0} → Reader A → Reader (Option A)
-wanted one = ahead any (ahead (byte comma) (back trailing_comma comma_at >>= λ _. one >>= λ m. give (Some m)) (fail trailing_characters_after_member)) (give None)
+wanted one = ahead any (ahead (byte comma) (back trailing_comma comma_at >>= λ _. one
+    >>= λ m. give (Some m)) (fail trailing_characters_after_member)) (give None)
 
 -- a member after its delimiter is the next one
 pub next_member_is : {A : Type 0} (one : Reader A) (t : List ℕ) → next_at one t ≡ (member_delimiter_at >>= one_if one) t
 unfolding next_at member_delimiter_at bind ahead fail give
 next_member_is {A} one t = let q = span_total is_space_or_tab t in rw q.2 (on q.1)
   where
-    behind : (a : Answer (Unit {0})) → and_then a (λ _. one >>= λ m. give (Some m)) ≡ and_then (and_then a (λ _. give true)) (one_if one)
+    behind : (a : Answer (Unit {0})) → and_then a (λ _. one >>= λ m. give (Some m))
+        ≡ and_then (and_then a (λ _. give true)) (one_if one)
     behind (Ok x) = refl
     behind (Err f) = refl
 
-    at : (c : ℕ) (r : List ℕ) (b : Bool) → byte comma c ≡ b → wanted one (c ∷ r) ≡ and_then (at_comma (c ∷ r)) (one_if one)
+    at : (c : ℕ) (r : List ℕ) (b : Bool) → byte comma c ≡ b
+        → wanted one (c ∷ r) ≡ and_then (at_comma (c ∷ r)) (one_if one)
     at c r true e = rw e (behind (back trailing_comma comma_at (c ∷ r)))
     at c r false e = rw e refl
 
@@ -154,19 +188,25 @@ next_member_is {A} one t = let q = span_total is_space_or_tab t in rw q.2 (on q.
     on [] = refl
     on (c ∷ r) = at c r (byte comma c) refl
 
-pub members_none : {A : Type 0} (parts : A → List TreeEvent) (one : Reader A) (t s q : List ℕ) → span is_space t ≡ Ok (s, q) → is_some (first q) ≡ false → members_at parts one t ≡ Ok ([], q)
+pub members_none : {A : Type 0} (parts : A → List TreeEvent) (one : Reader A) (t s q : List ℕ)
+    → span is_space t ≡ Ok (s, q) → is_some (first q) ≡ false → members_at parts one t ≡ Ok ([], q)
 unfolding members_at ahead give
 members_none {A} parts one t s q e h = bind_complete (span is_space) _ t q s e ∙ on q h
   where
-    on : (q : List ℕ) → is_some (first q) ≡ false → ahead any (one >>= λ m. led (parts m) (many parts (next_at one) >>= λ ms. give (m ∷ ms))) (give []) q ≡ Ok ([], q)
+    on : (q : List ℕ) → is_some (first q) ≡ false → ahead any (one
+        >>= λ m. led (parts m) (many parts (next_at one) >>= λ ms. give (m ∷ ms))) (give []) q ≡ Ok ([], q)
     on [] h = refl
     on (c ∷ q) h = absurd cc
 
-pub members_first : {A : Type 0} (parts : A → List TreeEvent) (one : Reader A) (t s q : List ℕ) → span is_space t ≡ Ok (s, q) → is_some (first q) ≡ true → members_at parts one t ≡ first_of parts one (next_at one) q
+pub members_first : {A : Type 0} (parts : A → List TreeEvent) (one : Reader A) (t s q : List ℕ)
+    → span is_space t ≡ Ok (s, q) → is_some (first q) ≡ true
+    → members_at parts one t ≡ first_of parts one (next_at one) q
 unfolding members_at ahead first_of
 members_first {A} parts one t s q e h = bind_complete (span is_space) _ t q s e ∙ on q h
   where
-    on : (q : List ℕ) → is_some (first q) ≡ true → ahead any (one >>= λ m. led (parts m) (many parts (next_at one) >>= λ ms. give (m ∷ ms))) (give []) q ≡ (one >>= λ m. led (parts m) (many parts (next_at one) >>= λ ms. give (m ∷ ms))) q
+    on : (q : List ℕ) → is_some (first q) ≡ true → ahead any (one
+        >>= λ m. led (parts m) (many parts (next_at one) >>= λ ms. give (m ∷ ms))) (give []) q
+        ≡ (one >>= λ m. led (parts m) (many parts (next_at one) >>= λ ms. give (m ∷ ms))) q
     on [] h = absurd cc
     on (c ∷ q) h = refl
 
@@ -203,11 +243,14 @@ comma_met : (q w : List ℕ) → TakesIf (byte comma) true q w → at_comma q �
 unfolding ahead
 comma_met q w m = ap at_comma m.1 ∙ rw m.2 refl ∙ ap behind_comma (sym m.1)
 
-pub no_comma : (t s q w : List ℕ) → span is_space_or_tab t ≡ Ok (s, q) → is_some (first q) ≡ true → TakesIf (byte comma) false q w → located (member_delimiter_at t) ≡ Err (TrailingCharactersAfterMember, w)
+pub no_comma : (t s q w : List ℕ) → span is_space_or_tab t ≡ Ok (s, q) → is_some (first q) ≡ true
+    → TakesIf (byte comma) false q w → located (member_delimiter_at t) ≡ Err (TrailingCharactersAfterMember, w)
 unfolding ahead fail
-no_comma t s q w e h m = ap located (member_is t s q e) ∙ on q h m ∙ ap (λ (l : List ℕ). Err (TrailingCharactersAfterMember, l)) (sym m.0)
+no_comma t s q w e h m = ap located (member_is t s q e) ∙ on q h m
+    ∙ ap (λ (l : List ℕ). Err (TrailingCharactersAfterMember, l)) (sym m.0)
   where
-    on : (q : List ℕ) → is_some (first q) ≡ true → TakesIf (byte comma) false q w → located (at_comma q) ≡ Err (TrailingCharactersAfterMember, q)
+    on : (q : List ℕ) → is_some (first q) ≡ true → TakesIf (byte comma) false q w
+        → located (at_comma q) ≡ Err (TrailingCharactersAfterMember, q)
     on [] h m = absurd cc
     on (c ∷ q) h m = rw (m.1.apart c refl) refl
 
@@ -215,11 +258,14 @@ no_comma t s q w e h m = ap located (member_is t s q e) ∙ on q h m ∙ ap (λ 
 abbrev more_or_end : Reader (Option (Unit {0}))
 more_or_end = ahead any (give (Some tt)) (give None)
 
-comma_is : (q w s x : List ℕ) → TakesIf (byte comma) true q w → span is_space_or_tab w ≡ Ok (s, x) → comma_at q ≡ more_or_end x
+comma_is : (q w s x : List ℕ) → TakesIf (byte comma) true q w → span is_space_or_tab w ≡ Ok (s, x)
+    → comma_at q ≡ more_or_end x
 unfolding comma_at
 comma_is q w s x m e = branch_true (byte comma) _ _ q w m ∙ bind_complete (span is_space_or_tab) _ w x s e
 
-pub comma_last : (t s q w s' x : List ℕ) → span is_space_or_tab t ≡ Ok (s, q) → TakesIf (byte comma) true q w → span is_space_or_tab w ≡ Ok (s', x) → is_some (first x) ≡ false → located (member_delimiter_at t) ≡ Err (TrailingComma, q)
+pub comma_last : (t s q w s' x : List ℕ) → span is_space_or_tab t ≡ Ok (s, q) → TakesIf (byte comma) true q w
+    → span is_space_or_tab w ≡ Ok (s', x) → is_some (first x) ≡ false
+    → located (member_delimiter_at t) ≡ Err (TrailingComma, q)
 unfolding back bind ahead give
 comma_last t s q w s' x e m k h =
     let none : comma_at q ≡ Ok (None, x) = comma_is q w s' x m k ∙ on x h in
@@ -229,7 +275,8 @@ comma_last t s q w s' x e m k h =
     on [] h = refl
     on (c ∷ x) h = absurd cc
 
-pub comma_more : (t s q w s' x : List ℕ) → span is_space_or_tab t ≡ Ok (s, q) → TakesIf (byte comma) true q w → span is_space_or_tab w ≡ Ok (s', x) → is_some (first x) ≡ true → member_delimiter_at t ≡ Ok (true, x)
+pub comma_more : (t s q w s' x : List ℕ) → span is_space_or_tab t ≡ Ok (s, q) → TakesIf (byte comma) true q w
+    → span is_space_or_tab w ≡ Ok (s', x) → is_some (first x) ≡ true → member_delimiter_at t ≡ Ok (true, x)
 unfolding back bind ahead give
 comma_more t s q w s' x e m k h =
     let some : comma_at q ≡ Ok (Some tt, x) = comma_is q w s' x m k ∙ on x h in

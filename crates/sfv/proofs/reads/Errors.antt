@@ -15,10 +15,12 @@ use Rattle.sfv_bare.specs.BareItems.{cow_text}
 use Rattle.std.specs.declared.borrow.CowStr.{CowStr}
 use Rattle.sfv.specs.declared.parser.Parser.{Parser}
 use Rattle.sfv.specs.declared.parser.cursor.Cursor.{Cursor}
-use Rattle.sfv.specs.Cursor.{kept, kept_input, kept_edition, rest, located, IsFaultOf, IsErrorOf, Reads, ReadsOrOutOfMemory}
+use Rattle.sfv.specs.Cursor.{kept, kept_input, kept_edition, rest, located, IsFaultOf, IsErrorOf, Reads}
+use Rattle.sfv.specs.Cursor.{ReadsOrOutOfMemory}
 use Rattle.sfv.specs.Texts.{display_value_of}
 
-pub fault_bind : {A B : Type 0} (f : Reader A) (g : A → Reader B) (t : List ℕ) (k : ErrorKind) (r : List ℕ) → located (f t) ≡ Err (k, r) → located ((f >>= g) t) ≡ Err (k, r)
+pub fault_bind : {A B : Type 0} (f : Reader A) (g : A → Reader B) (t : List ℕ) (k : ErrorKind) (r : List ℕ)
+    → located (f t) ≡ Err (k, r) → located ((f >>= g) t) ≡ Err (k, r)
 unfolding bind
 fault_bind {A} {B} f g t k r = on (f t)
   where
@@ -27,53 +29,79 @@ fault_bind {A} {B} f g t k r = on (f t)
     on (Err f) h = ap (λ (p : ErrorKind × List ℕ). Err p) cc
 
 -- a cursor that has kept its parser reads the same edition
-pub kept_reads : {A : Type 0} (f : Edition → Reader A) (t : List ℕ) (i j : Parser × Global) → i ≡ j → f (kept_edition j) t ≡ f (kept_edition i) t
+pub kept_reads : {A : Type 0} (f : Edition → Reader A) (t : List ℕ) (i j : Parser × Global) → i ≡ j
+    → f (kept_edition j) t ≡ f (kept_edition i) t
 kept_reads f t i j same = ap (λ (k : Parser × Global). f (kept_edition k) t) (sym same)
 
 -- a reading of a part, after which nothing stands
-pub reads_same : {X Y : Type 0} (view : X → Y) (before middle after : Cursor) (r : Result X Error) (f g : Reader Y) → kept middle ≡ kept before → g (rest before) ≡ f (rest middle) → Reads view middle after r f → Reads view before after r g
+pub reads_same : {X Y : Type 0} (view : X → Y) (before middle after : Cursor) (r : Result X Error) (f g : Reader Y)
+    → kept middle ≡ kept before → g (rest before) ≡ f (rest middle) → Reads view middle after r f
+    → Reads view before after r g
 reads_same view before middle after (Ok x) f g same eq h = (eq ∙ h.0, h.1 ∙ same)
-reads_same view before middle after (Err e) f g same eq h = rw eq (subst (λ (k : Parser × Global). IsFaultOf (kept_input k) e (f (rest middle))) same h)
+reads_same view before middle after (Err e) f g same eq h =
+    rw eq (subst (λ (k : Parser × Global). IsFaultOf (kept_input k) e (f (rest middle))) same h)
 
 -- the error at the next byte
-pub FaultOf-here : {A : Type 0} (k : ErrorKind) (p : Cursor) (i : Parser × Global) (a : Answer A) → kept p ≡ i → located a ≡ Err (k, rest p) → IsFaultOf (kept_input i) (error_of k (Some p.index)) a
-FaultOf-here k p i a same h = subst (λ (i : Parser × Global). (located a ≡ Err (k, drop p.index (kept_input i))) × (p.index ≤ length (kept_input i))) same (h, p.within)
+pub FaultOf-here : {A : Type 0} (k : ErrorKind) (p : Cursor) (i : Parser × Global) (a : Answer A) → kept p ≡ i
+    → located a ≡ Err (k, rest p) → IsFaultOf (kept_input i) (error_of k (Some p.index)) a
+FaultOf-here k p i a same h = subst (λ (i : Parser × Global). (located a ≡ Err (k, drop p.index (kept_input i)))
+    × (p.index ≤ length (kept_input i))) same (h, p.within)
 
-pub ErrorOf-here : {A : Type 0} (k : ErrorKind) (p : Cursor) (i : Parser × Global) (a : Answer A) → kept p ≡ i → located a ≡ Err (k, rest p) → IsErrorOf (kept_input i) (error_of k (Some p.index)) a
+pub ErrorOf-here : {A : Type 0} (k : ErrorKind) (p : Cursor) (i : Parser × Global) (a : Answer A) → kept p ≡ i
+    → located a ≡ Err (k, rest p) → IsErrorOf (kept_input i) (error_of k (Some p.index)) a
 ErrorOf-here k p i a same h = FaultOf-here k p i a same h
 
 -- a fault of a reading that needs no memory is one of a reading that may
 pub ErrorOf-fault : {A : Type 0} (input : List ℕ) (e : Error) (a : Answer A) → IsFaultOf input e a → IsErrorOf input e a
 ErrorOf-fault input e a = on e.index
   where
-    on : (o : Option ℕ) → MatchOption o ⊥ (λ index. (located a ≡ Err (e.kind, drop index input)) × (index ≤ length input)) → MatchOption o (e.kind ≡ OutOfMemory) (λ index. (located a ≡ Err (e.kind, drop index input)) × (index ≤ length input))
+    on : (o : Option ℕ) → MatchOption o ⊥ (λ index. (located a ≡ Err (e.kind, drop index input))
+        × (index ≤ length input)) → MatchOption o (e.kind
+        ≡ OutOfMemory) (λ index. (located a ≡ Err (e.kind, drop index input)) × (index ≤ length input))
     on None h = absurd h
     on (Some i) h = h
 
 -- the whole is that part
-pub ErrorOf-same : {A : Type 0} (i j : Parser × Global) (e : Error) (f : Edition → Reader A) (t : List ℕ) (a : Answer A) → i ≡ j → a ≡ f (kept_edition j) t → IsErrorOf (kept_input i) e (f (kept_edition i) t) → IsErrorOf (kept_input j) e a
-ErrorOf-same i j e f t a same eq h = rw eq (subst (λ (k : Parser × Global). IsErrorOf (kept_input k) e (f (kept_edition k) t)) same h)
+pub ErrorOf-same : {A : Type 0} (i j : Parser × Global) (e : Error) (f : Edition → Reader A) (t : List ℕ) (a : Answer A)
+    → i ≡ j → a ≡ f (kept_edition j) t → IsErrorOf (kept_input i) e (f (kept_edition i) t)
+    → IsErrorOf (kept_input j) e a
+ErrorOf-same i j e f t a same eq h = rw eq (subst (λ (k : Parser
+    × Global). IsErrorOf (kept_input k) e (f (kept_edition k) t)) same h)
 
 -- the whole goes on after that part
-pub ErrorOf-part : {A B : Type 0} (i j : Parser × Global) (e : Error) (f : Edition → Reader A) (g : A → Reader B) (t : List ℕ) (a : Answer B) → i ≡ j → a ≡ (f (kept_edition j) >>= g) t → IsErrorOf (kept_input i) e (f (kept_edition i) t) → IsErrorOf (kept_input j) e a
-ErrorOf-part i j e f g t a same eq h = rw eq (on e.index (subst (λ (k : Parser × Global). IsErrorOf (kept_input k) e (f (kept_edition k) t)) same h))
+pub ErrorOf-part : {A B : Type 0} (i j : Parser × Global) (e : Error) (f : Edition → Reader A) (g : A
+    → Reader B) (t : List ℕ) (a : Answer B) → i ≡ j → a ≡ (f (kept_edition j) >>= g) t
+    → IsErrorOf (kept_input i) e (f (kept_edition i) t) → IsErrorOf (kept_input j) e a
+ErrorOf-part i j e f g t a same eq h = rw eq (on e.index
+    (subst (λ (k : Parser × Global). IsErrorOf (kept_input k) e (f (kept_edition k) t)) same h))
   where
-    on : (o : Option ℕ) → MatchOption o (e.kind ≡ OutOfMemory) (λ index. (located (f (kept_edition j) t) ≡ Err (e.kind, drop index (kept_input j))) × (index ≤ length (kept_input j)))
-        → MatchOption o (e.kind ≡ OutOfMemory) (λ index. (located ((f (kept_edition j) >>= g) t) ≡ Err (e.kind, drop index (kept_input j))) × (index ≤ length (kept_input j)))
+    on : (o : Option ℕ) → MatchOption o (e.kind ≡ OutOfMemory)
+        (λ index. (located (f (kept_edition j) t) ≡ Err (e.kind, drop index (kept_input j)))
+        × (index ≤ length (kept_input j)))
+        → MatchOption o (e.kind ≡ OutOfMemory) (λ index. (located ((f (kept_edition j) >>= g) t)
+        ≡ Err (e.kind, drop index (kept_input j))) × (index ≤ length (kept_input j)))
     on None h = h
     on (Some n) h = (fault_bind (f (kept_edition j)) g t _ _ h.0, h.1)
 
 -- the whole is told as that part
-pub ErrorOf-located : {A : Type 0} (i : List ℕ) (e : Error) (a b : Answer A) → located a ≡ located b → IsErrorOf i e b → IsErrorOf i e a
+pub ErrorOf-located : {A : Type 0} (i : List ℕ) (e : Error) (a b : Answer A) → located a ≡ located b → IsErrorOf i e b
+    → IsErrorOf i e a
 ErrorOf-located i e a b eq = on e.index
   where
-    on : (o : Option ℕ) → MatchOption o (e.kind ≡ OutOfMemory) (λ index. (located b ≡ Err (e.kind, drop index i)) × (index ≤ length i)) → MatchOption o (e.kind ≡ OutOfMemory) (λ index. (located a ≡ Err (e.kind, drop index i)) × (index ≤ length i))
+    on : (o : Option ℕ) → MatchOption o (e.kind ≡ OutOfMemory) (λ index. (located b ≡ Err (e.kind, drop index i))
+        × (index ≤ length i)) → MatchOption o (e.kind ≡ OutOfMemory) (λ index. (located a ≡ Err (e.kind, drop index i))
+        × (index ≤ length i))
     on None h = h
     on (Some n) h = (eq ∙ h.0, h.1)
 
 -- a display string as a bare item, of which its text was read
-pub behind_quote : (before middle after : Cursor) (r : Result (CowStr Global) Error) → kept middle ≡ kept before → quoted_at rfc9651 (rest before) ≡ (display_at >>= λ s. give (display_string s)) (rest middle)
-    → ReadsOrOutOfMemory cow_text middle after r display_at → ReadsOrOutOfMemory display_value_of before after r (quoted_at rfc9651)
+pub behind_quote : (before middle after : Cursor) (r : Result (CowStr Global) Error) → kept middle ≡ kept before
+    → quoted_at rfc9651 (rest before) ≡ (display_at >>= λ s. give (display_string s)) (rest middle)
+    → ReadsOrOutOfMemory cow_text middle after r display_at
+    → ReadsOrOutOfMemory display_value_of before after r (quoted_at rfc9651)
 unfolding give
-behind_quote before middle after (Ok text) same eq h = (eq ∙ bind_complete display_at (λ s. give (display_string s)) _ _ _ h.0, h.1 ∙ same)
-behind_quote before middle after (Err e) same eq h = ErrorOf-part (kept middle) (kept before) e (λ _. display_at) (λ s. give (display_string s)) (rest middle) _ same eq h
+behind_quote before middle after (Ok text) same eq h =
+    (eq ∙ bind_complete display_at (λ s. give (display_string s)) _ _ _ h.0, h.1 ∙ same)
+behind_quote before middle after (Err e) same eq h =
+    ErrorOf-part (kept middle) (kept before) e (λ _. display_at) (λ s. give (display_string s)) (rest middle) _ same eq
+    h

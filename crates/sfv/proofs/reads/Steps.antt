@@ -1,36 +1,52 @@
 -- What a reader gives, by what the code found out.
-use Rattle.std.proofs.Common.{◌≡◌, ℕ, ◌+◌, ◌-◌, ◌*◌, ◌^◌, ◌<◌, ◌≤◌, Bool, true, false, eqb, ltb, List, [], ◌∷◌, length, Option, Some, None, Ok, Err, refl, sym, ap, subst, ◌∙◌, arith, suc, get_or, take, drop}
+use Rattle.std.proofs.Common.{◌≡◌, ℕ, ◌+◌, ◌-◌, ◌*◌, ◌^◌, ◌<◌, ◌≤◌, Bool, true, false, eqb, ltb, List, [], ◌∷◌, length}
+use Rattle.std.proofs.Common.{Option, Some, None, Ok, Err, refl, sym, ap, subst, ◌∙◌, arith, suc, get_or, take, drop}
 use Rattle.std.specs.Prelude.{IsTrue, ℤ, MatchOption}
 use Rattle.std.proofs.lemmas.List.{drop_more, drop-drop, length-drop}
 use Rattle.std.proofs.lemmas.Bool.{and_from}
-use Rattle.sfv_spec.specs.Ascii.{double_quote, percent_sign, minus_sign, dot, digit_zero, digit_one, colon, semicolon, equals_sign, question_mark, at_sign}
+use Rattle.sfv_spec.specs.Ascii.{double_quote, percent_sign, minus_sign, dot, digit_zero, digit_one, colon, semicolon}
+use Rattle.sfv_spec.specs.Ascii.{equals_sign, question_mark, at_sign}
 use Rattle.sfv_spec.specs.Texts.{RunOf}
-use Rattle.sfv_spec.specs.Classes.{is_digit, is_space, is_key_start, is_key_inner, is_key, is_token_start, is_token_inner, is_token}
-use Rattle.sfv_spec.specs.Values.{Edition, rfc8941, rfc9651, RawParameters, RawItem, BareValue, integer, decimal, token, boolean, date, display_string, string, byte_sequence}
+use Rattle.sfv_spec.specs.Classes.{is_digit, is_space, is_key_start, is_key_inner, is_key, is_token_start}
+use Rattle.sfv_spec.specs.Classes.{is_token_inner, is_token}
+use Rattle.sfv_spec.specs.Values.{Edition, rfc8941, rfc9651, RawParameters, RawItem, BareValue, integer, decimal, token}
+use Rattle.sfv_spec.specs.Values.{boolean, date, display_string, string, byte_sequence}
 use Rattle.sfv_base.specs.declared.error.Error.{Error}
 use Rattle.std.specs.declared.alloc.Global.{Global}
 use Rattle.sfv_base.specs.declared.error.ErrorKind.{ErrorKind}
 use Rattle.sfv_spec.specs.Numbers.{place_value, signed}
-use Rattle.sfv_base.specs.declared.error.ErrorKind.TheVariants.{ExpectedQuote, Rfc8941DisplayString, ExpectedBoolean, Rfc8941Date, NonIntegerDate, ExpectedStartOfKey, ExpectedStartOfBareItem, ExpectedDigit, TooManyDigits, TooManyDigitsBeforeDecimalPoint, TooManyDigitsAfterDecimalPoint, TrailingDecimalPoint}
-use Rattle.sfv_spec.specs.Faults.{expected_quote, non_integer_date, too_many_digits_before_decimal_point, trailing_decimal_point}
-use Rattle.sfv_reading.specs.Reader.{Answer, Reader, led, led_answer, give, fail, ruled, ◌>>=◌, branch, ahead, at_start, back, up_to, span, byte, Apart}
-use Rattle.sfv_reading.specs.Bare.{is_number_start, bare_at, boolean_at, as_date, date_at, quoted_at, sign_at, long_at, decimal_at, fraction_at, point_at, whole_at, number_at, token_at}
+use Rattle.sfv_base.specs.declared.error.ErrorKind.TheVariants.{ExpectedQuote, Rfc8941DisplayString, ExpectedBoolean}
+use Rattle.sfv_base.specs.declared.error.ErrorKind.TheVariants.{Rfc8941Date, NonIntegerDate, ExpectedStartOfKey}
+use Rattle.sfv_base.specs.declared.error.ErrorKind.TheVariants.{ExpectedStartOfBareItem, ExpectedDigit, TooManyDigits}
+use Rattle.sfv_base.specs.declared.error.ErrorKind.TheVariants.{TooManyDigitsBeforeDecimalPoint}
+use Rattle.sfv_base.specs.declared.error.ErrorKind.TheVariants.{TooManyDigitsAfterDecimalPoint, TrailingDecimalPoint}
+use Rattle.sfv_spec.specs.Faults.{expected_quote, non_integer_date, too_many_digits_before_decimal_point}
+use Rattle.sfv_spec.specs.Faults.{trailing_decimal_point}
+use Rattle.sfv_reading.specs.Reader.{Answer, Reader, led, led_answer, give, fail, ruled, ◌>>=◌, branch, ahead, at_start}
+use Rattle.sfv_reading.specs.Reader.{back, up_to, span, byte, Apart}
+use Rattle.sfv_reading.specs.Bare.{is_number_start, bare_at, boolean_at, as_date, date_at, quoted_at, sign_at, long_at}
+use Rattle.sfv_reading.specs.Bare.{decimal_at, fraction_at, point_at, whole_at, number_at, token_at}
 use Rattle.sfv_reading.specs.Quoted.{string_at, display_at}
 use Rattle.sfv_reading.specs.Content.{bytes_at}
 use Rattle.sfv_reading.specs.Items.{key_at, value_at, parameter_at, parameters_at, item_of, item_at}
 use Rattle.sfv_spec.specs.Events.{TreeEvent, bare_item}
-use Rattle.sfv_reading.proofs.complete.Combinators.{branch_past, branch_take, ahead_past, ahead_take, bind_complete, led_complete}
+use Rattle.sfv_reading.proofs.complete.Combinators.{branch_past, branch_take, ahead_past, ahead_take, bind_complete}
+use Rattle.sfv_reading.proofs.complete.Combinators.{led_complete}
 use Rattle.sfv.proofs.reads.Errors.{fault_bind}
 use Rattle.sfv.specs.declared.parser.Parser.{Parser}
 use Rattle.sfv.specs.Cursor.{kept_input, located, IsFaultOf, NextIs, TakesIf, Skips}
 
-pub ahead_true : {A : Type 0} (class : ℕ → Bool) (taken other : Reader A) (t : List ℕ) → NextIs class true t → ahead class taken other t ≡ taken t
-ahead_true class taken other t m = ap (ahead class taken other) m.2 ∙ ahead_take class taken other m.0 m.1 m.3 ∙ ap taken (sym m.2)
+pub ahead_true : {A : Type 0} (class : ℕ → Bool) (taken other : Reader A) (t : List ℕ) → NextIs class true t
+    → ahead class taken other t ≡ taken t
+ahead_true class taken other t m = ap (ahead class taken other) m.2 ∙ ahead_take class taken other m.0 m.1 m.3
+    ∙ ap taken (sym m.2)
 
-pub branch_true : {A : Type 0} (class : ℕ → Bool) (taken : ℕ → Reader A) (other : Reader A) (t r : List ℕ) → (m : TakesIf class true t r) → branch class taken other t ≡ taken m.0 r
+pub branch_true : {A : Type 0} (class : ℕ → Bool) (taken : ℕ → Reader A) (other : Reader A) (t r : List ℕ)
+    → (m : TakesIf class true t r) → branch class taken other t ≡ taken m.0 r
 branch_true class taken other t r m = ap (branch class taken other) m.1 ∙ branch_take class taken other m.0 r m.2
 
-pub branch_false : {A : Type 0} (class : ℕ → Bool) (taken : ℕ → Reader A) (other : Reader A) (t r : List ℕ) → TakesIf class false t r → branch class taken other t ≡ other r
+pub branch_false : {A : Type 0} (class : ℕ → Bool) (taken : ℕ → Reader A) (other : Reader A) (t r : List ℕ)
+    → TakesIf class false t r → branch class taken other t ≡ other r
 branch_false class taken other t r m = branch_past class taken other t m.1 ∙ ap other (sym m.0)
 
 pub sign_takes : (b : Bool) (t r : List ℕ) → TakesIf (byte minus_sign) b t r → sign_at t ≡ Ok (b, r)
@@ -40,7 +56,8 @@ sign_takes false t r m = branch_false (byte minus_sign) (λ _. give true) (give 
 
 -- ---- a number
 
-pub number_is : (dated b : Bool) (t r q whole : List ℕ) → sign_at t ≡ Ok (b, r) → up_to is_digit 15 r ≡ Ok (whole, q) → number_at dated t ≡ whole_at dated b whole q
+pub number_is : (dated b : Bool) (t r q whole : List ℕ) → sign_at t ≡ Ok (b, r) → up_to is_digit 15 r ≡ Ok (whole, q)
+    → number_at dated t ≡ whole_at dated b whole q
 unfolding number_at
 number_is dated b t r q whole s d = bind_complete _ _ t r b s ∙ bind_complete _ _ r q whole d
 
@@ -48,25 +65,33 @@ pub ruleset number_steps = number_is
 
 -- ---- after the whole part
 
-pub whole_empty : (dated negative : Bool) (whole t : List ℕ) → eqb (length whole) 0 ≡ true → located (whole_at dated negative whole t) ≡ Err (ExpectedDigit, t)
+pub whole_empty : (dated negative : Bool) (whole t : List ℕ) → eqb (length whole) 0 ≡ true
+    → located (whole_at dated negative whole t) ≡ Err (ExpectedDigit, t)
 unfolding whole_at fail
 whole_empty dated negative whole t e = rw e refl
 
-pub whole_digit : (dated negative : Bool) (whole t : List ℕ) → eqb (length whole) 0 ≡ false → NextIs is_digit true t → located (whole_at dated negative whole t) ≡ Err (TooManyDigits, t)
+pub whole_digit : (dated negative : Bool) (whole t : List ℕ) → eqb (length whole) 0 ≡ false → NextIs is_digit true t
+    → located (whole_at dated negative whole t) ≡ Err (TooManyDigits, t)
 unfolding whole_at fail
 whole_digit dated negative whole t e m = rw e (ap located (ahead_true _ _ _ t m))
 
-pub whole_integer : (dated negative : Bool) (whole t : List ℕ) → eqb (length whole) 0 ≡ false → Apart is_digit t → Apart (byte dot) t → whole_at dated negative whole t ≡ Ok (integer (signed negative (place_value whole)), t)
+pub whole_integer : (dated negative : Bool) (whole t : List ℕ) → eqb (length whole) 0 ≡ false → Apart is_digit t
+    → Apart (byte dot) t → whole_at dated negative whole t ≡ Ok (integer (signed negative (place_value whole)), t)
 unfolding whole_at give
 whole_integer dated negative whole t e m k = rw e (ahead_past _ _ _ t m ∙ ahead_past _ _ _ t k)
 
-pub whole_long : (dated negative : Bool) (whole t : List ℕ) → eqb (length whole) 0 ≡ false → Apart is_digit t → NextIs (byte dot) true t → ltb 12 (length whole) ≡ true → located (whole_at dated negative whole t) ≡ Err (TooManyDigitsBeforeDecimalPoint, t)
+pub whole_long : (dated negative : Bool) (whole t : List ℕ) → eqb (length whole) 0 ≡ false → Apart is_digit t
+    → NextIs (byte dot) true t → ltb 12 (length whole) ≡ true
+    → located (whole_at dated negative whole t) ≡ Err (TooManyDigitsBeforeDecimalPoint, t)
 unfolding whole_at fail
 whole_long dated negative whole t e m k l =
-    let long : whole_at dated negative whole t ≡ fail too_many_digits_before_decimal_point t = rw e (ahead_past _ _ _ t m ∙ ahead_true _ _ _ t k ∙ rw l refl) in
+    let long : whole_at dated negative whole t ≡ fail too_many_digits_before_decimal_point t =
+    rw e (ahead_past _ _ _ t m ∙ ahead_true _ _ _ t k ∙ rw l refl) in
     ap located long
 
-pub whole_point : (dated negative : Bool) (whole t : List ℕ) → eqb (length whole) 0 ≡ false → Apart is_digit t → NextIs (byte dot) true t → ltb 12 (length whole) ≡ false → whole_at dated negative whole t ≡ point_at dated negative whole t
+pub whole_point : (dated negative : Bool) (whole t : List ℕ) → eqb (length whole) 0 ≡ false → Apart is_digit t
+    → NextIs (byte dot) true t → ltb 12 (length whole) ≡ false
+    → whole_at dated negative whole t ≡ point_at dated negative whole t
 unfolding whole_at
 whole_point dated negative whole t e m k l = rw e (ahead_past _ _ _ t m ∙ ahead_true _ _ _ t k ∙ rw l refl)
 
@@ -75,35 +100,56 @@ pub ruleset whole_steps = (whole_empty, whole_digit, whole_integer, whole_long, 
 -- ---- at the point
 
 -- the byte that was skipped is the point
-at_point : (dated negative : Bool) (whole t r : List ℕ) → NextIs (byte dot) true t → Skips t r → point_at dated negative whole t ≡ at_start trailing_decimal_point t (fraction_at dated negative whole r)
+at_point : (dated negative : Bool) (whole t r : List ℕ) → NextIs (byte dot) true t → Skips t r
+    → point_at dated negative whole t ≡ at_start trailing_decimal_point t (fraction_at dated negative whole r)
 unfolding point_at back
 at_point dated negative whole t r m k =
     let same : m.0 ∷ m.1 ≡ k.0 ∷ r = sym m.2 ∙ k.1 in
     let after : m.1 ≡ r = cc in
-    ap (at_start trailing_decimal_point t) (branch_true (byte dot) _ _ t r (m.0, m.2 ∙ ap (λ (l : List ℕ). m.0 ∷ l) after, m.3))
+    ap (at_start trailing_decimal_point t) (branch_true (byte dot) _ _ t r (
+      m.0,
+      m.2
+          ∙ ap (λ (l : List ℕ). m.0 ∷ l) after,
+      m.3,
+    ))
 
-pub point_empty : (dated negative : Bool) (whole t r f q : List ℕ) → NextIs (byte dot) true t → Skips t r → up_to is_digit 3 r ≡ Ok (f, q) → eqb (length f) 0 ≡ true → located (point_at dated negative whole t) ≡ Err (TrailingDecimalPoint, t)
+pub point_empty : (dated negative : Bool) (whole t r f q : List ℕ) → NextIs (byte dot) true t → Skips t r
+    → up_to is_digit 3 r ≡ Ok (f, q) → eqb (length f) 0 ≡ true
+    → located (point_at dated negative whole t) ≡ Err (TrailingDecimalPoint, t)
 unfolding fraction_at decimal_at give
 point_empty dated negative whole t r f q m k d e =
     let inner : fraction_at dated negative whole r ≡ Ok (None, q) = bind_complete _ _ r q f d ∙ rw e refl in
     ap located (at_point dated negative whole t r m k ∙ ap (at_start trailing_decimal_point t) inner)
 
-long_located : (dated : Bool) (q : List ℕ) (k t : List ℕ) → located (at_start trailing_decimal_point k (long_at dated q)) ≡ Err (TooManyDigitsAfterDecimalPoint, q)
+long_located : (dated : Bool) (q : List ℕ) (k t : List ℕ)
+    → located (at_start trailing_decimal_point k (long_at dated q)) ≡ Err (TooManyDigitsAfterDecimalPoint, q)
 unfolding long_at fail ruled
 long_located true q k t = refl
 long_located false q k t = refl
 
-pub point_digit : (dated negative : Bool) (whole t r f q : List ℕ) → NextIs (byte dot) true t → Skips t r → up_to is_digit 3 r ≡ Ok (f, q) → eqb (length f) 0 ≡ false → NextIs is_digit true q → located (point_at dated negative whole t) ≡ Err (TooManyDigitsAfterDecimalPoint, q)
+pub point_digit : (dated negative : Bool) (whole t r f q : List ℕ) → NextIs (byte dot) true t → Skips t r
+    → up_to is_digit 3 r ≡ Ok (f, q) → eqb (length f) 0 ≡ false → NextIs is_digit true q
+    → located (point_at dated negative whole t) ≡ Err (TooManyDigitsAfterDecimalPoint, q)
 unfolding fraction_at decimal_at
 point_digit dated negative whole t r f q m k d e n =
-    let inner : fraction_at dated negative whole r ≡ long_at dated q = bind_complete _ _ r q f d ∙ rw e (ahead_true _ _ _ q n) in
-    ap located (at_point dated negative whole t r m k ∙ ap (at_start trailing_decimal_point t) inner) ∙ long_located dated q t t
+    let inner : fraction_at dated negative whole r ≡ long_at dated q = bind_complete _ _ r q f d
+    ∙ rw e (ahead_true _ _ _ q n) in
+    ap located (at_point dated negative whole t r m k ∙ ap (at_start trailing_decimal_point t) inner)
+    ∙ long_located dated q t t
 
-pub point_decimal : (dated negative : Bool) (whole t r f q : List ℕ) → NextIs (byte dot) true t → Skips t r → up_to is_digit 3 r ≡ Ok (f, q) → eqb (length f) 0 ≡ false → Apart is_digit q → point_at dated negative whole t ≡ Ok (decimal (signed negative (place_value whole * 1000 + place_value f * 10 ^ (3 - length f))), q)
+pub point_decimal : (dated negative : Bool) (whole t r f q : List ℕ) → NextIs (byte dot) true t → Skips t r
+    → up_to is_digit 3 r ≡ Ok (f, q) → eqb (length f) 0 ≡ false → Apart is_digit q
+    → point_at dated negative whole t ≡ Ok (
+      decimal
+          (signed negative (place_value whole * 1000 + place_value f * 10 ^ (3 - length f))),
+      q,
+    )
 unfolding fraction_at decimal_at give
 point_decimal dated negative whole t r f q m k d e n =
-    let value : BareValue = decimal (signed negative (place_value whole * 1000 + place_value f * 10 ^ (3 - length f))) in
-    let inner : fraction_at dated negative whole r ≡ Ok (Some value, q) = bind_complete _ _ r q f d ∙ rw e (ahead_past _ _ _ q n) in
+    let value : BareValue = decimal (signed negative
+    (place_value whole * 1000 + place_value f * 10 ^ (3 - length f))) in
+    let inner : fraction_at dated negative whole r ≡ Ok (Some value, q) = bind_complete _ _ r q f d
+    ∙ rw e (ahead_past _ _ _ q n) in
     at_point dated negative whole t r m k ∙ ap (at_start trailing_decimal_point t) inner
 
 pub ruleset point_steps = (point_empty, point_digit, point_decimal)
@@ -131,7 +177,8 @@ pub record IsTextAt (start inner : ℕ → Bool) (xs : List ℕ) (i len : ℕ) (
 
 -- the first byte, and the others
 text_split : (start inner : ℕ → Bool) (xs t : List ℕ) (i len : ℕ) → IsTextAt start inner xs i len t
-    → (take ((i + 1 + len) - i) (drop i xs) ≡ get_or xs i 0 ∷ take len t) × (start (get_or xs i 0) ≡ true) × (drop i xs ≡ get_or xs i 0 ∷ t) × (drop len t ≡ drop (i + 1 + len) xs)
+    → (take ((i + 1 + len) - i) (drop i xs) ≡ get_or xs i 0 ∷ take len t) × (start (get_or xs i 0) ≡ true)
+    × (drop i xs ≡ get_or xs i 0 ∷ t) × (drop len t ≡ drop (i + 1 + len) xs)
 text_split start inner xs t i len h =
     let more : drop i xs ≡ get_or xs i 0 ∷ drop (i + 1) xs = drop_more xs i 0 (meets_within start xs i h.head) in
     let split : drop i xs ≡ get_or xs i 0 ∷ t = more ∙ ap (λ (l : List ℕ). get_or xs i 0 ∷ l) (sym h.behind) in
@@ -140,25 +187,33 @@ text_split start inner xs t i len h =
     let n : (i + 1 + len) - i ≡ suc len = omega arith in
     (rw (n, split) refl, rw (← head) h.head.3, split, rw h.behind (drop-drop len (i + 1) xs))
 
-pub key_class : (xs t : List ℕ) (i len : ℕ) → IsTextAt is_key_start is_key_inner xs i len t → IsTrue (is_key (take ((i + 1 + len) - i) (drop i xs)))
+pub key_class : (xs t : List ℕ) (i len : ℕ) → IsTextAt is_key_start is_key_inner xs i len t
+    → IsTrue (is_key (take ((i + 1 + len) - i) (drop i xs)))
 key_class xs t i len h = let s = text_split _ _ xs t i len h in rw s.0 (and_from _ _ s.1 h.each)
 
-pub key_some : (xs t : List ℕ) (i len : ℕ) → IsTextAt is_key_start is_key_inner xs i len t → key_at (drop i xs) ≡ Ok (take ((i + 1 + len) - i) (drop i xs), drop (i + 1 + len) xs)
+pub key_some : (xs t : List ℕ) (i len : ℕ) → IsTextAt is_key_start is_key_inner xs i len t
+    → key_at (drop i xs) ≡ Ok (take ((i + 1 + len) - i) (drop i xs), drop (i + 1 + len) xs)
 unfolding key_at give
 key_some xs t i len h =
     let s = text_split _ _ xs t i len h in
-    let all : key_at (get_or xs i 0 ∷ t) ≡ Ok (get_or xs i 0 ∷ take len t, drop len t) = branch_take _ _ _ (get_or xs i 0) t s.1 ∙ bind_complete _ _ _ _ _ h.run in
-    ap key_at s.2 ∙ all ∙ ap (λ (r : List ℕ). Ok (get_or xs i 0 ∷ take len t, r)) s.3 ∙ ap (λ (l : List ℕ). Ok (l, drop (i + 1 + len) xs)) (sym s.0)
+    let all : key_at (get_or xs i 0 ∷ t) ≡ Ok (get_or xs i 0 ∷ take len t, drop len t) =
+    branch_take _ _ _ (get_or xs i 0) t s.1 ∙ bind_complete _ _ _ _ _ h.run in
+    ap key_at s.2 ∙ all ∙ ap (λ (r : List ℕ). Ok (get_or xs i 0 ∷ take len t, r)) s.3
+    ∙ ap (λ (l : List ℕ). Ok (l, drop (i + 1 + len) xs)) (sym s.0)
 
-pub token_class : (xs t : List ℕ) (i len : ℕ) → IsTextAt is_token_start is_token_inner xs i len t → IsTrue (is_token (take ((i + 1 + len) - i) (drop i xs)))
+pub token_class : (xs t : List ℕ) (i len : ℕ) → IsTextAt is_token_start is_token_inner xs i len t
+    → IsTrue (is_token (take ((i + 1 + len) - i) (drop i xs)))
 token_class xs t i len h = let s = text_split _ _ xs t i len h in rw s.0 (and_from _ _ s.1 h.each)
 
-pub token_some : (xs t : List ℕ) (i len : ℕ) → IsTextAt is_token_start is_token_inner xs i len t → token_at (drop i xs) ≡ Ok (token (take ((i + 1 + len) - i) (drop i xs)), drop (i + 1 + len) xs)
+pub token_some : (xs t : List ℕ) (i len : ℕ) → IsTextAt is_token_start is_token_inner xs i len t
+    → token_at (drop i xs) ≡ Ok (token (take ((i + 1 + len) - i) (drop i xs)), drop (i + 1 + len) xs)
 unfolding token_at give
 token_some xs t i len h =
     let s = text_split _ _ xs t i len h in
-    let all : token_at (get_or xs i 0 ∷ t) ≡ Ok (token (get_or xs i 0 ∷ take len t), drop len t) = branch_take _ _ _ (get_or xs i 0) t s.1 ∙ bind_complete _ _ _ _ _ h.run in
-    ap token_at s.2 ∙ all ∙ ap (λ (r : List ℕ). Ok (token (get_or xs i 0 ∷ take len t), r)) s.3 ∙ ap (λ (l : List ℕ). Ok (token l, drop (i + 1 + len) xs)) (sym s.0)
+    let all : token_at (get_or xs i 0 ∷ t) ≡ Ok (token (get_or xs i 0 ∷ take len t), drop len t) =
+    branch_take _ _ _ (get_or xs i 0) t s.1 ∙ bind_complete _ _ _ _ _ h.run in
+    ap token_at s.2 ∙ all ∙ ap (λ (r : List ℕ). Ok (token (get_or xs i 0 ∷ take len t), r)) s.3
+    ∙ ap (λ (l : List ℕ). Ok (token l, drop (i + 1 + len) xs)) (sym s.0)
 
 pub ruleset key_steps = (meets_within, key_none)
 
@@ -170,11 +225,13 @@ pub boolean_false : (t r : List ℕ) → TakesIf (byte digit_zero) true t r → 
 unfolding boolean_at give
 boolean_false t r m = branch_true _ _ _ t r m
 
-pub boolean_true : (t r q : List ℕ) → TakesIf (byte digit_zero) false t r → TakesIf (byte digit_one) true r q → boolean_at t ≡ Ok (boolean true, q)
+pub boolean_true : (t r q : List ℕ) → TakesIf (byte digit_zero) false t r → TakesIf (byte digit_one) true r q
+    → boolean_at t ≡ Ok (boolean true, q)
 unfolding boolean_at give
 boolean_true t r q m k = branch_false _ _ _ t r m ∙ branch_true _ _ _ r q k
 
-pub boolean_none : (t r q : List ℕ) → TakesIf (byte digit_zero) false t r → TakesIf (byte digit_one) false r q → located (boolean_at t) ≡ Err (ExpectedBoolean, q)
+pub boolean_none : (t r q : List ℕ) → TakesIf (byte digit_zero) false t r → TakesIf (byte digit_one) false r q
+    → located (boolean_at t) ≡ Err (ExpectedBoolean, q)
 unfolding boolean_at fail
 boolean_none t r q m k = ap located (branch_false _ _ _ t r m ∙ branch_false _ _ _ r q k)
 
@@ -186,33 +243,48 @@ pub date_older : (t : List ℕ) → located (date_at rfc8941 t) ≡ Err (Rfc8941
 unfolding date_at fail
 date_older t = refl
 
-date_is : (t r : List ℕ) → NextIs (byte at_sign) true t → Skips t r → date_at rfc9651 t ≡ at_start non_integer_date t ((number_at true >>= λ v. give (as_date v)) r)
+date_is : (t r : List ℕ) → NextIs (byte at_sign) true t → Skips t r
+    → date_at rfc9651 t ≡ at_start non_integer_date t ((number_at true >>= λ v. give (as_date v)) r)
 unfolding date_at back
 date_is t r m k =
     let same : m.0 ∷ m.1 ≡ k.0 ∷ r = sym m.2 ∙ k.1 in
     let after : m.1 ≡ r = cc in
-    ap (at_start non_integer_date t) (branch_true (byte at_sign) _ _ t r (m.0, m.2 ∙ ap (λ (l : List ℕ). m.0 ∷ l) after, m.3))
+    ap (at_start non_integer_date t) (branch_true (byte at_sign) _ _ t r (
+      m.0,
+      m.2
+          ∙ ap (λ (l : List ℕ). m.0 ∷ l) after,
+      m.3,
+    ))
 
-pub date_integer : (t r q : List ℕ) (z : ℤ) → NextIs (byte at_sign) true t → Skips t r → number_at true r ≡ Ok (integer z, q) → date_at rfc9651 t ≡ Ok (date z, q)
+pub date_integer : (t r q : List ℕ) (z : ℤ) → NextIs (byte at_sign) true t → Skips t r
+    → number_at true r ≡ Ok (integer z, q) → date_at rfc9651 t ≡ Ok (date z, q)
 unfolding give
 date_integer t r q z m k n = date_is t r m k ∙ ap (at_start non_integer_date t) (bind_complete _ _ r q (integer z) n)
 
-pub date_decimal : (t r q : List ℕ) (z : ℤ) → NextIs (byte at_sign) true t → Skips t r → number_at true r ≡ Ok (decimal z, q) → located (date_at rfc9651 t) ≡ Err (NonIntegerDate, t)
+pub date_decimal : (t r q : List ℕ) (z : ℤ) → NextIs (byte at_sign) true t → Skips t r
+    → number_at true r ≡ Ok (decimal z, q) → located (date_at rfc9651 t) ≡ Err (NonIntegerDate, t)
 unfolding give
-date_decimal t r q z m k n = ap located (date_is t r m k ∙ ap (at_start non_integer_date t) (bind_complete _ _ r q (decimal z) n))
+date_decimal t r q z m k n = ap located (date_is t r m k
+    ∙ ap (at_start non_integer_date t) (bind_complete _ _ r q (decimal z) n))
 
-start_fault : (k t s : List ℕ) (o : Answer (Option BareValue)) (kind : ErrorKind) → located o ≡ Err (kind, s) → located (at_start non_integer_date t o) ≡ Err (kind, s)
+start_fault : (k t s : List ℕ) (o : Answer (Option BareValue)) (kind : ErrorKind) → located o ≡ Err (kind, s)
+    → located (at_start non_integer_date t o) ≡ Err (kind, s)
 start_fault k t s (Ok x) kind h = absurd cc
 start_fault k t s (Err f) kind h = ap (λ (p : ErrorKind × List ℕ). Err p) cc
 
-date_faulty : (t r : List ℕ) (kind : ErrorKind) (s : List ℕ) → NextIs (byte at_sign) true t → Skips t r → located (number_at true r) ≡ Err (kind, s) → located (date_at rfc9651 t) ≡ Err (kind, s)
+date_faulty : (t r : List ℕ) (kind : ErrorKind) (s : List ℕ) → NextIs (byte at_sign) true t → Skips t r
+    → located (number_at true r) ≡ Err (kind, s) → located (date_at rfc9651 t) ≡ Err (kind, s)
 date_faulty t r kind s m k n = ap located (date_is t r m k) ∙ start_fault t t s _ kind (fault_bind _ _ r kind s n)
 
-pub date_fault : (t r : List ℕ) (i j : Parser × Global) (e : Error) → NextIs (byte at_sign) true t → Skips t r → i ≡ j → IsFaultOf (kept_input i) e (number_at true r) → IsFaultOf (kept_input j) e (date_at rfc9651 t)
-date_fault t r i j e m k same h = subst (λ (i : Parser × Global). IsFaultOf (kept_input i) e (date_at rfc9651 t)) same (on e.index h)
+pub date_fault : (t r : List ℕ) (i j : Parser × Global) (e : Error) → NextIs (byte at_sign) true t → Skips t r → i ≡ j
+    → IsFaultOf (kept_input i) e (number_at true r) → IsFaultOf (kept_input j) e (date_at rfc9651 t)
+date_fault t r i j e m k same h = subst (λ (i : Parser
+    × Global). IsFaultOf (kept_input i) e (date_at rfc9651 t)) same (on e.index h)
   where
-    on : (o : Option ℕ) → MatchOption o ⊥ (λ index. (located (number_at true r) ≡ Err (e.kind, drop index (kept_input i))) × (index ≤ length (kept_input i)))
-        → MatchOption o ⊥ (λ index. (located (date_at rfc9651 t) ≡ Err (e.kind, drop index (kept_input i))) × (index ≤ length (kept_input i)))
+    on : (o : Option ℕ) → MatchOption o ⊥ (λ index. (located (number_at true r)
+        ≡ Err (e.kind, drop index (kept_input i))) × (index ≤ length (kept_input i)))
+        → MatchOption o ⊥ (λ index. (located (date_at rfc9651 t) ≡ Err (e.kind, drop index (kept_input i)))
+        × (index ≤ length (kept_input i)))
     on None h = h
     on (Some i) h = (date_faulty t r _ _ m k h.0, h.1)
 
@@ -222,18 +294,22 @@ pub quoted_older : (t : List ℕ) → located (quoted_at rfc8941 t) ≡ Err (Rfc
 unfolding quoted_at fail
 quoted_older t = refl
 
-quoted_is : (t r : List ℕ) → NextIs (byte percent_sign) true t → Skips t r → quoted_at rfc9651 t ≡ branch (byte double_quote) (λ _. display_at >>= λ s. give (display_string s)) (fail expected_quote) r
+quoted_is : (t r : List ℕ) → NextIs (byte percent_sign) true t → Skips t r
+    → quoted_at rfc9651 t ≡ branch (byte double_quote) (λ _. display_at
+    >>= λ s. give (display_string s)) (fail expected_quote) r
 unfolding quoted_at
 quoted_is t r m k =
     let same : m.0 ∷ m.1 ≡ k.0 ∷ r = sym m.2 ∙ k.1 in
     let after : m.1 ≡ r = cc in
     branch_true (byte percent_sign) _ _ t r (m.0, m.2 ∙ ap (λ (l : List ℕ). m.0 ∷ l) after, m.3)
 
-pub quoted_no_quote : (t r q : List ℕ) → NextIs (byte percent_sign) true t → Skips t r → TakesIf (byte double_quote) false r q → located (quoted_at rfc9651 t) ≡ Err (ExpectedQuote, q)
+pub quoted_no_quote : (t r q : List ℕ) → NextIs (byte percent_sign) true t → Skips t r
+    → TakesIf (byte double_quote) false r q → located (quoted_at rfc9651 t) ≡ Err (ExpectedQuote, q)
 unfolding fail
 quoted_no_quote t r q m k n = ap located (quoted_is t r m k ∙ branch_false _ _ _ r q n)
 
-pub quoted_reads : (t r q : List ℕ) → NextIs (byte percent_sign) true t → Skips t r → TakesIf (byte double_quote) true r q → quoted_at rfc9651 t ≡ (display_at >>= λ s. give (display_string s)) q
+pub quoted_reads : (t r q : List ℕ) → NextIs (byte percent_sign) true t → Skips t r
+    → TakesIf (byte double_quote) true r q → quoted_at rfc9651 t ≡ (display_at >>= λ s. give (display_string s)) q
 quoted_reads t r q m k n = quoted_is t r m k ∙ branch_true _ _ _ r q n
 
 pub ruleset quoted_steps = quoted_older
@@ -242,11 +318,13 @@ pub ruleset date_steps = date_older
 
 -- ---- bare items
 
-pub bare_boolean : (edition : Edition) (t r : List ℕ) → TakesIf (byte question_mark) true t r → bare_at edition t ≡ boolean_at r
+pub bare_boolean : (edition : Edition) (t r : List ℕ) → TakesIf (byte question_mark) true t r
+    → bare_at edition t ≡ boolean_at r
 unfolding bare_at
 bare_boolean edition t r m = branch_true _ _ _ t r m
 
-pub bare_string : (edition : Edition) (t r q : List ℕ) → TakesIf (byte question_mark) false t r → TakesIf (byte double_quote) true r q → bare_at edition t ≡ (string_at >>= λ s. give (string s)) q
+pub bare_string : (edition : Edition) (t r q : List ℕ) → TakesIf (byte question_mark) false t r
+    → TakesIf (byte double_quote) true r q → bare_at edition t ≡ (string_at >>= λ s. give (string s)) q
 unfolding bare_at
 bare_string edition t r q m k = branch_false _ _ _ t r m ∙ branch_true _ _ _ r q k
 
@@ -256,35 +334,46 @@ pub record NoOpener (t r q w : List ℕ) : Type 0 where
   pub no_string : TakesIf (byte double_quote) false r q
   pub no_bytes : TakesIf (byte colon) false q w
 
-pub bare_bytes : (edition : Edition) (t r q w : List ℕ) → TakesIf (byte question_mark) false t r → TakesIf (byte double_quote) false r q → TakesIf (byte colon) true q w → bare_at edition t ≡ (bytes_at >>= λ s. give (byte_sequence s)) w
+pub bare_bytes : (edition : Edition) (t r q w : List ℕ) → TakesIf (byte question_mark) false t r
+    → TakesIf (byte double_quote) false r q → TakesIf (byte colon) true q w
+    → bare_at edition t ≡ (bytes_at >>= λ s. give (byte_sequence s)) w
 unfolding bare_at
 bare_bytes edition t r q w m k n = branch_false _ _ _ t r m ∙ branch_false _ _ _ r q k ∙ branch_true _ _ _ q w n
 
 others : (edition : Edition) → Reader BareValue
-others edition = ahead (byte at_sign) (date_at edition) (ahead (byte percent_sign) (quoted_at edition) (ahead is_number_start (number_at false) token_at))
+others edition = ahead (byte at_sign) (date_at edition)
+    (ahead (byte percent_sign) (quoted_at edition) (ahead is_number_start (number_at false) token_at))
 
 bare_others : (edition : Edition) (t r q w : List ℕ) → NoOpener t r q w → bare_at edition t ≡ others edition w
 unfolding bare_at others
-bare_others edition t r q w h = branch_false _ _ _ t r h.no_boolean ∙ branch_false _ _ _ r q h.no_string ∙ branch_false _ _ _ q w h.no_bytes
+bare_others edition t r q w h = branch_false _ _ _ t r h.no_boolean ∙ branch_false _ _ _ r q h.no_string
+    ∙ branch_false _ _ _ q w h.no_bytes
 
-pub bare_date : (edition : Edition) (t r q w : List ℕ) → NoOpener t r q w → NextIs (byte at_sign) true w → bare_at edition t ≡ date_at edition w
+pub bare_date : (edition : Edition) (t r q w : List ℕ) → NoOpener t r q w → NextIs (byte at_sign) true w
+    → bare_at edition t ≡ date_at edition w
 unfolding others
 bare_date edition t r q w h m = bare_others edition t r q w h ∙ ahead_true _ _ _ w m
 
-pub bare_quoted : (edition : Edition) (t r q w : List ℕ) → NoOpener t r q w → Apart (byte at_sign) w → NextIs (byte percent_sign) true w → bare_at edition t ≡ quoted_at edition w
+pub bare_quoted : (edition : Edition) (t r q w : List ℕ) → NoOpener t r q w → Apart (byte at_sign) w
+    → NextIs (byte percent_sign) true w → bare_at edition t ≡ quoted_at edition w
 unfolding others
 bare_quoted edition t r q w h m k = bare_others edition t r q w h ∙ ahead_past _ _ _ w m ∙ ahead_true _ _ _ w k
 
-pub bare_number : (edition : Edition) (t r q w : List ℕ) → NoOpener t r q w → Apart (byte at_sign) w → Apart (byte percent_sign) w → NextIs is_number_start true w → bare_at edition t ≡ number_at false w
+pub bare_number : (edition : Edition) (t r q w : List ℕ) → NoOpener t r q w → Apart (byte at_sign) w
+    → Apart (byte percent_sign) w → NextIs is_number_start true w → bare_at edition t ≡ number_at false w
 unfolding others
-bare_number edition t r q w h m k n = bare_others edition t r q w h ∙ ahead_past _ _ _ w m ∙ ahead_past _ _ _ w k ∙ ahead_true _ _ _ w n
+bare_number edition t r q w h m k n = bare_others edition t r q w h ∙ ahead_past _ _ _ w m ∙ ahead_past _ _ _ w k
+    ∙ ahead_true _ _ _ w n
 
-pub bare_token : (edition : Edition) (t r q w : List ℕ) → NoOpener t r q w → Apart (byte at_sign) w → Apart (byte percent_sign) w → Apart is_number_start w → bare_at edition t ≡ token_at w
+pub bare_token : (edition : Edition) (t r q w : List ℕ) → NoOpener t r q w → Apart (byte at_sign) w
+    → Apart (byte percent_sign) w → Apart is_number_start w → bare_at edition t ≡ token_at w
 unfolding others
-bare_token edition t r q w h m k n = bare_others edition t r q w h ∙ ahead_past _ _ _ w m ∙ ahead_past _ _ _ w k ∙ ahead_past _ _ _ w n
+bare_token edition t r q w h m k n = bare_others edition t r q w h ∙ ahead_past _ _ _ w m ∙ ahead_past _ _ _ w k
+    ∙ ahead_past _ _ _ w n
 
 -- what is read of a part and then given on
-pub given : {A B : Type 0} (f : Reader A) (view : A → B) (t r : List ℕ) (v : A) → f t ≡ Ok (v, r) → (f >>= λ s. give (view s)) t ≡ Ok (view v, r)
+pub given : {A B : Type 0} (f : Reader A) (view : A → B) (t r : List ℕ) (v : A) → f t ≡ Ok (v, r)
+    → (f >>= λ s. give (view s)) t ≡ Ok (view v, r)
 unfolding give
 given f view t r v e = bind_complete f _ t r v e
 
@@ -292,31 +381,41 @@ pub ruleset bare_steps = bare_boolean
 
 -- ---- parameters
 
-pub value_given : (edition : Edition) (t r : List ℕ) → TakesIf (byte equals_sign) true t r → value_at edition t ≡ bare_at edition r
+pub value_given : (edition : Edition) (t r : List ℕ) → TakesIf (byte equals_sign) true t r
+    → value_at edition t ≡ bare_at edition r
 unfolding value_at
 value_given edition t r m = branch_true _ _ _ t r m
 
-pub value_left_out : (edition : Edition) (t r : List ℕ) → TakesIf (byte equals_sign) false t r → value_at edition t ≡ Ok (boolean true, r)
+pub value_left_out : (edition : Edition) (t r : List ℕ) → TakesIf (byte equals_sign) false t r
+    → value_at edition t ≡ Ok (boolean true, r)
 unfolding value_at give
 value_left_out edition t r m = branch_false _ _ _ t r m
 
 pub ruleset value_steps = (value_given, value_left_out)
 
-pub parameter_none : (edition : Edition) (t r : List ℕ) → TakesIf (byte semicolon) false t r → parameter_at edition t ≡ Ok (None, r)
+pub parameter_none : (edition : Edition) (t r : List ℕ) → TakesIf (byte semicolon) false t r
+    → parameter_at edition t ≡ Ok (None, r)
 unfolding parameter_at give
 parameter_none edition t r m = branch_false _ _ _ t r m
 
 -- after the semicolon and spaces
-pub parameter_is : (edition : Edition) (t r s q : List ℕ) → TakesIf (byte semicolon) true t r → span is_space r ≡ Ok (s, q) → parameter_at edition t ≡ (key_at >>= λ key. value_at edition >>= λ v. give (Some (key, v))) q
+pub parameter_is : (edition : Edition) (t r s q : List ℕ) → TakesIf (byte semicolon) true t r
+    → span is_space r ≡ Ok (s, q) → parameter_at edition t
+    ≡ (key_at >>= λ key. value_at edition >>= λ v. give (Some (key, v))) q
 unfolding parameter_at
 parameter_is edition t r s q m i = branch_true _ _ _ t r m ∙ bind_complete _ _ r q s i
 
-pub parameter_keyed : (edition : Edition) (t r s q key w : List ℕ) → TakesIf (byte semicolon) true t r → span is_space r ≡ Ok (s, q) → key_at q ≡ Ok (key, w) → parameter_at edition t ≡ (value_at edition >>= λ v. give (Some (key, v))) w
+pub parameter_keyed : (edition : Edition) (t r s q key w : List ℕ) → TakesIf (byte semicolon) true t r
+    → span is_space r ≡ Ok (s, q) → key_at q ≡ Ok (key, w)
+    → parameter_at edition t ≡ (value_at edition >>= λ v. give (Some (key, v))) w
 parameter_keyed edition t r s q key w m i k = parameter_is edition t r s q m i ∙ bind_complete _ _ q w key k
 
-pub parameter_some : (edition : Edition) (t r s q key w x : List ℕ) (v : BareValue) → TakesIf (byte semicolon) true t r → span is_space r ≡ Ok (s, q) → key_at q ≡ Ok (key, w) → value_at edition w ≡ Ok (v, x) → parameter_at edition t ≡ Ok (Some (key, v), x)
+pub parameter_some : (edition : Edition) (t r s q key w x : List ℕ) (v : BareValue) → TakesIf (byte semicolon) true t r
+    → span is_space r ≡ Ok (s, q) → key_at q ≡ Ok (key, w) → value_at edition w ≡ Ok (v, x)
+    → parameter_at edition t ≡ Ok (Some (key, v), x)
 unfolding give
-parameter_some edition t r s q key w x v m i k e = parameter_keyed edition t r s q key w m i k ∙ bind_complete _ _ w x v e
+parameter_some edition t r s q key w x v m i k e = parameter_keyed edition t r s q key w m i k
+    ∙ bind_complete _ _ w x v e
 
 pub ruleset parameter_steps = parameter_none
 
@@ -334,10 +433,18 @@ located_led : {A : Type 0} (es : List TreeEvent) (a : Answer A) → located (led
 located_led es (Ok x) = refl
 located_led es (Err f) = refl
 
-pub item_located : (edition : Edition) (t r : List ℕ) (bare : BareValue) → bare_at edition t ≡ Ok (bare, r) → located (item_at edition t) ≡ located ((parameters_at edition >>= λ ps. give (item_of bare ps)) r)
+pub item_located : (edition : Edition) (t r : List ℕ) (bare : BareValue) → bare_at edition t ≡ Ok (bare, r)
+    → located (item_at edition t) ≡ located ((parameters_at edition >>= λ ps. give (item_of bare ps)) r)
 unfolding item_behind led
-item_located edition t r bare e = ap located (item_is edition t ∙ bind_complete (bare_at edition) (item_behind edition) t r bare e) ∙ located_led (bare_item bare ∷ []) ((parameters_at edition >>= λ ps. give (item_of bare ps)) r)
+item_located edition t r bare e = ap located (item_is edition t
+    ∙ bind_complete (bare_at edition) (item_behind edition) t r bare e)
+    ∙ located_led (bare_item bare ∷ []) ((parameters_at edition >>= λ ps. give (item_of bare ps)) r)
 
-pub item_some : (edition : Edition) (t r q : List ℕ) (bare : BareValue) (ps : RawParameters) → bare_at edition t ≡ Ok (bare, r) → parameters_at edition r ≡ Ok (ps, q) → item_at edition t ≡ Ok (item_of bare ps, q)
+pub item_some : (edition : Edition) (t r q : List ℕ) (bare : BareValue) (ps : RawParameters)
+    → bare_at edition t ≡ Ok (bare, r) → parameters_at edition r ≡ Ok (ps, q)
+    → item_at edition t ≡ Ok (item_of bare ps, q)
 unfolding item_behind give
-item_some edition t r q bare ps e k = item_is edition t ∙ bind_complete (bare_at edition) (item_behind edition) t r bare e ∙ led_complete (bare_item bare ∷ []) (parameters_at edition >>= λ ps. give (item_of bare ps)) r q (item_of bare ps) (bind_complete _ _ r q ps k)
+item_some edition t r q bare ps e k = item_is edition t
+    ∙ bind_complete (bare_at edition) (item_behind edition) t r bare e
+    ∙ led_complete (bare_item bare ∷ []) (parameters_at edition
+    >>= λ ps. give (item_of bare ps)) r q (item_of bare ps) (bind_complete _ _ r q ps k)

@@ -13,7 +13,8 @@ table_symbol c l = agree_below_at (λ c. not (get_or VALUES c 0 == 255)) is_symb
 
 table_agrees : (c : ℕ) → c < 256 → (not (is_symbol c) || get_or VALUES c 0 == symbol_value c) ≡ true
 unfolding is_symbol symbol_value
-table_agrees c l = agree_below_at (λ c. not (is_symbol c) || get_or VALUES c 0 == symbol_value c) (λ _. true) 256 c refl l
+table_agrees c l = agree_below_at (λ c. not (is_symbol c) || get_or VALUES c 0 == symbol_value c) (λ _. true) 256 c refl
+    l
 
 pub table_value : (c : ℕ) → c < 256 → is_symbol c ≡ true → get_or VALUES c 0 ≡ symbol_value c
 table_value c l h = let t = rw h at (table_agrees c l) in eqb-true _ _ t

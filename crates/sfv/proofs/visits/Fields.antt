@@ -1,9 +1,11 @@
 -- What is visited of a whole field.
-use Rattle.std.proofs.Common.{◌≡◌, ℕ, ◌≤◌, List, [], ◌∷◌, ◌++◌, length, drop, Option, Some, None, Result, Ok, Err, refl, sym, ap, subst, ◌∙◌, inl, inr}
+use Rattle.std.proofs.Common.{◌≡◌, ℕ, ◌≤◌, List, [], ◌∷◌, ◌++◌, length, drop, Option, Some, None, Result, Ok, Err, refl}
+use Rattle.std.proofs.Common.{sym, ap, subst, ◌∙◌, inl, inr}
 use Rattle.std.specs.Prelude.{⊤, Bool, true, false, MatchOption, IfOk, IfErr, flat_map, ◌⊎◌}
 use Rattle.std.specs.declared.alloc.Global.{Global}
 use Rattle.sfv_spec.specs.Classes.{is_space}
-use Rattle.sfv_spec.specs.Values.{Edition, FieldKind, item_field, list_field, dictionary_field, RawField, RawItem, IsFieldValue}
+use Rattle.sfv_spec.specs.Values.{Edition, FieldKind, item_field, list_field, dictionary_field, RawField, RawItem}
+use Rattle.sfv_spec.specs.Values.{IsFieldValue}
 use Rattle.sfv_spec.specs.Grammar.{IsFieldText}
 use Rattle.sfv_spec.specs.Events.{TreeEvent, events, item_events}
 use Rattle.sfv_spec.specs.Visiting.{RunsTo, IsVisitorError, IsEarlyVisitorError}
@@ -35,30 +37,41 @@ use Rattle.sfv.proofs.visits.Whole.{spaced, field_error, ending_located}
 use Rattle.sfv.proofs.Parsed.{reader_fault}
 use Rattle.sfv.proofs.reads.Delimiters.{span_total}
 
-whole_is : (edition : Edition) (t s r : List ℕ) → span is_space t ≡ Ok (s, r) → whole_field_at edition item_field t ≡ spaced edition r
+whole_is : (edition : Edition) (t s r : List ℕ) → span is_space t ≡ Ok (s, r)
+    → whole_field_at edition item_field t ≡ spaced edition r
 unfolding whole_field_at spaced
 whole_is edition t s r e = bind_complete (span is_space) _ t r s e
 
-whole_some : (edition : Edition) (t s r q : List ℕ) (raw : RawItem) → span is_space t ≡ Ok (s, r) → item_at edition r ≡ Ok (raw, q) → (w : List ℕ) × (whole_field_at edition item_field t ≡ Ok (raw, w))
+whole_some : (edition : Edition) (t s r q : List ℕ) (raw : RawItem) → span is_space t ≡ Ok (s, r)
+    → item_at edition r ≡ Ok (raw, q) → (w : List ℕ) × (whole_field_at edition item_field t ≡ Ok (raw, w))
 unfolding spaced give
 whole_some edition t s r q raw e k =
-    let h = span_total is_space q in
-    (h.1, whole_is edition t s r e ∙ bind_complete (item_at edition) _ r q raw k ∙ bind_complete (span is_space) _ q h.1 h.0 h.2)
+    let h = span_total is_space q in (
+      h.1,
+      whole_is edition t s r e ∙ bind_complete (item_at edition) _ r q raw k
+          ∙ bind_complete (span is_space) _ q h.1 h.0 h.2,
+    )
 
-whole_fault : (edition : Edition) (t s r : List ℕ) (f : Fault) → span is_space t ≡ Ok (s, r) → item_at edition r ≡ Err f → whole_field_at edition item_field t ≡ Err f
+whole_fault : (edition : Edition) (t s r : List ℕ) (f : Fault) → span is_space t ≡ Ok (s, r) → item_at edition r ≡ Err f
+    → whole_field_at edition item_field t ≡ Err f
 unfolding spaced bind
 whole_fault edition t s r f e k = whole_is edition t s r e ∙ ap (λ a. and_then a (λ i. span is_space >>= λ _. give i)) k
 
 -- the spaces before and after an item hand out nothing
-whole_visited : (edition : Edition) (t s r : List ℕ) → span is_space t ≡ Ok (s, r) → visited (events item_field) (whole_field_at edition item_field t) ≡ visited item_events (item_at edition r)
+whole_visited : (edition : Edition) (t s r : List ℕ) → span is_space t ≡ Ok (s, r)
+    → visited (events item_field) (whole_field_at edition item_field t) ≡ visited item_events (item_at edition r)
 whole_visited edition t s r e = on (item_at edition r) refl
   where
-    on : (a : Answer RawItem) → item_at edition r ≡ a → visited (events item_field) (whole_field_at edition item_field t) ≡ visited item_events a
+    on : (a : Answer RawItem) → item_at edition r ≡ a
+        → visited (events item_field) (whole_field_at edition item_field t) ≡ visited item_events a
     on (Ok x) k = ap (visited (events item_field)) (whole_some edition t s r x.1 x.0 e k).1
     on (Err f) k = ap (visited (events item_field)) (whole_fault edition t s r f e k)
 
 -- a refusal within the item
-pub whole_failed : {S E : Type 0} (takes : S → TreeEvent → S → Type 0) (fails : S → TreeEvent → E → Type 0) (edition : Edition) (t s r : List ℕ) (from : S) (fault : E) → span is_space t ≡ Ok (s, r) → VisitorFails takes fails item_events (item_at edition r) from fault → VisitorFails takes fails (events item_field) (whole_field_at edition item_field t) from fault
+pub whole_failed : {S E : Type 0} (takes : S → TreeEvent → S → Type 0) (fails : S → TreeEvent → E
+    → Type 0) (edition : Edition) (t s r : List ℕ) (from : S) (fault : E) → span is_space t ≡ Ok (s, r)
+    → VisitorFails takes fails item_events (item_at edition r) from fault
+    → VisitorFails takes fails (events item_field) (whole_field_at edition item_field t) from fault
 whole_failed takes fails edition t s r from fault e h = record {
   before = h.before;
   e = h.e;
@@ -79,16 +92,21 @@ same_value {A} a v w q r e h =
     ap (λ (p : A × List ℕ). p.0) parts
 
 -- what was read is no fault
-no_fault : {A : Type 0} (a : Answer A) (v : A) (q : List ℕ) (k : ErrorKind) (r : List ℕ) → a ≡ Ok (v, q) → located a ≡ Err (k, r) → ⊥
+no_fault : {A : Type 0} (a : Answer A) (v : A) (q : List ℕ) (k : ErrorKind) (r : List ℕ) → a ≡ Ok (v, q)
+    → located a ≡ Err (k, r) → ⊥
 no_fault (Ok x) v q k r e h = absurd cc
 no_fault (Err f) v q k r e h = absurd cc
 
-fault_of_whole : (edition : Edition) (kind : FieldKind) (t : List ℕ) (k : ErrorKind) (r : List ℕ) → located (whole_field_at edition kind t) ≡ Err (k, r) → located_whole (read_field edition kind t) ≡ Err (k, r)
+fault_of_whole : (edition : Edition) (kind : FieldKind) (t : List ℕ) (k : ErrorKind) (r : List ℕ)
+    → located (whole_field_at edition kind t) ≡ Err (k, r) → located_whole (read_field edition kind t) ≡ Err (k, r)
 unfolding read_field
 fault_of_whole edition kind t k r h = ending_located (events kind) (whole_field_at edition kind t) k r h
 
 -- an item whose reading fails is none
-no_item : {S O : Type 0} (takes : S → TreeEvent → S → Type 0) (finishes : S → O → Type 0) (edition : Edition) (t s r q : List ℕ) (from : S) (i : List ℕ) (e : Error) (raw : RawItem) → span is_space t ≡ Ok (s, r) → IsErrorOf i e (item_at edition r) → whole_field_at edition item_field t ≡ Ok (raw, q)
+no_item : {S O : Type 0} (takes : S → TreeEvent → S → Type 0) (finishes : S → O
+    → Type 0) (edition : Edition) (t s r q : List ℕ) (from : S) (i : List ℕ) (e : Error) (raw : RawItem)
+    → span is_space t ≡ Ok (s, r) → IsErrorOf i e (item_at edition r)
+    → whole_field_at edition item_field t ≡ Ok (raw, q)
     → MatchOption (index_of e) ⊤ (λ index. (s : S) × (out : O) × RunsTo takes from (item_events raw) s × finishes s out)
 no_item {S} {O} takes finishes edition t s r q from i e raw skipped error whole = on (index_of e) error
   where
@@ -96,15 +114,22 @@ no_item {S} {O} takes finishes edition t s r q from i e raw skipped error whole 
     never (Ok x) k rest h n = absurd cc
     never (Err f) k rest h n = let w = sym (whole_fault edition t s r f skipped h) ∙ whole in absurd cc
 
-    on : (o : Option ℕ) → MatchOption o (kind_of e ≡ OutOfMemory) (λ index. (located (item_at edition r) ≡ Err (kind_of e, drop index i)) × (index ≤ length i)) → MatchOption o ⊤ (λ index. (s : S) × (out : O) × RunsTo takes from (item_events raw) s × finishes s out)
+    on : (o : Option ℕ) → MatchOption o (kind_of e
+        ≡ OutOfMemory) (λ index. (located (item_at edition r) ≡ Err (kind_of e, drop index i)) × (index ≤ length i))
+        → MatchOption o ⊤ (λ index. (s : S) × (out : O) × RunsTo takes from (item_events raw) s × finishes s out)
     on None h = tt
     on (Some n) h = absurd (never (item_at edition r) _ _ refl h.0)
 
 -- what stands after an item is looked at after the answer
-pub finished_first : {S O : Type 0} (takes : S → TreeEvent → S → Type 0) (finishes : S → O → Type 0) (edition : Edition) (t s r q : List ℕ) (item : RawItem) (from to : S) (out : O) (e : Error) → span is_space t ≡ Ok (s, r) → item_at edition r ≡ Ok (item, q) → RunsTo takes from (item_events item) to → finishes to out → IsFinishedFirst takes finishes edition item_field t from e
-finished_first {S} {O} takes finishes edition t s r q item from to out e skipped read run finished raw w whole = on (index_of e)
+pub finished_first : {S O : Type 0} (takes : S → TreeEvent → S → Type 0) (finishes : S → O
+    → Type 0) (edition : Edition) (t s r q : List ℕ) (item : RawItem) (from to : S) (out : O) (e : Error)
+    → span is_space t ≡ Ok (s, r) → item_at edition r ≡ Ok (item, q) → RunsTo takes from (item_events item) to
+    → finishes to out → IsFinishedFirst takes finishes edition item_field t from e
+finished_first {S} {O} takes finishes edition t s r q item from to out e skipped read run finished raw w whole =
+    on (index_of e)
   where
-    on : (o : Option ℕ) → MatchOption o ⊤ (λ index. (s : S) × (out : O) × RunsTo takes from (item_events raw) s × finishes s out)
+    on : (o : Option ℕ) → MatchOption o ⊤ (λ index. (s : S) × (out : O) × RunsTo takes from (item_events raw) s
+        × finishes s out)
     on None = tt
     on (Some n) =
         let there = whole_some edition t s r q item skipped read in
@@ -112,16 +137,28 @@ finished_first {S} {O} takes finishes edition t s r q item from to out e skipped
         (to, out, subst (λ (i : RawItem). RunsTo takes from (item_events i) to) same run, finished)
 
 -- an error within the item: a fault, or the visitor fails
-pub item_fails : {S O E : Type 0} (takes : S → TreeEvent → S → Type 0) (fails : S → TreeEvent → E → Type 0) (finishes : S → O → Type 0) (finish_fails : S → E → Type 0) (edition : Edition) (k : Parser × Global) (s r : List ℕ) (from to : S) (after : Cursor) (error : ParseError E) → span is_space (kept_input k) ≡ Ok (s, r)
-    → VisitsAnswer takes fails item_events k after from to (Err error) (item_at edition r) → VisitsField takes fails finishes finish_fails edition item_field (kept_input k) from (Err error)
-item_fails takes fails finishes finish_fails edition k s r from to after (Syntax e) skipped h =
-    (field_error edition (kept_input k) s r (kept_input k) e skipped h, λ raw q whole. no_item takes finishes edition (kept_input k) s r q from (kept_input k) e raw skipped h whole)
-item_fails takes fails finishes finish_fails edition k s r from to after (Visitor f) skipped h = inl (whole_failed takes fails edition (kept_input k) s r from f skipped h)
+pub item_fails : {S O E : Type 0} (takes : S → TreeEvent → S → Type 0) (fails : S → TreeEvent → E
+    → Type 0) (finishes : S → O → Type 0) (finish_fails : S → E
+    → Type 0) (edition : Edition) (k : Parser × Global) (s r : List ℕ) (from to : S) (after : Cursor)
+    (error : ParseError E) → span is_space (kept_input k) ≡ Ok (s, r)
+    → VisitsAnswer takes fails item_events k after from to (Err error) (item_at edition r)
+    → VisitsField takes fails finishes finish_fails edition item_field (kept_input k) from (Err error)
+item_fails takes fails finishes finish_fails edition k s r from to after (Syntax e) skipped h = (
+  field_error edition (kept_input k) s r (kept_input k) e skipped h,
+  λ raw q whole. no_item takes finishes edition (kept_input k) s r q from (kept_input k) e raw skipped h whole,
+)
+item_fails takes fails finishes finish_fails edition k s r from to after (Visitor f) skipped h =
+    inl (whole_failed takes fails edition (kept_input k) s r from f skipped h)
 
 -- the visitor fails to answer after the item
-pub finish_failed : {S O E : Type 0} (takes : S → TreeEvent → S → Type 0) (fails : S → TreeEvent → E → Type 0) (finishes : S → O → Type 0) (finish_fails : S → E → Type 0) (edition : Edition) (t s r q : List ℕ) (raw : RawItem) (from to : S) (error : ParseError E) → span is_space t ≡ Ok (s, r) → item_at edition r ≡ Ok (raw, q) → RunsTo takes from (item_events raw) to → IsOfVisitor (finish_fails to) error
+pub finish_failed : {S O E : Type 0} (takes : S → TreeEvent → S → Type 0) (fails : S → TreeEvent → E
+    → Type 0) (finishes : S → O → Type 0) (finish_fails : S → E
+    → Type 0) (edition : Edition) (t s r q : List ℕ) (raw : RawItem) (from to : S) (error : ParseError E)
+    → span is_space t ≡ Ok (s, r) → item_at edition r ≡ Ok (raw, q) → RunsTo takes from (item_events raw) to
+    → IsOfVisitor (finish_fails to) error
     → VisitsField takes fails finishes finish_fails edition item_field t from (Err error)
-finish_failed takes fails finishes finish_fails edition t s r q raw from to (Syntax e) skipped k run failed = absurd failed
+finish_failed takes fails finishes finish_fails edition t s r q raw from to (Syntax e) skipped k run failed =
+    absurd failed
 finish_failed takes fails finishes finish_fails edition t s r q raw from to (Visitor fault) skipped k run failed =
     let whole = whole_some edition t s r q raw skipped k in
     inr (raw, whole.0, to, whole.1, run, failed, tt)
@@ -129,48 +166,84 @@ finish_failed takes fails finishes finish_fails edition t s r q raw from to (Vis
 -- ---- members, up to the end
 
 -- an error within the field: a fault, or the visitor fails
-pub field_fails : {S O E : Type 0} (takes : S → TreeEvent → S → Type 0) (fails : S → TreeEvent → E → Type 0) (finishes : S → O → Type 0) (finish_fails : S → E → Type 0) (edition : Edition) (kind : FieldKind) (k : Parser × Global) (from to : S) (after : Cursor) (error : ParseError E)
-    → VisitsAnswer takes fails (events kind) k after from to (Err error) (whole_field_at edition kind (kept_input k)) → VisitsField takes fails finishes finish_fails edition kind (kept_input k) from (Err error)
+pub field_fails : {S O E : Type 0} (takes : S → TreeEvent → S → Type 0) (fails : S → TreeEvent → E
+    → Type 0) (finishes : S → O → Type 0) (finish_fails : S → E
+    → Type 0) (edition : Edition) (kind : FieldKind) (k : Parser
+    × Global) (from to : S) (after : Cursor) (error : ParseError E)
+    → VisitsAnswer takes fails (events kind) k after from to (Err error) (whole_field_at edition kind (kept_input k))
+    → VisitsField takes fails finishes finish_fails edition kind (kept_input k) from (Err error)
 field_fails {S} {O} takes fails finishes finish_fails edition kind k from to after (Visitor f) h = inl h
-field_fails {S} {O} takes fails finishes finish_fails edition kind k from to after (Syntax e) h = (on (index_of e) h, λ raw q whole. never raw q whole (index_of e) h)
+field_fails {S} {O} takes fails finishes finish_fails edition kind k from to after (Syntax e) h =
+    (on (index_of e) h, λ raw q whole. never raw q whole (index_of e) h)
   where
     t : List ℕ
     t = kept_input k
 
-    on : (o : Option ℕ) → MatchOption o (kind_of e ≡ OutOfMemory) (λ index. (located (whole_field_at edition kind t) ≡ Err (kind_of e, drop index t)) × (index ≤ length t)) → MatchOption o (kind_of e ≡ OutOfMemory) (λ index. (located_whole (read_field edition kind t) ≡ Err (kind_of e, drop index t)) × (index ≤ length t))
+    on : (o : Option ℕ) → MatchOption o (kind_of e
+        ≡ OutOfMemory) (λ index. (located (whole_field_at edition kind t) ≡ Err (kind_of e, drop index t))
+        × (index ≤ length t)) → MatchOption o (kind_of e
+        ≡ OutOfMemory) (λ index. (located_whole (read_field edition kind t) ≡ Err (kind_of e, drop index t))
+        × (index ≤ length t))
     on None m = m
     on (Some n) m = (fault_of_whole edition kind t _ _ m.0, m.1)
 
-    never : (raw : RawField kind) (q : List ℕ) → whole_field_at edition kind t ≡ Ok (raw, q) → (o : Option ℕ) → MatchOption o (kind_of e ≡ OutOfMemory) (λ index. (located (whole_field_at edition kind t) ≡ Err (kind_of e, drop index t)) × (index ≤ length t))
+    never : (raw : RawField kind) (q : List ℕ) → whole_field_at edition kind t ≡ Ok (raw, q) → (o : Option ℕ)
+        → MatchOption o (kind_of e ≡ OutOfMemory) (λ index. (located (whole_field_at edition kind t)
+        ≡ Err (kind_of e, drop index t)) × (index ≤ length t))
         → MatchOption o ⊤ (λ index. (s : S) × (out : O) × RunsTo takes from (events kind raw) s × finishes s out)
     never raw q whole None m = tt
     never raw q whole (Some n) m = absurd (no_fault (whole_field_at edition kind t) raw q _ _ whole m.0)
 
 -- the visitor fails to answer at the end
-pub end_failed : {S O E : Type 0} (takes : S → TreeEvent → S → Type 0) (fails : S → TreeEvent → E → Type 0) (finishes : S → O → Type 0) (finish_fails : S → E → Type 0) (edition : Edition) (kind : FieldKind) (t q : List ℕ) (raw : RawField kind) (from to : S) (error : ParseError E) → whole_field_at edition kind t ≡ Ok (raw, q) → IsAskedThere kind q → RunsTo takes from (events kind raw) to
-    → IsOfVisitor (finish_fails to) error → VisitsField takes fails finishes finish_fails edition kind t from (Err error)
-end_failed takes fails finishes finish_fails edition kind t q raw from to (Syntax e) read asked run failed = absurd failed
-end_failed takes fails finishes finish_fails edition kind t q raw from to (Visitor fault) read asked run failed = inr (raw, q, to, read, run, failed, asked)
+pub end_failed : {S O E : Type 0} (takes : S → TreeEvent → S → Type 0) (fails : S → TreeEvent → E
+    → Type 0) (finishes : S → O → Type 0) (finish_fails : S → E
+    → Type 0) (edition : Edition) (kind : FieldKind) (t q : List ℕ) (raw : RawField kind) (from to : S)
+    (error : ParseError E) → whole_field_at edition kind t ≡ Ok (raw, q) → IsAskedThere kind q
+    → RunsTo takes from (events kind raw) to
+    → IsOfVisitor (finish_fails to) error → VisitsField takes fails finishes finish_fails edition kind t from
+    (Err error)
+end_failed takes fails finishes finish_fails edition kind t q raw from to (Syntax e) read asked run failed =
+    absurd failed
+end_failed takes fails finishes finish_fails edition kind t q raw from to (Visitor fault) read asked run failed =
+    inr (raw, q, to, read, run, failed, asked)
 
-pub whole_read : (edition : Edition) (kind : FieldKind) (t q : List ℕ) (raw : RawField kind) → whole_field_at edition kind t ≡ Ok (raw, q) → q ≡ [] → read_field edition kind t ≡ Ok raw
+pub whole_read : (edition : Edition) (kind : FieldKind) (t q : List ℕ) (raw : RawField kind)
+    → whole_field_at edition kind t ≡ Ok (raw, q) → q ≡ [] → read_field edition kind t ≡ Ok raw
 unfolding read_field
 whole_read edition kind t q raw e end = ap (ending (events kind)) (e ∙ ap (λ (l : List ℕ). Ok (raw, l)) end)
 
 -- the members of a field are what it is read as
-pub members_fail : {S O E : Type 0} (takes : S → TreeEvent → S → Type 0) (fails : S → TreeEvent → E → Type 0) (finishes : S → O → Type 0) (finish_fails : S → E → Type 0) (keyed : Bool) (edition : Edition) (k : Parser × Global) (from to : S) (after : Cursor) (error : ParseError E)
-    → VisitsAnswer takes fails (λ members. flat_map (member_parts keyed) members) k after from to (Err error) (members_at (member_parts keyed) (one_member_at keyed edition) (kept_input k)) → VisitsField takes fails finishes finish_fails edition (field_of keyed) (kept_input k) from (Err error)
+pub members_fail : {S O E : Type 0} (takes : S → TreeEvent → S → Type 0) (fails : S → TreeEvent → E
+    → Type 0) (finishes : S → O → Type 0) (finish_fails : S → E
+    → Type 0) (keyed : Bool) (edition : Edition) (k : Parser
+    × Global) (from to : S) (after : Cursor) (error : ParseError E)
+    → VisitsAnswer takes fails (λ members. flat_map (member_parts keyed) members) k after from to (Err error)
+    (members_at (member_parts keyed) (one_member_at keyed edition) (kept_input k))
+    → VisitsField takes fails finishes finish_fails edition (field_of keyed) (kept_input k) from (Err error)
 unfolding whole_field_at
-members_fail takes fails finishes finish_fails true edition k from to after error h = field_fails takes fails finishes finish_fails edition dictionary_field k from to after error h
-members_fail takes fails finishes finish_fails false edition k from to after error h = field_fails takes fails finishes finish_fails edition list_field k from to after error h
+members_fail takes fails finishes finish_fails true edition k from to after error h =
+    field_fails takes fails finishes finish_fails edition dictionary_field k from to after error h
+members_fail takes fails finishes finish_fails false edition k from to after error h =
+    field_fails takes fails finishes finish_fails edition list_field k from to after error h
 
 -- what the visitor answers at the end
-pub members_finish : {S O E : Type 0} (takes : S → TreeEvent → S → Type 0) (fails : S → TreeEvent → E → Type 0) (finishes : S → O → Type 0) (finish_fails : S → E → Type 0) (keyed : Bool) (edition : Edition) (t q : List ℕ) (from to : S) (r : Result O (ParseError E)) (ms : List (MemberValue keyed))
-    → members_at (member_parts keyed) (one_member_at keyed edition) t ≡ Ok (ms, q) → q ≡ [] → RunsTo takes from (flat_map (member_parts keyed) ms) to → IfOk r (finishes to) → IfErr r (IsOfVisitor (finish_fails to)) → VisitsField takes fails finishes finish_fails edition (field_of keyed) t from r
+pub members_finish : {S O E : Type 0} (takes : S → TreeEvent → S → Type 0) (fails : S → TreeEvent
+    → E → Type 0) (finishes : S → O → Type 0) (finish_fails : S
+    → E → Type 0) (keyed : Bool) (edition : Edition) (t q : List ℕ) (from to : S) (r : Result O (ParseError E))
+    (ms : List (MemberValue keyed))
+    → members_at (member_parts keyed) (one_member_at keyed edition) t ≡ Ok (ms, q) → q ≡ []
+    → RunsTo takes from (flat_map (member_parts keyed) ms) to → IfOk r (finishes to)
+    → IfErr r (IsOfVisitor (finish_fails to)) → VisitsField takes fails finishes finish_fails edition
+    (field_of keyed) t from r
 unfolding whole_field_at
-members_finish takes fails finishes finish_fails true edition t q from to (Ok out) ms read end run answered failed = (ms, whole_read edition dictionary_field t q ms read end, record { last = to; taken = run; answered = answered })
-members_finish takes fails finishes finish_fails false edition t q from to (Ok out) ms read end run answered failed = (ms, whole_read edition list_field t q ms read end, record { last = to; taken = run; answered = answered })
-members_finish takes fails finishes finish_fails true edition t q from to (Err e) ms read end run answered failed = end_failed takes fails finishes finish_fails edition dictionary_field t q ms from to e read end run failed
-members_finish takes fails finishes finish_fails false edition t q from to (Err e) ms read end run answered failed = end_failed takes fails finishes finish_fails edition list_field t q ms from to e read end run failed
+members_finish takes fails finishes finish_fails true edition t q from to (Ok out) ms read end run answered failed =
+    (ms, whole_read edition dictionary_field t q ms read end, record { last = to; taken = run; answered = answered })
+members_finish takes fails finishes finish_fails false edition t q from to (Ok out) ms read end run answered failed =
+    (ms, whole_read edition list_field t q ms read end, record { last = to; taken = run; answered = answered })
+members_finish takes fails finishes finish_fails true edition t q from to (Err e) ms read end run answered failed =
+    end_failed takes fails finishes finish_fails edition dictionary_field t q ms from to e read end run failed
+members_finish takes fails finishes finish_fails false edition t q from to (Err e) ms read end run answered failed =
+    end_failed takes fails finishes finish_fails edition list_field t q ms from to e read end run failed
 
 -- ---- what this says in the words of the definitions
 
@@ -179,14 +252,22 @@ ending_ok parts (Ok (w, [])) v e = let same : w ≡ v = cc in ap (λ (x : _). Ok
 ending_ok parts (Ok (w, c ∷ r)) v e = absurd cc
 ending_ok parts (Err f) v e = absurd cc
 
-whole_accepted : (edition : Edition) (kind : FieldKind) (t : List ℕ) (raw : RawField kind) → IsFieldText edition kind raw t → whole_field_at edition kind t ≡ Ok (raw, [])
+whole_accepted : (edition : Edition) (kind : FieldKind) (t : List ℕ) (raw : RawField kind)
+    → IsFieldText edition kind raw t → whole_field_at edition kind t ≡ Ok (raw, [])
 unfolding read_field
-whole_accepted edition kind t raw h = ending_ok (events kind) (whole_field_at edition kind t) raw ((read_is_accepted edition kind t raw).1 h)
+whole_accepted edition kind t raw h = ending_ok (events kind) (whole_field_at edition kind t) raw
+    ((read_is_accepted edition kind t raw).1 h)
 
 -- what was read of a text is a value
-whole_value : (edition : Edition) (kind : FieldKind) (t q : List ℕ) (raw : RawField kind) → whole_field_at edition kind t ≡ Ok (raw, q) → IsFieldValue kind raw
+whole_value : (edition : Edition) (kind : FieldKind) (t q : List ℕ) (raw : RawField kind)
+    → whole_field_at edition kind t ≡ Ok (raw, q) → IsFieldValue kind raw
 whole_value edition kind t q raw e =
-    let h : Reached (IsFieldText edition kind) (FieldGoes edition kind) (Somewhere (FieldGoes edition kind)) t (Ok (raw, q)) = subst (λ (a : Answer (RawField kind)). Reached (IsFieldText edition kind) (FieldGoes edition kind) (Somewhere (FieldGoes edition kind)) t a) e ((Sound-field edition kind).sound t) in
+    let h : Reached (IsFieldText edition kind) (FieldGoes edition kind) (Somewhere (FieldGoes edition kind)) t (Ok (
+      raw,
+      q,
+    )) = subst (λ (a : Answer (RawField kind)).
+    Reached (IsFieldText edition kind) (FieldGoes edition kind) (Somewhere (FieldGoes edition kind)) t a) e
+    ((Sound-field edition kind).sound t) in
     (accepted_is_value_lem edition kind h.0 raw h.2).0
 
 -- where a text is failed, only an item's visitor was asked
@@ -200,33 +281,61 @@ an_item : {kind : FieldKind} {A : Type 0} → (kind ≡ item_field) ⊎ A → (A
 an_item (inl same) h = same
 an_item (inr a) h = h a
 
-module _ {S O E : Type 0} (takes : S → TreeEvent → S → Type 0) (fails : S → TreeEvent → E → Type 0) (finishes : S → O → Type 0) (finish_fails : S → E → Type 0) (edition : Edition) (kind : FieldKind) (t : List ℕ) (from : S) where
-  failed_on_accepted : (f : E) → VisitsField takes fails finishes finish_fails edition kind t from (Err (Visitor f)) → (raw : RawField kind) → IsFieldText edition kind raw t → IsVisitorError takes fails finish_fails from (events kind raw) f
+module _ {S O E : Type 0} (takes : S → TreeEvent → S → Type 0) (fails : S → TreeEvent → E → Type 0) (finishes : S
+    → O → Type 0) (finish_fails : S → E → Type 0) (edition : Edition) (kind : FieldKind) (t : List ℕ) (from : S) where
+  failed_on_accepted : (f : E) → VisitsField takes fails finishes finish_fails edition kind t from (Err (Visitor f))
+      → (raw : RawField kind) → IsFieldText edition kind raw t
+      → IsVisitorError takes fails finish_fails from (events kind raw) f
   failed_on_accepted f (inl r) raw h =
-      let e : events kind raw ≡ r.before ++ r.e ∷ r.after = ap (visited (events kind)) (sym (whole_accepted edition kind t raw h)) ∙ r.all in
+      let e : events kind raw ≡ r.before ++ r.e ∷ r.after =
+      ap (visited (events kind)) (sym (whole_accepted edition kind t raw h)) ∙ r.all in
       inl (r.before, r.e, r.after, r.s, e, r.taken, r.failed)
   failed_on_accepted f (inr x) raw h =
       let same = same_value (whole_field_at edition kind t) x.0 raw x.1 [] x.3 (whole_accepted edition kind t raw h) in
       inr (x.2, subst (λ (i : RawField kind). RunsTo takes from (events kind i) x.2) same x.4, x.5)
 
-  failed_early : (f : E) → VisitsField takes fails finishes finish_fails edition kind t from (Err (Visitor f)) → (kind ≡ item_field) ⊎ ((raw : RawField kind) → IsFieldText edition kind raw t → ⊥) → IsEarlyVisitorError takes fails finish_fails kind from f
+  failed_early : (f : E) → VisitsField takes fails finishes finish_fails edition kind t from (Err (Visitor f))
+      → (kind ≡ item_field) ⊎ ((raw : RawField kind) → IsFieldText edition kind raw t → ⊥)
+      → IsEarlyVisitorError takes fails finish_fails kind from f
   failed_early f (inl r) none =
       let begins = visited_begins edition kind t in
-      inl (r.before, r.e, r.s, failed_begins kind (visited (events kind) (whole_field_at edition kind t)) r.before r.e r.after begins r.all, r.taken, r.failed)
+      inl (
+        r.before,
+        r.e,
+        r.s,
+        failed_begins kind (visited (events kind) (whole_field_at edition kind t)) r.before r.e
+            r.after begins r.all,
+        r.taken,
+        r.failed,
+      )
   failed_early f (inr x) none =
-      let accepted : x.1 ≡ [] → IsFieldText edition kind x.0 t = λ end. (read_is_accepted edition kind t x.0).0 (whole_read edition kind t x.1 x.0 x.3 end) in
-      inr (an_item none (λ n. asked_of_item kind x.1 x.6 (λ end. n x.0 (accepted end))), x.0, x.2, whole_value edition kind t x.1 x.0 x.3, x.4, x.5)
+      let accepted : x.1 ≡ [] → IsFieldText edition kind x.0 t =
+      λ end. (read_is_accepted edition kind t x.0).0 (whole_read edition kind t x.1 x.0 x.3 end) in
+      inr (
+        an_item none (λ n. asked_of_item kind x.1 x.6 (λ end. n x.0 (accepted end))),
+        x.0,
+        x.2,
+        whole_value edition kind t x.1 x.0 x.3,
+        x.4,
+        x.5,
+      )
 
-  pub visits_answer : (r : Result O (ParseError E)) → VisitsField takes fails finishes finish_fails edition kind t from r → IfOk r (IsAnswerOf takes finishes edition kind t from)
+  pub visits_answer : (r : Result O (ParseError E))
+      → VisitsField takes fails finishes finish_fails edition kind t from r
+      → IfOk r (IsAnswerOf takes finishes edition kind t from)
   visits_answer (Ok out) h = (h.0, (read_is_accepted edition kind t h.0).0 h.1, h.2)
   visits_answer (Err e) h = tt
 
-  pub visits_syntax : (r : Result O (ParseError E)) → VisitsField takes fails finishes finish_fails edition kind t from r → IfErr r (IsSyntaxOf takes finishes edition kind t from)
+  pub visits_syntax : (r : Result O (ParseError E))
+      → VisitsField takes fails finishes finish_fails edition kind t from r
+      → IfErr r (IsSyntaxOf takes finishes edition kind t from)
   visits_syntax (Ok out) h = tt
   visits_syntax (Err (Syntax e)) h = let both = reader_fault edition kind t e h.0 in (both.1, both.0, h.1)
   visits_syntax (Err (Visitor f)) h = tt
 
-  pub visits_failure : (r : Result O (ParseError E)) → VisitsField takes fails finishes finish_fails edition kind t from r → IfErr r (IsVisitorErrorOf takes fails finish_fails edition kind t from)
+  pub visits_failure : (r : Result O (ParseError E))
+      → VisitsField takes fails finishes finish_fails edition kind t from r
+      → IfErr r (IsVisitorErrorOf takes fails finish_fails edition kind t from)
   visits_failure (Ok out) h = tt
   visits_failure (Err (Syntax e)) h = tt
   visits_failure (Err (Visitor f)) h = (failed_on_accepted f h, failed_early f h)

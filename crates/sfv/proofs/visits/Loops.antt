@@ -1,5 +1,6 @@
 -- Readings one by one, each after a delimiter: the loops of inner lists and of members.
-use Rattle.std.proofs.Common.{◌≡◌, ℕ, ◌<◌, ◌≤◌, Bool, true, false, List, [], ◌∷◌, ◌++◌, length, drop, Option, Some, None, Ok, Err, refl, sym, ap, subst, ◌∙◌}
+use Rattle.std.proofs.Common.{◌≡◌, ℕ, ◌<◌, ◌≤◌, Bool, true, false, List, [], ◌∷◌, ◌++◌, length, drop, Option, Some}
+use Rattle.std.proofs.Common.{None, Ok, Err, refl, sym, ap, subst, ◌∙◌}
 use Rattle.std.specs.Prelude.{MatchOption, flat_map}
 use Rattle.std.specs.declared.alloc.Global.{Global}
 use Rattle.std.proofs.lemmas.List.{append-nil}
@@ -17,7 +18,8 @@ use Rattle.sfv_reading.specs.Fields.{next_at}
 use Rattle.sfv_reading.specs.Visits.{VisitorFails}
 use Rattle.sfv_reading.proofs.sound.Members.{Consumes-next_item, Sound-entry, Sound-keyed}
 use Rattle.sfv_reading.proofs.sound.Separated.{Consumes-next}
-use Rattle.sfv_reading.proofs.sound.Many.{Consumes, put, in_front, starts, regroup, many_is, goes_on, is_done, is_faulty}
+use Rattle.sfv_reading.proofs.sound.Many.{Consumes, put, in_front, starts, regroup, many_is, goes_on, is_done}
+use Rattle.sfv_reading.proofs.sound.Many.{is_faulty}
 use Rattle.sfv_reading.proofs.visits.Parts.{visited_in_front, failed_within}
 use Rattle.sfv_reading.proofs.complete.Combinators.{bind_complete}
 use Rattle.sfv_base.specs.declared.error.ParseError.{ParseError}
@@ -41,7 +43,8 @@ behind [] = []
 behind (v ∷ vs) = vs
 
 -- what one more hands out comes first
-put_visited : {A : Type 0} (parts : A → List TreeEvent) (v : A) (a : Answer (List A)) → visited (all_events parts) (put parts v a) ≡ parts v ++ visited (all_events parts) a
+put_visited : {A : Type 0} (parts : A → List TreeEvent) (v : A) (a : Answer (List A))
+    → visited (all_events parts) (put parts v a) ≡ parts v ++ visited (all_events parts) a
 unfolding give
 put_visited parts v (Ok x) = refl
 put_visited parts v (Err f) = refl
@@ -57,7 +60,8 @@ pub record Loop (A : Type 0) : Type 0 where
   pub is_next : (edition : Edition) (t : List ℕ) → next edition t ≡ (delimiter >>= one_if (one edition)) t
 
 -- what was read so far of a whole, and what the visitor has taken
-pub record SoFar {A S : Type 0} (takes : S → TreeEvent → S → Type 0) (l : Loop A) (edition : Edition) (total : Answer (List A)) (now : List ℕ) (from to : S) : Type 0 where
+pub record SoFar {A S : Type 0} (takes : S → TreeEvent
+    → S → Type 0) (l : Loop A) (edition : Edition) (total : Answer (List A)) (now : List ℕ) (from to : S) : Type 0 where
   pub front : List A
   pub so_far : in_front l.parts front (many l.parts (l.next edition) now) ≡ total
   pub taken : RunsTo takes from (all_events l.parts front) to
@@ -67,114 +71,183 @@ module _ {A : Type 0} (l : Loop A) (edition : Edition) where
   unfolding give
   next_none t r e = l.is_next edition t ∙ bind_complete l.delimiter (one_if (l.one edition)) t r false e
 
-  next_one : (t r : List ℕ) → l.delimiter t ≡ Ok (true, r) → (l.next edition) t ≡ ((l.one edition) >>= λ v. give (Some v)) r
+  next_one : (t r : List ℕ) → l.delimiter t ≡ Ok (true, r)
+      → (l.next edition) t ≡ ((l.one edition) >>= λ v. give (Some v)) r
   next_one t r e = l.is_next edition t ∙ bind_complete l.delimiter (one_if (l.one edition)) t r true e
 
-  next_some : (t r q : List ℕ) (v : A) → l.delimiter t ≡ Ok (true, r) → (l.one edition) r ≡ Ok (v, q) → (l.next edition) t ≡ Ok (Some v, q)
+  next_some : (t r q : List ℕ) (v : A) → l.delimiter t ≡ Ok (true, r) → (l.one edition) r ≡ Ok (v, q)
+      → (l.next edition) t ≡ Ok (Some v, q)
   unfolding give
   next_some t r q v e k = next_one t r e ∙ bind_complete (l.one edition) (λ v. give (Some v)) r q v k
 
-  shorter_at : (t r q : List ℕ) (v : A) → l.delimiter t ≡ Ok (true, r) → (l.one edition) r ≡ Ok (v, q) → length q < length t
+  shorter_at : (t r q : List ℕ) (v : A) → l.delimiter t ≡ Ok (true, r) → (l.one edition) r ≡ Ok (v, q)
+      → length q < length t
   shorter_at t r q v e k = (l.consumes edition).consumes t q v (next_some t r q v e k)
 
   -- a fault of one reading is the fault of the whole
-  faulty : (front : List A) (t : List ℕ) (total : Answer (List A)) (k : ErrorKind) (r : List ℕ) → in_front l.parts front (many l.parts (l.next edition) t) ≡ total → located ((l.next edition) t) ≡ Err (k, r) → located total ≡ Err (k, r)
+  faulty : (front : List A) (t : List ℕ) (total : Answer (List A)) (k : ErrorKind) (r : List ℕ)
+      → in_front l.parts front (many l.parts (l.next edition) t) ≡ total → located ((l.next edition) t) ≡ Err (k, r)
+      → located total ≡ Err (k, r)
   faulty front t total k r so_far = on ((l.next edition) t) refl
     where
       on : (a : Answer (Option A)) → (l.next edition) t ≡ a → located a ≡ Err (k, r) → located total ≡ Err (k, r)
       on (Ok x) e q = absurd cc
-      on (Err f) e q = ap located (is_faulty l.parts (l.next edition) (l.consumes edition) front t f total e so_far) ∙ ap (λ (p : ErrorKind × List ℕ). Err p) cc
+      on (Err f) e q = ap located (is_faulty l.parts (l.next edition) (l.consumes edition) front t f total e so_far)
+          ∙ ap (λ (p : ErrorKind × List ℕ). Err p) cc
 
-  error_of_total : {S : Type 0} (takes : S → TreeEvent → S → Type 0) (t : List ℕ) (total : Answer (List A)) (from to : S) (i : Parser × Global) (e : Error) → SoFar takes l edition total t from to → IsErrorOf (kept_input i) e ((l.next edition) t) → IsErrorOf (kept_input i) e total
+  error_of_total : {S : Type 0} (takes : S → TreeEvent → S
+      → Type 0) (t : List ℕ) (total : Answer (List A)) (from to : S) (i : Parser × Global) (e : Error)
+      → SoFar takes l edition total t from to → IsErrorOf (kept_input i) e ((l.next edition) t)
+      → IsErrorOf (kept_input i) e total
   error_of_total takes t total from to i e h error = on e.index error
     where
-      on : (o : Option ℕ) → MatchOption o (e.kind ≡ OutOfMemory) (λ index. (located ((l.next edition) t) ≡ Err (e.kind, drop index (kept_input i))) × (index ≤ length (kept_input i))) → MatchOption o (e.kind ≡ OutOfMemory) (λ index. (located total ≡ Err (e.kind, drop index (kept_input i))) × (index ≤ length (kept_input i)))
+      on : (o : Option ℕ) → MatchOption o (e.kind ≡ OutOfMemory)
+          (λ index. (located ((l.next edition) t) ≡ Err (e.kind, drop index (kept_input i)))
+          × (index ≤ length (kept_input i))) → MatchOption o (e.kind
+          ≡ OutOfMemory) (λ index. (located total ≡ Err (e.kind, drop index (kept_input i)))
+          × (index ≤ length (kept_input i)))
       on None q = q
       on (Some n) q = (faulty h.front t total _ _ h.so_far q.0, q.1)
 
   module _ {S E : Type 0} (takes : S → TreeEvent → S → Type 0) (fails : S → TreeEvent → E → Type 0) where
     -- after the first
-    begun_at : (t q : List ℕ) (v : A) (from to : S) → (l.one edition) t ≡ Ok (v, q) → RunsTo takes from (l.parts v) to → SoFar takes l edition (first_of l.parts (l.one edition) (l.next edition) t) q from to
+    begun_at : (t q : List ℕ) (v : A) (from to : S) → (l.one edition) t ≡ Ok (v, q) → RunsTo takes from (l.parts v) to
+        → SoFar takes l edition (first_of l.parts (l.one edition) (l.next edition) t) q from to
     unfolding first_of bind led
     begun_at t q v from to e run = record {
       front = v ∷ [];
-      so_far = sym (regroup l.parts [] v (many l.parts (l.next edition) q)) ∙ starts l.parts (put l.parts v (many l.parts (l.next edition) q)) ∙ sym (ap (λ a. and_then a (λ v. led (l.parts v) (many l.parts (l.next edition) >>= λ vs. give (v ∷ vs)))) e);
+      so_far = sym (regroup l.parts [] v (many l.parts (l.next edition) q))
+          ∙ starts l.parts (put l.parts v (many l.parts (l.next edition) q))
+          ∙ sym (ap (λ a. and_then a (λ v. led (l.parts v) (many l.parts (l.next edition) >>= λ vs. give (v ∷ vs)))) e);
       taken = subst (λ es. RunsTo takes from es to) (sym (append-nil (l.parts v))) run;
     }
 
-    first_error : (t : List ℕ) (i : Parser × Global) (e : Error) → IsErrorOf (kept_input i) e ((l.one edition) t) → IsErrorOf (kept_input i) e (first_of l.parts (l.one edition) (l.next edition) t)
+    first_error : (t : List ℕ) (i : Parser × Global) (e : Error) → IsErrorOf (kept_input i) e ((l.one edition) t)
+        → IsErrorOf (kept_input i) e (first_of l.parts (l.one edition) (l.next edition) t)
     unfolding first_of
-    first_error t i e h = ErrorOf-part i i e (λ _. (l.one edition)) (λ v. led (l.parts v) (many l.parts (l.next edition) >>= λ vs. give (v ∷ vs))) t _ refl refl h
+    first_error t i e h = ErrorOf-part i i e (λ _. (l.one edition))
+        (λ v. led (l.parts v) (many l.parts (l.next edition) >>= λ vs. give (v ∷ vs))) t _ refl refl h
 
     -- what the first of several hands out stands in front
-    first_parts : (t : List ℕ) (v : A) (q : List ℕ) (w : List A) (r : List ℕ) → (l.one edition) t ≡ Ok (v, q) → (many l.parts (l.next edition) >>= λ vs. give (v ∷ vs)) q ≡ Ok (w, r) → all_events l.parts w ≡ l.parts v ++ all_events l.parts (behind w)
+    first_parts : (t : List ℕ) (v : A) (q : List ℕ) (w : List A) (r : List ℕ) → (l.one edition) t ≡ Ok (v, q)
+        → (many l.parts (l.next edition) >>= λ vs. give (v ∷ vs)) q ≡ Ok (w, r)
+        → all_events l.parts w ≡ l.parts v ++ all_events l.parts (behind w)
     unfolding bind give
     first_parts t v q w r e = on (many l.parts (l.next edition) q)
       where
-        on : (a : Answer (List A)) → and_then a (λ vs. give (v ∷ vs)) ≡ Ok (w, r) → all_events l.parts w ≡ l.parts v ++ all_events l.parts (behind w)
+        on : (a : Answer (List A)) → and_then a (λ vs. give (v ∷ vs)) ≡ Ok (w, r)
+            → all_events l.parts w ≡ l.parts v ++ all_events l.parts (behind w)
         on (Ok x) h =
             let here : List A × List ℕ = (v ∷ x.0, x.1) in
             let there : List A × List ℕ = (w, r) in
             let same : here ≡ there = cc in
-            ap (λ (p : List A × List ℕ). all_events l.parts p.0) (sym same) ∙ ap (λ (p : List A × List ℕ). l.parts v ++ all_events l.parts (behind p.0)) same
+            ap (λ (p : List A × List ℕ). all_events l.parts p.0) (sym same)
+            ∙ ap (λ (p : List A × List ℕ). l.parts v ++ all_events l.parts (behind p.0)) same
         on (Err f) h = absurd cc
 
-    first_failure : (t : List ℕ) (from : S) (fault : E) → VisitorFails takes fails l.parts ((l.one edition) t) from fault → VisitorFails takes fails (all_events l.parts) (first_of l.parts (l.one edition) (l.next edition) t) from fault
+    first_failure : (t : List ℕ) (from : S) (fault : E)
+        → VisitorFails takes fails l.parts ((l.one edition) t) from fault
+        → VisitorFails takes fails (all_events l.parts) (first_of l.parts (l.one edition) (l.next edition) t) from fault
     unfolding first_of
-    first_failure t from fault h = first_failed takes fails (l.one edition) (λ v. many l.parts (l.next edition) >>= λ vs. give (v ∷ vs)) l.parts (all_events l.parts) (λ w. all_events l.parts (behind w)) t from fault (first_parts t) h
+    first_failure t from fault h = first_failed takes fails (l.one edition) (λ v. many l.parts (l.next edition)
+        >>= λ vs. give (v ∷ vs)) l.parts (all_events l.parts) (λ w. all_events l.parts (behind w)) t from fault
+        (first_parts t) h
 
     -- the first is not read whole
-    first_fails_at : (t : List ℕ) (total : Answer (List A)) (from to : S) (i : Parser × Global) (after : Cursor) (error : ParseError E) → total ≡ first_of l.parts (l.one edition) (l.next edition) t → VisitsAnswer takes fails l.parts i after from to (Err error) ((l.one edition) t) → VisitsAnswer takes fails (all_events l.parts) i after from to (Err error) total
-    first_fails_at t total from to i after (Syntax e) whole h = ErrorOf-same i i e (λ _. first_of l.parts (l.one edition) (l.next edition)) t total refl whole (first_error t i e h)
-    first_fails_at t total from to i after (Visitor fault) whole h = subst (λ total. VisitorFails takes fails (all_events l.parts) total from fault) (sym whole) (first_failure t from fault h)
+    first_fails_at : (t : List ℕ) (total : Answer (List A)) (from to : S) (i : Parser
+        × Global) (after : Cursor) (error : ParseError E) → total ≡ first_of l.parts (l.one edition) (l.next edition) t
+        → VisitsAnswer takes fails l.parts i after from to (Err error) ((l.one edition) t)
+        → VisitsAnswer takes fails (all_events l.parts) i after from to (Err error) total
+    first_fails_at t total from to i after (Syntax e) whole h =
+        ErrorOf-same i i e (λ _. first_of l.parts (l.one edition) (l.next edition)) t total refl whole
+        (first_error t i e h)
+    first_fails_at t total from to i after (Visitor fault) whole h =
+        subst (λ total. VisitorFails takes fails (all_events l.parts) total from fault) (sym whole)
+        (first_failure t from fault h)
 
     -- after one more
-    more_at : (t r q : List ℕ) (v : A) (total : Answer (List A)) (from middle to : S) → SoFar takes l edition total t from middle → l.delimiter t ≡ Ok (true, r) → (l.one edition) r ≡ Ok (v, q) → RunsTo takes middle (l.parts v) to → SoFar takes l edition total q from to
+    more_at : (t r q : List ℕ) (v : A) (total : Answer (List A)) (from middle to : S)
+        → SoFar takes l edition total t from middle → l.delimiter t ≡ Ok (true, r) → (l.one edition) r ≡ Ok (v, q)
+        → RunsTo takes middle (l.parts v) to → SoFar takes l edition total q from to
     more_at t r q v total from middle to h e k run = record {
       front = h.front ++ v ∷ [];
-      so_far = goes_on l.parts (l.next edition) (l.consumes edition) h.front v t q total (next_some t r q v e k) h.so_far;
-      taken = subst (λ es. RunsTo takes from es to) (sym (flat_map-append l.parts h.front (v ∷ []) ∙ ap (λ (es : List TreeEvent). all_events l.parts h.front ++ es) (append-nil (l.parts v)))) (runs_on takes (all_events l.parts h.front) (l.parts v) from middle to h.taken run);
+      so_far = goes_on l.parts (l.next edition) (l.consumes edition) h.front v t q total (next_some t r q v e k)
+          h.so_far;
+      taken = subst (λ es. RunsTo takes from es to) (sym (flat_map-append l.parts h.front (v ∷ [])
+          ∙ ap (λ (es : List TreeEvent). all_events l.parts h.front ++ es) (append-nil (l.parts v))))
+          (runs_on takes (all_events l.parts h.front) (l.parts v) from middle to h.taken run);
     }
 
-    ended_at : (t r : List ℕ) (total : Answer (List A)) (from to : S) → (h : SoFar takes l edition total t from to) → l.delimiter t ≡ Ok (false, r) → total ≡ Ok (h.front, r)
-    ended_at t r total from to h e = is_done l.parts (l.next edition) (l.consumes edition) h.front t r total (next_none t r e) h.so_far
+    ended_at : (t r : List ℕ) (total : Answer (List A)) (from to : S) → (h : SoFar takes l edition total t from to)
+        → l.delimiter t ≡ Ok (false, r) → total ≡ Ok (h.front, r)
+    ended_at t r total from to h e = is_done l.parts (l.next edition) (l.consumes edition) h.front t r total
+        (next_none t r e) h.so_far
 
-    delimiter_error : (t : List ℕ) (total : Answer (List A)) (from to : S) (i : Parser × Global) (e : Error) → SoFar takes l edition total t from to → IsErrorOf (kept_input i) e (l.delimiter t) → IsErrorOf (kept_input i) e total
-    delimiter_error t total from to i e h error = error_of_total takes t total from to i e h (ErrorOf-part i i e (λ _. l.delimiter) (one_if (l.one edition)) t ((l.next edition) t) refl (l.is_next edition t) error)
+    delimiter_error : (t : List ℕ) (total : Answer (List A)) (from to : S) (i : Parser × Global) (e : Error)
+        → SoFar takes l edition total t from to → IsErrorOf (kept_input i) e (l.delimiter t)
+        → IsErrorOf (kept_input i) e total
+    delimiter_error t total from to i e h error = error_of_total takes t total from to i e h
+        (ErrorOf-part i i e (λ _. l.delimiter) (one_if (l.one edition)) t ((l.next edition) t) refl
+        (l.is_next edition t) error)
 
-    one_error : (t r : List ℕ) (total : Answer (List A)) (from to : S) (i : Parser × Global) (e : Error) → SoFar takes l edition total t from to → l.delimiter t ≡ Ok (true, r) → IsErrorOf (kept_input i) e ((l.one edition) r) → IsErrorOf (kept_input i) e total
-    one_error t r total from to i e h k error = error_of_total takes t total from to i e h (ErrorOf-part i i e (λ _. (l.one edition)) (λ v. give (Some v)) r ((l.next edition) t) refl (next_one t r k) error)
+    one_error : (t r : List ℕ) (total : Answer (List A)) (from to : S) (i : Parser × Global) (e : Error)
+        → SoFar takes l edition total t from to → l.delimiter t ≡ Ok (true, r)
+        → IsErrorOf (kept_input i) e ((l.one edition) r) → IsErrorOf (kept_input i) e total
+    one_error t r total from to i e h k error = error_of_total takes t total from to i e h
+        (ErrorOf-part i i e (λ _. (l.one edition)) (λ v. give (Some v)) r ((l.next edition) t) refl (next_one t r k)
+        error)
 
     -- what is visited after a delimiter
-    behind_visited : (t r : List ℕ) → l.delimiter t ≡ Ok (true, r) → (rest : List TreeEvent) × (visited (all_events l.parts) (many l.parts (l.next edition) t) ≡ visited l.parts ((l.one edition) r) ++ rest)
+    behind_visited : (t r : List ℕ) → l.delimiter t ≡ Ok (true, r)
+        → (rest : List TreeEvent) × (visited (all_events l.parts) (many l.parts (l.next edition) t)
+        ≡ visited l.parts ((l.one edition) r) ++ rest)
     unfolding bind led give
     behind_visited t r e = on ((l.one edition) r) refl
       where
-        on : (a : Answer A) → (l.one edition) r ≡ a → (rest : List TreeEvent) × (visited (all_events l.parts) (many l.parts (l.next edition) t) ≡ visited l.parts a ++ rest)
+        on : (a : Answer A) → (l.one edition) r ≡ a
+            → (rest : List TreeEvent) × (visited (all_events l.parts) (many l.parts (l.next edition) t)
+            ≡ visited l.parts a ++ rest)
         on (Ok x) k =
             let some = next_some t r x.1 x.0 e k in
-            let put_first : many l.parts (l.next edition) t ≡ put l.parts x.0 (many l.parts (l.next edition) x.1) = many_is l.parts (l.next edition) (l.consumes edition) t ∙ rw some refl in
-            (visited (all_events l.parts) (many l.parts (l.next edition) x.1), ap (visited (all_events l.parts)) put_first ∙ put_visited l.parts x.0 (many l.parts (l.next edition) x.1))
+            let put_first : many l.parts (l.next edition) t ≡ put l.parts x.0 (many l.parts (l.next edition) x.1) =
+            many_is l.parts (l.next edition) (l.consumes edition) t ∙ rw some refl in (
+              visited (all_events l.parts) (many l.parts (l.next edition) x.1),
+              ap (visited (all_events l.parts)) put_first
+                  ∙ put_visited l.parts x.0 (many l.parts (l.next edition) x.1),
+            )
         on (Err f) k =
             let fault : (l.next edition) t ≡ Err f = next_one t r e ∙ ap (λ a. and_then a (λ v. give (Some v))) k in
-            let whole : many l.parts (l.next edition) t ≡ Err f = many_is l.parts (l.next edition) (l.consumes edition) t ∙ rw fault refl in
+            let whole : many l.parts (l.next edition) t ≡ Err f =
+            many_is l.parts (l.next edition) (l.consumes edition) t ∙ rw fault refl in
             ([], ap (visited (all_events l.parts)) whole ∙ sym (append-nil f.events))
 
-    one_failure : (t r : List ℕ) (total : Answer (List A)) (from middle : S) (fault : E) → SoFar takes l edition total t from middle → l.delimiter t ≡ Ok (true, r) → VisitorFails takes fails l.parts ((l.one edition) r) middle fault → VisitorFails takes fails (all_events l.parts) total from fault
+    one_failure : (t r : List ℕ) (total : Answer (List A)) (from middle : S) (fault : E)
+        → SoFar takes l edition total t from middle → l.delimiter t ≡ Ok (true, r)
+        → VisitorFails takes fails l.parts ((l.one edition) r) middle fault
+        → VisitorFails takes fails (all_events l.parts) total from fault
     one_failure t r total from middle fault h e k =
         let w = behind_visited t r e in
-        failed_within takes fails l.parts ((l.one edition) r) (all_events l.parts) total (all_events l.parts h.front) w.0
-        (ap (visited (all_events l.parts)) (sym h.so_far) ∙ visited_in_front l.parts h.front (many l.parts (l.next edition) t) ∙ ap (λ (es : List TreeEvent). all_events l.parts h.front ++ es) w.1)
-        from middle fault h.taken (λ es to run. runs_on takes (all_events l.parts h.front) es from middle to h.taken run) k
+        failed_within takes fails l.parts ((l.one edition) r) (all_events l.parts) total (all_events l.parts h.front)
+        w.0
+        (ap (visited (all_events l.parts)) (sym h.so_far)
+        ∙ visited_in_front l.parts h.front (many l.parts (l.next edition) t)
+        ∙ ap (λ (es : List TreeEvent). all_events l.parts h.front ++ es) w.1)
+        from middle fault h.taken (λ es to run. runs_on takes (all_events l.parts h.front) es from middle to h.taken
+        run) k
 
     -- one more is not read whole
-    one_fails_at : (t r : List ℕ) (total : Answer (List A)) (from middle to : S) (i : Parser × Global) (after : Cursor) (error : ParseError E) → SoFar takes l edition total t from middle → l.delimiter t ≡ Ok (true, r)
-        → VisitsAnswer takes fails l.parts i after middle to (Err error) ((l.one edition) r) → VisitsAnswer takes fails (all_events l.parts) i after from to (Err error) total
+    one_fails_at : (t r : List ℕ) (total : Answer (List A)) (from middle to : S) (i : Parser
+        × Global) (after : Cursor) (error : ParseError E) → SoFar takes l edition total t from middle
+        → l.delimiter t ≡ Ok (true, r)
+        → VisitsAnswer takes fails l.parts i after middle to (Err error) ((l.one edition) r)
+        → VisitsAnswer takes fails (all_events l.parts) i after from to (Err error) total
     one_fails_at t r total from middle to i after (Syntax e) h k error = one_error t r total from middle i e h k error
-    one_fails_at t r total from middle to i after (Visitor fault) h k failed = one_failure t r total from middle fault h k failed
+    one_fails_at t r total from middle to i after (Visitor fault) h k failed =
+        one_failure t r total from middle fault h k failed
 
 -- the same of a cursor, which has kept its parser
-pub record VisitedSoFar {A S : Type 0} (takes : S → TreeEvent → S → Type 0) (l : Loop A) (start : Cursor) (total : Answer (List A)) (now : Cursor) (from to : S) : Type 0 where
+pub record VisitedSoFar {A S : Type 0} (takes : S → TreeEvent
+    → S → Type 0) (l : Loop A) (start : Cursor) (total : Answer (List A)) (now : Cursor) (from to : S) : Type 0 where
   pub read : SoFar takes l (edition start) total (rest now) from to
   pub same : kept now ≡ kept start
 
@@ -182,53 +255,97 @@ pub record VisitedSoFar {A S : Type 0} (takes : S → TreeEvent → S → Type 0
 abbrev Wants : {A : Type 0} → Loop A → Bool → Cursor → Cursor → Type 0
 Wants l b now middle = (l.delimiter (rest now) ≡ Ok (b, rest middle)) × (kept middle ≡ kept now)
 
-pub shorter : {A S E : Type 0} (takes : S → TreeEvent → S → Type 0) (fails : S → TreeEvent → E → Type 0) (l : Loop A) (now middle after : Cursor) (at to : S) → Wants l true now middle → Visits takes fails l.parts middle after at to (Ok tt) l.one → length (rest after) < length (rest now)
-shorter takes fails l now middle after at to wanted one = shorter_at l (edition middle) (rest now) (rest middle) (rest after) one.0 wanted.0 one.1
+pub shorter : {A S E : Type 0} (takes : S → TreeEvent → S → Type 0) (fails : S → TreeEvent
+    → E → Type 0) (l : Loop A) (now middle after : Cursor) (at to : S) → Wants l true now middle
+    → Visits takes fails l.parts middle after at to (Ok tt) l.one → length (rest after) < length (rest now)
+shorter takes fails l now middle after at to wanted one =
+    shorter_at l (edition middle) (rest now) (rest middle) (rest after) one.0 wanted.0 one.1
 
-module _ {A S E : Type 0} (takes : S → TreeEvent → S → Type 0) (fails : S → TreeEvent → E → Type 0) (l : Loop A) (start : Cursor) (total : Answer (List A)) where
+module _ {A S E : Type 0} (takes : S → TreeEvent → S → Type 0) (fails : S → TreeEvent
+    → E → Type 0) (l : Loop A) (start : Cursor) (total : Answer (List A)) where
   -- what the edition at the start reads first
   abbrev IsFirst : Cursor → Type 0
-  IsFirst middle = (total ≡ first_of l.parts (l.one (edition start)) (l.next (edition start)) (rest middle)) × (kept middle ≡ kept start)
+  IsFirst middle = (total ≡ first_of l.parts (l.one (edition start)) (l.next (edition start)) (rest middle))
+      × (kept middle ≡ kept start)
 
   -- after the first
-  pub begun : (middle after : Cursor) (from to : S) → IsFirst middle → Visits takes fails l.parts middle after from to (Ok tt) l.one → VisitedSoFar takes l start total after from to
+  pub begun : (middle after : Cursor) (from to : S) → IsFirst middle
+      → Visits takes fails l.parts middle after from to (Ok tt) l.one → VisitedSoFar takes l start total after from to
   begun middle after from to first h =
       let read = kept_visits takes fails l.parts l.one middle after from to (kept start) (Ok tt) first.1 h in
-      record { read = subst (λ total. SoFar takes l (edition start) total (rest after) from to) (sym first.0) (begun_at l (edition start) takes fails (rest middle) (rest after) read.0 from to read.1 read.2); same = read.3 }
+      record {
+        read = subst (λ total. SoFar takes l (edition start) total (rest after) from to) (sym first.0)
+            (begun_at l (edition start) takes fails (rest middle) (rest after) read.0 from to read.1 read.2);
+        same = read.3;
+      }
 
   -- the first is not read whole
-  pub first_fails : (middle after : Cursor) (from to : S) (error : ParseError E) → IsFirst middle → Visits takes fails l.parts middle after from to (Err error) l.one → VisitsAnswer takes fails (all_events l.parts) (kept start) after from to (Err error) total
+  pub first_fails : (middle after : Cursor) (from to : S) (error : ParseError E) → IsFirst middle
+      → Visits takes fails l.parts middle after from to (Err error) l.one
+      → VisitsAnswer takes fails (all_events l.parts) (kept start) after from to (Err error) total
   first_fails middle after from to error first h =
-      first_fails_at l (edition start) takes fails (rest middle) total from to (kept start) after error first.0 (kept_visits takes fails l.parts l.one middle after from to (kept start) (Err error) first.1 h)
+      first_fails_at l (edition start) takes fails (rest middle) total from to (kept start) after error first.0
+      (kept_visits takes fails l.parts l.one middle after from to (kept start) (Err error) first.1 h)
 
   -- what stands between two is faulty
-  pub delimiter_fails : (now after : Cursor) (from to last : S) (e : Error) → VisitedSoFar takes l start total now from to → IsFaultOf (input now) e (l.delimiter (rest now)) → VisitsAnswer takes fails (all_events l.parts) (kept start) after from last (Err (Syntax e)) total
+  pub delimiter_fails : (now after : Cursor) (from to last : S) (e : Error)
+      → VisitedSoFar takes l start total now from to → IsFaultOf (input now) e (l.delimiter (rest now))
+      → VisitsAnswer takes fails (all_events l.parts) (kept start) after from last (Err (Syntax e)) total
   delimiter_fails now after from to last e h fault =
-      delimiter_error l (edition start) takes fails (rest now) total from to (kept start) e h.read (subst (λ (k : Parser × Global). IsErrorOf (kept_input k) e (l.delimiter (rest now))) h.same (ErrorOf-fault (input now) e (l.delimiter (rest now)) fault))
+      delimiter_error l (edition start) takes fails (rest now) total from to (kept start) e h.read
+      (subst (λ (k : Parser × Global). IsErrorOf (kept_input k) e (l.delimiter (rest now))) h.same
+      (ErrorOf-fault (input now) e (l.delimiter (rest now)) fault))
 
   -- after one more
-  pub more : (now middle after : Cursor) (from at to : S) → VisitedSoFar takes l start total now from at → Wants l true now middle → Visits takes fails l.parts middle after at to (Ok tt) l.one → VisitedSoFar takes l start total after from to
+  pub more : (now middle after : Cursor) (from at to : S) → VisitedSoFar takes l start total now from at
+      → Wants l true now middle → Visits takes fails l.parts middle after at to (Ok tt) l.one
+      → VisitedSoFar takes l start total after from to
   more now middle after from at to h wanted one =
-      let read = kept_visits takes fails l.parts l.one middle after at to (kept start) (Ok tt) (wanted.1 ∙ h.same) one in
-      record { read = more_at l (edition start) takes fails (rest now) (rest middle) (rest after) read.0 total from at to h.read wanted.0 read.1 read.2; same = read.3 }
+      let read = kept_visits takes fails l.parts l.one middle after at to (kept start) (Ok tt) (wanted.1
+      ∙ h.same) one in
+      record {
+        read = more_at l (edition start) takes fails (rest now) (rest middle) (rest after) read.0 total from at
+            to h.read wanted.0 read.1 read.2;
+        same = read.3;
+      }
 
   -- one more is not read whole
-  pub one_fails : (now middle after : Cursor) (from at to : S) (error : ParseError E) → VisitedSoFar takes l start total now from at → Wants l true now middle → Visits takes fails l.parts middle after at to (Err error) l.one → VisitsAnswer takes fails (all_events l.parts) (kept start) after from to (Err error) total
+  pub one_fails : (now middle after : Cursor) (from at to : S) (error : ParseError E)
+      → VisitedSoFar takes l start total now from at → Wants l true now middle
+      → Visits takes fails l.parts middle after at to (Err error) l.one
+      → VisitsAnswer takes fails (all_events l.parts) (kept start) after from to (Err error) total
   one_fails now middle after from at to error h wanted one =
-      one_fails_at l (edition start) takes fails (rest now) (rest middle) total from at to (kept start) after error h.read wanted.0 (kept_visits takes fails l.parts l.one middle after at to (kept start) (Err error) (wanted.1 ∙ h.same) one)
+      one_fails_at l (edition start) takes fails (rest now) (rest middle) total from at to (kept start) after error
+      h.read wanted.0 (kept_visits takes fails l.parts l.one middle after at to (kept start) (Err error) (wanted.1
+      ∙ h.same) one)
 
   -- none is wanted
-  pub ended : (now after : Cursor) (from to : S) → VisitedSoFar takes l start total now from to → Wants l false now after → VisitsAnswer takes fails (all_events l.parts) (kept start) after from to (Ok tt) total
-  ended now after from to h wanted = (h.read.front, ended_at l (edition start) takes fails (rest now) (rest after) total from to h.read wanted.0, h.read.taken, wanted.1 ∙ h.same)
+  pub ended : (now after : Cursor) (from to : S) → VisitedSoFar takes l start total now from to
+      → Wants l false now after → VisitsAnswer takes fails (all_events l.parts) (kept start) after from to (Ok tt) total
+  ended now after from to h wanted = (
+    h.read.front,
+    ended_at l (edition start) takes fails (rest now) (rest after) total from to h.read wanted.0,
+    h.read.taken,
+    wanted.1 ∙ h.same,
+  )
 
 -- ---- the items of an inner list, and the members of lists and dictionaries
 
 abbrev pub items_loop : Loop RawItem
-items_loop = record { parts = inner_item_events; one = inner_item_at; delimiter = item_delimiter_at; next = next_item_at; consumes = Consumes-next_item; is_next = next_item_is }
+items_loop = record {
+  parts = inner_item_events;
+  one = inner_item_at;
+  delimiter = item_delimiter_at;
+  next = next_item_at;
+  consumes = Consumes-next_item;
+  is_next = next_item_is;
+}
 
 pub consumes_member : (keyed : Bool) (edition : Edition) → Consumes (next_at (one_member_at keyed edition))
-consumes_member true edition = Consumes-next (IsDictionaryMemberText edition) keyed_events (keyed_at edition) (Sound-keyed edition)
-consumes_member false edition = Consumes-next (IsMemberText edition) entry_events (entry_at edition) (Sound-entry edition)
+consumes_member true edition = Consumes-next (IsDictionaryMemberText edition) keyed_events (keyed_at edition)
+    (Sound-keyed edition)
+consumes_member false edition = Consumes-next (IsMemberText edition) entry_events (entry_at edition)
+    (Sound-entry edition)
 
 abbrev pub members_loop : (keyed : Bool) → Loop (MemberValue keyed)
 members_loop keyed = record {

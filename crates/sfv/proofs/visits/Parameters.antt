@@ -1,5 +1,6 @@
 -- The loop over parameters: the visitor has taken those that were read.
-use Rattle.std.proofs.Common.{◌≡◌, ℕ, ◌≤◌, List, [], ◌∷◌, ◌++◌, length, Option, Some, None, Result, Ok, Err, refl, sym, ap, subst, ◌∙◌, drop, append_assoc}
+use Rattle.std.proofs.Common.{◌≡◌, ℕ, ◌≤◌, List, [], ◌∷◌, ◌++◌, length, Option, Some, None, Result, Ok, Err, refl, sym}
+use Rattle.std.proofs.Common.{ap, subst, ◌∙◌, drop, append_assoc}
 use Rattle.std.specs.Prelude.{MatchOption, OnOk, IfErr, map, flat_map}
 use Rattle.std.specs.declared.alloc.Global.{Global}
 use Rattle.std.proofs.lemmas.List.{map-append}
@@ -26,13 +27,17 @@ use Rattle.sfv.proofs.reads.Errors.{ErrorOf-part, ErrorOf-located}
 use Rattle.sfv.proofs.reads.Steps.{item_located, item_some}
 
 -- one run after another
-pub runs_on : {S : Type 0} (takes : S → TreeEvent → S → Type 0) (es fs : List TreeEvent) (from middle to : S) → RunsTo takes from es middle → RunsTo takes middle fs to → RunsTo takes from (es ++ fs) to
+pub runs_on : {S : Type 0} (takes : S → TreeEvent → S → Type 0) (es fs : List TreeEvent) (from middle to : S)
+    → RunsTo takes from es middle → RunsTo takes middle fs to → RunsTo takes from (es ++ fs) to
 runs_on takes [] fs from middle to h k = subst (λ s. RunsTo takes s fs to) (sym h) k
 runs_on takes (e ∷ es) fs from middle to h k = (h.0, h.1, runs_on takes es fs h.0 middle to h.2 k)
 
 -- an error of the visitor, which fails at one of the events
-pub of_visitor : {A S E : Type 0} (takes : S → TreeEvent → S → Type 0) (fails : S → TreeEvent → E → Type 0) (parts : A → List TreeEvent) (k : Parser × Global) (after : Cursor) (from to : S) (is : E → Type 0) (error : ParseError E) (answer : Answer A) → IsOfVisitor is error
-    → ((fault : E) → is fault → VisitorFails takes fails parts answer from fault) → VisitsAnswer takes fails parts k after from to (Err error) answer
+pub of_visitor : {A S E : Type 0} (takes : S → TreeEvent → S → Type 0) (fails : S → TreeEvent → E → Type 0) (parts : A
+    → List TreeEvent) (k : Parser × Global) (after : Cursor) (from to : S) (is : E → Type 0) (error : ParseError E)
+    (answer : Answer A) → IsOfVisitor is error
+    → ((fault : E) → is fault → VisitorFails takes fails parts answer from fault)
+    → VisitsAnswer takes fails parts k after from to (Err error) answer
 of_visitor takes fails parts k after from to is (Syntax e) answer h step = absurd h
 of_visitor takes fails parts k after from to is (Visitor fault) answer h step = step fault h
 
@@ -41,26 +46,45 @@ abbrev pub pair_events : RawParameters → List TreeEvent
 pair_events raw = map (λ p. parameter p.0 p.1) raw
 
 -- these are the parameters that were read between start and now, and the visitor has taken them
-pub record VisitedParameters {S : Type 0} (takes : S → TreeEvent → S → Type 0) (edition : Edition) (start now : List ℕ) (from to : S) : Type 0 where
+pub record VisitedParameters {S : Type 0} (takes : S → TreeEvent
+    → S → Type 0) (edition : Edition) (start now : List ℕ) (from to : S) : Type 0 where
   pub raw : RawParameters
   pub so_far : in_front parameter_event raw (parameters_at edition now) ≡ parameters_at edition start
   pub taken : RunsTo takes from (pair_events raw) to
 
-pub visited_none : {S : Type 0} (takes : S → TreeEvent → S → Type 0) (edition : Edition) (start : List ℕ) (from : S) → VisitedParameters takes edition start start from from
-visited_none takes edition start from = record { raw = []; so_far = starts parameter_event (parameters_at edition start); taken = refl }
+pub visited_none : {S : Type 0} (takes : S → TreeEvent → S → Type 0) (edition : Edition) (start : List ℕ) (from : S)
+    → VisitedParameters takes edition start start from from
+visited_none takes edition start from = record {
+  raw = [];
+  so_far = starts parameter_event (parameters_at edition start);
+  taken = refl;
+}
 
-pub visited_more : {S : Type 0} (takes : S → TreeEvent → S → Type 0) (edition : Edition) (start now r k : List ℕ) (v : BareValue) (from middle to : S) → VisitedParameters takes edition start now from middle → parameter_at edition now ≡ Ok (Some (k, v), r) → takes middle (parameter k v) to → VisitedParameters takes edition start r from to
+pub visited_more : {S : Type 0} (takes : S → TreeEvent → S
+    → Type 0) (edition : Edition) (start now r k : List ℕ) (v : BareValue) (from middle to : S)
+    → VisitedParameters takes edition start now from middle → parameter_at edition now ≡ Ok (Some (k, v), r)
+    → takes middle (parameter k v) to → VisitedParameters takes edition start r from to
 unfolding parameters_at
 visited_more takes edition start now r k v from middle to h read taken = record {
   raw = h.raw ++ (k, v) ∷ [];
-  so_far = goes_on parameter_event (parameter_at edition) (Consumes-parameter edition) h.raw (k, v) now r (parameters_at edition start) read h.so_far;
-  taken = subst (λ es. RunsTo takes from es to) (sym (map-append (λ (p : List ℕ × BareValue). parameter p.0 p.1) h.raw ((k, v) ∷ []))) (runs_on takes (pair_events h.raw) (parameter k v ∷ []) from middle to h.taken (to, taken, refl));
+  so_far = goes_on parameter_event (parameter_at edition) (Consumes-parameter edition) h.raw (
+    k,
+    v,
+  ) now r (parameters_at edition start) read h.so_far;
+  taken = subst (λ es. RunsTo takes from es to) (sym
+      (map-append (λ (p : List ℕ × BareValue). parameter p.0 p.1) h.raw ((k, v) ∷ [])))
+      (runs_on takes (pair_events h.raw) (parameter k v ∷ []) from middle to h.taken (to, taken, refl));
 }
 
-pub visited_all : {S : Type 0} (takes : S → TreeEvent → S → Type 0) (edition : Edition) (start now r : List ℕ) (from middle to : S) (h : VisitedParameters takes edition start now from middle) → parameter_at edition now ≡ Ok (None, r) → takes middle parameters_end to → (parameters_at edition start ≡ Ok (h.raw, r)) × RunsTo takes from (parameters_events h.raw) to
+pub visited_all : {S : Type 0} (takes : S → TreeEvent → S
+    → Type 0) (edition : Edition) (start now r : List ℕ) (from middle to : S)
+    (h : VisitedParameters takes edition start now from middle) → parameter_at edition now ≡ Ok (None, r)
+    → takes middle parameters_end to → (parameters_at edition start ≡ Ok (h.raw, r))
+    × RunsTo takes from (parameters_events h.raw) to
 unfolding parameters_at
 visited_all takes edition start now r from middle to h read taken = (
-  is_done parameter_event (parameter_at edition) (Consumes-parameter edition) h.raw now r (parameters_at edition start) read h.so_far,
+  is_done parameter_event (parameter_at edition) (Consumes-parameter edition) h.raw now r (parameters_at edition start)
+      read h.so_far,
   runs_on takes (pair_events h.raw) (parameters_end ∷ []) from middle to h.taken (to, taken, refl),
 )
 
@@ -69,73 +93,118 @@ front_events : (front : RawParameters) → flat_map parameter_event front ≡ pa
 front_events [] = refl
 front_events (p ∷ front) = ap (λ (es : List TreeEvent). parameter p.0 p.1 ∷ es) (front_events front)
 
-front_visited : (front : RawParameters) (a : Answer RawParameters) → (more : List TreeEvent) × (visited parameters_events (in_front parameter_event front a) ≡ pair_events front ++ more)
-front_visited front (Ok x) =
-    (pair_events x.0 ++ parameters_end ∷ [], ap (λ (es : List TreeEvent). es ++ parameters_end ∷ []) (map-append (λ (p : List ℕ × BareValue). parameter p.0 p.1) front x.0) ∙ append_assoc (pair_events front) (pair_events x.0) (parameters_end ∷ []))
+front_visited : (front : RawParameters) (a : Answer RawParameters)
+    → (more : List TreeEvent) × (visited parameters_events (in_front parameter_event front a)
+    ≡ pair_events front ++ more)
+front_visited front (Ok x) = (
+  pair_events x.0 ++ parameters_end ∷ [],
+  ap (λ (es : List TreeEvent). es ++ parameters_end ∷ [])
+      (map-append (λ (p : List ℕ × BareValue). parameter p.0 p.1) front x.0)
+      ∙ append_assoc (pair_events front) (pair_events x.0) (parameters_end ∷ []),
+)
 front_visited front (Err e) = (e.events, ap (λ (es : List TreeEvent). es ++ e.events) (front_events front))
 
 -- the visitor fails at a parameter
-pub parameter_failed : {S E : Type 0} (takes : S → TreeEvent → S → Type 0) (fails : S → TreeEvent → E → Type 0) (edition : Edition) (start now r k : List ℕ) (v : BareValue) (from middle : S) (fault : E) → VisitedParameters takes edition start now from middle → parameter_at edition now ≡ Ok (Some (k, v), r) → fails middle (parameter k v) fault → VisitorFails takes fails parameters_events (parameters_at edition start) from fault
+pub parameter_failed : {S E : Type 0} (takes : S → TreeEvent → S → Type 0) (fails : S → TreeEvent → E
+    → Type 0) (edition : Edition) (start now r k : List ℕ) (v : BareValue) (from middle : S) (fault : E)
+    → VisitedParameters takes edition start now from middle → parameter_at edition now ≡ Ok (Some (k, v), r)
+    → fails middle (parameter k v) fault → VisitorFails takes fails parameters_events (parameters_at edition start) from
+    fault
 unfolding parameters_at
 parameter_failed takes fails edition start now r k v from middle fault h read failed =
-    let whole = goes_on parameter_event (parameter_at edition) (Consumes-parameter edition) h.raw (k, v) now r (parameters_at edition start) read h.so_far in
+    let whole = goes_on parameter_event (parameter_at edition) (Consumes-parameter edition) h.raw (
+      k,
+      v,
+    ) now r (parameters_at edition start) read h.so_far in
     let more = front_visited (h.raw ++ (k, v) ∷ []) (parameters_at edition r) in
     record {
       before = pair_events h.raw;
       e = parameter k v;
       after = more.0;
       s = middle;
-      all = ap (visited parameters_events) (sym whole) ∙ more.1 ∙ ap (λ (es : List TreeEvent). es ++ more.0) (map-append (λ (p : List ℕ × BareValue). parameter p.0 p.1) h.raw ((k, v) ∷ [])) ∙ append_assoc (pair_events h.raw) (parameter k v ∷ []) more.0;
+      all = ap (visited parameters_events) (sym whole) ∙ more.1
+          ∙ ap (λ (es : List TreeEvent). es ++ more.0)
+          (map-append (λ (p : List ℕ × BareValue). parameter p.0 p.1) h.raw ((k, v) ∷ []))
+          ∙ append_assoc (pair_events h.raw) (parameter k v ∷ []) more.0;
       taken = h.taken;
       failed = failed;
     }
 
 -- the visitor fails at their end
-pub end_failed : {S E : Type 0} (takes : S → TreeEvent → S → Type 0) (fails : S → TreeEvent → E → Type 0) (edition : Edition) (start now r : List ℕ) (from middle : S) (fault : E) → VisitedParameters takes edition start now from middle → parameter_at edition now ≡ Ok (None, r) → fails middle parameters_end fault → VisitorFails takes fails parameters_events (parameters_at edition start) from fault
+pub end_failed : {S E : Type 0} (takes : S → TreeEvent → S → Type 0) (fails : S → TreeEvent → E
+    → Type 0) (edition : Edition) (start now r : List ℕ) (from middle : S) (fault : E)
+    → VisitedParameters takes edition start now from middle → parameter_at edition now ≡ Ok (None, r)
+    → fails middle parameters_end fault → VisitorFails takes fails parameters_events (parameters_at edition start) from
+    fault
 unfolding parameters_at
 end_failed takes fails edition start now r from middle fault h read failed = record {
   before = pair_events h.raw;
   e = parameters_end;
   after = [];
   s = middle;
-  all = ap (visited parameters_events) (is_done parameter_event (parameter_at edition) (Consumes-parameter edition) h.raw now r (parameters_at edition start) read h.so_far);
+  all = ap (visited parameters_events) (is_done parameter_event (parameter_at edition) (Consumes-parameter edition)
+      h.raw now r (parameters_at edition start) read h.so_far);
   taken = h.taken;
   failed = failed;
 }
 
 -- after the last parameter, their end is visited
-pub end_visits : {S E : Type 0} (takes : S → TreeEvent → S → Type 0) (fails : S → TreeEvent → E → Type 0) (edition : Edition) (start now : List ℕ) (from middle to : S) (k : Parser × Global) (after : Cursor) (r : Result (Unit {0}) (ParseError E)) → VisitedParameters takes edition start now from middle → parameter_at edition now ≡ Ok (None, rest after) → kept after ≡ k
-    → OnOk r (takes middle parameters_end to) → IfErr r (IsOfVisitor (fails middle parameters_end)) → VisitsAnswer takes fails parameters_events k after from to r (parameters_at edition start)
-end_visits takes fails edition start now from middle to k after (Ok u) h read same taken failed = let all = visited_all takes edition start now (rest after) from middle to h read taken in (h.raw, all.0, all.1, same)
+pub end_visits : {S E : Type 0} (takes : S → TreeEvent → S → Type 0) (fails : S → TreeEvent → E
+    → Type 0) (edition : Edition) (start now : List ℕ) (from middle to : S) (k : Parser
+    × Global) (after : Cursor) (r : Result (Unit {0}) (ParseError E))
+    → VisitedParameters takes edition start now from middle → parameter_at edition now ≡ Ok (None, rest after)
+    → kept after ≡ k
+    → OnOk r (takes middle parameters_end to) → IfErr r (IsOfVisitor (fails middle parameters_end))
+    → VisitsAnswer takes fails parameters_events k after from to r (parameters_at edition start)
+end_visits takes fails edition start now from middle to k after (Ok u) h read same taken failed = let all =
+    visited_all takes edition start now (rest after) from middle to h read taken in (h.raw, all.0, all.1, same)
 end_visits takes fails edition start now from middle to k after (Err e) h read same taken failed =
-    of_visitor takes fails parameters_events k after from to (fails middle parameters_end) e (parameters_at edition start) failed (λ fault failed. end_failed takes fails edition start now (rest after) from middle fault h read failed)
+    of_visitor takes fails parameters_events k after from to (fails middle parameters_end) e
+    (parameters_at edition start) failed (λ fault failed.
+    end_failed takes fails edition start now (rest after) from middle fault h read failed)
 
-faulty_located : (edition : Edition) (start now : List ℕ) (raw : RawParameters) (k : ErrorKind) (r : List ℕ) → in_front parameter_event raw (parameters_at edition now) ≡ parameters_at edition start → located (parameter_at edition now) ≡ Err (k, r) → located (parameters_at edition start) ≡ Err (k, r)
+faulty_located : (edition : Edition) (start now : List ℕ) (raw : RawParameters) (k : ErrorKind) (r : List ℕ)
+    → in_front parameter_event raw (parameters_at edition now) ≡ parameters_at edition start
+    → located (parameter_at edition now) ≡ Err (k, r) → located (parameters_at edition start) ≡ Err (k, r)
 unfolding parameters_at
 faulty_located edition start now raw k r so_far = on (parameter_at edition now) refl
   where
-    on : (a : Answer (Option (List ℕ × BareValue))) → parameter_at edition now ≡ a → located a ≡ Err (k, r) → located (parameters_at edition start) ≡ Err (k, r)
+    on : (a : Answer (Option (List ℕ × BareValue))) → parameter_at edition now ≡ a → located a ≡ Err (k, r)
+        → located (parameters_at edition start) ≡ Err (k, r)
     on (Ok x) e q = absurd cc
-    on (Err f) e q = ap located (is_faulty parameter_event (parameter_at edition) (Consumes-parameter edition) raw now f (parameters_at edition start) e so_far) ∙ ap (λ (p : ErrorKind × List ℕ). Err p) cc
+    on (Err f) e q = ap located (is_faulty parameter_event (parameter_at edition) (Consumes-parameter edition) raw now f
+        (parameters_at edition start) e so_far) ∙ ap (λ (p : ErrorKind × List ℕ). Err p) cc
 
 -- a fault of one parameter is the fault of the loop
-pub visited_error : {S : Type 0} (takes : S → TreeEvent → S → Type 0) (start now : List ℕ) (from middle : S) (i j : Parser × Global) (e : Error) → i ≡ j → VisitedParameters takes (kept_edition j) start now from middle
-    → IsErrorOf (kept_input i) e (parameter_at (kept_edition i) now) → IsErrorOf (kept_input j) e (parameters_at (kept_edition j) start)
-visited_error takes start now from middle i j e same h error = on e.index (subst (λ (k : Parser × Global). IsErrorOf (kept_input k) e (parameter_at (kept_edition k) now)) same error)
+pub visited_error : {S : Type 0} (takes : S → TreeEvent → S
+    → Type 0) (start now : List ℕ) (from middle : S) (i j : Parser × Global) (e : Error) → i ≡ j
+    → VisitedParameters takes (kept_edition j) start now from middle
+    → IsErrorOf (kept_input i) e (parameter_at (kept_edition i) now)
+    → IsErrorOf (kept_input j) e (parameters_at (kept_edition j) start)
+visited_error takes start now from middle i j e same h error =
+    on e.index (subst (λ (k : Parser × Global). IsErrorOf (kept_input k) e (parameter_at (kept_edition k) now)) same
+    error)
   where
-    on : (o : Option ℕ) → MatchOption o (e.kind ≡ OutOfMemory) (λ index. (located (parameter_at (kept_edition j) now) ≡ Err (e.kind, drop index (kept_input j))) × (index ≤ length (kept_input j)))
-        → MatchOption o (e.kind ≡ OutOfMemory) (λ index. (located (parameters_at (kept_edition j) start) ≡ Err (e.kind, drop index (kept_input j))) × (index ≤ length (kept_input j)))
+    on : (o : Option ℕ) → MatchOption o (e.kind ≡ OutOfMemory)
+        (λ index. (located (parameter_at (kept_edition j) now) ≡ Err (e.kind, drop index (kept_input j)))
+        × (index ≤ length (kept_input j)))
+        → MatchOption o (e.kind ≡ OutOfMemory) (λ index. (located (parameters_at (kept_edition j) start)
+        ≡ Err (e.kind, drop index (kept_input j))) × (index ≤ length (kept_input j)))
     on None q = q
     on (Some n) q = (faulty_located (kept_edition j) start now h.raw _ _ h.so_far q.0, q.1)
 
 -- ---- items
 
-given_visited : (b : BareValue) (a : Answer RawParameters) → visited (λ (i : RawItem). parameters_events i.parameters) (and_then a (λ ps. give (item_of b ps))) ≡ visited parameters_events a
+given_visited : (b : BareValue) (a : Answer RawParameters)
+    → visited (λ (i : RawItem). parameters_events i.parameters) (and_then a (λ ps. give (item_of b ps)))
+    ≡ visited parameters_events a
 unfolding give
 given_visited b (Ok x) = refl
 given_visited b (Err e) = refl
 
-given_events : (b : BareValue) (a : Answer RawParameters) (w : RawItem) (r : List ℕ) → and_then a (λ ps. give (item_of b ps)) ≡ Ok (w, r) → item_events w ≡ (bare_item b ∷ []) ++ parameters_events w.parameters
+given_events : (b : BareValue) (a : Answer RawParameters) (w : RawItem) (r : List ℕ)
+    → and_then a (λ ps. give (item_of b ps)) ≡ Ok (w, r)
+    → item_events w ≡ (bare_item b ∷ []) ++ parameters_events w.parameters
 unfolding give
 given_events b (Ok x) w r e =
     let here : RawItem × List ℕ = (item_of b x.0, x.1) in
@@ -144,14 +213,19 @@ given_events b (Ok x) w r e =
     ap (λ (p : RawItem × List ℕ). bare_item p.0.bare ∷ parameters_events w.parameters) (sym same)
 given_events b (Err f) w r e = absurd cc
 
-item_visited : (edition : Edition) (t q : List ℕ) (b : BareValue) → bare_at edition t ≡ Ok (b, q) → visited item_events (item_at edition t) ≡ bare_item b ∷ visited parameters_events (parameters_at edition q)
+item_visited : (edition : Edition) (t q : List ℕ) (b : BareValue) → bare_at edition t ≡ Ok (b, q)
+    → visited item_events (item_at edition t) ≡ bare_item b ∷ visited parameters_events (parameters_at edition q)
 unfolding item_at bind
 item_visited edition t q b e =
-    visited_then (bare_at edition) (λ bare. parameters_at edition >>= λ ps. give (item_of bare ps)) (λ bare. bare_item bare ∷ []) item_events (λ i. parameters_events i.parameters) t q b e (given_events b (parameters_at edition q))
+    visited_then (bare_at edition) (λ bare. parameters_at edition
+    >>= λ ps. give (item_of bare ps)) (λ bare. bare_item bare ∷ []) item_events
+    (λ i. parameters_events i.parameters) t q b e (given_events b (parameters_at edition q))
     ∙ ap (λ (es : List TreeEvent). bare_item b ∷ es) (given_visited b (parameters_at edition q))
 
 -- the visitor fails at the bare item
-pub bare_failed : {S E : Type 0} (takes : S → TreeEvent → S → Type 0) (fails : S → TreeEvent → E → Type 0) (edition : Edition) (t q : List ℕ) (b : BareValue) (from : S) (fault : E) → bare_at edition t ≡ Ok (b, q) → fails from (bare_item b) fault → VisitorFails takes fails item_events (item_at edition t) from fault
+pub bare_failed : {S E : Type 0} (takes : S → TreeEvent → S → Type 0) (fails : S → TreeEvent → E
+    → Type 0) (edition : Edition) (t q : List ℕ) (b : BareValue) (from : S) (fault : E) → bare_at edition t ≡ Ok (b, q)
+    → fails from (bare_item b) fault → VisitorFails takes fails item_events (item_at edition t) from fault
 bare_failed takes fails edition t q b from fault e failed = record {
   before = [];
   e = bare_item b;
@@ -163,7 +237,11 @@ bare_failed takes fails edition t q b from fault e failed = record {
 }
 
 -- the visitor fails at a parameter of it, or their end
-pub parameters_failed : {S E : Type 0} (takes : S → TreeEvent → S → Type 0) (fails : S → TreeEvent → E → Type 0) (edition : Edition) (t q : List ℕ) (b : BareValue) (from middle : S) (fault : E) → bare_at edition t ≡ Ok (b, q) → takes from (bare_item b) middle → VisitorFails takes fails parameters_events (parameters_at edition q) middle fault → VisitorFails takes fails item_events (item_at edition t) from fault
+pub parameters_failed : {S E : Type 0} (takes : S → TreeEvent → S → Type 0) (fails : S → TreeEvent → E
+    → Type 0) (edition : Edition) (t q : List ℕ) (b : BareValue) (from middle : S) (fault : E)
+    → bare_at edition t ≡ Ok (b, q) → takes from (bare_item b) middle
+    → VisitorFails takes fails parameters_events (parameters_at edition q) middle fault
+    → VisitorFails takes fails item_events (item_at edition t) from fault
 parameters_failed takes fails edition t q b from middle fault e taken r = record {
   before = bare_item b ∷ r.before;
   e = r.e;
@@ -175,9 +253,16 @@ parameters_failed takes fails edition t q b from middle fault e taken r = record
 }
 
 -- an item, by its bare item and the parameters after it
-pub item_visits : {S E : Type 0} (takes : S → TreeEvent → S → Type 0) (fails : S → TreeEvent → E → Type 0) (edition : Edition) (t q : List ℕ) (b : BareValue) (from middle to : S) (k : Parser × Global) (after : Cursor) (r : Result (Unit {0}) (ParseError E)) → bare_at edition t ≡ Ok (b, q) → takes from (bare_item b) middle
-    → VisitsAnswer takes fails parameters_events k after middle to r (parameters_at edition q) → VisitsAnswer takes fails item_events k after from to r (item_at edition t)
-item_visits takes fails edition t q b from middle to k after (Ok u) e taken h = (item_of b h.0, item_some edition t q (rest after) b h.0 e h.1, (middle, taken, h.2), h.3)
+pub item_visits : {S E : Type 0} (takes : S → TreeEvent → S → Type 0) (fails : S → TreeEvent → E
+    → Type 0) (edition : Edition) (t q : List ℕ) (b : BareValue) (from middle to : S) (k : Parser
+    × Global) (after : Cursor) (r : Result (Unit {0}) (ParseError E)) → bare_at edition t ≡ Ok (b, q)
+    → takes from (bare_item b) middle
+    → VisitsAnswer takes fails parameters_events k after middle to r (parameters_at edition q)
+    → VisitsAnswer takes fails item_events k after from to r (item_at edition t)
+item_visits takes fails edition t q b from middle to k after (Ok u) e taken h =
+    (item_of b h.0, item_some edition t q (rest after) b h.0 e h.1, (middle, taken, h.2), h.3)
 item_visits takes fails edition t q b from middle to k after (Err (Syntax error)) e taken h =
-    ErrorOf-located (kept_input k) error _ _ (item_located edition t q b e) (ErrorOf-part k k error (λ _. parameters_at edition) (λ ps. give (item_of b ps)) q _ refl refl h)
-item_visits takes fails edition t q b from middle to k after (Err (Visitor fault)) e taken h = parameters_failed takes fails edition t q b from middle fault e taken h
+    ErrorOf-located (kept_input k) error _ _ (item_located edition t q b e)
+    (ErrorOf-part k k error (λ _. parameters_at edition) (λ ps. give (item_of b ps)) q _ refl refl h)
+item_visits takes fails edition t q b from middle to k after (Err (Visitor fault)) e taken h =
+    parameters_failed takes fails edition t q b from middle fault e taken h

@@ -6,4 +6,9 @@ use Rattle.sfv_ser.proofs.ReadBack.{written}
 use Rattle.sfv.proofs.field_type.ItemFieldType.serialize.Goals as goal
 
 pub returns-clause-text : goal.returns-clause-text
-returns-clause-text c = (tt, written item_field (item_tree c.args.self.now) _ c.in_ok-serialize_item.ensures.value (c.in_ok-serialize_item.ensures.text ∙ ap (λ (s : List ℕ). s ++ item_text (item_tree c.args.self.now)) c.new-text.ensures.bytes))
+returns-clause-text c = (
+  tt,
+  written item_field (item_tree c.args.self.now) _ c.in_ok-serialize_item.ensures.value
+      (c.in_ok-serialize_item.ensures.text ∙ ap (λ (s : List ℕ). s ++ item_text (item_tree c.args.self.now))
+      c.new-text.ensures.bytes),
+)

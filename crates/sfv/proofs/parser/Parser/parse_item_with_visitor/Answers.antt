@@ -4,10 +4,16 @@ use Rattle.sfv.proofs.visits.Fields.{visits_answer, visits_syntax, visits_failur
 use Rattle.sfv.proofs.parser.Parser.parse_item_with_visitor.Goals as goal
 
 pub returns-clause-visited : goal.returns-clause-visited
-returns-clause-visited g c = visits_answer g.V.Visitor.takes g.V.Visitor.fails g.V.Visitor.finishes g.V.Visitor.finish_fails (parser_edition c.args.self) item_field (input_of c.args.self) c.args.visitor c.parse_item_field.result c.parse_item_field.ensures
+returns-clause-visited g c = visits_answer g.V.Visitor.takes g.V.Visitor.fails g.V.Visitor.finishes
+    g.V.Visitor.finish_fails (parser_edition c.args.self) item_field (input_of c.args.self) c.args.visitor
+    c.parse_item_field.result c.parse_item_field.ensures
 
 pub returns-clause-syntax : goal.returns-clause-syntax
-returns-clause-syntax g c = visits_syntax g.V.Visitor.takes g.V.Visitor.fails g.V.Visitor.finishes g.V.Visitor.finish_fails (parser_edition c.args.self) item_field (input_of c.args.self) c.args.visitor c.parse_item_field.result c.parse_item_field.ensures
+returns-clause-syntax g c = visits_syntax g.V.Visitor.takes g.V.Visitor.fails g.V.Visitor.finishes
+    g.V.Visitor.finish_fails (parser_edition c.args.self) item_field (input_of c.args.self) c.args.visitor
+    c.parse_item_field.result c.parse_item_field.ensures
 
 pub returns-clause-visitor : goal.returns-clause-visitor
-returns-clause-visitor g c = visits_failure g.V.Visitor.takes g.V.Visitor.fails g.V.Visitor.finishes g.V.Visitor.finish_fails (parser_edition c.args.self) item_field (input_of c.args.self) c.args.visitor c.parse_item_field.result c.parse_item_field.ensures
+returns-clause-visitor g c = visits_failure g.V.Visitor.takes g.V.Visitor.fails g.V.Visitor.finishes
+    g.V.Visitor.finish_fails (parser_edition c.args.self) item_field (input_of c.args.self) c.args.visitor
+    c.parse_item_field.result c.parse_item_field.ensures

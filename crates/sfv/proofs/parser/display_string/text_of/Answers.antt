@@ -10,7 +10,8 @@ use Rattle.sfv.proofs.parser.display_string.text_of.Goals as goal
 pub place-index-requires-clause-pieces : goal.place-index-requires-clause-pieces
 place-index-requires-clause-pieces c =
     let r = c.requires.read in
-    let n : c.valid_up_to-valid.result ≡ utf8_valid_len c.args.bytes.items = c.valid_up_to-valid.ensures ∙ ap valid_up_to c.utf8_error.ensures ∙ c.in-Err.ensures.valid_len in
+    let n : c.valid_up_to-valid.result ≡ utf8_valid_len c.args.bytes.items = c.valid_up_to-valid.ensures
+    ∙ ap valid_up_to c.utf8_error.ensures ∙ c.in-Err.ensures.valid_len in
     (c.args.bytes.items, r.0, r.1, omega (arith, utf8_valid_len_le c.args.bytes.items, n))
 
 pub returns-in-Ok : goal.returns-in-Ok
@@ -21,6 +22,10 @@ returns-in-Ok c = λ rest e.
 
 pub returns-in-Err : goal.returns-in-Err
 returns-in-Err c = λ rest e.
-    let n : c.valid_up_to-valid.result ≡ utf8_valid_len c.args.bytes.items = c.valid_up_to-valid.ensures ∙ ap valid_up_to c.utf8_error.ensures ∙ c.in-Err.ensures.valid_len in
+    let n : c.valid_up_to-valid.result ≡ utf8_valid_len c.args.bytes.items = c.valid_up_to-valid.ensures
+    ∙ ap valid_up_to c.utf8_error.ensures ∙ c.in-Err.ensures.valid_len in
     let not_text : ¬ IsUtf8 c.args.bytes.items = search rules in
-    rw c.at.ensures (rw (c.place-index.ensures.place, n) (ap located (shown_wrong _ _ rest e not_text)), c.place-index.ensures.within)
+    rw c.at.ensures (
+      rw (c.place-index.ensures.place, n) (ap located (shown_wrong _ _ rest e not_text)),
+      c.place-index.ensures.within,
+    )

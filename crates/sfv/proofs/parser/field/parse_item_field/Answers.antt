@@ -14,29 +14,57 @@ use Rattle.sfv.proofs.parser.field.parse_item_field.Goals as goal
 pub returns-in_err-item : goal.returns-in_err-item
 returns-in_err-item g c =
     let p = err_from_is_err_and c.from_residual.result c.from_residual.ensures.1 in
-    let skipped : span is_space (input_of c.args.parser) ≡ Ok (c.skip_sp.ensures.skipped.0, rest c.skip_sp.new.self) = rw (← c.new-cursor.ensures.rest) c.skip_sp.ensures.skipped.1 in
+    let skipped : span is_space (input_of c.args.parser) ≡ Ok (c.skip_sp.ensures.skipped.0, rest c.skip_sp.new.self) =
+    rw (← c.new-cursor.ensures.rest) c.skip_sp.ensures.skipped.1 in
     rw (p.1, p.2)
-    (item_fails g.V.Visitor.takes g.V.Visitor.fails g.V.Visitor.finishes g.V.Visitor.finish_fails (parser_edition c.args.parser) (c.args.parser, c.args.alloc) _ _ c.args.visitor c.item.new.visitor c.item.new.self _ skipped
-    (kept_visits g.V.Visitor.takes g.V.Visitor.fails item_events item_at c.skip_sp.new.self c.item.new.self c.args.visitor c.item.new.visitor _ (Err c.in_err-item.field-0.0) (c.skip_sp.ensures.kept ∙ c.new-cursor.ensures.kept) c.in_err-item.ensures.visited))
+    (item_fails g.V.Visitor.takes g.V.Visitor.fails g.V.Visitor.finishes g.V.Visitor.finish_fails
+    (parser_edition c.args.parser) (
+      c.args.parser,
+      c.args.alloc,
+    ) _ _ c.args.visitor c.item.new.visitor c.item.new.self _ skipped
+    (kept_visits g.V.Visitor.takes g.V.Visitor.fails item_events item_at c.skip_sp.new.self c.item.new.self
+    c.args.visitor c.item.new.visitor _ (Err c.in_err-item.field-0.0) (c.skip_sp.ensures.kept
+    ∙ c.new-cursor.ensures.kept) c.in_err-item.ensures.visited))
 
 pub returns-in_err-out : goal.returns-in_err-out
 returns-in_err-out g c =
     let p = err_from_is_err_and c.from_residual-in_err-out.result c.from_residual-in_err-out.ensures.1 in
-    let skipped : span is_space (input_of c.args.parser) ≡ Ok (c.skip_sp.ensures.skipped.0, rest c.skip_sp.new.self) = rw (← c.new-cursor.ensures.rest) c.skip_sp.ensures.skipped.1 in
-    let read = kept_visits g.V.Visitor.takes g.V.Visitor.fails item_events item_at c.skip_sp.new.self c.item.new.self c.args.visitor c.item.new.visitor _ (Ok tt) (c.skip_sp.ensures.kept ∙ c.new-cursor.ensures.kept) c.in_ok-item.ensures.visited in
-    rw (p.1, p.2) (finish_failed g.V.Visitor.takes g.V.Visitor.fails g.V.Visitor.finishes g.V.Visitor.finish_fails (parser_edition c.args.parser) (input_of c.args.parser) _ _ _ read.0 c.args.visitor c.item.new.visitor _ skipped read.1 read.2 c.in_err-out.ensures.failed)
+    let skipped : span is_space (input_of c.args.parser) ≡ Ok (c.skip_sp.ensures.skipped.0, rest c.skip_sp.new.self) =
+    rw (← c.new-cursor.ensures.rest) c.skip_sp.ensures.skipped.1 in
+    let read = kept_visits g.V.Visitor.takes g.V.Visitor.fails item_events item_at c.skip_sp.new.self c.item.new.self
+    c.args.visitor c.item.new.visitor _ (Ok tt) (c.skip_sp.ensures.kept
+    ∙ c.new-cursor.ensures.kept) c.in_ok-item.ensures.visited in
+    rw (p.1, p.2) (finish_failed g.V.Visitor.takes g.V.Visitor.fails g.V.Visitor.finishes g.V.Visitor.finish_fails
+    (parser_edition c.args.parser) (input_of c.args.parser) _ _ _ read.0 c.args.visitor c.item.new.visitor _ skipped
+    read.1 read.2 c.in_err-out.ensures.failed)
 
 pub returns-then-is_some : goal.returns-then-is_some
 returns-then-is_some g c =
-    let skipped : span is_space (input_of c.args.parser) ≡ Ok (c.skip_sp.ensures.skipped.0, rest c.skip_sp.new.self) = rw (← c.new-cursor.ensures.rest) c.skip_sp.ensures.skipped.1 in
-    let read = kept_visits g.V.Visitor.takes g.V.Visitor.fails item_events item_at c.skip_sp.new.self c.item.new.self c.args.visitor c.item.new.visitor _ (Ok tt) (c.skip_sp.ensures.kept ∙ c.new-cursor.ensures.kept) c.in_ok-item.ensures.visited in (
+    let skipped : span is_space (input_of c.args.parser) ≡ Ok (c.skip_sp.ensures.skipped.0, rest c.skip_sp.new.self) =
+    rw (← c.new-cursor.ensures.rest) c.skip_sp.ensures.skipped.1 in
+    let read = kept_visits g.V.Visitor.takes g.V.Visitor.fails item_events item_at c.skip_sp.new.self c.item.new.self
+    c.args.visitor c.item.new.visitor _ (Ok tt) (c.skip_sp.ensures.kept
+    ∙ c.new-cursor.ensures.kept) c.in_ok-item.ensures.visited in (
       rw c.error-error.ensures
-          (field_trailing_error _ _ _ _ _ _ c.skip_sp-2.new.self (c.args.parser, c.args.alloc) _ (c.skip_sp-2.ensures.kept ∙ read.3) skipped read.1 c.skip_sp-2.ensures.skipped.1 (rw (← c.peek.ensures) (sym c.is_some.ensures ∙ c.if-is_some.true))),
-      finished_first g.V.Visitor.takes g.V.Visitor.finishes _ _ _ _ _ _ _ c.item.new.visitor c.in_ok-out.out c.error-error.result skipped read.1 read.2 c.in_ok-out.ensures.answered,
+          (field_trailing_error _ _ _ _ _ _ c.skip_sp-2.new.self (
+            c.args.parser,
+            c.args.alloc,
+          ) _ (c.skip_sp-2.ensures.kept
+          ∙ read.3) skipped read.1 c.skip_sp-2.ensures.skipped.1 (rw (← c.peek.ensures) (sym c.is_some.ensures
+          ∙ c.if-is_some.true))),
+      finished_first g.V.Visitor.takes g.V.Visitor.finishes _ _ _ _ _ _ _ c.item.new.visitor c.in_ok-out.out
+          c.error-error.result skipped read.1 read.2 c.in_ok-out.ensures.answered,
     )
 
 pub returns : goal.returns
 returns g c =
-    let skipped : span is_space (input_of c.args.parser) ≡ Ok (c.skip_sp.ensures.skipped.0, rest c.skip_sp.new.self) = rw (← c.new-cursor.ensures.rest) c.skip_sp.ensures.skipped.1 in
-    let read = kept_visits g.V.Visitor.takes g.V.Visitor.fails item_events item_at c.skip_sp.new.self c.item.new.self c.args.visitor c.item.new.visitor _ (Ok tt) (c.skip_sp.ensures.kept ∙ c.new-cursor.ensures.kept) c.in_ok-item.ensures.visited in
-    (read.0, field_done _ _ _ _ _ _ _ _ skipped read.1 c.skip_sp-2.ensures.skipped.1 (rw (← c.peek.ensures) (sym c.is_some.ensures ∙ c.if-is_some.false)), record { last = c.item.new.visitor; taken = read.2; answered = c.in_ok-out.ensures.answered })
+    let skipped : span is_space (input_of c.args.parser) ≡ Ok (c.skip_sp.ensures.skipped.0, rest c.skip_sp.new.self) =
+    rw (← c.new-cursor.ensures.rest) c.skip_sp.ensures.skipped.1 in
+    let read = kept_visits g.V.Visitor.takes g.V.Visitor.fails item_events item_at c.skip_sp.new.self c.item.new.self
+    c.args.visitor c.item.new.visitor _ (Ok tt) (c.skip_sp.ensures.kept
+    ∙ c.new-cursor.ensures.kept) c.in_ok-item.ensures.visited in (
+      read.0,
+      field_done _ _ _ _ _ _ _ _ skipped read.1 c.skip_sp-2.ensures.skipped.1
+          (rw (← c.peek.ensures) (sym c.is_some.ensures ∙ c.if-is_some.false)),
+      record { last = c.item.new.visitor; taken = read.2; answered = c.in_ok-out.ensures.answered },
+    )

@@ -12,13 +12,23 @@ returns-in_err-members g c =
     let p = err_from_is_err_and c.from_residual.result c.from_residual.ensures.1 in
     let keyed = g.M.Member.keyed in
     rw (p.1, p.2)
-    (members_fail g.V.Visitor.takes g.V.Visitor.fails g.V.Visitor.finishes g.V.Visitor.finish_fails keyed (parser_edition c.args.parser) (c.args.parser, c.args.alloc) c.args.visitor c.members.new.visitor c.members.new.self c.in_err-members.field-0.0
-    (start_visits g.V.Visitor.takes g.V.Visitor.fails (λ members. flat_map (member_parts keyed) members) (λ edition. members_at (member_parts keyed) (one_member_at keyed edition)) c.new.result c.members.new.self c.args.visitor c.members.new.visitor (c.args.parser, c.args.alloc) (Err c.in_err-members.field-0.0)
+    (members_fail g.V.Visitor.takes g.V.Visitor.fails g.V.Visitor.finishes g.V.Visitor.finish_fails keyed
+    (parser_edition c.args.parser) (
+      c.args.parser,
+      c.args.alloc,
+    ) c.args.visitor c.members.new.visitor c.members.new.self c.in_err-members.field-0.0
+    (start_visits g.V.Visitor.takes g.V.Visitor.fails (λ members. flat_map (member_parts keyed) members)
+    (λ edition. members_at (member_parts keyed) (one_member_at keyed edition)) c.new.result c.members.new.self
+    c.args.visitor c.members.new.visitor (c.args.parser, c.args.alloc) (Err c.in_err-members.field-0.0)
     c.new.ensures.kept c.new.ensures.rest c.in_err-members.ensures.visited))
 
 pub returns : goal.returns
 returns g c =
     let keyed = g.M.Member.keyed in
-    let read = start_visits g.V.Visitor.takes g.V.Visitor.fails (λ members. flat_map (member_parts keyed) members) (λ edition. members_at (member_parts keyed) (one_member_at keyed edition)) c.new.result c.members.new.self c.args.visitor c.members.new.visitor (c.args.parser, c.args.alloc) (Ok tt)
+    let read = start_visits g.V.Visitor.takes g.V.Visitor.fails (λ members. flat_map (member_parts keyed) members)
+    (λ edition. members_at (member_parts keyed) (one_member_at keyed edition)) c.new.result c.members.new.self
+    c.args.visitor c.members.new.visitor (c.args.parser, c.args.alloc) (Ok tt)
     c.new.ensures.kept c.new.ensures.rest c.in_ok-members.ensures.visited in
-    members_finish g.V.Visitor.takes g.V.Visitor.fails g.V.Visitor.finishes g.V.Visitor.finish_fails keyed (parser_edition c.args.parser) (input_of c.args.parser) _ c.args.visitor c.members.new.visitor c.finish.result read.0 read.1 c.in_ok-members.ensures.end read.2 c.finish.ensures.answered c.finish.ensures.failed
+    members_finish g.V.Visitor.takes g.V.Visitor.fails g.V.Visitor.finishes g.V.Visitor.finish_fails keyed
+    (parser_edition c.args.parser) (input_of c.args.parser) _ c.args.visitor c.members.new.visitor c.finish.result
+    read.0 read.1 c.in_ok-members.ensures.end read.2 c.finish.ensures.answered c.finish.ensures.failed

@@ -12,5 +12,7 @@ signed-requires c = omega (arith, pow_within (length c.args.whole.now) 15 c.requ
 
 pub returns : goal.returns
 returns c = λ dated.
-    reads_same number_value_of c.args.self.now c.args.self.now c.fraction.new.self c.fraction.result (point_at dated c.args.negative c.args.whole.now) (whole_at dated c.args.negative c.args.whole.now)
-    refl (whole_point dated _ _ _ (sym c.if-is_empty.ensures) c.if-next_is_digit.ensures c.if-not-next_is.ensures (le-ltb 12 (length c.args.whole.now) c.if-whole-gt12.false)) (c.fraction.ensures dated)
+    reads_same number_value_of c.args.self.now c.args.self.now c.fraction.new.self c.fraction.result
+    (point_at dated c.args.negative c.args.whole.now) (whole_at dated c.args.negative c.args.whole.now)
+    refl (whole_point dated _ _ _ (sym c.if-is_empty.ensures) c.if-next_is_digit.ensures c.if-not-next_is.ensures
+    (le-ltb 12 (length c.args.whole.now) c.if-whole-gt12.false)) (c.fraction.ensures dated)

@@ -2,7 +2,9 @@ use Rattle.std.proofs.Common.{◌≡◌, ◌+◌, List, ℕ, length, drop, sym, 
 use Rattle.std.proofs.lemmas.List.{take_rest}
 use Rattle.sfv.proofs.reads.Contents.{runs_of, bytes_read, lone_located, malformed_located, unterminated_located}
 use Rattle.sfv.proofs.parser.cursor.Cursor.byte_sequence.Goals as goal
-use Rattle.sfv.proofs.parser.cursor.Cursor.byte_sequence.Goals.{then-end-content-via-then-end-content, then-end-content-via-else-end-content+then-content-end-ne58, then-contains, else-contains}
+use Rattle.sfv.proofs.parser.cursor.Cursor.byte_sequence.Goals.{then-end-content-via-then-end-content}
+use Rattle.sfv.proofs.parser.cursor.Cursor.byte_sequence.Goals.{then-end-content-via-else-end-content+then-content-end-ne58}
+use Rattle.sfv.proofs.parser.cursor.Cursor.byte_sequence.Goals.{then-contains, else-contains}
 use Rattle.sfv_spec.specs.Ascii.{colon}
 
 pub returns-then-end-content : goal.returns-then-end-content
@@ -13,13 +15,17 @@ returns-then-end-content c =
     let p : ℕ = c.padding_run.result in
     let runs = runs_of input start n _ p c.symbol_run-count.ensures c.padding_after.ensures c.padding_run.ensures in
     let found = simp take_rest at c.contains.ensures.value in
-    let other : (n + p ≡ length (drop start input)) ⊎ (get_or (drop start input) (n + p) 0 ≡ colon → ⊥) = elim c.then-end-content.branch [
+    let other : (n + p ≡ length (drop start input))
+    ⊎ (get_or (drop start input) (n + p) 0 ≡ colon → ⊥) = elim c.then-end-content.branch [
       | then-end-content-via-then-end-content w ↦ inl (simp take_rest at w.if-end-content.true)
-      | then-end-content-via-else-end-content+then-content-end-ne58 w ↦ inr (simp take_rest at w.if-content-end-ne58.true)
+      | then-end-content-via-else-end-content+then-content-end-ne58 w ↦
+          inr (simp take_rest at w.if-content-end-ne58.true)
     ] in
     elim c.if-contains.branch [
-      | then-contains w ↦ rw (w.result-is, w.at.ensures) (malformed_located input start n p runs other (sym found ∙ w.if-contains.true) c.args.self.now.within)
-      | else-contains w ↦ rw (w.result-is, w.at-else-contains.ensures) (unterminated_located input start n p runs (sym found ∙ w.if-contains.false))
+      | then-contains w ↦ rw (w.result-is, w.at.ensures) (malformed_located input start n p runs other (sym found
+          ∙ w.if-contains.true) c.args.self.now.within)
+      | else-contains w ↦ rw (w.result-is, w.at-else-contains.ensures)
+          (unterminated_located input start n p runs (sym found ∙ w.if-contains.false))
     ]
 
 pub returns-then-count-eq1 : goal.returns-then-count-eq1

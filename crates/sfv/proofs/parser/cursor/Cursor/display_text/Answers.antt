@@ -14,12 +14,17 @@ returns-in_err-bytes-clause-read c =
     rw (r.1, r.2) (display_error (input c.args.self.now) _ _ c.in_err-bytes.ensures.read)
 
 pub from_utf8_unchecked-text-requires : goal.from_utf8_unchecked-text-requires
-from_utf8_unchecked-text-requires c = let each = rw c.in-Plain.is at c.in_ok-bytes.ensures.each in plain_utf8 _ (each refl)
+from_utf8_unchecked-text-requires c = let each = rw c.in-Plain.is at c.in_ok-bytes.ensures.each in
+    plain_utf8 _ (each refl)
 
 pub text_of-requires-clause-read : goal.text_of-requires-clause-read
 text_of-requires-clause-read c =
-    let read = rw c.in-Unescaped.is at c.in_ok-bytes.ensures.read in
-    (rest c.quoted_text.new.self, subst (λ (k : Parser × Global). pieces_from outside (drop c.args.self.now.index (kept_input k)) ≡ Ok (c.in-Unescaped.bytes.items, rest c.quoted_text.new.self)) (sym read.1) read.0)
+    let read = rw c.in-Unescaped.is at c.in_ok-bytes.ensures.read in (
+      rest c.quoted_text.new.self,
+      subst (λ (k : Parser
+          × Global). pieces_from outside (drop c.args.self.now.index (kept_input k))
+          ≡ Ok (c.in-Unescaped.bytes.items, rest c.quoted_text.new.self)) (sym read.1) read.0,
+    )
 
 pub returns-in-Plain-clause-read : goal.returns-in-Plain-clause-read
 returns-in-Plain-clause-read c =

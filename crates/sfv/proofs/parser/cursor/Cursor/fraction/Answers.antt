@@ -15,6 +15,7 @@ signed-requires c = omega (arith, pow_within (length c.args.whole.now) 12 c.requ
 pub returns : goal.returns
 returns c = λ dated. (
   rw (c.from_integer_scaled_1000.ensures, c.signed.ensures, c.number_value.ensures.value, c.thousandths.ensures.value)
-      (point_decimal dated _ _ _ _ _ _ c.requires.point c.skip.ensures.skips c.digits-fraction.ensures.digits (sym c.if-is_empty.ensures) c.if-next_is_digit.ensures),
+      (point_decimal dated _ _ _ _ _ _ c.requires.point c.skip.ensures.skips c.digits-fraction.ensures.digits
+      (sym c.if-is_empty.ensures) c.if-next_is_digit.ensures),
   c.digits-fraction.ensures.kept ∙ c.skip.ensures.kept,
 )

@@ -10,8 +10,12 @@ pub returns-in_err-visit-clause-visited : goal.returns-in_err-visit-clause-visit
 unfolding inner_item_at
 returns-in_err-visit-clause-visited g c =
     let p = err_from_is_err_and c.from_residual.result c.from_residual.ensures.1 in
-    rw (p.1, p.2) (led_fails g.V.Visitor.takes g.V.Visitor.fails begins_item item_events (item_at (edition c.args.self.now)) _ _ c.visit.new.visitor (kept c.args.self.now) c.args.self.now _ c.in_err-visit.ensures.failed)
+    rw (p.1, p.2) (led_fails g.V.Visitor.takes g.V.Visitor.fails begins_item item_events
+    (item_at (edition c.args.self.now)) _ _ c.visit.new.visitor (kept c.args.self.now) c.args.self.now _
+    c.in_err-visit.ensures.failed)
 
 pub returns-clause-visited : goal.returns-clause-visited
 unfolding inner_item_at
-returns-clause-visited g c = led_visits g.V.Visitor.takes g.V.Visitor.fails begins_item item_events (item_at (edition c.args.self.now)) _ _ _ c.item.new.visitor _ c.item.new.self c.item.result c.in_ok-visit.ensures.taken c.item.ensures.visited
+returns-clause-visited g c = led_visits g.V.Visitor.takes g.V.Visitor.fails begins_item item_events
+    (item_at (edition c.args.self.now)) _ _ _ c.item.new.visitor _ c.item.new.self c.item.result
+    c.in_ok-visit.ensures.taken c.item.ensures.visited

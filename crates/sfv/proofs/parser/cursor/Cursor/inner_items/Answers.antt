@@ -9,45 +9,76 @@ use Rattle.sfv.proofs.parser.cursor.Cursor.inner_items.Goals as goal
 pub returns-in_err-inner_item-clause-visited : goal.returns-in_err-inner_item-clause-visited
 returns-in_err-inner_item-clause-visited g c =
     let p = err_from_is_err_and c.from_residual.result c.from_residual.ensures.1 in
-    rw (p.1, p.2) (first_fails g.V.Visitor.takes g.V.Visitor.fails items_loop c.args.self.now _ c.take_if.new.self c.inner_item.new.self _ c.inner_item.new.visitor _ (items_first _ _ _ _ _ (rw (← c.peek.ensures) (c.is_none.ensures ∙ ap not c.if-is_none.false)) c.skip_sp.ensures.skipped.1 c.if-take_if.ensures.takes, c.take_if.ensures.kept ∙ c.skip_sp.ensures.kept) c.in_err-inner_item.ensures.visited)
+    rw (p.1, p.2) (first_fails g.V.Visitor.takes g.V.Visitor.fails items_loop c.args.self.now _ c.take_if.new.self
+    c.inner_item.new.self _ c.inner_item.new.visitor _ (
+      items_first _ _ _ _ _ (rw (← c.peek.ensures) (c.is_none.ensures
+          ∙ ap not c.if-is_none.false)) c.skip_sp.ensures.skipped.1 c.if-take_if.ensures.takes,
+      c.take_if.ensures.kept
+          ∙ c.skip_sp.ensures.kept,
+    ) c.in_err-inner_item.ensures.visited)
 
 pub loop-self-init : goal.loop-self-init
 loop-self-init g c = record {
   ready = c.in_ok-inner_item.ensures.ready;
-  visited = begun g.V.Visitor.takes g.V.Visitor.fails items_loop c.args.self.now _ c.take_if.new.self c.inner_item.new.self _ _ (items_first _ _ _ _ _ (rw (← c.peek.ensures) (c.is_none.ensures ∙ ap not c.if-is_none.false)) c.skip_sp.ensures.skipped.1 c.if-take_if.ensures.takes, c.take_if.ensures.kept ∙ c.skip_sp.ensures.kept) c.in_ok-inner_item.ensures.visited;
+  visited = begun g.V.Visitor.takes g.V.Visitor.fails items_loop c.args.self.now _ c.take_if.new.self
+      c.inner_item.new.self _ _ (
+        items_first _ _ _ _ _ (rw (← c.peek.ensures) (c.is_none.ensures
+            ∙ ap not c.if-is_none.false)) c.skip_sp.ensures.skipped.1 c.if-take_if.ensures.takes,
+        c.take_if.ensures.kept
+            ∙ c.skip_sp.ensures.kept,
+      ) c.in_ok-inner_item.ensures.visited;
 }
 
 pub returns-in_err-consume_item_delimiter-clause-visited : goal.returns-in_err-consume_item_delimiter-clause-visited
 returns-in_err-consume_item_delimiter-clause-visited g c =
-    let p = err_from_is_err_and c.from_residual-in_err-consume_item_delimiter.result c.from_residual-in_err-consume_item_delimiter.ensures.1 in
-    rw (p.1, p.2) (delimiter_fails g.V.Visitor.takes g.V.Visitor.fails items_loop c.args.self.now _ c.loop-self.self c.consume_item_delimiter.new.self _ _ c.loop-self.visitor _ c.loop-self.invariant.visited c.in_err-consume_item_delimiter.ensures)
+    let p = err_from_is_err_and c.from_residual-in_err-consume_item_delimiter.result
+    c.from_residual-in_err-consume_item_delimiter.ensures.1 in
+    rw (p.1, p.2) (delimiter_fails g.V.Visitor.takes g.V.Visitor.fails items_loop c.args.self.now _ c.loop-self.self
+    c.consume_item_delimiter.new.self _ _ c.loop-self.visitor _ c.loop-self.invariant.visited
+    c.in_err-consume_item_delimiter.ensures)
 
 pub loop-self-smaller : goal.loop-self-smaller
 loop-self-smaller g c =
     let wanted = rw c.if-branch.true at c.in_ok-consume_item_delimiter.ensures in
-    shorter g.V.Visitor.takes g.V.Visitor.fails items_loop c.loop-self.self c.consume_item_delimiter.new.self c.inner_item-in-loop-self.new.self _ _ wanted c.in_ok-inner_item-2.ensures.visited
+    shorter g.V.Visitor.takes g.V.Visitor.fails items_loop c.loop-self.self c.consume_item_delimiter.new.self
+    c.inner_item-in-loop-self.new.self _ _ wanted c.in_ok-inner_item-2.ensures.visited
 
 pub loop-self-preserved : goal.loop-self-preserved
 loop-self-preserved g c =
     let wanted = rw c.if-branch.true at c.in_ok-consume_item_delimiter.ensures in
     record {
       ready = c.in_ok-inner_item-2.ensures.ready;
-      visited = more g.V.Visitor.takes g.V.Visitor.fails items_loop c.args.self.now _ c.loop-self.self c.consume_item_delimiter.new.self c.inner_item-in-loop-self.new.self _ _ _ c.loop-self.invariant.visited wanted c.in_ok-inner_item-2.ensures.visited;
+      visited = more g.V.Visitor.takes g.V.Visitor.fails items_loop c.args.self.now _ c.loop-self.self
+          c.consume_item_delimiter.new.self c.inner_item-in-loop-self.new.self _ _ _ c.loop-self.invariant.visited
+          wanted c.in_ok-inner_item-2.ensures.visited;
     }
 
 pub returns-in_err-inner_item-2-clause-visited : goal.returns-in_err-inner_item-2-clause-visited
 returns-in_err-inner_item-2-clause-visited g c =
-    let p = err_from_is_err_and c.from_residual-in_err-inner_item-2.result c.from_residual-in_err-inner_item-2.ensures.1 in
+    let p = err_from_is_err_and c.from_residual-in_err-inner_item-2.result
+    c.from_residual-in_err-inner_item-2.ensures.1 in
     let wanted = rw c.if-branch.true at c.in_ok-consume_item_delimiter.ensures in
-    rw (p.1, p.2) (one_fails g.V.Visitor.takes g.V.Visitor.fails items_loop c.args.self.now _ c.loop-self.self c.consume_item_delimiter.new.self c.inner_item-in-loop-self.new.self _ _ c.inner_item-in-loop-self.new.visitor _ c.loop-self.invariant.visited wanted c.in_err-inner_item-2.ensures.visited)
+    rw (p.1, p.2) (one_fails g.V.Visitor.takes g.V.Visitor.fails items_loop c.args.self.now _ c.loop-self.self
+    c.consume_item_delimiter.new.self c.inner_item-in-loop-self.new.self _ _ c.inner_item-in-loop-self.new.visitor _
+    c.loop-self.invariant.visited wanted c.in_err-inner_item-2.ensures.visited)
 
 pub returns-clause-visited : goal.returns-clause-visited
 returns-clause-visited g c =
     let wanted = rw c.if-branch.false at c.in_ok-consume_item_delimiter.ensures in
-    ended g.V.Visitor.takes g.V.Visitor.fails items_loop c.args.self.now _ c.loop-self.self c.consume_item_delimiter.new.self _ _ c.loop-self.invariant.visited wanted
+    ended g.V.Visitor.takes g.V.Visitor.fails items_loop c.args.self.now _ c.loop-self.self
+    c.consume_item_delimiter.new.self _ _ c.loop-self.invariant.visited wanted
 
 pub returns-then-is_none-clause-visited : goal.returns-then-is_none-clause-visited
-returns-then-is_none-clause-visited g c = rw c.error-error.ensures (ErrorOf-here _ c.args.self.now (kept c.args.self.now) _ refl (items_none _ _ (rw (← c.peek.ensures) (c.is_none.ensures ∙ ap not c.if-is_none.true))))
+returns-then-is_none-clause-visited g c = rw c.error-error.ensures
+    (ErrorOf-here _ c.args.self.now (kept c.args.self.now) _ refl
+    (items_none _ _ (rw (← c.peek.ensures) (c.is_none.ensures ∙ ap not c.if-is_none.true))))
 
 pub returns-then-take_if-clause-visited : goal.returns-then-take_if-clause-visited
-returns-then-take_if-clause-visited g c = ([], items_closed _ _ _ _ _ (rw (← c.peek.ensures) (c.is_none.ensures ∙ ap not c.if-is_none.false)) c.skip_sp.ensures.skipped.1 c.if-take_if.ensures.takes, refl, c.take_if.ensures.kept ∙ c.skip_sp.ensures.kept)
+returns-then-take_if-clause-visited g c = (
+  [],
+  items_closed _ _ _ _ _ (rw (← c.peek.ensures) (c.is_none.ensures
+      ∙ ap not c.if-is_none.false)) c.skip_sp.ensures.skipped.1 c.if-take_if.ensures.takes,
+  refl,
+  c.take_if.ensures.kept
+      ∙ c.skip_sp.ensures.kept,
+)

@@ -7,7 +7,8 @@ use Rattle.sfv.proofs.parser.cursor.Cursor.inner_items.Given as goal
 abbrev pub invariant-loop-self : goal.invariant-loop-self
 invariant-loop-self g l = record {
   ready : g.V.Visitor.is_ready l.visitor;
-  visited : VisitedSoFar g.V.Visitor.takes items_loop l.fn.self (inner_items_at (edition l.fn.self) (rest l.fn.self)) l.self l.fn.visitor l.visitor;
+  visited : VisitedSoFar g.V.Visitor.takes items_loop l.fn.self (inner_items_at (edition l.fn.self) (rest l.fn.self))
+      l.self l.fn.visitor l.visitor;
 }
 
 abbrev pub decreases-loop-self : goal.decreases-loop-self

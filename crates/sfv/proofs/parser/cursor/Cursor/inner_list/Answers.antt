@@ -9,16 +9,20 @@ use Rattle.sfv.proofs.parser.cursor.Cursor.inner_list.Goals as goal
 pub returns-in_err-inner_items-clause-visited : goal.returns-in_err-inner_items-clause-visited
 returns-in_err-inner_items-clause-visited g c =
     let p = err_from_is_err_and c.from_residual.result c.from_residual.ensures.1 in
-    rw (p.1, p.2) (items_fail g.V.Visitor.takes g.V.Visitor.fails (edition c.args.self.now) _ _ c.inner_items.new.visitor (kept c.args.self.now) c.inner_items.new.self _ c.in_err-inner_items.ensures.visited)
+    rw (p.1, p.2) (items_fail g.V.Visitor.takes g.V.Visitor.fails (edition c.args.self.now) _ _
+    c.inner_items.new.visitor (kept c.args.self.now) c.inner_items.new.self _ c.in_err-inner_items.ensures.visited)
 
 pub returns-in_err-visit-clause-visited : goal.returns-in_err-visit-clause-visited
 returns-in_err-visit-clause-visited g c =
     let p = err_from_is_err_and c.from_residual-in_err-visit.result c.from_residual-in_err-visit.ensures.1 in
     let read = c.in_ok-inner_items.ensures.visited in
-    rw (p.1, p.2) (end_fails g.V.Visitor.takes g.V.Visitor.fails (edition c.args.self.now) _ _ read.0 _ _ c.visit.new.visitor (kept c.args.self.now) c.inner_items.new.self _ read.1 read.2 c.in_err-visit.ensures.failed)
+    rw (p.1, p.2) (end_fails g.V.Visitor.takes g.V.Visitor.fails (edition c.args.self.now) _ _ read.0 _ _
+    c.visit.new.visitor (kept c.args.self.now) c.inner_items.new.self _ read.1 read.2 c.in_err-visit.ensures.failed)
 
 pub returns-clause-visited : goal.returns-clause-visited
 returns-clause-visited g c =
     let read = c.in_ok-inner_items.ensures.visited in
-    inner_list_visits g.V.Visitor.takes g.V.Visitor.fails (edition c.args.self.now) _ _ read.0 _ _ _ c.parameters.new.visitor _ c.parameters.new.self c.parameters.result read.1 read.2 c.in_ok-visit.ensures.taken
-    (kept_visits g.V.Visitor.takes g.V.Visitor.fails parameters_events parameters_at c.inner_items.new.self c.parameters.new.self c.visit.new.visitor c.parameters.new.visitor _ _ read.3 c.parameters.ensures.visited)
+    inner_list_visits g.V.Visitor.takes g.V.Visitor.fails (edition c.args.self.now) _ _ read.0 _ _ _
+    c.parameters.new.visitor _ c.parameters.new.self c.parameters.result read.1 read.2 c.in_ok-visit.ensures.taken
+    (kept_visits g.V.Visitor.takes g.V.Visitor.fails parameters_events parameters_at c.inner_items.new.self
+    c.parameters.new.self c.visit.new.visitor c.parameters.new.visitor _ _ read.3 c.parameters.ensures.visited)

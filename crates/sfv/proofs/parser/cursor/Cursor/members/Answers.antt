@@ -9,46 +9,71 @@ use Rattle.sfv.proofs.parser.cursor.Cursor.members.Goals as goal
 pub returns-in_err-consume-clause-visited : goal.returns-in_err-consume-clause-visited
 returns-in_err-consume-clause-visited g c =
     let p = err_from_is_err_and c.from_residual.result c.from_residual.ensures.1 in
-    rw (p.1, p.2) (first_fails g.V.Visitor.takes g.V.Visitor.fails (members_loop g.M.Member.keyed) c.args.self.now _ c.skip_sp.new.self c.consume.new.cursor _ c.consume.new.visitor _ (members_first (member_parts g.M.Member.keyed) (one_member_at g.M.Member.keyed (edition c.args.self.now)) _ _ _ c.skip_sp.ensures.skipped.1 (rw (← c.peek.ensures) (c.is_none.ensures ∙ ap not c.if-is_none.false)), c.skip_sp.ensures.kept) c.in_err-consume.ensures.visited)
+    rw (p.1, p.2) (first_fails g.V.Visitor.takes g.V.Visitor.fails (members_loop g.M.Member.keyed) c.args.self.now _
+    c.skip_sp.new.self c.consume.new.cursor _ c.consume.new.visitor _ (
+      members_first (member_parts g.M.Member.keyed) (one_member_at g.M.Member.keyed (edition c.args.self.now)) _ _ _
+          c.skip_sp.ensures.skipped.1 (rw (← c.peek.ensures) (c.is_none.ensures ∙ ap not c.if-is_none.false)),
+      c.skip_sp.ensures.kept,
+    ) c.in_err-consume.ensures.visited)
 
 pub loop-self-init : goal.loop-self-init
 loop-self-init g c = record {
   ready = c.in_ok-consume.ensures.ready;
-  visited = begun g.V.Visitor.takes g.V.Visitor.fails (members_loop g.M.Member.keyed) c.args.self.now _ c.skip_sp.new.self c.consume.new.cursor _ _ (members_first (member_parts g.M.Member.keyed) (one_member_at g.M.Member.keyed (edition c.args.self.now)) _ _ _ c.skip_sp.ensures.skipped.1 (rw (← c.peek.ensures) (c.is_none.ensures ∙ ap not c.if-is_none.false)), c.skip_sp.ensures.kept) c.in_ok-consume.ensures.visited;
+  visited = begun g.V.Visitor.takes g.V.Visitor.fails (members_loop g.M.Member.keyed) c.args.self.now _
+      c.skip_sp.new.self c.consume.new.cursor _ _ (
+        members_first (member_parts g.M.Member.keyed)
+            (one_member_at g.M.Member.keyed (edition c.args.self.now)) _ _ _ c.skip_sp.ensures.skipped.1
+            (rw (← c.peek.ensures) (c.is_none.ensures ∙ ap not c.if-is_none.false)),
+        c.skip_sp.ensures.kept,
+      ) c.in_ok-consume.ensures.visited;
 }
 
 pub returns-in_err-consume_comma-clause-visited : goal.returns-in_err-consume_comma-clause-visited
 returns-in_err-consume_comma-clause-visited g c =
-    let p = err_from_is_err_and c.from_residual-in_err-consume_comma.result c.from_residual-in_err-consume_comma.ensures.1 in
-    rw (p.1, p.2) (delimiter_fails g.V.Visitor.takes g.V.Visitor.fails (members_loop g.M.Member.keyed) c.args.self.now _ c.loop-self.self c.consume_comma.new.self _ _ c.loop-self.visitor _ c.loop-self.invariant.visited c.in_err-consume_comma.ensures)
+    let p = err_from_is_err_and c.from_residual-in_err-consume_comma.result
+    c.from_residual-in_err-consume_comma.ensures.1 in
+    rw (p.1, p.2) (delimiter_fails g.V.Visitor.takes g.V.Visitor.fails (members_loop g.M.Member.keyed) c.args.self.now _
+    c.loop-self.self c.consume_comma.new.self _ _ c.loop-self.visitor _ c.loop-self.invariant.visited
+    c.in_err-consume_comma.ensures)
 
 pub loop-self-smaller : goal.loop-self-smaller
 loop-self-smaller g c =
     let wanted = rw c.if-branch.true at c.in_ok-consume_comma.ensures in
-    shorter g.V.Visitor.takes g.V.Visitor.fails (members_loop g.M.Member.keyed) c.loop-self.self c.consume_comma.new.self c.consume-in-loop-self.new.cursor _ _ wanted c.in_ok-consume-2.ensures.visited
+    shorter g.V.Visitor.takes g.V.Visitor.fails (members_loop g.M.Member.keyed) c.loop-self.self
+    c.consume_comma.new.self c.consume-in-loop-self.new.cursor _ _ wanted c.in_ok-consume-2.ensures.visited
 
 pub loop-self-preserved : goal.loop-self-preserved
 loop-self-preserved g c =
     let wanted = rw c.if-branch.true at c.in_ok-consume_comma.ensures in
     record {
       ready = c.in_ok-consume-2.ensures.ready;
-      visited = more g.V.Visitor.takes g.V.Visitor.fails (members_loop g.M.Member.keyed) c.args.self.now _ c.loop-self.self c.consume_comma.new.self c.consume-in-loop-self.new.cursor _ _ _ c.loop-self.invariant.visited wanted c.in_ok-consume-2.ensures.visited;
+      visited = more g.V.Visitor.takes g.V.Visitor.fails (members_loop g.M.Member.keyed) c.args.self.now _
+          c.loop-self.self c.consume_comma.new.self c.consume-in-loop-self.new.cursor _ _ _
+          c.loop-self.invariant.visited wanted c.in_ok-consume-2.ensures.visited;
     }
 
 pub returns-in_err-consume-2-clause-visited : goal.returns-in_err-consume-2-clause-visited
 returns-in_err-consume-2-clause-visited g c =
     let p = err_from_is_err_and c.from_residual-in_err-consume-2.result c.from_residual-in_err-consume-2.ensures.1 in
     let wanted = rw c.if-branch.true at c.in_ok-consume_comma.ensures in
-    rw (p.1, p.2) (one_fails g.V.Visitor.takes g.V.Visitor.fails (members_loop g.M.Member.keyed) c.args.self.now _ c.loop-self.self c.consume_comma.new.self c.consume-in-loop-self.new.cursor _ _ c.consume-in-loop-self.new.visitor _ c.loop-self.invariant.visited wanted c.in_err-consume-2.ensures.visited)
+    rw (p.1, p.2) (one_fails g.V.Visitor.takes g.V.Visitor.fails (members_loop g.M.Member.keyed) c.args.self.now _
+    c.loop-self.self c.consume_comma.new.self c.consume-in-loop-self.new.cursor _ _
+    c.consume-in-loop-self.new.visitor _ c.loop-self.invariant.visited wanted c.in_err-consume-2.ensures.visited)
 
 pub returns-clause-visited : goal.returns-clause-visited
 returns-clause-visited g c =
     let wanted = rw c.if-branch.false at c.in_ok-consume_comma.ensures in
-    ended g.V.Visitor.takes g.V.Visitor.fails (members_loop g.M.Member.keyed) c.args.self.now _ c.loop-self.self c.consume_comma.new.self _ _ c.loop-self.invariant.visited wanted
+    ended g.V.Visitor.takes g.V.Visitor.fails (members_loop g.M.Member.keyed) c.args.self.now _ c.loop-self.self
+    c.consume_comma.new.self _ _ c.loop-self.invariant.visited wanted
 
 pub returns-then-is_none-clause-visited : goal.returns-then-is_none-clause-visited
-returns-then-is_none-clause-visited g c =
-    ([], members_none (member_parts g.M.Member.keyed) (one_member_at g.M.Member.keyed (edition c.args.self.now)) _ _ _ c.skip_sp.ensures.skipped.1 (rw (← c.peek.ensures) (c.is_none.ensures ∙ ap not c.if-is_none.true)), refl, c.skip_sp.ensures.kept)
+returns-then-is_none-clause-visited g c = (
+  [],
+  members_none (member_parts g.M.Member.keyed) (one_member_at g.M.Member.keyed (edition c.args.self.now)) _ _ _
+      c.skip_sp.ensures.skipped.1 (rw (← c.peek.ensures) (c.is_none.ensures ∙ ap not c.if-is_none.true)),
+  refl,
+  c.skip_sp.ensures.kept,
+)
 
 pub returns-then-is_none-clause-end : goal.returns-then-is_none-clause-end
 returns-then-is_none-clause-end g c = at_end _ (rw (← c.peek.ensures) (c.is_none.ensures ∙ ap not c.if-is_none.true))

@@ -8,7 +8,9 @@ use Rattle.sfv.proofs.parser.cursor.Cursor.members.Given as goal
 abbrev pub invariant-loop-self : goal.invariant-loop-self
 invariant-loop-self g l = record {
   ready : g.V.Visitor.is_ready l.visitor;
-  visited : VisitedSoFar g.V.Visitor.takes (members_loop g.M.Member.keyed) l.fn.self (members_at (member_parts g.M.Member.keyed) (one_member_at g.M.Member.keyed (edition l.fn.self)) (rest l.fn.self)) l.self l.fn.visitor l.visitor;
+  visited : VisitedSoFar g.V.Visitor.takes (members_loop g.M.Member.keyed) l.fn.self
+      (members_at (member_parts g.M.Member.keyed) (one_member_at g.M.Member.keyed (edition l.fn.self)) (rest l.fn.self))
+      l.self l.fn.visitor l.visitor;
 }
 
 abbrev pub decreases-loop-self : goal.decreases-loop-self

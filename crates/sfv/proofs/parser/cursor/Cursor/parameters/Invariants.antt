@@ -6,7 +6,8 @@ use Rattle.sfv.proofs.parser.cursor.Cursor.parameters.Given as goal
 abbrev pub invariant-loop-parameter : goal.invariant-loop-parameter
 invariant-loop-parameter g l = record {
   ready : g.V.Visitor.is_ready l.visitor;
-  visited : VisitedParameters g.V.Visitor.takes (edition l.fn.self) (rest l.fn.self) (rest l.self) l.fn.visitor l.visitor;
+  visited : VisitedParameters g.V.Visitor.takes (edition l.fn.self) (rest l.fn.self) (rest l.self) l.fn.visitor
+      l.visitor;
   kept : kept l.self ≡ kept l.fn.self;
 }
 

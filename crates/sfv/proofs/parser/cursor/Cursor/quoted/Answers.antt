@@ -4,8 +4,11 @@ use Rattle.sfv.proofs.reads.Steps.{quoted_no_quote, quoted_reads}
 use Rattle.sfv.proofs.parser.cursor.Cursor.quoted.Goals as goal
 
 pub returns-then-not-take_if : goal.returns-then-not-take_if
-returns-then-not-take_if c = rw c.error.ensures (ErrorOf-here _ c.take_if.new.self _ _ (c.take_if.ensures.kept ∙ c.skip.ensures.kept) (quoted_no_quote _ _ _ c.requires c.skip.ensures.skips c.if-not-take_if.ensures.takes))
+returns-then-not-take_if c = rw c.error.ensures (ErrorOf-here _ c.take_if.new.self _ _ (c.take_if.ensures.kept
+    ∙ c.skip.ensures.kept) (quoted_no_quote _ _ _ c.requires c.skip.ensures.skips c.if-not-take_if.ensures.takes))
 
 pub returns : goal.returns
 returns c =
-    behind_quote c.args.self.now c.take_if.new.self c.display_text.new.self c.display_text.result (c.take_if.ensures.kept ∙ c.skip.ensures.kept) (quoted_reads _ _ _ c.requires c.skip.ensures.skips c.if-not-take_if.ensures.takes) c.display_text.ensures.read
+    behind_quote c.args.self.now c.take_if.new.self c.display_text.new.self c.display_text.result
+    (c.take_if.ensures.kept ∙ c.skip.ensures.kept)
+    (quoted_reads _ _ _ c.requires c.skip.ensures.skips c.if-not-take_if.ensures.takes) c.display_text.ensures.read

@@ -8,4 +8,5 @@ use Rattle.sfv.proofs.parser.cursor.Cursor.stop.Goals as goal
 pub returns : goal.returns
 returns g c =
     let at_byte = c.is_some.ensures ∙ ap is_some c.peek.ensures in
-    rw (c.error.ensures, c.stop.ensures, at_byte) (FaultOf-here _ c.args.self.now (kept c.args.self.now) _ refl (stops g.Q.QuotedText.display _ c.requires.plain c.requires.quote c.requires.mark))
+    rw (c.error.ensures, c.stop.ensures, at_byte) (FaultOf-here _ c.args.self.now (kept c.args.self.now) _ refl
+    (stops g.Q.QuotedText.display _ c.requires.plain c.requires.quote c.requires.mark))

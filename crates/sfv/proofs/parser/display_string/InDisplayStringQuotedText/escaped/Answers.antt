@@ -19,5 +19,8 @@ returns c =
     let h = c.in_ok-high.ensures in
     let l = c.in_ok-low.ensures in
     let n = ap (length {A = ℕ}) h.0 in
-    let m = ap (length {A = ℕ}) l.0 in
-    (rw (c.value_of.ensures.value, c.value_of-2.ensures.value) (both_digits _ _ _ _ _ h.0 h.1 l.0 l.1), omega (arith, n, m), l.2 ∙ h.2)
+    let m = ap (length {A = ℕ}) l.0 in (
+      rw (c.value_of.ensures.value, c.value_of-2.ensures.value) (both_digits _ _ _ _ _ h.0 h.1 l.0 l.1),
+      omega (arith, n, m),
+      l.2 ∙ h.2,
+    )

@@ -9,8 +9,12 @@ pub returns-in_err-visit-clause-visited : goal.returns-in_err-visit-clause-visit
 unfolding entry_at
 returns-in_err-visit-clause-visited g c =
     let p = err_from_is_err_and c.from_residual.result c.from_residual.ensures.1 in
-    rw (p.1, p.2) (led_fails g.V.Visitor.takes g.V.Visitor.fails entry member_events (member_at (edition c.args.cursor.now)) _ _ c.visit.new.visitor (kept c.args.cursor.now) c.args.cursor.now _ c.in_err-visit.ensures.failed)
+    rw (p.1, p.2) (led_fails g.V.Visitor.takes g.V.Visitor.fails entry member_events
+    (member_at (edition c.args.cursor.now)) _ _ c.visit.new.visitor (kept c.args.cursor.now) c.args.cursor.now _
+    c.in_err-visit.ensures.failed)
 
 pub returns-clause-visited : goal.returns-clause-visited
 unfolding entry_at
-returns-clause-visited g c = led_visits g.V.Visitor.takes g.V.Visitor.fails entry member_events (member_at (edition c.args.cursor.now)) _ _ _ c.member.new.visitor _ c.member.new.self c.member.result c.in_ok-visit.ensures.taken c.member.ensures.visited
+returns-clause-visited g c = led_visits g.V.Visitor.takes g.V.Visitor.fails entry member_events
+    (member_at (edition c.args.cursor.now)) _ _ _ c.member.new.visitor _ c.member.new.self c.member.result
+    c.in_ok-visit.ensures.taken c.member.ensures.visited
