@@ -68,8 +68,8 @@ whole_visited edition t s r e = on (item_at edition r) refl
     on (Err f) k = ap (visited (events item_field)) (whole_fault edition t s r f e k)
 
 -- a refusal within the item
-pub whole_failed : {S E : Type 0} (takes : S → TreeEvent → S → Type 0) (fails : S → TreeEvent → E
-    → Type 0) (edition : Edition) (t s r : List ℕ) (from : S) (fault : E) → span is_space t ≡ Ok (s, r)
+pub whole_failed : {S E : Type 0} (takes : S → TreeEvent → S → Type 0) (fails : S → TreeEvent
+    → E → Type 0) (edition : Edition) (t s r : List ℕ) (from : S) (fault : E) → span is_space t ≡ Ok (s, r)
     → VisitorFails takes fails item_events (item_at edition r) from fault
     → VisitorFails takes fails (events item_field) (whole_field_at edition item_field t) from fault
 whole_failed takes fails edition t s r from fault e h = record {
@@ -103,8 +103,8 @@ unfolding read_field
 fault_of_whole edition kind t k r h = ending_located (events kind) (whole_field_at edition kind t) k r h
 
 -- an item whose reading fails is none
-no_item : {S O : Type 0} (takes : S → TreeEvent → S → Type 0) (finishes : S → O
-    → Type 0) (edition : Edition) (t s r q : List ℕ) (from : S) (i : List ℕ) (e : Error) (raw : RawItem)
+no_item : {S O : Type 0} (takes : S → TreeEvent → S → Type 0) (finishes : S
+    → O → Type 0) (edition : Edition) (t s r q : List ℕ) (from : S) (i : List ℕ) (e : Error) (raw : RawItem)
     → span is_space t ≡ Ok (s, r) → IsErrorOf i e (item_at edition r)
     → whole_field_at edition item_field t ≡ Ok (raw, q)
     → MatchOption (index_of e) ⊤ (λ index. (s : S) × (out : O) × RunsTo takes from (item_events raw) s × finishes s out)
@@ -121,8 +121,8 @@ no_item {S} {O} takes finishes edition t s r q from i e raw skipped error whole 
     on (Some n) h = absurd (never (item_at edition r) _ _ refl h.0)
 
 -- what stands after an item is looked at after the answer
-pub finished_first : {S O : Type 0} (takes : S → TreeEvent → S → Type 0) (finishes : S → O
-    → Type 0) (edition : Edition) (t s r q : List ℕ) (item : RawItem) (from to : S) (out : O) (e : Error)
+pub finished_first : {S O : Type 0} (takes : S → TreeEvent → S → Type 0) (finishes : S
+    → O → Type 0) (edition : Edition) (t s r q : List ℕ) (item : RawItem) (from to : S) (out : O) (e : Error)
     → span is_space t ≡ Ok (s, r) → item_at edition r ≡ Ok (item, q) → RunsTo takes from (item_events item) to
     → finishes to out → IsFinishedFirst takes finishes edition item_field t from e
 finished_first {S} {O} takes finishes edition t s r q item from to out e skipped read run finished raw w whole =
@@ -137,9 +137,9 @@ finished_first {S} {O} takes finishes edition t s r q item from to out e skipped
         (to, out, subst (λ (i : RawItem). RunsTo takes from (item_events i) to) same run, finished)
 
 -- an error within the item: a fault, or the visitor fails
-pub item_fails : {S O E : Type 0} (takes : S → TreeEvent → S → Type 0) (fails : S → TreeEvent → E
-    → Type 0) (finishes : S → O → Type 0) (finish_fails : S → E
-    → Type 0) (edition : Edition) (k : Parser × Global) (s r : List ℕ) (from to : S) (after : Cursor)
+pub item_fails : {S O E : Type 0} (takes : S → TreeEvent → S → Type 0) (fails : S → TreeEvent
+    → E → Type 0) (finishes : S → O → Type 0) (finish_fails : S
+    → E → Type 0) (edition : Edition) (k : Parser × Global) (s r : List ℕ) (from to : S) (after : Cursor)
     (error : ParseError E) → span is_space (kept_input k) ≡ Ok (s, r)
     → VisitsAnswer takes fails item_events k after from to (Err error) (item_at edition r)
     → VisitsField takes fails finishes finish_fails edition item_field (kept_input k) from (Err error)
@@ -151,9 +151,9 @@ item_fails takes fails finishes finish_fails edition k s r from to after (Visito
     inl (whole_failed takes fails edition (kept_input k) s r from f skipped h)
 
 -- the visitor fails to answer after the item
-pub finish_failed : {S O E : Type 0} (takes : S → TreeEvent → S → Type 0) (fails : S → TreeEvent → E
-    → Type 0) (finishes : S → O → Type 0) (finish_fails : S → E
-    → Type 0) (edition : Edition) (t s r q : List ℕ) (raw : RawItem) (from to : S) (error : ParseError E)
+pub finish_failed : {S O E : Type 0} (takes : S → TreeEvent → S → Type 0) (fails : S → TreeEvent
+    → E → Type 0) (finishes : S → O → Type 0) (finish_fails : S
+    → E → Type 0) (edition : Edition) (t s r q : List ℕ) (raw : RawItem) (from to : S) (error : ParseError E)
     → span is_space t ≡ Ok (s, r) → item_at edition r ≡ Ok (raw, q) → RunsTo takes from (item_events raw) to
     → IsOfVisitor (finish_fails to) error
     → VisitsField takes fails finishes finish_fails edition item_field t from (Err error)
@@ -166,9 +166,9 @@ finish_failed takes fails finishes finish_fails edition t s r q raw from to (Vis
 -- ---- members, up to the end
 
 -- an error within the field: a fault, or the visitor fails
-pub field_fails : {S O E : Type 0} (takes : S → TreeEvent → S → Type 0) (fails : S → TreeEvent → E
-    → Type 0) (finishes : S → O → Type 0) (finish_fails : S → E
-    → Type 0) (edition : Edition) (kind : FieldKind) (k : Parser
+pub field_fails : {S O E : Type 0} (takes : S → TreeEvent → S → Type 0) (fails : S → TreeEvent
+    → E → Type 0) (finishes : S → O → Type 0) (finish_fails : S
+    → E → Type 0) (edition : Edition) (kind : FieldKind) (k : Parser
     × Global) (from to : S) (after : Cursor) (error : ParseError E)
     → VisitsAnswer takes fails (events kind) k after from to (Err error) (whole_field_at edition kind (kept_input k))
     → VisitsField takes fails finishes finish_fails edition kind (kept_input k) from (Err error)
@@ -195,9 +195,9 @@ field_fails {S} {O} takes fails finishes finish_fails edition kind k from to aft
     never raw q whole (Some n) m = absurd (no_fault (whole_field_at edition kind t) raw q _ _ whole m.0)
 
 -- the visitor fails to answer at the end
-pub end_failed : {S O E : Type 0} (takes : S → TreeEvent → S → Type 0) (fails : S → TreeEvent → E
-    → Type 0) (finishes : S → O → Type 0) (finish_fails : S → E
-    → Type 0) (edition : Edition) (kind : FieldKind) (t q : List ℕ) (raw : RawField kind) (from to : S)
+pub end_failed : {S O E : Type 0} (takes : S → TreeEvent → S → Type 0) (fails : S → TreeEvent
+    → E → Type 0) (finishes : S → O → Type 0) (finish_fails : S
+    → E → Type 0) (edition : Edition) (kind : FieldKind) (t q : List ℕ) (raw : RawField kind) (from to : S)
     (error : ParseError E) → whole_field_at edition kind t ≡ Ok (raw, q) → IsAskedThere kind q
     → RunsTo takes from (events kind raw) to
     → IsOfVisitor (finish_fails to) error → VisitsField takes fails finishes finish_fails edition kind t from
@@ -213,9 +213,9 @@ unfolding read_field
 whole_read edition kind t q raw e end = ap (ending (events kind)) (e ∙ ap (λ (l : List ℕ). Ok (raw, l)) end)
 
 -- the members of a field are what it is read as
-pub members_fail : {S O E : Type 0} (takes : S → TreeEvent → S → Type 0) (fails : S → TreeEvent → E
-    → Type 0) (finishes : S → O → Type 0) (finish_fails : S → E
-    → Type 0) (keyed : Bool) (edition : Edition) (k : Parser
+pub members_fail : {S O E : Type 0} (takes : S → TreeEvent → S → Type 0) (fails : S → TreeEvent
+    → E → Type 0) (finishes : S → O → Type 0) (finish_fails : S
+    → E → Type 0) (keyed : Bool) (edition : Edition) (k : Parser
     × Global) (from to : S) (after : Cursor) (error : ParseError E)
     → VisitsAnswer takes fails (λ members. flat_map (member_parts keyed) members) k after from to (Err error)
     (members_at (member_parts keyed) (one_member_at keyed edition) (kept_input k))

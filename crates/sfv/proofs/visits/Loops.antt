@@ -95,8 +95,8 @@ module _ {A : Type 0} (l : Loop A) (edition : Edition) where
       on (Err f) e q = ap located (is_faulty l.parts (l.next edition) (l.consumes edition) front t f total e so_far)
           ∙ ap (λ (p : ErrorKind × List ℕ). Err p) cc
 
-  error_of_total : {S : Type 0} (takes : S → TreeEvent → S
-      → Type 0) (t : List ℕ) (total : Answer (List A)) (from to : S) (i : Parser × Global) (e : Error)
+  error_of_total : {S : Type 0} (takes : S → TreeEvent
+      → S → Type 0) (t : List ℕ) (total : Answer (List A)) (from to : S) (i : Parser × Global) (e : Error)
       → SoFar takes l edition total t from to → IsErrorOf (kept_input i) e ((l.next edition) t)
       → IsErrorOf (kept_input i) e total
   error_of_total takes t total from to i e h error = on e.index error

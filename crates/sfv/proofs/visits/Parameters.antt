@@ -60,8 +60,8 @@ visited_none takes edition start from = record {
   taken = refl;
 }
 
-pub visited_more : {S : Type 0} (takes : S → TreeEvent → S
-    → Type 0) (edition : Edition) (start now r k : List ℕ) (v : BareValue) (from middle to : S)
+pub visited_more : {S : Type 0} (takes : S → TreeEvent
+    → S → Type 0) (edition : Edition) (start now r k : List ℕ) (v : BareValue) (from middle to : S)
     → VisitedParameters takes edition start now from middle → parameter_at edition now ≡ Ok (Some (k, v), r)
     → takes middle (parameter k v) to → VisitedParameters takes edition start r from to
 unfolding parameters_at
@@ -76,8 +76,8 @@ visited_more takes edition start now r k v from middle to h read taken = record 
       (runs_on takes (pair_events h.raw) (parameter k v ∷ []) from middle to h.taken (to, taken, refl));
 }
 
-pub visited_all : {S : Type 0} (takes : S → TreeEvent → S
-    → Type 0) (edition : Edition) (start now r : List ℕ) (from middle to : S)
+pub visited_all : {S : Type 0} (takes : S → TreeEvent
+    → S → Type 0) (edition : Edition) (start now r : List ℕ) (from middle to : S)
     (h : VisitedParameters takes edition start now from middle) → parameter_at edition now ≡ Ok (None, r)
     → takes middle parameters_end to → (parameters_at edition start ≡ Ok (h.raw, r))
     × RunsTo takes from (parameters_events h.raw) to
@@ -105,8 +105,8 @@ front_visited front (Ok x) = (
 front_visited front (Err e) = (e.events, ap (λ (es : List TreeEvent). es ++ e.events) (front_events front))
 
 -- the visitor fails at a parameter
-pub parameter_failed : {S E : Type 0} (takes : S → TreeEvent → S → Type 0) (fails : S → TreeEvent → E
-    → Type 0) (edition : Edition) (start now r k : List ℕ) (v : BareValue) (from middle : S) (fault : E)
+pub parameter_failed : {S E : Type 0} (takes : S → TreeEvent → S → Type 0) (fails : S → TreeEvent
+    → E → Type 0) (edition : Edition) (start now r k : List ℕ) (v : BareValue) (from middle : S) (fault : E)
     → VisitedParameters takes edition start now from middle → parameter_at edition now ≡ Ok (Some (k, v), r)
     → fails middle (parameter k v) fault → VisitorFails takes fails parameters_events (parameters_at edition start) from
     fault
@@ -131,8 +131,8 @@ parameter_failed takes fails edition start now r k v from middle fault h read fa
     }
 
 -- the visitor fails at their end
-pub end_failed : {S E : Type 0} (takes : S → TreeEvent → S → Type 0) (fails : S → TreeEvent → E
-    → Type 0) (edition : Edition) (start now r : List ℕ) (from middle : S) (fault : E)
+pub end_failed : {S E : Type 0} (takes : S → TreeEvent → S → Type 0) (fails : S → TreeEvent
+    → E → Type 0) (edition : Edition) (start now r : List ℕ) (from middle : S) (fault : E)
     → VisitedParameters takes edition start now from middle → parameter_at edition now ≡ Ok (None, r)
     → fails middle parameters_end fault → VisitorFails takes fails parameters_events (parameters_at edition start) from
     fault
@@ -149,8 +149,8 @@ end_failed takes fails edition start now r from middle fault h read failed = rec
 }
 
 -- after the last parameter, their end is visited
-pub end_visits : {S E : Type 0} (takes : S → TreeEvent → S → Type 0) (fails : S → TreeEvent → E
-    → Type 0) (edition : Edition) (start now : List ℕ) (from middle to : S) (k : Parser
+pub end_visits : {S E : Type 0} (takes : S → TreeEvent → S → Type 0) (fails : S → TreeEvent
+    → E → Type 0) (edition : Edition) (start now : List ℕ) (from middle to : S) (k : Parser
     × Global) (after : Cursor) (r : Result (Unit {0}) (ParseError E))
     → VisitedParameters takes edition start now from middle → parameter_at edition now ≡ Ok (None, rest after)
     → kept after ≡ k
@@ -176,8 +176,8 @@ faulty_located edition start now raw k r so_far = on (parameter_at edition now) 
         (parameters_at edition start) e so_far) ∙ ap (λ (p : ErrorKind × List ℕ). Err p) cc
 
 -- a fault of one parameter is the fault of the loop
-pub visited_error : {S : Type 0} (takes : S → TreeEvent → S
-    → Type 0) (start now : List ℕ) (from middle : S) (i j : Parser × Global) (e : Error) → i ≡ j
+pub visited_error : {S : Type 0} (takes : S → TreeEvent
+    → S → Type 0) (start now : List ℕ) (from middle : S) (i j : Parser × Global) (e : Error) → i ≡ j
     → VisitedParameters takes (kept_edition j) start now from middle
     → IsErrorOf (kept_input i) e (parameter_at (kept_edition i) now)
     → IsErrorOf (kept_input j) e (parameters_at (kept_edition j) start)
@@ -223,8 +223,9 @@ item_visited edition t q b e =
     ∙ ap (λ (es : List TreeEvent). bare_item b ∷ es) (given_visited b (parameters_at edition q))
 
 -- the visitor fails at the bare item
-pub bare_failed : {S E : Type 0} (takes : S → TreeEvent → S → Type 0) (fails : S → TreeEvent → E
-    → Type 0) (edition : Edition) (t q : List ℕ) (b : BareValue) (from : S) (fault : E) → bare_at edition t ≡ Ok (b, q)
+pub bare_failed : {S E : Type 0} (takes : S → TreeEvent → S → Type 0) (fails : S → TreeEvent
+    → E → Type 0) (edition : Edition) (t q : List ℕ) (b : BareValue) (from : S) (fault : E)
+    → bare_at edition t ≡ Ok (b, q)
     → fails from (bare_item b) fault → VisitorFails takes fails item_events (item_at edition t) from fault
 bare_failed takes fails edition t q b from fault e failed = record {
   before = [];
@@ -237,8 +238,8 @@ bare_failed takes fails edition t q b from fault e failed = record {
 }
 
 -- the visitor fails at a parameter of it, or their end
-pub parameters_failed : {S E : Type 0} (takes : S → TreeEvent → S → Type 0) (fails : S → TreeEvent → E
-    → Type 0) (edition : Edition) (t q : List ℕ) (b : BareValue) (from middle : S) (fault : E)
+pub parameters_failed : {S E : Type 0} (takes : S → TreeEvent → S → Type 0) (fails : S → TreeEvent
+    → E → Type 0) (edition : Edition) (t q : List ℕ) (b : BareValue) (from middle : S) (fault : E)
     → bare_at edition t ≡ Ok (b, q) → takes from (bare_item b) middle
     → VisitorFails takes fails parameters_events (parameters_at edition q) middle fault
     → VisitorFails takes fails item_events (item_at edition t) from fault
@@ -253,8 +254,8 @@ parameters_failed takes fails edition t q b from middle fault e taken r = record
 }
 
 -- an item, by its bare item and the parameters after it
-pub item_visits : {S E : Type 0} (takes : S → TreeEvent → S → Type 0) (fails : S → TreeEvent → E
-    → Type 0) (edition : Edition) (t q : List ℕ) (b : BareValue) (from middle to : S) (k : Parser
+pub item_visits : {S E : Type 0} (takes : S → TreeEvent → S → Type 0) (fails : S → TreeEvent
+    → E → Type 0) (edition : Edition) (t q : List ℕ) (b : BareValue) (from middle to : S) (k : Parser
     × Global) (after : Cursor) (r : Result (Unit {0}) (ParseError E)) → bare_at edition t ≡ Ok (b, q)
     → takes from (bare_item b) middle
     → VisitsAnswer takes fails parameters_events k after middle to r (parameters_at edition q)

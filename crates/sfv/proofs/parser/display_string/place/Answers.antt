@@ -23,7 +23,8 @@ loop-preserved c =
     let step : cond (slice_index c.args.input.now c.loop.index == percent_sign) 3 1 ≡ c.if-input-index-eq37.index =
     elim c.if-input-index-eq37.branch [
       | then-input-index-eq37 w ↦
-          rw (eq-eqb (slice_index c.args.input.now c.loop.index) percent_sign w.if-input-index-eq37.true) (sym w.index-is)
+          rw (eq-eqb (slice_index c.args.input.now c.loop.index) percent_sign w.if-input-index-eq37.true)
+          (sym w.index-is)
       | else-input-index-eq37 w ↦ rw (ne_eqb (slice_index c.args.input.now c.loop.index) percent_sign
           w.if-input-index-eq37.false) (sym w.index-is)
     ] in
