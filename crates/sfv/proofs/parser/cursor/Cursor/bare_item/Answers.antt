@@ -21,10 +21,10 @@ returns-then-take_if-2 c = (bare_string _ _ _ _ c.if-take_if.ensures.takes c.if-
 pub returns-in_err-byte_sequence : goal.returns-in_err-byte_sequence
 returns-in_err-byte_sequence c =
     let p = err_from_is_err_and c.from_residual-in_err-byte_sequence.result c.from_residual-in_err-byte_sequence.ensures.1 in
-    rw (p.1, p.2) (ErrorOf-part _ _ _ (λ _. bytes_at) _ _ _ (c.take_if-3.ensures.kept ∙ c.take_if-2.ensures.kept ∙ c.take_if.ensures.kept) (bare_bytes _ _ _ _ _ c.if-take_if.ensures.takes c.if-take_if-2.ensures.takes c.if-take_if-3.ensures.takes) c.in_err-byte_sequence.ensures)
+    rw (p.1, p.2) (ErrorOf-part _ _ _ (λ _. bytes_at) _ _ _ (c.take_if-3.ensures.kept ∙ c.take_if-2.ensures.kept ∙ c.take_if.ensures.kept) (bare_bytes _ _ _ _ _ c.if-take_if.ensures.takes c.if-take_if-2.ensures.takes c.if-take_if-3.ensures.takes) c.in_err-byte_sequence.ensures.read)
 
 pub returns-then-take_if-3 : goal.returns-then-take_if-3
-returns-then-take_if-3 c = (bare_bytes _ _ _ _ _ c.if-take_if.ensures.takes c.if-take_if-2.ensures.takes c.if-take_if-3.ensures.takes ∙ given bytes_at (λ s. byte_sequence s) _ _ _ c.in_ok-byte_sequence.ensures.0, c.in_ok-byte_sequence.ensures.1 ∙ (c.take_if-3.ensures.kept ∙ c.take_if-2.ensures.kept ∙ c.take_if.ensures.kept))
+returns-then-take_if-3 c = (bare_bytes _ _ _ _ _ c.if-take_if.ensures.takes c.if-take_if-2.ensures.takes c.if-take_if-3.ensures.takes ∙ given bytes_at (λ s. byte_sequence s) _ _ _ c.in_ok-byte_sequence.ensures.read.0, c.in_ok-byte_sequence.ensures.read.1 ∙ (c.take_if-3.ensures.kept ∙ c.take_if-2.ensures.kept ∙ c.take_if.ensures.kept))
 
 pub returns-in_err-date : goal.returns-in_err-date
 returns-in_err-date c =
