@@ -1,10 +1,12 @@
 -- What the code reads after the opening quotes of strings and display strings. A flag says which: true is a display
 -- string.
-use Rattle.std.specs.Prelude.{◌≡◌, ℕ, ◌<◌, Bool, true, false, not, ◌==◌, List, [], ◌∷◌, ◌++◌, length, Result, Ok, Err}
-use Rattle.std.specs.Prelude.{IsTrue, string_bytes}
+use Rattle.std.specs.Prelude.{◌≡◌, ⊤, ◌↔◌, ℕ, ◌<◌, Bool, true, false, not, ◌==◌, List, [], ◌∷◌, ◌++◌, length, Result}
+use Rattle.std.specs.Prelude.{Ok, Err, IsTrue, string_bytes}
 use Rattle.std.specs.declared.alloc.Global.{Global}
+use Rattle.std.specs.declared.vec.Vec.{Vec}
 use Rattle.std.specs.declared.string.String as std_string
-use Rattle.sfv_spec.specs.Ascii.{percent_sign, backslash}
+use Rattle.std.specs.declared.borrow.CowStr.{CowStr}
+use Rattle.sfv_spec.specs.Ascii.{percent_sign, backslash, double_quote}
 use Rattle.sfv_spec.specs.Texts.{RunOf}
 use Rattle.sfv_spec.specs.Classes.{is_lower_hexadecimal}
 use Rattle.sfv_spec.specs.Strings.{is_plain_in_string, is_plain_in_display}
@@ -13,6 +15,11 @@ use Rattle.sfv_base.specs.declared.error.ErrorKind.{ErrorKind}
 use Rattle.sfv_base.specs.declared.error.ErrorKind.TheVariants.{UnterminatedString, InvalidStringCharacter}
 use Rattle.sfv_base.specs.declared.error.ErrorKind.TheVariants.{UnterminatedDisplayString}
 use Rattle.sfv_base.specs.declared.error.ErrorKind.TheVariants.{InvalidDisplayStringCharacter}
+use Rattle.sfv_text.specs.TokenText.{TokenRef}
+use Rattle.sfv_bare.specs.declared.bare.GenericBareItem.{GenericBareItem}
+use Rattle.sfv_bare.specs.declared.bare.GenericBareItem.TheVariants as bare
+use Rattle.sfv_bare.specs.declared.bare.StringFromInput.{StringFromInput}
+use Rattle.sfv_bare.specs.BareItems.{is_borrowed_string, is_borrowed_text}
 use Rattle.sfv_reading.specs.Reader.{Answer, Reader}
 use Rattle.sfv_reading.specs.Quoted.{behind_bytes, string_from, outside, percent, digit, pieces_from}
 use Rattle.sfv.specs.declared.parser.cursor.Cursor.{Cursor}
@@ -58,6 +65,25 @@ is_plain (quoted.Unescaped v) = false
 abbrev pub HasNoMark : Bool → Cursor → Cursor → Type 0
 HasNoMark display before after = (s : List ℕ) × (rest before ≡ s ++ rest after)
     × RunOf (λ c. not (c == mark_of display)) s
+
+-- the bytes that stand in front of the text, with its opening quote
+abbrev pub opening : Bool → List ℕ
+opening true = percent_sign ∷ double_quote ∷ []
+opening false = double_quote ∷ []
+
+-- no escape stands in what was taken after the opening
+abbrev pub HasNoMarkInside : Bool → Cursor → Cursor → Type 0
+HasNoMarkInside display before after =
+    (s : List ℕ) × (rest before ≡ opening display ++ (s ++ rest after)) × RunOf (λ c. not (c == mark_of display)) s
+
+-- A string or a display string that was read is borrowed from the input exactly if it was written without an escape.
+abbrev pub IsBorrowedUnlessEscaped : GenericBareItem StringFromInput (Vec ℕ Global) TokenRef (CowStr Global) → Cursor
+    → Cursor → Type 0
+IsBorrowedUnlessEscaped (bare.String text) before after =
+    IsTrue (is_borrowed_string text) ↔ HasNoMarkInside false before after
+IsBorrowedUnlessEscaped (bare.DisplayString text) before after =
+    IsTrue (is_borrowed_text text) ↔ HasNoMarkInside true before after
+IsBorrowedUnlessEscaped item before after = ⊤
 
 -- the byte was taken that an escape stands for, after its mark
 abbrev pub ReadsEscape : Bool → Cursor → Cursor → Result ℕ Error → Type 0

@@ -2,13 +2,14 @@
 use Rattle.std.proofs.Common.{◌≡◌, ℕ, ◌<◌, ◌≤◌, ◌+◌, ◌*◌, Bool, true, false, not, List, [], ◌∷◌, ◌++◌, length, drop}
 use Rattle.std.proofs.Common.{Option, Some, None, Ok, Err, refl, sym, ap, subst, ◌∙◌, append_assoc, length-append}
 use Rattle.std.proofs.Common.{arith, inl, inr}
-use Rattle.std.specs.Prelude.{MatchOption, is_some, ◌==◌}
+use Rattle.std.specs.Prelude.{MatchOption, IfOk, IsTrue, Result, is_some, ◌==◌, ◌↔◌}
 use Rattle.std.specs.List.{concat}
 use Rattle.std.specs.declared.alloc.Global.{Global}
+use Rattle.std.specs.declared.borrow.CowStr.{CowStr}
 use Rattle.std.proofs.lemmas.Bool.{and_parts, and_from, and_cases, or_parts, or_from, not-true, not_from_false}
 use Rattle.std.proofs.lemmas.Bool.{both_ways, eqb-true}
 use Rattle.std.proofs.lemmas.List.{append-nil}
-use Rattle.sfv_spec.specs.Ascii.{double_quote, percent_sign, backslash}
+use Rattle.sfv_spec.specs.Ascii.{question_mark, double_quote, percent_sign, backslash}
 use Rattle.sfv_spec.specs.Texts.{RunOf}
 use Rattle.sfv_spec.specs.Classes.{is_string_byte, is_lower_hexadecimal}
 use Rattle.sfv_spec.specs.Strings.{is_escaped_in_string, hexadecimal_value, IsStringPiece, IsDisplayPiece}
@@ -25,8 +26,10 @@ use Rattle.sfv_reading.proofs.quoted.Pieces.{step_display}
 use Rattle.sfv_reading.proofs.quoted.Traces.{Ends, trace_of_string, trace_of_display}
 use Rattle.sfv_reading.proofs.quoted.DisplaySteps.{outside_byte}
 use Rattle.sfv.specs.declared.parser.Parser.{Parser}
-use Rattle.sfv.specs.Cursor.{kept_input, located, IsFaultOf, IsErrorOf, TakesIf}
-use Rattle.sfv.specs.Quoted.{plain_of, mark_of, stop_of, inside, behind_mark}
+use Rattle.sfv.specs.declared.parser.cursor.Cursor.{Cursor}
+use Rattle.sfv.specs.Cursor.{kept_input, rest, located, IsFaultOf, IsErrorOf, NextIs, TakesIf, Skips}
+use Rattle.sfv.specs.Quoted.{plain_of, mark_of, stop_of, inside, behind_mark, opening, HasNoMark, HasNoMarkInside}
+use Rattle.sfv.specs.Texts.{is_borrowed_text}
 
 -- ---- one byte of a quoted text
 
@@ -305,3 +308,44 @@ pub digit_wrong : (t : List ℕ) (c : ℕ) → first t ≡ Some c → is_lower_h
 unfolding pieces_from
 digit_wrong [] c i h = absurd cc
 digit_wrong (x ∷ t) c i h = let same : x ≡ c = cc in (rw (same, h) refl, λ high. rw (same, h) refl)
+
+-- ---- a text with its opening
+
+pub string_opens : (t r q : List ℕ) → TakesIf (byte question_mark) false t r → TakesIf (byte double_quote) true r q
+    → t ≡ opening false ++ q
+string_opens t r q m k = sym m.0 ∙ at_byte double_quote r q k
+
+pub display_opens : (t r q : List ℕ) → NextIs (byte percent_sign) true t → Skips t r
+    → TakesIf (byte double_quote) true r q → t ≡ opening true ++ q
+display_opens t r q m k n =
+    let same : m.0 ∷ m.1 ≡ k.0 ∷ r = sym m.2 ∙ k.1 in
+    let begun : k.0 ≡ m.0 = cc in
+    k.1 ∙ ap (λ (c : ℕ). c ∷ r) (begun ∙ eqb-true m.0 percent_sign m.3)
+    ∙ ap (λ (l : List ℕ). percent_sign ∷ l) (at_byte double_quote r q n)
+
+opened : (d : Bool) (t u : List ℕ) → opening d ++ t ≡ opening d ++ u → t ≡ u
+opened true t u h = cc
+opened false t u h = cc
+
+-- no mark stands in what was taken after the opening
+pub behind_opening : (d : Bool) (A : Type 0) (before middle after : Cursor) → rest before ≡ opening d ++ rest middle
+    → (A ↔ HasNoMark d middle after) → (A ↔ HasNoMarkInside d before after)
+behind_opening d A before middle after opens h = (
+  λ a. let n = h.0 a in (n.0, opens ∙ ap (λ (l : List ℕ). opening d ++ l) n.1, n.2),
+  λ n. h.1 (n.0, opened d _ _ (sym opens ∙ n.1), n.2),
+)
+
+pub same_inside : (d : Bool) (A : Type 0) (before middle after : Cursor) → rest middle ≡ rest before
+    → (A ↔ HasNoMarkInside d middle after) → (A ↔ HasNoMarkInside d before after)
+same_inside d A before middle after same h = (
+  λ a. let n = h.0 a in
+      (n.0, sym same ∙ n.1, n.2),
+  λ n. h.1 (n.0, same ∙ n.1, n.2),
+)
+
+pub borrowed_behind : (before middle after : Cursor) (r : Result (CowStr Global) Error)
+    → rest before ≡ opening true ++ rest middle → IfOk r (λ text. IsTrue (is_borrowed_text text)
+    ↔ HasNoMark true middle after)
+    → IfOk r (λ text. IsTrue (is_borrowed_text text) ↔ HasNoMarkInside true before after)
+borrowed_behind before middle after (Ok text) opens h = behind_opening true _ before middle after opens h
+borrowed_behind before middle after (Err e) opens h = h

@@ -1,6 +1,6 @@
 //! Reading bare items (RFC 9651, sections 4.2.3.1 and 4.2.5 to 4.2.10).
 
-ghost use Rattle.std.specs.Prelude.{◌≡◌, Bool, true, IfOk};
+ghost use Rattle.std.specs.Prelude.{◌≡◌, ◌↔◌, Bool, true, IfOk, IsTrue};
 ghost use Rattle.sfv_spec.specs.Ascii.{percent_sign, at_sign};
 ghost use Rattle.sfv_spec.specs.Values.{rfc9651, boolean, date};
 ghost use Rattle.sfv_base.specs.Numbers.{seconds_of};
@@ -8,7 +8,8 @@ ghost use Rattle.sfv_bare.specs.BareItems.{input_value};
 ghost use Rattle.sfv_reading.specs.Reader.{byte};
 ghost use Rattle.sfv_reading.specs.Bare.{is_number_start, boolean_at, date_at, quoted_at, bare_at};
 ghost use Rattle.sfv.specs.Cursor.{edition, rest, Reads, ReadsOrOutOfMemory, NextIs};
-ghost use Rattle.sfv.specs.Texts.{display_value_of};
+ghost use Rattle.sfv.specs.Quoted.{HasNoMarkInside, IsBorrowedUnlessEscaped};
+ghost use Rattle.sfv.specs.Texts.{display_value_of, is_borrowed_text};
 
 use crate::parser::cursor::Cursor;
 use crate::parser::number::Number;
@@ -62,7 +63,8 @@ impl<'de> Cursor<'de> {
     #[tactic(auto, using(crate::proofs::reads::Steps::quoted_steps))]
     fn display_string(&mut self) -> Result<CowStr<'de>, Error>
         requires { NextIs (byte percent_sign) true (rest self.old) }
-        ensures { ReadsOrOutOfMemory display_value_of self.old self.new result (quoted_at (edition self.old)) }
+        ensures read { ReadsOrOutOfMemory display_value_of self.old self.new result (quoted_at (edition self.old)) }
+        ensures borrowed { IfOk result (λ text. IsTrue (is_borrowed_text text) ↔ HasNoMarkInside true self.old self.new) }
     {
         match self.parser.version {
             Version::Rfc8941 => Err(self.error(ErrorKind::Rfc8941DisplayString)),
@@ -74,7 +76,8 @@ impl<'de> Cursor<'de> {
     #[tactic(auto, using(crate::proofs::reads::Steps::quoted_steps))]
     fn quoted(&mut self) -> Result<CowStr<'de>, Error>
         requires { NextIs (byte percent_sign) true (rest self.old) }
-        ensures { ReadsOrOutOfMemory display_value_of self.old self.new result (quoted_at rfc9651) }
+        ensures read { ReadsOrOutOfMemory display_value_of self.old self.new result (quoted_at rfc9651) }
+        ensures borrowed { IfOk result (λ text. IsTrue (is_borrowed_text text) ↔ HasNoMarkInside true self.old self.new) }
     {
         self.skip();
         if !self.take_if(b'"') {
@@ -93,10 +96,12 @@ impl<'de> Cursor<'de> {
         }
     }
 
-    /// Takes a bare item. Its first byte decides of which kind it is.
+    /// Takes a bare item. Its first byte decides of which kind it is. A string or a display string is a slice of the
+    /// input if it has no escape.
     #[tactic(auto, using(crate::proofs::reads::Steps::bare_steps))]
     pub(crate) fn bare_item(&mut self) -> Result<BareItemFromInput<'de>, Error>
-        ensures { ReadsOrOutOfMemory input_value self.old self.new result (bare_at (edition self.old)) }
+        ensures read { ReadsOrOutOfMemory input_value self.old self.new result (bare_at (edition self.old)) }
+        ensures borrowed { IfOk result (λ item. IsBorrowedUnlessEscaped item self.old self.new) }
     {
         if self.take_if(b'?') {
             return Ok(GenericBareItem::Boolean(self.boolean()?));

@@ -4,11 +4,12 @@
 //! what it decodes. It never sees padding, which may be left out, nor spare bits that aren't zeros, which
 //! have no meaning here.
 
-ghost use Rattle.std.specs.Prelude.{◌≡◌, ◌++◌, IfOk, OnOk};
+ghost use Rattle.std.specs.Prelude.{◌≡◌, ◌++◌, IfOk, IfErr, IsOk, OnOk};
 ghost use Rattle.sfv_spec.specs.Texts.{RunOf};
 ghost use Rattle.sfv_spec.specs.Base64.{is_symbol};
+ghost use Rattle.sfv_base.specs.Errors.{out_of_memory};
 ghost use Rattle.sfv_reading.specs.Content.{bytes_at};
-ghost use Rattle.sfv.specs.Cursor.{ReadsOrOutOfMemory};
+ghost use Rattle.sfv.specs.Cursor.{rest, ReadsOrOutOfMemory};
 ghost use Rattle.sfv.specs.Texts.{vec_bytes};
 ghost use Rattle.sfv.specs.Zeros.{HasZeros, decoded_symbols};
 
@@ -60,9 +61,11 @@ fn decode_symbols(alloc: Global, symbols: &[u8]) -> Result<Vec<u8>, AllocError>
 }
 
 impl Cursor<'_> {
-    /// Takes a byte sequence after its opening colon, with the closing one.
+    /// Takes a byte sequence after its opening colon, with the closing one. Memory is asked for only where the
+    /// content is well formed.
     pub(super) fn byte_sequence(&mut self) -> Result<Vec<u8>, Error>
-        ensures { ReadsOrOutOfMemory vec_bytes self.old self.new result bytes_at }
+        ensures read { ReadsOrOutOfMemory vec_bytes self.old self.new result bytes_at }
+        ensures memory { IfErr result (λ e. e ≡ out_of_memory → IsOk (bytes_at (rest self.old))) }
     {
         let content = &self.parser.input[self.index..];
         let count = symbol_run(content);

@@ -1,5 +1,6 @@
 use Rattle.std.proofs.Common.{◌≡◌, ◌+◌, List, ℕ, length, drop, sym, ◌∙◌, inl, inr, ◌⊎◌, get_or, arith, refl}
 use Rattle.std.proofs.lemmas.List.{take_rest}
+use Rattle.std.proofs.lemmas.Result.{err_from_is_err_and}
 use Rattle.sfv.proofs.reads.Contents.{runs_of, bytes_read, lone_located, malformed_located, unterminated_located}
 use Rattle.sfv.proofs.parser.cursor.Cursor.byte_sequence.Goals as goal
 use Rattle.sfv.proofs.parser.cursor.Cursor.byte_sequence.Goals.{then-end-content-via-then-end-content}
@@ -7,8 +8,8 @@ use Rattle.sfv.proofs.parser.cursor.Cursor.byte_sequence.Goals.{then-end-content
 use Rattle.sfv.proofs.parser.cursor.Cursor.byte_sequence.Goals.{then-contains, else-contains}
 use Rattle.sfv_spec.specs.Ascii.{colon}
 
-pub returns-then-end-content : goal.returns-then-end-content
-returns-then-end-content c =
+pub returns-then-end-content-clause-read : goal.returns-then-end-content-clause-read
+returns-then-end-content-clause-read c =
     let input : List ℕ = c.args.self.now.parser.input.now in
     let start : ℕ = c.args.self.now.index in
     let n : ℕ = c.symbol_run-count.result in
@@ -28,8 +29,8 @@ returns-then-end-content c =
           (unterminated_located input start n p runs (sym found ∙ w.if-contains.false))
     ]
 
-pub returns-then-count-eq1 : goal.returns-then-count-eq1
-returns-then-count-eq1 c =
+pub returns-then-count-eq1-clause-read : goal.returns-then-count-eq1-clause-read
+returns-then-count-eq1-clause-read c =
     let input : List ℕ = c.args.self.now.parser.input.now in
     let start : ℕ = c.args.self.now.index in
     let n : ℕ = c.symbol_run-count.result in
@@ -39,8 +40,20 @@ returns-then-count-eq1 c =
     let colon = simp take_rest at c.if-content-end-ne58.false in
     rw c.at-then-count-eq1.ensures (lone_located input start n p runs open_end colon c.if-count-eq1.true)
 
-pub returns : goal.returns
-returns c =
+pub returns-in_err-bytes-clause-memory : goal.returns-in_err-bytes-clause-memory
+returns-in_err-bytes-clause-memory c =
+    let input : List ℕ = c.args.self.now.parser.input.now in
+    let start : ℕ = c.args.self.now.index in
+    let n : ℕ = c.symbol_run-count.result in
+    let p : ℕ = c.padding_run.result in
+    let runs = runs_of input start n _ p c.symbol_run-count.ensures c.padding_after.ensures c.padding_run.ensures in
+    let open_end = simp take_rest at c.if-end-content.false in
+    let colon = simp take_rest at c.if-content-end-ne58.false in
+    let r = err_from_is_err_and c.from_residual.result c.from_residual.ensures.1 in
+    rw (r.1, (bytes_read input start n p runs open_end colon c.if-count-eq1.false).0) (λ _. refl)
+
+pub returns-clause-read : goal.returns-clause-read
+returns-clause-read c =
     let input : List ℕ = c.args.self.now.parser.input.now in
     let start : ℕ = c.args.self.now.index in
     let n : ℕ = c.symbol_run-count.result in

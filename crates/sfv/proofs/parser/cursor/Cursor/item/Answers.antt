@@ -14,20 +14,20 @@ pub returns-in_err-bare_item-clause-visited : goal.returns-in_err-bare_item-clau
 returns-in_err-bare_item-clause-visited g c =
     let p = err_from_is_err_and c.from_residual.result c.from_residual.ensures.1 in
     rw (p.1, p.2) (ErrorOf-part (kept c.args.self.now) (kept c.args.self.now) _ bare_at _ _ _ refl (item_is _ _)
-    c.in_err-bare_item.ensures)
+    c.in_err-bare_item.ensures.read)
 
 pub returns-in_err-visit-clause-visited : goal.returns-in_err-visit-clause-visited
 returns-in_err-visit-clause-visited g c =
     let p = err_from_is_err_and c.from_residual-in_err-visit.result c.from_residual-in_err-visit.ensures.1 in
     rw (p.1, p.2) (of_visitor g.V.Visitor.takes g.V.Visitor.fails item_events (kept c.args.self.now)
     c.bare_item.new.self _ c.visit.new.visitor _ _ _ c.in_err-visit.ensures.failed
-    (λ fault failed. bare_failed g.V.Visitor.takes g.V.Visitor.fails _ _ _ _ _ fault c.in_ok-bare_item.ensures.0
-    failed))
+    (λ fault failed. bare_failed g.V.Visitor.takes g.V.Visitor.fails _ _ _ _ _ fault
+    c.in_ok-bare_item.ensures.read.0 failed))
 
 pub returns-clause-visited : goal.returns-clause-visited
 returns-clause-visited g c =
     item_visits g.V.Visitor.takes g.V.Visitor.fails _ _ _ _ _ _ c.parameters.new.visitor (kept c.args.self.now)
-    c.parameters.new.self c.parameters.result c.in_ok-bare_item.ensures.0 c.in_ok-visit.ensures.taken
+    c.parameters.new.self c.parameters.result c.in_ok-bare_item.ensures.read.0 c.in_ok-visit.ensures.taken
     (kept_visits g.V.Visitor.takes g.V.Visitor.fails parameters_events parameters_at c.bare_item.new.self
-    c.parameters.new.self c.visit.new.visitor c.parameters.new.visitor _ _ c.in_ok-bare_item.ensures.1
+    c.parameters.new.self c.visit.new.visitor c.parameters.new.visitor _ _ c.in_ok-bare_item.ensures.read.1
     c.parameters.ensures.visited)
