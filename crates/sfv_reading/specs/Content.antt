@@ -2,7 +2,7 @@
 use Rattle.std.specs.Prelude.{◌≡◌, ◌++◌, ℕ, zero, suc, ◌+◌, ◌-◌, ◌*◌, ◌/◌, ◌%◌, ◌==◌, List, [], ◌∷◌, length, drop, Bool}
 use Rattle.std.specs.Prelude.{not, ◌&&◌, if◌then◌else◌, Option, Some, None, Ok, Err, codes}
 use Rattle.std.specs.List.{list_any}
-use Rattle.sfv_spec.specs.Ascii.{plus_sign, slash, digit_zero, digit_nine, colon, equals_sign, upper_a, upper_z}
+use Rattle.sfv_spec.specs.Ascii.{plus_sign, digit_zero, digit_nine, colon, equals_sign, upper_a, upper_z}
 use Rattle.sfv_spec.specs.Ascii.{lower_a, lower_z}
 use Rattle.sfv_spec.specs.Texts.{RunOf, Exactly, ◌⨾◌}
 use Rattle.sfv_spec.specs.Classes.{is_between}

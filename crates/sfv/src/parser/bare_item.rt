@@ -64,7 +64,8 @@ impl<'de> Cursor<'de> {
     fn display_string(&mut self) -> Result<CowStr<'de>, Error>
         requires { NextIs (byte percent_sign) true (rest self.old) }
         ensures read { ReadsOrOutOfMemory display_value_of self.old self.new result (quoted_at (edition self.old)) }
-        ensures borrowed { IfOk result (λ text. IsTrue (is_borrowed_text text) ↔ HasNoMarkInside true self.old self.new) }
+        ensures borrowed { IfOk result (λ text.
+            IsTrue (is_borrowed_text text) ↔ HasNoMarkInside true self.old self.new) }
     {
         match self.parser.version {
             Version::Rfc8941 => Err(self.error(ErrorKind::Rfc8941DisplayString)),
@@ -77,7 +78,8 @@ impl<'de> Cursor<'de> {
     fn quoted(&mut self) -> Result<CowStr<'de>, Error>
         requires { NextIs (byte percent_sign) true (rest self.old) }
         ensures read { ReadsOrOutOfMemory display_value_of self.old self.new result (quoted_at rfc9651) }
-        ensures borrowed { IfOk result (λ text. IsTrue (is_borrowed_text text) ↔ HasNoMarkInside true self.old self.new) }
+        ensures borrowed { IfOk result (λ text.
+            IsTrue (is_borrowed_text text) ↔ HasNoMarkInside true self.old self.new) }
     {
         self.skip();
         if !self.take_if(b'"') {

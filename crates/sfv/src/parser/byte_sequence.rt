@@ -65,7 +65,7 @@ impl Cursor<'_> {
     /// content is well formed.
     pub(super) fn byte_sequence(&mut self) -> Result<Vec<u8>, Error>
         ensures read { ReadsOrOutOfMemory vec_bytes self.old self.new result bytes_at }
-        ensures memory { IfErr result (λ e. e ≡ out_of_memory → IsOk (bytes_at (rest self.old))) }
+        ensures out_of_memory { IfErr result (λ e. e ≡ out_of_memory → IsOk (bytes_at (rest self.old))) }
     {
         let content = &self.parser.input[self.index..];
         let count = symbol_run(content);

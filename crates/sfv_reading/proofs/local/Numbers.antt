@@ -1,5 +1,5 @@
 -- On how much of the text a number rests.
-use Rattle.std.proofs.Common.{◌-◌, Bool}
+use Rattle.std.proofs.Common.{Bool}
 use Rattle.sfv_reading.specs.Judgements.{Local}
 use Rattle.sfv_reading.specs.Bare.{sign_at, long_at, decimal_at, fraction_at, point_at, whole_at, number_at}
 use Rattle.sfv_reading.proofs.local.Combinators.{local_rules}

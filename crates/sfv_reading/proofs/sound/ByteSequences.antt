@@ -10,7 +10,7 @@ use Rattle.std.proofs.lemmas.List.Folds.{list_all-append}
 use Rattle.sfv_spec.specs.Ascii.{colon, equals_sign}
 use Rattle.sfv_spec.specs.Base64.{IsBase64Text, symbol, is_symbol}
 use Rattle.sfv_spec.specs.Faults.{unterminated_byte_sequence}
-use Rattle.sfv_reading.specs.Reader.{first, by_rule}
+use Rattle.sfv_reading.specs.Reader.{by_rule}
 use Rattle.sfv_reading.specs.Judgements.{Reached, Sound, Mute, Quiet}
 use Rattle.sfv_reading.specs.Content.{valid_from, bytes_of, fault_place, IsBytesEnd, is_colon, HasNoColon, content_in}
 use Rattle.sfv_reading.specs.Content.{content_fault, closed_by, bytes_at}

@@ -40,8 +40,8 @@ returns-then-count-eq1-clause-read c =
     let colon = simp take_rest at c.if-content-end-ne58.false in
     rw c.at-then-count-eq1.ensures (lone_located input start n p runs open_end colon c.if-count-eq1.true)
 
-pub returns-in_err-bytes-clause-memory : goal.returns-in_err-bytes-clause-memory
-returns-in_err-bytes-clause-memory c =
+pub returns-in_err-bytes-clause-out_of_memory : goal.returns-in_err-bytes-clause-out_of_memory
+returns-in_err-bytes-clause-out_of_memory c =
     let input : List ℕ = c.args.self.now.parser.input.now in
     let start : ℕ = c.args.self.now.index in
     let n : ℕ = c.symbol_run-count.result in
