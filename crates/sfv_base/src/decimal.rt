@@ -222,7 +222,8 @@ impl From<u32> for Decimal {
 impl TryFrom<Integer> for Decimal {
     type Error = Error;
 
-    ghost try_from_gives = { λ n r. GivesIf (IsWhole (integer_of n)) (λ d. thousandths_of d ≡ in_thousandths (integer_of n)) r };
+    ghost try_from_gives = { λ n r.
+        GivesIf (IsWhole (integer_of n)) (λ d. thousandths_of d ≡ in_thousandths (integer_of n)) r };
 
     fn try_from(n: Integer) -> Result<Decimal, Error> {
         let v = i64::from(n);

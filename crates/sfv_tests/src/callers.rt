@@ -30,7 +30,10 @@ pub fn write_item(
     param: RefBareItem<'_>,
 ) -> Result<(), OutOfMemory>
     ensures ok { OnOk result (string_bytes text.new ≡ string_bytes text.old
-        ++ item_text (record { bare = ref_value value.entry; parameters = (key_text key.entry, ref_value param.entry) ∷ [] })) }
+        ++ item_text (record {
+          bare = ref_value value.entry;
+          parameters = (key_text key.entry, ref_value param.entry) ∷ [];
+        })) }
     ensures err { OnErr result ((string_bytes text.new ≡ string_bytes text.old)
         ⊎ (string_bytes text.new ≡ string_bytes text.old ++ bare_text (ref_value value.entry))) }
 {
@@ -46,7 +49,10 @@ pub fn write_twice(
     key: KeyRef<'_>,
 ) -> Result<(), OutOfMemory>
     ensures { OnOk result (string_bytes text.new ≡ string_bytes text.old
-        ++ item_text (record { bare = ref_value value.entry; parameters = (key_text key.entry, ref_value value.entry) ∷ [] })) }
+        ++ item_text (record {
+          bare = ref_value value.entry;
+          parameters = (key_text key.entry, ref_value value.entry) ∷ [];
+        })) }
 {
     write_item(text, value, key, value)
 }
