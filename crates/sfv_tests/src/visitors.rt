@@ -2,8 +2,11 @@
 
 use linked_list_allocator::LocalHeap;
 use sfv::visitor::{BareItemType, Event, ItemBuilder, ItemFault, Visitor};
-use sfv::{Error, ErrorKind, GenericBareItem, ParseError, Parser, Version, integer};
+use sfv::{
+    Error, ErrorKind, GenericBareItem, ParseError, Parser, StringFromInput, Version, integer,
+};
 use std::alloc::{AllocError, Allocator};
+use std::borrow::CowStr;
 use std::test::Fail;
 
 /// Counts its events, and fails at one of them, or at its end.
@@ -114,6 +117,64 @@ impl<'de, A: Allocator> Visitor<'de> for Teller<A> {
 
 fn kind(is_integer: bool) -> &'static str {
     if is_integer { "integer" } else { "other" }
+}
+
+/// Says whether the string or the display string that it visits is a slice of the input.
+#[derive(Drop)]
+struct Lender {
+    is_borrowed: bool,
+}
+
+impl<'de> Visitor<'de> for Lender {
+    ghost use Rattle.std.specs.Prelude.{⊤};
+
+    type Out = bool;
+
+    type Error = u64;
+
+    ghost takes = { λ _ _ _. ⊤ };
+
+    ghost fails = { λ _ _ _. ⊤ };
+
+    ghost finishes = { λ _ _. ⊤ };
+
+    ghost finish_fails = { λ _ _. ⊤ };
+
+    ghost is_memory = { λ _. ⊥ };
+
+    fn event(&mut self, event: Event<'de>) -> Result<(), u64> {
+        match event {
+            Event::BareItem(GenericBareItem::String(StringFromInput::Borrowed(_))) => {
+                self.is_borrowed = true;
+            }
+            Event::BareItem(GenericBareItem::DisplayString(CowStr::Borrowed(_))) => {
+                self.is_borrowed = true;
+            }
+            _ => {}
+        }
+        Ok(())
+    }
+
+    fn finish(self) -> Result<bool, u64> {
+        Ok(self.is_borrowed)
+    }
+}
+
+#[test]
+fn texts_without_an_escape_are_borrowed(rt: HostRuntime) {
+    let rows: [(&[u8], bool); 6] = [
+        (b"\"a%b\"", true),
+        (b"\"\"", true),
+        (b"\"a\\\\b\"", false),
+        (b"%\"a\\b\"", true),
+        (b"%\"\"", true),
+        (b"%\"a%20b\"", false),
+    ];
+    for (input, is_borrowed) in rows {
+        let lender = Lender { is_borrowed: false };
+        let answer = Parser::new(input).parse_item_with_visitor(rt.alloc(), lender);
+        assert!(rt; matches!(answer, Ok(borrowed) if borrowed == is_borrowed));
+    }
 }
 
 #[test]
