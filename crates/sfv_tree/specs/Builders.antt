@@ -122,7 +122,8 @@ list_step (between ms) entry = within ms begun
 list_step (between ms) e = between ms
 list_step (within ms p) e = settle ms (member_step p e)
 
--- an event takes memory here: where it does within the member, and where the member ends and goes into the list
+-- an event takes memory here: where it does within the member, and where the member ends and goes into the list; no
+-- builder stands within a member that has ended
 abbrev pub list_takes_memory : ListPlace → TreeEvent → Bool
 list_takes_memory (between ms) e = false
 list_takes_memory (within ms p) e = takes_memory p e || has_ended (member_step p e)
