@@ -34,7 +34,7 @@ fn without_newline(input: &[u8]) -> &[u8]
 /// The line of a field's text, which is empty where nothing was written.
 fn line(alloc: Global, text: Option<String>) -> Result<String, Error>
     ensures line { IfOk result (λ line. string_bytes line ≡ text_or_empty text ++ codes "\n") }
-    ensures memory { IfErr result (λ error. error ≡ out_of_memory) }
+    ensures out_of_memory { IfErr result (λ error. error ≡ out_of_memory) }
 {
     let mut line = match text {
         Some(text) => text,

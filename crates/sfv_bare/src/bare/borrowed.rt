@@ -61,7 +61,7 @@ impl<'a> RefBareItem<'a> {
     /// `OutOfMemory` when out of memory.
     pub fn try_to_owned(&self, alloc: Global) -> Result<BareItem, OutOfMemory>
         ensures value { IfOk result (λ item. bare_value item ≡ ref_value self.now) }
-        ensures memory { IfErr result (λ _. IsTrue (holds_bytes (ref_value self.now))) }
+        ensures out_of_memory { IfErr result (λ _. IsTrue (holds_bytes (ref_value self.now))) }
     {
         Ok(match self {
             GenericBareItem::Decimal(value) => GenericBareItem::Decimal(*value),

@@ -37,7 +37,7 @@ impl<'a> StringFromInput<'a> {
     /// `OutOfMemory` when out of memory.
     pub fn try_into_owned(self, alloc: Global) -> Result<String, OutOfMemory>
         ensures text { IfOk result (λ text. text ≡ read_text self.entry) }
-        ensures memory { IfErr result (λ _. IsTrue (is_borrowed_string self.entry)) }
+        ensures out_of_memory { IfErr result (λ _. IsTrue (is_borrowed_string self.entry)) }
     {
         match self {
             StringFromInput::Borrowed(text) => text.to_owned(alloc),
@@ -128,7 +128,7 @@ impl<'a> BareItemFromInput<'a> {
     /// `OutOfMemory` when out of memory.
     pub fn try_into_owned(self, alloc: Global) -> Result<BareItem, OutOfMemory>
         ensures value { IfOk result (λ item. bare_value item ≡ input_value self.entry) }
-        ensures memory { IfErr result (λ _. IsTrue (is_borrowed self.entry)) }
+        ensures out_of_memory { IfErr result (λ _. IsTrue (is_borrowed self.entry)) }
     {
         Ok(match self {
             GenericBareItem::Decimal(value) => GenericBareItem::Decimal(value),

@@ -48,7 +48,7 @@ impl DictionaryBuilder {
         requires no_member { self.old.pair ≡ None }
         ensures place { OnOk result
             (dictionary_place self.new ≡ dictionary_step (dictionary_place self.old) (event_of event.entry)) }
-        ensures memory { OnErr result
+        ensures out_of_memory { OnErr result
             (IsTrue (dictionary_takes_memory (dictionary_place self.old) (event_of event.entry))) }
     {
         match event {
@@ -67,7 +67,7 @@ impl DictionaryBuilder {
         requires no_member { self.old.pair ≡ None }
         ensures place { OnOk result (dictionary_place self.new
             ≡ settle_pair (dictionary_tree self.old.dictionary.entries) key (member_place member)) }
-        ensures memory { OnErr result (IsTrue
+        ensures out_of_memory { OnErr result (IsTrue
             (settle_takes_memory (dictionary_tree self.old.dictionary.entries) key (member_place member))) }
     {
         match member {
@@ -82,7 +82,7 @@ impl DictionaryBuilder {
     fn step(&mut self, event: Event<'_>) -> Result<(), OutOfMemory>
         ensures place { OnOk result
             (dictionary_place self.new ≡ dictionary_step (dictionary_place self.old) (event_of event.entry)) }
-        ensures memory { OnErr result
+        ensures out_of_memory { OnErr result
             (IsTrue (dictionary_takes_memory (dictionary_place self.old) (event_of event.entry))) }
     {
         match self.pair.take() {

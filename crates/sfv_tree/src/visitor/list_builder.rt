@@ -47,7 +47,7 @@ impl ListBuilder {
         requires no_member { self.old.member ≡ None }
         ensures place { OnOk result
             (list_place self.new ≡ settle (list_tree self.old.list.items) (member_place member)) }
-        ensures memory { OnErr result (IsTrue (has_ended (member_place member))) }
+        ensures out_of_memory { OnErr result (IsTrue (has_ended (member_place member))) }
     {
         match member {
             PartialMember::Ended(entry) => self.list.push(entry)?,
@@ -58,7 +58,7 @@ impl ListBuilder {
 
     fn step(&mut self, event: Event<'_>) -> Result<(), OutOfMemory>
         ensures place { OnOk result (list_place self.new ≡ list_step (list_place self.old) (event_of event.entry)) }
-        ensures memory { OnErr result (IsTrue (list_takes_memory (list_place self.old) (event_of event.entry))) }
+        ensures out_of_memory { OnErr result (IsTrue (list_takes_memory (list_place self.old) (event_of event.entry))) }
     {
         match self.member.take() {
             None => {

@@ -72,7 +72,7 @@ impl PartialMember {
     ) -> Result<PartialMember, OutOfMemory>
         ensures place { IfOk result (λ after. member_place after
             ≡ member_step (member_place self) (tree.bare_item (input_value bare_item.entry))) }
-        ensures memory { OnErr result
+        ensures out_of_memory { OnErr result
             (IsTrue (takes_memory (member_place self) (tree.bare_item (input_value bare_item.entry)))) }
     {
         match self {
@@ -97,7 +97,7 @@ impl PartialMember {
     ) -> Result<PartialMember, OutOfMemory>
         ensures place { IfOk result (λ after. member_place after
             ≡ member_step (member_place self) (tree.parameter (key_text key.entry) (input_value value.entry))) }
-        ensures memory { OnErr result (IsTrue
+        ensures out_of_memory { OnErr result (IsTrue
             (takes_memory (member_place self) (tree.parameter (key_text key.entry) (input_value value.entry)))) }
     {
         match self {
@@ -120,7 +120,7 @@ impl PartialMember {
     fn end_parameters(self) -> Result<PartialMember, OutOfMemory>
         ensures place { IfOk result (λ after. member_place after
             ≡ member_step (member_place self) tree.parameters_end) }
-        ensures memory { OnErr result (IsTrue (takes_memory (member_place self) tree.parameters_end)) }
+        ensures out_of_memory { OnErr result (IsTrue (takes_memory (member_place self) tree.parameters_end)) }
     {
         match self {
             PartialMember::Params(item) => Ok(PartialMember::Ended(ListEntry::Item(item))),
@@ -139,7 +139,7 @@ impl PartialMember {
     pub(crate) fn step(self, alloc: Global, event: Event<'_>) -> Result<PartialMember, OutOfMemory>
         ensures place { IfOk result
             (λ after. member_place after ≡ member_step (member_place self) (event_of event.entry)) }
-        ensures memory { OnErr result (IsTrue (takes_memory (member_place self) (event_of event.entry))) }
+        ensures out_of_memory { OnErr result (IsTrue (takes_memory (member_place self) (event_of event.entry))) }
     {
         match event {
             Event::Item => Ok(self.begin_item()),

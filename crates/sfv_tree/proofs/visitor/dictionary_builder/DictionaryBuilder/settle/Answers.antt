@@ -12,8 +12,8 @@ returns-in_ok-insert-in-Ended-clause-place c = rw (
   dictionary_tree-insert,
 ) refl
 
-pub returns-in_err-insert-in-Ended-clause-memory : goal.returns-in_err-insert-in-Ended-clause-memory
-returns-in_err-insert-in-Ended-clause-memory c = rw (
+pub returns-in_err-insert-in-Ended-clause-out_of_memory : goal.returns-in_err-insert-in-Ended-clause-out_of_memory
+returns-in_err-insert-in-Ended-clause-out_of_memory c = rw (
   c.in-Ended.is,
   lookup-map_values member_tree,
   c.in_err-insert-in-Ended.ensures.absent,
