@@ -12,11 +12,6 @@ use Rattle.sfv_spec.specs.Numbers.{place_value}
 use Rattle.sfv_reading.specs.Reader.{Apart, up_to, span}
 use Rattle.sfv_reading.proofs.complete.Combinators.{Apart-nil, Apart-cons, up_to_taken, span_complete}
 
--- one byte more of a run
-pub run_more : (class : ℕ → Bool) (xs : List ℕ) (i : ℕ) → i < length xs → RunOf class (take i xs)
-    → class (get_or xs i 0) ≡ true → RunOf class (take (i + 1) xs)
-run_more class xs i lt each e = list_all_more class xs i 0 lt ∙ and_from _ _ each e
-
 -- a byte of a run is of the class
 pub run_at : (class : ℕ → Bool) (xs : List ℕ) (i : ℕ) → RunOf class xs → i < length xs → class (get_or xs i 0) ≡ true
 run_at class [] i each lt = absurd (omega arith)

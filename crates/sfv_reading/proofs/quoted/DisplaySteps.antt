@@ -135,10 +135,6 @@ stops_escape input at k there l e h = subst (λ (t : List ℕ). DisplayStops k t
 
 -- ---- what the look at UTF-8 makes of it
 
-pub shown_fault : (t : List ℕ) (e : Fault) → pieces_from outside t ≡ Err e → display_at t ≡ Err e
-unfolding display_at
-shown_fault t e i = ap (checked t) i
-
 pub shown_text : (t s rest : List ℕ) → pieces_from outside t ≡ Ok (s, rest) → IsUtf8 s → display_at t ≡ Ok (s, rest)
 unfolding display_at
 shown_text t s rest e u = ap (checked t) e ∙ passes t s rest u

@@ -322,10 +322,6 @@ begins_behind front all es b = (b.0, ap (λ (l : List TreeEvent). front ++ l) b.
 pub begins_longer : (all es more : List TreeEvent) → Begins all es → Begins (all ++ more) es
 begins_longer all es more b = (b.0 ++ more, ap (λ (l : List TreeEvent). l ++ more) b.1 ∙ append_assoc es b.0 more)
 
-pub begins_none : (es : List TreeEvent) → Begins [] es → es ≡ []
-begins_none [] b = refl
-begins_none (e ∷ es) b = let h = b.1 in absurd cc
-
 -- A reader where another has begun: at shows where its texts stand, out what was visited before.
 pub Sound-within : {A : Type 0} (at : List ℕ → List ℕ) (out : List TreeEvent → List TreeEvent) (f : Reader A) (P : A
     → List ℕ → Type 0) (U : List ℕ → List TreeEvent → Type 0) (Q : A → List ℕ → Type 0)

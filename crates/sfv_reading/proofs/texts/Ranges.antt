@@ -56,19 +56,6 @@ run_more test input from to l m h e =
     ∙ and_from (list_all test (slice_range input from to)) (test (slice_index input to) && true) h
     (and_from (test (slice_index input to)) true e refl))
 
-pub run_join : (test : ℕ → Bool) (input : List ℕ) (from mid to : ℕ) → from ≤ mid → mid ≤ to
-    → RunOf test (slice_range input from mid) → list_all test (slice_range input mid to) ≡ true
-    → RunOf test (slice_range input from to)
-run_join test input from mid to l m h e =
-    let n : to - from ≡ (mid - from) + (to - mid) = omega (arith, l, m) in
-    let k : from + (mid - from) ≡ mid = omega (arith, l) in
-    let both : slice_range input from to ≡ slice_range input from mid ++ slice_range input mid to =
-    ap (λ (n : ℕ). take n (drop from input)) n ∙ take-add (mid - from) (to - mid) (drop from input)
-    ∙ ap (λ (xs : List ℕ). slice_range input from mid ++ take (to - mid) xs) (drop-drop (mid - from) from input
-    ∙ ap (λ (n : ℕ). drop n input) k) in
-    subst (RunOf test) (sym both) (list_all-append test (slice_range input from mid) (slice_range input mid to)
-    ∙ and_from (list_all test (slice_range input from mid)) (list_all test (slice_range input mid to)) h e)
-
 pub run_none : (test : ℕ → Bool) (input : List ℕ) (from : ℕ) → RunOf test (slice_range input from from)
 run_none test input from = let e : from - from ≡ 0 = omega arith in
     subst (λ (n : ℕ). RunOf test (take n (drop from input))) (sym e) (none (drop from input))
