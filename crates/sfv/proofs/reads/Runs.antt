@@ -3,9 +3,8 @@ use Rattle.std.proofs.Common.{◌≡◌, ℕ, zero, suc, ◌+◌, ◌-◌, ◌*�
 use Rattle.std.proofs.Common.{length, get_or, take, drop, Ok, sym, ap, subst, ◌∙◌, arith, zero-add, add-one, inl, inr}
 use Rattle.std.proofs.Math.Nat.{pow-suc}
 use Rattle.std.proofs.lemmas.List.{take-append-drop, take_more, length-take, drop_more, drop_all}
-use Rattle.std.proofs.lemmas.List.Folds.{list_all_more}
 use Rattle.std.proofs.Common.{length-append}
-use Rattle.std.proofs.lemmas.Bool.{cases_lt, and_parts, and_from, leb-true}
+use Rattle.std.proofs.lemmas.Bool.{cases_lt, and_parts, leb-true}
 use Rattle.sfv_spec.specs.Texts.{RunOf}
 use Rattle.sfv_spec.specs.Classes.{is_digit}
 use Rattle.sfv_spec.specs.Numbers.{place_value}

@@ -13,7 +13,7 @@ use Rattle.sfv_spec.specs.Classes.{is_string_byte}
 use Rattle.sfv_spec.specs.Strings.{is_plain_in_display, IsDisplayPiece}
 use Rattle.sfv_spec.specs.Faults.{SyntaxFault, unterminated_display_string, invalid_display_string_character}
 use Rattle.sfv_spec.specs.Faults.{invalid_utf8_in_display_string}
-use Rattle.sfv_reading.specs.Reader.{Fault, Answer, by_rule}
+use Rattle.sfv_reading.specs.Reader.{Answer, by_rule}
 use Rattle.sfv_reading.specs.Quoted.{behind_bytes, outside, pieces_from, behind_pieces, checked, display_at}
 use Rattle.sfv_reading.specs.Quoted.{DisplayStops, Traced}
 use Rattle.std.specs.Str.Lossy.{utf8_valid_len}

@@ -1,6 +1,6 @@
 -- Parts of an input, and runs of bytes in it.
 use Rattle.std.proofs.Common.{◌≡◌, ℕ, zero, suc, ◌<◌, ◌≤◌, ◌+◌, ◌-◌, Bool, true, ◌&&◌, List, [], ◌∷◌, ◌++◌, length}
-use Rattle.std.proofs.Common.{take, drop, refl, sym, ap, subst, ◌∙◌, take-append-drop, take-add, length-drop, arith}
+use Rattle.std.proofs.Common.{take, drop, refl, sym, ap, subst, ◌∙◌, take-append-drop, length-drop, arith}
 use Rattle.std.specs.Prelude.{IsUtf8, slice_index, slice_range}
 use Rattle.std.specs.List.{list_all}
 use Rattle.std.specs.Str.{IsAscii}
