@@ -21,8 +21,8 @@ use sfv::{
 use std::alloc::{AllocError, Global};
 use std::cmp::Ordering;
 
-/// Writes an item of one parameter after what stands in the text. Where memory is refused, the text holds what was
-/// written before the call that was refused.
+/// Writes an item of one parameter after what stands in the text. Out of memory, the text holds what was written before
+/// the call that failed.
 pub fn write_item(
     text: &mut String,
     value: RefBareItem<'_>,

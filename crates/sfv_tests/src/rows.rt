@@ -148,7 +148,7 @@ fn older_version(rt: HostRuntime) -> Result<(), Fail> {
     Ok(())
 }
 
-/// Where an input is refused for its reach, the text up to there goes on like an accepted one.
+/// Where an input is rejected at its reach, the text up to there goes on like an accepted one.
 #[test]
 fn completions(rt: HostRuntime) -> Result<(), Fail> {
     let rows: [(&[u8], usize, &str); 3] = [

@@ -1,4 +1,4 @@
-//! Visitors: what they are told, and what a refusal does.
+//! Visitors: what they visit, and what its failure does.
 
 use linked_list_allocator::LocalHeap;
 use sfv::visitor::{BareItemType, Event, ItemBuilder, ItemFault, Visitor};
@@ -14,17 +14,17 @@ use std::test::Fail;
 struct Counter {
     events: u64,
     /// The event at which it fails, from 1; 0 for none.
-    refused: u64,
+    failing_event: u64,
     /// Whether it fails to answer.
-    refuses_to_finish: bool,
+    fails_to_finish: bool,
 }
 
 impl Counter {
-    fn refusing(refused: u64) -> Counter {
+    fn failing_at(failing_event: u64) -> Counter {
         Counter {
             events: 0,
-            refused,
-            refuses_to_finish: false,
+            failing_event,
+            fails_to_finish: false,
         }
     }
 }
@@ -48,21 +48,21 @@ impl<'de> Visitor<'de> for Counter {
 
     fn event(&mut self, _event: Event<'de>) -> Result<(), u64> {
         self.events = self.events.saturating_add(1);
-        if self.events == self.refused {
+        if self.events == self.failing_event {
             return Err(self.events);
         }
         Ok(())
     }
 
     fn finish(self) -> Result<u64, u64> {
-        if self.refuses_to_finish {
+        if self.fails_to_finish {
             return Err(0);
         }
         Ok(self.events)
     }
 }
 
-/// Writes each of its events into a text; refused memory is its fault.
+/// Writes each of its events into a text; out of memory is its error.
 #[derive(Drop)]
 struct Teller<A: Allocator> {
     text: String<A>,
@@ -178,17 +178,20 @@ fn texts_without_an_escape_are_borrowed(rt: HostRuntime) {
 }
 
 #[test]
-fn refusals_are_answers(rt: HostRuntime) {
-    for refused in 1..4u64 {
+fn failures_are_answers(rt: HostRuntime) {
+    for failing_event in 1..4u64 {
         let parser = Parser::new(b"1;a=2 x");
-        let answer = parser.parse_item_with_visitor(rt.alloc(), Counter::refusing(refused));
-        assert!(rt; matches!(answer, Err(ParseError::Visitor(n)) if n == refused));
+        let answer = parser.parse_item_with_visitor(rt.alloc(), Counter::failing_at(failing_event));
+        assert!(rt; matches!(answer, Err(ParseError::Visitor(n)) if n == failing_event));
     }
-    let mut counter = Counter::refusing(0);
-    counter.refuses_to_finish = true;
+    let mut counter = Counter::failing_at(0);
+    counter.fails_to_finish = true;
     let answer = Parser::new(b"1;a=2 x").parse_item_with_visitor(rt.alloc(), counter);
     assert!(rt; matches!(answer, Err(ParseError::Visitor(0))));
-    let answer = Parser::new(b"1;a=2 x").parse_item_with_visitor(rt.alloc(), Counter::refusing(0));
+    let answer = Parser::new(b"1;a=2 x").parse_item_with_visitor(
+        rt.alloc(),
+        Counter::failing_at(0),
+    );
     let Err(ParseError::Syntax(error)) = answer else {
         assert!(rt; false);
         return;
@@ -206,7 +209,7 @@ fn events_are_counted(rt: HostRuntime) {
         (b"1;a;a=2;b;a", 6),
     ];
     for (input, events) in rows {
-        let answer = Parser::new(input).parse_item_with_visitor(rt.alloc(), Counter::refusing(0));
+        let answer = Parser::new(input).parse_item_with_visitor(rt.alloc(), Counter::failing_at(0));
         assert!(rt; matches!(answer, Ok(n) if n == events));
     }
 }
@@ -214,7 +217,7 @@ fn events_are_counted(rt: HostRuntime) {
 #[test]
 fn faults_come_behind_their_events(rt: HostRuntime) {
     // The bare item is told before the parameter that is no key.
-    let answer = Parser::new(b"abc;0").parse_item_with_visitor(rt.alloc(), Counter::refusing(0));
+    let answer = Parser::new(b"abc;0").parse_item_with_visitor(rt.alloc(), Counter::failing_at(0));
     let Err(ParseError::Syntax(error)) = answer else {
         assert!(rt; false);
         return;
@@ -223,10 +226,10 @@ fn faults_come_behind_their_events(rt: HostRuntime) {
         error,
         Error::with_kind(ErrorKind::ExpectedStartOfKey, Some(4))
     );
-    let answer = Parser::new(b"abc;0").parse_item_with_visitor(rt.alloc(), Counter::refusing(1));
+    let answer = Parser::new(b"abc;0").parse_item_with_visitor(rt.alloc(), Counter::failing_at(1));
     assert!(rt; matches!(answer, Err(ParseError::Visitor(1))));
     let parser = Parser::new(b"@5").with_version(Version::Rfc8941);
-    let answer = parser.parse_item_with_visitor(rt.alloc(), Counter::refusing(1));
+    let answer = parser.parse_item_with_visitor(rt.alloc(), Counter::failing_at(1));
     assert!(rt; matches!(answer, Err(ParseError::Syntax(_))));
 }
 
@@ -237,7 +240,7 @@ fn events_stand_in_their_order(rt: HostRuntime) -> Result<(), Fail> {
     };
     let parser = Parser::new(b"1;a;b=2;a=3");
     let Ok(text) = parser.parse_item_with_visitor(rt.alloc(), teller) else {
-        return Err(Fail::from("refused"));
+        return Err(Fail::from("rejected"));
     };
     assert_eq!(rt;
         text.as_str(),
@@ -247,16 +250,16 @@ fn events_stand_in_their_order(rt: HostRuntime) -> Result<(), Fail> {
 }
 
 #[test]
-fn refusals_within_lists(rt: HostRuntime) {
+fn failures_within_lists(rt: HostRuntime) {
     let input = b"1, (2;a 3), @x";
-    for refused in 1..18u64 {
-        let counter = Counter::refusing(refused);
+    for failing_event in 1..18u64 {
+        let counter = Counter::failing_at(failing_event);
         let answer = Parser::new(input).parse_list_with_visitor(rt.alloc(), counter);
-        assert!(rt; matches!(answer, Err(ParseError::Visitor(n)) if n == refused));
+        assert!(rt; matches!(answer, Err(ParseError::Visitor(n)) if n == failing_event));
     }
-    for refused in 18..20u64 {
-        let mut counter = Counter::refusing(refused);
-        counter.refuses_to_finish = true;
+    for failing_event in 18..20u64 {
+        let mut counter = Counter::failing_at(failing_event);
+        counter.fails_to_finish = true;
         let answer = Parser::new(input).parse_list_with_visitor(rt.alloc(), counter);
         let Err(ParseError::Syntax(error)) = answer else {
             assert!(rt; false);
@@ -267,15 +270,15 @@ fn refusals_within_lists(rt: HostRuntime) {
 }
 
 #[test]
-fn refusals_within_dictionaries(rt: HostRuntime) {
+fn failures_within_dictionaries(rt: HostRuntime) {
     let input = b"a=1, b=(";
-    for refused in 1..7u64 {
-        let counter = Counter::refusing(refused);
+    for failing_event in 1..7u64 {
+        let counter = Counter::failing_at(failing_event);
         let answer = Parser::new(input).parse_dictionary_with_visitor(rt.alloc(), counter);
-        assert!(rt; matches!(answer, Err(ParseError::Visitor(n)) if n == refused));
+        assert!(rt; matches!(answer, Err(ParseError::Visitor(n)) if n == failing_event));
     }
-    let mut counter = Counter::refusing(7);
-    counter.refuses_to_finish = true;
+    let mut counter = Counter::failing_at(7);
+    counter.fails_to_finish = true;
     let answer = Parser::new(input).parse_dictionary_with_visitor(rt.alloc(), counter);
     let Err(ParseError::Syntax(error)) = answer else {
         assert!(rt; false);
@@ -289,19 +292,19 @@ fn refusals_within_dictionaries(rt: HostRuntime) {
 
 #[test]
 fn empty_lists_have_no_event(rt: HostRuntime) {
-    let mut counter = Counter::refusing(0);
-    counter.refuses_to_finish = true;
+    let mut counter = Counter::failing_at(0);
+    counter.fails_to_finish = true;
     let answer = Parser::new(b"   ").parse_list_with_visitor(rt.alloc(), counter);
     assert!(rt; matches!(answer, Err(ParseError::Visitor(0))));
-    let answer = Parser::new(b"   ").parse_list_with_visitor(rt.alloc(), Counter::refusing(0));
+    let answer = Parser::new(b"   ").parse_list_with_visitor(rt.alloc(), Counter::failing_at(0));
     assert!(rt; matches!(answer, Ok(0)));
-    let answer = Parser::new(b"").parse_dictionary_with_visitor(rt.alloc(), Counter::refusing(0));
+    let answer = Parser::new(b"").parse_dictionary_with_visitor(rt.alloc(), Counter::failing_at(0));
     assert!(rt; matches!(answer, Ok(0)));
     // A comma at the end: no further entry is told.
-    let answer = Parser::new(b"1, ").parse_list_with_visitor(rt.alloc(), Counter::refusing(5));
+    let answer = Parser::new(b"1, ").parse_list_with_visitor(rt.alloc(), Counter::failing_at(5));
     assert!(rt; matches!(answer, Err(ParseError::Syntax(_))));
     // A byte stands where a member is wanted: the entry is told before it is looked at.
-    let answer = Parser::new(b"!").parse_list_with_visitor(rt.alloc(), Counter::refusing(1));
+    let answer = Parser::new(b"!").parse_list_with_visitor(rt.alloc(), Counter::failing_at(1));
     assert!(rt; matches!(answer, Err(ParseError::Visitor(1))));
 }
 
@@ -312,7 +315,7 @@ fn events_of_members_stand_in_their_order(rt: HostRuntime) -> Result<(), Fail> {
     };
     let parser = Parser::new(b"a=(1 x;y), b");
     let Ok(text) = parser.parse_dictionary_with_visitor(rt.alloc(), teller) else {
-        return Err(Fail::from("refused"));
+        return Err(Fail::from("rejected"));
     };
     assert_eq!(rt;
         text.as_str(),
@@ -323,7 +326,7 @@ fn events_of_members_stand_in_their_order(rt: HostRuntime) -> Result<(), Fail> {
     };
     let parser = Parser::new(b"1;a, ()");
     let Ok(text) = parser.parse_list_with_visitor(rt.alloc(), teller) else {
-        return Err(Fail::from("refused"));
+        return Err(Fail::from("rejected"));
     };
     assert_eq!(rt;
         text.as_str(),
@@ -334,7 +337,7 @@ fn events_of_members_stand_in_their_order(rt: HostRuntime) -> Result<(), Fail> {
 
 #[test]
 fn want_of_memory_is_the_visitors_answer(rt: HostRuntime) -> Result<(), Fail> {
-    let (mut was_refused, mut was_answered) = (false, false);
+    let (mut was_out_of_memory, mut was_answered) = (false, false);
     for size in 16..256usize {
         let heap = LocalHeap::new(rt.alloc(), size)?;
         let teller = Teller {
@@ -345,11 +348,11 @@ fn want_of_memory_is_the_visitors_answer(rt: HostRuntime) -> Result<(), Fail> {
                 assert_eq!(rt; text.as_str(), "bare integer, a=other, b=integer, end");
                 was_answered = true;
             }
-            Err(ParseError::Visitor(AllocError)) => was_refused = true,
+            Err(ParseError::Visitor(AllocError)) => was_out_of_memory = true,
             Err(ParseError::Syntax(_)) => return Err(Fail::from("a fault")),
         }
     }
-    assert!(rt; was_refused && was_answered);
+    assert!(rt; was_out_of_memory && was_answered);
     Ok(())
 }
 
@@ -358,7 +361,7 @@ fn items_are_built(rt: HostRuntime) -> Result<(), Fail> {
     let builder = ItemBuilder::new(rt.alloc());
     let answer = Parser::new(b"1;a;b=2;a=3").parse_item_with_visitor(rt.alloc(), builder);
     let Ok(item) = answer else {
-        return Err(Fail::from("refused"));
+        return Err(Fail::from("rejected"));
     };
     assert_eq!(rt; item.bare_item.as_integer(), Some(integer(1)));
     assert_eq!(rt; item.params.len(), 2);
@@ -388,7 +391,7 @@ fn out_of_place_events_change_nothing(rt: HostRuntime) -> Result<(), Fail> {
             .is_ok()
     );
     let Ok(item) = builder.finish() else {
-        return Err(Fail::from("refused"));
+        return Err(Fail::from("rejected"));
     };
     assert_eq!(rt; item.bare_item.as_boolean(), Some(true));
     let answer = ItemBuilder::new(rt.alloc()).finish();
