@@ -1,4 +1,4 @@
-//! Visitors: what they visit, and what its failure does.
+//! Visitors: what they visit, and what their failures do.
 
 use linked_list_allocator::LocalHeap;
 use sfv::visitor::{BareItemType, Event, ItemBuilder, ItemFault, Visitor};

@@ -67,7 +67,7 @@ whole_visited edition t s r e = on (item_at edition r) refl
     on (Ok x) k = ap (visited (events item_field)) (whole_some edition t s r x.1 x.0 e k).1
     on (Err f) k = ap (visited (events item_field)) (whole_fault edition t s r f e k)
 
--- a refusal within the item
+-- a failure within the item
 pub whole_failed : {S E : Type 0} (takes : S → TreeEvent → S → Type 0) (fails : S → TreeEvent
     → E → Type 0) (edition : Edition) (t s r : List ℕ) (from : S) (fault : E) → span is_space t ≡ Ok (s, r)
     → VisitorFails takes fails item_events (item_at edition r) from fault
@@ -270,7 +270,7 @@ whole_value edition kind t q raw e =
     ((Sound-field edition kind).sound t) in
     (accepted_is_value_lem edition kind h.0 raw h.2).0
 
--- where a text is failed, only an item's visitor was asked
+-- where a text is rejected, only an item's visitor was asked
 asked_of_item : (kind : FieldKind) (q : List ℕ) → IsAskedThere kind q → (q ≡ [] → ⊥) → kind ≡ item_field
 asked_of_item item_field q asked none = refl
 asked_of_item list_field q asked none = absurd (none asked)

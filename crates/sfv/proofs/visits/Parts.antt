@@ -192,7 +192,7 @@ module _ {S E : Type 0} (takes : S → TreeEvent → S → Type 0) (fails : S �
     failed = h.failed;
   }
 
-  -- a refusal within the first of two readings
+  -- a failure within the first of two readings
   pub first_failed : {A B : Type 0} (f : Reader A) (g : A → Reader B) (first : A → List TreeEvent) (parts more : B
       → List TreeEvent) (t : List ℕ) (from : S) (fault : E)
       → ((v : A) (q : List ℕ) (w : B) (r : List ℕ) → f t ≡ Ok (v, q) → g v q ≡ Ok (w, r) → parts w ≡ first v ++ more w)
@@ -203,7 +203,7 @@ module _ {S E : Type 0} (takes : S → TreeEvent → S → Type 0) (fails : S �
       failed_within takes fails first (f t) parts ((f >>= λ v. led (first v) (g v)) t) [] w.0 w.1 from from fault refl
       (λ es to run. run) h
 
-  -- a refusal, where more is visited after what was read
+  -- a failure, where more is visited after what was read
   pub failed_longer : {A : Type 0} (parts longer : A → List TreeEvent) (a : Answer A) (from : S) (fault : E)
       → ((v : A) → (more : List TreeEvent) × (longer v ≡ parts v ++ more)) → VisitorFails takes fails parts a from fault
       → VisitorFails takes fails longer a from fault
@@ -215,7 +215,7 @@ module _ {S E : Type 0} (takes : S → TreeEvent → S → Type 0) (fails : S �
       on (Ok x) = each x.0
       on (Err x) = ([], sym (append-nil x.events))
 
-  -- a refusal after what was read
+  -- a failure after what was read
   pub failed_behind : {A : Type 0} (parts longer : A
       → List TreeEvent) (e : TreeEvent) (a : Answer A) (v : A) (q : List ℕ) (from middle : S) (fault : E)
       → a ≡ Ok (v, q) → longer v ≡ parts v ++ e ∷ [] → RunsTo takes from (parts v) middle → fails middle e fault

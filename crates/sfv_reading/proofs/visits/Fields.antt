@@ -37,7 +37,7 @@ pub visited_begins : VisitedBegins
 visited_begins edition kind t = begun_by edition kind _
     (visited_on edition kind t (whole_field_at edition kind t) ((Sound-field edition kind).sound t))
 
--- and so does each beginning of it, with the event that is failed
+-- and so does each beginning of it, with the event that it fails at
 pub failed_begins : FailedBegins
 failed_begins kind es before e after h i = record {
   raw = h.raw;

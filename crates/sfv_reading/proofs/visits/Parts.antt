@@ -49,7 +49,7 @@ pub visited_in_front : {A : Type 0} (parts : A → List TreeEvent) (front : List
 visited_in_front parts front (Ok x) = flat_map-append parts front x.0
 visited_in_front parts front (Err e) = refl
 
--- a refusal within a part is one of the whole
+-- a failure within a part is one of the whole
 pub failed_within : {A B S F : Type 0} (takes : S → TreeEvent → S → Type 0)
     (fails : S → TreeEvent → F → Type 0) (parts : A → List TreeEvent) (a : Answer A) (whole : B
     → List TreeEvent) (b : Answer B) (front rest : List TreeEvent)
