@@ -1,7 +1,6 @@
 -- What a reader gives, by what the code found out.
 pub mod Runs
 pub mod Steps
-pub mod Symbols
 pub mod Contents
 pub mod Coded
 pub mod Escapes
