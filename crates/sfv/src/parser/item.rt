@@ -31,10 +31,7 @@ pub(crate) fn visit<'de, V: Visitor<'de>>(
     ensures taken { OnOk result (V.takes visitor.old (event_of event.entry) visitor.new) }
     ensures failed { IfErr result (IsOfVisitor (V.fails visitor.old (event_of event.entry))) }
 {
-    match visitor.event(event) {
-        Ok(()) => Ok(()),
-        Err(error) => Err(ParseError::Visitor(error)),
-    }
+    visitor.event(event).map_err(ParseError::Visitor)
 }
 
 /// Returns what the visitor makes of the events, or fails with its error.
@@ -43,10 +40,7 @@ pub(crate) fn finish<'de, V: Visitor<'de>>(visitor: V) -> Result<V::Out, ParseEr
     ensures answered { IfOk result (V.finishes visitor) }
     ensures failed { IfErr result (IsOfVisitor (V.finish_fails visitor)) }
 {
-    match visitor.finish() {
-        Ok(out) => Ok(out),
-        Err(error) => Err(ParseError::Visitor(error)),
-    }
+    visitor.finish().map_err(ParseError::Visitor)
 }
 
 impl<'de> Cursor<'de> {
