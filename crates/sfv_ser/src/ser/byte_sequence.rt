@@ -1,6 +1,5 @@
 //! Writing byte sequences (RFC 9651, section 4.1.8).
 
-ghost use Rattle.std.specs.Prelude.{};
 ghost use Rattle.sfv_spec.specs.Texts.{RunOf};
 ghost use Rattle.sfv_spec.specs.Values.{is_byte, byte_sequence};
 ghost use Rattle.sfv_spec.specs.Canonical.{bare_text};
