@@ -1,19 +1,21 @@
 -- What the builders of owned trees do with the events of a field.
-use Rattle.std.specs.Prelude.{ℕ, List, [], ◌∷◌, ◌++◌, Bool, true, false, ◌&&◌, ◌||◌, Option, Some, None, is_none}
+use Rattle.std.specs.Prelude.{ℕ, List, [], ◌∷◌, ◌++◌, Bool, true, false, ◌&&◌, ◌||◌, Option, Some, None, is_none, option_map}
 use Rattle.std.specs.Prelude.{bytes_eq}
 use Rattle.std.specs.Map.{lookup}
 use Rattle.indexmap.specs.IndexMap.{insert_entry}
 use Rattle.sfv_spec.specs.Values.{BareValue, RawItem, RawInnerList, RawMember, item, inner_list}
 use Rattle.sfv_spec.specs.Events.{TreeEvent, entry, keyed_entry, begins_item, begins_inner_list}
 use Rattle.sfv_spec.specs.Events.{bare_item, parameter, parameters_end, inner_list_end}
-use Rattle.sfv_bare.specs.BareItems.{is_text}
-use Rattle.sfv_tree.specs.Trees.{item_tree, inner_list_tree, member_tree, list_tree, dictionary_tree}
+use Rattle.sfv_bare.specs.BareItems.{is_text, bare_value}
+use Rattle.sfv_tree.specs.Trees.{OwnedBareItem, pairs_tree, item_tree, inner_list_tree, list_tree, dictionary_tree}
+use Rattle.sfv_tree.specs.declared.parsed.Item.{Item}
+use Rattle.sfv_tree.specs.declared.parsed.InnerList.{InnerList}
 use Rattle.sfv_tree.specs.declared.visitor.item_builder.ItemBuilder.{ItemBuilder}
 use Rattle.sfv_tree.specs.declared.visitor.partial_member.PartialMember.{PartialMember}
-use Rattle.sfv_tree.specs.declared.visitor.partial_member.PartialMember.TheVariants as partial
+use Rattle.sfv_tree.specs.declared.visitor.partial_member.Place.{Place}
+use Rattle.sfv_tree.specs.declared.visitor.partial_member.Place.TheVariants as places
 use Rattle.sfv_tree.specs.declared.visitor.list_builder.ListBuilder.{ListBuilder}
 use Rattle.sfv_tree.specs.declared.visitor.dictionary_builder.DictionaryBuilder.{DictionaryBuilder}
-use Rattle.sfv_tree.specs.declared.visitor.dictionary_builder.PartialPair.{PartialPair}
 
 -- a key that is there keeps its place and takes the new value, and a new key goes last
 abbrev pub enters : RawItem → List ℕ → BareValue → RawItem
@@ -74,15 +76,47 @@ abbrev pub has_ended : MemberPlace → Bool
 has_ended (ended m) = true
 has_ended p = false
 
+-- the item of this value with these parameters
+abbrev pub item_with : OwnedBareItem → List (List ℕ × OwnedBareItem) → RawItem
+item_with value params = record { bare = bare_value value; parameters = pairs_tree params }
+
+-- the item that is being read of a member: its own, or one of its inner list
+abbrev pub item_of : PartialMember → Option RawItem
+item_of m = option_map (λ value. item_with value m.params.entries) m.bare_item
+
+-- the place of what is read of a member: of an item of its own, or of one of an inner list, or between the items of one
+abbrev pub shown : Place → Option RawItem → Option InnerList → MemberPlace
+shown p (Some i) None = item_parameters i
+shown p (Some i) (Some l) = inner_parameters (inner_list_tree l) i
+shown places.Begun None (Some l) = inner_items (inner_list_tree l)
+shown places.Head None (Some l) = inner_head (inner_list_tree l)
+shown places.Params None (Some l) = list_parameters (inner_list_tree l)
+shown places.Head None None = item_head
+shown p None None = begun
+
 abbrev pub member_place : PartialMember → MemberPlace
-member_place partial.Begun = begun
-member_place partial.Head = item_head
-member_place (partial.Params i) = item_parameters (item_tree i)
-member_place (partial.Inner l) = inner_items (inner_list_tree l)
-member_place (partial.InnerHead l) = inner_head (inner_list_tree l)
-member_place (partial.InnerParams l i) = inner_parameters (inner_list_tree l) (item_tree i)
-member_place (partial.ListParams l) = list_parameters (inner_list_tree l)
-member_place (partial.Ended m) = ended (member_tree m)
+member_place m = shown m.place (item_of m) m.inner
+
+-- the member that is read, once it is whole
+abbrev pub whole_member : Option RawItem → Option InnerList → Option RawMember
+whole_member i (Some l) = Some (inner_list (inner_list_tree l))
+whole_member i None = option_map item i
+
+abbrev pub whole_of : PartialMember → Option RawMember
+whole_of m = whole_member (item_of m) m.inner
+
+abbrev pub ended_with : Option RawMember → MemberPlace
+ended_with (Some m) = ended m
+ended_with None = begun
+
+-- the place of a member that is whole
+abbrev pub ended_member : PartialMember → MemberPlace
+ended_member m = ended_with (whole_of m)
+
+-- the place after a step that tells whether the member is whole
+abbrev pub place_after : Bool → PartialMember → MemberPlace
+place_after true m = ended_member m
+place_after false m = member_place m
 
 -- the place of an item's builder, which reads the item as a member is read: before its bare item, among its
 -- parameters, or after them; an event out of its place changes nothing
@@ -102,9 +136,14 @@ at_end i = ended (item i)
 abbrev pub item_step : ItemPlace → TreeEvent → ItemPlace
 item_step p e = member_step p e
 
+abbrev pub item_so_far : Bool → Option Item → ItemPlace
+item_so_far is_whole None = at_head
+item_so_far false (Some i) = at_parameters (item_tree i)
+item_so_far true (Some i) = at_end (item_tree i)
+
 -- the place of a builder, with the item so far
 abbrev pub item_place : ItemBuilder → ItemPlace
-item_place b = member_place b.item
+item_place b = item_so_far b.is_whole b.item
 
 -- the place of a list's builder, with the members that are whole: between two members, or within one
 pub data ListPlace : Type 0 where
@@ -133,13 +172,13 @@ abbrev pub list_members : ListPlace → List RawMember
 list_members (between ms) = ms
 list_members (within ms p) = ms
 
-abbrev pub place_among : List RawMember → Option PartialMember → ListPlace
-place_among ms None = between ms
-place_among ms (Some m) = within ms (member_place m)
+abbrev pub place_among : List RawMember → Bool → PartialMember → ListPlace
+place_among ms false m = between ms
+place_among ms true m = within ms (member_place m)
 
 -- the place of a builder, with the list so far
 abbrev pub list_place : ListBuilder → ListPlace
-list_place b = place_among (list_tree b.list.items) b.member
+list_place b = place_among (list_tree b.list.items) b.is_within b.member
 
 -- the place of a dictionary's builder, with the pairs that are whole: between two of them, or within the member of a
 -- key
@@ -175,10 +214,10 @@ abbrev pub dictionary_members : DictionaryPlace → List (List ℕ × RawMember)
 dictionary_members (between_pairs ms) = ms
 dictionary_members (within_pair ms key p) = ms
 
-abbrev pub place_among_pairs : List (List ℕ × RawMember) → Option PartialPair → DictionaryPlace
-place_among_pairs ms None = between_pairs ms
-place_among_pairs ms (Some p) = within_pair ms p.key (member_place p.member)
+abbrev pub place_among_pairs : List (List ℕ × RawMember) → Option (List ℕ) → PartialMember → DictionaryPlace
+place_among_pairs ms None m = between_pairs ms
+place_among_pairs ms (Some key) m = within_pair ms key (member_place m)
 
 -- the place of a builder, with the dictionary so far
 abbrev pub dictionary_place : DictionaryBuilder → DictionaryPlace
-dictionary_place b = place_among_pairs (dictionary_tree b.dictionary.entries) b.pair
+dictionary_place b = place_among_pairs (dictionary_tree b.dictionary.entries) b.key b.member

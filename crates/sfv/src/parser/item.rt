@@ -22,6 +22,7 @@ pub(crate) struct ReadParameter<'de> {
 }
 
 /// Visits an event, or fails with the visitor's error.
+#[inline(always)]
 pub(crate) fn visit<'de, V: Visitor<'de>>(
     visitor: &mut V,
     event: Event<'de>,

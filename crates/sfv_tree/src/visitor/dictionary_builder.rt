@@ -1,23 +1,19 @@
 //! The visitor that builds a dictionary.
 
-ghost use Rattle.std.specs.Prelude.{◌≡◌, ⊤, None, OnOk, OnErr, IsTrue};
+ghost use Rattle.std.specs.Prelude.{◌≡◌, ⊤, ℕ, List, Some, OnOk, OnErr, IsTrue};
+ghost use Rattle.sfv_text.specs.KeyText.{key_text};
 ghost use Rattle.sfv_tree.specs.Trees.{dictionary_tree};
 ghost use Rattle.sfv_tree.specs.Events.{event_of};
-ghost use Rattle.sfv_tree.specs.Builders.{dictionary_step, dictionary_place, dictionary_members, member_place};
+ghost use Rattle.sfv_tree.specs.Builders.{dictionary_step, dictionary_place, dictionary_members, begun, within_pair};
 ghost use Rattle.sfv_tree.specs.Builders.{between_pairs, settle_pair, settle_takes_memory, dictionary_takes_memory};
+ghost use Rattle.sfv_tree.specs.Builders.{ended_member};
 
 use crate::parsed::Dictionary;
 use crate::visitor::partial_member::PartialMember;
 use crate::visitor::{Event, Visitor};
 use sfv_base::error::OutOfMemory;
 use sfv_text::key::Key;
-
-// A key, and what is read of its member.
-#[derive(Drop)]
-struct PartialPair {
-    key: Key,
-    member: PartialMember,
-}
+use sfv_text::key_ref::KeyRef;
 
 /// Builds a dictionary of its events, from a dictionary that it begins with. Of a repeated key the last member stands
 /// whole, at the place of the first (RFC 9651, section 4.2.2); so does the last value of a repeated parameter.
@@ -28,8 +24,9 @@ struct PartialPair {
 #[derive(Drop)]
 pub struct DictionaryBuilder {
     dictionary: Dictionary,
-    // The member that is being read.
-    pair: Option<PartialPair>,
+    // The key of the member that is being read.
+    key: Option<Key>,
+    member: PartialMember,
 }
 
 impl DictionaryBuilder {
@@ -38,60 +35,58 @@ impl DictionaryBuilder {
     pub fn new(dictionary: Dictionary) -> DictionaryBuilder
         ensures { dictionary_place result ≡ between_pairs (dictionary_tree dictionary.entries) }
     {
+        let alloc = *dictionary.allocator();
         DictionaryBuilder {
             dictionary,
-            pair: None,
+            key: None,
+            member: PartialMember::new(alloc),
         }
     }
 
-    fn begin(&mut self, event: Event<'_>) -> Result<(), OutOfMemory>
-        requires no_member { self.old.pair ≡ None }
-        ensures place { OnOk result
-            (dictionary_place self.new ≡ dictionary_step (dictionary_place self.old) (event_of event.entry)) }
-        ensures out_of_memory { OnErr result
-            (IsTrue (dictionary_takes_memory (dictionary_place self.old) (event_of event.entry))) }
-    {
-        match event {
-            Event::KeyedEntry(key) => {
-                let key = key.to_owned(*self.dictionary.allocator())?;
-                let member = PartialMember::Begun;
-                self.pair = Some(PartialPair { key, member });
-                Ok(())
-            }
-            _ => Ok(()),
-        }
-    }
-
-    // Enters a member that has ended, and goes on reading one that has not.
-    fn settle(&mut self, key: Key, member: PartialMember) -> Result<(), OutOfMemory>
-        requires no_member { self.old.pair ≡ None }
+    // Begins the member of a key.
+    #[inline(never)]
+    fn begin(&mut self, key: KeyRef<'_>) -> Result<(), OutOfMemory>
         ensures place { OnOk result (dictionary_place self.new
-            ≡ settle_pair (dictionary_tree self.old.dictionary.entries) key (member_place member)) }
-        ensures out_of_memory { OnErr result (IsTrue
-            (settle_takes_memory (dictionary_tree self.old.dictionary.entries) key (member_place member))) }
+            ≡ within_pair (dictionary_tree self.old.dictionary.entries) (key_text key.entry) begun) }
     {
-        match member {
-            PartialMember::Ended(entry) => {
-                self.dictionary.insert(key, entry)?;
+        self.key = Some(key.to_owned(*self.dictionary.allocator())?);
+        self.member.begin();
+        Ok(())
+    }
+
+    // Enters a member that is whole.
+    #[inline(never)]
+    fn settle(&mut self) -> Result<(), OutOfMemory>
+        ensures place { OnOk result ((key : List ℕ) → self.old.key ≡ Some key → dictionary_place self.new
+            ≡ settle_pair (dictionary_tree self.old.dictionary.entries) key (ended_member self.old.member)) }
+        ensures out_of_memory { OnErr result ((key : List ℕ) → self.old.key ≡ Some key → IsTrue
+            (settle_takes_memory (dictionary_tree self.old.dictionary.entries) key (ended_member self.old.member))) }
+    {
+        if let Some(member) = self.member.take(*self.dictionary.allocator()) {
+            if let Some(key) = self.key.take() {
+                self.dictionary.insert(key, member)?;
             }
-            member => self.pair = Some(PartialPair { key, member }),
         }
         Ok(())
     }
 
+    #[inline(always)]
     fn step(&mut self, event: Event<'_>) -> Result<(), OutOfMemory>
         ensures place { OnOk result
             (dictionary_place self.new ≡ dictionary_step (dictionary_place self.old) (event_of event.entry)) }
         ensures out_of_memory { OnErr result
             (IsTrue (dictionary_takes_memory (dictionary_place self.old) (event_of event.entry))) }
     {
-        match self.pair.take() {
-            None => self.begin(event),
-            Some(PartialPair { key, member }) => {
-                let member = member.step(*self.dictionary.allocator(), event)?;
-                self.settle(key, member)
+        if self.key.is_none() {
+            if let Event::KeyedEntry(key) = event {
+                self.begin(key)?;
             }
+            return Ok(());
         }
+        if self.member.step(*self.dictionary.allocator(), event)? {
+            self.settle()?;
+        }
+        Ok(())
     }
 }
 
@@ -110,6 +105,7 @@ impl<'de> Visitor<'de> for DictionaryBuilder {
 
     ghost is_memory = { λ _. ⊤ };
 
+    #[inline(always)]
     fn event(&mut self, event: Event<'de>) -> Result<(), OutOfMemory> {
         self.step(event)
     }

@@ -1,13 +1,14 @@
 //! The visitor that builds an item.
 
-ghost use Rattle.std.specs.Prelude.{◌≡◌, IsTrue};
+ghost use Rattle.std.specs.Prelude.{◌≡◌, OnOk, OnErr, IsTrue};
 ghost use Rattle.sfv_spec.specs.Values.{RawItem};
 ghost use Rattle.sfv_tree.specs.Trees.{item_tree};
+ghost use Rattle.sfv_tree.specs.Events.{event_of};
 ghost use Rattle.sfv_tree.specs.Builders.{at_head, at_end, item_step, item_place, takes_memory};
 ghost use Rattle.sfv_tree.specs.declared.visitor.ItemFault.TheVariants as faults;
 
-use crate::parsed::{Item, ListEntry};
-use crate::visitor::partial_member::PartialMember;
+use crate::parsed::Item;
+use crate::visitor::parameters::enter;
 use crate::visitor::{Event, ItemFault, Visitor};
 use sfv_base::error::OutOfMemory;
 use std::alloc::Global;
@@ -19,8 +20,9 @@ use std::alloc::Global;
 #[derive(Drop)]
 pub struct ItemBuilder {
     alloc: Global,
-    // What is read of the item, which is read as a member is after the event that begins an item.
-    item: PartialMember,
+    item: Option<Item>,
+    // Whether the item's parameters have ended.
+    is_whole: bool,
 }
 
 impl ItemBuilder {
@@ -30,8 +32,29 @@ impl ItemBuilder {
     {
         ItemBuilder {
             alloc,
-            item: PartialMember::Head,
+            item: None,
+            is_whole: false,
         }
+    }
+
+    #[inline(always)]
+    fn step(&mut self, event: Event<'_>) -> Result<(), OutOfMemory>
+        ensures place { OnOk result (item_place self.new ≡ item_step (item_place self.old) (event_of event.entry)) }
+        ensures out_of_memory { OnErr result (IsTrue (takes_memory (item_place self.old) (event_of event.entry))) }
+    {
+        match (&mut self.item, event) {
+            (None, Event::BareItem(bare_item)) => {
+                let bare_item = bare_item.try_into_owned(self.alloc)?;
+                self.item = Some(Item::new(self.alloc, bare_item));
+                self.is_whole = false;
+            }
+            (Some(item), Event::Parameter(key, value)) if !self.is_whole => {
+                enter(self.alloc, &mut item.params, key, value)?;
+            }
+            (Some(_), Event::ParametersEnd) => self.is_whole = true,
+            _ => {}
+        }
+        Ok(())
     }
 }
 
@@ -50,20 +73,17 @@ impl<'de> Visitor<'de> for ItemBuilder {
 
     ghost is_memory = { λ fault. fault ≡ faults.OutOfMemory };
 
+    #[inline(always)]
     fn event(&mut self, event: Event<'de>) -> Result<(), ItemFault> {
-        let item = std::mem::replace(&mut self.item, PartialMember::Begun);
-        match item.step(self.alloc, event) {
-            Ok(item) => {
-                self.item = item;
-                Ok(())
-            }
+        match self.step(event) {
+            Ok(()) => Ok(()),
             Err(OutOfMemory) => Err(ItemFault::OutOfMemory),
         }
     }
 
     fn finish(self) -> Result<Item, ItemFault> {
         match self.item {
-            PartialMember::Ended(ListEntry::Item(item)) => Ok(item),
+            Some(item) if self.is_whole => Ok(item),
             _ => Err(ItemFault::NoItem),
         }
     }

@@ -1,10 +1,10 @@
 //! The visitor that builds a list.
 
-ghost use Rattle.std.specs.Prelude.{◌≡◌, ⊤, None, OnOk, OnErr, IsTrue};
+ghost use Rattle.std.specs.Prelude.{◌≡◌, ⊤, false, OnOk, OnErr, IsTrue};
 ghost use Rattle.sfv_tree.specs.Trees.{list_tree};
 ghost use Rattle.sfv_tree.specs.Events.{event_of};
-ghost use Rattle.sfv_tree.specs.Builders.{between, settle, list_step, list_place, list_members, member_place};
-ghost use Rattle.sfv_tree.specs.Builders.{has_ended, list_takes_memory};
+ghost use Rattle.sfv_tree.specs.Builders.{between, settle, list_step, list_place, list_members};
+ghost use Rattle.sfv_tree.specs.Builders.{has_ended, list_takes_memory, ended_member};
 
 use crate::parsed::List;
 use crate::visitor::partial_member::PartialMember;
@@ -20,8 +20,9 @@ use sfv_base::error::OutOfMemory;
 #[derive(Drop)]
 pub struct ListBuilder {
     list: List,
-    // The member that is being read.
-    member: Option<PartialMember>,
+    is_within: bool,
+    // The member that is being read, where it is within one.
+    member: PartialMember,
 }
 
 impl ListBuilder {
@@ -30,46 +31,46 @@ impl ListBuilder {
     pub fn new(list: List) -> ListBuilder
         ensures { list_place result ≡ between (list_tree list.items) }
     {
-        ListBuilder { list, member: None }
-    }
-
-    fn begin(&mut self, event: Event<'_>)
-        requires no_member { self.old.member ≡ None }
-        ensures { list_place self.new ≡ list_step (list_place self.old) (event_of event.entry) }
-    {
-        if let Event::Entry = event {
-            self.member = Some(PartialMember::Begun);
+        let alloc = *list.allocator();
+        ListBuilder {
+            list,
+            is_within: false,
+            member: PartialMember::new(alloc),
         }
     }
 
-    // Puts a member last that has ended, and goes on reading one that has not.
-    fn settle(&mut self, member: PartialMember) -> Result<(), OutOfMemory>
-        requires no_member { self.old.member ≡ None }
-        ensures place { OnOk result
-            (list_place self.new ≡ settle (list_tree self.old.list.items) (member_place member)) }
-        ensures out_of_memory { OnErr result (IsTrue (has_ended (member_place member))) }
+    // Puts a member last that is whole.
+    #[inline(never)]
+    fn settle(&mut self) -> Result<(), OutOfMemory>
+        requires within { IsTrue self.old.is_within }
+        ensures place { OnOk result (list_place self.new
+            ≡ settle (list_tree self.old.list.items) (ended_member self.old.member)) }
+        ensures out_of_memory { OnErr result (IsTrue (has_ended (ended_member self.old.member))) }
     {
-        match member {
-            PartialMember::Ended(entry) => self.list.push(entry)?,
-            member => self.member = Some(member),
+        if let Some(member) = self.member.take(*self.list.allocator()) {
+            self.is_within = false;
+            self.list.reserve(1)?;
+            self.list.push_reserved(member);
         }
         Ok(())
     }
 
+    #[inline(always)]
     fn step(&mut self, event: Event<'_>) -> Result<(), OutOfMemory>
         ensures place { OnOk result (list_place self.new ≡ list_step (list_place self.old) (event_of event.entry)) }
         ensures out_of_memory { OnErr result (IsTrue (list_takes_memory (list_place self.old) (event_of event.entry))) }
     {
-        match self.member.take() {
-            None => {
-                self.begin(event);
-                Ok(())
+        if !self.is_within {
+            if let Event::Entry = event {
+                self.member.begin();
+                self.is_within = true;
             }
-            Some(member) => {
-                let member = member.step(*self.list.allocator(), event)?;
-                self.settle(member)
-            }
+            return Ok(());
         }
+        if self.member.step(*self.list.allocator(), event)? {
+            self.settle()?;
+        }
+        Ok(())
     }
 }
 
@@ -88,6 +89,7 @@ impl<'de> Visitor<'de> for ListBuilder {
 
     ghost is_memory = { λ _. ⊤ };
 
+    #[inline(always)]
     fn event(&mut self, event: Event<'de>) -> Result<(), OutOfMemory> {
         self.step(event)
     }

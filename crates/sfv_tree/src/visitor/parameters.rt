@@ -13,6 +13,7 @@ use sfv_text::key_ref::KeyRef;
 use std::alloc::Global;
 
 // Enters a parameter: a key that is there keeps its place and takes the value, a new key goes last.
+#[inline(never)]
 pub(crate) fn enter(
     alloc: Global,
     params: &mut Parameters,

@@ -1,154 +1,229 @@
 //! A member of a list or a dictionary while it is read.
 
-ghost use Rattle.std.specs.Prelude.{◌≡◌, IfOk, OnErr, IsTrue};
+ghost use Rattle.std.specs.Prelude.{◌≡◌, None, IsSome, IfOk, IfNone, OnOk, OnErr, IsTrue, option_map};
 ghost use Rattle.sfv_spec.specs.Events as tree;
 ghost use Rattle.sfv_bare.specs.BareItems.{input_value};
 ghost use Rattle.sfv_text.specs.KeyText.{key_text};
+ghost use Rattle.sfv_tree.specs.Trees.{item_tree, member_tree};
 ghost use Rattle.sfv_tree.specs.Events.{event_of};
-ghost use Rattle.sfv_tree.specs.Builders.{member_step, member_place, takes_memory};
+ghost use Rattle.sfv_tree.specs.Builders.{begun, member_step, member_place, takes_memory, item_of};
+ghost use Rattle.sfv_tree.specs.Builders.{whole_of, place_after};
 
-use crate::parsed::{InnerList, Item, ListEntry};
+use crate::parsed::{InnerList, Item, ListEntry, Parameters};
 use crate::visitor::Event;
 use crate::visitor::parameters::enter;
-use sfv_bare::bare::BareItemFromInput;
+use sfv_bare::bare::{BareItem, BareItemFromInput};
 use sfv_base::error::OutOfMemory;
 use sfv_text::key_ref::KeyRef;
 use std::alloc::Global;
+use std::mem::replace;
 
-// What is read of a member, by the place where its reading stands. An event out of its place changes nothing.
-#[derive(Drop)]
-pub(crate) enum PartialMember {
-    // Before the event that says whether it is an item or an inner list.
+/// What is wanted where no item is being read.
+#[derive(Clone, Copy, PartialEq, Eq)]
+enum Place {
+    // What says what the member is; in an inner list, an item or the end of the items.
     Begun,
-    // Before the bare item of an item.
+    // The bare item of an item.
     Head,
-    // Among the parameters of an item.
-    Params(Item),
-    // Among the items of an inner list.
-    Inner(InnerList),
-    // Before the bare item of an inner list's item.
-    InnerHead(InnerList),
-    // Among the parameters of an inner list's item.
-    InnerParams { inner: InnerList, item: Item },
-    // Among the parameters of an inner list.
-    ListParams(InnerList),
-    // After the parameters of the member.
-    Ended(ListEntry),
+    // A parameter of the inner list.
+    Params,
+}
+
+/// What is read of a member. It is changed in place, since to move it at each event takes longer than all the rest.
+#[derive(Drop)]
+pub(crate) struct PartialMember {
+    place: Place,
+    // The value of the item that is being read: of the member, or of one of the inner list.
+    bare_item: Option<BareItem>,
+    // The parameters of that item.
+    params: Parameters,
+    inner: Option<InnerList>,
 }
 
 impl PartialMember {
-    fn begin_item(self) -> PartialMember
-        ensures { member_place result ≡ member_step (member_place self) tree.begins_item }
+    pub(crate) fn new(alloc: Global) -> PartialMember
+        ensures { member_place result ≡ begun }
     {
-        match self {
-            PartialMember::Begun => PartialMember::Head,
-            PartialMember::Inner(inner) => PartialMember::InnerHead(inner),
-            other => other,
+        PartialMember {
+            place: Place::Begun,
+            bare_item: None,
+            params: Parameters::new(alloc),
+            inner: None,
         }
     }
 
-    fn begin_inner_list(self, alloc: Global) -> PartialMember
-        ensures { member_place result ≡ member_step (member_place self) tree.begins_inner_list }
+    /// Begins a member. What was read of another is given up.
+    #[inline(always)]
+    pub(crate) fn begin(&mut self)
+        ensures { member_place self.new ≡ begun }
     {
-        match self {
-            PartialMember::Begun => PartialMember::Inner(InnerList::empty(alloc)),
-            other => other,
+        if self.bare_item.is_some() || self.inner.is_some() {
+            self.give_up();
+        }
+        self.place = Place::Begun;
+    }
+
+    #[inline(never)]
+    fn give_up(&mut self)
+        ensures bare_item { self.new.bare_item ≡ None }
+        ensures inner { self.new.inner ≡ None }
+    {
+        self.bare_item = None;
+        self.inner = None;
+    }
+
+    #[inline(always)]
+    fn begin_item(&mut self)
+        ensures { member_place self.new ≡ member_step (member_place self.old) tree.begins_item }
+    {
+        if self.bare_item.is_none() && (self.inner.is_none() || self.place == Place::Begun) {
+            self.place = Place::Head;
         }
     }
 
-    fn end_inner_list(self) -> PartialMember
-        ensures { member_place result ≡ member_step (member_place self) tree.inner_list_end }
+    #[inline(never)]
+    fn begin_inner_list(&mut self, alloc: Global)
+        ensures { member_place self.new ≡ member_step (member_place self.old) tree.begins_inner_list }
     {
-        match self {
-            PartialMember::Inner(inner) => PartialMember::ListParams(inner),
-            other => other,
+        if self.bare_item.is_none() && self.inner.is_none() && self.place != Place::Head {
+            self.inner = Some(InnerList::empty(alloc));
+            self.place = Place::Begun;
         }
     }
 
+    #[inline(always)]
+    fn end_inner_list(&mut self)
+        ensures { member_place self.new ≡ member_step (member_place self.old) tree.inner_list_end }
+    {
+        if self.bare_item.is_none() && self.inner.is_some() && self.place == Place::Begun {
+            self.place = Place::Params;
+        }
+    }
+
+    #[inline(never)]
     fn bare_item(
-        self,
+        &mut self,
         alloc: Global,
         bare_item: BareItemFromInput<'_>,
-    ) -> Result<PartialMember, OutOfMemory>
-        ensures place { IfOk result (λ after. member_place after
-            ≡ member_step (member_place self) (tree.bare_item (input_value bare_item.entry))) }
+    ) -> Result<(), OutOfMemory>
+        ensures place { OnOk result (member_place self.new
+            ≡ member_step (member_place self.old) (tree.bare_item (input_value bare_item.entry))) }
         ensures out_of_memory { OnErr result
-            (IsTrue (takes_memory (member_place self) (tree.bare_item (input_value bare_item.entry)))) }
+            (IsTrue (takes_memory (member_place self.old) (tree.bare_item (input_value bare_item.entry)))) }
     {
-        match self {
-            PartialMember::Head => {
-                let bare_item = bare_item.try_into_owned(alloc)?;
-                Ok(PartialMember::Params(Item::new(alloc, bare_item)))
+        if self.bare_item.is_none() && self.place == Place::Head {
+            self.bare_item = Some(bare_item.try_into_owned(alloc)?);
+            if !self.params.is_empty() {
+                self.params.clear();
             }
-            PartialMember::InnerHead(inner) => {
-                let bare_item = bare_item.try_into_owned(alloc)?;
-                let item = Item::new(alloc, bare_item);
-                Ok(PartialMember::InnerParams { inner, item })
-            }
-            other => Ok(other),
         }
+        Ok(())
     }
 
+    #[inline(never)]
     fn parameter(
-        self,
+        &mut self,
         alloc: Global,
         key: KeyRef<'_>,
         value: BareItemFromInput<'_>,
-    ) -> Result<PartialMember, OutOfMemory>
-        ensures place { IfOk result (λ after. member_place after
-            ≡ member_step (member_place self) (tree.parameter (key_text key.entry) (input_value value.entry))) }
+    ) -> Result<(), OutOfMemory>
+        ensures place { OnOk result (member_place self.new
+            ≡ member_step (member_place self.old) (tree.parameter (key_text key.entry) (input_value value.entry))) }
         ensures out_of_memory { OnErr result (IsTrue
-            (takes_memory (member_place self) (tree.parameter (key_text key.entry) (input_value value.entry)))) }
+            (takes_memory (member_place self.old) (tree.parameter (key_text key.entry) (input_value value.entry)))) }
     {
-        match self {
-            PartialMember::Params(mut item) => {
-                enter(alloc, &mut item.params, key, value)?;
-                Ok(PartialMember::Params(item))
-            }
-            PartialMember::InnerParams { inner, mut item } => {
-                enter(alloc, &mut item.params, key, value)?;
-                Ok(PartialMember::InnerParams { inner, item })
-            }
-            PartialMember::ListParams(mut inner) => {
-                enter(alloc, &mut inner.params, key, value)?;
-                Ok(PartialMember::ListParams(inner))
-            }
-            other => Ok(other),
+        if self.bare_item.is_some() {
+            return enter(alloc, &mut self.params, key, value);
+        }
+        match &mut self.inner {
+            Some(list) if self.place == Place::Params => enter(alloc, &mut list.params, key, value),
+            _ => Ok(()),
         }
     }
 
-    fn end_parameters(self) -> Result<PartialMember, OutOfMemory>
-        ensures place { IfOk result (λ after. member_place after
-            ≡ member_step (member_place self) tree.parameters_end) }
-        ensures out_of_memory { OnErr result (IsTrue (takes_memory (member_place self) tree.parameters_end)) }
+    /// Takes the item out that was read.
+    #[inline(always)]
+    fn take_item(&mut self, alloc: Global) -> Option<Item>
+        ensures item { option_map item_tree result ≡ item_of self.old }
+        ensures taken { self.new.bare_item ≡ None }
+        ensures inner { self.new.inner ≡ self.old.inner }
+        ensures place { self.new.place ≡ self.old.place }
     {
-        match self {
-            PartialMember::Params(item) => Ok(PartialMember::Ended(ListEntry::Item(item))),
-            PartialMember::InnerParams { mut inner, item } => {
-                inner.items.push(item)?;
-                Ok(PartialMember::Inner(inner))
+        match self.bare_item.take() {
+            Some(bare_item) => {
+                let params = replace(&mut self.params, Parameters::new(alloc));
+                Some(Item::with_params(bare_item, params))
             }
-            PartialMember::ListParams(inner) => {
-                Ok(PartialMember::Ended(ListEntry::InnerList(inner)))
-            }
-            other => Ok(other),
+            None => None,
         }
     }
 
-    // Returns what is read of the member after this event.
-    pub(crate) fn step(self, alloc: Global, event: Event<'_>) -> Result<PartialMember, OutOfMemory>
-        ensures place { IfOk result
-            (λ after. member_place after ≡ member_step (member_place self) (event_of event.entry)) }
-        ensures out_of_memory { OnErr result (IsTrue (takes_memory (member_place self) (event_of event.entry))) }
+    /// Puts the item last into the inner list.
+    #[inline(never)]
+    fn put_item(&mut self, alloc: Global) -> Result<(), OutOfMemory>
+        requires item { IsSome self.old.bare_item }
+        requires inner { IsSome self.old.inner }
+        ensures place { OnOk result (member_place self.new
+            ≡ member_step (member_place self.old) tree.parameters_end) }
+    {
+        let item = self.take_item(alloc);
+        self.place = Place::Begun;
+        if let (Some(list), Some(item)) = (&mut self.inner, item) {
+            list.items.reserve(1)?;
+            list.items.push_reserved(item);
+        }
+        Ok(())
+    }
+
+    /// Ends the parameters of an item or of the inner list. Returns whether the member is whole.
+    #[inline(always)]
+    fn end_parameters(&mut self, alloc: Global) -> Result<bool, OutOfMemory>
+        ensures place { IfOk result (λ is_whole. place_after is_whole self.new
+            ≡ member_step (member_place self.old) tree.parameters_end) }
+        ensures out_of_memory { OnErr result (IsTrue (takes_memory (member_place self.old) tree.parameters_end)) }
+    {
+        if self.inner.is_none() {
+            return Ok(self.bare_item.is_some());
+        }
+        if self.bare_item.is_none() {
+            return Ok(self.place == Place::Params);
+        }
+        self.put_item(alloc)?;
+        Ok(false)
+    }
+
+    /// Takes an event. Returns whether the member is whole.
+    #[inline(always)]
+    pub(crate) fn step(&mut self, alloc: Global, event: Event<'_>) -> Result<bool, OutOfMemory>
+        ensures place { IfOk result (λ is_whole. place_after is_whole self.new
+            ≡ member_step (member_place self.old) (event_of event.entry)) }
+        ensures out_of_memory { OnErr result (IsTrue (takes_memory (member_place self.old) (event_of event.entry))) }
     {
         match event {
-            Event::Item => Ok(self.begin_item()),
-            Event::InnerList => Ok(self.begin_inner_list(alloc)),
-            Event::BareItem(bare_item) => self.bare_item(alloc, bare_item),
-            Event::Parameter(key, value) => self.parameter(alloc, key, value),
-            Event::ParametersEnd => self.end_parameters(),
-            Event::InnerListEnd => Ok(self.end_inner_list()),
-            Event::Entry | Event::KeyedEntry(_) => Ok(self),
+            Event::Item => self.begin_item(),
+            Event::InnerList => self.begin_inner_list(alloc),
+            Event::BareItem(bare_item) => self.bare_item(alloc, bare_item)?,
+            Event::Parameter(key, value) => self.parameter(alloc, key, value)?,
+            Event::ParametersEnd => return self.end_parameters(alloc),
+            Event::InnerListEnd => self.end_inner_list(),
+            Event::Entry | Event::KeyedEntry(_) => {}
+        }
+        Ok(false)
+    }
+
+    /// Takes the member out, where it is whole.
+    #[inline(always)]
+    pub(crate) fn take(&mut self, alloc: Global) -> Option<ListEntry>
+        ensures member { option_map member_tree result ≡ whole_of self.old }
+        ensures begun { IfNone result (member_place self.new ≡ begun) }
+    {
+        if let Some(list) = self.inner.take() {
+            return Some(ListEntry::InnerList(list));
+        }
+        self.place = Place::Begun;
+        match self.take_item(alloc) {
+            Some(item) => Some(ListEntry::Item(item)),
+            None => None,
         }
     }
 }
