@@ -6,7 +6,6 @@ use Rattle.std.specs.Str.{IsCharBoundary}
 use Rattle.std.specs.declared.string.String.{String}
 use Rattle.std.specs.List.{flat_map, list_all}
 use Rattle.std.proofs.lemmas.Bool.{and_parts, and_cases, both_ways, not-true, not-false}
-use Rattle.std.proofs.lemmas.List.Folds.{list_all-append}
 use Rattle.std.proofs.lemmas.List.{append-nil, length-append, take_at}
 use Rattle.std.proofs.lemmas.Str.{IsUtf8-string_bytes, IsCharBoundary-from_take}
 use Rattle.sfv_spec.specs.Ascii.{backslash}
@@ -28,12 +27,6 @@ pub record IsWrittenUpTo (piece : ℕ → List ℕ) (before bytes rest output : 
   pub front : List ℕ
   pub whole : bytes ≡ front ++ rest
   pub done : output ≡ before ++ flat_map piece front
-
--- what holds of each byte holds of the rest of them
-pub rest_of : (test : ℕ → Bool) {piece : ℕ → List ℕ} {before bytes rest output : List ℕ}
-    → IsWrittenUpTo piece before bytes rest output → RunOf test bytes → RunOf test rest
-rest_of test {rest = rest} w h = (and_parts _ _ (sym (list_all-append test w.front rest)
-    ∙ ap (list_all test) (sym w.whole) ∙ h)).1
 
 module _ (piece : ℕ → List ℕ) (before bytes : List ℕ) where
   -- more bytes are written
@@ -65,13 +58,6 @@ module _ (piece : ℕ → List ℕ) (before bytes : List ℕ) where
   byte_written rest output behind new byte w e n =
       more_written rest output (byte ∷ []) behind new w e (n
       ∙ ap (λ (l : List ℕ). output ++ l) (sym (append-nil (piece byte))))
-
-  -- no byte is left
-  pub all_written : (rest output : List ℕ) → IsWrittenUpTo piece before bytes rest output → length rest ≡ 0
-      → output ≡ before ++ flat_map piece bytes
-  all_written [] output w e = w.done ∙ ap (λ (l : List ℕ). before ++ flat_map piece l) (sym (w.whole
-      ∙ append-nil w.front))
-  all_written (x ∷ rest) output w e = absurd (omega (arith, e))
 
 -- a plain byte is written for itself
 pub plain_itself : (display : Bool) (c : ℕ) → plain_of display c ≡ true → piece_of display c ≡ c ∷ []

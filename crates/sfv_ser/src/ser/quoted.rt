@@ -12,8 +12,9 @@ use std::alloc::{AllocError, Allocator};
 pub(super) trait QuotedText {
     ghost display: { Bool };
 
-    /// Whether the text writes the byte for itself.
+    /// Whether the text writes this byte of it for itself.
     fn is_plain(byte: u8) -> bool
+        requires { IsTrue (held_of display byte) }
         ensures { result ≡ plain_of display byte };
 
     /// Splits the bytes at the first that the text doesn't write for itself.
@@ -39,7 +40,7 @@ pub(super) fn serialize_inside<Q: QuotedText, A: Allocator>(
 {
     let mut rest = bytes;
     while let Some((byte, behind)) = rest.split_first() {
-        // Without a look at the byte, an empty run would be taken in front of each of two escapes in a row.
+        // Where escapes stand in a row, a run between them would be empty: to take it trebles their time.
         if Q::is_plain(*byte) {
             let (run, behind) = Q::split_plain(rest);
             // Plain bytes are ASCII, so a run of them is a text.

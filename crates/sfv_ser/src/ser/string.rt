@@ -8,7 +8,8 @@ ghost use Rattle.sfv_ser.specs.Written.{Appends};
 
 use crate::ser::quoted::{QuotedText, serialize_inside};
 use sfv_base::error::OutOfMemory;
-use sfv_base::runs::{PlainInString, is_of, split_run};
+use sfv_base::runs::{PlainInString, split_run};
+use sfv_base::utils::is_escaped_in_string;
 use sfv_text::string_ref::StringRef;
 use std::alloc::{AllocError, Allocator};
 
@@ -20,7 +21,7 @@ impl QuotedText for InString {
 
     #[inline(always)]
     fn is_plain(byte: u8) -> bool {
-        is_of::<PlainInString>(byte)
+        !is_escaped_in_string(byte)
     }
 
     #[inline(always)]
