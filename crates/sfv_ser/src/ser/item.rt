@@ -63,8 +63,8 @@ fn serialize_bool<A: Allocator>(value: bool, output: &mut StdString<A>) -> Resul
 
 /// Appends a bare item.
 // Of the kinds, only a token, whose bytes are copied, is written without a call: what the others need in registers and
-// on the stack is then not paid for each item. With that a list of 10,000 tokens takes 0.94 times the instructions of
-// the Rust crate, in place of 1.79.
+// on the stack is then not paid for each item. With that an inner list of 10,000 tokens takes 1.0 times the
+// instructions of the Rust crate, in place of 1.7.
 #[inline(always)]
 pub(crate) fn serialize_bare_item<A: Allocator>(
     value: RefBareItem<'_>,

@@ -40,7 +40,7 @@ pub(super) fn serialize_inside<Q: QuotedText, A: Allocator>(
 {
     let mut rest = bytes;
     while let Some((byte, behind)) = rest.split_first() {
-        // Where escapes stand in a row, a run between them would be empty: to take it trebles their time.
+        // Where escapes stand in a row, the runs between them are empty: to take those takes three times as long.
         if Q::is_plain(*byte) {
             let (run, behind) = Q::split_plain(rest);
             // Plain bytes are ASCII, so a run of them is a text.
