@@ -1,5 +1,5 @@
 -- Parts that are written in a row, with a separator between each two.
-use Rattle.std.proofs.Common.{◌≡◌, ℕ, ◌+◌, ◌<◌, Bool, true, false, cond, List, [], ◌∷◌, ◌++◌, length, get_or, map, take}
+use Rattle.std.proofs.Common.{◌≡◌, ℕ, suc, ◌+◌, ◌<◌, Bool, true, false, cond, List, [], ◌∷◌, ◌++◌, length, get_or, map, take}
 use Rattle.std.proofs.Common.{refl, sym, ap, subst, ◌∙◌, append_assoc, Result, Ok, Err, arith}
 use Rattle.std.specs.Prelude.{IfErr, OnOk}
 use Rattle.std.specs.List.{AllByRecursion}
@@ -74,6 +74,13 @@ pub mapped_more : {A B : Type 0} (f : A → B) (xs : List A) (i : ℕ) (x : A) �
 mapped_more f xs i x lt e =
     ap (map f) (take_more xs i x lt) ∙ map-append f (take i xs) (get_or xs i x ∷ [])
     ∙ ap (λ y. map f (take i xs) ++ f y ∷ []) (sym e)
+
+-- the values of one more of a list, whose first was taken before
+pub mapped_behind : {A B : Type 0} (f : A → B) (xs : List A) (first : A) (others : List A) (i : ℕ) (x : A)
+    → xs ≡ first ∷ others → i < length others → x ≡ get_or others i x
+    → map f (take (suc (i + 1)) xs) ≡ map f (take (suc i) xs) ++ f x ∷ []
+mapped_behind {B = B} f xs first others i x whole lt e =
+    rw whole (ap (λ (ys : List B). f first ∷ ys) (mapped_more f others i x lt e))
 
 -- both of what holds of each
 pub all_both : {A : Type 0} (P Q : A → Type 0) (xs : List A) → AllByRecursion (λ x. P x × Q x) xs

@@ -1,20 +1,21 @@
 -- A text is written run by run.
-use Rattle.std.proofs.Common.{◌≡◌, ℕ, ◌<◌, Bool, true, cond, not, List, [], ◌∷◌, ◌++◌, length, take, refl, sym, ap}
-use Rattle.std.proofs.Common.{subst, ◌∙◌, append_assoc, arith}
+use Rattle.std.proofs.Common.{◌≡◌, ℕ, Bool, true, false, cond, not, List, [], ◌∷◌, ◌++◌, length, take, refl, sym, ap}
+use Rattle.std.proofs.Common.{subst, ◌∙◌, append_assoc, arith, inl, inr}
 use Rattle.std.specs.Prelude.{string_bytes, Result, Ok, Err, OnErr, IsUtf8}
 use Rattle.std.specs.Str.{IsCharBoundary}
 use Rattle.std.specs.declared.string.String.{String}
 use Rattle.std.specs.List.{flat_map, list_all}
-use Rattle.std.proofs.lemmas.Bool.{and_parts, not-true, leb-true}
-use Rattle.std.proofs.lemmas.List.Folds.{list_all-append}
+use Rattle.std.proofs.lemmas.Bool.{and_parts, and_cases, both_ways, not-true, not-false}
 use Rattle.std.proofs.lemmas.List.{append-nil, length-append, take_at}
 use Rattle.std.proofs.lemmas.Str.{IsUtf8-string_bytes, IsCharBoundary-from_take}
 use Rattle.sfv_spec.specs.Ascii.{backslash}
 use Rattle.sfv_spec.specs.Texts.{RunOf}
 use Rattle.sfv_spec.specs.Classes.{is_string_byte}
-use Rattle.sfv_spec.specs.Strings.{is_escaped_in_string, is_plain_in_display, is_plain_in_string}
-use Rattle.sfv_spec.specs.Canonical.{string_piece, display_piece}
+use Rattle.sfv_spec.specs.Strings.{is_escaped_in_string, is_plain_in_string}
+use Rattle.sfv_reading.proofs.quoted.StringSteps as in_string
+use Rattle.sfv_reading.proofs.quoted.DisplaySteps as in_display
 use Rattle.sfv_ser.specs.Written.{Extends}
+use Rattle.sfv_ser.specs.Quoted.{plain_of, piece_of}
 
 flat_map_append : (f : ℕ → List ℕ) (xs ys : List ℕ) → flat_map f (xs ++ ys) ≡ flat_map f xs ++ flat_map f ys
 flat_map_append f [] ys = refl
@@ -26,12 +27,6 @@ pub record IsWrittenUpTo (piece : ℕ → List ℕ) (before bytes rest output : 
   pub front : List ℕ
   pub whole : bytes ≡ front ++ rest
   pub done : output ≡ before ++ flat_map piece front
-
--- what holds of each byte holds of the rest of them
-pub rest_of : (test : ℕ → Bool) {piece : ℕ → List ℕ} {before bytes rest output : List ℕ}
-    → IsWrittenUpTo piece before bytes rest output → RunOf test bytes → RunOf test rest
-rest_of test {rest = rest} w h = (and_parts _ _ (sym (list_all-append test w.front rest)
-    ∙ ap (list_all test) (sym w.whole) ∙ h)).1
 
 module _ (piece : ℕ → List ℕ) (before bytes : List ℕ) where
   -- more bytes are written
@@ -64,19 +59,23 @@ module _ (piece : ℕ → List ℕ) (before bytes : List ℕ) where
       more_written rest output (byte ∷ []) behind new w e (n
       ∙ ap (λ (l : List ℕ). output ++ l) (sym (append-nil (piece byte))))
 
-  -- no byte is left
-  pub all_written : (rest output : List ℕ) → IsWrittenUpTo piece before bytes rest output → length rest ≡ 0
-      → output ≡ before ++ flat_map piece bytes
-  all_written [] output w e = w.done ∙ ap (λ (l : List ℕ). before ++ flat_map piece l) (sym (w.whole
-      ∙ append-nil w.front))
-  all_written (x ∷ rest) output w e = absurd (omega (arith, e))
-
-pub display_itself : (c : ℕ) → is_plain_in_display c ≡ true → display_piece c ≡ c ∷ []
-display_itself c e = rw e refl
-
-pub string_itself : (c : ℕ) → is_plain_in_string c ≡ true → string_piece c ≡ c ∷ []
-string_itself c e = ap (λ (b : Bool). cond b (backslash ∷ c ∷ []) (c ∷ []))
+-- a plain byte is written for itself
+pub plain_itself : (display : Bool) (c : ℕ) → plain_of display c ≡ true → piece_of display c ≡ c ∷ []
+plain_itself true c e = rw e refl
+plain_itself false c e = ap (λ (b : Bool). cond b (backslash ∷ c ∷ []) (c ∷ []))
     (not-true (is_escaped_in_string c) (and_parts (is_string_byte c) (not (is_escaped_in_string c)) e).1)
+
+pub plain_utf8 : (display : Bool) (run : List ℕ) → RunOf (plain_of display) run → IsUtf8 run
+plain_utf8 true run h = in_display.plain_utf8 run h
+plain_utf8 false run h = in_string.plain_utf8 run h
+
+-- a byte of a string that isn't plain is the quote or the backslash
+pub string_escape : (c : ℕ) → is_string_byte c ≡ true → is_plain_in_string c ≡ false → is_escaped_in_string c ≡ true
+string_escape c h e = elim (and_cases (is_string_byte c) (not (is_escaped_in_string c)) e) as (λ x.
+    is_escaped_in_string c ≡ true) [
+      | inl o ↦ absurd (both_ways (is_string_byte c) o h)
+      | inr n ↦ not-false (is_escaped_in_string c) n
+    ]
 
 -- a text that was added to may be cut where the old one ended
 pub cut_back : {Z T E : Type 0} (old new : String Z) (result : Result T E) (len : ℕ) → len ≡ length (string_bytes old)
@@ -93,9 +92,3 @@ cut_back old new (Err e) len is more =
       long,
       length-append (string_bytes old) more.0,
     )) (subst IsUtf8 (sym front) (IsUtf8-string_bytes old))
-
-pub string_byte_below : (byte : ℕ) (behind rest : List ℕ) → RunOf is_string_byte rest → rest ≡ byte ∷ behind
-    → byte < 128
-string_byte_below byte behind rest h e =
-    let a = and_parts (is_string_byte byte) (list_all is_string_byte behind) (subst (RunOf is_string_byte) e h) in
-    omega (arith, leb-true byte 0x7e (and_parts _ _ a.0).1)

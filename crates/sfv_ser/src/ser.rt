@@ -9,6 +9,7 @@ mod item_serializer;
 mod list;
 mod number;
 mod parameter_serializer;
+mod quoted;
 mod string;
 
 pub use dictionary::dictionary_text;

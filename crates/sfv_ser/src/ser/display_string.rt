@@ -1,10 +1,11 @@
 //! Writing display strings (RFC 9651, section 4.1.11).
 
-ghost use Rattle.std.specs.Prelude.{◌≡◌, ◌<◌};
+ghost use Rattle.std.specs.Prelude.{◌≡◌, ◌<◌, true};
 ghost use Rattle.sfv_spec.specs.Values.{display_string};
-ghost use Rattle.sfv_spec.specs.Canonical.{hexadecimal_digit, display_piece, bare_text};
+ghost use Rattle.sfv_spec.specs.Canonical.{hexadecimal_digit, bare_text};
 ghost use Rattle.sfv_ser.specs.Written.{Appends};
 
+use crate::ser::quoted::{QuotedText, serialize_inside};
 use sfv_base::error::OutOfMemory;
 use sfv_base::runs::{PlainInDisplayString, is_of, split_run};
 use std::alloc::{AllocError, Allocator};
@@ -22,19 +23,33 @@ fn digit_of(value: u8) -> char
     }
 }
 
-/// Appends a byte of a display string, as it is or by its escape.
-fn push_byte<A: Allocator>(output: &mut String<A>, byte: u8) -> Result<(), AllocError>
-    ensures text { Appends output.old output.new (display_piece byte) result }
-{
-    if is_of::<PlainInDisplayString>(byte) {
-        return output.push(byte as char);
+/// The inside of a display string.
+struct InDisplayString;
+
+impl QuotedText for InDisplayString {
+    ghost display = { true };
+
+    #[inline(always)]
+    fn is_plain(byte: u8) -> bool {
+        is_of::<PlainInDisplayString>(byte)
     }
-    output.push('%')?;
-    output.push(digit_of(byte / 16))?;
-    output.push(digit_of(byte % 16))
+
+    #[inline(always)]
+    fn split_plain(bytes: &[u8]) -> (&[u8], &[u8]) {
+        split_run::<PlainInDisplayString>(bytes)
+    }
+
+    #[inline(always)]
+    fn push_escape<A: Allocator>(output: &mut String<A>, byte: u8) -> Result<(), AllocError> {
+        output.push('%')?;
+        output.push(digit_of(byte / 16))?;
+        output.push(digit_of(byte % 16))
+    }
 }
 
 /// Appends a display string.
+#[inline(never)]
+#[tactic(auto, using(crate::proofs::Params::run_of_bytes))]
 pub(crate) fn serialize_display_string<A: Allocator>(
     value: &str,
     output: &mut String<A>,
@@ -42,17 +57,7 @@ pub(crate) fn serialize_display_string<A: Allocator>(
     ensures text { Appends output.old output.new (bare_text (display_string value.now)) result }
 {
     output.push_str("%\"")?;
-    let mut rest = value.as_bytes();
-    loop {
-        let (run, after) = split_run::<PlainInDisplayString>(rest);
-        // Plain bytes are ASCII, so a run of them is a text.
-        output.push_str(unsafe { std::str::from_utf8_unchecked(run) })?;
-        let Some((byte, after)) = after.split_first() else {
-            break;
-        };
-        push_byte(output, *byte)?;
-        rest = after;
-    }
+    serialize_inside::<InDisplayString, A>(value.as_bytes(), output)?;
     output.push('"')?;
     Ok(())
 }

@@ -16,6 +16,7 @@ use std::alloc::Allocator;
 use std::string::String as StdString;
 
 /// Appends an integer.
+#[inline(never)]
 pub(crate) fn serialize_integer<A: Allocator>(
     value: Integer,
     output: &mut StdString<A>,
@@ -29,6 +30,7 @@ pub(crate) fn serialize_integer<A: Allocator>(
 }
 
 /// Appends a date.
+#[inline(never)]
 pub(crate) fn serialize_date<A: Allocator>(
     value: Date,
     output: &mut StdString<A>,
@@ -71,6 +73,7 @@ fn serialize_fraction<A: Allocator>(
 }
 
 /// Appends a decimal.
+#[inline(never)]
 pub(crate) fn serialize_decimal<A: Allocator>(
     value: Decimal,
     output: &mut StdString<A>,

@@ -1,29 +1,43 @@
 //! Writing strings (RFC 9651, section 4.1.6).
 
-ghost use Rattle.std.specs.Prelude.{◌<◌};
+ghost use Rattle.std.specs.Prelude.{false};
 ghost use Rattle.sfv_spec.specs.Values.{string};
-ghost use Rattle.sfv_spec.specs.Canonical.{string_piece, bare_text};
+ghost use Rattle.sfv_spec.specs.Canonical.{bare_text};
 ghost use Rattle.sfv_text.specs.StringText.{string_text};
 ghost use Rattle.sfv_ser.specs.Written.{Appends};
 
+use crate::ser::quoted::{QuotedText, serialize_inside};
 use sfv_base::error::OutOfMemory;
 use sfv_base::runs::{PlainInString, split_run};
 use sfv_base::utils::is_escaped_in_string;
 use sfv_text::string_ref::StringRef;
 use std::alloc::{AllocError, Allocator};
 
-/// Appends a byte of a string, after a backslash if it is escaped.
-fn push_byte<A: Allocator>(output: &mut String<A>, byte: u8) -> Result<(), AllocError>
-    requires { byte < 128 }
-    ensures text { Appends output.old output.new (string_piece byte) result }
-{
-    if is_escaped_in_string(byte) {
-        output.push('\\')?;
+/// The inside of a string.
+struct InString;
+
+impl QuotedText for InString {
+    ghost display = { false };
+
+    #[inline(always)]
+    fn is_plain(byte: u8) -> bool {
+        !is_escaped_in_string(byte)
     }
-    output.push(byte as char)
+
+    #[inline(always)]
+    fn split_plain(bytes: &[u8]) -> (&[u8], &[u8]) {
+        split_run::<PlainInString>(bytes)
+    }
+
+    #[inline(always)]
+    #[tactic(auto, using(crate::proofs::Written::string_escape))]
+    fn push_escape<A: Allocator>(output: &mut String<A>, byte: u8) -> Result<(), AllocError> {
+        output.push_str(if byte == b'"' { "\\\"" } else { "\\\\" })
+    }
 }
 
 /// Appends a string.
+#[inline(never)]
 pub(crate) fn serialize_string<A: Allocator>(
     value: StringRef<'_>,
     output: &mut String<A>,
@@ -31,17 +45,7 @@ pub(crate) fn serialize_string<A: Allocator>(
     ensures text { Appends output.old output.new (bare_text (string (string_text value.entry))) result }
 {
     output.push('"')?;
-    let mut rest = value.as_str().as_bytes();
-    loop {
-        let (run, after) = split_run::<PlainInString>(rest);
-        // Plain bytes are ASCII, so a run of them is a text.
-        output.push_str(unsafe { std::str::from_utf8_unchecked(run) })?;
-        let Some((byte, after)) = after.split_first() else {
-            break;
-        };
-        push_byte(output, *byte)?;
-        rest = after;
-    }
+    serialize_inside::<InString, A>(value.as_str().as_bytes(), output)?;
     output.push('"')?;
     Ok(())
 }

@@ -1,4 +1,4 @@
-use Rattle.std.proofs.Common.{map, take, codes, string_bytes}
+use Rattle.std.proofs.Common.{suc, map, take, false, codes, string_bytes}
 use Rattle.sfv_spec.specs.Values.{IsItem}
 use Rattle.sfv_spec.specs.Ordered.{IsOrderedItem}
 use Rattle.sfv_spec.specs.Canonical.{item_text}
@@ -8,5 +8,6 @@ use Rattle.sfv_ser.proofs.ser.list.serialize_items.Given as goal
 
 abbrev pub invariant-loop-item : goal.invariant-loop-item
 invariant-loop-item g l =
-    IsRow item_text (λ i. IsItem i × IsOrderedItem i) (codes " ") (map item_tree (take l.item-index l.items)) l.is_first
+    IsRow item_text (λ i. IsItem i × IsOrderedItem i) (codes " ")
+    (map item_tree (take (suc l.item-index) l.items)) false
     (string_bytes l.fn.output) (string_bytes l.output)
