@@ -3,6 +3,8 @@
 ghost use Rattle.std.specs.Prelude.{◌≡◌, Some, refl, nat_eq, string_bytes, IsTrue};
 ghost use Rattle.std.specs.Fmt.{debug_variant, debug_str};
 ghost use Rattle.std.specs.Hash as fed;
+ghost use Rattle.std.specs.Hash.DefaultHasher as sip;
+ghost use Rattle.std.specs.List.{fold};
 ghost use Rattle.std.specs.Cmp.Lexicographic.{pointwise, slice_cmp, texts_ties, texts_po};
 ghost use Rattle.std.specs.Cmp.Lexicographic.{nat_list_eq_equiv, nat_list_cmp_total};
 ghost use Rattle.std.specs.Cmp;
@@ -17,7 +19,7 @@ use sfv_base::error::Error;
 use std::alloc::AllocError;
 use std::cmp::Ordering;
 use std::fmt;
-use std::hash::{Hash, Hasher};
+use std::hash::{DefaultHasher, Hash, Hasher};
 use std::marker::{Model, PhantomData};
 use std::string::String as StdString;
 
@@ -145,12 +147,16 @@ impl<C: TextClass> Ord for CheckedText<C> {
 }
 
 impl<C: TextClass> Hash for CheckedText<C> {
-    ghost hash_input = { fed.str };
+    ghost hash_input = { λ text. fed.u64 (sip.finish (fold sip.write sip.initial (fed.str text))) };
 
     ghost respects_eq = { Prim.search (hashing, rules) };
 
+    // Keys come from whoever sends a field, and the hash of a map by itself is one for which keys of one hash are
+    // easily found: with 10,000 of them a dictionary took a hundred times as long.
     fn hash<H: Hasher>(&self, state: &mut H) {
-        self.as_str().hash(state);
+        let mut hasher = DefaultHasher::new();
+        self.as_str().hash(&mut hasher);
+        state.write_u64(hasher.finish());
     }
 }
 
