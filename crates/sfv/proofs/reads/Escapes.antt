@@ -25,6 +25,7 @@ use Rattle.sfv_reading.proofs.quoted.Pieces.{behind_bytes_none, behind_bytes_mor
 use Rattle.sfv_reading.proofs.quoted.Pieces.{step_display}
 use Rattle.sfv_reading.proofs.quoted.Traces.{Ends, trace_of_string, trace_of_display}
 use Rattle.sfv_reading.proofs.quoted.DisplaySteps.{outside_byte}
+use Rattle.sfv.proofs.reads.Steps.{passed}
 use Rattle.sfv.specs.declared.parser.Parser.{Parser}
 use Rattle.sfv.specs.declared.parser.cursor.Cursor.{Cursor}
 use Rattle.sfv.specs.Cursor.{kept_input, rest, located, IsFaultOf, IsErrorOf, NextIs, TakesIf, Skips}
@@ -311,9 +312,8 @@ digit_wrong (x ∷ t) c i h = let same : x ≡ c = cc in (rw (same, h) refl, λ 
 
 -- ---- a text with its opening
 
-pub string_opens : (t r q : List ℕ) → TakesIf (byte question_mark) false t r → TakesIf (byte double_quote) true r q
-    → t ≡ opening false ++ q
-string_opens t r q m k = sym m.0 ∙ at_byte double_quote r q k
+pub string_opens : (t r : List ℕ) → NextIs (byte double_quote) true t → Skips t r → t ≡ opening false ++ r
+string_opens t r m k = passed double_quote t r m k
 
 pub display_opens : (t r q : List ℕ) → NextIs (byte percent_sign) true t → Skips t r
     → TakesIf (byte double_quote) true r q → t ≡ opening true ++ q

@@ -3,7 +3,7 @@ use Rattle.std.proofs.Common.{◌≡◌, ℕ, ◌+◌, ◌-◌, ◌*◌, ◌^◌
 use Rattle.std.proofs.Common.{Option, Some, None, Ok, Err, refl, sym, ap, subst, ◌∙◌, arith, suc, get_or, take, drop}
 use Rattle.std.specs.Prelude.{IsTrue, ℤ, MatchOption}
 use Rattle.std.proofs.lemmas.List.{drop_more, drop-drop, length-drop}
-use Rattle.std.proofs.lemmas.Bool.{and_from}
+use Rattle.std.proofs.lemmas.Bool.{and_from, both_ways, eqb-true, ne_eqb}
 use Rattle.sfv_spec.specs.Ascii.{double_quote, percent_sign, minus_sign, dot, digit_zero, digit_one, colon, semicolon}
 use Rattle.sfv_spec.specs.Ascii.{equals_sign, question_mark, at_sign}
 use Rattle.sfv_spec.specs.Texts.{RunOf}
@@ -318,66 +318,78 @@ pub ruleset date_steps = date_older
 
 -- ---- bare items
 
-pub bare_boolean : (edition : Edition) (t r : List ℕ) → TakesIf (byte question_mark) true t r
+-- the byte that stands next, and what stands after it
+next_byte : (c : ℕ) (t : List ℕ) → (m : NextIs (byte c) true t) → t ≡ c ∷ m.1
+next_byte c t m = m.2 ∙ ap (λ (b : ℕ). b ∷ m.1) (eqb-true m.0 c m.3)
+
+pub passed : (c : ℕ) (t r : List ℕ) → NextIs (byte c) true t → Skips t r → t ≡ c ∷ r
+passed c t r m k =
+    let same : c ∷ m.1 ≡ k.0 ∷ r = sym (next_byte c t m) ∙ k.1 in
+    let after : m.1 ≡ r = cc in
+    next_byte c t m ∙ ap (λ (l : List ℕ). c ∷ l) after
+
+pub bare_boolean : (edition : Edition) (t r : List ℕ) → NextIs (byte question_mark) true t → Skips t r
     → bare_at edition t ≡ boolean_at r
+unfolding bare_at branch
+bare_boolean edition t r m k = ap (bare_at edition) (passed question_mark t r m k)
+
+pub bare_string : (edition : Edition) (t r : List ℕ) → NextIs (byte double_quote) true t → Skips t r
+    → bare_at edition t ≡ (string_at >>= λ s. give (string s)) r
+unfolding bare_at branch
+bare_string edition t r m k = ap (bare_at edition) (passed double_quote t r m k)
+
+pub bare_bytes : (edition : Edition) (t r : List ℕ) → NextIs (byte colon) true t → Skips t r
+    → bare_at edition t ≡ (bytes_at >>= λ s. give (byte_sequence s)) r
+unfolding bare_at branch
+bare_bytes edition t r m k = ap (bare_at edition) (passed colon t r m k)
+
+pub bare_date : (edition : Edition) (t : List ℕ) → NextIs (byte at_sign) true t → bare_at edition t ≡ date_at edition t
+unfolding bare_at branch ahead
+bare_date edition t m = let e = next_byte at_sign t m in ap (bare_at edition) e ∙ sym (ap (date_at edition) e)
+
+pub bare_quoted : (edition : Edition) (t : List ℕ) → NextIs (byte percent_sign) true t
+    → bare_at edition t ≡ quoted_at edition t
+unfolding bare_at branch ahead
+bare_quoted edition t m = let e = next_byte percent_sign t m in ap (bare_at edition) e ∙ sym (ap (quoted_at edition) e)
+
+-- a byte that a number begins with is none of the others
+no_opener : (b c : ℕ) → is_number_start b ≡ true → is_number_start c ≡ false → byte c b ≡ false
+no_opener b c h n = ne_eqb b c (λ e. both_ways (is_number_start b) (rw e n) h)
+
+pub bare_number : (edition : Edition) (t : List ℕ) → NextIs is_number_start true t
+    → bare_at edition t ≡ number_at false t
+unfolding bare_at branch ahead
+bare_number edition t m =
+    let all : bare_at edition (m.0 ∷ m.1) ≡ number_at false (m.0 ∷ m.1) = rw (
+      no_opener m.0 question_mark m.3 refl,
+      no_opener m.0 double_quote m.3 refl,
+      no_opener m.0 colon m.3 refl,
+      no_opener m.0 at_sign m.3 refl,
+      no_opener m.0 percent_sign m.3 refl,
+      m.3,
+    ) refl in
+    ap (bare_at edition) m.2 ∙ all ∙ sym (ap (number_at false) m.2)
+
+-- nothing stands next that opens another item than a token
+pub record NoOpener (t : List ℕ) : Type 0 where
+  pub no_number : Apart is_number_start t
+  pub no_string : Apart (byte double_quote) t
+  pub no_boolean : Apart (byte question_mark) t
+  pub no_bytes : Apart (byte colon) t
+  pub no_date : Apart (byte at_sign) t
+  pub no_quoted : Apart (byte percent_sign) t
+
+pub bare_token : (edition : Edition) (t : List ℕ) → NoOpener t → bare_at edition t ≡ token_at t
 unfolding bare_at
-bare_boolean edition t r m = branch_true _ _ _ t r m
-
-pub bare_string : (edition : Edition) (t r q : List ℕ) → TakesIf (byte question_mark) false t r
-    → TakesIf (byte double_quote) true r q → bare_at edition t ≡ (string_at >>= λ s. give (string s)) q
-unfolding bare_at
-bare_string edition t r q m k = branch_false _ _ _ t r m ∙ branch_true _ _ _ r q k
-
--- none of the first three openers stands next
-pub record NoOpener (t r q w : List ℕ) : Type 0 where
-  pub no_boolean : TakesIf (byte question_mark) false t r
-  pub no_string : TakesIf (byte double_quote) false r q
-  pub no_bytes : TakesIf (byte colon) false q w
-
-pub bare_bytes : (edition : Edition) (t r q w : List ℕ) → TakesIf (byte question_mark) false t r
-    → TakesIf (byte double_quote) false r q → TakesIf (byte colon) true q w
-    → bare_at edition t ≡ (bytes_at >>= λ s. give (byte_sequence s)) w
-unfolding bare_at
-bare_bytes edition t r q w m k n = branch_false _ _ _ t r m ∙ branch_false _ _ _ r q k ∙ branch_true _ _ _ q w n
-
-others : (edition : Edition) → Reader BareValue
-others edition = ahead (byte at_sign) (date_at edition)
-    (ahead (byte percent_sign) (quoted_at edition) (ahead is_number_start (number_at false) token_at))
-
-bare_others : (edition : Edition) (t r q w : List ℕ) → NoOpener t r q w → bare_at edition t ≡ others edition w
-unfolding bare_at others
-bare_others edition t r q w h = branch_false _ _ _ t r h.no_boolean ∙ branch_false _ _ _ r q h.no_string
-    ∙ branch_false _ _ _ q w h.no_bytes
-
-pub bare_date : (edition : Edition) (t r q w : List ℕ) → NoOpener t r q w → NextIs (byte at_sign) true w
-    → bare_at edition t ≡ date_at edition w
-unfolding others
-bare_date edition t r q w h m = bare_others edition t r q w h ∙ ahead_true _ _ _ w m
-
-pub bare_quoted : (edition : Edition) (t r q w : List ℕ) → NoOpener t r q w → Apart (byte at_sign) w
-    → NextIs (byte percent_sign) true w → bare_at edition t ≡ quoted_at edition w
-unfolding others
-bare_quoted edition t r q w h m k = bare_others edition t r q w h ∙ ahead_past _ _ _ w m ∙ ahead_true _ _ _ w k
-
-pub bare_number : (edition : Edition) (t r q w : List ℕ) → NoOpener t r q w → Apart (byte at_sign) w
-    → Apart (byte percent_sign) w → NextIs is_number_start true w → bare_at edition t ≡ number_at false w
-unfolding others
-bare_number edition t r q w h m k n = bare_others edition t r q w h ∙ ahead_past _ _ _ w m ∙ ahead_past _ _ _ w k
-    ∙ ahead_true _ _ _ w n
-
-pub bare_token : (edition : Edition) (t r q w : List ℕ) → NoOpener t r q w → Apart (byte at_sign) w
-    → Apart (byte percent_sign) w → Apart is_number_start w → bare_at edition t ≡ token_at w
-unfolding others
-bare_token edition t r q w h m k n = bare_others edition t r q w h ∙ ahead_past _ _ _ w m ∙ ahead_past _ _ _ w k
-    ∙ ahead_past _ _ _ w n
+bare_token edition t h = branch_past _ _ _ t h.no_boolean ∙ branch_past _ _ _ t h.no_string
+    ∙ branch_past _ _ _ t h.no_bytes ∙ ahead_past _ _ _ t h.no_date ∙ ahead_past _ _ _ t h.no_quoted
+    ∙ ahead_past _ _ _ t h.no_number
 
 -- what is read of a part and then given on
 pub given : {A B : Type 0} (f : Reader A) (view : A → B) (t r : List ℕ) (v : A) → f t ≡ Ok (v, r)
     → (f >>= λ s. give (view s)) t ≡ Ok (view v, r)
 unfolding give
 given f view t r v e = bind_complete f _ t r v e
-
-pub ruleset bare_steps = bare_boolean
 
 -- ---- parameters
 

@@ -63,7 +63,6 @@ fn decode_symbols(alloc: Global, symbols: &[u8]) -> Result<Vec<u8>, AllocError>
 impl Cursor<'_> {
     /// Takes a byte sequence after its opening colon, with the closing one. Memory is asked for only where the
     /// content is well formed.
-    #[inline(never)]
     pub(super) fn byte_sequence(&mut self) -> Result<Vec<u8>, Error>
         ensures read { ReadsOrOutOfMemory vec_bytes self.old self.new result bytes_at }
         ensures out_of_memory { IfErr result (λ e. e ≡ out_of_memory → IsOk (bytes_at (rest self.old))) }

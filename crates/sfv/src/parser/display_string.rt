@@ -106,7 +106,6 @@ impl<'de> Cursor<'de> {
     }
 
     /// Takes a display string after its opening quote, with the closing one: a slice of the input if it has no escape.
-    #[inline(never)]
     pub(super) fn display_text(&mut self) -> Result<CowStr<'de>, Error>
         ensures read { ReadsOrOutOfMemory cow_text self.old self.new result display_at }
         ensures borrowed { IfOk result (λ text. IsTrue (is_borrowed_text text) ↔ HasNoMark true self.old self.new) }

@@ -104,10 +104,9 @@ impl<'de> Cursor<'de> {
     {
         // Most items have none: they shouldn't pay for the room that the others need.
         if self.next_is(b';') {
-            self.some_parameters(visitor)
-        } else {
-            visit(visitor, Event::ParametersEnd)
+            return self.some_parameters(visitor);
         }
+        visit(visitor, Event::ParametersEnd)
     }
 
     /// Takes an item, and visits its parts.

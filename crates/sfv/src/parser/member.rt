@@ -94,11 +94,10 @@ impl<'de> Cursor<'de> {
     {
         if self.take_if(b'(') {
             visit(visitor, Event::InnerList)?;
-            self.inner_list(visitor)
-        } else {
-            visit(visitor, Event::Item)?;
-            self.item(visitor)
+            return self.inner_list(visitor);
         }
+        visit(visitor, Event::Item)?;
+        self.item(visitor)
     }
 
     /// Takes the comma between two members, with the spaces and tabs around it. Returns whether a member is wanted, and

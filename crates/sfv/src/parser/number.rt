@@ -43,6 +43,7 @@ impl Cursor<'_> {
     }
 
     /// Takes a number, by itself or as the seconds of a date.
+    #[inline(always)]
     #[tactic(auto, using(crate::proofs::reads::Steps::number_steps))]
     pub(crate) fn number(&mut self) -> Result<Number, Error>
         ensures { (dated : Bool) → Reads number_value_of self.old self.new result (number_at dated) }

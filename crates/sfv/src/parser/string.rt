@@ -53,7 +53,6 @@ impl QuotedText for InString {
 
 impl<'de> Cursor<'de> {
     /// Takes a string after its opening quote, with the closing one: a slice of the input if it has no escape.
-    #[inline(never)]
     pub(super) fn string(&mut self) -> Result<StringFromInput<'de>, Error>
         ensures read { ReadsOrOutOfMemory read_text self.old self.new result string_at }
         ensures borrowed { IfOk result (λ text. IsTrue (is_borrowed_string text) ↔ HasNoMark false self.old self.new) }

@@ -4,8 +4,8 @@ use Rattle.sfv.proofs.reads.Steps.{parameter_none}
 use Rattle.sfv.proofs.visits.Parameters.{visited_none, end_visits}
 use Rattle.sfv.proofs.parser.cursor.Cursor.parameters.Goals as goal
 
-pub returns-else-next_is-clause-visited : goal.returns-else-next_is-clause-visited
-returns-else-next_is-clause-visited g c =
+pub returns-clause-visited : goal.returns-clause-visited
+returns-clause-visited g c =
     let t = rest c.args.self.now in
     end_visits g.V.Visitor.takes g.V.Visitor.fails (edition c.args.self.now) t t c.args.visitor.now c.args.visitor.now
     c.visit.new.visitor (kept c.args.self.now) c.args.self.now c.visit.result
