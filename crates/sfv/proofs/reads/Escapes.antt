@@ -114,23 +114,18 @@ closed_behind d bytes t r whole sofar quote = sym sofar ∙ ap (behind_bytes byt
 at_mark : (d : Bool) (t q r : List ℕ) → q ≡ t → TakesIf (byte (mark_of d)) true q r → inside d t ≡ behind_mark d r
 at_mark d t q r same mark = ap (inside d) (sym same ∙ at_byte (mark_of d) q r mark) ∙ opens d r
 
--- after an escape and the bytes after it
-pub past_escape : (d : Bool) (bytes run : List ℕ) (c : ℕ) (t q r e n : List ℕ) → q ≡ t
-    → TakesIf (byte (mark_of d)) true q r → behind_mark d r ≡ behind_bytes (c ∷ []) (inside d e)
-    → RunOf (plain_of d) run → e ≡ run ++ n
-    → behind_bytes ((bytes ++ c ∷ []) ++ run) (inside d n) ≡ behind_bytes bytes (inside d t)
-past_escape d bytes run c t q r e n same mark escaped each taken =
-    sym (behind_bytes_more (bytes ++ c ∷ []) run (inside d n))
-    ∙ ap (behind_bytes (bytes ++ c ∷ [])) (sym (begins d run e n n each taken refl))
-    ∙ sym (behind_bytes_more bytes (c ∷ []) (inside d e))
+-- after an escape
+pub past_escape : (d : Bool) (bytes : List ℕ) (c : ℕ) (t q r e : List ℕ) → q ≡ t → TakesIf (byte (mark_of d)) true q r
+    → behind_mark d r ≡ behind_bytes (c ∷ []) (inside d e)
+    → behind_bytes (bytes ++ c ∷ []) (inside d e) ≡ behind_bytes bytes (inside d t)
+past_escape d bytes c t q r e same mark escaped = sym (behind_bytes_more bytes (c ∷ []) (inside d e))
     ∙ ap (behind_bytes bytes) (sym (at_mark d t q r same mark ∙ escaped))
 
-pub escape_shorter : (m : ℕ) (run t q r e n : List ℕ) → q ≡ t → TakesIf (byte m) true q r → length e < length r
-    → e ≡ run ++ n → length n < length t
-escape_shorter m run t q r e n same mark less taken =
-    let a = ap (length {A = ℕ}) (sym same ∙ mark.1) in
-    let b = ap (length {A = ℕ}) taken in
-    omega (arith, a, b, less, length-append run n)
+-- after plain bytes
+pub past_run : (d : Bool) (bytes run t q n : List ℕ) → q ≡ t → RunOf (plain_of d) run → q ≡ run ++ n
+    → behind_bytes (bytes ++ run) (inside d n) ≡ behind_bytes bytes (inside d t)
+past_run d bytes run t q n same each taken = sym (behind_bytes_more bytes run (inside d n))
+    ∙ ap (behind_bytes bytes) (sym (ap (inside d) (sym same) ∙ begins d run q n n each taken refl))
 
 -- ---- errors
 

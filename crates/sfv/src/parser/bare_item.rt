@@ -177,6 +177,7 @@ impl<'de> Cursor<'de> {
 
     /// Takes a bare item. Its first byte decides of which kind it is. A string or a display string is a slice of the
     /// input if it has no escape.
+    #[inline(always)]
     pub(crate) fn bare_item(&mut self) -> Result<BareItemFromInput<'de>, Error>
         ensures read { ReadsOrOutOfMemory input_value self.old self.new result (bare_at (edition self.old)) }
         ensures borrowed { IfOk result (λ item. IsBorrowedUnlessEscaped item self.old self.new) }

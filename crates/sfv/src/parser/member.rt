@@ -182,6 +182,7 @@ pub(super) struct Entry;
 impl<'de, V: Visitor<'de>> Member<'de, V> for Entry {
     ghost keyed = { false };
 
+    #[inline(always)]
     fn consume(cursor: &mut Cursor<'de>, visitor: &mut V) -> Result<(), ParseError<V::Error>> {
         visit(visitor, Event::Entry)?;
         cursor.member(visitor)
@@ -194,6 +195,7 @@ pub(super) struct KeyedEntry;
 impl<'de, V: Visitor<'de>> Member<'de, V> for KeyedEntry {
     ghost keyed = { true };
 
+    #[inline(always)]
     fn consume(cursor: &mut Cursor<'de>, visitor: &mut V) -> Result<(), ParseError<V::Error>> {
         let key = cursor.key()?;
         visit(visitor, Event::KeyedEntry(key))?;
