@@ -9,7 +9,7 @@ use Rattle.std.specs.declared.borrow.CowStr.{CowStr}
 use Rattle.std.proofs.lemmas.Bool.{and_parts, and_from, and_cases, or_parts, or_from, not-true, not_from_false}
 use Rattle.std.proofs.lemmas.Bool.{both_ways, eqb-true}
 use Rattle.std.proofs.lemmas.List.{append-nil}
-use Rattle.sfv_spec.specs.Ascii.{question_mark, double_quote, percent_sign, backslash}
+use Rattle.sfv_spec.specs.Ascii.{double_quote, percent_sign, backslash}
 use Rattle.sfv_spec.specs.Texts.{RunOf}
 use Rattle.sfv_spec.specs.Classes.{is_string_byte, is_lower_hexadecimal}
 use Rattle.sfv_spec.specs.Strings.{is_escaped_in_string, hexadecimal_value, IsStringPiece, IsDisplayPiece}
@@ -328,14 +328,6 @@ pub behind_opening : (d : Bool) (A : Type 0) (before middle after : Cursor) → 
 behind_opening d A before middle after opens h = (
   λ a. let n = h.0 a in (n.0, opens ∙ ap (λ (l : List ℕ). opening d ++ l) n.1, n.2),
   λ n. h.1 (n.0, opened d _ _ (sym opens ∙ n.1), n.2),
-)
-
-pub same_inside : (d : Bool) (A : Type 0) (before middle after : Cursor) → rest middle ≡ rest before
-    → (A ↔ HasNoMarkInside d middle after) → (A ↔ HasNoMarkInside d before after)
-same_inside d A before middle after same h = (
-  λ a. let n = h.0 a in
-      (n.0, sym same ∙ n.1, n.2),
-  λ n. h.1 (n.0, same ∙ n.1, n.2),
 )
 
 pub borrowed_behind : (before middle after : Cursor) (r : Result (CowStr Global) Error)

@@ -16,12 +16,6 @@ use Rattle.sfv.specs.Cursor.{TakesIf}
 use Rattle.sfv_spec.specs.Ascii.{space, tab}
 use Rattle.sfv_reading.proofs.complete.Combinators.{Apart-nil, Apart-cons, up_to_taken, span_complete}
 
--- a byte of a run is of the class
-pub run_at : (class : ℕ → Bool) (xs : List ℕ) (i : ℕ) → RunOf class xs → i < length xs → class (get_or xs i 0) ≡ true
-run_at class [] i each lt = absurd (omega arith)
-run_at class (x ∷ xs) zero each lt = (and_parts _ _ each).0
-run_at class (x ∷ xs) (suc i) each lt = run_at class xs i (and_parts _ _ each).1 (omega arith)
-
 pub stops_at : (class : ℕ → Bool) (xs : List ℕ) (i : ℕ) → (i < length xs → class (get_or xs i 0) ≡ false)
     → Apart class (drop i xs)
 stops_at class xs i h = elim (cases_lt i (length xs)) [
@@ -37,12 +31,6 @@ up_to_run class most k bytes le le' each h =
     ap (up_to class most) (sym (take-append-drop k bytes))
     ∙ up_to_taken class most (take k bytes) (drop k bytes) each (omega (arith, length-take k bytes))
     (λ lt. stops_at class bytes k (h (omega (arith, length-take k bytes))))
-
-pub span_run : (class : ℕ → Bool) (k : ℕ) (bytes : List ℕ) → k ≤ length bytes → RunOf class (take k bytes)
-    → (k < length bytes → class (get_or bytes k 0) ≡ false)
-    → span class bytes ≡ Ok (take k bytes, drop k bytes)
-span_run class k bytes le each h = ap (span class) (sym (take-append-drop k bytes))
-    ∙ span_complete class (take k bytes) (drop k bytes) each (stops_at class bytes k h)
 
 -- what a loop has skipped of t
 abbrev pub Skipped : (ℕ → Bool) → List ℕ → List ℕ → Type 0

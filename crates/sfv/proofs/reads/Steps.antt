@@ -1,8 +1,7 @@
 -- What a reader gives, by what the code found out.
-use Rattle.std.proofs.Common.{◌≡◌, ℕ, ◌+◌, ◌-◌, ◌*◌, ◌^◌, ◌<◌, ◌≤◌, Bool, true, false, eqb, ltb, List, [], ◌∷◌, length}
-use Rattle.std.proofs.Common.{Option, Some, None, Ok, Err, refl, sym, ap, subst, ◌∙◌, arith, suc, get_or, take, drop}
+use Rattle.std.proofs.Common.{◌≡◌, ℕ, ◌+◌, ◌-◌, ◌*◌, ◌^◌, ◌≤◌, Bool, true, false, eqb, ltb, List, [], ◌∷◌, ◌++◌, length}
+use Rattle.std.proofs.Common.{Option, Some, None, Ok, Err, refl, sym, ap, subst, ◌∙◌, arith, drop}
 use Rattle.std.specs.Prelude.{IsTrue, ℤ, MatchOption}
-use Rattle.std.proofs.lemmas.List.{drop_more, drop-drop, length-drop}
 use Rattle.std.proofs.lemmas.Bool.{and_from, both_ways, eqb-true, ne_eqb}
 use Rattle.sfv_spec.specs.Ascii.{double_quote, percent_sign, minus_sign, dot, digit_zero, digit_one, colon, semicolon}
 use Rattle.sfv_spec.specs.Ascii.{equals_sign, question_mark, at_sign}
@@ -31,7 +30,7 @@ use Rattle.sfv_reading.specs.Content.{bytes_at}
 use Rattle.sfv_reading.specs.Items.{key_at, value_at, parameter_at, parameters_at, item_of, item_at}
 use Rattle.sfv_spec.specs.Events.{TreeEvent, bare_item}
 use Rattle.sfv_reading.proofs.complete.Combinators.{branch_past, branch_take, ahead_past, ahead_take, bind_complete}
-use Rattle.sfv_reading.proofs.complete.Combinators.{led_complete}
+use Rattle.sfv_reading.proofs.complete.Combinators.{led_complete, span_complete}
 use Rattle.sfv.proofs.reads.Errors.{fault_bind}
 use Rattle.sfv.specs.declared.parser.Parser.{Parser}
 use Rattle.sfv.specs.Cursor.{kept_input, located, IsFaultOf, NextIs, TakesIf, Skips}
@@ -164,60 +163,50 @@ pub token_none : (t : List ℕ) → Apart is_token_start t → located (token_at
 unfolding token_at fail
 token_none t m = ap located (branch_past _ _ _ t m)
 
--- a byte stands at the index
-pub meets_within : (class : ℕ → Bool) (xs : List ℕ) (i : ℕ) → NextIs class true (drop i xs) → i < length xs
-meets_within class xs i m = let e = ap length m.2 in omega (arith, e, length-drop i xs)
+pub some_next : (class : ℕ → Bool) (t : List ℕ) → NextIs class true t → 1 ≤ length t
+some_next class t m = rw m.2 (omega arith)
 
--- a byte of the first class stands at i, and so many of the second after it, in t
-pub record IsTextAt (start inner : ℕ → Bool) (xs : List ℕ) (i len : ℕ) (t : List ℕ) : Type 0 where
-  pub head : NextIs start true (drop i xs)
-  pub behind : t ≡ drop (i + 1) xs
-  pub each : RunOf inner (take len t)
-  pub run : span inner t ≡ Ok (take len t, drop len t)
+-- a byte of the first class and bytes of the second were taken of t
+pub record IsTaken (start inner : ℕ → Bool) (t bytes q : List ℕ) : Type 0 where
+  pub head : NextIs start true t
+  pub each : (b : ℕ) × (s : List ℕ) × (bytes ≡ b ∷ s) × RunOf inner s
+  pub taken : t ≡ bytes ++ q
+  pub ends : Apart inner q
 
--- the first byte, and the others
-text_split : (start inner : ℕ → Bool) (xs t : List ℕ) (i len : ℕ) → IsTextAt start inner xs i len t
-    → (take ((i + 1 + len) - i) (drop i xs) ≡ get_or xs i 0 ∷ take len t) × (start (get_or xs i 0) ≡ true)
-    × (drop i xs ≡ get_or xs i 0 ∷ t) × (drop len t ≡ drop (i + 1 + len) xs)
-text_split start inner xs t i len h =
-    let more : drop i xs ≡ get_or xs i 0 ∷ drop (i + 1) xs = drop_more xs i 0 (meets_within start xs i h.head) in
-    let split : drop i xs ≡ get_or xs i 0 ∷ t = more ∙ ap (λ (l : List ℕ). get_or xs i 0 ∷ l) (sym h.behind) in
-    let same : h.head.0 ∷ h.head.1 ≡ get_or xs i 0 ∷ t = sym h.head.2 ∙ split in
-    let head : h.head.0 ≡ get_or xs i 0 = cc in
-    let n : (i + 1 + len) - i ≡ suc len = omega arith in
-    (rw (n, split) refl, rw (← head) h.head.3, split, rw h.behind (drop-drop len (i + 1) xs))
+taken_text : (start inner : ℕ → Bool) (t bytes q : List ℕ) → (h : IsTaken start inner t bytes q)
+    → (t ≡ h.each.0 ∷ (h.each.1 ++ q)) × (start h.each.0 ≡ true)
+taken_text start inner t bytes q h =
+    let split : t ≡ h.each.0 ∷ (h.each.1 ++ q) = h.taken ∙ ap (λ (l : List ℕ). l ++ q) h.each.2 in
+    let same : h.head.0 ∷ h.head.1 ≡ h.each.0 ∷ (h.each.1 ++ q) = sym h.head.2 ∙ split in
+    let head : h.head.0 ≡ h.each.0 = cc in
+    (split, rw (← head) h.head.3)
 
-pub key_class : (xs t : List ℕ) (i len : ℕ) → IsTextAt is_key_start is_key_inner xs i len t
-    → IsTrue (is_key (take ((i + 1 + len) - i) (drop i xs)))
-key_class xs t i len h = let s = text_split _ _ xs t i len h in rw s.0 (and_from _ _ s.1 h.each)
+pub key_class : (t bytes q : List ℕ) → IsTaken is_key_start is_key_inner t bytes q → IsTrue (is_key bytes)
+key_class t bytes q h = let s = taken_text _ _ t bytes q h in rw h.each.2 (and_from _ _ s.1 h.each.3)
 
-pub key_some : (xs t : List ℕ) (i len : ℕ) → IsTextAt is_key_start is_key_inner xs i len t
-    → key_at (drop i xs) ≡ Ok (take ((i + 1 + len) - i) (drop i xs), drop (i + 1 + len) xs)
+pub key_some : (t bytes q : List ℕ) → IsTaken is_key_start is_key_inner t bytes q → key_at t ≡ Ok (bytes, q)
 unfolding key_at give
-key_some xs t i len h =
-    let s = text_split _ _ xs t i len h in
-    let all : key_at (get_or xs i 0 ∷ t) ≡ Ok (get_or xs i 0 ∷ take len t, drop len t) =
-    branch_take _ _ _ (get_or xs i 0) t s.1 ∙ bind_complete _ _ _ _ _ h.run in
-    ap key_at s.2 ∙ all ∙ ap (λ (r : List ℕ). Ok (get_or xs i 0 ∷ take len t, r)) s.3
-    ∙ ap (λ (l : List ℕ). Ok (l, drop (i + 1 + len) xs)) (sym s.0)
+key_some t bytes q h =
+    let s = taken_text _ _ t bytes q h in
+    ap key_at s.0 ∙ branch_take _ _ _ h.each.0 _ s.1
+    ∙ bind_complete _ _ _ _ _ (span_complete is_key_inner h.each.1 q h.each.3 h.ends)
+    ∙ ap (λ (l : List ℕ). Ok (l, q)) (sym h.each.2)
 
-pub token_class : (xs t : List ℕ) (i len : ℕ) → IsTextAt is_token_start is_token_inner xs i len t
-    → IsTrue (is_token (take ((i + 1 + len) - i) (drop i xs)))
-token_class xs t i len h = let s = text_split _ _ xs t i len h in rw s.0 (and_from _ _ s.1 h.each)
+pub token_class : (t bytes q : List ℕ) → IsTaken is_token_start is_token_inner t bytes q → IsTrue (is_token bytes)
+token_class t bytes q h = let s = taken_text _ _ t bytes q h in rw h.each.2 (and_from _ _ s.1 h.each.3)
 
-pub token_some : (xs t : List ℕ) (i len : ℕ) → IsTextAt is_token_start is_token_inner xs i len t
-    → token_at (drop i xs) ≡ Ok (token (take ((i + 1 + len) - i) (drop i xs)), drop (i + 1 + len) xs)
+pub token_some : (t bytes q : List ℕ) → IsTaken is_token_start is_token_inner t bytes q
+    → token_at t ≡ Ok (token bytes, q)
 unfolding token_at give
-token_some xs t i len h =
-    let s = text_split _ _ xs t i len h in
-    let all : token_at (get_or xs i 0 ∷ t) ≡ Ok (token (get_or xs i 0 ∷ take len t), drop len t) =
-    branch_take _ _ _ (get_or xs i 0) t s.1 ∙ bind_complete _ _ _ _ _ h.run in
-    ap token_at s.2 ∙ all ∙ ap (λ (r : List ℕ). Ok (token (get_or xs i 0 ∷ take len t), r)) s.3
-    ∙ ap (λ (l : List ℕ). Ok (token l, drop (i + 1 + len) xs)) (sym s.0)
+token_some t bytes q h =
+    let s = taken_text _ _ t bytes q h in
+    ap token_at s.0 ∙ branch_take _ _ _ h.each.0 _ s.1
+    ∙ bind_complete _ _ _ _ _ (span_complete is_token_inner h.each.1 q h.each.3 h.ends)
+    ∙ ap (λ (l : List ℕ). Ok (token l, q)) (sym h.each.2)
 
-pub ruleset key_steps = (meets_within, key_none)
+pub ruleset key_steps = (some_next, key_none)
 
-pub ruleset token_steps = (meets_within, token_none)
+pub ruleset token_steps = (some_next, token_none)
 
 -- ---- booleans
 

@@ -169,10 +169,8 @@ impl<'de> Cursor<'de> {
     fn next_is_number_start(&self) -> bool
         ensures { NextIs is_number_start result (rest self.now) }
     {
-        match self.peek() {
-            Some(byte) => is_digit_byte(byte) || byte == b'-',
-            None => false,
-        }
+        self.peek()
+            .is_some_and(|byte| is_digit_byte(byte) || byte == b'-')
     }
 
     /// Takes a bare item. Its first byte decides of which kind it is. A string or a display string is a slice of the

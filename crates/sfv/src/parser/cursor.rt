@@ -1,6 +1,6 @@
 //! Where a reading stands in its input, and its steps: looking at the next byte, and taking it.
 
-ghost use Rattle.std.specs.Prelude.{◌≡◌, ◌≤◌, ◌+◌, ◌++◌, ℕ, Bool, true, false, List, length, Some, Ok};
+ghost use Rattle.std.specs.Prelude.{◌≡◌, ◌≤◌, ◌+◌, ◌++◌, ℕ, Bool, true, false, List, ◌∷◌, length, Some, Ok};
 ghost use Rattle.sfv_spec.specs.Texts.{RunOf};
 ghost use Rattle.sfv_spec.specs.Classes.{is_digit, is_space, is_space_or_tab};
 ghost use Rattle.sfv_base.specs.Errors.{error_of};
@@ -78,10 +78,7 @@ impl<'de> Cursor<'de> {
     pub(super) fn next_is_digit(&self) -> bool
         ensures { NextIs is_digit result (rest self.now) }
     {
-        match self.peek() {
-            Some(byte) => is_digit_byte(byte),
-            None => false,
-        }
+        self.peek().is_some_and(is_digit_byte)
     }
 
     /// Takes the next byte, if it is this one.
@@ -120,6 +117,21 @@ impl<'de> Cursor<'de> {
     {
         let start = self.index;
         self.index = run_end_from::<C>(self.parser.input, start);
+        &self.parser.input[start..self.index]
+    }
+
+    /// Takes the next byte, and the bytes of the class that stand after it.
+    #[inline(always)]
+    pub(super) fn byte_and_run<C: RunClass>(&mut self) -> &'de [u8]
+        requires { 1 ≤ length (rest self.old) }
+        ensures each { (b : ℕ) × (s : List ℕ) × (result.now ≡ b ∷ s) × RunOf C.class s }
+        ensures taken { rest self.old ≡ result.now ++ rest self.new }
+        ensures ends { Apart C.class (rest self.new) }
+        ensures kept { kept self.new ≡ kept self.old }
+    {
+        let start = self.index;
+        self.skip();
+        self.run::<C>();
         &self.parser.input[start..self.index]
     }
 

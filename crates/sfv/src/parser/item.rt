@@ -103,10 +103,10 @@ impl<'de> Cursor<'de> {
             result parameters_at }
     {
         // Most items have none: they shouldn't pay for the room that the others need.
-        if self.next_is(b';') {
-            return self.some_parameters(visitor);
+        if !self.next_is(b';') {
+            return visit(visitor, Event::ParametersEnd);
         }
-        visit(visitor, Event::ParametersEnd)
+        self.some_parameters(visitor)
     }
 
     /// Takes an item, and visits its parts.

@@ -1,4 +1,4 @@
-use Rattle.std.proofs.Common.{arith, refl}
+use Rattle.std.proofs.Common.{refl}
 use Rattle.std.proofs.lemmas.Bool.{le-ltb, ne_eqb}
 use Rattle.sfv_reading.specs.Bare.{whole_at, point_at}
 use Rattle.sfv.specs.Numbers.{number_value_of}

@@ -4,11 +4,11 @@ use Rattle.sfv.proofs.reads.Steps.{parameter_none}
 use Rattle.sfv.proofs.visits.Parameters.{visited_none, end_visits}
 use Rattle.sfv.proofs.parser.cursor.Cursor.parameters.Goals as goal
 
-pub returns-clause-visited : goal.returns-clause-visited
-returns-clause-visited g c =
+pub returns-then-not-next_is-clause-visited : goal.returns-then-not-next_is-clause-visited
+returns-then-not-next_is-clause-visited g c =
     let t = rest c.args.self.now in
     end_visits g.V.Visitor.takes g.V.Visitor.fails (edition c.args.self.now) t t c.args.visitor.now c.args.visitor.now
     c.visit.new.visitor (kept c.args.self.now) c.args.self.now c.visit.result
     (visited_none g.V.Visitor.takes (edition c.args.self.now) t c.args.visitor.now)
-    (parameter_none (edition c.args.self.now) t t (refl, c.if-next_is.ensures)) refl c.visit.ensures.taken
+    (parameter_none (edition c.args.self.now) t t (refl, c.if-not-next_is.ensures)) refl c.visit.ensures.taken
     c.visit.ensures.failed

@@ -5,7 +5,7 @@ use Rattle.sfv.proofs.reads.Runs.{skipped_none, skipped_more, skipped_all}
 use Rattle.sfv.proofs.parser.cursor.Cursor.skip_sp.Goals as goal
 
 pub loop-init : goal.loop-init
-loop-init c = record { skipped = skipped_none is_space (rest c.args.self.now); kept = refl; }
+loop-init c = record { skipped = skipped_none is_space (rest c.args.self.now); kept = refl }
 
 pub loop-preserved : goal.loop-preserved
 loop-preserved c = record {
