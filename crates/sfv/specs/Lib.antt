@@ -1,5 +1,6 @@
 pub mod Cursor
 pub mod Numbers
+pub mod Digits
 pub mod Texts
 pub mod Runs
 pub mod Zeros

@@ -9,7 +9,7 @@ use Rattle.std.specs.declared.borrow.CowStr.{CowStr}
 use Rattle.std.proofs.lemmas.Bool.{and_parts, and_from, and_cases, or_parts, or_from, not-true, not_from_false}
 use Rattle.std.proofs.lemmas.Bool.{both_ways, eqb-true}
 use Rattle.std.proofs.lemmas.List.{append-nil}
-use Rattle.sfv_spec.specs.Ascii.{question_mark, double_quote, percent_sign, backslash}
+use Rattle.sfv_spec.specs.Ascii.{double_quote, percent_sign, backslash}
 use Rattle.sfv_spec.specs.Texts.{RunOf}
 use Rattle.sfv_spec.specs.Classes.{is_string_byte, is_lower_hexadecimal}
 use Rattle.sfv_spec.specs.Strings.{is_escaped_in_string, hexadecimal_value, IsStringPiece, IsDisplayPiece}
@@ -25,6 +25,7 @@ use Rattle.sfv_reading.proofs.quoted.Pieces.{behind_bytes_none, behind_bytes_mor
 use Rattle.sfv_reading.proofs.quoted.Pieces.{step_display}
 use Rattle.sfv_reading.proofs.quoted.Traces.{Ends, trace_of_string, trace_of_display}
 use Rattle.sfv_reading.proofs.quoted.DisplaySteps.{outside_byte}
+use Rattle.sfv.proofs.reads.Steps.{passed}
 use Rattle.sfv.specs.declared.parser.Parser.{Parser}
 use Rattle.sfv.specs.declared.parser.cursor.Cursor.{Cursor}
 use Rattle.sfv.specs.Cursor.{kept_input, rest, located, IsFaultOf, IsErrorOf, NextIs, TakesIf, Skips}
@@ -113,23 +114,18 @@ closed_behind d bytes t r whole sofar quote = sym sofar ∙ ap (behind_bytes byt
 at_mark : (d : Bool) (t q r : List ℕ) → q ≡ t → TakesIf (byte (mark_of d)) true q r → inside d t ≡ behind_mark d r
 at_mark d t q r same mark = ap (inside d) (sym same ∙ at_byte (mark_of d) q r mark) ∙ opens d r
 
--- after an escape and the bytes after it
-pub past_escape : (d : Bool) (bytes run : List ℕ) (c : ℕ) (t q r e n : List ℕ) → q ≡ t
-    → TakesIf (byte (mark_of d)) true q r → behind_mark d r ≡ behind_bytes (c ∷ []) (inside d e)
-    → RunOf (plain_of d) run → e ≡ run ++ n
-    → behind_bytes ((bytes ++ c ∷ []) ++ run) (inside d n) ≡ behind_bytes bytes (inside d t)
-past_escape d bytes run c t q r e n same mark escaped each taken =
-    sym (behind_bytes_more (bytes ++ c ∷ []) run (inside d n))
-    ∙ ap (behind_bytes (bytes ++ c ∷ [])) (sym (begins d run e n n each taken refl))
-    ∙ sym (behind_bytes_more bytes (c ∷ []) (inside d e))
+-- after an escape
+pub past_escape : (d : Bool) (bytes : List ℕ) (c : ℕ) (t q r e : List ℕ) → q ≡ t → TakesIf (byte (mark_of d)) true q r
+    → behind_mark d r ≡ behind_bytes (c ∷ []) (inside d e)
+    → behind_bytes (bytes ++ c ∷ []) (inside d e) ≡ behind_bytes bytes (inside d t)
+past_escape d bytes c t q r e same mark escaped = sym (behind_bytes_more bytes (c ∷ []) (inside d e))
     ∙ ap (behind_bytes bytes) (sym (at_mark d t q r same mark ∙ escaped))
 
-pub escape_shorter : (m : ℕ) (run t q r e n : List ℕ) → q ≡ t → TakesIf (byte m) true q r → length e < length r
-    → e ≡ run ++ n → length n < length t
-escape_shorter m run t q r e n same mark less taken =
-    let a = ap (length {A = ℕ}) (sym same ∙ mark.1) in
-    let b = ap (length {A = ℕ}) taken in
-    omega (arith, a, b, less, length-append run n)
+-- after plain bytes
+pub past_run : (d : Bool) (bytes run t q n : List ℕ) → q ≡ t → RunOf (plain_of d) run → q ≡ run ++ n
+    → behind_bytes (bytes ++ run) (inside d n) ≡ behind_bytes bytes (inside d t)
+past_run d bytes run t q n same each taken = sym (behind_bytes_more bytes run (inside d n))
+    ∙ ap (behind_bytes bytes) (sym (ap (inside d) (sym same) ∙ begins d run q n n each taken refl))
 
 -- ---- errors
 
@@ -311,9 +307,8 @@ digit_wrong (x ∷ t) c i h = let same : x ≡ c = cc in (rw (same, h) refl, λ 
 
 -- ---- a text with its opening
 
-pub string_opens : (t r q : List ℕ) → TakesIf (byte question_mark) false t r → TakesIf (byte double_quote) true r q
-    → t ≡ opening false ++ q
-string_opens t r q m k = sym m.0 ∙ at_byte double_quote r q k
+pub string_opens : (t r : List ℕ) → NextIs (byte double_quote) true t → Skips t r → t ≡ opening false ++ r
+string_opens t r m k = passed double_quote t r m k
 
 pub display_opens : (t r q : List ℕ) → NextIs (byte percent_sign) true t → Skips t r
     → TakesIf (byte double_quote) true r q → t ≡ opening true ++ q
@@ -333,14 +328,6 @@ pub behind_opening : (d : Bool) (A : Type 0) (before middle after : Cursor) → 
 behind_opening d A before middle after opens h = (
   λ a. let n = h.0 a in (n.0, opens ∙ ap (λ (l : List ℕ). opening d ++ l) n.1, n.2),
   λ n. h.1 (n.0, opened d _ _ (sym opens ∙ n.1), n.2),
-)
-
-pub same_inside : (d : Bool) (A : Type 0) (before middle after : Cursor) → rest middle ≡ rest before
-    → (A ↔ HasNoMarkInside d middle after) → (A ↔ HasNoMarkInside d before after)
-same_inside d A before middle after same h = (
-  λ a. let n = h.0 a in
-      (n.0, sym same ∙ n.1, n.2),
-  λ n. h.1 (n.0, same ∙ n.1, n.2),
 )
 
 pub borrowed_behind : (before middle after : Cursor) (r : Result (CowStr Global) Error)

@@ -1,9 +1,8 @@
 -- What a reader gives, by what the code found out.
-use Rattle.std.proofs.Common.{◌≡◌, ℕ, ◌+◌, ◌-◌, ◌*◌, ◌^◌, ◌<◌, ◌≤◌, Bool, true, false, eqb, ltb, List, [], ◌∷◌, length}
-use Rattle.std.proofs.Common.{Option, Some, None, Ok, Err, refl, sym, ap, subst, ◌∙◌, arith, suc, get_or, take, drop}
+use Rattle.std.proofs.Common.{◌≡◌, ℕ, ◌+◌, ◌-◌, ◌*◌, ◌^◌, ◌≤◌, Bool, true, false, eqb, ltb, List, [], ◌∷◌, ◌++◌, length}
+use Rattle.std.proofs.Common.{Option, Some, None, Ok, Err, refl, sym, ap, subst, ◌∙◌, arith, drop}
 use Rattle.std.specs.Prelude.{IsTrue, ℤ, MatchOption}
-use Rattle.std.proofs.lemmas.List.{drop_more, drop-drop, length-drop}
-use Rattle.std.proofs.lemmas.Bool.{and_from}
+use Rattle.std.proofs.lemmas.Bool.{and_from, both_ways, eqb-true, ne_eqb}
 use Rattle.sfv_spec.specs.Ascii.{double_quote, percent_sign, minus_sign, dot, digit_zero, digit_one, colon, semicolon}
 use Rattle.sfv_spec.specs.Ascii.{equals_sign, question_mark, at_sign}
 use Rattle.sfv_spec.specs.Texts.{RunOf}
@@ -31,7 +30,7 @@ use Rattle.sfv_reading.specs.Content.{bytes_at}
 use Rattle.sfv_reading.specs.Items.{key_at, value_at, parameter_at, parameters_at, item_of, item_at}
 use Rattle.sfv_spec.specs.Events.{TreeEvent, bare_item}
 use Rattle.sfv_reading.proofs.complete.Combinators.{branch_past, branch_take, ahead_past, ahead_take, bind_complete}
-use Rattle.sfv_reading.proofs.complete.Combinators.{led_complete}
+use Rattle.sfv_reading.proofs.complete.Combinators.{led_complete, span_complete}
 use Rattle.sfv.proofs.reads.Errors.{fault_bind}
 use Rattle.sfv.specs.declared.parser.Parser.{Parser}
 use Rattle.sfv.specs.Cursor.{kept_input, located, IsFaultOf, NextIs, TakesIf, Skips}
@@ -164,60 +163,50 @@ pub token_none : (t : List ℕ) → Apart is_token_start t → located (token_at
 unfolding token_at fail
 token_none t m = ap located (branch_past _ _ _ t m)
 
--- a byte stands at the index
-pub meets_within : (class : ℕ → Bool) (xs : List ℕ) (i : ℕ) → NextIs class true (drop i xs) → i < length xs
-meets_within class xs i m = let e = ap length m.2 in omega (arith, e, length-drop i xs)
+pub some_next : (class : ℕ → Bool) (t : List ℕ) → NextIs class true t → 1 ≤ length t
+some_next class t m = rw m.2 (omega arith)
 
--- a byte of the first class stands at i, and so many of the second after it, in t
-pub record IsTextAt (start inner : ℕ → Bool) (xs : List ℕ) (i len : ℕ) (t : List ℕ) : Type 0 where
-  pub head : NextIs start true (drop i xs)
-  pub behind : t ≡ drop (i + 1) xs
-  pub each : RunOf inner (take len t)
-  pub run : span inner t ≡ Ok (take len t, drop len t)
+-- a byte of the first class and bytes of the second were taken of t
+pub record IsTaken (start inner : ℕ → Bool) (t bytes q : List ℕ) : Type 0 where
+  pub head : NextIs start true t
+  pub each : (b : ℕ) × (s : List ℕ) × (bytes ≡ b ∷ s) × RunOf inner s
+  pub taken : t ≡ bytes ++ q
+  pub ends : Apart inner q
 
--- the first byte, and the others
-text_split : (start inner : ℕ → Bool) (xs t : List ℕ) (i len : ℕ) → IsTextAt start inner xs i len t
-    → (take ((i + 1 + len) - i) (drop i xs) ≡ get_or xs i 0 ∷ take len t) × (start (get_or xs i 0) ≡ true)
-    × (drop i xs ≡ get_or xs i 0 ∷ t) × (drop len t ≡ drop (i + 1 + len) xs)
-text_split start inner xs t i len h =
-    let more : drop i xs ≡ get_or xs i 0 ∷ drop (i + 1) xs = drop_more xs i 0 (meets_within start xs i h.head) in
-    let split : drop i xs ≡ get_or xs i 0 ∷ t = more ∙ ap (λ (l : List ℕ). get_or xs i 0 ∷ l) (sym h.behind) in
-    let same : h.head.0 ∷ h.head.1 ≡ get_or xs i 0 ∷ t = sym h.head.2 ∙ split in
-    let head : h.head.0 ≡ get_or xs i 0 = cc in
-    let n : (i + 1 + len) - i ≡ suc len = omega arith in
-    (rw (n, split) refl, rw (← head) h.head.3, split, rw h.behind (drop-drop len (i + 1) xs))
+taken_text : (start inner : ℕ → Bool) (t bytes q : List ℕ) → (h : IsTaken start inner t bytes q)
+    → (t ≡ h.each.0 ∷ (h.each.1 ++ q)) × (start h.each.0 ≡ true)
+taken_text start inner t bytes q h =
+    let split : t ≡ h.each.0 ∷ (h.each.1 ++ q) = h.taken ∙ ap (λ (l : List ℕ). l ++ q) h.each.2 in
+    let same : h.head.0 ∷ h.head.1 ≡ h.each.0 ∷ (h.each.1 ++ q) = sym h.head.2 ∙ split in
+    let head : h.head.0 ≡ h.each.0 = cc in
+    (split, rw (← head) h.head.3)
 
-pub key_class : (xs t : List ℕ) (i len : ℕ) → IsTextAt is_key_start is_key_inner xs i len t
-    → IsTrue (is_key (take ((i + 1 + len) - i) (drop i xs)))
-key_class xs t i len h = let s = text_split _ _ xs t i len h in rw s.0 (and_from _ _ s.1 h.each)
+pub key_class : (t bytes q : List ℕ) → IsTaken is_key_start is_key_inner t bytes q → IsTrue (is_key bytes)
+key_class t bytes q h = let s = taken_text _ _ t bytes q h in rw h.each.2 (and_from _ _ s.1 h.each.3)
 
-pub key_some : (xs t : List ℕ) (i len : ℕ) → IsTextAt is_key_start is_key_inner xs i len t
-    → key_at (drop i xs) ≡ Ok (take ((i + 1 + len) - i) (drop i xs), drop (i + 1 + len) xs)
+pub key_some : (t bytes q : List ℕ) → IsTaken is_key_start is_key_inner t bytes q → key_at t ≡ Ok (bytes, q)
 unfolding key_at give
-key_some xs t i len h =
-    let s = text_split _ _ xs t i len h in
-    let all : key_at (get_or xs i 0 ∷ t) ≡ Ok (get_or xs i 0 ∷ take len t, drop len t) =
-    branch_take _ _ _ (get_or xs i 0) t s.1 ∙ bind_complete _ _ _ _ _ h.run in
-    ap key_at s.2 ∙ all ∙ ap (λ (r : List ℕ). Ok (get_or xs i 0 ∷ take len t, r)) s.3
-    ∙ ap (λ (l : List ℕ). Ok (l, drop (i + 1 + len) xs)) (sym s.0)
+key_some t bytes q h =
+    let s = taken_text _ _ t bytes q h in
+    ap key_at s.0 ∙ branch_take _ _ _ h.each.0 _ s.1
+    ∙ bind_complete _ _ _ _ _ (span_complete is_key_inner h.each.1 q h.each.3 h.ends)
+    ∙ ap (λ (l : List ℕ). Ok (l, q)) (sym h.each.2)
 
-pub token_class : (xs t : List ℕ) (i len : ℕ) → IsTextAt is_token_start is_token_inner xs i len t
-    → IsTrue (is_token (take ((i + 1 + len) - i) (drop i xs)))
-token_class xs t i len h = let s = text_split _ _ xs t i len h in rw s.0 (and_from _ _ s.1 h.each)
+pub token_class : (t bytes q : List ℕ) → IsTaken is_token_start is_token_inner t bytes q → IsTrue (is_token bytes)
+token_class t bytes q h = let s = taken_text _ _ t bytes q h in rw h.each.2 (and_from _ _ s.1 h.each.3)
 
-pub token_some : (xs t : List ℕ) (i len : ℕ) → IsTextAt is_token_start is_token_inner xs i len t
-    → token_at (drop i xs) ≡ Ok (token (take ((i + 1 + len) - i) (drop i xs)), drop (i + 1 + len) xs)
+pub token_some : (t bytes q : List ℕ) → IsTaken is_token_start is_token_inner t bytes q
+    → token_at t ≡ Ok (token bytes, q)
 unfolding token_at give
-token_some xs t i len h =
-    let s = text_split _ _ xs t i len h in
-    let all : token_at (get_or xs i 0 ∷ t) ≡ Ok (token (get_or xs i 0 ∷ take len t), drop len t) =
-    branch_take _ _ _ (get_or xs i 0) t s.1 ∙ bind_complete _ _ _ _ _ h.run in
-    ap token_at s.2 ∙ all ∙ ap (λ (r : List ℕ). Ok (token (get_or xs i 0 ∷ take len t), r)) s.3
-    ∙ ap (λ (l : List ℕ). Ok (token l, drop (i + 1 + len) xs)) (sym s.0)
+token_some t bytes q h =
+    let s = taken_text _ _ t bytes q h in
+    ap token_at s.0 ∙ branch_take _ _ _ h.each.0 _ s.1
+    ∙ bind_complete _ _ _ _ _ (span_complete is_token_inner h.each.1 q h.each.3 h.ends)
+    ∙ ap (λ (l : List ℕ). Ok (token l, q)) (sym h.each.2)
 
-pub ruleset key_steps = (meets_within, key_none)
+pub ruleset key_steps = (some_next, key_none)
 
-pub ruleset token_steps = (meets_within, token_none)
+pub ruleset token_steps = (some_next, token_none)
 
 -- ---- booleans
 
@@ -318,66 +307,78 @@ pub ruleset date_steps = date_older
 
 -- ---- bare items
 
-pub bare_boolean : (edition : Edition) (t r : List ℕ) → TakesIf (byte question_mark) true t r
+-- the byte that stands next, and what stands after it
+next_byte : (c : ℕ) (t : List ℕ) → (m : NextIs (byte c) true t) → t ≡ c ∷ m.1
+next_byte c t m = m.2 ∙ ap (λ (b : ℕ). b ∷ m.1) (eqb-true m.0 c m.3)
+
+pub passed : (c : ℕ) (t r : List ℕ) → NextIs (byte c) true t → Skips t r → t ≡ c ∷ r
+passed c t r m k =
+    let same : c ∷ m.1 ≡ k.0 ∷ r = sym (next_byte c t m) ∙ k.1 in
+    let after : m.1 ≡ r = cc in
+    next_byte c t m ∙ ap (λ (l : List ℕ). c ∷ l) after
+
+pub bare_boolean : (edition : Edition) (t r : List ℕ) → NextIs (byte question_mark) true t → Skips t r
     → bare_at edition t ≡ boolean_at r
+unfolding bare_at branch
+bare_boolean edition t r m k = ap (bare_at edition) (passed question_mark t r m k)
+
+pub bare_string : (edition : Edition) (t r : List ℕ) → NextIs (byte double_quote) true t → Skips t r
+    → bare_at edition t ≡ (string_at >>= λ s. give (string s)) r
+unfolding bare_at branch
+bare_string edition t r m k = ap (bare_at edition) (passed double_quote t r m k)
+
+pub bare_bytes : (edition : Edition) (t r : List ℕ) → NextIs (byte colon) true t → Skips t r
+    → bare_at edition t ≡ (bytes_at >>= λ s. give (byte_sequence s)) r
+unfolding bare_at branch
+bare_bytes edition t r m k = ap (bare_at edition) (passed colon t r m k)
+
+pub bare_date : (edition : Edition) (t : List ℕ) → NextIs (byte at_sign) true t → bare_at edition t ≡ date_at edition t
+unfolding bare_at branch ahead
+bare_date edition t m = let e = next_byte at_sign t m in ap (bare_at edition) e ∙ sym (ap (date_at edition) e)
+
+pub bare_quoted : (edition : Edition) (t : List ℕ) → NextIs (byte percent_sign) true t
+    → bare_at edition t ≡ quoted_at edition t
+unfolding bare_at branch ahead
+bare_quoted edition t m = let e = next_byte percent_sign t m in ap (bare_at edition) e ∙ sym (ap (quoted_at edition) e)
+
+-- a byte that a number begins with is none of the others
+no_opener : (b c : ℕ) → is_number_start b ≡ true → is_number_start c ≡ false → byte c b ≡ false
+no_opener b c h n = ne_eqb b c (λ e. both_ways (is_number_start b) (rw e n) h)
+
+pub bare_number : (edition : Edition) (t : List ℕ) → NextIs is_number_start true t
+    → bare_at edition t ≡ number_at false t
+unfolding bare_at branch ahead
+bare_number edition t m =
+    let all : bare_at edition (m.0 ∷ m.1) ≡ number_at false (m.0 ∷ m.1) = rw (
+      no_opener m.0 question_mark m.3 refl,
+      no_opener m.0 double_quote m.3 refl,
+      no_opener m.0 colon m.3 refl,
+      no_opener m.0 at_sign m.3 refl,
+      no_opener m.0 percent_sign m.3 refl,
+      m.3,
+    ) refl in
+    ap (bare_at edition) m.2 ∙ all ∙ sym (ap (number_at false) m.2)
+
+-- nothing stands next that opens another item than a token
+pub record NoOpener (t : List ℕ) : Type 0 where
+  pub no_number : Apart is_number_start t
+  pub no_string : Apart (byte double_quote) t
+  pub no_boolean : Apart (byte question_mark) t
+  pub no_bytes : Apart (byte colon) t
+  pub no_date : Apart (byte at_sign) t
+  pub no_quoted : Apart (byte percent_sign) t
+
+pub bare_token : (edition : Edition) (t : List ℕ) → NoOpener t → bare_at edition t ≡ token_at t
 unfolding bare_at
-bare_boolean edition t r m = branch_true _ _ _ t r m
-
-pub bare_string : (edition : Edition) (t r q : List ℕ) → TakesIf (byte question_mark) false t r
-    → TakesIf (byte double_quote) true r q → bare_at edition t ≡ (string_at >>= λ s. give (string s)) q
-unfolding bare_at
-bare_string edition t r q m k = branch_false _ _ _ t r m ∙ branch_true _ _ _ r q k
-
--- none of the first three openers stands next
-pub record NoOpener (t r q w : List ℕ) : Type 0 where
-  pub no_boolean : TakesIf (byte question_mark) false t r
-  pub no_string : TakesIf (byte double_quote) false r q
-  pub no_bytes : TakesIf (byte colon) false q w
-
-pub bare_bytes : (edition : Edition) (t r q w : List ℕ) → TakesIf (byte question_mark) false t r
-    → TakesIf (byte double_quote) false r q → TakesIf (byte colon) true q w
-    → bare_at edition t ≡ (bytes_at >>= λ s. give (byte_sequence s)) w
-unfolding bare_at
-bare_bytes edition t r q w m k n = branch_false _ _ _ t r m ∙ branch_false _ _ _ r q k ∙ branch_true _ _ _ q w n
-
-others : (edition : Edition) → Reader BareValue
-others edition = ahead (byte at_sign) (date_at edition)
-    (ahead (byte percent_sign) (quoted_at edition) (ahead is_number_start (number_at false) token_at))
-
-bare_others : (edition : Edition) (t r q w : List ℕ) → NoOpener t r q w → bare_at edition t ≡ others edition w
-unfolding bare_at others
-bare_others edition t r q w h = branch_false _ _ _ t r h.no_boolean ∙ branch_false _ _ _ r q h.no_string
-    ∙ branch_false _ _ _ q w h.no_bytes
-
-pub bare_date : (edition : Edition) (t r q w : List ℕ) → NoOpener t r q w → NextIs (byte at_sign) true w
-    → bare_at edition t ≡ date_at edition w
-unfolding others
-bare_date edition t r q w h m = bare_others edition t r q w h ∙ ahead_true _ _ _ w m
-
-pub bare_quoted : (edition : Edition) (t r q w : List ℕ) → NoOpener t r q w → Apart (byte at_sign) w
-    → NextIs (byte percent_sign) true w → bare_at edition t ≡ quoted_at edition w
-unfolding others
-bare_quoted edition t r q w h m k = bare_others edition t r q w h ∙ ahead_past _ _ _ w m ∙ ahead_true _ _ _ w k
-
-pub bare_number : (edition : Edition) (t r q w : List ℕ) → NoOpener t r q w → Apart (byte at_sign) w
-    → Apart (byte percent_sign) w → NextIs is_number_start true w → bare_at edition t ≡ number_at false w
-unfolding others
-bare_number edition t r q w h m k n = bare_others edition t r q w h ∙ ahead_past _ _ _ w m ∙ ahead_past _ _ _ w k
-    ∙ ahead_true _ _ _ w n
-
-pub bare_token : (edition : Edition) (t r q w : List ℕ) → NoOpener t r q w → Apart (byte at_sign) w
-    → Apart (byte percent_sign) w → Apart is_number_start w → bare_at edition t ≡ token_at w
-unfolding others
-bare_token edition t r q w h m k n = bare_others edition t r q w h ∙ ahead_past _ _ _ w m ∙ ahead_past _ _ _ w k
-    ∙ ahead_past _ _ _ w n
+bare_token edition t h = branch_past _ _ _ t h.no_boolean ∙ branch_past _ _ _ t h.no_string
+    ∙ branch_past _ _ _ t h.no_bytes ∙ ahead_past _ _ _ t h.no_date ∙ ahead_past _ _ _ t h.no_quoted
+    ∙ ahead_past _ _ _ t h.no_number
 
 -- what is read of a part and then given on
 pub given : {A B : Type 0} (f : Reader A) (view : A → B) (t r : List ℕ) (v : A) → f t ≡ Ok (v, r)
     → (f >>= λ s. give (view s)) t ≡ Ok (view v, r)
 unfolding give
 given f view t r v e = bind_complete f _ t r v e
-
-pub ruleset bare_steps = bare_boolean
 
 -- ---- parameters
 

@@ -1,12 +1,12 @@
 //! Reading bare items (RFC 9651, sections 4.2.3.1 and 4.2.5 to 4.2.10).
 
 ghost use Rattle.std.specs.Prelude.{◌≡◌, ◌↔◌, Bool, true, IfOk, IsTrue};
-ghost use Rattle.sfv_spec.specs.Ascii.{percent_sign, at_sign};
+ghost use Rattle.sfv_spec.specs.Ascii.{double_quote, percent_sign, colon, question_mark, at_sign};
 ghost use Rattle.sfv_spec.specs.Values.{rfc9651, boolean, date};
 ghost use Rattle.sfv_base.specs.Numbers.{seconds_of};
 ghost use Rattle.sfv_bare.specs.BareItems.{input_value};
 ghost use Rattle.sfv_reading.specs.Reader.{byte};
-ghost use Rattle.sfv_reading.specs.Bare.{is_number_start, boolean_at, date_at, quoted_at, bare_at};
+ghost use Rattle.sfv_reading.specs.Bare.{is_number_start, boolean_at, date_at, quoted_at, token_at, bare_at};
 ghost use Rattle.sfv.specs.Cursor.{edition, rest, Reads, ReadsOrOutOfMemory, NextIs};
 ghost use Rattle.sfv.specs.Quoted.{HasNoMarkInside, IsBorrowedUnlessEscaped};
 ghost use Rattle.sfv.specs.Texts.{display_value_of, is_borrowed_text};
@@ -88,44 +88,117 @@ impl<'de> Cursor<'de> {
         self.display_text()
     }
 
+    /// Takes a boolean as a bare item.
+    #[inline(never)]
+    fn boolean_item(&mut self) -> Result<BareItemFromInput<'de>, Error>
+        requires { NextIs (byte question_mark) true (rest self.old) }
+        ensures read { ReadsOrOutOfMemory input_value self.old self.new result (bare_at (edition self.old)) }
+        ensures borrowed { IfOk result (λ item. IsBorrowedUnlessEscaped item self.old self.new) }
+    {
+        self.skip();
+        Ok(GenericBareItem::Boolean(self.boolean()?))
+    }
+
+    /// Takes a string as a bare item.
+    #[inline(never)]
+    fn string_item(&mut self) -> Result<BareItemFromInput<'de>, Error>
+        requires { NextIs (byte double_quote) true (rest self.old) }
+        ensures read { ReadsOrOutOfMemory input_value self.old self.new result (bare_at (edition self.old)) }
+        ensures borrowed { IfOk result (λ item. IsBorrowedUnlessEscaped item self.old self.new) }
+    {
+        self.skip();
+        Ok(GenericBareItem::String(self.string()?))
+    }
+
+    /// Takes a byte sequence as a bare item.
+    #[inline(never)]
+    fn byte_sequence_item(&mut self) -> Result<BareItemFromInput<'de>, Error>
+        requires { NextIs (byte colon) true (rest self.old) }
+        ensures read { ReadsOrOutOfMemory input_value self.old self.new result (bare_at (edition self.old)) }
+        ensures borrowed { IfOk result (λ item. IsBorrowedUnlessEscaped item self.old self.new) }
+    {
+        self.skip();
+        Ok(GenericBareItem::ByteSequence(self.byte_sequence()?))
+    }
+
+    /// Takes a date as a bare item.
+    #[inline(never)]
+    fn date_item(&mut self) -> Result<BareItemFromInput<'de>, Error>
+        requires { NextIs (byte at_sign) true (rest self.old) }
+        ensures read { ReadsOrOutOfMemory input_value self.old self.new result (bare_at (edition self.old)) }
+        ensures borrowed { IfOk result (λ item. IsBorrowedUnlessEscaped item self.old self.new) }
+    {
+        Ok(GenericBareItem::Date(self.date()?))
+    }
+
+    /// Takes a display string as a bare item.
+    #[inline(never)]
+    fn display_string_item(&mut self) -> Result<BareItemFromInput<'de>, Error>
+        requires { NextIs (byte percent_sign) true (rest self.old) }
+        ensures read { ReadsOrOutOfMemory input_value self.old self.new result (bare_at (edition self.old)) }
+        ensures borrowed { IfOk result (λ item. IsBorrowedUnlessEscaped item self.old self.new) }
+    {
+        Ok(GenericBareItem::DisplayString(self.display_string()?))
+    }
+
+    /// Takes a number as a bare item.
+    #[inline(never)]
+    fn number_item(&mut self) -> Result<BareItemFromInput<'de>, Error>
+        requires { NextIs is_number_start true (rest self.old) }
+        ensures read { ReadsOrOutOfMemory input_value self.old self.new result (bare_at (edition self.old)) }
+        ensures borrowed { IfOk result (λ item. IsBorrowedUnlessEscaped item self.old self.new) }
+    {
+        Ok(match self.number()? {
+            Number::Integer(value) => GenericBareItem::Integer(value),
+            Number::Decimal(value) => GenericBareItem::Decimal(value),
+        })
+    }
+
+    /// Takes a token as a bare item.
+    #[inline(never)]
+    fn token_item(&mut self) -> Result<BareItemFromInput<'de>, Error>
+        requires { bare_at (edition self.old) (rest self.old) ≡ token_at (rest self.old) }
+        ensures read { ReadsOrOutOfMemory input_value self.old self.new result (bare_at (edition self.old)) }
+        ensures borrowed { IfOk result (λ item. IsBorrowedUnlessEscaped item self.old self.new) }
+    {
+        Ok(GenericBareItem::Token(self.token()?))
+    }
+
     /// Whether a byte stands next that a number may begin with.
+    #[inline(always)]
     fn next_is_number_start(&self) -> bool
         ensures { NextIs is_number_start result (rest self.now) }
     {
-        match self.peek() {
-            Some(byte) => is_digit_byte(byte) || byte == b'-',
-            None => false,
-        }
+        self.peek()
+            .is_some_and(|byte| is_digit_byte(byte) || byte == b'-')
     }
 
     /// Takes a bare item. Its first byte decides of which kind it is. A string or a display string is a slice of the
     /// input if it has no escape.
-    #[tactic(auto, using(crate::proofs::reads::Steps::bare_steps))]
+    #[inline(always)]
     pub(crate) fn bare_item(&mut self) -> Result<BareItemFromInput<'de>, Error>
         ensures read { ReadsOrOutOfMemory input_value self.old self.new result (bare_at (edition self.old)) }
         ensures borrowed { IfOk result (λ item. IsBorrowedUnlessEscaped item self.old self.new) }
     {
-        if self.take_if(b'?') {
-            return Ok(GenericBareItem::Boolean(self.boolean()?));
+        // Each kind is taken by a function of its own, so that none pays for the room that the others need.
+        if self.next_is_number_start() {
+            return self.number_item();
         }
-        if self.take_if(b'"') {
-            return Ok(GenericBareItem::String(self.string()?));
+        if self.next_is(b'"') {
+            return self.string_item();
         }
-        if self.take_if(b':') {
-            return Ok(GenericBareItem::ByteSequence(self.byte_sequence()?));
+        if self.next_is(b'?') {
+            return self.boolean_item();
+        }
+        if self.next_is(b':') {
+            return self.byte_sequence_item();
         }
         if self.next_is(b'@') {
-            return Ok(GenericBareItem::Date(self.date()?));
+            return self.date_item();
         }
         if self.next_is(b'%') {
-            return Ok(GenericBareItem::DisplayString(self.display_string()?));
+            return self.display_string_item();
         }
-        if self.next_is_number_start() {
-            return Ok(match self.number()? {
-                Number::Integer(value) => GenericBareItem::Integer(value),
-                Number::Decimal(value) => GenericBareItem::Decimal(value),
-            });
-        }
-        Ok(GenericBareItem::Token(self.token()?))
+        self.token_item()
     }
 }

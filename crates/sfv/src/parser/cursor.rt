@@ -1,15 +1,16 @@
 //! Where a reading stands in its input, and its steps: looking at the next byte, and taking it.
 
-ghost use Rattle.std.specs.Prelude.{◌≡◌, ◌≤◌, ◌+◌, ◌++◌, ℕ, Bool, true, false, List, length, Some, Ok};
+ghost use Rattle.std.specs.Prelude.{◌≡◌, ◌≤◌, ◌+◌, ◌++◌, ℕ, Bool, true, false, List, ◌∷◌, length, Some, Ok};
 ghost use Rattle.sfv_spec.specs.Texts.{RunOf};
 ghost use Rattle.sfv_spec.specs.Classes.{is_digit, is_space, is_space_or_tab};
 ghost use Rattle.sfv_base.specs.Errors.{error_of};
 ghost use Rattle.sfv_reading.specs.Reader.{Apart, first, byte, up_to, span};
+ghost use Rattle.sfv.specs.Digits.{Spells};
 
 use crate::parser::Parser;
-use crate::parser::runs::{digit_run, is_digit_byte};
+use crate::parser::runs::{Digits, digit_run, is_digit_byte};
 use sfv_base::error::{Error, ErrorKind};
-use sfv_base::runs::{RunClass, Space, SpaceOrTab, run_end_from};
+use sfv_base::runs::{RunClass, run_end_from};
 use std::alloc::Global;
 
 /// Reads the input of a parser from left to right.
@@ -38,6 +39,7 @@ impl<'de> Cursor<'de> {
     }
 
     /// The next byte.
+    #[inline(always)]
     pub(super) fn peek(&self) -> Option<u8>
         ensures { result ≡ first (rest self.now) }
     {
@@ -45,6 +47,7 @@ impl<'de> Cursor<'de> {
     }
 
     /// Passes the next byte.
+    #[inline(always)]
     pub(super) fn skip(&mut self)
         requires { 1 ≤ length (rest self.old) }
         ensures skips { Skips (rest self.old) (rest self.new) }
@@ -63,6 +66,7 @@ impl<'de> Cursor<'de> {
     }
 
     /// Whether this byte stands next.
+    #[inline(always)]
     pub(super) fn next_is(&self, wanted: u8) -> bool
         ensures { NextIs (byte wanted) result (rest self.now) }
     {
@@ -70,16 +74,15 @@ impl<'de> Cursor<'de> {
     }
 
     /// Whether a digit stands next.
+    #[inline(always)]
     pub(super) fn next_is_digit(&self) -> bool
         ensures { NextIs is_digit result (rest self.now) }
     {
-        match self.peek() {
-            Some(byte) => is_digit_byte(byte),
-            None => false,
-        }
+        self.peek().is_some_and(is_digit_byte)
     }
 
     /// Takes the next byte, if it is this one.
+    #[inline(always)]
     pub(super) fn take_if(&mut self, wanted: u8) -> bool
         ensures takes { TakesIf (byte wanted) result (rest self.old) (rest self.new) }
         ensures kept { kept self.new ≡ kept self.old }
@@ -92,19 +95,20 @@ impl<'de> Cursor<'de> {
     }
 
     /// Takes digits, up to `most`.
-    pub(super) fn digits(&mut self, most: usize) -> &'de [u8]
-        ensures each { RunOf is_digit result.now }
-        ensures most { length result.now ≤ most }
-        ensures digits { up_to is_digit most (rest self.old) ≡ Ok (result.now, rest self.new) }
+    #[inline(always)]
+    pub(super) fn digits(&mut self, most: usize) -> Digits
+        requires { most ≤ 15 }
+        ensures most { result.count ≤ most }
+        ensures digits { (ds : List ℕ) × Spells ds result × (up_to is_digit most (rest self.old) ≡ Ok (ds, rest self.new)) }
         ensures kept { kept self.new ≡ kept self.old }
     {
-        let len = digit_run(&self.parser.input[self.index..], most);
-        let start = self.index;
-        self.index += len;
-        &self.parser.input[start..self.index]
+        let digits = digit_run(&self.parser.input[self.index..], most);
+        self.index += digits.count;
+        digits
     }
 
     /// Takes the bytes of the class that stand next.
+    #[inline(always)]
     pub(super) fn run<C: RunClass>(&mut self) -> &'de [u8]
         ensures each { RunOf C.class result.now }
         ensures taken { rest self.old ≡ result.now ++ rest self.new }
@@ -116,19 +120,36 @@ impl<'de> Cursor<'de> {
         &self.parser.input[start..self.index]
     }
 
+    /// Takes the next byte, and the bytes of the class that stand after it.
+    #[inline(always)]
+    pub(super) fn byte_and_run<C: RunClass>(&mut self) -> &'de [u8]
+        requires { 1 ≤ length (rest self.old) }
+        ensures each { (b : ℕ) × (s : List ℕ) × (result.now ≡ b ∷ s) × RunOf C.class s }
+        ensures taken { rest self.old ≡ result.now ++ rest self.new }
+        ensures ends { Apart C.class (rest self.new) }
+        ensures kept { kept self.new ≡ kept self.old }
+    {
+        let start = self.index;
+        self.skip();
+        self.run::<C>();
+        &self.parser.input[start..self.index]
+    }
+
     /// Takes spaces.
+    #[inline(always)]
     pub(super) fn skip_sp(&mut self)
         ensures skipped { (s : List ℕ) × (span is_space (rest self.old) ≡ Ok (s, rest self.new)) }
         ensures kept { kept self.new ≡ kept self.old }
     {
-        self.run::<Space>();
+        while self.take_if(b' ') {}
     }
 
     /// Takes spaces and tabs.
+    #[inline(always)]
     pub(super) fn skip_ows(&mut self)
         ensures skipped { (s : List ℕ) × (span is_space_or_tab (rest self.old) ≡ Ok (s, rest self.new)) }
         ensures kept { kept self.new ≡ kept self.old }
     {
-        self.run::<SpaceOrTab>();
+        while self.take_if(b' ') || self.take_if(b'\t') {}
     }
 }

@@ -36,6 +36,7 @@ pub(crate) fn visit<'de, V: Visitor<'de>>(
 }
 
 /// Returns what the visitor makes of the events, or fails with its error.
+#[inline(always)]
 pub(crate) fn finish<'de, V: Visitor<'de>>(visitor: V) -> Result<V::Out, ParseError<V::Error>>
     requires { V.is_ready visitor }
     ensures answered { IfOk result (V.finishes visitor) }
@@ -73,8 +74,9 @@ impl<'de> Cursor<'de> {
         Ok(Some(ReadParameter { key, value }))
     }
 
-    /// Takes parameters, and visits each of them and their end.
-    pub(crate) fn parameters<V: Visitor<'de>>(
+    /// Takes parameters, be there any or none, and visits each of them and their end.
+    #[inline(never)]
+    fn some_parameters<V: Visitor<'de>>(
         &mut self,
         visitor: &mut V,
     ) -> Result<(), ParseError<V::Error>>
@@ -89,7 +91,26 @@ impl<'de> Cursor<'de> {
         visit(visitor, Event::ParametersEnd)
     }
 
+    /// Takes parameters, and visits each of them and their end.
+    #[inline(always)]
+    pub(crate) fn parameters<V: Visitor<'de>>(
+        &mut self,
+        visitor: &mut V,
+    ) -> Result<(), ParseError<V::Error>>
+        requires { V.is_ready visitor.old }
+        ensures ready { OnOk result (V.is_ready visitor.new) }
+        ensures visited { Visits V.takes V.fails parameters_events self.old self.new visitor.old visitor.new
+            result parameters_at }
+    {
+        // Most items have none: they shouldn't pay for the room that the others need.
+        if !self.next_is(b';') {
+            return visit(visitor, Event::ParametersEnd);
+        }
+        self.some_parameters(visitor)
+    }
+
     /// Takes an item, and visits its parts.
+    #[inline(always)]
     pub(crate) fn item<V: Visitor<'de>>(
         &mut self,
         visitor: &mut V,

@@ -7,7 +7,7 @@ ghost use Rattle.sfv.specs.Cursor.{rest, Reads, NextIs};
 
 use crate::parser::cursor::Cursor;
 use sfv_base::error::{Error, ErrorKind};
-use sfv_base::runs::{InnerKey, run_end};
+use sfv_base::runs::InnerKey;
 use sfv_base::utils::is_allowed_start_key_char;
 use sfv_text::key_ref::KeyRef;
 
@@ -16,10 +16,7 @@ impl<'de> Cursor<'de> {
     fn next_is_key_start(&self) -> bool
         ensures { NextIs is_key_start result (rest self.now) }
     {
-        match self.peek() {
-            Some(byte) => is_allowed_start_key_char(byte),
-            None => false,
-        }
+        self.peek().is_some_and(is_allowed_start_key_char)
     }
 
     /// Takes a key.
@@ -30,10 +27,9 @@ impl<'de> Cursor<'de> {
         if !self.next_is_key_start() {
             return Err(self.error(ErrorKind::ExpectedStartOfKey));
         }
-        let start = self.index;
-        let len = run_end::<InnerKey>(&self.parser.input[start + 1..]);
-        self.index = start + 1 + len;
-        let text = unsafe { std::str::from_utf8_unchecked(&self.parser.input[start..self.index]) };
+        // The bytes of a key are ASCII, so they are a text as they stand.
+        let bytes = self.byte_and_run::<InnerKey>();
+        let text = unsafe { std::str::from_utf8_unchecked(bytes) };
         Ok(KeyRef::constant(text))
     }
 }

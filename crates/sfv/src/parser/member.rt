@@ -28,6 +28,7 @@ impl<'de> Cursor<'de> {
 
     /// Takes the spaces between two items of an inner list, or its closing parenthesis. Returns whether an item is
     /// wanted.
+    #[inline(always)]
     fn consume_item_delimiter(&mut self) -> Result<bool, Error>
         ensures { Reads (λ wants. wants) self.old self.new result item_delimiter_at }
     {
@@ -68,6 +69,7 @@ impl<'de> Cursor<'de> {
     }
 
     /// Takes an inner list after its opening parenthesis, and its parameters. Visits its parts.
+    #[inline(never)]
     fn inner_list<V: Visitor<'de>>(&mut self, visitor: &mut V) -> Result<(), ParseError<V::Error>>
         requires { V.is_ready visitor.old }
         ensures ready { OnOk result (V.is_ready visitor.new) }
@@ -80,6 +82,7 @@ impl<'de> Cursor<'de> {
     }
 
     /// Takes a member of a list or a dictionary, and visits its parts.
+    #[inline(always)]
     pub(crate) fn member<V: Visitor<'de>>(
         &mut self,
         visitor: &mut V,
@@ -91,15 +94,15 @@ impl<'de> Cursor<'de> {
     {
         if self.take_if(b'(') {
             visit(visitor, Event::InnerList)?;
-            self.inner_list(visitor)
-        } else {
-            visit(visitor, Event::Item)?;
-            self.item(visitor)
+            return self.inner_list(visitor);
         }
+        visit(visitor, Event::Item)?;
+        self.item(visitor)
     }
 
     /// Takes the comma between two members, with the spaces and tabs around it. Returns whether a member is wanted, and
     /// not the end of the input.
+    #[inline(always)]
     fn consume_comma(&mut self) -> Result<bool, Error>
         ensures { Reads (λ wants. wants) self.old self.new result member_delimiter_at }
     {
@@ -121,6 +124,7 @@ impl<'de> Cursor<'de> {
 
     /// Takes what stands after the key of a member of a dictionary, and visits its parts. Without `=` it is the item
     /// true.
+    #[inline(always)]
     fn member_value<V: Visitor<'de>>(&mut self, visitor: &mut V) -> Result<(), ParseError<V::Error>>
         requires { V.is_ready visitor.old }
         ensures ready { OnOk result (V.is_ready visitor.new) }
@@ -178,6 +182,7 @@ pub(super) struct Entry;
 impl<'de, V: Visitor<'de>> Member<'de, V> for Entry {
     ghost keyed = { false };
 
+    #[inline(always)]
     fn consume(cursor: &mut Cursor<'de>, visitor: &mut V) -> Result<(), ParseError<V::Error>> {
         visit(visitor, Event::Entry)?;
         cursor.member(visitor)
@@ -190,6 +195,7 @@ pub(super) struct KeyedEntry;
 impl<'de, V: Visitor<'de>> Member<'de, V> for KeyedEntry {
     ghost keyed = { true };
 
+    #[inline(always)]
     fn consume(cursor: &mut Cursor<'de>, visitor: &mut V) -> Result<(), ParseError<V::Error>> {
         let key = cursor.key()?;
         visit(visitor, Event::KeyedEntry(key))?;

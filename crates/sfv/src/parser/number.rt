@@ -1,18 +1,17 @@
 //! Reading numbers (RFC 9651, section 4.2.4).
 
-ghost use Rattle.std.specs.Prelude.{◌≡◌, ◌≤◌, ◌<◌, ◌^◌, Bool, true, length, Ok};
+ghost use Rattle.std.specs.Prelude.{◌≡◌, ◌≤◌, ◌<◌, ◌^◌, ℕ, Bool, true, List, Ok};
 ghost use Rattle.sfv_spec.specs.Ascii.{dot};
-ghost use Rattle.sfv_spec.specs.Texts.{RunOf};
-ghost use Rattle.sfv_spec.specs.Classes.{is_digit};
 ghost use Rattle.sfv_spec.specs.Numbers.{signed as with_sign};
 ghost use Rattle.sfv_base.specs.Numbers.{integer_of};
 ghost use Rattle.sfv_reading.specs.Reader.{byte};
 ghost use Rattle.sfv_reading.specs.Bare.{sign_at, point_at, whole_at, number_at};
 ghost use Rattle.sfv.specs.Cursor.{kept, rest, Reads, NextIs};
+ghost use Rattle.sfv.specs.Digits.{Spells};
 ghost use Rattle.sfv.specs.Numbers.{number_value_of};
 
 use crate::parser::cursor::Cursor;
-use crate::parser::runs::{number_value, thousandths};
+use crate::parser::runs::{Digits, thousandths};
 use sfv_base::decimal::Decimal;
 use sfv_base::error::{Error, ErrorKind};
 use sfv_base::integer::Integer;
@@ -44,6 +43,7 @@ impl Cursor<'_> {
     }
 
     /// Takes a number, by itself or as the seconds of a date.
+    #[inline(always)]
     #[tactic(auto, using(crate::proofs::reads::Steps::number_steps))]
     pub(crate) fn number(&mut self) -> Result<Number, Error>
         ensures { (dated : Bool) → Reads number_value_of self.old self.new result (number_at dated) }
@@ -54,22 +54,24 @@ impl Cursor<'_> {
     }
 
     /// Takes what stands after the whole part of a number.
+    #[inline(always)]
     #[tactic(auto, using(crate::proofs::reads::Steps::whole_steps))]
-    fn behind_whole(&mut self, negative: bool, whole: &[u8]) -> Result<Number, Error>
-        requires each { RunOf is_digit whole.now }
-        requires most { length whole.now ≤ 15 }
-        ensures { (dated : Bool) → Reads number_value_of self.old self.new result (whole_at dated negative whole.now) }
+    fn behind_whole(&mut self, negative: bool, whole: Digits) -> Result<Number, Error>
+        requires most { whole.count ≤ 15 }
+        requires spells { (ds : List ℕ) × Spells ds whole }
+        ensures { (dated : Bool) (ds : List ℕ) → Spells ds whole →
+            Reads number_value_of self.old self.new result (whole_at dated negative ds) }
     {
-        if whole.is_empty() {
+        if whole.count == 0 {
             return Err(self.error(ErrorKind::ExpectedDigit));
         }
         if self.next_is_digit() {
             return Err(self.error(ErrorKind::TooManyDigits));
         }
         if !self.next_is(b'.') {
-            return Ok(Number::Integer(signed(negative, number_value(whole))));
+            return Ok(Number::Integer(signed(negative, whole.value)));
         }
-        if whole.len() > 12 {
+        if whole.count > 12 {
             return Err(self.error(ErrorKind::TooManyDigitsBeforeDecimalPoint));
         }
         self.fraction(negative, whole)
@@ -77,22 +79,23 @@ impl Cursor<'_> {
 
     /// Takes the point and the fraction of a decimal.
     #[tactic(auto, using(crate::proofs::reads::Steps::point_steps))]
-    fn fraction(&mut self, negative: bool, whole: &[u8]) -> Result<Number, Error>
-        requires each { RunOf is_digit whole.now }
-        requires most { length whole.now ≤ 12 }
+    fn fraction(&mut self, negative: bool, whole: Digits) -> Result<Number, Error>
+        requires most { whole.count ≤ 12 }
+        requires spells { (ds : List ℕ) × Spells ds whole }
         requires point { NextIs (byte dot) true (rest self.old) }
-        ensures { (dated : Bool) → Reads number_value_of self.old self.new result (point_at dated negative whole.now) }
+        ensures { (dated : Bool) (ds : List ℕ) → Spells ds whole →
+            Reads number_value_of self.old self.new result (point_at dated negative ds) }
     {
         let point = self.index;
         self.skip();
         let fraction = self.digits(3);
-        if fraction.is_empty() {
+        if fraction.count == 0 {
             return Err(Error::at(ErrorKind::TrailingDecimalPoint, point));
         }
         if self.next_is_digit() {
             return Err(self.error(ErrorKind::TooManyDigitsAfterDecimalPoint));
         }
-        let magnitude = number_value(whole) * 1000 + thousandths(fraction);
+        let magnitude = whole.value * 1000 + thousandths(fraction);
         Ok(Number::Decimal(Decimal::from_integer_scaled_1000(signed(negative, magnitude))))
     }
 }

@@ -57,18 +57,22 @@ impl<'de> Cursor<'de> {
 
     /// Takes the rest of a quoted text after the bytes `plain`, with its closing quote. Returns the bytes of both.
     fn unescaped<Q: QuotedText>(&mut self, plain: &[u8]) -> Result<Vec<u8>, Error>
-        requires { Apart (plain_of Q.display) (rest self.old) }
         ensures { ReadsOrOutOfMemory vec_bytes self.old self.new result
             (λ t. behind_bytes plain.now (inside Q.display t)) }
     {
         let mut bytes = Vec::from_slice(self.alloc, plain)?;
         while !self.take_if(b'"') {
-            if !self.take_if(Q::mark()) {
-                return Err(self.stop::<Q>());
+            // One escape often follows another: a run is looked for only where none stands.
+            if self.take_if(Q::mark()) {
+                let byte = Q::escaped(self)?;
+                bytes.push(byte)?;
+            } else {
+                let run = Q::plain(self);
+                if run.is_empty() {
+                    return Err(self.stop::<Q>());
+                }
+                bytes.extend_from_slice(run)?;
             }
-            let byte = Q::escaped(self)?;
-            bytes.push(byte)?;
-            bytes.extend_from_slice(Q::plain(self))?;
         }
         Ok(bytes)
     }

@@ -8,7 +8,7 @@ ghost use Rattle.sfv.specs.Cursor.{rest, Reads, NextIs};
 
 use crate::parser::cursor::Cursor;
 use sfv_base::error::{Error, ErrorKind};
-use sfv_base::runs::{InnerToken, run_end};
+use sfv_base::runs::InnerToken;
 use sfv_base::utils::is_allowed_start_token_char;
 use sfv_text::token_ref::TokenRef;
 
@@ -17,10 +17,7 @@ impl<'de> Cursor<'de> {
     fn next_is_token_start(&self) -> bool
         ensures { NextIs is_token_start result (rest self.now) }
     {
-        match self.peek() {
-            Some(byte) => is_allowed_start_token_char(byte),
-            None => false,
-        }
+        self.peek().is_some_and(is_allowed_start_token_char)
     }
 
     /// Takes a token.
@@ -31,10 +28,9 @@ impl<'de> Cursor<'de> {
         if !self.next_is_token_start() {
             return Err(self.error(ErrorKind::ExpectedStartOfBareItem));
         }
-        let start = self.index;
-        let len = run_end::<InnerToken>(&self.parser.input[start + 1..]);
-        self.index = start + 1 + len;
-        let text = unsafe { std::str::from_utf8_unchecked(&self.parser.input[start..self.index]) };
+        // The bytes of a token are ASCII, so they are a text as they stand.
+        let bytes = self.byte_and_run::<InnerToken>();
+        let text = unsafe { std::str::from_utf8_unchecked(bytes) };
         Ok(TokenRef::constant(text))
     }
 }

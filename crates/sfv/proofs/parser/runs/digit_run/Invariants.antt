@@ -1,10 +1,10 @@
 use Rattle.std.proofs.Common.{◌-◌, ◌≤◌, length, take}
-use Rattle.sfv_spec.specs.Texts.{RunOf}
-use Rattle.sfv_spec.specs.Classes.{is_digit}
+use Rattle.sfv.specs.Digits.{Spells}
 use Rattle.sfv.proofs.parser.runs.digit_run.Given as goal
 
 abbrev pub invariant-loop-count : goal.invariant-loop-count
-invariant-loop-count l = (l.count ≤ l.most) × (l.count ≤ length l.bytes) × RunOf is_digit (take l.count l.bytes)
+invariant-loop-count l = (l.count ≤ l.most) × (l.count ≤ length l.bytes)
+    × Spells (take l.count l.bytes) (record { count = l.count; value = l.value })
 
 abbrev pub decreases-loop-count : goal.decreases-loop-count
 decreases-loop-count l = l.most - l.count

@@ -15,8 +15,8 @@ returns-in_err-visit-clause-visited g c =
     c.visit.new.visitor (kept c.args.self.now) c.take_if.new.self _ c.if-take_if.ensures.takes
     c.in_err-visit.ensures.failed)
 
-pub returns-in_ok-visit-clause-visited : goal.returns-in_ok-visit-clause-visited
-returns-in_ok-visit-clause-visited g c =
+pub returns-then-take_if-clause-visited : goal.returns-then-take_if-clause-visited
+returns-then-take_if-clause-visited g c =
     list_member_visits g.V.Visitor.takes g.V.Visitor.fails (edition c.args.self.now) _ _ _ _ c.inner_list.new.visitor _
     c.inner_list.new.self c.inner_list.result c.if-take_if.ensures.takes c.in_ok-visit.ensures.taken
     (kept_visits g.V.Visitor.takes g.V.Visitor.fails behind_begin inner_at c.take_if.new.self c.inner_list.new.self
@@ -26,12 +26,12 @@ pub returns-in_err-visit-2-clause-visited : goal.returns-in_err-visit-2-clause-v
 returns-in_err-visit-2-clause-visited g c =
     let p = err_from_is_err_and c.from_residual-in_err-visit-2.result c.from_residual-in_err-visit-2.ensures.1 in
     rw (p.1, p.2) (item_begin_fails g.V.Visitor.takes g.V.Visitor.fails (edition c.args.self.now) _ _ _
-    c.visit-else-take_if.new.visitor (kept c.args.self.now) c.take_if.new.self _ c.if-take_if.ensures.takes
+    c.visit-2.new.visitor (kept c.args.self.now) c.take_if.new.self _ c.if-take_if.ensures.takes
     c.in_err-visit-2.ensures.failed)
 
-pub returns-in_ok-visit-2-clause-visited : goal.returns-in_ok-visit-2-clause-visited
-returns-in_ok-visit-2-clause-visited g c =
+pub returns-clause-visited : goal.returns-clause-visited
+returns-clause-visited g c =
     item_member_visits g.V.Visitor.takes g.V.Visitor.fails (edition c.args.self.now) _ _ _ _ c.item.new.visitor _
     c.item.new.self c.item.result c.if-take_if.ensures.takes c.in_ok-visit-2.ensures.taken
     (kept_visits g.V.Visitor.takes g.V.Visitor.fails item_events item_at c.take_if.new.self c.item.new.self
-    c.visit-else-take_if.new.visitor c.item.new.visitor _ _ c.take_if.ensures.kept c.item.ensures.visited)
+    c.visit-2.new.visitor c.item.new.visitor _ _ c.take_if.ensures.kept c.item.ensures.visited)

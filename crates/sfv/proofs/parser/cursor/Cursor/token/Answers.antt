@@ -1,53 +1,30 @@
-use Rattle.std.proofs.Common.{ℕ, ◌+◌, ◌-◌, List, take, drop, length, refl}
-use Rattle.std.proofs.lemmas.List.{take_rest}
-use Rattle.sfv_spec.specs.Classes.{is_token_start, is_token_inner}
 use Rattle.sfv_text.proofs.Ascii.{token_utf8}
-use Rattle.sfv.proofs.reads.Runs.{span_run}
-use Rattle.sfv.proofs.reads.Steps.{IsTextAt, token_some, token_class}
+use Rattle.sfv.proofs.reads.Steps.{token_some, token_class}
 use Rattle.sfv.proofs.parser.cursor.Cursor.token.Goals as goal
 
--- the bytes after the first
-abbrev behind : List ℕ → ℕ → List ℕ
-behind xs i = take (length xs - (i + 1)) (drop (i + 1) xs)
-
 pub from_utf8_unchecked-text-requires : goal.from_utf8_unchecked-text-requires
-from_utf8_unchecked-text-requires c =
-    let input = c.args.self.now.parser.input.now in
-    let i = c.args.self.now.index in
-    let read : IsTextAt is_token_start is_token_inner input i c.run_end-len.result (behind input i) =
-    record {
-      head = c.if-not-next_is_token_start.ensures;
-      behind = take_rest input (i + 1);
-      each = c.run_end-len.ensures.each;
-      run = span_run is_token_inner _ _ c.run_end-len.ensures.within
-          c.run_end-len.ensures.each c.run_end-len.ensures.ends;
-    } in
-    token_utf8 _ (token_class input _ i _ read)
+from_utf8_unchecked-text-requires c = token_utf8 _ (token_class _ _ _ (record {
+  head = c.if-not-next_is_token_start.ensures;
+  each = c.byte_and_run-bytes.ensures.each;
+  taken = c.byte_and_run-bytes.ensures.taken;
+  ends = c.byte_and_run-bytes.ensures.ends;
+}))
 
 pub constant-requires : goal.constant-requires
-constant-requires c =
-    let input = c.args.self.now.parser.input.now in
-    let i = c.args.self.now.index in
-    let read : IsTextAt is_token_start is_token_inner input i c.run_end-len.result (behind input i) =
-    record {
-      head = c.if-not-next_is_token_start.ensures;
-      behind = take_rest input (i + 1);
-      each = c.run_end-len.ensures.each;
-      run = span_run is_token_inner _ _ c.run_end-len.ensures.within
-          c.run_end-len.ensures.each c.run_end-len.ensures.ends;
-    } in
-    rw c.from_utf8_unchecked-text.ensures (token_class input _ i _ read)
+constant-requires c = rw c.from_utf8_unchecked-text.ensures (token_class _ _ _ (record {
+  head = c.if-not-next_is_token_start.ensures;
+  each = c.byte_and_run-bytes.ensures.each;
+  taken = c.byte_and_run-bytes.ensures.taken;
+  ends = c.byte_and_run-bytes.ensures.ends;
+}))
 
 pub returns : goal.returns
-returns c =
-    let input = c.args.self.now.parser.input.now in
-    let i = c.args.self.now.index in
-    let read : IsTextAt is_token_start is_token_inner input i c.run_end-len.result (behind input i) =
-    record {
-      head = c.if-not-next_is_token_start.ensures;
-      behind = take_rest input (i + 1);
-      each = c.run_end-len.ensures.each;
-      run = span_run is_token_inner _ _ c.run_end-len.ensures.within
-          c.run_end-len.ensures.each c.run_end-len.ensures.ends;
-    } in
-    (rw (c.constant.ensures, c.from_utf8_unchecked-text.ensures) (token_some input _ i _ read), refl)
+returns c = (
+  rw (c.constant.ensures, c.from_utf8_unchecked-text.ensures) (token_some _ _ _ (record {
+    head = c.if-not-next_is_token_start.ensures;
+    each = c.byte_and_run-bytes.ensures.each;
+    taken = c.byte_and_run-bytes.ensures.taken;
+    ends = c.byte_and_run-bytes.ensures.ends;
+  })),
+  c.byte_and_run-bytes.ensures.kept,
+)

@@ -1,13 +1,11 @@
 use Rattle.std.proofs.Common.{◌≡◌, length}
-use Rattle.sfv_reading.specs.Reader.{Apart}
 use Rattle.sfv_reading.specs.Quoted.{behind_bytes}
 use Rattle.sfv.specs.Cursor.{kept, rest}
-use Rattle.sfv.specs.Quoted.{plain_of, inside}
+use Rattle.sfv.specs.Quoted.{inside}
 use Rattle.sfv.proofs.parser.cursor.Cursor.unescaped.Given as goal
 
 abbrev pub invariant-loop-self : goal.invariant-loop-self
 invariant-loop-self g l = record {
-  ends : Apart (plain_of g.Q.QuotedText.display) (rest l.self);
   read : behind_bytes l.bytes.items (inside g.Q.QuotedText.display (rest l.self))
       ≡ behind_bytes l.fn.plain (inside g.Q.QuotedText.display (rest l.fn.self));
   kept : kept l.self ≡ kept l.fn.self;

@@ -1,7 +1,7 @@
 use Rattle.std.proofs.Common.{◌≡◌, length}
 use Rattle.sfv.specs.Cursor.{kept, edition, rest}
 use Rattle.sfv.proofs.visits.Parameters.{VisitedParameters}
-use Rattle.sfv.proofs.parser.cursor.Cursor.parameters.Given as goal
+use Rattle.sfv.proofs.parser.cursor.Cursor.some_parameters.Given as goal
 
 abbrev pub invariant-loop-parameter : goal.invariant-loop-parameter
 invariant-loop-parameter g l = record {

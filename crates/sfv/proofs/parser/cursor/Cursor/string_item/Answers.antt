@@ -1,0 +1,24 @@
+use Rattle.std.proofs.Common.{◌∙◌, false}
+use Rattle.std.proofs.lemmas.Result.{err_from_is_err_and}
+use Rattle.sfv_spec.specs.Values.{string}
+use Rattle.sfv_reading.specs.Quoted.{string_at}
+use Rattle.sfv.proofs.reads.Errors.{ErrorOf-part}
+use Rattle.sfv.proofs.reads.Steps.{bare_string, given}
+use Rattle.sfv.proofs.reads.Escapes.{string_opens, behind_opening}
+use Rattle.sfv.proofs.parser.cursor.Cursor.string_item.Goals as goal
+
+pub returns-in_err-string-clause-read : goal.returns-in_err-string-clause-read
+returns-in_err-string-clause-read c =
+    let p = err_from_is_err_and c.from_residual.result c.from_residual.ensures.1 in
+    rw (p.1, p.2) (ErrorOf-part _ _ _ (λ _. string_at) _ _ _ c.skip.ensures.kept
+    (bare_string _ _ _ c.requires c.skip.ensures.skips) c.in_err-string.ensures.read)
+
+pub returns-clause-read : goal.returns-clause-read
+returns-clause-read c = (
+  bare_string _ _ _ c.requires c.skip.ensures.skips ∙ given string_at (λ s. string s) _ _ _ c.in_ok-string.ensures.read.0,
+  c.in_ok-string.ensures.read.1 ∙ c.skip.ensures.kept,
+)
+
+pub returns-clause-borrowed : goal.returns-clause-borrowed
+returns-clause-borrowed c = behind_opening false _ c.args.self.now c.skip.new.self c.string.new.self
+    (string_opens _ _ c.requires c.skip.ensures.skips) c.in_ok-string.ensures.borrowed
