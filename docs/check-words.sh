@@ -1,0 +1,62 @@
+#!/bin/sh
+# Whether DEFINITIONS.md names every word that it claims to. Prints those that it doesn't name; then the status is 1.
+#
+# These words are the public definitions, records and data types of `sfv_spec`'s specs, all of them, and of the other
+# crates' specs those that a public contract uses. A public contract is what stands after `requires` or `ensures` at a
+# `pub fn`, or at a method of a public trait or of an impl of a trait, and each `ghost` line of these, outside tests.
+# Left out are the laws of `sfv_reading`, which nobody has to believe, and the modules `runs` and `utils` of
+# `sfv_base`, which `sfv` doesn't export.
+cd "$(dirname "$0")/.." || exit 2
+page=docs/DEFINITIONS.md
+room=$(mktemp -d) || exit 2
+trap 'rm -rf "$room"' EXIT
+
+# The words that the specs of these files define.
+words_of() {
+    sed -n -E 's/^(abbrev pub|unfoldable pub|pub record|pub data) ([A-Za-z0-9_]+).*/\2/p' "$@" | sort -u
+}
+
+# The names in public contracts that their file imports by `ghost use`, or that stand in an imported module.
+find crates/*/src -name '*.rt' ! -name tests.rt ! -path '*/sfv_reading/*' ! -path '*/sfv_base/src/runs.rt' \
+    ! -path '*/sfv_base/src/utils.rt' -exec awk '
+    FNR == 1 { split("", imported); in_test = in_trait = is_public = in_clause = in_ghost = 0 }
+    # Tests: `mod tests;`, or `mod tests {` and all up to a `}` at the margin.
+    /^#\[cfg\(test\)\]$/ { in_test = 1; next }
+    in_test { if (/^mod .*;$/ || /^}$/) in_test = 0; next }
+    /^ *\/\// { next }
+    /^ *ghost use / {
+        count = split($0, part, /[^A-Za-z0-9_]+/)
+        for (i = 1; i <= count; i++)
+            if (part[i + 1] == "as") { imported[part[i + 2]] = part[i]; i += 2 } else imported[part[i]] = part[i]
+        next
+    }
+    /^(pub )?(trait|impl)/ { in_trait = /^pub trait/ || /^impl.* for / }
+    /^}$/ { in_trait = 0 }
+    /^ *(pub(\([a-z]+\))? )?fn / { is_public = /^ *pub fn / || in_trait }
+    # The name of a clause or of a ghost member is no use of a word.
+    /^ *(requires|ensures)/ { in_clause = is_public; sub(/^ *[a-z]+[^{]*/, "") }
+    /^ *ghost / { in_ghost = in_trait; sub(/^ *ghost [A-Za-z_]+/, "") }
+    /^ *\{$/ { in_clause = 0 }
+    in_clause || in_ghost {
+        line = $0
+        while (match(line, /[A-Za-z0-9_.]+/)) {
+            count = split(substr(line, RSTART, RLENGTH), part, ".")
+            line = substr(line, RSTART + RLENGTH)
+            if (part[1] in imported) { print imported[part[1]]; print part[count] }
+        }
+    }
+    /;$/ { in_clause = in_ghost = 0 }
+' {} + | sort -u >"$room/used"
+
+words_of crates/*/specs/*.antt | comm -12 - "$room/used" >"$room/public"
+words_of crates/sfv_spec/specs/*.antt | sort -u - "$room/public" >"$room/claimed"
+
+# The names that the page has between backticks.
+awk -F '`' '{ for (i = 2; i <= NF; i += 2) print $i }' "$page" | grep -oE '[A-Za-z0-9_]+' | sort -u >"$room/named"
+
+comm -23 "$room/claimed" "$room/named" >"$room/missing"
+if [ -s "$room/missing" ] || ! [ -s "$room/public" ]; then
+    echo "$page doesn't name these words:"
+    cat "$room/missing"
+    exit 1
+fi
