@@ -1,12 +1,12 @@
 //! The visitor that builds a list.
 
-ghost use Rattle.std.specs.Prelude.{◌≡◌, ⊤, false, OnOk, OnErr, IsTrue};
+ghost use Rattle.std.specs.Prelude.{◌≡◌, ⊤, IsSome, OnOk, OnErr, IsTrue};
 ghost use Rattle.sfv_tree.specs.Trees.{list_tree};
 ghost use Rattle.sfv_tree.specs.Events.{event_of};
 ghost use Rattle.sfv_tree.specs.Builders.{between, settle, list_step, list_place, list_members};
 ghost use Rattle.sfv_tree.specs.Builders.{has_ended, list_takes_memory, ended_member};
 
-use crate::parsed::List;
+use crate::parsed::{List, ListEntry};
 use crate::visitor::partial_member::PartialMember;
 use crate::visitor::{Event, Visitor};
 use sfv_base::error::OutOfMemory;
@@ -39,7 +39,22 @@ impl ListBuilder {
         }
     }
 
-    // Puts a member last that is whole.
+    // Puts the member last, which is a whole inner list.
+    #[inline(never)]
+    fn settle_inner_list(&mut self) -> Result<(), OutOfMemory>
+        requires within { IsTrue self.old.is_within }
+        requires inner { IsSome self.old.member.inner }
+        ensures place { OnOk result (list_place self.new
+            ≡ settle (list_tree self.old.list.items) (ended_member self.old.member)) }
+    {
+        if let Some(list) = self.member.take_inner_list() {
+            self.is_within = false;
+            self.list.push(ListEntry::InnerList(list))?;
+        }
+        Ok(())
+    }
+
+    // Puts the member last, which is whole.
     #[inline(never)]
     fn settle(&mut self) -> Result<(), OutOfMemory>
         requires within { IsTrue self.old.is_within }
@@ -47,10 +62,16 @@ impl ListBuilder {
             ≡ settle (list_tree self.old.list.items) (ended_member self.old.member)) }
         ensures out_of_memory { OnErr result (IsTrue (has_ended (ended_member self.old.member))) }
     {
-        if let Some(member) = self.member.take(*self.list.allocator()) {
-            self.is_within = false;
-            self.list.reserve(1)?;
-            self.list.push_reserved(member);
+        if self.member.is_inner_list() {
+            return self.settle_inner_list();
+        }
+        match self.member.take_item(*self.list.allocator()) {
+            Some(item) => {
+                self.is_within = false;
+                self.list.reserve(1)?;
+                self.list.push_reserved(ListEntry::Item(item));
+            }
+            None => self.member.begin(),
         }
         Ok(())
     }

@@ -1,6 +1,6 @@
 //! A member of a list or a dictionary while it is read.
 
-ghost use Rattle.std.specs.Prelude.{◌≡◌, None, IsSome, IfOk, IfNone, OnOk, OnErr, IsTrue, option_map};
+ghost use Rattle.std.specs.Prelude.{◌≡◌, None, is_some, IsSome, IfOk, IfNone, OnOk, OnErr, IsTrue, option_map};
 ghost use Rattle.sfv_spec.specs.Events as tree;
 ghost use Rattle.sfv_bare.specs.BareItems.{input_value};
 ghost use Rattle.sfv_text.specs.KeyText.{key_text};
@@ -143,7 +143,7 @@ impl PartialMember {
 
     /// Takes the item out that was read.
     #[inline(always)]
-    fn take_item(&mut self, alloc: Global) -> Option<Item>
+    pub(crate) fn take_item(&mut self, alloc: Global) -> Option<Item>
         ensures item { option_map item_tree result ≡ item_of self.old }
         ensures taken { self.new.bare_item ≡ None }
         ensures inner { self.new.inner ≡ self.old.inner }
@@ -211,13 +211,32 @@ impl PartialMember {
         Ok(false)
     }
 
+    /// Whether the member is an inner list.
+    #[inline(always)]
+    pub(crate) fn is_inner_list(&self) -> bool
+        ensures { result ≡ is_some self.now.inner }
+    {
+        self.inner.is_some()
+    }
+
+    /// Takes the inner list out that was read.
+    #[inline(always)]
+    pub(crate) fn take_inner_list(&mut self) -> Option<InnerList>
+        ensures list { result ≡ self.old.inner }
+        ensures taken { self.new.inner ≡ None }
+        ensures item { item_of self.new ≡ item_of self.old }
+        ensures place { self.new.place ≡ self.old.place }
+    {
+        self.inner.take()
+    }
+
     /// Takes the member out, where it is whole.
     #[inline(always)]
     pub(crate) fn take(&mut self, alloc: Global) -> Option<ListEntry>
         ensures member { option_map member_tree result ≡ whole_of self.old }
         ensures begun { IfNone result (member_place self.new ≡ begun) }
     {
-        if let Some(list) = self.inner.take() {
+        if let Some(list) = self.take_inner_list() {
             return Some(ListEntry::InnerList(list));
         }
         self.place = Place::Begun;
