@@ -99,7 +99,8 @@ impl<'de> Cursor<'de> {
     pub(super) fn digits(&mut self, most: usize) -> Digits
         requires { most ≤ 15 }
         ensures most { result.count ≤ most }
-        ensures digits { (ds : List ℕ) × Spells ds result × (up_to is_digit most (rest self.old) ≡ Ok (ds, rest self.new)) }
+        ensures digits { (ds : List ℕ) × Spells ds result
+            × (up_to is_digit most (rest self.old) ≡ Ok (ds, rest self.new)) }
         ensures kept { kept self.new ≡ kept self.old }
     {
         let digits = digit_run(&self.parser.input[self.index..], most);

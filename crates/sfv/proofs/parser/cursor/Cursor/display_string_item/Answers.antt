@@ -9,7 +9,8 @@ use Rattle.sfv.proofs.parser.cursor.Cursor.display_string_item.Goals as goal
 pub returns-in_err-display_string-clause-read : goal.returns-in_err-display_string-clause-read
 returns-in_err-display_string-clause-read c =
     let p = err_from_is_err_and c.from_residual.result c.from_residual.ensures.1 in
-    rw (p.1, p.2) (ErrorOf-same (kept c.args.self.now) (kept c.args.self.now) _ quoted_at _ _ refl (bare_quoted _ _ c.requires)
+    rw (p.1, p.2) (ErrorOf-same (kept c.args.self.now) (kept c.args.self.now) _ quoted_at _ _ refl
+    (bare_quoted _ _ c.requires)
     c.in_err-display_string.ensures.read)
 
 pub returns-clause-read : goal.returns-clause-read

@@ -10,7 +10,8 @@ use Rattle.sfv.proofs.parser.cursor.Cursor.number_item.Goals as goal
 pub returns-in_err-value-clause-read : goal.returns-in_err-value-clause-read
 returns-in_err-value-clause-read c =
     let p = err_from_is_err_and c.from_residual.result c.from_residual.ensures.1 in
-    rw (p.1, p.2) (ErrorOf-same (kept c.args.self.now) (kept c.args.self.now) _ (λ _. number_at false) _ _ refl (bare_number _ _ c.requires)
+    rw (p.1, p.2) (ErrorOf-same (kept c.args.self.now) (kept c.args.self.now) _ (λ _. number_at false) _ _ refl
+    (bare_number _ _ c.requires)
     (ErrorOf-fault _ _ _ (c.in_err-value.ensures false)))
 
 pub returns-clause-read : goal.returns-clause-read

@@ -9,7 +9,8 @@ loop-init c = record { skipped = skipped_none is_space (rest c.args.self.now); k
 
 pub loop-preserved : goal.loop-preserved
 loop-preserved c = record {
-  skipped = skipped_more is_space _ _ _ _ c.loop.invariant.skipped c.loop-test.ensures.takes.1 c.loop-test.ensures.takes.2;
+  skipped = skipped_more is_space _ _ _ _ c.loop.invariant.skipped
+      c.loop-test.ensures.takes.1 c.loop-test.ensures.takes.2;
   kept = c.take_if.ensures.kept ∙ c.loop.invariant.kept;
 }
 
