@@ -66,6 +66,10 @@ impl<'de> Parser<'de> {
     /// the last value stands, at the place of the first. Else the error has the kind of the first fault from
     /// the left, and its index, a zero-based offset in bytes which is at most the input's length. Out of
     /// memory the kind is `OutOfMemory`, without index.
+    ///
+    /// The keys of a dictionary and of parameters stand in a map whose hash has no secret. Whoever chooses the
+    /// keys can search for some that make it slow, so bound the length of a field that others send, to 64 KB say,
+    /// or read it with a visitor, which has no map.
     pub fn parse<T: FieldType>(self, alloc: Global) -> Result<T, Error>
         ensures read { IfOk result
             (λ value. IsParsedAs (parser_edition self.entry) T.kind (input_of self.entry) (T.tree value)) }

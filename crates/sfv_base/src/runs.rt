@@ -4,7 +4,7 @@ ghost use Rattle.std.specs.Prelude.{◌≡◌, ◌++◌, ◌≤◌, ◌<◌, ℕ
 ghost use Rattle.std.specs.Prelude.{slice_range};
 ghost use Rattle.std.specs.List.{prefix_len};
 ghost use Rattle.sfv_spec.specs.Texts.{RunOf};
-ghost use Rattle.sfv_spec.specs.Classes.{is_digit, is_space, is_space_or_tab, is_token_inner, is_key_inner};
+ghost use Rattle.sfv_spec.specs.Classes.{is_token_inner, is_key_inner};
 ghost use Rattle.sfv_spec.specs.Strings.{is_plain_in_string, is_plain_in_display};
 ghost use Rattle.sfv_spec.specs.Base64.{is_symbol};
 ghost use Rattle.sfv_base.specs.Lanes.{outside_mask, is_table_of};
@@ -91,42 +91,6 @@ impl RunClass for Symbol {
         &[
             168, 248, 248, 248, 248, 248, 248, 248, 248, 248, 240, 84, 80, 80, 80, 84,
         ]
-    }
-}
-
-/// The digits of numbers.
-pub struct Digit;
-
-impl RunClass for Digit {
-    ghost class = { is_digit };
-
-    #[inline(always)]
-    fn table() -> &'static [u8; 16] {
-        &[8, 8, 8, 8, 8, 8, 8, 8, 8, 8, 0, 0, 0, 0, 0, 0]
-    }
-}
-
-/// The space.
-pub struct Space;
-
-impl RunClass for Space {
-    ghost class = { is_space };
-
-    #[inline(always)]
-    fn table() -> &'static [u8; 16] {
-        &[4, 0, 0, 0, 0, 0, 0, 0, 0, 0, 0, 0, 0, 0, 0, 0]
-    }
-}
-
-/// The space and the tab.
-pub struct SpaceOrTab;
-
-impl RunClass for SpaceOrTab {
-    ghost class = { is_space_or_tab };
-
-    #[inline(always)]
-    fn table() -> &'static [u8; 16] {
-        &[4, 0, 0, 0, 0, 0, 0, 0, 0, 1, 0, 0, 0, 0, 0, 0]
     }
 }
 
@@ -250,20 +214,17 @@ mod tests {
                 assert_eq!(rt; end_of::<InnerToken>(length, stop, b'a', b'"'), wanted);
                 assert_eq!(rt; end_of::<InnerKey>(length, stop, b'a', b'A'), wanted);
                 assert_eq!(rt; end_of::<Symbol>(length, stop, b'a', b'='), wanted);
-                assert_eq!(rt; end_of::<Digit>(length, stop, b'0', b'.'), wanted);
-                assert_eq!(rt; end_of::<Space>(length, stop, b' ', b'\t'), wanted);
-                assert_eq!(rt; end_of::<SpaceOrTab>(length, stop, b' ', b'a'), wanted);
             }
         }
     }
 
     #[test]
     fn parts(rt: HostRuntime) {
-        assert!(rt; is_of::<Digit>(b'7') && !is_of::<Digit>(b'a'));
+        assert!(rt; is_of::<InnerKey>(b'7') && !is_of::<InnerKey>(b'A'));
         assert_eq!(rt; run_end_from::<InnerKey>(b"A=abc;", 2), 5);
         let (run, rest) = split_run::<PlainInString>(b"ab\\c");
         assert_eq!(rt; (run.len(), rest.len()), (2, 2));
-        assert!(rt; split_run::<Space>(rest).0.is_empty());
+        assert!(rt; split_run::<PlainInString>(rest).0.is_empty());
     }
 
     // Whether the class has just these bytes, each as a byte of a short text and as one of a block.
@@ -284,7 +245,6 @@ mod tests {
 
     #[test]
     fn bytes(rt: HostRuntime) {
-        let digits = "0123456789";
         let in_string =
             "!#$%&'()*+,-./0123456789:;<=>?@ABCDEFGHIJKLMNOPQRSTUVWXYZ[]^_`abcdefghijklmnopqrstuvwxyz{|}~ ";
         let in_display =
@@ -298,8 +258,5 @@ mod tests {
         assert!(rt; has_just::<InnerToken>(token));
         assert!(rt; has_just::<InnerKey>(key));
         assert!(rt; has_just::<Symbol>(symbols));
-        assert!(rt; has_just::<Digit>(digits));
-        assert!(rt; has_just::<Space>(" "));
-        assert!(rt; has_just::<SpaceOrTab>(" \t"));
     }
 }

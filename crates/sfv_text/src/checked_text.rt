@@ -153,8 +153,8 @@ impl<C: TextClass> Hash for CheckedText<C> {
     ghost respects_eq = { Prim.search (hashing, rules) };
 
     // Keys come from whoever sends a field. For the hash of the maps, long keys of one hash are easily found, so these
-    // are hashed by SipHash first: 10,000 of them made a dictionary take a hundred times as long. Of keys of eight bytes
-    // at most a thousand have one hash, and SipHash takes a tenth of the time of a dictionary.
+    // are hashed by SipHash first: 10,000 of them made a dictionary take a hundred times as long. Short keys, of which
+    // some thousand have one hash of 32 bits, are spared it, since it takes a tenth of the time of a dictionary.
     fn hash<H: Hasher>(&self, state: &mut H) {
         let text = self.as_str();
         if text.len() > 8 {

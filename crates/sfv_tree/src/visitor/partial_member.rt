@@ -18,7 +18,7 @@ use sfv_text::key_ref::KeyRef;
 use std::alloc::Global;
 use std::mem::replace;
 
-/// What is wanted where no item is being read.
+/// What is wanted of a member where no item of it is being read.
 #[derive(Clone, Copy, PartialEq, Eq)]
 enum Place {
     // What says what the member is; in an inner list, an item or the end of the items.
@@ -57,6 +57,7 @@ impl PartialMember {
     pub(crate) fn begin(&mut self)
         ensures { member_place self.new ≡ begun }
     {
+        // No builder stands here, but the step holds of every state.
         if self.bare_item.is_some() || self.inner.is_some() {
             self.give_up();
         }
@@ -113,6 +114,7 @@ impl PartialMember {
     {
         if self.bare_item.is_none() && self.place == Place::Head {
             self.bare_item = Some(bare_item.try_into_owned(alloc)?);
+            // No builder leaves some here, but the step holds of every state.
             if !self.params.is_empty() {
                 self.params.clear();
             }
