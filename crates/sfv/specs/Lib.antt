@@ -1,7 +1,7 @@
 pub mod Cursor
-pub mod Numbers
+pub mod ReadNumbers
 pub mod Digits
-pub mod Texts
+pub mod ReadTexts
 pub mod Runs
 pub mod Zeros
 pub mod Items
@@ -10,3 +10,37 @@ pub mod Parsers
 pub mod Quoted
 pub mod Visits
 pub mod Members
+pub mod Types
+-- The words of lower crates that public clauses use: a caller's clauses need no crate but this one.
+pub use Rattle.sfv_spec.specs.Ascii
+pub use Rattle.sfv_spec.specs.Base64
+pub use Rattle.sfv_spec.specs.Canonical
+pub use Rattle.sfv_spec.specs.Classes
+pub use Rattle.sfv_spec.specs.Events
+pub use Rattle.sfv_spec.specs.Faults
+pub use Rattle.sfv_spec.specs.Grammar
+pub use Rattle.sfv_spec.specs.Numbers
+pub use Rattle.sfv_spec.specs.Ordered
+pub use Rattle.sfv_spec.specs.Reach
+pub use Rattle.sfv_spec.specs.Statements
+pub use Rattle.sfv_spec.specs.Strings
+pub use Rattle.sfv_spec.specs.Texts
+pub use Rattle.sfv_spec.specs.Values
+pub use Rattle.sfv_spec.specs.Visiting
+pub use Rattle.sfv_base.specs.Conversions
+pub use Rattle.sfv_base.specs.Errors
+pub use Rattle.sfv_base.specs.Messages
+pub use Rattle.sfv_base.specs.Numbers as NumberValues
+pub use Rattle.sfv_base.specs.ParseErrors
+pub use Rattle.sfv_text.specs.CheckedTexts
+pub use Rattle.sfv_text.specs.InvalidTexts
+pub use Rattle.sfv_text.specs.KeyText
+pub use Rattle.sfv_text.specs.StringText
+pub use Rattle.sfv_text.specs.TokenText
+pub use Rattle.sfv_bare.specs.BareItems
+pub use Rattle.sfv_tree.specs.Builders
+pub use Rattle.sfv_tree.specs.Events as EventValues
+pub use Rattle.sfv_tree.specs.Kinds
+pub use Rattle.sfv_tree.specs.Trees
+pub use Rattle.sfv_ser.specs.Serializers
+pub use Rattle.sfv_ser.specs.Written

@@ -5,6 +5,7 @@
 #![tactic(auto)]
 
 mod field_type;
+pub mod laws;
 mod parser;
 
 pub use field_type::FieldType;

@@ -3,10 +3,10 @@ use Rattle.std.proofs.Common.{◌≡◌, ℕ, List, [], ◌∷◌, ◌++◌, Opt
 use Rattle.std.specs.Prelude.{IfOk, codes, string_bytes, option_map}
 use Rattle.std.specs.declared.alloc.Global.{Global}
 use Rattle.std.specs.declared.string.String.{String}
-use Rattle.sfv_spec.specs.Values.{Edition, FieldKind, RawField, item_field, list_field, dictionary_field, HasMember}
-use Rattle.sfv_spec.specs.Canonical.{canonical}
-use Rattle.sfv_spec.specs.Statements.{IsParsedAs, IsSerializedAs}
-use Rattle.sfv_base.specs.declared.error.Error.{Error}
+use Rattle.sfv.specs.Values.{Edition, FieldKind, RawField, item_field, list_field, dictionary_field, HasMember}
+use Rattle.sfv.specs.Canonical.{canonical}
+use Rattle.sfv.specs.Statements.{IsParsedAs, IsSerializedAs}
+use Rattle.sfv.specs.Types.{Error}
 use Rattle.sfv_tool.specs.Answers.{text_or_empty, IsAnswer}
 
 -- nothing is written of a field without members

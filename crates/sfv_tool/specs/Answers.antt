@@ -3,9 +3,9 @@ use Rattle.std.specs.Prelude.{◌≡◌, ℕ, ◌-◌, ◌++◌, ◌==◌, List,
 use Rattle.std.specs.Prelude.{string_bytes, Option, Some, None}
 use Rattle.std.specs.declared.alloc.Global.{Global}
 use Rattle.std.specs.declared.string.String.{String}
-use Rattle.sfv_spec.specs.Values.{Edition, FieldKind, item_field, list_field, dictionary_field, RawField}
-use Rattle.sfv_spec.specs.Canonical.{canonical}
-use Rattle.sfv_spec.specs.Statements.{IsParsedAs}
+use Rattle.sfv.specs.Values.{Edition, FieldKind, item_field, list_field, dictionary_field, RawField}
+use Rattle.sfv.specs.Canonical.{canonical}
+use Rattle.sfv.specs.Statements.{IsParsedAs}
 use Rattle.sfv_tool.specs.declared.answer.Field.{Field}
 use Rattle.sfv_tool.specs.declared.answer.Field.TheVariants as field
 

@@ -1,10 +1,10 @@
 -- What the program is asked for, and what a run of it leaves.
 use Rattle.std.specs.Prelude.{◌≡◌, ℕ, List, [], ◌∷◌, ◌⊎◌, Option, IfSome, codes}
 use Rattle.std.specs.Io.KnownBytes.{Keeps, Appends}
-use Rattle.sfv_spec.specs.Grammar.{IsAccepted}
-use Rattle.sfv_bare.specs.declared.bare.Version.{Version}
-use Rattle.sfv_bare.specs.declared.bare.Version.TheVariants as version
-use Rattle.sfv_bare.specs.BareItems.{edition_of}
+use Rattle.sfv.specs.Grammar.{IsAccepted}
+use Rattle.sfv.specs.Types.{Version}
+use Rattle.sfv.specs.Types.versions as version
+use Rattle.sfv.specs.BareItems.{edition_of}
 use Rattle.sfv_tool.specs.declared.answer.Field.{Field}
 use Rattle.sfv_tool.specs.declared.answer.Field.TheVariants as field
 use Rattle.sfv_tool.specs.Answers.{kind_of_field, without_newline, IsAnswer}

@@ -1,9 +1,9 @@
 //! What the program returns for an input.
 
 ghost use Rattle.std.specs.Prelude.{◌≡◌, ◌++◌, IfOk, IfErr, codes, string_bytes};
-ghost use Rattle.sfv_base.specs.Errors.{out_of_memory};
-ghost use Rattle.sfv_spec.specs.Values.{item_field, list_field, dictionary_field};
-ghost use Rattle.sfv_bare.specs.BareItems.{edition_of};
+ghost use Rattle.sfv.specs.Errors.{out_of_memory};
+ghost use Rattle.sfv.specs.Values.{item_field, list_field, dictionary_field};
+ghost use Rattle.sfv.specs.BareItems.{edition_of};
 ghost use Rattle.sfv.specs.Parsers.{IsParseError, IsReaderFault};
 ghost use Rattle.sfv_tool.specs.Answers.{kind_of_field, without_newline, text_or_empty, IsAnswer};
 

@@ -17,7 +17,7 @@ use Rattle.sfv.specs.declared.parser.Parser.{Parser}
 use Rattle.sfv.specs.declared.parser.cursor.Cursor.{Cursor}
 use Rattle.sfv.specs.Cursor.{kept, kept_input, kept_edition, rest, located, IsFaultOf, IsErrorOf, Reads}
 use Rattle.sfv.specs.Cursor.{ReadsOrOutOfMemory}
-use Rattle.sfv.specs.Texts.{display_value_of}
+use Rattle.sfv.specs.ReadTexts.{display_value_of}
 
 pub fault_bind : {A B : Type 0} (f : Reader A) (g : A → Reader B) (t : List ℕ) (k : ErrorKind) (r : List ℕ)
     → located (f t) ≡ Err (k, r) → located ((f >>= g) t) ≡ Err (k, r)

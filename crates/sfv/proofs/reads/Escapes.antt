@@ -30,7 +30,7 @@ use Rattle.sfv.specs.declared.parser.Parser.{Parser}
 use Rattle.sfv.specs.declared.parser.cursor.Cursor.{Cursor}
 use Rattle.sfv.specs.Cursor.{kept_input, rest, located, IsFaultOf, IsErrorOf, NextIs, TakesIf, Skips}
 use Rattle.sfv.specs.Quoted.{plain_of, mark_of, stop_of, inside, behind_mark, opening, HasNoMark, HasNoMarkInside}
-use Rattle.sfv.specs.Texts.{is_borrowed_text}
+use Rattle.sfv.specs.ReadTexts.{is_borrowed_text}
 
 -- ---- one byte of a quoted text
 

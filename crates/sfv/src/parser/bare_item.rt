@@ -9,7 +9,7 @@ ghost use Rattle.sfv_reading.specs.Reader.{byte};
 ghost use Rattle.sfv_reading.specs.Bare.{is_number_start, boolean_at, date_at, quoted_at, token_at, bare_at};
 ghost use Rattle.sfv.specs.Cursor.{edition, rest, Reads, ReadsOrOutOfMemory, NextIs};
 ghost use Rattle.sfv.specs.Quoted.{HasNoMarkInside, IsBorrowedUnlessEscaped};
-ghost use Rattle.sfv.specs.Texts.{display_value_of, is_borrowed_text};
+ghost use Rattle.sfv.specs.ReadTexts.{display_value_of, is_borrowed_text};
 
 use crate::parser::cursor::Cursor;
 use crate::parser::number::Number;

@@ -10,7 +10,7 @@ ghost use Rattle.sfv_spec.specs.Base64.{is_symbol};
 ghost use Rattle.sfv_base.specs.Errors.{out_of_memory};
 ghost use Rattle.sfv_reading.specs.Content.{bytes_at};
 ghost use Rattle.sfv.specs.Cursor.{rest, ReadsOrOutOfMemory};
-ghost use Rattle.sfv.specs.Texts.{vec_bytes};
+ghost use Rattle.sfv.specs.ReadTexts.{vec_bytes};
 ghost use Rattle.sfv.specs.Zeros.{HasZeros, decoded_symbols};
 
 use crate::parser::cursor::Cursor;

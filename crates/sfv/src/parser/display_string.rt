@@ -7,7 +7,7 @@ ghost use Rattle.sfv_bare.specs.BareItems.{cow_text};
 ghost use Rattle.sfv_reading.specs.Quoted.{outside, pieces_from, behind_pieces, display_at};
 ghost use Rattle.sfv.specs.Cursor.{ReadsOrOutOfMemory};
 ghost use Rattle.sfv.specs.Quoted.{HasNoMark, ReadsDigit, GivesText};
-ghost use Rattle.sfv.specs.Texts.{is_borrowed_text};
+ghost use Rattle.sfv.specs.ReadTexts.{is_borrowed_text};
 
 use crate::parser::cursor::Cursor;
 use crate::parser::quoted::{QuotedBytes, QuotedText};

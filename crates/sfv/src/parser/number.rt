@@ -8,7 +8,7 @@ ghost use Rattle.sfv_reading.specs.Reader.{byte};
 ghost use Rattle.sfv_reading.specs.Bare.{sign_at, point_at, whole_at, number_at};
 ghost use Rattle.sfv.specs.Cursor.{kept, rest, Reads, NextIs};
 ghost use Rattle.sfv.specs.Digits.{Spells};
-ghost use Rattle.sfv.specs.Numbers.{number_value_of};
+ghost use Rattle.sfv.specs.ReadNumbers.{number_value_of};
 
 use crate::parser::cursor::Cursor;
 use crate::parser::runs::{Digits, thousandths};

@@ -7,7 +7,7 @@ ghost use Rattle.sfv_reading.specs.Reader.{Apart, byte};
 ghost use Rattle.sfv_reading.specs.Quoted.{behind_bytes};
 ghost use Rattle.sfv.specs.Cursor.{input, kept, rest, IsFaultOf, ReadsOrOutOfMemory};
 ghost use Rattle.sfv.specs.Quoted.{plain_of, mark_of, stop_of, inside, quoted_bytes, is_plain, HasNoMark, ReadsEscape};
-ghost use Rattle.sfv.specs.Texts.{vec_bytes};
+ghost use Rattle.sfv.specs.ReadTexts.{vec_bytes};
 
 use crate::parser::cursor::Cursor;
 use sfv_base::error::{Error, ErrorKind};

@@ -5,7 +5,7 @@ ghost use Rattle.sfv_bare.specs.BareItems.{read_text};
 ghost use Rattle.sfv_reading.specs.Quoted.{string_at};
 ghost use Rattle.sfv.specs.Cursor.{ReadsOrOutOfMemory};
 ghost use Rattle.sfv.specs.Quoted.{HasNoMark};
-ghost use Rattle.sfv.specs.Texts.{is_borrowed_string};
+ghost use Rattle.sfv.specs.ReadTexts.{is_borrowed_string};
 
 use crate::parser::cursor::Cursor;
 use crate::parser::quoted::{QuotedBytes, QuotedText};

@@ -1,8 +1,8 @@
 use Rattle.std.proofs.Common.{◌≡◌, ◌∙◌, Some}
-use Rattle.sfv_spec.specs.Values.{item_field}
-use Rattle.sfv_spec.specs.Statements.{IsParsedAs}
-use Rattle.sfv_bare.specs.BareItems.{edition_of}
-use Rattle.sfv_tree.specs.Trees.{item_tree}
+use Rattle.sfv.specs.Values.{item_field}
+use Rattle.sfv.specs.Statements.{IsParsedAs}
+use Rattle.sfv.specs.BareItems.{edition_of}
+use Rattle.sfv.specs.Trees.{item_tree}
 use Rattle.sfv.specs.Parsers.{input_of, parser_edition}
 use Rattle.sfv_tool.proofs.Lines.{answered}
 use Rattle.sfv_tool.proofs.answer.answer_item.Goals as goal

@@ -1,0 +1,20 @@
+-- The types of public values, by their names in specs, with their variants.
+pub use Rattle.sfv_base.specs.declared.date.Date.{Date}
+pub use Rattle.sfv_base.specs.declared.decimal.Decimal.{Decimal}
+pub use Rattle.sfv_base.specs.declared.integer.Integer.{Integer}
+pub use Rattle.sfv_base.specs.declared.error.Error.{Error}
+pub use Rattle.sfv_base.specs.declared.error.ErrorKind.{ErrorKind}
+pub use Rattle.sfv_base.specs.declared.error.ErrorKind.TheVariants as error_kinds
+pub use Rattle.sfv_base.specs.declared.error.OutOfMemory.{OutOfMemory}
+pub use Rattle.sfv_base.specs.declared.error.ParseError.{ParseError}
+pub use Rattle.sfv_base.specs.declared.error.ParseError.TheVariants as parse_errors
+pub use Rattle.sfv_bare.specs.declared.bare.GenericBareItem.{GenericBareItem}
+pub use Rattle.sfv_bare.specs.declared.bare.GenericBareItem.TheVariants as bare_items
+pub use Rattle.sfv_bare.specs.declared.bare.Version.{Version}
+pub use Rattle.sfv_bare.specs.declared.bare.Version.TheVariants as versions
+pub use Rattle.sfv_tree.specs.declared.parsed.Item.{Item}
+pub use Rattle.sfv_tree.specs.declared.parsed.InnerList.{InnerList}
+pub use Rattle.sfv_tree.specs.declared.parsed.ListEntry.{ListEntry}
+pub use Rattle.sfv_tree.specs.declared.parsed.ListEntry.TheVariants as list_entries
+pub use Rattle.sfv_tree.specs.declared.visitor.ItemFault.{ItemFault}
+pub use Rattle.sfv_tree.specs.declared.visitor.ItemFault.TheVariants as item_faults
