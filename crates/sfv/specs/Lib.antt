@@ -33,6 +33,7 @@ pub use Rattle.sfv_base.specs.Messages
 pub use Rattle.sfv_base.specs.Numbers as NumberValues
 pub use Rattle.sfv_base.specs.ParseErrors
 pub use Rattle.sfv_text.specs.CheckedTexts
+pub use Rattle.sfv_text.specs.Hashes
 pub use Rattle.sfv_text.specs.InvalidTexts
 pub use Rattle.sfv_text.specs.KeyText
 pub use Rattle.sfv_text.specs.StringText

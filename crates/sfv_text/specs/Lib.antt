@@ -3,3 +3,4 @@ pub mod KeyText
 pub mod TokenText
 pub mod StringText
 pub mod InvalidTexts
+pub mod Hashes

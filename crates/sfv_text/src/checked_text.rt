@@ -1,10 +1,7 @@
 //! Texts of a class that own their bytes.
 
-ghost use Rattle.std.specs.Prelude.{◌≡◌, if◌then◌else◌, length, nat_lt, Some, refl, nat_eq, string_bytes, IsTrue};
+ghost use Rattle.std.specs.Prelude.{◌≡◌, Some, refl, nat_eq, string_bytes, IsTrue};
 ghost use Rattle.std.specs.Fmt.{debug_variant, debug_str};
-ghost use Rattle.std.specs.Hash as fed;
-ghost use Rattle.std.specs.Hash.DefaultHasher as sip;
-ghost use Rattle.std.specs.List.{fold};
 ghost use Rattle.std.specs.Cmp.Lexicographic.{pointwise, slice_cmp, texts_ties, texts_po};
 ghost use Rattle.std.specs.Cmp.Lexicographic.{nat_list_eq_equiv, nat_list_cmp_total};
 ghost use Rattle.std.specs.Cmp;
@@ -12,6 +9,7 @@ ghost use Rattle.std.specs.Ordering.{nat_cmp};
 ghost use Rattle.std.specs.Cmp.Rules.{hashing};
 ghost use Rattle.std.proofs.Common.{rules};
 ghost use Rattle.sfv_text.specs.CheckedTexts.{text_of, GivesText, GivesTextOrInput};
+ghost use Rattle.sfv_text.specs.Hashes.{hash_input_of};
 
 use crate::checked_text_ref::CheckedTextRef;
 use crate::text_class::TextClass;
@@ -19,7 +17,7 @@ use sfv_base::error::Error;
 use std::alloc::AllocError;
 use std::cmp::Ordering;
 use std::fmt;
-use std::hash::{DefaultHasher, Hash, Hasher};
+use std::hash::{Hash, Hasher};
 use std::marker::{Model, PhantomData};
 use std::string::String as StdString;
 
@@ -147,23 +145,12 @@ impl<C: TextClass> Ord for CheckedText<C> {
 }
 
 impl<C: TextClass> Hash for CheckedText<C> {
-    ghost hash_input = { λ text. if nat_lt 8 (length text)
-        then fed.u64 (sip.finish (fold sip.write sip.initial (fed.str text))) else fed.str text };
+    ghost hash_input = { hash_input_of };
 
     ghost respects_eq = { Prim.search (hashing, rules) };
 
-    // Keys come from whoever sends a field. For the hash of the maps, long keys of one hash are easily found, so these
-    // are hashed by SipHash first: 10,000 of them made a dictionary take a hundred times as long. Short keys, of which
-    // some thousand have one hash of 32 bits, are spared it, since it takes a tenth of the time of a dictionary.
     fn hash<H: Hasher>(&self, state: &mut H) {
-        let text = self.as_str();
-        if text.len() > 8 {
-            let mut hasher = DefaultHasher::new();
-            text.hash(&mut hasher);
-            state.write_u64(hasher.finish());
-        } else {
-            text.hash(state);
-        }
+        self.lend().hash(state);
     }
 }
 

