@@ -11,7 +11,7 @@ use Rattle.sfv_spec.proofs.Structure.{one_field_lem}
 pub written : (kind : FieldKind) (value : RawField kind) (t : List ℕ) → IsValue kind value → t ≡ canonical kind value
     → IsWrittenAs kind value t
 written kind value t v e =
-    let back = round_trip_lem kind value v in
+    let back = round_trip_lem kind value v.parts in
     let accepted : IsFieldText rfc9651 kind value t =
     subst (λ (s : List ℕ). IsFieldText rfc9651 kind value s) (sym e) back.0 in
     record {
@@ -21,6 +21,6 @@ written kind value t v e =
         raw = value;
         accepted = accepted;
         only = λ other h. one_field_lem rfc9651 kind t other value h accepted;
-        ordered_value = sym back.1;
+        ordered_value = sym (back.1 v.distinct);
       };
     }

@@ -9,10 +9,11 @@ use Rattle.indexmap.specs.IndexMap.{IndexMap}
 use Rattle.sfv_spec.specs.Values.{Edition, dictionary_field, RawMember}
 use Rattle.sfv_spec.specs.Grammar.{IsFieldText}
 use Rattle.sfv_spec.specs.Events.{TreeEvent, member_events, events}
-use Rattle.sfv_spec.specs.Ordered.{keys, last_value, without, collapse, ordered, ordered_member, no_repeats, IsOrdered}
+use Rattle.sfv_spec.specs.Ordered.{keys, last_of, without, collapse, ordered, ordered_member, no_repeats, IsOrdered}
 use Rattle.sfv_spec.specs.Statements.{IsParsedAs}
 use Rattle.sfv_spec.specs.Visiting.{RunsTo}
 use Rattle.sfv_spec.proofs.Collapse.{collapse-push, collapse-distinct}
+use Rattle.sfv_spec.proofs.Last.{over, last_of-over}
 use Rattle.sfv_spec.proofs.Laws.{ordered_same}
 use Rattle.sfv_spec.proofs.Structure.{one_field_lem}
 use Rattle.sfv_tree.specs.Trees.{dictionary_tree}
@@ -28,34 +29,27 @@ use Rattle.sfv.proofs.built.Members.{IsOpen, member_built, runs_fold}
 
 -- values that are changed one by one are collapsed before or after
 module _ {A B : Type 0} (f : A → B) where
-  abbrev over : List (List ℕ × A) → List (List ℕ × B)
-  over ps = map (λ p. (p.0, f p.1)) ps
+  -- a value that is there, or another
+  given_over : (o : Option A) (d : A) → unwrap_or (option_map f o) (f d) ≡ f (unwrap_or o d)
+  given_over None d = refl
+  given_over (Some x) d = refl
 
-  cond_over : (b : Bool) (x y : A) → cond b (f x) (f y) ≡ f (cond b x y)
-  cond_over true x y = refl
-  cond_over false x y = refl
-
-  last_value-over : (key : List ℕ) (d : A) (ps : List (List ℕ × A))
-      → last_value key (f d) (over ps) ≡ f (last_value key d ps)
-  unfolding last_value
-  last_value-over key d [] = refl
-  last_value-over key d ((k, v) ∷ ps) =
-      ap (λ (x : B). last_value key x (over ps)) (cond_over (bytes_eq key k) v d)
-      ∙ last_value-over key (cond (bytes_eq key k) v d) ps
-
-  without-over : (key : List ℕ) (ps : List (List ℕ × A)) → without key (over ps) ≡ over (without key ps)
+  without-over : (key : List ℕ) (ps : List (List ℕ × A)) → without key (over f ps) ≡ over f (without key ps)
   without-over key [] = refl
   without-over key ((k, v) ∷ ps) = go (without-over key ps) (bytes_eq key k) refl
     where
-      go : without key (over ps) ≡ over (without key ps) → (b : Bool) → bytes_eq key k ≡ b
-          → without key (over ((k, v) ∷ ps)) ≡ over (without key ((k, v) ∷ ps))
+      go : without key (over f ps) ≡ over f (without key ps) → (b : Bool) → bytes_eq key k ≡ b
+          → without key (over f ((k, v) ∷ ps)) ≡ over f (without key ((k, v) ∷ ps))
       go ih true e = simp e ih
       go ih false e = simp e (ap (λ (x : List (List ℕ × B)). (k, f v) ∷ x) ih)
 
-  collapse-over : (ps : List (List ℕ × A)) → collapse (over ps) ≡ over (collapse ps)
+  collapse-over : (ps : List (List ℕ × A)) → collapse (over f ps) ≡ over f (collapse ps)
   unfolding collapse
   collapse-over [] = refl
-  collapse-over ((k, v) ∷ ps) = rw (last_value-over k v ps, collapse-over ps, without-over k (collapse ps)) refl
+  collapse-over ((k, v) ∷ ps) = rw (
+    last_of-over f k ps,
+    given_over f (last_of k ps) v,
+    collapse-over ps, without-over k (collapse ps)) refl
 
 -- each key with its member, ordered
 abbrev pub ordered_pairs : List (List ℕ × RawMember) → List (List ℕ × RawMember)
