@@ -1,19 +1,25 @@
 -- What a parser reads, and what it answers with an error.
-use Rattle.std.specs.Prelude.{◌≡◌, ⊤, ℕ, List, drop, Some, Err, ◌⊎◌}
+use Rattle.std.specs.Prelude.{◌≡◌, ⊤, ℕ, List, drop, Some, Result, Err, ◌⊎◌, MatchResult}
+use Rattle.std.specs.Borrow.{Bor}
 use Rattle.sfv_spec.specs.Values.{Edition, FieldKind, item_field, RawField}
 use Rattle.sfv_spec.specs.Grammar.{IsFieldText}
 use Rattle.sfv_spec.specs.Events.{TreeEvent, events}
-use Rattle.sfv_spec.specs.Visiting.{IsVisited, IsVisitorError, IsEarlyVisitorError}
+use Rattle.sfv_spec.specs.Visiting.{NeverFails, IsVisited, IsVisitorError, IsEarlyVisitorError}
 use Rattle.sfv_spec.specs.Faults.{SyntaxFault, IsRejectedAt}
 use Rattle.sfv_base.specs.declared.error.Error.{Error}
 use Rattle.sfv_base.specs.declared.error.ParseError.{ParseError}
 use Rattle.sfv_base.specs.declared.error.ParseError.TheVariants.{Syntax, Visitor}
 use Rattle.sfv_base.specs.Errors.{error_of, error_kind, out_of_memory}
 use Rattle.sfv_bare.specs.BareItems.{edition_of}
+use Rattle.sfv_bare.specs.declared.bare.Version.{Version}
 use Rattle.sfv_reading.specs.Reader.{Fault}
 use Rattle.sfv_reading.specs.Fields.{read_field}
 use Rattle.sfv.specs.declared.parser.Parser.{Parser}
 use Rattle.sfv.specs.Visits.{IsFinishedFirst}
+
+-- the parser of this input under this version
+abbrev pub parser_of : Bor (List ℕ) → Version → Parser
+parser_of input version = record { input = input; version = version }
 
 -- the input of a parser, and the edition of its version
 abbrev pub input_of : Parser → List ℕ
@@ -45,11 +51,27 @@ pub record IsFaultOfReader (edition : Edition) (kind : FieldKind) (t : List ℕ)
 abbrev pub IsReaderFault : Edition → FieldKind → List ℕ → Error → Type 0
 IsReaderFault edition kind t e = (e ≡ out_of_memory) ⊎ IsFaultOfReader edition kind t e
 
--- the text is accepted, and the answer is the visitor's after all events of its tree
-abbrev pub IsAnswerOf : {S O : Type 0} → (S → TreeEvent → S → Type 0) → (S → O → Type 0) → Edition → FieldKind → List ℕ
-    → S → O → Type 0
-IsAnswerOf takes finishes edition kind t from out = (raw : RawField kind) × IsFieldText edition kind raw t
-    × IsVisited takes finishes from (events kind raw) out
+-- the text is accepted, as this tree and no other, and the answer is the visitor's after all its events
+pub record IsAnswerOf {S O : Type 0} (takes : S → TreeEvent → S → Type 0) (finishes : S → O → Type 0)
+    (edition : Edition) (kind : FieldKind) (t : List ℕ) (from : S) (out : O) : Type 0 where
+  pub raw : RawField kind
+  pub accepted : IsFieldText edition kind raw t
+  pub only : (other : RawField kind) → IsFieldText edition kind other t → other ≡ raw
+  pub visited : IsVisited takes finishes from (events kind raw) out
+
+-- out of memory, as the parser's error or as the visitor's
+abbrev pub IsMemoryError : {E : Type 0} → (E → Type 0) → ParseError E → Type 0
+IsMemoryError is_memory (Syntax e) = e ≡ out_of_memory
+IsMemoryError is_memory (Visitor fault) = is_memory fault
+
+-- Of an accepted text a visitor that never fails takes all events of the tree, and the answer is what it finishes with
+-- there; or memory was refused.
+abbrev pub VisitsAccepted : {S O E : Type 0} → (S → TreeEvent → S → Type 0) → (S → TreeEvent → E → Type 0)
+    → (S → O → Type 0) → (S → E → Type 0) → (E → Type 0) → Edition → FieldKind → List ℕ → S → Result O (ParseError E)
+    → Type 0
+VisitsAccepted takes fails finishes finish_fails is_memory edition kind t from result =
+    NeverFails takes fails finish_fails is_memory kind from → (raw : RawField kind) → IsFieldText edition kind raw t
+    → MatchResult result (IsVisited takes finishes from (events kind raw)) (IsMemoryError is_memory)
 
 -- An error of the text is what `parse` returns, and what stands after an item is looked at after the visitor's answer.
 abbrev pub IsSyntaxOf : {S O E : Type 0} → (S → TreeEvent → S → Type 0) → (S → O → Type 0) → Edition → FieldKind

@@ -1,9 +1,9 @@
 //! Reading fields (RFC 9651, section 4.2).
 
 ghost use Rattle.std.specs.Prelude.{◌≡◌, IfOk, IfErr};
-ghost use Rattle.sfv_spec.specs.Values.{rfc9651, item_field, list_field, dictionary_field};
+ghost use Rattle.sfv_spec.specs.Values.{item_field, list_field, dictionary_field};
 ghost use Rattle.sfv_spec.specs.Statements.{IsParsedAs};
-ghost use Rattle.sfv_bare.specs.BareItems.{edition_of};
+ghost use Rattle.sfv_bare.specs.declared.bare.Version.TheVariants as versions;
 
 use crate::field_type::FieldType;
 use sfv_bare::bare::Version;
@@ -37,13 +37,12 @@ pub struct Parser<'de> {
 }
 
 impl<'de> Parser<'de> {
-    ghost use Rattle.sfv.specs.Parsers.{input_of, parser_edition, IsParseError, IsReaderFault, IsAnswerOf, IsSyntaxOf};
-    ghost use Rattle.sfv.specs.Parsers.{IsVisitorErrorOf};
+    ghost use Rattle.sfv.specs.Parsers.{parser_of, input_of, parser_edition, IsParseError, IsReaderFault, IsAnswerOf};
+    ghost use Rattle.sfv.specs.Parsers.{IsSyntaxOf, IsVisitorErrorOf, VisitsAccepted};
 
     /// Reads this input, under RFC 9651.
     pub fn new(input: &'de [u8]) -> Parser<'de>
-        ensures input { input_of result ≡ input.now }
-        ensures version { parser_edition result ≡ rfc9651 }
+        ensures { result ≡ parser_of input.entry versions.Rfc9651 }
     {
         Parser {
             input,
@@ -53,8 +52,7 @@ impl<'de> Parser<'de> {
 
     /// Reads the same input under this version.
     pub fn with_version(mut self, version: Version) -> Parser<'de>
-        ensures input { input_of result ≡ input_of self.entry }
-        ensures version { parser_edition result ≡ edition_of version }
+        ensures { result ≡ parser_of self.entry.input version }
     {
         self.version = version;
         self
@@ -99,6 +97,8 @@ impl<'de> Parser<'de> {
         ensures visitor { IfErr result
             (IsVisitorErrorOf V.takes V.fails V.finish_fails
             (parser_edition self.entry) item_field (input_of self.entry) visitor) }
+        ensures accepted { VisitsAccepted V.takes V.fails V.finishes V.finish_fails V.is_memory
+            (parser_edition self.entry) item_field (input_of self.entry) visitor result }
     {
         parse_item_field(self, alloc, visitor)
     }
@@ -124,6 +124,8 @@ impl<'de> Parser<'de> {
         ensures visitor { IfErr result
             (IsVisitorErrorOf V.takes V.fails V.finish_fails
             (parser_edition self.entry) list_field (input_of self.entry) visitor) }
+        ensures accepted { VisitsAccepted V.takes V.fails V.finishes V.finish_fails V.is_memory
+            (parser_edition self.entry) list_field (input_of self.entry) visitor result }
     {
         parse_members_field::<Entry, V>(self, alloc, visitor)
     }
@@ -149,6 +151,8 @@ impl<'de> Parser<'de> {
         ensures visitor { IfErr result
             (IsVisitorErrorOf V.takes V.fails V.finish_fails
             (parser_edition self.entry) dictionary_field (input_of self.entry) visitor) }
+        ensures accepted { VisitsAccepted V.takes V.fails V.finishes V.finish_fails V.is_memory
+            (parser_edition self.entry) dictionary_field (input_of self.entry) visitor result }
     {
         parse_members_field::<KeyedEntry, V>(self, alloc, visitor)
     }

@@ -70,8 +70,8 @@ pub trait Visitor<'de>: Drop {
     /// In this state it may fail to answer, with this error.
     ghost finish_fails: { Self → Self.Error → Type 0 };
 
-    /// The error says that it is out of memory.
-    ghost is_memory: { Self.Error → Type 0 };
+    /// The error says that it is out of memory. None does, where nothing else is said.
+    ghost is_memory: { Self.Error → Type 0 } = { λ _. ⊥ };
 
     /// Visits an event.
     ///

@@ -1,8 +1,8 @@
 -- The builder of a dictionary: after all events of a tree each key that it was given or that stands in the tree is
 -- there once, at its first place, with its last member.
-use Rattle.std.proofs.Common.{◌≡◌, ℕ, Bool, true, false, cond, List, [], ◌∷◌, ◌++◌, map, refl, sym, ap, ◌∙◌}
+use Rattle.std.proofs.Common.{◌≡◌, ℕ, Bool, true, false, List, [], ◌∷◌, ◌++◌, map, refl, sym, ap, ◌∙◌}
 use Rattle.std.proofs.Common.{append_assoc}
-use Rattle.std.specs.Prelude.{bytes_eq, fold}
+use Rattle.std.specs.Prelude.{bytes_eq, fold, Option, Some, None, option_map, unwrap_or}
 use Rattle.std.proofs.lemmas.List.{append-nil, map-append}
 use Rattle.std.proofs.lemmas.List.Sums.{fold-append}
 use Rattle.indexmap.specs.IndexMap.{IndexMap}
@@ -15,7 +15,6 @@ use Rattle.sfv_spec.specs.Visiting.{RunsTo}
 use Rattle.sfv_spec.proofs.Collapse.{collapse-push, collapse-distinct}
 use Rattle.sfv_spec.proofs.Last.{over, last_of-over}
 use Rattle.sfv_spec.proofs.Laws.{ordered_same}
-use Rattle.sfv_spec.proofs.Structure.{one_field_lem}
 use Rattle.sfv_tree.specs.Trees.{dictionary_tree}
 use Rattle.sfv_tree.specs.Builders.{MemberPlace, begun, item_head, item_parameters, inner_items, inner_head}
 use Rattle.sfv_tree.specs.Builders.{inner_parameters, list_parameters, ended, member_step, DictionaryPlace}
@@ -48,8 +47,10 @@ module _ {A B : Type 0} (f : A → B) where
   collapse-over [] = refl
   collapse-over ((k, v) ∷ ps) = rw (
     last_of-over f k ps,
-    given_over f (last_of k ps) v,
-    collapse-over ps, without-over k (collapse ps)) refl
+    given_over (last_of k ps) v,
+    collapse-over ps,
+    without-over k (collapse ps),
+  ) refl
 
 -- each key with its member, ordered
 abbrev pub ordered_pairs : List (List ℕ × RawMember) → List (List ℕ × RawMember)
@@ -124,16 +125,16 @@ pub built_dictionary_behind : {S : Type 0} (edition : Edition) (t : List ℕ) (h
     × (IsOrdered dictionary_field held → dictionary_tree dictionary.entries
     ≡ ordered dictionary_field (held ++ raw))
 built_dictionary_behind edition t held from dictionary distinct here h =
-    let whole : dictionary_place h.2.last ≡ between_pairs (collapse (held ++ ordered_pairs h.0)) =
-    dictionary_built held h.0 from h.2.last distinct here h.2.taken in
-    let there : dictionary_tree dictionary.entries ≡ collapse (held ++ ordered_pairs h.0) = h.2.answered
+    let whole : dictionary_place h.visited.last ≡ between_pairs (collapse (held ++ ordered_pairs h.raw)) =
+    dictionary_built held h.raw from h.visited.last distinct here h.visited.taken in
+    let there : dictionary_tree dictionary.entries ≡ collapse (held ++ ordered_pairs h.raw) = h.visited.answered
     ∙ ap dictionary_members whole in (
-      h.0,
-      h.1,
-      λ other k. one_field_lem edition dictionary_field t other h.0 k h.1,
+      h.raw,
+      h.accepted,
+      h.only,
       there,
       λ k. there
-          ∙ joined held h.0 k,
+          ∙ joined held h.raw k,
     )
 
 -- what was built is the ordered dictionary of the only tree

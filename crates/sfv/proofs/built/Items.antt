@@ -9,7 +9,6 @@ use Rattle.sfv_spec.specs.Ordered.{collapse, ordered_item}
 use Rattle.sfv_spec.specs.Statements.{IsParsedAs}
 use Rattle.sfv_spec.specs.Visiting.{RunsTo}
 use Rattle.sfv_spec.proofs.Collapse.{entered, collapse-push}
-use Rattle.sfv_spec.proofs.Structure.{one_field_lem}
 use Rattle.sfv_tree.specs.Trees.{item_tree}
 use Rattle.sfv_tree.specs.Builders.{ItemPlace, at_head, at_parameters, at_end, item_step, item_place}
 use Rattle.sfv_tree.specs.declared.parsed.Item.{Item}
@@ -62,10 +61,10 @@ item_at_end i j e = cc
 pub built : (edition : Edition) (t : List ℕ) (from : ItemBuilder) (item : Item) → item_place from ≡ at_head
     → IsAnswerOf Steps Ends edition item_field t from item → IsParsedAs edition item_field t (item_tree item)
 built edition t from item here h =
-    let whole = item_built h.0 from h.2.last here h.2.taken in
+    let whole = item_built h.raw from h.visited.last here h.visited.taken in
     record {
-      raw = h.0;
-      accepted = h.1;
-      only = λ other k. one_field_lem edition item_field t other h.0 k h.1;
-      ordered_value = item_at_end (item_tree item) (ordered_item h.0) (sym h.2.answered ∙ whole);
+      raw = h.raw;
+      accepted = h.accepted;
+      only = h.only;
+      ordered_value = item_at_end (item_tree item) (ordered_item h.raw) (sym h.visited.answered ∙ whole);
     }

@@ -11,7 +11,6 @@ use Rattle.sfv_spec.specs.Events.{TreeEvent, member_events, events}
 use Rattle.sfv_spec.specs.Ordered.{ordered, ordered_member}
 use Rattle.sfv_spec.specs.Statements.{IsParsedAs}
 use Rattle.sfv_spec.specs.Visiting.{RunsTo}
-use Rattle.sfv_spec.proofs.Structure.{one_field_lem}
 use Rattle.sfv_tree.specs.Trees.{list_tree}
 use Rattle.sfv_tree.specs.Builders.{MemberPlace, begun, item_head, item_parameters, inner_items, inner_head}
 use Rattle.sfv_tree.specs.Builders.{inner_parameters, list_parameters, ended, member_step, ListPlace, between, within}
@@ -65,9 +64,9 @@ pub built_list_behind : (edition : Edition) (t : List ℕ) (held : List RawMembe
     × ((other : List RawMember) → IsFieldText edition list_field other t → other ≡ raw)
     × (list_tree list.items ≡ held ++ ordered list_field raw)
 built_list_behind edition t held from list here h =
-    let whole : list_place h.2.last ≡ between (held ++ ordered list_field h.0) =
-    list_built held h.0 from h.2.last here h.2.taken in
-    (h.0, h.1, λ other k. one_field_lem edition list_field t other h.0 k h.1, h.2.answered ∙ ap list_members whole)
+    let whole : list_place h.visited.last ≡ between (held ++ ordered list_field h.raw) =
+    list_built held h.raw from h.visited.last here h.visited.taken in
+    (h.raw, h.accepted, h.only, h.visited.answered ∙ ap list_members whole)
 
 -- what was built is the ordered list of the only tree
 pub built_list : (edition : Edition) (t : List ℕ) (from : ListBuilder) (list : Vec ListEntry Global)

@@ -8,12 +8,14 @@ use Rattle.sfv_spec.specs.Values.{Edition, FieldKind, item_field, list_field, di
 use Rattle.sfv_spec.specs.Values.{IsFieldValue}
 use Rattle.sfv_spec.specs.Grammar.{IsFieldText}
 use Rattle.sfv_spec.specs.Events.{TreeEvent, events, item_events}
-use Rattle.sfv_spec.specs.Visiting.{RunsTo, IsVisitorError, IsEarlyVisitorError}
+use Rattle.sfv_spec.specs.Visiting.{RunsTo, IsVisited, IsVisitorError, IsEarlyVisitorError}
 use Rattle.sfv_spec.proofs.Valid.{accepted_is_value_lem}
+use Rattle.sfv_spec.proofs.Structure.{one_field_lem}
+use Rattle.sfv_spec.proofs.Visits.{fails_for_memory}
 use Rattle.sfv_base.specs.declared.error.Error.{Error}
 use Rattle.sfv_base.specs.declared.error.ErrorKind.{ErrorKind}
 use Rattle.sfv_base.specs.declared.error.ErrorKind.TheVariants.{OutOfMemory}
-use Rattle.sfv_base.specs.Errors.{kind_of, index_of}
+use Rattle.sfv_base.specs.Errors.{kind_of, index_of, out_of_memory}
 use Rattle.sfv_base.specs.declared.error.ParseError.{ParseError}
 use Rattle.sfv_base.specs.declared.error.ParseError.TheVariants.{Syntax, Visitor}
 use Rattle.sfv_reading.specs.Reader.{Answer, Fault, and_then, bind, give, span, visited, ◌>>=◌}
@@ -32,7 +34,7 @@ use Rattle.sfv.specs.Cursor.{kept_input, located, IsErrorOf}
 use Rattle.sfv.specs.Fields.{located_whole}
 use Rattle.sfv.specs.Members.{MemberValue, member_parts, one_member_at, field_of}
 use Rattle.sfv.specs.Visits.{VisitsAnswer, IsOfVisitor, VisitsField, IsFinishedFirst, IsAskedThere}
-use Rattle.sfv.specs.Parsers.{IsAnswerOf, IsSyntaxOf, IsVisitorErrorOf}
+use Rattle.sfv.specs.Parsers.{IsAnswerOf, IsSyntaxOf, IsVisitorErrorOf, IsParseError, VisitsAccepted}
 use Rattle.sfv.proofs.visits.Whole.{spaced, field_error, ending_located}
 use Rattle.sfv.proofs.Parsed.{reader_fault}
 use Rattle.sfv.proofs.reads.Delimiters.{span_total}
@@ -323,7 +325,14 @@ module _ {S O E : Type 0} (takes : S → TreeEvent → S → Type 0) (fails : S 
   pub visits_answer : (r : Result O (ParseError E))
       → VisitsField takes fails finishes finish_fails edition kind t from r
       → IfOk r (IsAnswerOf takes finishes edition kind t from)
-  visits_answer (Ok out) h = (h.0, (read_is_accepted edition kind t h.0).0 h.1, h.2)
+  visits_answer (Ok out) h =
+      let accepted = (read_is_accepted edition kind t h.0).0 h.1 in
+      record {
+        raw = h.0;
+        accepted = accepted;
+        only = λ other k. one_field_lem edition kind t other h.0 k accepted;
+        visited = h.2;
+      }
   visits_answer (Err e) h = tt
 
   pub visits_syntax : (r : Result O (ParseError E))
@@ -339,3 +348,19 @@ module _ {S O E : Type 0} (takes : S → TreeEvent → S → Type 0) (fails : S 
   visits_failure (Ok out) h = tt
   visits_failure (Err (Syntax e)) h = tt
   visits_failure (Err (Visitor f)) h = (failed_on_accepted f h, failed_early f h)
+
+  pub visits_accepted : (is_memory : E → Type 0) (r : Result O (ParseError E))
+      → VisitsField takes fails finishes finish_fails edition kind t from r
+      → VisitsAccepted takes fails finishes finish_fails is_memory edition kind t from r
+  visits_accepted is_memory (Ok out) h never raw accepted =
+      let read = (read_is_accepted edition kind t h.0).0 h.1 in
+      subst (λ (i : RawField kind). IsVisited takes finishes from (events kind i) out)
+      (one_field_lem edition kind t h.0 raw read accepted) h.2
+  visits_accepted is_memory (Err (Syntax e)) h never raw accepted = on (reader_fault edition kind t e h.0).1
+    where
+      on : IsParseError edition kind t e → e ≡ out_of_memory
+      on (inl same) = same
+      on (inr s) = absurd (s.rejected.rejected (raw, accepted))
+  visits_accepted is_memory (Err (Visitor f)) h never raw accepted =
+      fails_for_memory takes fails finish_fails is_memory kind from raw f never
+      (accepted_is_value_lem edition kind t raw accepted).0 (failed_on_accepted f h raw accepted)
