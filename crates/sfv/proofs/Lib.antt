@@ -2,3 +2,4 @@ pub mod built
 pub mod visits
 pub mod reads
 pub mod Parsed
+pub mod Callers

@@ -7,7 +7,6 @@ use Rattle.sfv_spec.specs.Values.{BareValue, RawParameters, RawItem, RawInnerLis
 use Rattle.sfv_spec.specs.Events.{TreeEvent, begins_item, parameter, parameters_end, inner_list_end, parameters_events}
 use Rattle.sfv_spec.specs.Events.{item_events, member_events}
 use Rattle.sfv_spec.specs.Ordered.{collapse, ordered_item, ordered_member}
-use Rattle.sfv_spec.specs.Visiting.{RunsTo}
 use Rattle.sfv_spec.proofs.Collapse.{collapse-push}
 use Rattle.sfv_tree.specs.Builders.{MemberPlace, begun, item_head, item_parameters, inner_items, inner_head}
 use Rattle.sfv_tree.specs.Builders.{inner_parameters, list_parameters, ended, adds, member_step}
@@ -114,10 +113,3 @@ module _ {P : Type 0} (step : P → TreeEvent → P) (settled : MemberPlace → 
 
   pub member_built : (m : RawMember) → fold step (settled begun) (member_events m) ≡ settled (ended (ordered_member m))
   member_built m = goes_along (member_events m) begun (ended (ordered_member m)) (member_goes m)
-
--- where each event is a step of the place, a run is all steps
-pub runs_fold : {S P : Type 0} (place : S → P) (step : P → TreeEvent → P) (es : List TreeEvent) (s last : S)
-    → RunsTo (λ s e after. place after ≡ step (place s) e) s es last → place last ≡ fold step (place s) es
-runs_fold place step [] s last h = ap place (sym h)
-runs_fold {S} {P} place step (e ∷ es) s last h = runs_fold place step es h.0 last h.2
-    ∙ ap (λ (p : P). fold step p es) h.1

@@ -1,0 +1,102 @@
+-- What a visitor has done with the events of a field, for callers.
+use Rattle.std.proofs.Common.{◌≡◌, suc, List, [], ◌∷◌, ◌++◌, length, refl, sym, ap, subst, ◌∙◌, inl, inr, arith}
+use Rattle.std.specs.Prelude.{⊤, ℕ, Option, Some, None, fold, filter_map, flat_map, ◌⊎◌}
+use Rattle.std.specs.List.{Contains}
+use Rattle.std.proofs.lemmas.List.Elements.{filter_map-append, Contains-append_right}
+use Rattle.sfv_spec.specs.Values.{list_field, dictionary_field, RawParameters, RawItem, RawMember, item, inner_list}
+use Rattle.sfv_spec.specs.Events.{TreeEvent, entry, keyed_entry, begins_item, begins_inner_list, bare_item}
+use Rattle.sfv_spec.specs.Events.{parameter, parameters_end, inner_list_end, parameters_events, inner_item_events}
+use Rattle.sfv_spec.specs.Events.{member_events, events}
+use Rattle.sfv_spec.specs.Ordered.{keys}
+use Rattle.sfv_spec.specs.Visiting.{RunsTo, IsVisitorError}
+
+-- where each event is a step of the place, a run is all steps
+pub runs_fold : {S P : Type 0} (place : S → P) (step : P → TreeEvent → P) (es : List TreeEvent) (s last : S)
+    → RunsTo (λ s e after. place after ≡ step (place s) e) s es last → place last ≡ fold step (place s) es
+runs_fold place step [] s last h = ap place (sym h)
+runs_fold {S} {P} place step (e ∷ es) s last h = runs_fold place step es h.0 last h.2
+    ∙ ap (λ (p : P). fold step p es) h.1
+
+-- an event within a member
+abbrev pub IsInside : TreeEvent → Type 0
+IsInside entry = ⊥
+IsInside (keyed_entry key) = ⊥
+IsInside e = ⊤
+
+-- the key that leads a member
+abbrev pub key_in : TreeEvent → Option (List ℕ)
+key_in (keyed_entry key) = Some key
+key_in e = None
+
+-- the place that leads a member of a list
+abbrev pub entry_in : TreeEvent → Option (Unit {0})
+entry_in entry = Some tt
+entry_in e = None
+
+-- what leads a member is given by no event within one
+module _ {A : Type 0} (lead : TreeEvent → Option A) (none_inside : (e : TreeEvent) → IsInside e → lead e ≡ None) where
+  none_of_parameters : (ps : RawParameters) → filter_map lead (parameters_events ps) ≡ []
+  none_of_parameters [] = rw (none_inside parameters_end tt) refl
+  none_of_parameters (p ∷ ps) = rw (none_inside (parameter p.0 p.1) tt) (none_of_parameters ps)
+
+  none_of_item : (i : RawItem) → filter_map lead (inner_item_events i) ≡ []
+  none_of_item i = rw (none_inside begins_item tt, none_inside (bare_item i.bare) tt) (none_of_parameters i.parameters)
+
+  none_of_items : (xs : List RawItem) → filter_map lead (flat_map inner_item_events xs) ≡ []
+  none_of_items [] = refl
+  none_of_items (x ∷ xs) = filter_map-append lead (inner_item_events x) (flat_map inner_item_events xs)
+      ∙ rw (none_of_item x, none_of_items xs) refl
+
+  none_of_member : (m : RawMember) → filter_map lead (member_events m) ≡ []
+  none_of_member (item i) = none_of_item i
+  none_of_member (inner_list l) =
+      let behind : filter_map lead (inner_list_end ∷ parameters_events l.parameters) ≡ [] =
+      rw (none_inside inner_list_end tt) (none_of_parameters l.parameters) in
+      rw (none_inside begins_inner_list tt)
+      (filter_map-append lead (flat_map inner_item_events l.items) (inner_list_end ∷ parameters_events l.parameters)
+      ∙ rw (none_of_items l.items, behind) refl)
+
+no_key : (e : TreeEvent) → IsInside e → key_in e ≡ None
+no_key entry h = absurd h
+no_key (keyed_entry key) h = absurd h
+no_key begins_item h = refl
+no_key begins_inner_list h = refl
+no_key (bare_item value) h = refl
+no_key (parameter key value) h = refl
+no_key parameters_end h = refl
+no_key inner_list_end h = refl
+
+no_entry : (e : TreeEvent) → IsInside e → entry_in e ≡ None
+no_entry entry h = absurd h
+no_entry (keyed_entry key) h = absurd h
+no_entry begins_item h = refl
+no_entry begins_inner_list h = refl
+no_entry (bare_item value) h = refl
+no_entry (parameter key value) h = refl
+no_entry parameters_end h = refl
+no_entry inner_list_end h = refl
+
+-- the keys that are visited of a dictionary are its keys, a repeated one each time
+pub keys_in_events : (ms : List (List ℕ × RawMember)) → filter_map key_in (events dictionary_field ms) ≡ keys ms
+keys_in_events [] = refl
+keys_in_events (m ∷ ms) = ap (λ (ks : List (List ℕ)). m.0 ∷ ks)
+    (filter_map-append key_in (member_events m.1) (events dictionary_field ms)
+    ∙ rw (none_of_member key_in no_key m.1, keys_in_events ms) refl)
+
+-- the entries that are visited of a list are as many as its members
+pub entries_in_events : (ms : List RawMember) → length (filter_map entry_in (events list_field ms)) ≡ length ms
+entries_in_events [] = refl
+entries_in_events (m ∷ ms) =
+    let rest : filter_map entry_in (member_events m ++ events list_field ms) ≡ filter_map entry_in (events list_field ms) =
+    filter_map-append entry_in (member_events m) (events list_field ms)
+    ∙ rw (none_of_member entry_in no_entry m) refl in
+    rw rest (ap suc (entries_in_events ms))
+
+-- an error of a visitor comes at some event of the field, or at its end
+pub fails_somewhere : {S F : Type 0} (takes : S → TreeEvent → S → Type 0) (fails : S → TreeEvent → F → Type 0)
+    (finish_fails : S → F → Type 0) (start : S) (es : List TreeEvent) (fault : F)
+    → IsVisitorError takes fails finish_fails start es fault
+    → ((e : TreeEvent) × Contains es e × (s : S) × fails s e fault) ⊎ ((s : S) × finish_fails s fault)
+fails_somewhere takes fails finish_fails start es fault (inl h) =
+    inl (h.1, subst (λ (xs : List TreeEvent). Contains xs h.1) (sym h.4) (Contains-append_right h.0 (h.1 ∷ h.2) h.1 (0, omega arith, refl)), h.3, h.6)
+fails_somewhere takes fails finish_fails start es fault (inr h) = inr (h.0, h.2)
