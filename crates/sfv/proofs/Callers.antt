@@ -1,16 +1,31 @@
 -- Lemmas for callers, who cite them from here: from what is found in a value to the text, from what a visitor did to the
 -- field, and from what was written to what is read.
-use Rattle.std.proofs.Common.{◌≡◌, ℕ, List, [], ◌∷◌, ◌++◌, true, cond, refl, sym, ◌∙◌, ap}
-use Rattle.std.specs.Prelude.{bytes_eq, option_map, Some}
-use Rattle.indexmap.specs.IndexMap.{insert_entry}
-use Rattle.sfv_spec.specs.Values.{Edition, rfc9651, FieldKind, dictionary_field, RawMember, RawField, IsFieldValue}
-use Rattle.sfv_spec.specs.Ordered.{keys, last_of, ordered, ordered_member, no_repeats}
+use Rattle.std.proofs.Common.{◌≡◌, ℕ, List, [], ◌∷◌, ◌++◌, true, cond, Result, refl, sym, ◌∙◌, ap, subst}
+use Rattle.std.specs.Prelude.{bytes_eq, option_map, Some, IfOk}
+use Rattle.std.specs.declared.alloc.Global.{Global}
+use Rattle.std.specs.declared.vec.Vec.{Vec}
+use Rattle.std.proofs.lemmas.Result.{IfOk-weaker}
+use Rattle.indexmap.specs.IndexMap.{IndexMap, insert_entry}
+use Rattle.sfv_spec.specs.Values.{Edition, rfc9651, FieldKind, list_field, dictionary_field, RawMember, RawField}
+use Rattle.sfv_spec.specs.Values.{IsFieldValue}
+use Rattle.sfv_spec.specs.Grammar.{IsFieldText}
+use Rattle.sfv_spec.specs.Ordered.{keys, last_of, ordered, ordered_member, no_repeats, IsOrdered}
 use Rattle.sfv_spec.specs.Canonical.{canonical}
-use Rattle.sfv_spec.specs.Statements.{IsParsedAs}
+use Rattle.sfv_spec.specs.Statements.{IsParsedAs, IsValue}
 use Rattle.sfv_spec.proofs.Collapse.{entered, collapse-distinct, collapse-push, last_of-push}
 use Rattle.sfv_spec.proofs.Laws.{round_trip_lem}
 use Rattle.sfv_spec.proofs.Structure.{one_field_lem}
+use Rattle.sfv_spec.proofs.Valid.{accepted_is_value_lem}
+use Rattle.sfv_tree.specs.Trees.{list_tree, dictionary_tree}
+use Rattle.sfv_tree.specs.Builders.{between, between_pairs, list_place, list_step, list_members, dictionary_place}
+use Rattle.sfv_tree.specs.Builders.{dictionary_step, dictionary_members}
+use Rattle.sfv_tree.specs.declared.parsed.ListEntry.{ListEntry}
+use Rattle.sfv_tree.specs.declared.visitor.list_builder.ListBuilder.{ListBuilder}
+use Rattle.sfv_tree.specs.declared.visitor.dictionary_builder.DictionaryBuilder.{DictionaryBuilder}
+use Rattle.sfv.specs.Parsers.{IsAnswerOf}
 use Rattle.sfv.proofs.built.Items.{insert_entry-entered}
+use Rattle.sfv.proofs.built.Lists.{built_list_behind}
+use Rattle.sfv.proofs.built.Dictionaries.{built_dictionary_behind}
 -- the last pair of a key: split off, looked up, and its value changed
 pub use Rattle.sfv_spec.proofs.Last.{IsLast, last_of-split, split-last_of, none-last_of, lookup-last_of, last_of-over}
 pub use Rattle.sfv_spec.proofs.Last.{last_of-ordered}
@@ -44,3 +59,32 @@ read_back kind raw h =
       only = λ other k. one_field_lem rfc9651 kind (canonical kind raw) other raw k accepted;
       ordered_value = refl;
     }
+
+-- what was read is a value: each part is in its range or class, and no key stands twice
+pub read_is_value : (edition : Edition) (kind : FieldKind) (t : List ℕ) (value : RawField kind)
+    → IsParsedAs edition kind t value → IsValue kind value
+read_is_value edition kind t value h = subst (IsValue kind) (sym h.ordered_value)
+    (accepted_is_value_lem edition kind t h.raw h.accepted).1
+
+-- a further line of a list: its members stand behind those that the builder was given
+pub list_behind : {E : Type 0} (edition : Edition) (t : List ℕ) (held : List RawMember) (from : ListBuilder)
+    (r : Result (Vec ListEntry Global) E) → list_place from ≡ between held
+    → IfOk r (IsAnswerOf (λ (s : ListBuilder) e after. list_place after ≡ list_step (list_place s) e)
+    (λ s (list : Vec ListEntry Global). list_tree list.items ≡ list_members (list_place s)) edition list_field t from)
+    → IfOk r (λ list. (raw : List RawMember) × IsFieldText edition list_field raw t
+    × (list_tree list.items ≡ held ++ ordered list_field raw))
+list_behind edition t held from r here = IfOk-weaker r _ _ (λ list h.
+    let whole = built_list_behind edition t held from list here h in (whole.0, whole.1, whole.3))
+
+-- a further line of a dictionary: as if its members stood behind those that the builder was given
+pub dictionary_behind : {S E : Type 0} (edition : Edition) (t : List ℕ) (held : List (List ℕ × RawMember))
+    (from : DictionaryBuilder) (r : Result (IndexMap (List ℕ) ListEntry S) E) → IsOrdered dictionary_field held
+    → dictionary_place from ≡ between_pairs held
+    → IfOk r (IsAnswerOf (λ (s : DictionaryBuilder) e after. dictionary_place after
+    ≡ dictionary_step (dictionary_place s) e) (λ s (dictionary : IndexMap (List ℕ) ListEntry S).
+    dictionary_tree dictionary.entries ≡ dictionary_members (dictionary_place s)) edition dictionary_field t from)
+    → IfOk r (λ dictionary. (raw : List (List ℕ × RawMember)) × IsFieldText edition dictionary_field raw t
+    × (dictionary_tree dictionary.entries ≡ ordered dictionary_field (held ++ raw)))
+dictionary_behind edition t held from r distinct here = IfOk-weaker r _ _ (λ dictionary h.
+    let whole = built_dictionary_behind edition t held from dictionary distinct.0 here h in
+    (whole.0, whole.1, whole.4 distinct))

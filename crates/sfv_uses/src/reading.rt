@@ -1,0 +1,107 @@
+//! Reading a field into a value.
+
+ghost use Rattle.std.specs.Prelude.{◌≡◌, ◌++◌, IsNone, IfOk, IfErr, IfSome, string_bytes};
+ghost use Rattle.sfv.specs.Values.{rfc9651, rfc8941, item_field, list_field, dictionary_field, RawField};
+ghost use Rattle.sfv.specs.Grammar.{IsFieldText, IsAccepted};
+ghost use Rattle.sfv.specs.Ordered.{ordered};
+ghost use Rattle.sfv.specs.Statements.{IsParsedAs};
+ghost use Rattle.sfv.specs.Trees.{list_tree, dictionary_tree};
+ghost use Rattle.sfv.specs.Parsers.{IsParseError};
+ghost use Rattle.sfv.specs.NumberValues.{integer_of};
+ghost use Rattle.sfv_uses.specs.Uses.{IsExplained, integer_or};
+
+use sfv::visitor::{DictionaryBuilder, ListBuilder};
+use sfv::{Dictionary, Error, Integer, Item, List, OutOfMemory, ParseError, Parser, Version};
+use std::alloc::Global;
+
+/// Reads a list under RFC 8941, the older version.
+///
+/// # Errors
+///
+/// That of `Parser::parse`.
+pub fn read_older_list(alloc: Global, input: &[u8]) -> Result<List, Error>
+    ensures read { IfOk result (λ list. IsParsedAs rfc8941 list_field input.now (list_tree list.items)) }
+    ensures rejected { IfErr result (IsParseError rfc8941 list_field input.now) }
+{
+    Parser::new(input)
+        .with_version(Version::Rfc8941)
+        .parse::<List>(alloc)
+}
+
+/// Checks that a text is a list. Returns `None` if it is, and else a line for a person: a caret under the first fault,
+/// and what is wrong there.
+///
+/// # Errors
+///
+/// `OutOfMemory` when out of memory.
+pub fn explain(alloc: Global, input: &[u8]) -> Result<Option<String>, OutOfMemory>
+    ensures accepted { IfOk result (λ line. IsNone line → IsAccepted rfc9651 list_field input.now) }
+    ensures explained { IfOk result (λ line. IfSome line (λ text. IsExplained input.now (string_bytes text))) }
+{
+    let Err(error) = Parser::new(input).parse::<List>(alloc) else {
+        return Ok(None);
+    };
+    let Some(index) = error.index() else {
+        return Err(OutOfMemory);
+    };
+    let mut line = " ".repeat(alloc, index)?;
+    line.push_str("^ ")?;
+    line.push_str(error.message())?;
+    Ok(Some(line))
+}
+
+/// Returns the integer that an item is, whatever its parameters, or the default where it is of another kind.
+///
+/// # Errors
+///
+/// That of `Parser::parse`.
+pub fn integer_with_default(
+    alloc: Global,
+    input: &[u8],
+    default: Integer,
+) -> Result<Integer, Error>
+    ensures { IfOk result (λ z. (raw : RawField item_field) × IsFieldText rfc9651 item_field raw input.now
+        × (integer_of z ≡ integer_or (integer_of default) raw.bare)) }
+{
+    let item = Parser::new(input).parse::<Item>(alloc)?;
+    Ok(item.bare_item.as_integer().unwrap_or(default))
+}
+
+/// Reads a list that comes in two lines: the members of the second stand behind those of the first.
+///
+/// # Errors
+///
+/// That of `Parser::parse` for the line that isn't a list.
+pub fn list_of_lines(
+    alloc: Global,
+    first: &[u8],
+    second: &[u8],
+) -> Result<List, ParseError<OutOfMemory>>
+    ensures { IfOk result (λ list. (held : RawField list_field) × (raw : RawField list_field)
+        × IsParsedAs rfc9651 list_field first.now held × IsFieldText rfc9651 list_field raw second.now
+        × (list_tree list.items ≡ held ++ ordered list_field raw)) }
+{
+    let held = Parser::new(first).parse::<List>(alloc)?;
+    let builder = ListBuilder::new(held);
+    Parser::new(second).parse_list_with_visitor(alloc, builder)
+}
+
+/// Reads a dictionary that comes in two lines, as if its members stood in one: each key is there once, at its first
+/// place, with the whole member of its last occurrence.
+///
+/// # Errors
+///
+/// That of `Parser::parse` for the line that isn't a dictionary.
+pub fn dictionary_of_lines(
+    alloc: Global,
+    first: &[u8],
+    second: &[u8],
+) -> Result<Dictionary, ParseError<OutOfMemory>>
+    ensures { IfOk result (λ dictionary. (held : RawField dictionary_field) × (raw : RawField dictionary_field)
+        × IsParsedAs rfc9651 dictionary_field first.now held × IsFieldText rfc9651 dictionary_field raw second.now
+        × (dictionary_tree dictionary.entries ≡ ordered dictionary_field (held ++ raw))) }
+{
+    let held = Parser::new(first).parse::<Dictionary>(alloc)?;
+    let builder = DictionaryBuilder::new(held);
+    Parser::new(second).parse_dictionary_with_visitor(alloc, builder)
+}
