@@ -1,9 +1,10 @@
 -- Lemmas for callers, who cite them from here: from what is found in a value to the text, from what a visitor did to the
 -- field, and from what was written to what is read.
-use Rattle.std.proofs.Common.{◌≡◌, ℕ, List, [], ◌∷◌, ◌++◌, true, cond, Result, refl, sym, ◌∙◌, ap, subst}
-use Rattle.std.specs.Prelude.{bytes_eq, option_map, Some, IfOk}
+use Rattle.std.proofs.Common.{◌≡◌, ℕ, List, [], ◌∷◌, ◌++◌, true, cond, Result, refl, sym, ◌∙◌, ap, subst, inl, inr}
+use Rattle.std.specs.Prelude.{bytes_eq, option_map, Some, None, IfOk}
 use Rattle.std.specs.declared.alloc.Global.{Global}
 use Rattle.std.specs.declared.vec.Vec.{Vec}
+use Rattle.std.proofs.lemmas.Option.{same_Some}
 use Rattle.std.proofs.lemmas.Result.{IfOk-weaker}
 use Rattle.indexmap.specs.IndexMap.{IndexMap, insert_entry}
 use Rattle.sfv_spec.specs.Values.{Edition, rfc9651, FieldKind, list_field, dictionary_field, RawMember, RawField}
@@ -16,13 +17,16 @@ use Rattle.sfv_spec.proofs.Collapse.{entered, collapse-distinct, collapse-push, 
 use Rattle.sfv_spec.proofs.Laws.{round_trip_lem}
 use Rattle.sfv_spec.proofs.Structure.{one_field_lem}
 use Rattle.sfv_spec.proofs.Valid.{accepted_is_value_lem}
+use Rattle.sfv_spec.specs.Faults.{SyntaxFault, IsRejectedAt}
+use Rattle.sfv_base.specs.declared.error.Error.{Error}
+use Rattle.sfv_base.specs.Errors.{index_of, kind_of, error_kind}
 use Rattle.sfv_tree.specs.Trees.{list_tree, dictionary_tree}
 use Rattle.sfv_tree.specs.Builders.{between, between_pairs, list_place, list_step, list_members, dictionary_place}
 use Rattle.sfv_tree.specs.Builders.{dictionary_step, dictionary_members}
 use Rattle.sfv_tree.specs.declared.parsed.ListEntry.{ListEntry}
 use Rattle.sfv_tree.specs.declared.visitor.list_builder.ListBuilder.{ListBuilder}
 use Rattle.sfv_tree.specs.declared.visitor.dictionary_builder.DictionaryBuilder.{DictionaryBuilder}
-use Rattle.sfv.specs.Parsers.{IsAnswerOf}
+use Rattle.sfv.specs.Parsers.{IsParseError, IsAnswerOf}
 use Rattle.sfv.proofs.built.Items.{insert_entry-entered}
 use Rattle.sfv.proofs.built.Lists.{built_list_behind}
 use Rattle.sfv.proofs.built.Dictionaries.{built_dictionary_behind}
@@ -30,8 +34,10 @@ use Rattle.sfv.proofs.built.Dictionaries.{built_dictionary_behind}
 pub use Rattle.sfv_spec.proofs.Last.{IsLast, last_of-split, split-last_of, none-last_of, lookup-last_of, last_of-over}
 pub use Rattle.sfv_spec.proofs.Last.{last_of-ordered}
 pub use Rattle.sfv_spec.proofs.Collapse.{last_of-collapse, last_of-absent}
+-- the pairs that an iterator over a map lends
+pub use Rattle.sfv_ser.proofs.Lent.{lent_all}
 -- what a visitor did with the events of a field
-pub use Rattle.sfv_spec.proofs.Runs.{runs_fold, key_in, entry_in, keys_in_events, entries_in_events, fails_somewhere}
+pub use Rattle.sfv_spec.proofs.Runs.{runs_fold, entry_in, keys_in_events, entries_in_events, fails_somewhere}
 
 -- the member of a key in a dictionary that was read is the last of the text, its parameters ordered
 pub member_read : (edition : Edition) (t : List ℕ) (value : List (List ℕ × RawMember)) (key : List ℕ)
@@ -60,11 +66,32 @@ read_back kind raw h =
       ordered_value = refl;
     }
 
+-- and a value is read as itself
+pub value_read_back : (kind : FieldKind) (value : RawField kind) → IsValue kind value
+    → IsParsedAs rfc9651 kind (canonical kind value) value
+value_read_back kind value h = subst (IsParsedAs rfc9651 kind (canonical kind value))
+    ((round_trip_lem kind value h.parts).1 h.distinct) (read_back kind value h.parts)
+
 -- what was read is a value: each part is in its range or class, and no key stands twice
 pub read_is_value : (edition : Edition) (kind : FieldKind) (t : List ℕ) (value : RawField kind)
     → IsParsedAs edition kind t value → IsValue kind value
 read_is_value edition kind t value h = subst (IsValue kind) (sym h.ordered_value)
     (accepted_is_value_lem edition kind t h.raw h.accepted).1
+
+-- a text has one value
+pub one_value : (edition : Edition) (kind : FieldKind) (t : List ℕ) (a b : RawField kind) → IsParsedAs edition kind t a
+    → IsParsedAs edition kind t b → a ≡ b
+one_value edition kind t a b h k = h.ordered_value ∙ ap (ordered kind) (k.only h.raw h.accepted) ∙ sym k.ordered_value
+
+-- an error with an index is a fault of the text there
+pub located_error : (edition : Edition) (kind : FieldKind) (t : List ℕ) (e : Error) (index : ℕ)
+    → IsParseError edition kind t e → index_of e ≡ Some index
+    → (fault : SyntaxFault) × (kind_of e ≡ error_kind fault) × IsRejectedAt edition kind t fault index
+located_error edition kind t e index (inl same) here =
+    absurd (let none : index_of e ≡ None = ap index_of same in cc)
+located_error edition kind t e index (inr h) here =
+    let place : h.index ≡ index = same_Some h.index index (sym (ap index_of h.error) ∙ here) in
+    (h.fault, ap kind_of h.error, subst (IsRejectedAt edition kind t h.fault) place h.rejected)
 
 -- a further line of a list: its members stand behind those that the builder was given
 pub list_behind : {E : Type 0} (edition : Edition) (t : List ℕ) (held : List RawMember) (from : ListBuilder)

@@ -113,6 +113,12 @@ TakesNoMemoryBy s b t d item = ⊤
 abbrev pub GivesPart : {A V P : Type 0} → (A → V) → (P → A) → V → Option P → Type 0
 GivesPart {A} kind content value r = MatchOption r ((x : A) → ¬ (value ≡ kind x)) (λ p. value ≡ kind (content p))
 
+-- the same of a bare item's value, whatever its texts are
+abbrev pub GivesPartBy : {S B T D A P : Type 0} → (A → BareValue) → (P → A) → GenericBareItem S B T D → Option P → Type 0
+GivesPartBy {S} {B} {T} {D} kind content item r =
+    (s : S → List ℕ) (b : B → List ℕ) (t : T → List ℕ) (d : D → List ℕ)
+    → GivesPart kind content (value_by s b t d item) r
+
 -- the edition that a version stands for
 abbrev pub edition_of : Version → Edition
 edition_of version.Rfc8941 = rfc8941

@@ -1,6 +1,13 @@
 -- What the uses answer.
-use Rattle.std.specs.Prelude.{◌≡◌, ℕ, ℤ, List, ◌++◌, replicate, codes}
-use Rattle.sfv.specs.Values.{rfc9651, list_field, BareValue, integer}
+use Rattle.std.specs.Prelude.{◌≡◌, ℕ, ℤ, ◌+◌, ◌<◌, List, [], ◌∷◌, ◌++◌, length, codes}
+use Rattle.std.specs.List.{repeat}
+use Rattle.sfv.specs.Values.{rfc9651, list_field, dictionary_field, BareValue, integer, RawItem, RawMember}
+use Rattle.sfv.specs.Grammar.{IsFieldText}
+use Rattle.sfv.specs.Events.{TreeEvent, keyed_entry}
+use Rattle.sfv.specs.Types.{ParseError}
+use Rattle.sfv.specs.Types.parse_errors.{Syntax, Visitor}
+use Rattle.sfv.specs.Parsers.{IsParseError}
+use Rattle.sfv_uses.specs.declared.visiting.TooMany.{TooMany}
 use Rattle.sfv.specs.Faults.{SyntaxFault, IsRejectedAt}
 use Rattle.sfv.specs.Errors.{error_kind}
 use Rattle.sfv.specs.Messages.{message_of}
@@ -10,9 +17,30 @@ pub record IsExplained (t text : List ℕ) : Type 0 where
   pub fault : SyntaxFault
   pub index : ℕ
   pub rejected : IsRejectedAt rfc9651 list_field t fault index
-  pub text_is : text ≡ replicate index 0x20 ++ codes "^ " ++ message_of (error_kind fault)
+  pub text_is : text ≡ repeat index (codes " ") ++ codes "^ " ++ message_of (error_kind fault)
 
 -- an integer, or else the default
 abbrev pub integer_or : ℤ → BareValue → ℤ
 integer_or default (integer z) = z
 integer_or default b = default
+
+-- one member more at each key, and the same limit
+abbrev pub counts : ℕ × ℕ → TreeEvent → ℕ × ℕ
+counts (members, limit) (keyed_entry key) = (members + 1, limit)
+counts place e = place
+
+-- the text is a dictionary of so many members, repeated keys too
+pub record HasMembers (t : List ℕ) (n : ℕ) : Type 0 where
+  pub raw : List (List ℕ × RawMember)
+  pub accepted : IsFieldText rfc9651 dictionary_field raw t
+  pub count : n ≡ length raw
+
+-- an error of the text is the parser's; of a dictionary the count fails only where it has more members than wanted
+abbrev pub IsCountError : List ℕ → ℕ → ParseError TooMany → Type 0
+IsCountError t limit (Syntax e) = IsParseError rfc9651 dictionary_field t e
+IsCountError t limit (Visitor fault) = (raw : List (List ℕ × RawMember)) → IsFieldText rfc9651 dictionary_field raw t
+    → limit < length raw
+
+-- an item of one parameter
+abbrev pub item_of_one : BareValue → List ℕ → BareValue → RawItem
+item_of_one value key param = record { bare = value; parameters = (key, param) ∷ [] }

@@ -2,3 +2,5 @@
 #![tactic(auto)]
 
 pub mod reading;
+pub mod visiting;
+pub mod writing;

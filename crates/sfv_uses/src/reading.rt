@@ -60,11 +60,14 @@ pub fn integer_with_default(
     input: &[u8],
     default: Integer,
 ) -> Result<Integer, Error>
-    ensures { IfOk result (λ z. (raw : RawField item_field) × IsFieldText rfc9651 item_field raw input.now
-        × (integer_of z ≡ integer_or (integer_of default) raw.bare)) }
+    ensures { IfOk result (λ z. (value : RawField item_field) × IsParsedAs rfc9651 item_field input.now value
+        × (integer_of z ≡ integer_or (integer_of default) value.bare)) }
 {
     let item = Parser::new(input).parse::<Item>(alloc)?;
-    Ok(item.bare_item.as_integer().unwrap_or(default))
+    let Some(integer) = item.bare_item.as_integer() else {
+        return Ok(default);
+    };
+    Ok(integer)
 }
 
 /// Reads a list that comes in two lines: the members of the second stand behind those of the first.

@@ -1,0 +1,110 @@
+-- What the uses rest on.
+use Rattle.std.proofs.Common.{◌≡◌, ℕ, ℤ, ◌+◌, ◌<◌, ◌≤◌, List, [], ◌∷◌, ◌++◌, map, length, refl, sym, ap, ◌∙◌, arith}
+use Rattle.std.proofs.Common.{inl, inr}
+use Rattle.std.specs.Prelude.{Option, Some, None, Result, Ok, Err, IsSome, IfOk, IfErr, fold, filter_map}
+use Rattle.std.specs.List.{cons_option}
+use Rattle.std.proofs.lemmas.List.{length-append, length-map}
+use Rattle.std.proofs.lemmas.List.Elements.{filter_map-append}
+use Rattle.sfv.specs.Values.{Edition, rfc9651, dictionary_field, BareValue, integer, decimal, string, token, byte_sequence}
+use Rattle.sfv.specs.Values.{boolean, date, display_string, RawMember}
+use Rattle.sfv.specs.Grammar.{IsFieldText}
+use Rattle.sfv.specs.Events.{TreeEvent, entry, keyed_entry, begins_item, begins_inner_list, bare_item, parameter}
+use Rattle.sfv.specs.Events.{parameters_end, inner_list_end, events, key_in}
+use Rattle.sfv.specs.Ordered.{keys}
+use Rattle.sfv.specs.Visiting.{RunsTo, IsVisitorError}
+use Rattle.sfv.specs.Parsers.{IsAnswerOf, IsSyntaxOf, IsVisitorErrorOf}
+use Rattle.sfv.specs.Types.{ParseError}
+use Rattle.sfv.specs.Types.parse_errors.{Syntax, Visitor}
+use Rattle.sfv.proofs.Callers.{runs_fold, keys_in_events}
+use Rattle.sfv_uses.specs.Uses.{integer_or, counts, HasMembers, IsCountError}
+use Rattle.sfv_uses.specs.declared.visiting.MemberCounter.{MemberCounter}
+use Rattle.sfv_uses.specs.declared.visiting.TooMany.{TooMany}
+
+-- of another kind it is the default
+pub integer_or-other : (default : ℤ) (b : BareValue) → ((z : ℤ) → ¬ (b ≡ integer z)) → integer_or default b ≡ default
+integer_or-other default (integer z) h = absurd (h z refl)
+integer_or-other default (decimal z) h = refl
+integer_or-other default (string s) h = refl
+integer_or-other default (token t) h = refl
+integer_or-other default (byte_sequence bytes) h = refl
+integer_or-other default (boolean b) h = refl
+integer_or-other default (date z) h = refl
+integer_or-other default (display_string s) h = refl
+
+-- the keys among some events
+abbrev keys_among : List TreeEvent → ℕ
+keys_among es = length (filter_map key_in es)
+
+-- the events are counted by their keys
+counted : (es : List TreeEvent) (n limit : ℕ) → fold counts (n, limit) es ≡ (n + keys_among es, limit)
+counted [] n limit = ap (λ (m : ℕ). (m, limit)) (omega arith)
+counted (keyed_entry key ∷ es) n limit = counted es (n + 1) limit
+    ∙ ap (λ (m : ℕ). (m, limit)) (omega arith)
+counted (entry ∷ es) n limit = counted es n limit
+counted (begins_item ∷ es) n limit = counted es n limit
+counted (begins_inner_list ∷ es) n limit = counted es n limit
+counted (bare_item value ∷ es) n limit = counted es n limit
+counted (parameter key value ∷ es) n limit = counted es n limit
+counted (parameters_end ∷ es) n limit = counted es n limit
+counted (inner_list_end ∷ es) n limit = counted es n limit
+
+-- a dictionary has as many keys among its events as members
+all_counted : (raw : List (List ℕ × RawMember)) → keys_among (events dictionary_field raw) ≡ length raw
+all_counted raw = ap (length {A = List ℕ}) (keys_in_events raw)
+    ∙ length-map raw (λ (m : List ℕ × RawMember). m.0)
+
+-- what the counter does with an event
+abbrev Takes : MemberCounter → TreeEvent → MemberCounter → Type 0
+Takes s e after = (after.members, after.limit) ≡ counts (s.members, s.limit) e
+
+-- what it has counted behind some events
+run_counted : (es : List TreeEvent) (from s : MemberCounter) → from.members ≡ 0 → RunsTo Takes from es s
+    → (s.members ≡ keys_among es) × (s.limit ≡ from.limit)
+run_counted es from s start run =
+    let whole = runs_fold (λ (c : MemberCounter). (c.members, c.limit)) counts es from s run
+    ∙ counted es from.members from.limit in
+    let members : s.members ≡ from.members + keys_among es = ap (λ (p : ℕ × ℕ). p.0) whole in
+    (omega (arith, members, start), ap (λ (p : ℕ × ℕ). p.1) whole)
+
+abbrev Fails : MemberCounter → TreeEvent → TooMany → Type 0
+Fails s e fault = (s.limit ≤ s.members) × IsSome (key_in e)
+
+abbrev Finishes : MemberCounter → ℕ → Type 0
+Finishes s out = out ≡ s.members
+
+abbrev FinishFails : MemberCounter → TooMany → Type 0
+FinishFails s fault = ⊥
+
+module _ (t : List ℕ) (from : MemberCounter) (start : from.members ≡ 0) where
+  pub count_answered : (r : Result ℕ (ParseError TooMany))
+      → IfOk r (IsAnswerOf Takes Finishes rfc9651 dictionary_field t from) → IfOk r (HasMembers t)
+  count_answered (Ok n) h =
+      let run = run_counted (events dictionary_field h.raw) from h.visited.last start h.visited.taken in
+      record { raw = h.raw; accepted = h.accepted; count = h.visited.answered ∙ run.0 ∙ all_counted h.raw }
+  count_answered (Err e) h = tt
+
+  -- where it fails one member more comes than are wanted
+  failed_late : (raw : List (List ℕ × RawMember)) (fault : TooMany)
+      → IsVisitorError Takes Fails FinishFails from (events dictionary_field raw) fault → from.limit < length raw
+  failed_late raw fault (inl h) =
+      let run = run_counted h.0 from h.3 start h.5 in
+      let full = h.6.0 in
+      let here : 0 < keys_among (h.1 ∷ h.2) = one_more (key_in h.1) h.6.1 in
+      let all : keys_among h.0 + keys_among (h.1 ∷ h.2) ≡ length raw =
+      sym (length-append (filter_map key_in h.0) (filter_map key_in (h.1 ∷ h.2)))
+      ∙ ap (length {A = List ℕ}) (sym (filter_map-append key_in h.0 (h.1 ∷ h.2)))
+      ∙ ap keys_among (sym h.4) ∙ all_counted raw in
+      omega (arith, run.0, run.1, full, here, all)
+    where
+      one_more : (o : Option (List ℕ)) → IsSome o → 0 < length (cons_option o (filter_map key_in h.2))
+      one_more (Some key) k = omega arith
+      one_more None k = absurd cc
+  failed_late raw fault (inr h) = absurd h.2
+
+  pub count_failed : (r : Result ℕ (ParseError TooMany))
+      → IfErr r (IsSyntaxOf Takes Finishes rfc9651 dictionary_field t from)
+      → IfErr r (IsVisitorErrorOf Takes Fails FinishFails rfc9651 dictionary_field t from)
+      → IfErr r (IsCountError t from.limit)
+  count_failed (Ok n) h k = tt
+  count_failed (Err (Syntax e)) h k = h.0
+  count_failed (Err (Visitor fault)) h k = λ raw accepted. failed_late raw fault (k.0 raw accepted)

@@ -1,0 +1,22 @@
+use Rattle.std.proofs.Common.{◌≡◌, sym, ap, string_bytes}
+use Rattle.sfv.specs.Values.{rfc9651, item_field}
+use Rattle.sfv.specs.NumberValues.{integer_of}
+use Rattle.sfv.specs.Statements.{IsParsedAs}
+use Rattle.sfv.specs.Trees.{item_tree}
+use Rattle.sfv_uses.specs.Uses.{integer_or}
+use Rattle.sfv_uses.proofs.Uses.{integer_or-other}
+use Rattle.sfv_uses.proofs.reading.integer_with_default.Goals as goal
+
+pub returns-in_default : goal.returns-in_default
+returns-in_default c =
+    let read : IsParsedAs rfc9651 item_field c.args.input.now (item_tree c.in_ok-item.item) =
+    rw c.new.ensures at c.in_ok-item.ensures.read in
+    let other = c.in_default.ensures.value (λ s. s) (λ b. b.items) (λ t. t) string_bytes in
+    (item_tree c.in_ok-item.item, read, sym (integer_or-other (integer_of c.args.default) _ other))
+
+pub returns : goal.returns
+returns c =
+    let read : IsParsedAs rfc9651 item_field c.args.input.now (item_tree c.in_ok-item.item) =
+    rw c.new.ensures at c.in_ok-item.ensures.read in
+    let there = c.in-Some.ensures.value (λ s. s) (λ b. b.items) (λ t. t) string_bytes in
+    (item_tree c.in_ok-item.item, read, sym (ap (integer_or (integer_of c.args.default)) there))

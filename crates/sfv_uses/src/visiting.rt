@@ -1,0 +1,113 @@
+//! Reading a field by a visitor, which builds no value.
+
+ghost use Rattle.std.specs.Prelude.{◌≡◌, ⊤, ◌≤◌, IsSome, IfOk, IfErr, OnOk};
+ghost use Rattle.sfv.specs.Values.{rfc9651, dictionary_field};
+ghost use Rattle.sfv.specs.Grammar.{IsAccepted};
+ghost use Rattle.sfv.specs.Events.{key_in};
+ghost use Rattle.sfv_uses.specs.Uses.{counts, HasMembers, IsCountError};
+
+use sfv::visitor::{Event, Visitor};
+use sfv::{ParseError, Parser};
+use std::alloc::Global;
+use std::convert::Infallible;
+
+/// Calls a function with each key.
+#[derive(Drop)]
+struct EachKey<F> {
+    visit: F,
+}
+
+impl<'de, F: FnMut(&str) + Drop> Visitor<'de> for EachKey<F> {
+    type Out = ();
+
+    type Error = Infallible;
+
+    ghost is_ready = { λ s. F.IsAlwaysCallable s.visit };
+
+    ghost takes = { λ _ _ _. ⊤ };
+
+    ghost fails = { λ _ _ _. ⊥ };
+
+    ghost finishes = { λ _ _. ⊤ };
+
+    ghost finish_fails = { λ _ _. ⊥ };
+
+    fn event(&mut self, event: Event<'de>) -> Result<(), Infallible> {
+        if let Event::KeyedEntry(key) = event {
+            (self.visit)(key.as_str());
+        }
+        Ok(())
+    }
+
+    fn finish(self) -> Result<(), Infallible> {
+        Ok(())
+    }
+}
+
+/// Calls `visit` with each key of a dictionary, with a repeated one each time.
+///
+/// # Errors
+///
+/// That of `Parser::parse_dictionary_with_visitor`.
+pub fn each_key<F: FnMut(&str) + Drop>(
+    alloc: Global,
+    input: &[u8],
+    visit: F,
+) -> Result<(), ParseError<Infallible>>
+    requires { F.IsAlwaysCallable visit }
+    ensures { OnOk result (IsAccepted rfc9651 dictionary_field input.now) }
+{
+    Parser::new(input).parse_dictionary_with_visitor(alloc, EachKey { visit })
+}
+
+/// A dictionary has more members than are wanted.
+#[derive(Clone, Copy, Debug, PartialEq, Eq)]
+pub struct TooMany;
+
+/// Counts the members of a dictionary, up to a limit.
+#[derive(Drop)]
+struct MemberCounter {
+    members: u64,
+    limit: u64,
+}
+
+impl<'de> Visitor<'de> for MemberCounter {
+    type Out = u64;
+
+    type Error = TooMany;
+
+    ghost takes = { λ s e after. (after.members, after.limit) ≡ counts (s.members, s.limit) e };
+
+    ghost fails = { λ s e _. (s.limit ≤ s.members) × IsSome (key_in e) };
+
+    ghost finishes = { λ s out. out ≡ s.members };
+
+    ghost finish_fails = { λ _ _. ⊥ };
+
+    fn event(&mut self, event: Event<'de>) -> Result<(), TooMany> {
+        if let Event::KeyedEntry(_) = event {
+            if self.members >= self.limit {
+                return Err(TooMany);
+            }
+            self.members += 1;
+        }
+        Ok(())
+    }
+
+    fn finish(self) -> Result<u64, TooMany> {
+        Ok(self.members)
+    }
+}
+
+/// Returns how many members a dictionary has, repeated keys too, if they are no more than `limit`.
+///
+/// # Errors
+///
+/// `TooMany`, or that of `Parser::parse_dictionary_with_visitor`.
+pub fn count_members(alloc: Global, input: &[u8], limit: u64) -> Result<u64, ParseError<TooMany>>
+    ensures counted { IfOk result (HasMembers input.now) }
+    ensures failed { IfErr result (IsCountError input.now limit) }
+{
+    let counter = MemberCounter { members: 0, limit };
+    Parser::new(input).parse_dictionary_with_visitor(alloc, counter)
+}

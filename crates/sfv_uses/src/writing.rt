@@ -1,0 +1,70 @@
+//! Writing an item part by part, and reading it back.
+
+ghost use Rattle.std.specs.Prelude.{◌≡◌, ◌++◌, ◌⊎◌, IfOk, OnOk, OnErr, string_bytes};
+ghost use Rattle.sfv.specs.Values.{rfc9651, item_field};
+ghost use Rattle.sfv.specs.Canonical.{bare_text, item_text};
+ghost use Rattle.sfv.specs.Statements.{IsParsedAs};
+ghost use Rattle.sfv.specs.BareItems.{ref_value};
+ghost use Rattle.sfv.specs.KeyText.{key_text};
+ghost use Rattle.sfv.specs.Trees.{item_tree};
+ghost use Rattle.sfv_uses.specs.Uses.{item_of_one};
+
+use sfv::{Error, Item, ItemSerializer, KeyRef, OutOfMemory, Parser, RefBareItem};
+use std::alloc::Global;
+
+/// Writes an item of one parameter at the end of a text.
+///
+/// # Errors
+///
+/// `OutOfMemory` when out of memory: nothing is written then, or the bare item alone.
+pub fn write_item(
+    text: &mut String,
+    value: RefBareItem<'_>,
+    key: KeyRef<'_>,
+    param: RefBareItem<'_>,
+) -> Result<(), OutOfMemory>
+    ensures written { OnOk result (string_bytes text.new ≡ string_bytes text.old
+        ++ item_text (item_of_one (ref_value value.entry) (key_text key.entry) (ref_value param.entry))) }
+    ensures read_back { OnOk result (IsParsedAs rfc9651 item_field
+        (item_text (item_of_one (ref_value value.entry) (key_text key.entry) (ref_value param.entry)))
+        (item_of_one (ref_value value.entry) (key_text key.entry) (ref_value param.entry))) }
+    ensures out_of_memory { OnErr result ((string_bytes text.new ≡ string_bytes text.old)
+        ⊎ (string_bytes text.new ≡ string_bytes text.old ++ bare_text (ref_value value.entry))) }
+{
+    let params = ItemSerializer::with_buffer(text).bare_item(value)?;
+    params.parameter(key, param)?.finish();
+    Ok(())
+}
+
+/// Writes an item of one parameter and reads the text: the same item.
+///
+/// # Errors
+///
+/// Of kind `OutOfMemory` when out of memory.
+pub fn written_and_read(
+    alloc: Global,
+    value: RefBareItem<'_>,
+    key: KeyRef<'_>,
+    param: RefBareItem<'_>,
+) -> Result<Item, Error>
+    ensures { IfOk result (λ item. item_tree item
+        ≡ item_of_one (ref_value value.entry) (key_text key.entry) (ref_value param.entry)) }
+{
+    let mut text = String::new(alloc);
+    write_item(&mut text, value, key, param)?;
+    Parser::new(text.as_bytes()).parse::<Item>(alloc)
+}
+
+/// Writes the parts of an item at the end of a text: its canonical text.
+///
+/// # Errors
+///
+/// `OutOfMemory` when out of memory.
+pub fn write_parts(text: &mut String, item: &Item) -> Result<(), OutOfMemory>
+    ensures { OnOk result (string_bytes text.new ≡ string_bytes text.old ++ item_text (item_tree item.now)) }
+{
+    let value = item.bare_item.as_ref_item();
+    let params = ItemSerializer::with_buffer(text).bare_item(value)?;
+    params.parameters(item.params.iter())?.finish();
+    Ok(())
+}
