@@ -77,10 +77,10 @@ pub enum StringFromInput<'a> {
     Owned(String),
 }
 
-// Returns the same bytes.
+// Returns the same bytes. That each is one is known of a slice that is passed, and not of one within a bare item.
 #[inline(always)]
 #[tactic(auto, using(crate::proofs::Bytes::run_of_bytes))]
-fn lend_bytes(bytes: &[u8]) -> &[u8]
+fn lent(bytes: &[u8]) -> &[u8]
     ensures value { result.now ≡ bytes.now }
     ensures bytes { RunOf is_byte result.now }
 {

@@ -7,7 +7,7 @@ ghost use Rattle.sfv_bare.specs.BareItems.{GivesPart, bare_value, ref_value, hol
 ghost use Rattle.sfv_text.specs.StringText.{string_text};
 ghost use Rattle.sfv_text.specs.TokenText.{token_text};
 
-use crate::bare::{BareItem, GenericBareItem, RefBareItem, lend_bytes};
+use crate::bare::{BareItem, GenericBareItem, RefBareItem, lent};
 use sfv_base::error::OutOfMemory;
 use sfv_text::string::String;
 use sfv_text::string_ref::StringRef;
@@ -52,13 +52,12 @@ impl<'a> RefBareItem<'a> {
         ensures value { ref_value result ≡ ref_value self.now }
         ensures is_value { IsBareValue (ref_value result) }
     {
+        // That the item is a value is known of what each kind holds.
         match *self {
             GenericBareItem::Decimal(value) => GenericBareItem::Decimal(value),
             GenericBareItem::Integer(value) => GenericBareItem::Integer(value),
             GenericBareItem::String(text) => GenericBareItem::String(text),
-            GenericBareItem::ByteSequence(bytes) => GenericBareItem::ByteSequence(lend_bytes(
-                bytes,
-            )),
+            GenericBareItem::ByteSequence(bytes) => GenericBareItem::ByteSequence(lent(bytes)),
             GenericBareItem::Boolean(value) => GenericBareItem::Boolean(value),
             GenericBareItem::Token(token) => GenericBareItem::Token(token),
             GenericBareItem::Date(value) => GenericBareItem::Date(value),

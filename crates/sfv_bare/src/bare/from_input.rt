@@ -12,7 +12,7 @@ ghost use Rattle.sfv_text.specs.StringText.{string_text};
 ghost use Rattle.sfv_text.specs.TokenText.{token_text};
 
 use crate::bare::{
-    BareItem, BareItemFromInput, GenericBareItem, RefBareItem, StringFromInput, lend_bytes,
+    BareItem, BareItemFromInput, GenericBareItem, RefBareItem, StringFromInput, lent,
 };
 use sfv_base::error::OutOfMemory;
 use sfv_text::string::String;
@@ -116,9 +116,7 @@ impl<'a> BareItemFromInput<'a> {
             GenericBareItem::Decimal(value) => GenericBareItem::Decimal(*value),
             GenericBareItem::Integer(value) => GenericBareItem::Integer(*value),
             GenericBareItem::String(text) => GenericBareItem::String(text.as_string_ref()),
-            GenericBareItem::ByteSequence(bytes) => GenericBareItem::ByteSequence(lend_bytes(
-                bytes,
-            )),
+            GenericBareItem::ByteSequence(bytes) => GenericBareItem::ByteSequence(lent(bytes)),
             GenericBareItem::Boolean(value) => GenericBareItem::Boolean(*value),
             GenericBareItem::Token(token) => GenericBareItem::Token(*token),
             GenericBareItem::Date(value) => GenericBareItem::Date(*value),
