@@ -38,14 +38,22 @@ pub trait FieldType: sealed::Sealed + Drop {
     ghost written: { Self.SerializeResult → Option (List ℕ) };
 
     /// Reads a field of this type (RFC 9651, section 4.2), as `Parser::parse` does.
+    ///
+    /// # Errors
+    ///
+    /// That of `Parser::parse`.
     fn parse(alloc: Global, parser: Parser<'_>) -> Result<Self, Error>
         ensures read { IfOk result (λ value.
             IsParsedAs (parser_edition parser.entry) kind (input_of parser.entry) (tree value)) }
         ensures rejected { IfErr result (IsParseError (parser_edition parser.entry) kind (input_of parser.entry)) }
         ensures fault { IfErr result (IsReaderFault (parser_edition parser.entry) kind (input_of parser.entry)) };
 
-    /// Returns the canonical text (RFC 9651, section 4.1), with memory from `alloc`, or fails as out of memory. For a
-    /// list or a dictionary without members it returns `None`, and asks for no memory.
+    /// Returns the canonical text (RFC 9651, section 4.1), with memory from `alloc`. For a list or a dictionary without
+    /// members it returns `None`, and asks for no memory.
+    ///
+    /// # Errors
+    ///
+    /// `OutOfMemory` when out of memory.
     fn serialize(&self, alloc: Global) -> Result<Self::SerializeResult, OutOfMemory>
         ensures text { IfOk result (λ text. IsSerializedAs kind (tree self.now) (written text)) }
         ensures out_of_memory { IfErr result (λ _. HasMember kind (tree self.now)) };

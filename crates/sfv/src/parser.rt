@@ -61,13 +61,16 @@ impl<'de> Parser<'de> {
     /// Reads the input as a field of this type (RFC 9651, section 4.2), with memory from `alloc`.
     ///
     /// Returns the value exactly if the input is such a field, or fails as out of memory: of a repeated key
-    /// the last value stands, at the place of the first. Else the error has the kind of the first fault from
-    /// the left, and its index, a zero-based offset in bytes which is at most the input's length. Out of
-    /// memory the kind is `OutOfMemory`, without index.
+    /// the last value stands, at the place of the first.
     ///
     /// The keys of a dictionary and of parameters stand in a map whose hash has no secret. Whoever chooses the
     /// keys can search for some that make it slow, so bound the length of a field that others send, to 64 KB say,
     /// or read it with a visitor, which has no map.
+    ///
+    /// # Errors
+    ///
+    /// The kind of the first fault from the left, and its index, a zero-based offset in bytes which is at most the
+    /// input's length. Out of memory the kind is `OutOfMemory`, without index.
     pub fn parse<T: FieldType>(self, alloc: Global) -> Result<T, Error>
         ensures read { IfOk result
             (λ value. IsParsedAs (parser_edition self.entry) T.kind (input_of self.entry) (T.tree value)) }
@@ -81,9 +84,13 @@ impl<'de> Parser<'de> {
     /// with escapes and for byte sequences is asked of `alloc`.
     ///
     /// For an item it returns what the visitor returns after all parts: `BareItem`, a `Parameter` for each parameter,
-    /// repeated keys too, and `ParametersEnd`. Where the visitor fails, the reading ends with its error
-    /// (`ParseError::Visitor`). Else the error (`ParseError::Syntax`) is that of `parse`. The visitor is finished
-    /// before it is known whether anything stands after the item, so its error wins.
+    /// repeated keys too, and `ParametersEnd`.
+    ///
+    /// # Errors
+    ///
+    /// Where the visitor fails, the reading ends with its error (`ParseError::Visitor`). Else the error
+    /// (`ParseError::Syntax`) is that of `parse`. The visitor is finished before it is known whether anything stands
+    /// after the item, so its error wins.
     pub fn parse_item_with_visitor<V: Visitor<'de>>(
         self,
         alloc: Global,
@@ -108,7 +115,11 @@ impl<'de> Parser<'de> {
     ///
     /// For a list it returns what the visitor returns after the parts of all members: `Entry`, and then those of an
     /// item or an inner list. `Entry` is visited where a byte stands where a member is wanted, before that byte is
-    /// looked at. Where the visitor fails, the reading ends with its error (`ParseError::Visitor`). Else the error
+    /// looked at.
+    ///
+    /// # Errors
+    ///
+    /// Where the visitor fails, the reading ends with its error (`ParseError::Visitor`). Else the error
     /// (`ParseError::Syntax`) is that of `parse`. The visitor is finished only where the input has ended without a
     /// fault.
     pub fn parse_list_with_visitor<V: Visitor<'de>>(
@@ -135,9 +146,13 @@ impl<'de> Parser<'de> {
     ///
     /// For a dictionary it returns what the visitor returns after the parts of all members, those of a repeated key
     /// too: `KeyedEntry` once the key has been read, and then the parts of an item or an inner list. A member without
-    /// `=` is the item true. Where the visitor fails, the reading ends with its error (`ParseError::Visitor`). Else the
-    /// error (`ParseError::Syntax`) is that of `parse`. The visitor is finished only where the input has ended without
-    /// a fault.
+    /// `=` is the item true.
+    ///
+    /// # Errors
+    ///
+    /// Where the visitor fails, the reading ends with its error (`ParseError::Visitor`). Else the error
+    /// (`ParseError::Syntax`) is that of `parse`. The visitor is finished only where the input has ended without a
+    /// fault.
     pub fn parse_dictionary_with_visitor<V: Visitor<'de>>(
         self,
         alloc: Global,

@@ -1,46 +1,22 @@
 //! Callers of the library in another crate: what their contracts promise follows from its contracts alone.
 
-ghost use Rattle.std.specs.Prelude.{◌≡◌, ◌++◌, ◌∷◌, ◌↔◌, [], ◌⊎◌, pos, neg_ℤ, OnOk, OnErr, IfOk, IsTrue, string_bytes};
+ghost use Rattle.std.specs.Prelude.{◌≡◌, ◌++◌, ◌∷◌, ◌↔◌, [], pos, neg_ℤ, OnOk, IfOk, IsTrue, string_bytes};
 ghost use Rattle.std.specs.Cmp.Lexicographic.{slice_cmp};
 ghost use Rattle.std.specs.Ordering.{nat_cmp, int_cmp};
-ghost use Rattle.sfv_spec.specs.Canonical.{bare_text, item_text};
+ghost use Rattle.sfv_spec.specs.Canonical.{item_text};
 ghost use Rattle.sfv_base.specs.Numbers.{integer_of, thousandths_of, seconds_of};
 ghost use Rattle.sfv_bare.specs.BareItems.{bare_value, ref_value, input_value, read_text};
 ghost use Rattle.sfv_text.specs.KeyText.{key_text};
-ghost use Rattle.sfv_tree.specs.Trees.{item_tree, list_tree, dictionary_tree};
-ghost use Rattle.sfv_spec.specs.Values.{rfc9651, integer, list_field, dictionary_field, RawField};
-ghost use Rattle.sfv_spec.specs.Grammar.{IsFieldText};
-ghost use Rattle.sfv_spec.specs.Ordered.{ordered};
-ghost use Rattle.sfv_spec.specs.Statements.{IsParsedAs};
+ghost use Rattle.sfv_tree.specs.Trees.{item_tree};
+ghost use Rattle.sfv_spec.specs.Values.{integer};
 
-use sfv::visitor::{DictionaryBuilder, ListBuilder};
 use sfv::{
-    BareItem, BareItemFromInput, Date, Decimal, Dictionary, Error, Integer, Item, ItemSerializer,
-    KeyRef, List, OutOfMemory, ParseError, Parser, RefBareItem, StringFromInput,
+    BareItem, BareItemFromInput, Date, Decimal, Error, Integer, Item, KeyRef, OutOfMemory,
+    RefBareItem, StringFromInput,
 };
-use std::alloc::{AllocError, Global};
+use sfv_uses::writing::write_item;
+use std::alloc::AllocError;
 use std::cmp::Ordering;
-
-/// Writes an item of one parameter after what stands in the text. Out of memory, the text holds what was written before
-/// the call that failed.
-pub fn write_item(
-    text: &mut String,
-    value: RefBareItem<'_>,
-    key: KeyRef<'_>,
-    param: RefBareItem<'_>,
-) -> Result<(), OutOfMemory>
-    ensures ok { OnOk result (string_bytes text.new ≡ string_bytes text.old
-        ++ item_text (record {
-          bare = ref_value value.entry;
-          parameters = (key_text key.entry, ref_value param.entry) ∷ [];
-        })) }
-    ensures err { OnErr result ((string_bytes text.new ≡ string_bytes text.old)
-        ⊎ (string_bytes text.new ≡ string_bytes text.old ++ bare_text (ref_value value.entry))) }
-{
-    let params = ItemSerializer::with_buffer(text).bare_item(value)?;
-    params.parameter(key, param)?.finish();
-    Ok(())
-}
 
 /// Writes an item whose parameter has the same value: a value that borrows its text is copied.
 pub fn write_twice(
@@ -93,16 +69,6 @@ pub fn item_of_number(v: i64) -> Result<RefBareItem<'static>, Error>
     ensures { IfOk result (λ item. ref_value item ≡ integer v) }
 {
     RefBareItem::try_from(v)
-}
-
-/// Writes an item part by part after what stands in the text: its canonical text.
-pub fn write_parts(text: &mut String, item: &Item) -> Result<(), OutOfMemory>
-    ensures { OnOk result (string_bytes text.new ≡ string_bytes text.old ++ item_text (item_tree item.now)) }
-{
-    let value = item.bare_item.as_ref_item();
-    let params = ItemSerializer::with_buffer(text).bare_item(value)?;
-    params.parameters(item.params.iter())?.finish();
-    Ok(())
 }
 
 /// A copy has the same value.
@@ -215,35 +181,4 @@ pub fn order_of_dates(a: Date, b: Date) -> Ordering
     ensures { result ≡ int_cmp (seconds_of a) (seconds_of b) }
 {
     a.cmp(&b)
-}
-
-/// Reads a further line of a list: its members stand after those of the line before.
-pub fn list_of_lines(
-    alloc: Global,
-    first: &[u8],
-    second: &[u8],
-) -> Result<List, ParseError<OutOfMemory>>
-    ensures { IfOk result (λ list. (held : RawField list_field) × (raw : RawField list_field)
-        × IsParsedAs rfc9651 list_field first.now held × IsFieldText rfc9651 list_field raw second.now
-        × (list_tree list.items ≡ held ++ ordered list_field raw)) }
-{
-    let held = Parser::new(first).parse::<List>(alloc)?;
-    let builder = ListBuilder::new(held);
-    Parser::new(second).parse_list_with_visitor(alloc, builder)
-}
-
-/// Reads a further line of a dictionary: as if its members stood after those of the line before in one field. Each key
-/// is there once, at its first place, with the whole member of its last occurrence.
-pub fn dictionary_of_lines(
-    alloc: Global,
-    first: &[u8],
-    second: &[u8],
-) -> Result<Dictionary, ParseError<OutOfMemory>>
-    ensures { IfOk result (λ dictionary. (held : RawField dictionary_field) × (raw : RawField dictionary_field)
-        × IsParsedAs rfc9651 dictionary_field first.now held × IsFieldText rfc9651 dictionary_field raw second.now
-        × (dictionary_tree dictionary.entries ≡ ordered dictionary_field (held ++ raw))) }
-{
-    let held = Parser::new(first).parse::<Dictionary>(alloc)?;
-    let builder = DictionaryBuilder::new(held);
-    Parser::new(second).parse_dictionary_with_visitor(alloc, builder)
 }

@@ -1,7 +1,7 @@
 //! Further lines of a field, read into what the lines before gave.
 
-use crate::callers::{dictionary_of_lines, list_of_lines};
 use sfv::{FieldType, OutOfMemory, ParseError};
+use sfv_uses::reading::{dictionary_of_lines, list_of_lines};
 use std::alloc::Global;
 use std::test::Fail;
 

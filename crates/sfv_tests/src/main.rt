@@ -13,6 +13,8 @@ mod replay;
 #[cfg(test)]
 mod rows;
 #[cfg(test)]
+mod uses;
+#[cfg(test)]
 mod visitors;
 #[cfg(test)]
 mod written;

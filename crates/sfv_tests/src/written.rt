@@ -1,10 +1,10 @@
 //! Items that are written part by part.
 
-use crate::callers::{write_item, write_parts};
 use sfv::{
-    GenericBareItem, Item, ItemSerializer, Parser, RefBareItem, integer, key_ref, string_ref,
+    FieldType, GenericBareItem, Item, ItemSerializer, Parser, RefBareItem, integer, key_ref, string_ref,
     token_ref,
 };
+use sfv_uses::writing::{write_item, write_parts, written_and_read};
 use std::test::Fail;
 
 #[test]
@@ -53,5 +53,7 @@ fn callers_write_items(rt: HostRuntime) -> Result<(), Fail> {
     let item = Parser::new(b"1.50;a;b=%\"%c3%bc\"").parse::<Item>(rt.alloc())?;
     write_parts(&mut text, &item)?;
     assert_eq!(rt; text.as_str(), "X: w;k=?01.5;a;b=%\"%c3%bc\"");
+    let again = written_and_read(rt.alloc(), word, key_ref("k"), no)?;
+    assert_eq!(rt; again.serialize(rt.alloc())?.as_str(), "w;k=?0");
     Ok(())
 }

@@ -27,7 +27,11 @@ pub trait TextClass: sealed::Sealed + Drop {
 
     ghost name: { List ℕ };
 
-    /// Tests whether the bytes are a text of the class, or returns why they are none.
+    /// Tests whether the bytes are a text of the class.
+    ///
+    /// # Errors
+    ///
+    /// What is wrong with them, at the first byte outside the class.
     fn check(bytes: &[u8]) -> Result<(), Error>
         ensures checked { MatchResult result (λ _. IsTrue (is_valid bytes.now)) (IsInvalid bytes.now) }
         ensures utf8 { IfOk result (λ _. IsUtf8 bytes.now) };

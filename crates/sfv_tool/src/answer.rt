@@ -79,8 +79,11 @@ fn answer_dictionary(alloc: Global, version: Version, input: &[u8]) -> Result<St
 }
 
 /// Reads the input, without one closing newline byte, as a field of this type, and returns its
-/// canonical text and a newline, for a list or a dictionary without members the newline alone, or the
-/// fault that `Parser::parse` returns.
+/// canonical text and a newline, for a list or a dictionary without members the newline alone.
+///
+/// # Errors
+///
+/// The fault that `Parser::parse` returns.
 pub fn answer(alloc: Global, field: Field, version: Version, input: &[u8]) -> Result<String, Error>
     ensures accepted { IfOk result (λ text. IsAnswer (edition_of version) (kind_of_field field)
         (without_newline input.now) (string_bytes text)) }

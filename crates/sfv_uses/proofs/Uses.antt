@@ -1,22 +1,22 @@
 -- What the uses rest on.
-use Rattle.std.proofs.Common.{◌≡◌, ℕ, ℤ, ◌+◌, ◌<◌, ◌≤◌, List, [], ◌∷◌, ◌++◌, map, length, refl, sym, ap, ◌∙◌, arith}
+use Rattle.std.proofs.Common.{◌≡◌, ℕ, ℤ, ◌+◌, ◌<◌, ◌≤◌, List, [], ◌∷◌, length, refl, sym, ap, ◌∙◌, arith}
 use Rattle.std.proofs.Common.{inl, inr}
-use Rattle.std.specs.Prelude.{Option, Some, None, Result, Ok, Err, IsSome, IfOk, IfErr, fold, filter_map}
+use Rattle.std.specs.Prelude.{Option, Some, None, Result, Ok, Err, IsSome, IfOk, IfErr, fold, filter_map, option_map}
 use Rattle.std.specs.List.{cons_option}
 use Rattle.std.proofs.lemmas.List.{length-append, length-map}
 use Rattle.std.proofs.lemmas.List.Elements.{filter_map-append}
-use Rattle.sfv.specs.Values.{Edition, rfc9651, dictionary_field, BareValue, integer, decimal, string, token, byte_sequence}
-use Rattle.sfv.specs.Values.{boolean, date, display_string, RawMember}
-use Rattle.sfv.specs.Grammar.{IsFieldText}
+use Rattle.sfv.specs.Values.{rfc9651, dictionary_field, BareValue, integer, decimal, string, token, byte_sequence}
+use Rattle.sfv.specs.Values.{boolean, date, display_string, RawMember, item, inner_list}
 use Rattle.sfv.specs.Events.{TreeEvent, entry, keyed_entry, begins_item, begins_inner_list, bare_item, parameter}
 use Rattle.sfv.specs.Events.{parameters_end, inner_list_end, events, key_in}
-use Rattle.sfv.specs.Ordered.{keys}
+use Rattle.sfv.specs.Ordered.{last_of, ordered_member}
+use Rattle.sfv.specs.Statements.{IsParsedAs}
 use Rattle.sfv.specs.Visiting.{RunsTo, IsVisitorError}
 use Rattle.sfv.specs.Parsers.{IsAnswerOf, IsSyntaxOf, IsVisitorErrorOf}
 use Rattle.sfv.specs.Types.{ParseError}
 use Rattle.sfv.specs.Types.parse_errors.{Syntax, Visitor}
-use Rattle.sfv.proofs.Callers.{runs_fold, keys_in_events}
-use Rattle.sfv_uses.specs.Uses.{integer_or, counts, HasMembers, IsCountError}
+use Rattle.sfv.proofs.Callers.{runs_fold, keys_in_events, member_read, last_of-collapse}
+use Rattle.sfv_uses.specs.Uses.{integer_or, param_in, counts, HasMembers, IsCountError}
 use Rattle.sfv_uses.specs.declared.visiting.MemberCounter.{MemberCounter}
 use Rattle.sfv_uses.specs.declared.visiting.TooMany.{TooMany}
 
@@ -30,6 +30,18 @@ integer_or-other default (byte_sequence bytes) h = refl
 integer_or-other default (boolean b) h = refl
 integer_or-other default (date z) h = refl
 integer_or-other default (display_string s) h = refl
+
+-- a parameter in a dictionary that was read is the last of the text
+pub param_read : (t : List ℕ) (value : List (List ℕ × RawMember)) (key param : List ℕ)
+    → (h : IsParsedAs rfc9651 dictionary_field t value)
+    → param_in param (last_of key value) ≡ param_in param (last_of key h.raw)
+param_read t value key param h =
+    ap (param_in param) (member_read rfc9651 t value key h) ∙ go (last_of key h.raw)
+  where
+    go : (m : Option RawMember) → param_in param (option_map ordered_member m) ≡ param_in param m
+    go None = refl
+    go (Some (item i)) = last_of-collapse param i.parameters
+    go (Some (inner_list l)) = last_of-collapse param l.parameters
 
 -- the keys among some events
 abbrev keys_among : List TreeEvent → ℕ

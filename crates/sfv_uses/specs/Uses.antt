@@ -1,8 +1,10 @@
 -- What the uses answer.
-use Rattle.std.specs.Prelude.{◌≡◌, ℕ, ℤ, ◌+◌, ◌<◌, List, [], ◌∷◌, ◌++◌, length, codes}
+use Rattle.std.specs.Prelude.{◌≡◌, ℕ, ℤ, ◌+◌, ◌<◌, List, [], ◌∷◌, ◌++◌, length, Option, Some, None, codes}
 use Rattle.std.specs.List.{repeat}
-use Rattle.sfv.specs.Values.{rfc9651, list_field, dictionary_field, BareValue, integer, RawItem, RawMember}
+use Rattle.sfv.specs.Values.{rfc9651, list_field, dictionary_field, BareValue, integer, RawParameters, RawItem, RawMember}
+use Rattle.sfv.specs.Values.{item, inner_list}
 use Rattle.sfv.specs.Grammar.{IsFieldText}
+use Rattle.sfv.specs.Ordered.{last_of}
 use Rattle.sfv.specs.Events.{TreeEvent, keyed_entry}
 use Rattle.sfv.specs.Types.{ParseError}
 use Rattle.sfv.specs.Types.parse_errors.{Syntax, Visitor}
@@ -23,6 +25,15 @@ pub record IsExplained (t text : List ℕ) : Type 0 where
 abbrev pub integer_or : ℤ → BareValue → ℤ
 integer_or default (integer z) = z
 integer_or default b = default
+
+abbrev pub parameters_of : RawMember → RawParameters
+parameters_of (item i) = i.parameters
+parameters_of (inner_list l) = l.parameters
+
+-- the last value of a parameter of this key, if there is a member and it has one
+abbrev pub param_in : List ℕ → Option RawMember → Option BareValue
+param_in key None = None
+param_in key (Some m) = last_of key (parameters_of m)
 
 -- one member more at each key, and the same limit
 abbrev pub counts : ℕ × ℕ → TreeEvent → ℕ × ℕ

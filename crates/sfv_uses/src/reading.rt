@@ -1,17 +1,22 @@
 //! Reading a field into a value.
 
-ghost use Rattle.std.specs.Prelude.{◌≡◌, ◌++◌, IsNone, IfOk, IfErr, IfSome, string_bytes};
+ghost use Rattle.std.specs.Prelude.{◌≡◌, ◌++◌, IsNone, IfOk, IfErr, IfSome, option_copied, option_map, string_bytes};
 ghost use Rattle.sfv.specs.Values.{rfc9651, rfc8941, item_field, list_field, dictionary_field, RawField};
 ghost use Rattle.sfv.specs.Grammar.{IsFieldText, IsAccepted};
-ghost use Rattle.sfv.specs.Ordered.{ordered};
+ghost use Rattle.sfv.specs.Ordered.{ordered, last_of};
 ghost use Rattle.sfv.specs.Statements.{IsParsedAs};
-ghost use Rattle.sfv.specs.Trees.{list_tree, dictionary_tree};
+ghost use Rattle.sfv.specs.Trees.{list_tree, dictionary_tree, member_tree, pairs_tree};
+ghost use Rattle.sfv.specs.BareItems.{bare_value};
+ghost use Rattle.sfv.specs.KeyText.{key_text};
 ghost use Rattle.sfv.specs.Parsers.{IsParseError};
 ghost use Rattle.sfv.specs.NumberValues.{integer_of};
-ghost use Rattle.sfv_uses.specs.Uses.{IsExplained, integer_or};
+ghost use Rattle.sfv_uses.specs.Uses.{IsExplained, integer_or, parameters_of, param_in};
 
 use sfv::visitor::{DictionaryBuilder, ListBuilder};
-use sfv::{Dictionary, Error, Integer, Item, List, OutOfMemory, ParseError, Parser, Version};
+use sfv::{
+    BareItem, Dictionary, Error, Integer, Item, KeyRef, List, ListEntry, OutOfMemory, Parameters,
+    ParseError, Parser, Version, find_entry, find_param,
+};
 use std::alloc::Global;
 
 /// Reads a list under RFC 8941, the older version.
@@ -55,11 +60,7 @@ pub fn explain(alloc: Global, input: &[u8]) -> Result<Option<String>, OutOfMemor
 /// # Errors
 ///
 /// That of `Parser::parse`.
-pub fn integer_with_default(
-    alloc: Global,
-    input: &[u8],
-    default: Integer,
-) -> Result<Integer, Error>
+pub fn integer_with_default(alloc: Global, input: &[u8], default: Integer) -> Result<Integer, Error>
     ensures { IfOk result (λ z. (value : RawField item_field) × IsParsedAs rfc9651 item_field input.now value
         × (integer_of z ≡ integer_or (integer_of default) value.bare)) }
 {
@@ -68,6 +69,53 @@ pub fn integer_with_default(
         return Ok(default);
     };
     Ok(integer)
+}
+
+/// Returns the parameters of a member.
+fn params_of(member: &ListEntry) -> &Parameters
+    ensures { parameters_of (member_tree member.now) ≡ pairs_tree result.now.entries }
+{
+    match member {
+        ListEntry::Item(item) => &item.params,
+        ListEntry::InnerList(list) => &list.params,
+    }
+}
+
+/// Returns the parameter of a dictionary's member.
+fn param_of<'a>(
+    dictionary: &'a Dictionary,
+    member: KeyRef<'_>,
+    param: KeyRef<'_>,
+) -> Option<&'a BareItem>
+    ensures { option_map bare_value (option_copied result)
+        ≡ param_in (key_text param.entry) (last_of (key_text member.entry) (dictionary_tree dictionary.now.entries)) }
+{
+    let entry = find_entry(dictionary, member)?;
+    find_param(params_of(entry), param)
+}
+
+/// Reads a dictionary and returns the parameter of a member: the last of its key, of the last member of its own. `None` if there
+/// is no such member, or it has no such parameter.
+///
+/// # Errors
+///
+/// That of `Parser::parse`.
+pub fn param_of_member(
+    alloc: Global,
+    input: &[u8],
+    member: KeyRef<'_>,
+    param: KeyRef<'_>,
+) -> Result<Option<BareItem>, Error>
+    ensures { IfOk result (λ found. (raw : RawField dictionary_field)
+        × IsFieldText rfc9651 dictionary_field raw input.now
+        × (option_map bare_value found ≡ param_in (key_text param.entry) (last_of (key_text member.entry) raw))) }
+{
+    let dictionary = Parser::new(input).parse::<Dictionary>(alloc)?;
+    let Some(value) = param_of(&dictionary, member, param) else {
+        return Ok(None);
+    };
+    let copy = value.as_ref_item().try_to_owned(alloc)?;
+    Ok(Some(copy))
 }
 
 /// Reads a list that comes in two lines: the members of the second stand behind those of the first.

@@ -1,4 +1,4 @@
-//! What a bare item holds, if it is of a kind.
+//! What a bare item holds, if it is of a kind. Each has two clauses: of the variant, and of the value.
 
 ghost use Rattle.std.specs.Prelude.{ℕ, List};
 ghost use Rattle.sfv_spec.specs.Values as values;

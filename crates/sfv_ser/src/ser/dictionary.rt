@@ -70,6 +70,10 @@ pub(crate) fn serialize_dictionary<A: Allocator>(
 
 /// Returns the text of a dictionary, with memory from `alloc`, or `None` for a dictionary without
 /// members, of which nothing is written (RFC 9651, section 4.1).
+///
+/// # Errors
+///
+/// `OutOfMemory` when out of memory.
 pub fn dictionary_text(
     dictionary: &Dictionary,
     alloc: Global,

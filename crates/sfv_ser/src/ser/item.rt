@@ -163,6 +163,10 @@ pub(crate) fn serialize_all_parameters<A: Allocator>(
 }
 
 /// Appends an item.
+///
+/// # Errors
+///
+/// `OutOfMemory` when out of memory; the old text still stands in front then.
 #[inline(always)]
 pub fn serialize_item<A: Allocator>(
     item: &Item,

@@ -101,6 +101,10 @@ pub(crate) fn serialize_list<A: Allocator>(
 
 /// Returns the text of a list, with memory from `alloc`, or `None` for a list without members, of
 /// which nothing is written (RFC 9651, section 4.1).
+///
+/// # Errors
+///
+/// `OutOfMemory` when out of memory.
 pub fn list_text(list: &List, alloc: Global) -> Result<Option<StdString>, OutOfMemory>
     ensures text { IfOk result (λ text.
         IsSerializedAs list_field (list_tree list.now.items) (option_map string_bytes text)) }

@@ -1,4 +1,4 @@
-use Rattle.std.proofs.Common.{◌≡◌, sym, ap, string_bytes}
+use Rattle.std.proofs.Common.{sym, ap, string_bytes}
 use Rattle.sfv.specs.Values.{rfc9651, item_field}
 use Rattle.sfv.specs.NumberValues.{integer_of}
 use Rattle.sfv.specs.Statements.{IsParsedAs}

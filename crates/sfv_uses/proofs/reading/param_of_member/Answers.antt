@@ -1,0 +1,27 @@
+use Rattle.std.proofs.Common.{◌≡◌, ◌∙◌, ap}
+use Rattle.std.specs.Prelude.{Some}
+use Rattle.sfv.specs.Values.{rfc9651, dictionary_field, BareValue}
+use Rattle.sfv.specs.Statements.{IsParsedAs}
+use Rattle.sfv.specs.Trees.{dictionary_tree}
+use Rattle.sfv.specs.BareItems.{bare_value}
+use Rattle.sfv.specs.KeyText.{key_text}
+use Rattle.sfv_uses.proofs.Uses.{param_read}
+use Rattle.sfv_uses.proofs.reading.param_of_member.Goals as goal
+
+pub returns-in_default : goal.returns-in_default
+returns-in_default c =
+    let value = dictionary_tree c.in_ok-dictionary.dictionary.entries in
+    let read : IsParsedAs rfc9651 dictionary_field c.args.input.now value =
+    rw c.new.ensures at c.in_ok-dictionary.ensures.read in
+    let there = param_read c.args.input.now value (key_text c.args.member) (key_text c.args.param) read in
+    (read.raw, read.accepted, c.in_default.ensures ∙ there)
+
+pub returns : goal.returns
+returns c =
+    let value = dictionary_tree c.in_ok-dictionary.dictionary.entries in
+    let read : IsParsedAs rfc9651 dictionary_field c.args.input.now value =
+    rw c.new.ensures at c.in_ok-dictionary.ensures.read in
+    let there = param_read c.args.input.now value (key_text c.args.member) (key_text c.args.param) read in
+    let copy : bare_value c.in_ok-copy.copy ≡ bare_value c.in-Some.value.now =
+    c.in_ok-copy.ensures.value ∙ c.as_ref_item.ensures.value in
+    (read.raw, read.accepted, ap (λ (b : BareValue). Some b) copy ∙ c.in-Some.ensures ∙ there)
