@@ -7,6 +7,8 @@ ghost use Rattle.sfv.specs.Statements.{IsParsedAs};
 ghost use Rattle.sfv.specs.Trees.{list_tree};
 ghost use Rattle.sfv.specs.Parsers.{IsParseError};
 
+pub mod content_digest;
+
 use sfv::{Error, List, Parser, Version};
 use std::alloc::Global;
 
