@@ -1,6 +1,8 @@
 -- The digests of members: as a text has them, as they are read, and as they are written.
 use Rattle.std.proofs.Common.{◌≡◌, ℕ, List, [], ◌∷◌, ◌++◌, refl, sym, ap, ◌∙◌, inl, inr}
-use Rattle.std.specs.Prelude.{◌⊎◌, Option, Some, None, option_map, Result, Ok, Err, IfOk, IfErr, IfSome}
+use Rattle.std.specs.Prelude.{◌⊎◌, Option, Some, None, option_map, Result, Ok, Err, IfOk, IfErr, IfSome, string_bytes}
+use Rattle.std.specs.declared.alloc.Global.{Global}
+use Rattle.std.specs.declared.string.String.{String}
 use Rattle.sfv.specs.Values.{rfc9651, dictionary_field, RawMember, item, inner_list}
 use Rattle.sfv.specs.Ordered.{last_of, ordered, ordered_member}
 use Rattle.sfv.specs.Statements.{IsParsedAs, IsSerializedAs}
@@ -103,8 +105,9 @@ AreDigests-members d = go d.sha_256 d.sha_512
     go (Some x) (Some y) = record { sha_256 = refl; sha_512 = refl }
 
 -- so what is written is read as these digests
-pub digests_written : (d : Digests) (t : Option (List ℕ)) → IsSerializedAs dictionary_field (digest_members d) t
-    → IfSome t (λ text. IsContentDigest text d)
+pub digests_written : (d : Digests) (o : Option (String Global))
+    → IsSerializedAs dictionary_field (digest_members d) (option_map string_bytes o)
+    → IfSome o (λ text. IsContentDigest (string_bytes text) d)
 digests_written d None h = tt
 digests_written d (Some text) h =
     let parsed = h.1.read_back in
