@@ -9,7 +9,8 @@ use Rattle.sfv.specs.Statements.{IsParsedAs, IsSerializedAs}
 use Rattle.sfv.specs.Errors.{out_of_memory}
 use Rattle.sfv.specs.Parsers.{IsParseError}
 use Rattle.sfv_spec.proofs.Last.{last_of-ordered}
-use Rattle.sfv_uses.specs.ContentDigests.{Members, sha_256_key, sha_512_key, bytes_in, last_bytes, Digests, digests_in, AreDigests, HasWrongType, IsContentDigest, IsDigestError, ReturnsDigests, digest_members, GivesDigests}
+use Rattle.sfv_uses.specs.ContentDigests.{Members, sha_256_key, sha_512_key, bytes_in, last_bytes, Digests, digests_in, AreDigests, HasWrongType, IsContentDigest, HasDigests, IsDigestError, ReturnsDigests, digest_members}
+use Rattle.sfv_uses.specs.DigestSteps.{GivesDigests}
 use Rattle.sfv_uses.specs.declared.content_digest.ContentDigest.{ContentDigest}
 use Rattle.sfv_uses.specs.declared.content_digest.DigestError.{DigestError}
 use Rattle.sfv_uses.specs.declared.content_digest.DigestError.TheVariants as errors
@@ -65,7 +66,7 @@ right_members members d h (inr wrong) = right_digest d.sha_512 (sym h.sha_512 �
 -- a text that is read has its digests from what was read
 module _ (text : List ℕ) (value : Members) (parsed : IsParsedAs rfc9651 dictionary_field text value) where
   pub digests_read : (r : Result ContentDigest DigestError) → GivesDigests value r
-      → IfOk r (λ digest. IsContentDigest text (digests_in digest))
+      → IfOk r (HasDigests text)
   digests_read (Ok digest) h = record {
     members = parsed.raw;
     accepted = parsed.accepted;
@@ -92,6 +93,8 @@ module _ (text : List ℕ) (value : Members) (parsed : IsParsedAs rfc9651 dictio
   digests_returned (Err e) (inl h) d is = h
   digests_returned (Err e) (inr h) d is = absurd (right_members parsed.raw d (of_parsed d is)
       (HasWrongType-read parsed.raw value parsed.ordered_value h.1))
+
+pub ruleset reading = (digests_read, digests_refused, digests_returned)
 
 -- digests are those of their members
 AreDigests-members : (d : Digests) → AreDigests (digest_members d) d

@@ -1,9 +1,9 @@
 -- The Content-Digest field (RFC 9530, section 2): a Dictionary, in which a key names a hashing algorithm and its value is
 -- the digest by this algorithm, as a Byte Sequence.
-use Rattle.std.specs.Prelude.{◌≡◌, ℕ, List, [], ◌∷◌, ◌++◌, ◌⊎◌, codes, Option, Some, None, option_map, bytes_eq, Result, MatchResult}
+use Rattle.std.specs.Prelude.{◌≡◌, ℕ, List, [], ◌∷◌, ◌++◌, ◌⊎◌, codes, Option, Some, None, option_map}
+use Rattle.std.specs.Prelude.{Result, MatchResult}
 use Rattle.std.specs.declared.alloc.Global.{Global}
 use Rattle.std.specs.declared.vec.Vec.{Vec}
-use Rattle.indexmap.specs.IndexMap.{insert_entry}
 use Rattle.sfv.specs.Values.{rfc9651, dictionary_field, BareValue, byte_sequence, RawMember, item, inner_list}
 use Rattle.sfv.specs.Grammar.{IsFieldText}
 use Rattle.sfv.specs.Ordered.{last_of}
@@ -72,6 +72,9 @@ pub record IsDictionary (text : List ℕ) (P : Members → Type 0) : Type 0 wher
 abbrev pub IsContentDigest : List ℕ → Digests → Type 0
 IsContentDigest text digests = IsDictionary text (λ members. AreDigests members digests)
 
+abbrev pub HasDigests : List ℕ → ContentDigest → Type 0
+HasDigests text digest = IsContentDigest text (digests_in digest)
+
 -- it is no dictionary, or out of memory; or it is one in which a digest's member is no byte sequence
 abbrev pub IsDigestError : List ℕ → DigestError → Type 0
 IsDigestError text (errors.Field e) = IsParseError rfc9651 dictionary_field text e
@@ -94,18 +97,3 @@ digest_member key (Some bytes) = (key, bytes_member bytes) ∷ []
 -- the dictionary of digests
 abbrev pub digest_members : Digests → Members
 digest_members d = digest_member sha_256_key d.sha_256 ++ digest_member sha_512_key d.sha_512
-
--- the members with a digest entered, if there is one
-abbrev pub entered : Members → List ℕ → Option (List ℕ) → Members
-entered members key None = members
-entered members key (Some bytes) = insert_entry bytes_eq members key (bytes_member bytes)
-
--- what one key's last member gives: its digest, or an error exactly for want of memory or of a byte sequence
-abbrev pub GivesDigest : Option (Option (List ℕ)) → Result (Option (Vec ℕ Global)) DigestError → Type 0
-GivesDigest held result = MatchResult result (λ digest. held ≡ option_map Some (digest_bytes digest))
-    (λ e. (e ≡ errors.Field out_of_memory) ⊎ ((e ≡ errors.WrongType) × (held ≡ Some None)))
-
--- what members give: their digests, or an error exactly for want of memory or of a byte sequence
-abbrev pub GivesDigests : Members → Result ContentDigest DigestError → Type 0
-GivesDigests members result = MatchResult result (λ digest. AreDigests members (digests_in digest))
-    (λ e. (e ≡ errors.Field out_of_memory) ⊎ ((e ≡ errors.WrongType) × HasWrongType members))

@@ -1,1 +1,2 @@
 pub mod ContentDigests
+pub mod DigestSteps

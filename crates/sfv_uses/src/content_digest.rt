@@ -1,12 +1,16 @@
 //! The Content-Digest field: digests of a content, by hashing algorithm (RFC 9530, section 2).
 
-ghost use Rattle.std.specs.Prelude.{◌≡◌, ◌↔◌, None, IfOk, IfErr, IfSome, OnOk, MatchOption, option_map, option_copied, string_bytes};
+ghost use Rattle.std.specs.Prelude.{◌≡◌, ◌≢◌, ◌↔◌, None, IfOk, IfErr, IfSome, OnOk, OnErr, MatchOption};
+ghost use Rattle.std.specs.Prelude.{option_map, option_copied, string_bytes};
 ghost use Rattle.sfv.specs.Values.{dictionary_field};
 ghost use Rattle.sfv.specs.Statements.{IsSerializedAs};
 ghost use Rattle.sfv.specs.Errors.{out_of_memory};
 ghost use Rattle.sfv.specs.KeyText.{key_text};
 ghost use Rattle.sfv.specs.Trees.{member_tree, dictionary_tree};
-ghost use Rattle.sfv_uses.specs.ContentDigests.{bytes_in, last_bytes, digest_bytes, digests_in, no_digests, IsContentDigest, IsDigestError, ReturnsDigests, GivesDigest, GivesDigests, bytes_member, digest_members, entered};
+ghost use Rattle.sfv_uses.specs.ContentDigests.{bytes_in, last_bytes, digest_bytes, digests_in, no_digests};
+ghost use Rattle.sfv_uses.specs.ContentDigests.{IsContentDigest, HasDigests, IsDigestError, ReturnsDigests};
+ghost use Rattle.sfv_uses.specs.ContentDigests.{bytes_member, digest_members};
+ghost use Rattle.sfv_uses.specs.DigestSteps.{GivesDigest, GivesDigests, entered};
 ghost use Rattle.sfv_uses.specs.declared.content_digest.DigestError.TheVariants as errors;
 
 use sfv::{
@@ -101,8 +105,9 @@ fn digests_of(alloc: Global, dictionary: &Dictionary) -> Result<ContentDigest, D
 ///
 /// `Field` where the input is no dictionary, or out of memory; `WrongType` where it is one in which the last member of
 /// an algorithm is no byte sequence.
+#[tactic(auto, using(crate::proofs::Digests::reading))]
 pub fn read(alloc: Global, input: &[u8]) -> Result<ContentDigest, DigestError>
-    ensures read { IfOk result (λ digest. IsContentDigest input.now (digests_in digest)) }
+    ensures read { IfOk result (HasDigests input.now) }
     ensures refused { IfErr result (IsDigestError input.now) }
     ensures returned { ReturnsDigests input.now result }
 {
@@ -125,8 +130,9 @@ fn put(
     algorithm: KeyRef<'_>,
     digest: &Option<Vec<u8>>,
 ) -> Result<(), OutOfMemory>
-    ensures { OnOk result (dictionary_tree dictionary.new.entries
+    ensures members { OnOk result (dictionary_tree dictionary.new.entries
         ≡ entered (dictionary_tree dictionary.old.entries) (key_text algorithm.entry) (digest_bytes digest.now)) }
+    ensures out_of_memory { OnErr result (digest.now ≢ None) }
 {
     if let Some(bytes) = digest {
         let member = member_of(alloc, bytes.as_slice())?;
@@ -138,8 +144,9 @@ fn put(
 
 // Returns the dictionary of digests.
 fn dictionary_of(alloc: Global, digest: &ContentDigest) -> Result<Dictionary, OutOfMemory>
-    ensures { IfOk result (λ dictionary.
+    ensures members { IfOk result (λ dictionary.
         dictionary_tree dictionary.entries ≡ digest_members (digests_in digest.now)) }
+    ensures out_of_memory { IfErr result (λ _. digests_in digest.now ≢ no_digests) }
 {
     let mut dictionary = Dictionary::new(alloc);
     put(alloc, &mut dictionary, key_ref("sha-256"), &digest.sha_256)?;
@@ -152,13 +159,14 @@ fn dictionary_of(alloc: Global, digest: &ContentDigest) -> Result<Dictionary, Ou
 ///
 /// # Errors
 ///
-/// Out of memory.
+/// Out of memory, only where there is a digest.
 pub fn write(alloc: Global, digest: &ContentDigest) -> Result<Option<String>, OutOfMemory>
     ensures text { IfOk result (λ text.
         IsSerializedAs dictionary_field (digest_members (digests_in digest.now)) (option_map string_bytes text)) }
     ensures read_back { IfOk result (λ text.
         IfSome text (λ text. IsContentDigest (string_bytes text) (digests_in digest.now))) }
     ensures none { IfOk result (λ text. (text ≡ None) ↔ (digests_in digest.now ≡ no_digests)) }
+    ensures out_of_memory { IfErr result (λ _. digests_in digest.now ≢ no_digests) }
 {
     let dictionary = dictionary_of(alloc, digest)?;
     dictionary.serialize(alloc)
