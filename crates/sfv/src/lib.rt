@@ -27,6 +27,7 @@ pub use sfv_text::string_ref::StringRef;
 pub use sfv_text::token::Token;
 pub use sfv_text::token_ref::TokenRef;
 pub use sfv_tree::parsed::{
-    Dictionary, InnerList, Item, List, ListEntry, Parameters, find_entry, find_param,
+    Dictionary, InnerList, Item, List, ListEntry, Parameters, find_entry, find_param, insert_entry,
+    insert_param,
 };
 pub use sfv_tree::visitor;

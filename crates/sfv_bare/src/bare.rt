@@ -1,6 +1,8 @@
 //! Bare items (RFC 9651, section 3.3), and the versions of the standard.
 
 ghost use Rattle.std.specs.Prelude.{◌≡◌, Some};
+ghost use Rattle.sfv_spec.specs.Texts.{RunOf};
+ghost use Rattle.sfv_spec.specs.Values.{is_byte};
 ghost use Rattle.sfv_bare.specs.BareItems.{IsCopyBy, TakesNoMemoryBy, version_text};
 
 mod accessors;
@@ -73,6 +75,16 @@ pub enum StringFromInput<'a> {
     Borrowed(StringRef<'a>),
     /// The string is written with escapes.
     Owned(String),
+}
+
+// Returns the same bytes. That each is one is known of a slice that is passed, and not of one within a bare item.
+#[inline(always)]
+#[tactic(auto, using(crate::proofs::Bytes::run_of_bytes))]
+fn lent(bytes: &[u8]) -> &[u8]
+    ensures value { result.now ≡ bytes.now }
+    ensures bytes { RunOf is_byte result.now }
+{
+    bytes
 }
 
 impl<S: Clone, B: Clone, T: Clone, D: Clone> Clone for GenericBareItem<S, B, T, D> {

@@ -2,7 +2,6 @@ pub mod Encoded
 pub mod ReadBack
 pub mod Decimals
 pub mod Written
-pub mod Params
 pub mod Lent
 pub mod Rows
 pub mod Members

@@ -11,7 +11,6 @@ use Rattle.sfv_spec.specs.Ordered.{IsOrderedMember, keys, no_repeats}
 use Rattle.sfv_tree.specs.declared.parsed.ListEntry.{ListEntry}
 use Rattle.sfv_tree.specs.Trees.{member_tree}
 use Rattle.sfv_tree.specs.Trees.{dictionary_tree}
-use Rattle.sfv_ser.proofs.Params.{no_repeats-distinct}
 
 -- the pairs that are lent
 abbrev pub lent_members : List (Bor (List ℕ) × Bor ListEntry) → List (List ℕ × ListEntry)
@@ -20,15 +19,6 @@ lent_members pairs = map (λ p. (p.0.now, p.1.now)) pairs
 -- a member of a dictionary in which no key stands twice
 abbrev pub IsGoodMember : List ℕ × RawMember → Type 0
 IsGoodMember m = (IsTrue (is_key m.0) × IsMember m.1) × IsOrderedMember m.1
-
-keys-dictionary_tree : (es : List (List ℕ × ListEntry)) → keys (dictionary_tree es) ≡ keys_of es
-keys-dictionary_tree [] = refl
-keys-dictionary_tree (e ∷ es) = ap (λ (ks : List (List ℕ)). e.0 ∷ ks) (keys-dictionary_tree es)
-
--- a map has no key twice
-pub members_distinct : (es : List (List ℕ × ListEntry)) → IsDistinct bytes_eq (keys_of es)
-    → IsTrue (no_repeats (keys (dictionary_tree es)))
-members_distinct es h = rw (keys-dictionary_tree es) (no_repeats-distinct (keys_of es) h)
 
 -- the members so far and those to come, when one more was taken
 pub member_taken : (taken : List (Bor (List ℕ) × Bor ListEntry)) (p : Bor (List ℕ)

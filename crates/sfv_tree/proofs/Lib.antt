@@ -1,2 +1,3 @@
 pub mod Clones
 pub mod Entered
+pub mod Distinct

@@ -6,8 +6,8 @@ use Rattle.indexmap.specs.IndexMap.{insert_entry}
 use Rattle.sfv_spec.specs.Values.{BareValue, RawItem, RawInnerList, RawMember, item, inner_list}
 use Rattle.sfv_spec.specs.Events.{TreeEvent, entry, keyed_entry, begins_item, begins_inner_list}
 use Rattle.sfv_spec.specs.Events.{bare_item, parameter, parameters_end, inner_list_end}
-use Rattle.sfv_bare.specs.BareItems.{is_text, bare_value}
-use Rattle.sfv_tree.specs.Trees.{OwnedBareItem, pairs_tree, item_tree, inner_list_tree, list_tree, dictionary_tree}
+use Rattle.sfv_bare.specs.BareItems.{is_text}
+use Rattle.sfv_tree.specs.Trees.{item_with, item_tree, inner_list_tree, list_tree, dictionary_tree}
 use Rattle.sfv_tree.specs.declared.parsed.Item.{Item}
 use Rattle.sfv_tree.specs.declared.parsed.InnerList.{InnerList}
 use Rattle.sfv_tree.specs.declared.visitor.item_builder.ItemBuilder.{ItemBuilder}
@@ -75,10 +75,6 @@ takes_memory p e = false
 abbrev pub has_ended : MemberPlace → Bool
 has_ended (ended m) = true
 has_ended p = false
-
--- the item of this value with these parameters
-abbrev pub item_with : OwnedBareItem → List (List ℕ × OwnedBareItem) → RawItem
-item_with value params = record { bare = bare_value value; parameters = pairs_tree params }
 
 -- the item that is being read of a member: its own, or one of its inner list
 abbrev pub item_of : PartialMember → Option RawItem

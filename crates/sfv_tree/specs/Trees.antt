@@ -23,13 +23,21 @@ pair_tree p = (p.0, bare_value p.1)
 abbrev pub pairs_tree : List (List ℕ × OwnedBareItem) → RawParameters
 pairs_tree pairs = map pair_tree pairs
 
+-- the item of this value with these parameters
+abbrev pub item_with : OwnedBareItem → List (List ℕ × OwnedBareItem) → RawItem
+item_with value params = record { bare = bare_value value; parameters = pairs_tree params }
+
 -- the value of an item
 abbrev pub item_tree : Item → RawItem
-item_tree i = record { bare = bare_value i.bare_item; parameters = pairs_tree i.params.entries }
+item_tree i = item_with i.bare_item i.params.entries
+
+-- the inner list of these items with these parameters
+abbrev pub inner_list_with : List Item → List (List ℕ × OwnedBareItem) → RawInnerList
+inner_list_with items params = record { items = map item_tree items; parameters = pairs_tree params }
 
 -- the value of an inner list
 abbrev pub inner_list_tree : InnerList → RawInnerList
-inner_list_tree l = record { items = map item_tree l.items.items; parameters = pairs_tree l.params.entries }
+inner_list_tree l = inner_list_with l.items.items l.params.entries
 
 -- the value of a member of a list or a dictionary
 abbrev pub member_tree : ListEntry → RawMember

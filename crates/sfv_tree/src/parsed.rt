@@ -1,9 +1,13 @@
 //! Lists, dictionaries, inner lists, parameters and items (RFC 9651, sections 3.1 to 3.3).
 
-ghost use Rattle.std.specs.Prelude.{◌≡◌, [], IfOk, map, bytes_eq, option_copied};
-ghost use Rattle.indexmap.specs.IndexMap.{get};
+ghost use Rattle.std.specs.Prelude.{◌≡◌, ◌+◌, ◌<◌, ◌≤◌, [], IsOk, IfOk, OnOk, OnErr, IsTrue, None, map, bytes_eq};
+ghost use Rattle.std.specs.Prelude.{option_copied, option_map};
+ghost use Rattle.indexmap.specs.IndexMap.{get, insert_entry, spare};
+ghost use Rattle.sfv_spec.specs.Ordered.{keys, last_of, no_repeats};
+ghost use Rattle.sfv_bare.specs.BareItems.{bare_value};
 ghost use Rattle.sfv_text.specs.KeyText.{key_text};
-ghost use Rattle.sfv_tree.specs.Trees.{item_tree, pairs_tree, inner_list_tree, member_tree};
+ghost use Rattle.sfv_tree.specs.Trees.{item_with, item_tree, pairs_tree, inner_list_with, inner_list_tree};
+ghost use Rattle.sfv_tree.specs.Trees.{member_tree, dictionary_tree};
 ghost use Rattle.sfv_tree.specs.declared.parsed.ListEntry.TheVariants as entries;
 
 use indexmap::IndexMap;
@@ -32,6 +36,7 @@ impl Item {
     pub fn new(alloc: Global, bare_item: BareItem) -> Item
         ensures value { result.bare_item ≡ bare_item }
         ensures params { result.params.entries ≡ [] }
+        ensures tree { item_tree result ≡ item_with bare_item [] }
     {
         Item {
             bare_item,
@@ -43,6 +48,7 @@ impl Item {
     pub fn with_params(bare_item: BareItem, params: Parameters) -> Item
         ensures value { result.bare_item ≡ bare_item }
         ensures params { result.params ≡ params }
+        ensures tree { item_tree result ≡ item_with bare_item params.entries }
     {
         Item { bare_item, params }
     }
@@ -80,6 +86,7 @@ impl InnerList {
     pub fn new(alloc: Global, items: Vec<Item>) -> InnerList
         ensures items { result.items ≡ items }
         ensures params { result.params.entries ≡ [] }
+        ensures tree { inner_list_tree result ≡ inner_list_with items.items [] }
     {
         InnerList::with_params(items, Parameters::new(alloc))
     }
@@ -88,6 +95,7 @@ impl InnerList {
     pub fn with_params(items: Vec<Item>, params: Parameters) -> InnerList
         ensures items { result.items ≡ items }
         ensures params { result.params ≡ params }
+        ensures tree { inner_list_tree result ≡ inner_list_with items.items params.entries }
     {
         InnerList { items, params }
     }
@@ -96,6 +104,7 @@ impl InnerList {
     pub fn empty(alloc: Global) -> InnerList
         ensures items { result.items.items ≡ [] }
         ensures params { result.params.entries ≡ [] }
+        ensures tree { inner_list_tree result ≡ inner_list_with [] [] }
     {
         InnerList::new(alloc, Vec::new(alloc))
     }
@@ -169,9 +178,11 @@ impl Clone for ListEntry {
 /// Returns the member of this key in a dictionary (RFC 9651, section 3.2), or `None` if there is none. It takes no
 /// memory.
 pub fn find_entry<'a>(dictionary: &'a Dictionary, key: KeyRef<'_>) -> Option<&'a ListEntry>
-    ensures { option_copied result ≡ get bytes_eq dictionary.now (key_text key.entry) }
+    ensures value { option_copied result ≡ get bytes_eq dictionary.now (key_text key.entry) }
+    ensures last { option_map member_tree (option_copied result)
+        ≡ last_of (key_text key.entry) (dictionary_tree dictionary.now.entries) }
 {
-    for (name, member) in dictionary {
+    for (name, member) in dictionary.iter() {
         if name.as_str() == key.as_str() {
             return Some(member);
         }
@@ -182,12 +193,68 @@ pub fn find_entry<'a>(dictionary: &'a Dictionary, key: KeyRef<'_>) -> Option<&'a
 /// Returns the value of the parameter of this key (RFC 9651, section 3.1.2), or `None` if there is none. It takes no
 /// memory.
 pub fn find_param<'a>(params: &'a Parameters, key: KeyRef<'_>) -> Option<&'a BareItem>
-    ensures { option_copied result ≡ get bytes_eq params.now (key_text key.entry) }
+    ensures value { option_copied result ≡ get bytes_eq params.now (key_text key.entry) }
+    ensures last { option_map bare_value (option_copied result)
+        ≡ last_of (key_text key.entry) (pairs_tree params.now.entries) }
 {
-    for (name, value) in params {
+    for (name, value) in params.iter() {
         if name.as_str() == key.as_str() {
             return Some(value);
         }
     }
     None
+}
+
+/// Enters a member into a dictionary (RFC 9651, section 3.2), and returns the member that the key had, or `None` if it
+/// had none. A key that is there keeps its place and takes the new member whole; a new key goes last.
+///
+/// # Errors
+///
+/// `AllocError` when out of memory, which only a new key takes; the dictionary is then as it was.
+pub fn insert_entry(
+    dictionary: &mut Dictionary,
+    key: Key,
+    member: ListEntry,
+) -> Result<Option<ListEntry>, AllocError>
+    ensures old { IfOk result (λ old. old ≡ get bytes_eq dictionary.old key) }
+    ensures last { IfOk result (λ old. option_map member_tree old ≡ last_of key (dictionary_tree dictionary.old.entries)) }
+    ensures entries { OnOk result (dictionary.new.entries ≡ insert_entry bytes_eq dictionary.old.entries key member) }
+    ensures tree { OnOk result (dictionary_tree dictionary.new.entries
+        ≡ insert_entry bytes_eq (dictionary_tree dictionary.old.entries) key (member_tree member)) }
+    ensures unchanged { OnErr result (dictionary.new.entries ≡ dictionary.old.entries) }
+    ensures absent { OnErr result (last_of key (dictionary_tree dictionary.old.entries) ≡ None) }
+    ensures succeeds { 0 < spare dictionary.old → IsOk result }
+    ensures spare { spare dictionary.old ≤ spare dictionary.new + 1 }
+    ensures distinct { IsTrue (no_repeats (keys (dictionary_tree dictionary.new.entries))) }
+{
+    // `len` is called for its clause that no key stands twice, which the proof cites.
+    let _len = dictionary.len();
+    Ok(dictionary.insert(key, member)?)
+}
+
+/// Enters a parameter (RFC 9651, section 3.1.2), and returns the value that the key had, or `None` if it had none. A key
+/// that is there keeps its place and takes the new value; a new key goes last.
+///
+/// # Errors
+///
+/// `AllocError` when out of memory, which only a new key takes; the parameters are then as they were.
+pub fn insert_param(
+    params: &mut Parameters,
+    key: Key,
+    value: BareItem,
+) -> Result<Option<BareItem>, AllocError>
+    ensures old { IfOk result (λ old. old ≡ get bytes_eq params.old key) }
+    ensures last { IfOk result (λ old. option_map bare_value old ≡ last_of key (pairs_tree params.old.entries)) }
+    ensures entries { OnOk result (params.new.entries ≡ insert_entry bytes_eq params.old.entries key value) }
+    ensures tree { OnOk result (pairs_tree params.new.entries
+        ≡ insert_entry bytes_eq (pairs_tree params.old.entries) key (bare_value value)) }
+    ensures unchanged { OnErr result (params.new.entries ≡ params.old.entries) }
+    ensures absent { OnErr result (last_of key (pairs_tree params.old.entries) ≡ None) }
+    ensures succeeds { 0 < spare params.old → IsOk result }
+    ensures spare { spare params.old ≤ spare params.new + 1 }
+    ensures distinct { IsTrue (no_repeats (keys (pairs_tree params.new.entries))) }
+{
+    // `len` is called for its clause that no key stands twice, which the proof cites.
+    let _len = params.len();
+    Ok(params.insert(key, value)?)
 }

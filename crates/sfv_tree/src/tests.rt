@@ -1,5 +1,6 @@
 use crate::parsed::{
-    Dictionary, InnerList, Item, List, ListEntry, Parameters, find_entry, find_param,
+    Dictionary, InnerList, Item, List, ListEntry, Parameters, find_entry, find_param, insert_entry,
+    insert_param,
 };
 use crate::visitor::{BareItemType, DictionaryBuilder, Event, ListBuilder, Visitor};
 use sfv_bare::bare::{BareItem, BareItemFromInput};
@@ -185,6 +186,56 @@ fn keys_are_found(rt: HostRuntime) -> Result<(), Fail> {
     let params = item_of(alloc, 6, key_ref("b"), 7)?.params;
     assert!(rt; find_param(&params, key_ref("b")) == Some(&BareItem::from(7u8)));
     assert!(rt; find_param(&params, key_ref("a")).is_none());
+    Ok(())
+}
+
+// Enters the item of the number, and returns the member that the key had.
+fn enter_number(
+    dictionary: &mut Dictionary,
+    key: KeyRef<'_>,
+    value: u8,
+) -> Result<Option<ListEntry>, OutOfMemory> {
+    let alloc = *dictionary.allocator();
+    let member = ListEntry::from(Item::new(alloc, BareItem::from(value)));
+    Ok(insert_entry(dictionary, key.to_owned(alloc)?, member)?)
+}
+
+// Whether the member is the item of the number.
+fn is_number(member: Option<&ListEntry>, value: u8) -> bool {
+    matches!(member, Some(ListEntry::Item(item)) if item.bare_item == BareItem::from(value))
+}
+
+#[test]
+fn members_are_entered(rt: HostRuntime) -> Result<(), Fail> {
+    let mut dictionary = build_dictionary(Dictionary::new(rt.alloc()), "li5;ki6;")?;
+    let old = enter_number(&mut dictionary, key_ref("b"), 7)?;
+    assert!(rt; is_number(old.as_ref(), 5));
+    let old = enter_number(&mut dictionary, key_ref("c"), 8)?;
+    assert!(rt; old.is_none());
+    assert!(rt; is_number(find_entry(&dictionary, key_ref("b")), 7));
+    let mut keys = dictionary.keys();
+    for want in ["b", "a", "c"] {
+        assert!(rt; matches!(keys.next(), Some(key) if key.as_str() == want));
+    }
+    Ok(())
+}
+
+#[test]
+fn parameters_are_entered(rt: HostRuntime) -> Result<(), Fail> {
+    let alloc = rt.alloc();
+    let mut params = Parameters::new(alloc);
+    for key in ["b", "a"] {
+        let old = insert_param(&mut params, key_ref(key).to_owned(alloc)?, BareItem::from(1u8))?;
+        assert!(rt; old.is_none());
+    }
+    let key = key_ref("b").to_owned(alloc)?;
+    let old = insert_param(&mut params, key, BareItem::from(true))?;
+    assert!(rt; old == Some(BareItem::from(1u8)));
+    assert!(rt; find_param(&params, key_ref("b")) == Some(&BareItem::from(true)));
+    let mut keys = params.keys();
+    for want in ["b", "a"] {
+        assert!(rt; matches!(keys.next(), Some(key) if key.as_str() == want));
+    }
     Ok(())
 }
 

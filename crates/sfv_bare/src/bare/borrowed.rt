@@ -2,11 +2,12 @@
 
 ghost use Rattle.std.specs.Prelude.{◌≡◌, IfOk, IfErr, IsTrue};
 ghost use Rattle.sfv_spec.specs.Values as values;
+ghost use Rattle.sfv_spec.specs.Values.{IsBareValue};
 ghost use Rattle.sfv_bare.specs.BareItems.{GivesPart, bare_value, ref_value, holds_bytes};
 ghost use Rattle.sfv_text.specs.StringText.{string_text};
 ghost use Rattle.sfv_text.specs.TokenText.{token_text};
 
-use crate::bare::{BareItem, GenericBareItem, RefBareItem};
+use crate::bare::{BareItem, GenericBareItem, RefBareItem, lent};
 use sfv_base::error::OutOfMemory;
 use sfv_text::string::String;
 use sfv_text::string_ref::StringRef;
@@ -48,9 +49,20 @@ impl<'a> RefBareItem<'a> {
 
     /// Returns the same value (RFC 9651, section 3.3), lent.
     pub fn as_ref_item(&self) -> RefBareItem<'a>
-        ensures { ref_value result ≡ ref_value self.now }
+        ensures value { ref_value result ≡ ref_value self.now }
+        ensures is_value { IsBareValue (ref_value result) }
     {
-        *self
+        // That the item is a value is known of what each kind holds.
+        match *self {
+            GenericBareItem::Decimal(value) => GenericBareItem::Decimal(value),
+            GenericBareItem::Integer(value) => GenericBareItem::Integer(value),
+            GenericBareItem::String(text) => GenericBareItem::String(text),
+            GenericBareItem::ByteSequence(bytes) => GenericBareItem::ByteSequence(lent(bytes)),
+            GenericBareItem::Boolean(value) => GenericBareItem::Boolean(value),
+            GenericBareItem::Token(token) => GenericBareItem::Token(token),
+            GenericBareItem::Date(value) => GenericBareItem::Date(value),
+            GenericBareItem::DisplayString(text) => GenericBareItem::DisplayString(text),
+        }
     }
 
     /// Returns the same value (RFC 9651, section 3.3) with texts of its own. Only a text or a byte sequence takes

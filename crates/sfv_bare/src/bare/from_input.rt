@@ -5,12 +5,15 @@ ghost use Rattle.std.specs.Cmp.Lexicographic.{pointwise, nat_list_eq_equiv};
 ghost use Rattle.std.specs.Cmp;
 ghost use Rattle.std.specs.Cmp.{on_per, on_equiv};
 ghost use Rattle.sfv_spec.specs.Values as values;
+ghost use Rattle.sfv_spec.specs.Values.{IsBareValue};
 ghost use Rattle.sfv_bare.specs.BareItems.{GivesPart, read_text, bare_value, ref_value, input_value};
 ghost use Rattle.sfv_bare.specs.BareItems.{is_borrowed, is_borrowed_string};
 ghost use Rattle.sfv_text.specs.StringText.{string_text};
 ghost use Rattle.sfv_text.specs.TokenText.{token_text};
 
-use crate::bare::{BareItem, BareItemFromInput, GenericBareItem, RefBareItem, StringFromInput};
+use crate::bare::{
+    BareItem, BareItemFromInput, GenericBareItem, RefBareItem, StringFromInput, lent,
+};
 use sfv_base::error::OutOfMemory;
 use sfv_text::string::String;
 use sfv_text::string_ref::StringRef;
@@ -106,13 +109,14 @@ impl<'a> BareItemFromInput<'a> {
 
     /// Returns the same value (RFC 9651, section 3.3), lent.
     pub fn as_ref_item(&self) -> RefBareItem<'_>
-        ensures { ref_value result ≡ input_value self.now }
+        ensures value { ref_value result ≡ input_value self.now }
+        ensures is_value { IsBareValue (ref_value result) }
     {
         match self {
             GenericBareItem::Decimal(value) => GenericBareItem::Decimal(*value),
             GenericBareItem::Integer(value) => GenericBareItem::Integer(*value),
             GenericBareItem::String(text) => GenericBareItem::String(text.as_string_ref()),
-            GenericBareItem::ByteSequence(bytes) => GenericBareItem::ByteSequence(bytes.as_slice()),
+            GenericBareItem::ByteSequence(bytes) => GenericBareItem::ByteSequence(lent(bytes)),
             GenericBareItem::Boolean(value) => GenericBareItem::Boolean(*value),
             GenericBareItem::Token(token) => GenericBareItem::Token(*token),
             GenericBareItem::Date(value) => GenericBareItem::Date(*value),

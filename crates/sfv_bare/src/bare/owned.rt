@@ -2,11 +2,12 @@
 
 ghost use Rattle.std.specs.Prelude.{◌≡◌};
 ghost use Rattle.sfv_spec.specs.Values as values;
+ghost use Rattle.sfv_spec.specs.Values.{IsBareValue};
 ghost use Rattle.sfv_bare.specs.BareItems.{GivesPart, bare_value, ref_value};
 ghost use Rattle.sfv_text.specs.StringText.{string_text};
 ghost use Rattle.sfv_text.specs.TokenText.{token_text};
 
-use crate::bare::{BareItem, GenericBareItem, RefBareItem};
+use crate::bare::{BareItem, GenericBareItem, RefBareItem, lent};
 use sfv_text::string::String;
 use sfv_text::string_ref::StringRef;
 use sfv_text::token::Token;
@@ -45,13 +46,14 @@ impl BareItem {
 
     /// Returns the same value (RFC 9651, section 3.3), lent.
     pub fn as_ref_item(&self) -> RefBareItem<'_>
-        ensures { ref_value result ≡ bare_value self.now }
+        ensures value { ref_value result ≡ bare_value self.now }
+        ensures is_value { IsBareValue (ref_value result) }
     {
         match self {
             GenericBareItem::Decimal(value) => GenericBareItem::Decimal(*value),
             GenericBareItem::Integer(value) => GenericBareItem::Integer(*value),
             GenericBareItem::String(text) => GenericBareItem::String(text.as_string_ref()),
-            GenericBareItem::ByteSequence(bytes) => GenericBareItem::ByteSequence(bytes.as_slice()),
+            GenericBareItem::ByteSequence(bytes) => GenericBareItem::ByteSequence(lent(bytes)),
             GenericBareItem::Boolean(value) => GenericBareItem::Boolean(*value),
             GenericBareItem::Token(token) => GenericBareItem::Token(token.as_token_ref()),
             GenericBareItem::Date(value) => GenericBareItem::Date(*value),

@@ -1,9 +1,11 @@
 //! Appending a part of a field whole, or not at all.
 #![tactic(auto, using(crate::proofs::Written::cut_back))]
 
-ghost use Rattle.std.specs.Prelude.{◌≡◌, ◌++◌, List, OnOk, OnErr, codes, take, string_bytes};
+ghost use Rattle.std.specs.Prelude.{◌≡◌, ◌++◌, List, OnOk, OnErr, IsTrue, codes, take, string_bytes};
 ghost use Rattle.std.specs.Iterator.{IsFinite, Drains};
 ghost use Rattle.std.specs.Str.{IsCharBoundary};
+ghost use Rattle.sfv_spec.specs.Classes.{is_key};
+ghost use Rattle.sfv_spec.specs.Values.{IsBareValue, AreParameters};
 ghost use Rattle.sfv_spec.specs.Canonical.{bare_text, value_text, parameters_text};
 ghost use Rattle.sfv_bare.specs.BareItems.{ref_value};
 ghost use Rattle.sfv_text.specs.KeyText.{key_text};
@@ -41,6 +43,7 @@ pub(crate) fn append_bare_item<A: Allocator>(
     output: &mut StdString<A>,
 ) -> Result<(), OutOfMemory>
     ensures text { AppendsOrKeeps output.old output.new (bare_text (ref_value value.entry)) result }
+    ensures value { IsBareValue (ref_value value.entry) }
 {
     let len = output.len();
     let written = serialize_bare_item(value, output);
@@ -55,6 +58,8 @@ pub(crate) fn append_parameter<A: Allocator>(
 ) -> Result<(), OutOfMemory>
     ensures text { AppendsOrKeeps output.old output.new
         (codes ";" ++ key_text key.entry ++ value_text (ref_value value.entry)) result }
+    ensures key { IsTrue (is_key (key_text key.entry)) }
+    ensures value { OnOk result (IsBareValue (ref_value value.entry)) }
 {
     let len = output.len();
     let written = serialize_parameter(key, value, output);
@@ -70,7 +75,8 @@ pub(crate) fn append_parameters<
     requires can { I.can_next params }
     requires ends { IsFinite (I.remaining params) }
     ensures text { OnOk result ((pairs : List _) × Drains I.next_gives params pairs
-        × (string_bytes output.new ≡ string_bytes output.old ++ parameters_text (lent_pairs pairs))) }
+        × (string_bytes output.new ≡ string_bytes output.old ++ parameters_text (lent_pairs pairs))
+        × AreParameters (lent_pairs pairs)) }
     ensures out_of_memory { OnErr result (string_bytes output.new ≡ string_bytes output.old) }
 {
     let len = output.len();

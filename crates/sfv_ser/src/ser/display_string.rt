@@ -49,7 +49,7 @@ impl QuotedText for InDisplayString {
 
 /// Appends a display string.
 #[inline(never)]
-#[tactic(auto, using(crate::proofs::Params::run_of_bytes))]
+#[tactic(auto, using(sfv_bare::proofs::Bytes::run_of_bytes))]
 pub(crate) fn serialize_display_string<A: Allocator>(
     value: &str,
     output: &mut String<A>,

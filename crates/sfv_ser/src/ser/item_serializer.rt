@@ -2,6 +2,7 @@
 
 ghost use Rattle.std.specs.Prelude.{◌≡◌, IfOk, string_bytes};
 ghost use Rattle.std.specs.Borrow.{sem};
+ghost use Rattle.sfv_spec.specs.Values.{IsBareValue};
 ghost use Rattle.sfv_spec.specs.Canonical.{bare_text};
 ghost use Rattle.sfv_bare.specs.BareItems.{ref_value};
 ghost use Rattle.sfv_ser.specs.Serializers.{RestsIfOutOfMemory, HoldsMore, item_buffer, params_sink};
@@ -42,6 +43,7 @@ impl<'a> ItemSerializer<'a> {
         ensures* out_of_memory { sem 𝓛 (RestsIfOutOfMemory (item_buffer self.entry) result) }
         ensures lent { IfOk result (λ p. (params_sink p).ghost_name ≡ (item_buffer self.entry).ghost_name) }
         ensures text { HoldsMore (item_buffer self.entry) (bare_text (ref_value bare_item.entry)) result }
+        ensures is_value { IsBareValue (ref_value bare_item.entry) }
     {
         let ItemSerializer { buffer } = self;
         append_bare_item(bare_item, buffer)?;

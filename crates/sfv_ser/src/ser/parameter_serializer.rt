@@ -1,8 +1,10 @@
 //! Writing parameters one by one (RFC 9651, section 4.1.1.2).
 
-ghost use Rattle.std.specs.Prelude.{◌≡◌, ◌++◌, List, IfOk, codes, string_bytes};
+ghost use Rattle.std.specs.Prelude.{◌≡◌, ◌++◌, List, IfOk, OnOk, IsTrue, codes, string_bytes};
 ghost use Rattle.std.specs.Borrow.{sem};
 ghost use Rattle.std.specs.Iterator.{IsFinite, Drains};
+ghost use Rattle.sfv_spec.specs.Classes.{is_key};
+ghost use Rattle.sfv_spec.specs.Values.{IsBareValue, AreParameters};
 ghost use Rattle.sfv_spec.specs.Canonical.{value_text, parameters_text};
 ghost use Rattle.sfv_bare.specs.BareItems.{ref_value};
 ghost use Rattle.sfv_text.specs.KeyText.{key_text};
@@ -58,6 +60,8 @@ impl<'s> ParameterSerializer<'s, StdString> {
         ensures lent { IfOk result (λ p. (params_sink p).ghost_name ≡ (params_sink self.entry).ghost_name) }
         ensures text { HoldsMore (params_sink self.entry)
             (codes ";" ++ key_text name.entry ++ value_text (ref_value value.entry)) result }
+        ensures is_key { IsTrue (is_key (key_text name.entry)) }
+        ensures is_value { OnOk result (IsBareValue (ref_value value.entry)) }
     {
         let ParameterSerializer { sink } = self;
         append_parameter(name, value, sink)?;
@@ -79,7 +83,8 @@ impl<'s> ParameterSerializer<'s, StdString> {
         ensures lent { IfOk result (λ p. (params_sink p).ghost_name ≡ (params_sink self.entry).ghost_name) }
         ensures text { IfOk result (λ p. (pairs : List _) × Drains I.next_gives params pairs
             × (string_bytes (params_sink p).now
-            ≡ string_bytes (params_sink self.entry).now ++ parameters_text (lent_pairs pairs))) }
+            ≡ string_bytes (params_sink self.entry).now ++ parameters_text (lent_pairs pairs))
+            × AreParameters (lent_pairs pairs)) }
     {
         let ParameterSerializer { sink } = self;
         append_parameters(params, sink)?;

@@ -6,9 +6,9 @@ use Rattle.sfv_spec.specs.Values.{IsMember}
 use Rattle.sfv_spec.specs.Ordered.{IsOrderedMember}
 use Rattle.sfv_spec.specs.Canonical.{dictionary_member_text}
 use Rattle.sfv_tree.specs.Trees.{member_tree, dictionary_tree}
+use Rattle.sfv_tree.proofs.Distinct.{members_distinct}
 use Rattle.sfv_ser.proofs.Rows.{row_more, all_both}
 use Rattle.sfv_ser.proofs.Members.{lent_members, IsGoodMember, member_taken, member_pushed, members_all}
-use Rattle.sfv_ser.proofs.Members.{members_distinct}
 use Rattle.sfv_ser.proofs.ser.dictionary.serialize_dictionary.Goals as goal
 
 pub loop-key-preserved : goal.loop-key-preserved

@@ -1,9 +1,9 @@
 use Rattle.std.proofs.Common.{◌≡◌, ◌∙◌, ap, subst, sym}
 use Rattle.sfv_spec.specs.Values.{AreParameters}
 use Rattle.sfv_tree.specs.Trees.{pairs_tree}
+use Rattle.sfv_tree.proofs.Distinct.{pairs_distinct}
 use Rattle.sfv_ser.specs.Written.{lent_pairs}
 use Rattle.sfv_ser.proofs.Lent.{lent_all}
-use Rattle.sfv_ser.proofs.Params.{pairs_distinct}
 use Rattle.sfv_ser.proofs.ser.item.serialize_all_parameters.Goals as goal
 
 pub returns-clause-text : goal.returns-clause-text
