@@ -1,5 +1,5 @@
--- The Content-Digest field (RFC 9530, section 2): a Dictionary, in which a key names a hashing algorithm and its value is
--- the digest by this algorithm, as a Byte Sequence.
+-- The Content-Digest field (RFC 9530, section 2): a Dictionary, in which a key names a hashing algorithm and its value
+-- is the digest by this algorithm, as a Byte Sequence.
 use Rattle.std.specs.Prelude.{◌≡◌, ℕ, List, [], ◌∷◌, ◌++◌, ◌⊎◌, codes, Option, Some, None, option_map}
 use Rattle.std.specs.Prelude.{Result, MatchResult}
 use Rattle.std.specs.declared.alloc.Global.{Global}
@@ -53,7 +53,8 @@ digest_bytes digest = option_map (λ bytes. bytes.items) digest
 abbrev pub digests_in : ContentDigest → Digests
 digests_in d = record { sha_256 = digest_bytes d.sha_256; sha_512 = digest_bytes d.sha_512 }
 
--- a digest is what its key's last member holds, and there is none where the key has no member; other keys are passed over
+-- a digest is what its key's last member holds, and there is none where the key has no member; other keys are passed
+-- over
 pub record AreDigests (members : Members) (digests : Digests) : Type 0 where
   pub sha_256 : last_bytes sha_256_key members ≡ option_map Some digests.sha_256
   pub sha_512 : last_bytes sha_512_key members ≡ option_map Some digests.sha_512

@@ -15,7 +15,7 @@ ghost use Rattle.sfv_uses.specs.declared.content_digest.DigestError.TheVariants 
 
 use sfv::{
     BareItem, Dictionary, Error, FieldType, Item, KeyRef, ListEntry, OutOfMemory, Parser,
-    find_entry, key_ref,
+    find_entry, insert_entry, key_ref,
 };
 use std::alloc::{AllocError, Global};
 
@@ -137,7 +137,7 @@ fn put(
     if let Some(bytes) = digest {
         let member = member_of(alloc, bytes.as_slice())?;
         let key = algorithm.to_owned(alloc)?;
-        dictionary.insert(key, member)?;
+        insert_entry(dictionary, key, member)?;
     }
     Ok(())
 }
