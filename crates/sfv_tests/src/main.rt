@@ -8,6 +8,8 @@
 
 mod callers;
 #[cfg(test)]
+mod content_digest;
+#[cfg(test)]
 mod further_lines;
 mod replay;
 #[cfg(test)]

@@ -1,1 +1,3 @@
 pub mod Uses
+pub mod ContentDigests
+pub mod DigestSteps

@@ -1,6 +1,7 @@
-//! Uses of the library, each proved from its public contracts.
+//! Uses of the library, each proved from its public contracts: callers of single calls, and a field crate.
 #![tactic(auto)]
 
+pub mod content_digest;
 pub mod reading;
 pub mod visiting;
 pub mod writing;

@@ -1,0 +1,112 @@
+-- The digests of members: of a text, of what was read of it, and of what is written.
+use Rattle.std.proofs.Common.{◌≡◌, ℕ, List, [], ◌∷◌, refl, sym, ap, ◌∙◌, inl, inr}
+use Rattle.std.specs.Prelude.{Option, Some, None, option_map, Result, Ok, Err, IfOk, IfErr, IfSome, string_bytes}
+use Rattle.std.specs.declared.alloc.Global.{Global}
+use Rattle.std.specs.declared.string.String.{String}
+use Rattle.sfv.specs.Values.{rfc9651, dictionary_field, RawMember, item, inner_list}
+use Rattle.sfv.specs.Ordered.{last_of, ordered, ordered_member}
+use Rattle.sfv.specs.Statements.{IsParsedAs, IsSerializedAs}
+use Rattle.sfv.proofs.Callers.{last_of-ordered}
+use Rattle.sfv_uses.specs.ContentDigests.{Members, sha_256_key, sha_512_key, bytes_in, last_bytes, Digests, digests_in}
+use Rattle.sfv_uses.specs.ContentDigests.{AreDigests, HasWrongType, IsDictionary, IsContentDigest, HasDigests}
+use Rattle.sfv_uses.specs.ContentDigests.{IsDigestError, ReturnsDigests, digest_members}
+use Rattle.sfv_uses.specs.DigestSteps.{GivesDigests}
+use Rattle.sfv_uses.specs.declared.content_digest.ContentDigest.{ContentDigest}
+use Rattle.sfv_uses.specs.declared.content_digest.DigestError.{DigestError}
+
+bytes_in-ordered : (o : Option RawMember) → option_map bytes_in (option_map ordered_member o) ≡ option_map bytes_in o
+bytes_in-ordered None = refl
+bytes_in-ordered (Some (item i)) = refl
+bytes_in-ordered (Some (inner_list l)) = refl
+
+-- a text has under a key what its ordered members have
+last_bytes-ordered : (key : List ℕ) (raw : Members)
+    → last_bytes key raw ≡ last_bytes key (ordered dictionary_field raw)
+last_bytes-ordered key raw =
+    sym (ap (option_map bytes_in) (last_of-ordered key raw) ∙ bytes_in-ordered (last_of key raw))
+
+AreDigests-ordered : (raw : Members) (d : Digests) → AreDigests (ordered dictionary_field raw) d → AreDigests raw d
+AreDigests-ordered raw d are = record {
+  sha_256 = last_bytes-ordered sha_256_key raw ∙ are.sha_256;
+  sha_512 = last_bytes-ordered sha_512_key raw ∙ are.sha_512;
+}
+
+HasWrongType-ordered : (raw : Members) → HasWrongType (ordered dictionary_field raw) → HasWrongType raw
+HasWrongType-ordered raw (inl wrong) = inl (last_bytes-ordered sha_256_key raw ∙ wrong)
+HasWrongType-ordered raw (inr wrong) = inr (last_bytes-ordered sha_512_key raw ∙ wrong)
+
+one_digest : (a b : Option (List ℕ)) → option_map Some a ≡ option_map Some b → a ≡ b
+one_digest None None h = refl
+one_digest None (Some y) h = absurd (cc)
+one_digest (Some x) None h = absurd (cc)
+one_digest (Some x) (Some y) h = cc
+
+-- members have one digest by each algorithm
+one_AreDigests : (members : Members) (d e : Digests) → AreDigests members d → AreDigests members e → d ≡ e
+one_AreDigests members d e h k =
+    let first = one_digest d.sha_256 e.sha_256 (sym h.sha_256 ∙ k.sha_256) in
+    let second = one_digest d.sha_512 e.sha_512 (sym h.sha_512 ∙ k.sha_512) in
+    λ i. record { sha_256 = first i; sha_512 = second i }
+
+right_digest : (a : Option (List ℕ)) → ¬ (option_map Some a ≡ Some None)
+right_digest None h = absurd (cc)
+right_digest (Some x) h = absurd (cc)
+
+-- and where they have digests, none is of a wrong type
+right_members : (members : Members) (d : Digests) → AreDigests members d → ¬ HasWrongType members
+right_members members d h (inl wrong) = right_digest d.sha_256 (sym h.sha_256 ∙ wrong)
+right_members members d h (inr wrong) = right_digest d.sha_512 (sym h.sha_512 ∙ wrong)
+
+-- what the members that were read give is what the text gives
+module _ (text : List ℕ) (value : Members) (parsed : IsParsedAs rfc9651 dictionary_field text value) where
+  of_text : (P : Members → Type 0) → P parsed.raw → IsDictionary text P
+  of_text P holds = record { members = parsed.raw; accepted = parsed.accepted; holds = holds }
+
+  are : (d : Digests) → AreDigests value d → AreDigests parsed.raw d
+  are d h = AreDigests-ordered parsed.raw d (rw parsed.ordered_value at h)
+
+  wrong : HasWrongType value → HasWrongType parsed.raw
+  wrong h = HasWrongType-ordered parsed.raw (rw parsed.ordered_value at h)
+
+  -- the members of the text are those that were read
+  are_read : (d : Digests) → IsContentDigest text d → AreDigests parsed.raw d
+  are_read d h = rw (parsed.only h.members h.accepted) at h.holds
+
+  pub digests_read : (r : Result ContentDigest DigestError) → GivesDigests value r → IfOk r (HasDigests text)
+  digests_read (Ok digest) h = of_text _ (are (digests_in digest) h)
+  digests_read (Err e) h = tt
+
+  pub digests_failed : (r : Result ContentDigest DigestError) → GivesDigests value r → IfErr r (IsDigestError text)
+  digests_failed (Ok digest) h = tt
+  digests_failed (Err e) (inl h) = rw h (inl refl)
+  digests_failed (Err e) (inr h) = rw h.0 (of_text HasWrongType (wrong h.1))
+
+  pub digests_returned : (r : Result ContentDigest DigestError) → GivesDigests value r → ReturnsDigests text r
+  digests_returned (Ok digest) h d is =
+      one_AreDigests parsed.raw (digests_in digest) d (are (digests_in digest) h) (are_read d is)
+  digests_returned (Err e) (inl h) d is = h
+  digests_returned (Err e) (inr h) d is = absurd (right_members parsed.raw d (are_read d is) (wrong h.1))
+
+pub ruleset reading = (digests_read, digests_failed, digests_returned)
+
+-- digests are those of their own members
+AreDigests-members : (d : Digests) → AreDigests (digest_members d) d
+unfolding last_of
+AreDigests-members d = go d.sha_256 d.sha_512
+  where
+    of : Option (List ℕ) → Option (List ℕ) → Digests
+    of a b = record { sha_256 = a; sha_512 = b }
+
+    go : (a b : Option (List ℕ)) → AreDigests (digest_members (of a b)) (of a b)
+    go None None = record { sha_256 = refl; sha_512 = refl }
+    go None (Some y) = record { sha_256 = refl; sha_512 = refl }
+    go (Some x) None = record { sha_256 = refl; sha_512 = refl }
+    go (Some x) (Some y) = record { sha_256 = refl; sha_512 = refl }
+
+-- so what is written is read as these digests
+pub digests_written : (d : Digests) (o : Option (String Global))
+    → IsSerializedAs dictionary_field (digest_members d) (option_map string_bytes o)
+    → IfSome o (λ text. IsContentDigest (string_bytes text) d)
+digests_written d None h = tt
+digests_written d (Some text) h =
+    let back = h.1.read_back in of_text _ (digest_members d) back _ (are _ (digest_members d) back d (AreDigests-members d))
