@@ -82,17 +82,23 @@ abbrev Fails : MemberCounter → TreeEvent → TooMany → Type 0
 Fails s e fault = (s.limit ≤ s.members) × IsSome (key_in e)
 
 abbrev Finishes : MemberCounter → ℕ → Type 0
-Finishes s out = out ≡ s.members
+Finishes s out = (out ≡ s.members) × (out ≤ s.limit)
 
 abbrev FinishFails : MemberCounter → TooMany → Type 0
 FinishFails s fault = ⊥
 
 module _ (t : List ℕ) (from : MemberCounter) (start : from.members ≡ 0) where
   pub count_answered : (r : Result ℕ (ParseError TooMany))
-      → IfOk r (IsAnswerOf Takes Finishes rfc9651 dictionary_field t from) → IfOk r (HasMembers t)
+      → IfOk r (IsAnswerOf Takes Finishes rfc9651 dictionary_field t from) → IfOk r (HasMembers t from.limit)
   count_answered (Ok n) h =
       let run = run_counted (events dictionary_field h.raw) from h.visited.last start h.visited.taken in
-      record { raw = h.raw; accepted = h.accepted; count = h.visited.answered ∙ run.0 ∙ all_counted h.raw }
+      let last = h.visited.answered in
+      record {
+        raw = h.raw;
+        accepted = h.accepted;
+        count = last.0 ∙ run.0 ∙ all_counted h.raw;
+        within = omega (arith, last.1, run.1);
+      }
   count_answered (Err e) h = tt
 
   -- where it fails one member more comes than are wanted

@@ -1,5 +1,5 @@
 -- What the uses answer.
-use Rattle.std.specs.Prelude.{◌≡◌, ℕ, ℤ, ◌+◌, ◌<◌, List, [], ◌∷◌, ◌++◌, length, Option, Some, None, codes}
+use Rattle.std.specs.Prelude.{◌≡◌, ℕ, ℤ, ◌+◌, ◌<◌, ◌≤◌, List, [], ◌∷◌, ◌++◌, length, Option, Some, None, codes}
 use Rattle.std.specs.List.{repeat}
 use Rattle.sfv.specs.Values.{rfc9651, list_field, dictionary_field, BareValue, integer, RawParameters, RawItem, RawMember}
 use Rattle.sfv.specs.Values.{item, inner_list}
@@ -40,11 +40,12 @@ abbrev pub counts : ℕ × ℕ → TreeEvent → ℕ × ℕ
 counts (members, limit) (keyed_entry key) = (members + 1, limit)
 counts place e = place
 
--- the text is a dictionary of so many members, repeated keys too
-pub record HasMembers (t : List ℕ) (n : ℕ) : Type 0 where
+-- the text is a dictionary of so many members, repeated keys too, and no more than wanted
+pub record HasMembers (t : List ℕ) (limit n : ℕ) : Type 0 where
   pub raw : List (List ℕ × RawMember)
   pub accepted : IsFieldText rfc9651 dictionary_field raw t
   pub count : n ≡ length raw
+  pub within : n ≤ limit
 
 -- an error of the text is the parser's; of a dictionary the count fails only where it has more members than wanted
 abbrev pub IsCountError : List ℕ → ℕ → ParseError TooMany → Type 0

@@ -76,11 +76,13 @@ impl<'de> Visitor<'de> for MemberCounter {
 
     type Error = TooMany;
 
+    ghost is_ready = { λ s. s.members ≤ s.limit };
+
     ghost takes = { λ s e after. (after.members, after.limit) ≡ counts (s.members, s.limit) e };
 
     ghost fails = { λ s e _. (s.limit ≤ s.members) × IsSome (key_in e) };
 
-    ghost finishes = { λ s out. out ≡ s.members };
+    ghost finishes = { λ s out. (out ≡ s.members) × (out ≤ s.limit) };
 
     ghost finish_fails = { λ _ _. ⊥ };
 
@@ -105,7 +107,7 @@ impl<'de> Visitor<'de> for MemberCounter {
 ///
 /// `TooMany`, or that of `Parser::parse_dictionary_with_visitor`.
 pub fn count_members(alloc: Global, input: &[u8], limit: u64) -> Result<u64, ParseError<TooMany>>
-    ensures counted { IfOk result (HasMembers input.now) }
+    ensures counted { IfOk result (HasMembers input.now limit) }
     ensures failed { IfErr result (IsCountError input.now limit) }
 {
     let counter = MemberCounter { members: 0, limit };
