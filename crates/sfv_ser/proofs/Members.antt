@@ -1,13 +1,11 @@
 -- Members that are lent by a dictionary.
 use Rattle.std.proofs.Common.{◌≡◌, ℕ, List, [], ◌∷◌, ◌++◌, map, refl, sym, ap, ◌∙◌, append_assoc}
-use Rattle.std.specs.Prelude.{IsTrue, bytes_eq}
+use Rattle.std.specs.Prelude.{IsTrue}
 use Rattle.std.specs.Borrow.{Bor}
-use Rattle.std.specs.List.{IsDistinct}
-use Rattle.std.specs.Map.{keys_of}
 use Rattle.std.proofs.lemmas.List.{map-append, append-nil}
 use Rattle.sfv_spec.specs.Classes.{is_key}
 use Rattle.sfv_spec.specs.Values.{RawMember, IsMember}
-use Rattle.sfv_spec.specs.Ordered.{IsOrderedMember, keys, no_repeats}
+use Rattle.sfv_spec.specs.Ordered.{IsOrderedMember}
 use Rattle.sfv_tree.specs.declared.parsed.ListEntry.{ListEntry}
 use Rattle.sfv_tree.specs.Trees.{member_tree}
 use Rattle.sfv_tree.specs.Trees.{dictionary_tree}

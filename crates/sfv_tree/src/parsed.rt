@@ -217,7 +217,8 @@ pub fn insert_entry(
     member: ListEntry,
 ) -> Result<Option<ListEntry>, AllocError>
     ensures old { IfOk result (λ old. old ≡ get bytes_eq dictionary.old key) }
-    ensures last { IfOk result (λ old. option_map member_tree old ≡ last_of key (dictionary_tree dictionary.old.entries)) }
+    ensures last { IfOk result (λ old. option_map member_tree old
+        ≡ last_of key (dictionary_tree dictionary.old.entries)) }
     ensures entries { OnOk result (dictionary.new.entries ≡ insert_entry bytes_eq dictionary.old.entries key member) }
     ensures tree { OnOk result (dictionary_tree dictionary.new.entries
         ≡ insert_entry bytes_eq (dictionary_tree dictionary.old.entries) key (member_tree member)) }
@@ -232,8 +233,8 @@ pub fn insert_entry(
     Ok(dictionary.insert(key, member)?)
 }
 
-/// Enters a parameter (RFC 9651, section 3.1.2), and returns the value that the key had, or `None` if it had none. A key
-/// that is there keeps its place and takes the new value; a new key goes last.
+/// Enters a parameter (RFC 9651, section 3.1.2), and returns the value that the key had, or `None` if it had none. A
+/// key that is there keeps its place and takes the new value; a new key goes last.
 ///
 /// # Errors
 ///

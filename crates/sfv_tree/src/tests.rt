@@ -225,7 +225,11 @@ fn parameters_are_entered(rt: HostRuntime) -> Result<(), Fail> {
     let alloc = rt.alloc();
     let mut params = Parameters::new(alloc);
     for key in ["b", "a"] {
-        let old = insert_param(&mut params, key_ref(key).to_owned(alloc)?, BareItem::from(1u8))?;
+        let old = insert_param(
+            &mut params,
+            key_ref(key).to_owned(alloc)?,
+            BareItem::from(1u8),
+        )?;
         assert!(rt; old.is_none());
     }
     let key = key_ref("b").to_owned(alloc)?;

@@ -8,7 +8,8 @@ use Rattle.sfv_tree.proofs.parsed.find_param.Goals as goal
 
 pub returns-then-eq-clause-last : goal.returns-then-eq-clause-last
 returns-then-eq-clause-last c =
-    let found : lookup (bytes_eq (key_text c.args.key)) c.args.params.now.entries ≡ Some c.in-Some.value.now = search rules in
+    let found : lookup (bytes_eq (key_text c.args.key)) c.args.params.now.entries
+    ≡ Some c.in-Some.value.now = search rules in
     ap (option_map bare_value) (sym found) ∙ param_found _ _ c.iter-name-items.ensures.unique
 
 pub returns-clause-last : goal.returns-clause-last
