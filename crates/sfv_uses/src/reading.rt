@@ -94,8 +94,8 @@ fn param_of<'a>(
     find_param(params_of(entry), param)
 }
 
-/// Reads a dictionary and returns the parameter of a member: the last of its key, of the last member of its own. `None` if there
-/// is no such member, or it has no such parameter.
+/// Reads a dictionary and returns the parameter of a member: the last of its key, of the last member of its own.
+/// `None` if there is no such member, or it has no such parameter.
 ///
 /// # Errors
 ///
