@@ -1,21 +1,15 @@
-use Rattle.std.proofs.Common.{◌≡◌, ◌∙◌}
 use Rattle.sfv.specs.Values.{dictionary_field}
 use Rattle.sfv.specs.Statements.{IsParsedAs}
 use Rattle.sfv.specs.BareItems.{edition_of}
 use Rattle.sfv.specs.Trees.{dictionary_tree}
-use Rattle.sfv.specs.Parsers.{input_of, parser_edition}
 use Rattle.sfv_tool.proofs.Lines.{serialized_line, answered}
 use Rattle.sfv_tool.proofs.answer.answer_dictionary.Goals as goal
 
 pub returns-clause-accepted : goal.returns-clause-accepted
 returns-clause-accepted c =
-    let version : parser_edition c.with_version-parser.result ≡ edition_of c.args.version =
-    c.with_version-parser.ensures.version in
-    let input : input_of c.with_version-parser.result ≡ c.args.input.now = c.with_version-parser.ensures.input
-    ∙ c.new.ensures.input in
     let read : IsParsedAs (edition_of c.args.version) dictionary_field c.args.input.now
     (dictionary_tree c.in_ok-dictionary.dictionary.entries) =
-    rw (← version, ← input) c.in_ok-dictionary.ensures.read in
+    rw (c.with_version-parser.ensures, c.new.ensures) at c.in_ok-dictionary.ensures.read in
     answered (edition_of c.args.version) dictionary_field c.args.input.now
     (dictionary_tree c.in_ok-dictionary.dictionary.entries) c.in_ok-serialize.field-0 c.line.result read
     (serialized_line dictionary_field _ c.in_ok-serialize.field-0 c.in_ok-serialize.ensures.text)
