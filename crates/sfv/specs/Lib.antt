@@ -11,7 +11,7 @@ pub mod Quoted
 pub mod Visits
 pub mod Members
 pub mod Types
--- The words of lower crates that public clauses use: a caller's clauses need no crate but this one.
+-- The words of lower crates, and of the map, that public clauses use: a caller's clauses need no crate but this one.
 pub use Rattle.sfv_spec.specs.Ascii
 pub use Rattle.sfv_spec.specs.Base64
 pub use Rattle.sfv_spec.specs.Canonical
@@ -45,3 +45,4 @@ pub use Rattle.sfv_tree.specs.Kinds
 pub use Rattle.sfv_tree.specs.Trees
 pub use Rattle.sfv_ser.specs.Serializers
 pub use Rattle.sfv_ser.specs.Written
+pub use Rattle.indexmap.specs.IndexMap as Maps

@@ -35,7 +35,11 @@ fn digests_are_read(rt: HostRuntime) -> Result<(), Fail> {
 
 #[test]
 fn faults_are_told(rt: HostRuntime) {
-    let fields: [&[u8]; 3] = [b"sha-256=1", b"sha-512=(:AA==:)", b"sha-256=:AA==:, sha-256"];
+    let fields: [&[u8]; 3] = [
+        b"sha-256=1",
+        b"sha-512=(:AA==:)",
+        b"sha-256=:AA==:, sha-256",
+    ];
     for field in fields {
         let answer = read(rt.alloc(), field);
         assert!(rt; matches!(answer, Err(DigestError::WrongType)));

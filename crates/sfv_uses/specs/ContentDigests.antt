@@ -76,7 +76,8 @@ IsContentDigest text digests = IsDictionary text (λ members. AreDigests members
 abbrev pub HasDigests : List ℕ → ContentDigest → Type 0
 HasDigests text digest = IsContentDigest text (digests_in digest)
 
--- it is no dictionary, or out of memory; or it is one in which a digest's member is no byte sequence
+-- the text is no dictionary, or out of memory; or it is a dictionary in which the last member of one of the keys is no
+-- byte sequence
 abbrev pub IsDigestError : List ℕ → DigestError → Type 0
 IsDigestError text (errors.Field e) = IsParseError rfc9651 dictionary_field text e
 IsDigestError text errors.WrongType = IsDictionary text HasWrongType

@@ -2,7 +2,7 @@
 use Rattle.std.specs.Prelude.{◌≡◌, ◌⊎◌, ℕ, List, Option, Some, None, option_map, bytes_eq, Result, MatchResult}
 use Rattle.std.specs.declared.alloc.Global.{Global}
 use Rattle.std.specs.declared.vec.Vec.{Vec}
-use Rattle.indexmap.specs.IndexMap.{insert_entry}
+use Rattle.sfv.specs.Maps.{insert_entry}
 use Rattle.sfv.specs.Errors.{out_of_memory}
 use Rattle.sfv_uses.specs.ContentDigests.{Members, digest_bytes, digests_in, AreDigests, HasWrongType, bytes_member}
 use Rattle.sfv_uses.specs.declared.content_digest.ContentDigest.{ContentDigest}

@@ -28,12 +28,12 @@ pub struct ContentDigest {
     pub sha_512: Option<Vec<u8>>,
 }
 
-/// Why a field has no digests.
+/// Why digests aren't read.
 #[derive(Debug, Drop)]
 pub enum DigestError {
-    /// It is no dictionary, or out of memory.
+    /// The field is no dictionary, or out of memory.
     Field(Error),
-    /// The last member of an algorithm is no byte sequence.
+    /// The field is a dictionary in which the last member of an algorithm is no byte sequence.
     WrongType,
 }
 
@@ -103,8 +103,8 @@ fn digests_of(alloc: Global, dictionary: &Dictionary) -> Result<ContentDigest, D
 ///
 /// # Errors
 ///
-/// `Field` where the input is no dictionary, or out of memory; `WrongType` where it is one in which the last member of
-/// an algorithm is no byte sequence.
+/// `Field` with the parser's error where the input is no dictionary, or out of memory; `WrongType` where it is one in
+/// which the last member of an algorithm is no byte sequence.
 #[tactic(auto, using(crate::proofs::Digests::reading))]
 pub fn read(alloc: Global, input: &[u8]) -> Result<ContentDigest, DigestError>
     ensures read { IfOk result (HasDigests input.now) }
