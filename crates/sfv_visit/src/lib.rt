@@ -1,0 +1,6 @@
+//! Visitors of structured fields (RFC 9651) that are given: for what is not needed, for one bare item, and for closures.
+//!
+//! Each is told of a repeated key every time, its earlier values too: see `sfv_tree::visitor`.
+#![tactic(auto)]
+
+pub mod ignored;
