@@ -4,3 +4,4 @@
 #![tactic(auto)]
 
 pub mod ignored;
+pub mod parameter_visitor;
