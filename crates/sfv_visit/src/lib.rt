@@ -4,4 +4,5 @@
 #![tactic(auto)]
 
 pub mod ignored;
+pub mod item_visitor;
 pub mod parameter_visitor;
