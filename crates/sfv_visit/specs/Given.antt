@@ -4,13 +4,19 @@ use Rattle.std.specs.declared.alloc.Global.{Global}
 use Rattle.std.specs.declared.vec.Vec.{Vec}
 use Rattle.std.specs.declared.borrow.CowStr.{CowStr}
 use Rattle.sfv_spec.specs.Values.{BareValue}
+use Rattle.sfv_spec.specs.Values as values
 use Rattle.sfv_spec.specs.Events.{TreeEvent, bare_item}
 use Rattle.sfv_text.specs.TokenText.{TokenRef}
 use Rattle.sfv_bare.specs.BareItems.{input_value}
 use Rattle.sfv_bare.specs.declared.bare.GenericBareItem.{GenericBareItem}
 use Rattle.sfv_bare.specs.declared.bare.StringFromInput.{StringFromInput}
+use Rattle.sfv_tree.specs.declared.visitor.BareItemType.{BareItemType}
+use Rattle.sfv_tree.specs.declared.visitor.BareItemType.TheVariants as kinds
+use Rattle.sfv_tree.specs.declared.visitor.ItemFault.{ItemFault}
+use Rattle.sfv_tree.specs.declared.visitor.ItemFault.TheVariants as faults
 use Rattle.sfv_visit.specs.declared.parameter_visitor.ParameterVisitorWith.{ParameterVisitorWith}
 use Rattle.sfv_visit.specs.declared.item_visitor.ItemVisitorWith.{ItemVisitorWith}
+use Rattle.sfv_visit.specs.declared.expect_item.ExpectItem.{ExpectItem}
 
 -- a bare item comes to what waits for one: that with the bare item's value. No other event does anything to it, and
 -- none to what waits no more
@@ -65,3 +71,38 @@ CallTakes {F} {T} gives s e after =
 abbrev pub CallFails :
     {F T E : Type 0} → (F → ReadBareItem → Result T E → Type 0) → ItemVisitorWith F T → TreeEvent → E → Type 0
 CallFails gives s e fault = MatchOption (comes (function_waiting s) e) ⊥ (λ call. GivesOn gives call (Err fault))
+
+-- `ExpectItem`: the item that is kept
+abbrev pub item_kept : {T : Type 0} → ExpectItem T → Option T
+item_kept s = s.kept
+
+-- the value of the bare item that comes while none is kept; no other event gives one
+abbrev pub first_value : {T : Type 0} → Option T → TreeEvent → Option BareValue
+first_value None (bare_item value) = Some value
+first_value kept e = None
+
+-- the first bare item is kept; every other event changes nothing
+abbrev pub KeepTakes : {T : Type 0} → (T → BareValue) → ExpectItem T → TreeEvent → ExpectItem T → Type 0
+KeepTakes {T} holds s e after =
+    MatchOption (first_value (item_kept s) e) (after ≡ s) (λ value.
+    (item : T) × (holds item ≡ value) × (item_kept after ≡ Some item))
+
+-- it fails where the type doesn't hold the first bare item
+abbrev pub KeepFails : {T : Type 0} → (BareValue → ItemFault → Type 0) → ExpectItem T → TreeEvent → ItemFault → Type 0
+KeepFails refuses s e fault = MatchOption (first_value (item_kept s) e) ⊥ (λ value. refuses value fault)
+
+-- the kind of a bare value
+abbrev pub kind_of_value : BareValue → BareItemType
+kind_of_value (values.decimal z) = kinds.Decimal
+kind_of_value (values.integer z) = kinds.Integer
+kind_of_value (values.string s) = kinds.String
+kind_of_value (values.byte_sequence b) = kinds.ByteSequence
+kind_of_value (values.boolean b) = kinds.Boolean
+kind_of_value (values.token t) = kinds.Token
+kind_of_value (values.date z) = kinds.Date
+kind_of_value (values.display_string d) = kinds.DisplayString
+
+-- a value of another kind than this, and the fault says both kinds
+abbrev pub IsWrongType : BareItemType → BareValue → ItemFault → Type 0
+IsWrongType kind value fault =
+    ¬ (kind_of_value value ≡ kind) × (fault ≡ faults.WrongType kind (kind_of_value value))

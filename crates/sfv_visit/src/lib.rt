@@ -3,6 +3,7 @@
 //! Each is told of a repeated key every time, its earlier values too: see `sfv_tree::visitor`.
 #![tactic(auto)]
 
+pub mod expect_item;
 pub mod ignored;
 pub mod item_visitor;
 pub mod parameter_visitor;
