@@ -1,0 +1,108 @@
+-- What the given visitors do with the events of a field.
+use Rattle.std.specs.Prelude.{◌≡◌, ℕ, Option, Some, None, MatchOption, Result, Ok, Err}
+use Rattle.std.specs.declared.alloc.Global.{Global}
+use Rattle.std.specs.declared.vec.Vec.{Vec}
+use Rattle.std.specs.declared.borrow.CowStr.{CowStr}
+use Rattle.sfv_spec.specs.Values.{BareValue}
+use Rattle.sfv_spec.specs.Values as values
+use Rattle.sfv_spec.specs.Events.{TreeEvent, bare_item}
+use Rattle.sfv_text.specs.TokenText.{TokenRef}
+use Rattle.sfv_bare.specs.BareItems.{input_value}
+use Rattle.sfv_bare.specs.declared.bare.GenericBareItem.{GenericBareItem}
+use Rattle.sfv_bare.specs.declared.bare.StringFromInput.{StringFromInput}
+use Rattle.sfv_tree.specs.declared.visitor.BareItemType.{BareItemType}
+use Rattle.sfv_tree.specs.declared.visitor.BareItemType.TheVariants as kinds
+use Rattle.sfv_tree.specs.declared.visitor.ItemFault.{ItemFault}
+use Rattle.sfv_tree.specs.declared.visitor.ItemFault.TheVariants as faults
+use Rattle.sfv_visit.specs.declared.parameter_visitor.ParameterVisitorWith.{ParameterVisitorWith}
+use Rattle.sfv_visit.specs.declared.item_visitor.ItemVisitorWith.{ItemVisitorWith}
+use Rattle.sfv_visit.specs.declared.expect_item.ExpectItem.{ExpectItem}
+
+-- a bare item comes to what waits for one: that with the bare item's value. No other event does anything to it, and
+-- none to what waits no more
+abbrev pub comes : {W : Type 0} → Option W → TreeEvent → Option (W × BareValue)
+comes (Some w) (bare_item value) = Some (w, value)
+comes waiting e = None
+
+-- `ParameterVisitorWith`: the visitor that is told of the events, and the function that is called after them
+abbrev pub visitor_within : {V F A : Type 0} → ParameterVisitorWith V F A → V
+visitor_within s = s.visitor
+
+abbrev pub function_after : {V F A : Type 0} → ParameterVisitorWith V F A → F
+function_after s = s.f
+
+-- the visitor takes the event, and the function stays
+abbrev pub ForwardTakes :
+    {V F A : Type 0} → (V → TreeEvent → V → Type 0)
+    → ParameterVisitorWith V F A → TreeEvent → ParameterVisitorWith V F A → Type 0
+ForwardTakes takes s e after =
+    takes (visitor_within s) e (visitor_within after) × (function_after after ≡ function_after s)
+
+-- the function gives r on an answer of the visitor
+abbrev pub GivesAfter :
+    {V F A R : Type 0} → (V → A → Type 0) → (F → A → R → Type 0) → ParameterVisitorWith V F A → R → Type 0
+GivesAfter {V} {F} {A} finishes gives s r =
+    (answer : A) × finishes (visitor_within s) answer × gives (function_after s) answer r
+
+-- `ItemVisitorWith`: the function that waits for a bare item, and the answer that it gave
+abbrev pub function_waiting : {F T : Type 0} → ItemVisitorWith F T → Option F
+function_waiting s = s.f
+
+abbrev pub answer_kept : {F T : Type 0} → ItemVisitorWith F T → Option T
+answer_kept s = s.kept
+
+-- a `BareItemFromInput`, since antt has no name for an alias
+abbrev pub ReadBareItem : Type 0
+ReadBareItem = GenericBareItem StringFromInput (Vec ℕ Global) TokenRef (CowStr Global)
+
+-- the function gives r on a bare item of this value
+abbrev pub GivesOn : {F R : Type 0} → (F → ReadBareItem → R → Type 0) → F × BareValue → R → Type 0
+GivesOn gives call r = (item : ReadBareItem) × (input_value item ≡ call.1) × gives call.0 item r
+
+-- at the first bare item the function is called, and its answer is kept; every other event changes nothing
+abbrev pub CallTakes :
+    {F T E : Type 0} → (F → ReadBareItem → Result T E → Type 0)
+    → ItemVisitorWith F T → TreeEvent → ItemVisitorWith F T → Type 0
+CallTakes {F} {T} gives s e after =
+    MatchOption (comes (function_waiting s) e) (after ≡ s) (λ call.
+    (answer : T) × GivesOn gives call (Ok answer) × (answer_kept after ≡ Some answer) × (function_waiting after ≡ None))
+
+-- it fails where the function does
+abbrev pub CallFails :
+    {F T E : Type 0} → (F → ReadBareItem → Result T E → Type 0) → ItemVisitorWith F T → TreeEvent → E → Type 0
+CallFails gives s e fault = MatchOption (comes (function_waiting s) e) ⊥ (λ call. GivesOn gives call (Err fault))
+
+-- `ExpectItem`: the item that is kept
+abbrev pub item_kept : {T : Type 0} → ExpectItem T → Option T
+item_kept s = s.kept
+
+-- the value of the bare item that comes while none is kept; no other event gives one
+abbrev pub first_value : {T : Type 0} → Option T → TreeEvent → Option BareValue
+first_value None (bare_item value) = Some value
+first_value kept e = None
+
+-- the first bare item is kept; every other event changes nothing
+abbrev pub KeepTakes : {T : Type 0} → (T → BareValue) → ExpectItem T → TreeEvent → ExpectItem T → Type 0
+KeepTakes {T} holds s e after =
+    MatchOption (first_value (item_kept s) e) (after ≡ s) (λ value.
+    (item : T) × (holds item ≡ value) × (item_kept after ≡ Some item))
+
+-- it fails where the type doesn't hold the first bare item
+abbrev pub KeepFails : {T : Type 0} → (BareValue → ItemFault → Type 0) → ExpectItem T → TreeEvent → ItemFault → Type 0
+KeepFails refuses s e fault = MatchOption (first_value (item_kept s) e) ⊥ (λ value. refuses value fault)
+
+-- the kind of a bare value
+abbrev pub kind_of_value : BareValue → BareItemType
+kind_of_value (values.decimal z) = kinds.Decimal
+kind_of_value (values.integer z) = kinds.Integer
+kind_of_value (values.string s) = kinds.String
+kind_of_value (values.byte_sequence b) = kinds.ByteSequence
+kind_of_value (values.boolean b) = kinds.Boolean
+kind_of_value (values.token t) = kinds.Token
+kind_of_value (values.date z) = kinds.Date
+kind_of_value (values.display_string d) = kinds.DisplayString
+
+-- a value of another kind than this, and the fault says both kinds
+abbrev pub IsWrongType : BareItemType → BareValue → ItemFault → Type 0
+IsWrongType kind value fault =
+    ¬ (kind_of_value value ≡ kind) × (fault ≡ faults.WrongType kind (kind_of_value value))

@@ -1,0 +1,63 @@
+//! A visitor that calls a function on a bare item.
+
+ghost use Rattle.std.specs.Prelude.{◌≡◌, ⊤, Some, None, MatchOption};
+ghost use Rattle.sfv_visit.specs.Given.{function_waiting, answer_kept, CallTakes, CallFails};
+
+use sfv_bare::bare::BareItemFromInput;
+use sfv_tree::visitor::{Event, Visitor};
+
+/// Calls a function once, on the first bare item, and answers what it gave, or `None` if no bare item came.
+///
+/// A failure of the function is the event's. Every other event changes nothing. Of a repeated key the first value is
+/// no more than the first to come, so a visitor that hands on bare items of a dictionary makes a new one for each.
+#[derive(Drop)]
+pub struct ItemVisitorWith<F, T> {
+    // The function, until it is called.
+    f: Option<F>,
+    kept: Option<T>,
+}
+
+/// Returns the visitor that calls `f` on the first bare item. `f` may be called on every bare item.
+pub fn item_visitor_with<'de, T, E, F: FnOnce(BareItemFromInput<'de>) -> Result<T, E>>(
+    f: F,
+) -> ItemVisitorWith<F, T>
+    requires { F.IsAlwaysCallable f }
+    ensures waiting { function_waiting result ≡ Some f }
+    ensures kept { answer_kept result ≡ None }
+{
+    ItemVisitorWith {
+        f: Some(f),
+        kept: None,
+    }
+}
+
+impl<'de, T: Drop, E: Drop, F: FnOnce(BareItemFromInput<'de>) -> Result<T, E> + Drop> Visitor<'de>
+    for ItemVisitorWith<F, T> {
+    type Out = Option<T>;
+
+    type Error = E;
+
+    ghost is_ready = { λ s. MatchOption (function_waiting s) ⊤ F.IsAlwaysCallable };
+
+    ghost takes = { CallTakes F.post };
+
+    ghost fails = { CallFails F.post };
+
+    ghost finishes = { λ s out. out ≡ answer_kept s };
+
+    ghost finish_fails = { λ _ _. ⊥ };
+
+    fn event(&mut self, event: Event<'de>) -> Result<(), E> {
+        let Event::BareItem(item) = event else {
+            return Ok(());
+        };
+        if let Some(f) = self.f.take() {
+            self.kept = Some(f(item)?);
+        }
+        Ok(())
+    }
+
+    fn finish(self) -> Result<Option<T>, E> {
+        Ok(self.kept)
+    }
+}
