@@ -2,4 +2,5 @@ pub mod built
 pub mod visits
 pub mod reads
 pub mod Parsed
+pub mod Expected
 pub mod Callers

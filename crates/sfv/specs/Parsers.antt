@@ -90,3 +90,7 @@ IsVisitorErrorOf takes fails finish_fails edition kind t from (Visitor fault) =
     → IsVisitorError takes fails finish_fails from (events kind raw) fault)
     × ((kind ≡ item_field) ⊎ ((raw : RawField kind) → IsFieldText edition kind raw t → ⊥)
     → IsEarlyVisitorError takes fails finish_fails kind from fault)
+
+-- it is so of some visitor that is as it was made
+abbrev pub OfMade : {S X : Type 0} → (S → Type 0) → (S → X → Type 0) → X → Type 0
+OfMade {S} is_made P x = (from : S) × is_made from × P from x

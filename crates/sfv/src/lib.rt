@@ -7,6 +7,7 @@
 mod field_type;
 pub mod laws;
 mod parser;
+pub mod visitor;
 
 pub use field_type::FieldType;
 pub use parser::Parser;
@@ -30,4 +31,3 @@ pub use sfv_tree::parsed::{
     Dictionary, InnerList, Item, List, ListEntry, Parameters, find_entry, find_param, insert_entry,
     insert_param,
 };
-pub use sfv_tree::visitor;

@@ -9,6 +9,7 @@ use crate::field_type::FieldType;
 use sfv_bare::bare::Version;
 use sfv_base::error::{Error, ParseError};
 use sfv_tree::visitor::Visitor;
+use sfv_visit::make::{MakeDictionaryVisitor, MakeItemVisitor, MakeListVisitor};
 use std::alloc::Global;
 
 mod bare_item;
@@ -38,7 +39,7 @@ pub struct Parser<'de> {
 
 impl<'de> Parser<'de> {
     ghost use Rattle.sfv.specs.Parsers.{parser_of, input_of, parser_edition, IsParseError, IsReaderFault, IsAnswerOf};
-    ghost use Rattle.sfv.specs.Parsers.{IsSyntaxOf, IsVisitorErrorOf, VisitsAccepted};
+    ghost use Rattle.sfv.specs.Parsers.{IsSyntaxOf, IsVisitorErrorOf, VisitsAccepted, OfMade};
 
     /// Reads this input, under RFC 9651.
     pub fn new(input: &'de [u8]) -> Parser<'de>
@@ -78,6 +79,94 @@ impl<'de> Parser<'de> {
         ensures fault { IfErr result (IsReaderFault (parser_edition self.entry) T.kind (input_of self.entry)) }
     {
         T::parse(alloc, self)
+    }
+
+    /// Reads the input as an item of this type (RFC 9651, section 4.2) with the visitor that the type makes, and memory
+    /// from `alloc`.
+    ///
+    /// An `Item` is read whole; a type of one kind (`Integer`, `TokenRef`, ..) is the bare item of that kind, whatever
+    /// its parameters; `BareItem` and `BareItemFromInput` are the bare item of every kind.
+    ///
+    /// # Errors
+    ///
+    /// Those of `parse_item_with_visitor`.
+    pub fn parse_item<T: MakeItemVisitor<'de>>(
+        self,
+        alloc: Global,
+    ) -> Result<T, ParseError<<T::Visitor as Visitor<'de>>::Error>>
+        ensures visited { IfOk result (OfMade T.is_made
+            (IsAnswerOf T.Visitor.takes T.Visitor.finishes
+            (parser_edition self.entry) item_field (input_of self.entry))) }
+        ensures syntax { IfErr result (OfMade T.is_made
+            (IsSyntaxOf T.Visitor.takes T.Visitor.finishes
+            (parser_edition self.entry) item_field (input_of self.entry))) }
+        ensures visitor { IfErr result (OfMade T.is_made
+            (IsVisitorErrorOf T.Visitor.takes T.Visitor.fails T.Visitor.finish_fails
+            (parser_edition self.entry) item_field (input_of self.entry))) }
+        ensures accepted { OfMade T.is_made
+            (VisitsAccepted T.Visitor.takes T.Visitor.fails T.Visitor.finishes T.Visitor.finish_fails
+            T.Visitor.is_memory (parser_edition self.entry) item_field (input_of self.entry)) result }
+    {
+        let visitor = T::make_item_visitor(alloc);
+        self.parse_item_with_visitor(alloc, visitor)
+    }
+
+    /// Reads the input as a list of this type (RFC 9651, section 4.2) with the visitor that the type makes, and memory
+    /// from `alloc`.
+    ///
+    /// For a `List` that is what `parse` returns.
+    ///
+    /// # Errors
+    ///
+    /// Those of `parse_list_with_visitor`.
+    pub fn parse_list<T: MakeListVisitor<'de>>(
+        self,
+        alloc: Global,
+    ) -> Result<T, ParseError<<T::Visitor as Visitor<'de>>::Error>>
+        ensures visited { IfOk result (OfMade T.is_made
+            (IsAnswerOf T.Visitor.takes T.Visitor.finishes
+            (parser_edition self.entry) list_field (input_of self.entry))) }
+        ensures syntax { IfErr result (OfMade T.is_made
+            (IsSyntaxOf T.Visitor.takes T.Visitor.finishes
+            (parser_edition self.entry) list_field (input_of self.entry))) }
+        ensures visitor { IfErr result (OfMade T.is_made
+            (IsVisitorErrorOf T.Visitor.takes T.Visitor.fails T.Visitor.finish_fails
+            (parser_edition self.entry) list_field (input_of self.entry))) }
+        ensures accepted { OfMade T.is_made
+            (VisitsAccepted T.Visitor.takes T.Visitor.fails T.Visitor.finishes T.Visitor.finish_fails
+            T.Visitor.is_memory (parser_edition self.entry) list_field (input_of self.entry)) result }
+    {
+        let visitor = T::make_list_visitor(alloc);
+        self.parse_list_with_visitor(alloc, visitor)
+    }
+
+    /// Reads the input as a dictionary of this type (RFC 9651, section 4.2) with the visitor that the type makes, and memory
+    /// from `alloc`.
+    ///
+    /// For a `Dictionary` that is what `parse` returns.
+    ///
+    /// # Errors
+    ///
+    /// Those of `parse_dictionary_with_visitor`.
+    pub fn parse_dictionary<T: MakeDictionaryVisitor<'de>>(
+        self,
+        alloc: Global,
+    ) -> Result<T, ParseError<<T::Visitor as Visitor<'de>>::Error>>
+        ensures visited { IfOk result (OfMade T.is_made
+            (IsAnswerOf T.Visitor.takes T.Visitor.finishes
+            (parser_edition self.entry) dictionary_field (input_of self.entry))) }
+        ensures syntax { IfErr result (OfMade T.is_made
+            (IsSyntaxOf T.Visitor.takes T.Visitor.finishes
+            (parser_edition self.entry) dictionary_field (input_of self.entry))) }
+        ensures visitor { IfErr result (OfMade T.is_made
+            (IsVisitorErrorOf T.Visitor.takes T.Visitor.fails T.Visitor.finish_fails
+            (parser_edition self.entry) dictionary_field (input_of self.entry))) }
+        ensures accepted { OfMade T.is_made
+            (VisitsAccepted T.Visitor.takes T.Visitor.fails T.Visitor.finishes T.Visitor.finish_fails
+            T.Visitor.is_memory (parser_edition self.entry) dictionary_field (input_of self.entry)) result }
+    {
+        let visitor = T::make_dictionary_visitor(alloc);
+        self.parse_dictionary_with_visitor(alloc, visitor)
     }
 
     /// Reads the input as an item (RFC 9651, section 4.2), and visits its parts from left to right. Memory for texts

@@ -1,0 +1,75 @@
+-- What a visitor that expects one bare item says of the field.
+use Rattle.std.proofs.Common.{◌≡◌, List, [], ◌∷◌, ◌++◌, Option, Some, None, Result, Ok, Err, refl, sym, ap, subst, ◌∙◌}
+use Rattle.std.proofs.Common.{inl, inr}
+use Rattle.std.specs.Prelude.{ℕ, ◌⊎◌, IfOk, IfErr, MatchResult}
+use Rattle.std.proofs.lemmas.Option.{same_Some}
+use Rattle.sfv_spec.specs.Values.{Edition, item_field, BareValue, RawItem}
+use Rattle.sfv_spec.specs.Grammar.{IsFieldText}
+use Rattle.sfv_spec.specs.Events.{TreeEvent, bare_item, parameters_events, item_events}
+use Rattle.sfv_spec.specs.Visiting.{RunsTo, IsVisitorError}
+use Rattle.sfv_base.specs.Errors.{out_of_memory}
+use Rattle.sfv_base.specs.declared.error.ParseError.{ParseError}
+use Rattle.sfv_base.specs.declared.error.ParseError.TheVariants.{Syntax, Visitor}
+use Rattle.sfv_tree.specs.declared.visitor.ItemFault.{ItemFault}
+use Rattle.sfv_tree.specs.declared.visitor.ItemFault.TheVariants as faults
+use Rattle.sfv_visit.specs.Given.{item_kept, KeepTakes, KeepFails}
+use Rattle.sfv_visit.specs.declared.expect_item.ExpectItem.{ExpectItem}
+use Rattle.sfv.specs.Parsers.{IsAnswerOf, IsSyntaxOf, IsVisitorErrorOf, IsParseError}
+
+module _ {T : Type 0} (holds : T → BareValue) (refuses : BareValue → ItemFault → Type 0) where
+  abbrev Takes : ExpectItem T → TreeEvent → ExpectItem T → Type 0
+  Takes = KeepTakes holds
+
+  abbrev Fails : ExpectItem T → TreeEvent → ItemFault → Type 0
+  Fails = KeepFails refuses
+
+  abbrev Finishes : ExpectItem T → T → Type 0
+  Finishes s item = item_kept s ≡ Some item
+
+  abbrev FinishFails : ExpectItem T → ItemFault → Type 0
+  FinishFails s fault = (item_kept s ≡ None) × (fault ≡ faults.NoItem)
+
+  -- what is kept stays
+  stays : (es : List TreeEvent) (item : T) (s last : ExpectItem T) → item_kept s ≡ Some item → RunsTo Takes s es last
+      → item_kept last ≡ Some item
+  stays [] item s last here run = ap item_kept (sym run) ∙ here
+  stays (e ∷ es) item s last here run =
+      let same : run.0 ≡ s = rw here at run.1 in
+      stays es item run.0 last (ap item_kept same ∙ here) run.2
+
+  -- the bare item of the field is kept
+  kept : (raw : RawItem) (from last : ExpectItem T) → item_kept from ≡ None → RunsTo Takes from (item_events raw) last
+      → (item : T) × (holds item ≡ raw.bare) × (item_kept last ≡ Some item)
+  kept raw from last none run =
+      let first : (item : T) × (holds item ≡ raw.bare) × (item_kept run.0 ≡ Some item) = rw none at run.1 in
+      (first.0, first.1, stays (parameters_events raw.parameters) first.0 run.0 last first.2 run.2)
+
+  -- of an answer it is the field's
+  answer_is : (edition : Edition) (t : List ℕ) (from : ExpectItem T) (out : T) → item_kept from ≡ None
+      → IsAnswerOf Takes Finishes edition item_field t from out
+      → (raw : RawItem) × IsFieldText edition item_field raw t × (holds out ≡ raw.bare)
+  answer_is edition t from out none h =
+      let k = kept h.raw from h.visited.last none h.visited.taken in
+      let same : k.0 ≡ out = same_Some k.0 out (sym k.2 ∙ h.visited.answered) in
+      (h.raw, h.accepted, ap holds (sym same) ∙ k.1)
+
+  -- it fails on a field exactly for the bare item
+  failure_is : (raw : RawItem) (from : ExpectItem T) (fault : ItemFault) → item_kept from ≡ None
+      → IsVisitorError Takes Fails FinishFails from (item_events raw) fault → refuses raw.bare fault
+  failure_is raw from fault none (inl h) = at h.0 h.4 h.5
+    where
+      at : (before : List TreeEvent) → item_events raw ≡ before ++ h.1 ∷ h.2 → RunsTo Takes from before h.3
+          → refuses raw.bare fault
+      at [] split taken =
+          let e : h.1 ≡ bare_item raw.bare = cc in
+          let here : item_kept h.3 ≡ None = ap item_kept (sym taken) ∙ none in
+          rw (here, e) at h.6
+      at (b ∷ before) split taken =
+          let e : b ≡ bare_item raw.bare = cc in
+          let first : (item : T) × (holds item ≡ raw.bare) × (item_kept taken.0 ≡ Some item) =
+          rw (none, e) at taken.1 in
+          let here = stays before first.0 taken.0 h.3 first.2 taken.2 in
+          absurd (rw here at h.6)
+  failure_is raw from fault none (inr h) =
+      let k = kept raw from h.0 none h.1 in
+      absurd (let e : Some k.0 ≡ None = sym k.2 ∙ h.2.0 in cc)

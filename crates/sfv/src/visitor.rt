@@ -1,0 +1,13 @@
+//! Visitors of fields, which visit each part of a field while it is read, and those that are given.
+//!
+//! Of a key that is repeated, in a dictionary or among parameters, only the last value counts (RFC 9651, sections 3.1.2
+//! and 3.2), and a visitor is told of each: see `Visitor`.
+
+pub use sfv_tree::visitor::{
+    BareItemType, DictionaryBuilder, Event, ItemBuilder, ItemFault, ListBuilder, Visitor,
+};
+pub use sfv_visit::expect_item::{ExpectItem, ExpectedItem};
+pub use sfv_visit::ignored::Ignored;
+pub use sfv_visit::item_visitor::{ItemVisitorWith, item_visitor_with};
+pub use sfv_visit::make::{MakeDictionaryVisitor, MakeItemVisitor, MakeListVisitor};
+pub use sfv_visit::parameter_visitor::{ParameterVisitorWith, parameter_visitor_with};
