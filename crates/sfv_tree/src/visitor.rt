@@ -12,6 +12,7 @@ ghost use Rattle.sfv_tree.specs.Events.{event_of};
 mod dictionary_builder;
 mod item_builder;
 mod list_builder;
+mod option;
 mod parameters;
 mod partial_member;
 

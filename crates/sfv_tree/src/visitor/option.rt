@@ -1,0 +1,42 @@
+//! A visitor that may be left out.
+
+ghost use Rattle.std.specs.Prelude.{◌≡◌, ⊤, Some, None, MatchOption};
+
+use crate::visitor::{Event, Visitor};
+
+/// Visits as `V` does where there is one, and answers what `V` answers. `None` takes every event and answers `None`.
+///
+/// Either is told of each value of a repeated key.
+impl<'de, V: Visitor<'de>> Visitor<'de> for Option<V> {
+    type Out = Option<V::Out>;
+
+    type Error = V::Error;
+
+    ghost is_ready = { λ s. MatchOption s ⊤ V.is_ready };
+
+    ghost takes = { λ s event after. MatchOption s (after ≡ None) (λ visitor.
+        (next : V) × (after ≡ Some next) × V.takes visitor event next) };
+
+    ghost fails = { λ s event fault. MatchOption s ⊥ (λ visitor. V.fails visitor event fault) };
+
+    ghost finishes = { λ s out. MatchOption s (out ≡ None) (λ visitor.
+        (answer : V.Out) × (out ≡ Some answer) × V.finishes visitor answer) };
+
+    ghost finish_fails = { λ s fault. MatchOption s ⊥ (λ visitor. V.finish_fails visitor fault) };
+
+    ghost is_memory = { V.is_memory };
+
+    fn event(&mut self, event: Event<'de>) -> Result<(), V::Error> {
+        match self {
+            Some(visitor) => visitor.event(event),
+            None => Ok(()),
+        }
+    }
+
+    fn finish(self) -> Result<Option<V::Out>, V::Error> {
+        match self {
+            Some(visitor) => Ok(Some(visitor.finish()?)),
+            None => Ok(None),
+        }
+    }
+}

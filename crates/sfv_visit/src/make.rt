@@ -1,0 +1,92 @@
+//! The visitor of a type: what reads a field into a value of that type.
+
+ghost use Rattle.std.specs.Prelude.{◌≡◌, [], None};
+ghost use Rattle.sfv_tree.specs.Builders.{item_place, at_head, list_place, between, dictionary_place, between_pairs};
+ghost use Rattle.sfv_visit.specs.Given.{item_kept};
+
+use crate::expect_item::{ExpectItem, ExpectedItem};
+use sfv_tree::parsed::{Dictionary, Item, List};
+use sfv_tree::visitor::{DictionaryBuilder, ItemBuilder, ListBuilder, Visitor};
+use std::alloc::Global;
+
+/// A type with a visitor that reads an item into it.
+pub trait MakeItemVisitor<'de>: Drop {
+    /// The visitor.
+    type Visitor: Visitor<'de, Out = Self>;
+
+    /// The visitor is as it is made, before any event.
+    ghost is_made: { Self.Visitor → Type 0 };
+
+    /// Returns the visitor before any event, which takes memory from `alloc`.
+    fn make_item_visitor(alloc: Global) -> Self::Visitor
+        ensures made { is_made result }
+        ensures ready { Self.Visitor.is_ready result };
+}
+
+/// A type with a visitor that reads a list into it.
+pub trait MakeListVisitor<'de>: Drop {
+    /// The visitor.
+    type Visitor: Visitor<'de, Out = Self>;
+
+    /// The visitor is as it is made, before any event.
+    ghost is_made: { Self.Visitor → Type 0 };
+
+    /// Returns the visitor before any event, which takes memory from `alloc`.
+    fn make_list_visitor(alloc: Global) -> Self::Visitor
+        ensures made { is_made result }
+        ensures ready { Self.Visitor.is_ready result };
+}
+
+/// A type with a visitor that reads a dictionary into it.
+pub trait MakeDictionaryVisitor<'de>: Drop {
+    /// The visitor.
+    type Visitor: Visitor<'de, Out = Self>;
+
+    /// The visitor is as it is made, before any event.
+    ghost is_made: { Self.Visitor → Type 0 };
+
+    /// Returns the visitor before any event, which takes memory from `alloc`.
+    fn make_dictionary_visitor(alloc: Global) -> Self::Visitor
+        ensures made { is_made result }
+        ensures ready { Self.Visitor.is_ready result };
+}
+
+impl<'de> MakeItemVisitor<'de> for Item {
+    type Visitor = ItemBuilder;
+
+    ghost is_made = { λ visitor. item_place visitor ≡ at_head };
+
+    fn make_item_visitor(alloc: Global) -> ItemBuilder {
+        ItemBuilder::new(alloc)
+    }
+}
+
+impl<'de, T: ExpectedItem<'de>> MakeItemVisitor<'de> for T {
+    type Visitor = ExpectItem<T>;
+
+    ghost is_made = { λ visitor. item_kept visitor ≡ None };
+
+    fn make_item_visitor(alloc: Global) -> ExpectItem<T> {
+        ExpectItem::new(alloc)
+    }
+}
+
+impl<'de> MakeListVisitor<'de> for List {
+    type Visitor = ListBuilder;
+
+    ghost is_made = { λ visitor. list_place visitor ≡ between [] };
+
+    fn make_list_visitor(alloc: Global) -> ListBuilder {
+        ListBuilder::new(List::new(alloc))
+    }
+}
+
+impl<'de> MakeDictionaryVisitor<'de> for Dictionary {
+    type Visitor = DictionaryBuilder;
+
+    ghost is_made = { λ visitor. dictionary_place visitor ≡ between_pairs [] };
+
+    fn make_dictionary_visitor(alloc: Global) -> DictionaryBuilder {
+        DictionaryBuilder::new(Dictionary::new(alloc))
+    }
+}
