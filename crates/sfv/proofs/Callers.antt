@@ -19,7 +19,7 @@ use Rattle.sfv_spec.proofs.Structure.{one_field_lem}
 use Rattle.sfv_spec.proofs.Valid.{accepted_is_value_lem}
 use Rattle.sfv_spec.specs.Faults.{SyntaxFault, IsRejectedAt}
 use Rattle.sfv_base.specs.declared.error.Error.{Error}
-use Rattle.sfv_base.specs.Errors.{index_of, kind_of, error_kind}
+use Rattle.sfv_base.specs.Errors.{index_of, kind_of, error_kind, out_of_memory}
 use Rattle.sfv_tree.specs.Trees.{list_tree, dictionary_tree}
 use Rattle.sfv_tree.specs.Builders.{between, between_pairs, list_place, list_step, list_members, dictionary_place}
 use Rattle.sfv_tree.specs.Builders.{dictionary_step, dictionary_members}
@@ -38,6 +38,8 @@ pub use Rattle.sfv_spec.proofs.Collapse.{last_of-collapse, last_of-absent}
 pub use Rattle.sfv_ser.proofs.Lent.{lent_all}
 -- what a visitor did with the events of a field
 pub use Rattle.sfv_spec.proofs.Runs.{runs_fold, entry_in, keys_in_events, entries_in_events, fails_somewhere}
+-- what a visitor that expects one bare item says of the field
+pub use Rattle.sfv.proofs.Expected.{expect_answers, expect_fails}
 
 -- the member of a key in a dictionary that was read is the last of the text, its parameters ordered
 pub member_read : (edition : Edition) (t : List ℕ) (value : List (List ℕ × RawMember)) (key : List ℕ)
@@ -82,6 +84,12 @@ read_is_value edition kind t value h = subst (IsValue kind) (sym h.ordered_value
 pub one_value : (edition : Edition) (kind : FieldKind) (t : List ℕ) (a b : RawField kind) → IsParsedAs edition kind t a
     → IsParsedAs edition kind t b → a ≡ b
 one_value edition kind t a b h k = h.ordered_value ∙ ap (ordered kind) (k.only h.raw h.accepted) ∙ sym k.ordered_value
+
+-- of an accepted text an error is want of memory
+pub accepted_error : (edition : Edition) (kind : FieldKind) (t : List ℕ) (raw : RawField kind) (e : Error)
+    → IsFieldText edition kind raw t → IsParseError edition kind t e → e ≡ out_of_memory
+accepted_error edition kind t raw e accepted (inl same) = same
+accepted_error edition kind t raw e accepted (inr h) = absurd (h.rejected.rejected (raw, accepted))
 
 -- an error with an index is a fault of the text there
 pub located_error : (edition : Edition) (kind : FieldKind) (t : List ℕ) (e : Error) (index : ℕ)

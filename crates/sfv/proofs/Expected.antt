@@ -1,20 +1,19 @@
 -- What a visitor that expects one bare item says of the field.
 use Rattle.std.proofs.Common.{◌≡◌, List, [], ◌∷◌, ◌++◌, Option, Some, None, Result, Ok, Err, refl, sym, ap, subst, ◌∙◌}
 use Rattle.std.proofs.Common.{inl, inr}
-use Rattle.std.specs.Prelude.{ℕ, ◌⊎◌, IfOk, IfErr, MatchResult}
+use Rattle.std.specs.Prelude.{ℕ, IfOk, MatchOption}
 use Rattle.std.proofs.lemmas.Option.{same_Some}
 use Rattle.sfv_spec.specs.Values.{Edition, item_field, BareValue, RawItem}
 use Rattle.sfv_spec.specs.Grammar.{IsFieldText}
 use Rattle.sfv_spec.specs.Events.{TreeEvent, bare_item, parameters_events, item_events}
 use Rattle.sfv_spec.specs.Visiting.{RunsTo, IsVisitorError}
-use Rattle.sfv_base.specs.Errors.{out_of_memory}
 use Rattle.sfv_base.specs.declared.error.ParseError.{ParseError}
-use Rattle.sfv_base.specs.declared.error.ParseError.TheVariants.{Syntax, Visitor}
+use Rattle.sfv_base.specs.declared.error.ParseError.TheVariants.{Visitor}
 use Rattle.sfv_tree.specs.declared.visitor.ItemFault.{ItemFault}
 use Rattle.sfv_tree.specs.declared.visitor.ItemFault.TheVariants as faults
-use Rattle.sfv_visit.specs.Given.{item_kept, KeepTakes, KeepFails}
+use Rattle.sfv_visit.specs.Given.{item_kept, first_value, KeepTakes, KeepFails}
 use Rattle.sfv_visit.specs.declared.expect_item.ExpectItem.{ExpectItem}
-use Rattle.sfv.specs.Parsers.{IsAnswerOf, IsSyntaxOf, IsVisitorErrorOf, IsParseError}
+use Rattle.sfv.specs.Parsers.{IsAnswerOf, IsVisitorErrorOf, OfMade}
 
 module _ {T : Type 0} (holds : T → BareValue) (refuses : BareValue → ItemFault → Type 0) where
   abbrev Takes : ExpectItem T → TreeEvent → ExpectItem T → Type 0
@@ -34,7 +33,8 @@ module _ {T : Type 0} (holds : T → BareValue) (refuses : BareValue → ItemFau
       → item_kept last ≡ Some item
   stays [] item s last here run = ap item_kept (sym run) ∙ here
   stays (e ∷ es) item s last here run =
-      let same : run.0 ≡ s = rw here at run.1 in
+      let same : run.0 ≡ s = subst (λ (o : Option T). MatchOption (first_value o e) (run.0 ≡ s) (λ value.
+      (item : T) × (holds item ≡ value) × (item_kept run.0 ≡ Some item))) here run.1 in
       stays es item run.0 last (ap item_kept same ∙ here) run.2
 
   -- the bare item of the field is kept
@@ -73,3 +73,19 @@ module _ {T : Type 0} (holds : T → BareValue) (refuses : BareValue → ItemFau
   failure_is raw from fault none (inr h) =
       let k = kept raw from h.0 none h.1 in
       absurd (let e : Some k.0 ≡ None = sym k.2 ∙ h.2.0 in cc)
+
+  -- as the contract of a reading with a visitor that was made has it
+  abbrev Made : ExpectItem T → Type 0
+  Made s = item_kept s ≡ None
+
+  pub expect_answers : (edition : Edition) (t : List ℕ) (r : Result T (ParseError ItemFault))
+      → IfOk r (OfMade Made (IsAnswerOf Takes Finishes edition item_field t))
+      → IfOk r (λ item. (raw : RawItem) × IsFieldText edition item_field raw t × (holds item ≡ raw.bare))
+  expect_answers edition t (Ok item) h = answer_is edition t h.0 item h.1 h.2
+  expect_answers edition t (Err e) h = tt
+
+  pub expect_fails : (edition : Edition) (t : List ℕ) (raw : RawItem) (fault : ItemFault)
+      → IsFieldText edition item_field raw t
+      → OfMade Made (IsVisitorErrorOf Takes Fails FinishFails edition item_field t) (Visitor fault)
+      → refuses raw.bare fault
+  expect_fails edition t raw fault accepted h = failure_is raw h.0 fault h.1 (h.2.0 raw accepted)

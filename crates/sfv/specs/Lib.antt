@@ -43,6 +43,7 @@ pub use Rattle.sfv_tree.specs.Builders
 pub use Rattle.sfv_tree.specs.Events as EventValues
 pub use Rattle.sfv_tree.specs.Kinds
 pub use Rattle.sfv_tree.specs.Trees
+pub use Rattle.sfv_visit.specs.Given
 pub use Rattle.sfv_ser.specs.Serializers
 pub use Rattle.sfv_ser.specs.Written
 pub use Rattle.indexmap.specs.IndexMap as Maps

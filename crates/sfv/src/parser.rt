@@ -140,8 +140,8 @@ impl<'de> Parser<'de> {
         self.parse_list_with_visitor(alloc, visitor)
     }
 
-    /// Reads the input as a dictionary of this type (RFC 9651, section 4.2) with the visitor that the type makes, and memory
-    /// from `alloc`.
+    /// Reads the input as a dictionary of this type (RFC 9651, section 4.2) with the visitor that the type makes, and
+    /// memory from `alloc`.
     ///
     /// For a `Dictionary` that is what `parse` returns.
     ///
