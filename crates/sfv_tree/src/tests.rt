@@ -2,7 +2,9 @@ use crate::parsed::{
     Dictionary, InnerList, Item, List, ListEntry, Parameters, find_entry, find_param, insert_entry,
     insert_param,
 };
-use crate::visitor::{BareItemType, DictionaryBuilder, Event, ListBuilder, Visitor};
+use crate::visitor::{
+    BareItemType, DictionaryBuilder, Event, ItemBuilder, ItemFault, ListBuilder, Visitor,
+};
 use sfv_bare::bare::{BareItem, BareItemFromInput};
 use sfv_base::error::OutOfMemory;
 use sfv_text::key_ref::KeyRef;
@@ -294,5 +296,29 @@ fn event_out_of_its_place_changes_no_dictionary(rt: HostRuntime) -> Result<(), F
             "{letters}"
         );
     }
+    Ok(())
+}
+
+// What an optional builder of an item answers after the events.
+fn build_if_any(
+    mut builder: Option<ItemBuilder>,
+    letters: &str,
+) -> Result<Option<Item>, ItemFault> {
+    for letter in letters.chars() {
+        builder.event(event(letter))?;
+    }
+    builder.finish()
+}
+
+#[test]
+fn optional_visitor_visits_where_there_is_one(rt: HostRuntime) -> Result<(), Fail> {
+    let alloc = rt.alloc();
+    let want = item_of(alloc, 5, key_ref("a"), 2)?;
+    let built = build_if_any(Some(ItemBuilder::new(alloc)), "5aA;")?;
+    assert!(rt; built == Some(want));
+    assert!(rt; build_if_any(None, "5aA;")?.is_none());
+    assert!(rt; build_if_any(None, "")?.is_none());
+    let answer = build_if_any(Some(ItemBuilder::new(alloc)), "5a");
+    assert!(rt; matches!(answer, Err(ItemFault::NoItem)));
     Ok(())
 }

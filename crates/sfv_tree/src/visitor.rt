@@ -53,6 +53,9 @@ pub enum Event<'de> {
 ///
 /// A visitor may fail at a part or at its answer, and that ends the reading. A contract gives a visitor by what it may
 /// do in each state, and sees an event as its value, whether a text in it is borrowed or owned.
+///
+/// `Some` of a visitor visits as that one does and answers `Some` of its answer; `None` takes every event and answers
+/// `None`.
 pub trait Visitor<'de>: Drop {
     /// The answer.
     type Out: Drop;

@@ -4,9 +4,6 @@ ghost use Rattle.std.specs.Prelude.{◌≡◌, ⊤, Some, None, MatchOption};
 
 use crate::visitor::{Event, Visitor};
 
-/// Visits as `V` does where there is one, and answers what `V` answers. `None` takes every event and answers `None`.
-///
-/// Either is told of each value of a repeated key.
 impl<'de, V: Visitor<'de>> Visitor<'de> for Option<V> {
     type Out = Option<V::Out>;
 
