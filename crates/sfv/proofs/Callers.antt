@@ -40,6 +40,10 @@ pub use Rattle.sfv_ser.proofs.Lent.{lent_all}
 pub use Rattle.sfv_spec.proofs.Runs.{runs_fold, entry_in, keys_in_events, entries_in_events, fails_somewhere}
 -- what a visitor that expects one bare item says of the field
 pub use Rattle.sfv.proofs.Expected.{expect_answers, expect_fails}
+-- what the builders answer is the value of the text
+pub use Rattle.sfv.proofs.built.Items.{built as item_built}
+pub use Rattle.sfv.proofs.built.Lists.{built_list as list_built}
+pub use Rattle.sfv.proofs.built.Dictionaries.{built_dictionary as dictionary_built}
 
 -- the member of a key in a dictionary that was read is the last of the text, its parameters ordered
 pub member_read : (edition : Edition) (t : List ℕ) (value : List (List ℕ × RawMember)) (key : List ℕ)

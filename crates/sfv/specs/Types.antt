@@ -18,3 +18,6 @@ pub use Rattle.sfv_tree.specs.declared.parsed.ListEntry.{ListEntry}
 pub use Rattle.sfv_tree.specs.declared.parsed.ListEntry.TheVariants as list_entries
 pub use Rattle.sfv_tree.specs.declared.visitor.ItemFault.{ItemFault}
 pub use Rattle.sfv_tree.specs.declared.visitor.ItemFault.TheVariants as item_faults
+pub use Rattle.sfv_tree.specs.declared.visitor.BareItemType.{BareItemType}
+pub use Rattle.sfv_tree.specs.declared.visitor.BareItemType.TheVariants as bare_item_types
+pub use Rattle.sfv_visit.specs.declared.expect_item.ExpectItem.{ExpectItem}

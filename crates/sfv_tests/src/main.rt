@@ -11,6 +11,8 @@ mod callers;
 mod content_digest;
 #[cfg(test)]
 mod further_lines;
+#[cfg(test)]
+mod given;
 mod replay;
 #[cfg(test)]
 mod rows;

@@ -1,22 +1,26 @@
 -- What the uses rest on.
 use Rattle.std.proofs.Common.{◌≡◌, ℕ, ℤ, ◌+◌, ◌<◌, ◌≤◌, List, [], ◌∷◌, length, refl, sym, ap, ◌∙◌, arith}
 use Rattle.std.proofs.Common.{inl, inr}
-use Rattle.std.specs.Prelude.{Option, Some, None, Result, Ok, Err, IsSome, IfOk, IfErr, fold, filter_map, option_map}
+use Rattle.std.specs.Prelude.{Option, Some, None, Result, Ok, Err, IsSome, IfOk, IfErr, MatchResult, fold, filter_map, option_map}
 use Rattle.std.specs.List.{cons_option}
 use Rattle.std.proofs.lemmas.List.{length-append, length-map}
 use Rattle.std.proofs.lemmas.List.Elements.{filter_map-append}
-use Rattle.sfv.specs.Values.{rfc9651, dictionary_field, BareValue, integer, decimal, string, token, byte_sequence}
+use Rattle.sfv.specs.Values.{rfc9651, item_field, dictionary_field, RawItem, BareValue, integer, decimal, string, token, byte_sequence}
 use Rattle.sfv.specs.Values.{boolean, date, display_string, RawMember, item, inner_list}
 use Rattle.sfv.specs.Events.{TreeEvent, entry, keyed_entry, begins_item, begins_inner_list, bare_item, parameter}
 use Rattle.sfv.specs.Events.{parameters_end, inner_list_end, events, key_in}
+use Rattle.sfv.specs.Grammar.{IsFieldText}
 use Rattle.sfv.specs.Ordered.{last_of, ordered_member}
 use Rattle.sfv.specs.Statements.{IsParsedAs}
 use Rattle.sfv.specs.Visiting.{RunsTo, IsVisitorError}
-use Rattle.sfv.specs.Parsers.{IsAnswerOf, IsSyntaxOf, IsVisitorErrorOf}
-use Rattle.sfv.specs.Types.{ParseError}
+use Rattle.sfv.specs.Parsers.{IsAnswerOf, IsSyntaxOf, IsVisitorErrorOf, OfMade}
+use Rattle.sfv.specs.Given.{item_kept, KeepTakes, KeepFails}
+use Rattle.sfv.specs.Types.{ParseError, ItemFault, ExpectItem}
+use Rattle.sfv.specs.Types.item_faults as item_faults
 use Rattle.sfv.specs.Types.parse_errors.{Syntax, Visitor}
-use Rattle.sfv.proofs.Callers.{runs_fold, keys_in_events, member_read, last_of-collapse}
-use Rattle.sfv_uses.specs.Uses.{integer_or, param_in, counts, HasMembers, IsCountError}
+use Rattle.sfv.proofs.Callers.{runs_fold, keys_in_events, member_read, last_of-collapse, expect_answers}
+use Rattle.sfv.proofs.Callers.{expect_fails, accepted_error}
+use Rattle.sfv_uses.specs.Uses.{integer_or, param_in, counts, HasMembers, IsCountError, IsExpectError}
 use Rattle.sfv_uses.specs.declared.visiting.MemberCounter.{MemberCounter}
 use Rattle.sfv_uses.specs.declared.visiting.TooMany.{TooMany}
 
@@ -126,3 +130,26 @@ module _ (t : List ℕ) (from : MemberCounter) (start : from.members ≡ 0) wher
   count_failed (Ok n) h k = tt
   count_failed (Err (Syntax e)) h k = h.0
   count_failed (Err (Visitor fault)) h k = λ raw accepted. failed_late raw fault (k.0 raw accepted)
+
+-- what a type that holds bare items is read as of an item
+module _ {T : Type 0} (holds : T → BareValue) (refuses : BareValue → ItemFault → Type 0) where
+  abbrev Waits : ExpectItem T → Type 0
+  Waits s = item_kept s ≡ None
+
+  abbrev Keeps : ExpectItem T → T → Type 0
+  Keeps s held = item_kept s ≡ Some held
+
+  abbrev KeepsNone : ExpectItem T → ItemFault → Type 0
+  KeepsNone s fault = (item_kept s ≡ None) × (fault ≡ item_faults.NoItem)
+
+  pub expected : (t : List ℕ) (r : Result T (ParseError ItemFault))
+      → IfOk r (OfMade Waits (IsAnswerOf (KeepTakes holds) Keeps rfc9651 item_field t))
+      → IfErr r (OfMade Waits (IsSyntaxOf (KeepTakes holds) Keeps rfc9651 item_field t))
+      → IfErr r (OfMade Waits (IsVisitorErrorOf (KeepTakes holds) (KeepFails refuses) KeepsNone rfc9651 item_field t))
+      → (raw : RawItem) → IsFieldText rfc9651 item_field raw t
+      → MatchResult r (λ held. holds held ≡ raw.bare) (IsExpectError refuses raw.bare)
+  expected t (Ok held) h k l raw accepted =
+      let read = expect_answers holds refuses rfc9651 t (Ok held) h in
+      read.2 ∙ ap (λ (i : RawItem). i.bare) (h.2.only read.0 read.1 ∙ sym (h.2.only raw accepted))
+  expected t (Err (Syntax e)) h k l raw accepted = accepted_error rfc9651 item_field t raw e accepted k.2.0
+  expected t (Err (Visitor fault)) h k l raw accepted = expect_fails holds refuses rfc9651 t raw fault accepted l

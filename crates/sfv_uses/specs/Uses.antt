@@ -1,7 +1,7 @@
 -- What the uses answer.
 use Rattle.std.specs.Prelude.{◌≡◌, ℕ, ℤ, ◌+◌, ◌<◌, ◌≤◌, List, [], ◌∷◌, ◌++◌, length, Option, Some, None, codes}
 use Rattle.std.specs.List.{repeat}
-use Rattle.sfv.specs.Values.{rfc9651, list_field, dictionary_field, BareValue, integer, RawParameters, RawItem, RawMember}
+use Rattle.sfv.specs.Values.{rfc9651, item_field, list_field, dictionary_field, BareValue, integer, RawParameters, RawItem, RawMember}
 use Rattle.sfv.specs.Values.{item, inner_list}
 use Rattle.sfv.specs.Grammar.{IsFieldText}
 use Rattle.sfv.specs.Ordered.{last_of}
@@ -11,7 +11,10 @@ use Rattle.sfv.specs.Types.parse_errors.{Syntax, Visitor}
 use Rattle.sfv.specs.Parsers.{IsParseError}
 use Rattle.sfv_uses.specs.declared.visiting.TooMany.{TooMany}
 use Rattle.sfv.specs.Faults.{SyntaxFault, IsRejectedAt}
-use Rattle.sfv.specs.Errors.{error_kind}
+use Rattle.sfv.specs.Errors.{error_kind, out_of_memory}
+use Rattle.sfv.specs.Given.{IsWrongType}
+use Rattle.sfv.specs.Types.{ItemFault}
+use Rattle.sfv.specs.Types.bare_item_types as kinds
 use Rattle.sfv.specs.Messages.{message_of}
 
 -- a caret under the place of the first fault, and its message
@@ -56,3 +59,16 @@ IsCountError t limit (Visitor fault) = (raw : List (List ℕ × RawMember)) → 
 -- an item of one parameter
 abbrev pub item_of_one : BareValue → List ℕ → BareValue → RawItem
 item_of_one value key param = record { bare = value; parameters = (key, param) ∷ [] }
+
+-- the text is an item of this bare value, whatever its parameters
+abbrev pub HasBareItem : List ℕ → BareValue → Type 0
+HasBareItem t value = (raw : RawItem) × IsFieldText rfc9651 item_field raw t × (value ≡ raw.bare)
+
+-- out of memory, or the type doesn't hold the value
+abbrev pub IsExpectError : (BareValue → ItemFault → Type 0) → BareValue → ParseError ItemFault → Type 0
+IsExpectError refuses value (Syntax e) = e ≡ out_of_memory
+IsExpectError refuses value (Visitor fault) = refuses value fault
+
+-- the same of a token
+abbrev pub IsTokenError : BareValue → ParseError ItemFault → Type 0
+IsTokenError = IsExpectError (IsWrongType kinds.Token)

@@ -2,6 +2,7 @@
 #![tactic(auto)]
 
 pub mod content_digest;
+pub mod expecting;
 pub mod reading;
 pub mod visiting;
 pub mod writing;

@@ -1,0 +1,80 @@
+//! Reading a field into the type that is expected.
+
+ghost use Rattle.std.specs.Prelude.{◌≡◌, IfOk, MatchResult};
+ghost use Rattle.sfv.specs.Values.{rfc9651, item_field, list_field, dictionary_field, RawItem};
+ghost use Rattle.sfv.specs.Values as values;
+ghost use Rattle.sfv.specs.Grammar.{IsFieldText};
+ghost use Rattle.sfv.specs.Statements.{IsParsedAs};
+ghost use Rattle.sfv.specs.TokenText.{token_text};
+ghost use Rattle.sfv.specs.Trees.{item_tree, list_tree, dictionary_tree};
+ghost use Rattle.sfv_uses.specs.Uses.{HasBareItem, IsExpectError, IsTokenError};
+
+use sfv::visitor::{ExpectedItem, ItemFault};
+use sfv::{Dictionary, Item, List, OutOfMemory, ParseError, Parser, TokenRef};
+use std::alloc::Global;
+
+/// Reads an item as a type that holds bare items, whatever its parameters: of one kind, or of every kind.
+///
+/// # Errors
+///
+/// Of an item: that it is of another kind, or out of memory. Of any other input that of `Parser::parse`, or that the bare
+/// item at its beginning is of another kind.
+pub fn expect<'de, T: ExpectedItem<'de>>(
+    alloc: Global,
+    input: &'de [u8],
+) -> Result<T, ParseError<ItemFault>>
+    ensures held { IfOk result (λ item. HasBareItem input.now (T.holds item)) }
+    ensures of_an_item { (raw : RawItem) → IsFieldText rfc9651 item_field raw input.now
+        → MatchResult result (λ item. T.holds item ≡ raw.bare) (IsExpectError T.refuses raw.bare) }
+{
+    Parser::new(input).parse_item::<T>(alloc)
+}
+
+/// Reads an item that is a token, whatever its parameters.
+///
+/// # Errors
+///
+/// Of an item: `ItemFault::WrongType` exactly where it is no token, with its kind, or out of memory.
+pub fn token<'de>(
+    alloc: Global,
+    input: &'de [u8],
+) -> Result<TokenRef<'de>, ParseError<ItemFault>>
+    ensures { (raw : RawItem) → IsFieldText rfc9651 item_field raw input.now
+        → MatchResult result (λ name. values.token (token_text name) ≡ raw.bare) (IsTokenError raw.bare) }
+{
+    expect::<TokenRef>(alloc, input)
+}
+
+/// Reads an item, as `Parser::parse` does.
+///
+/// # Errors
+///
+/// That of `Parser::parse`.
+pub fn item(alloc: Global, input: &[u8]) -> Result<Item, ParseError<ItemFault>>
+    ensures { IfOk result (λ item. IsParsedAs rfc9651 item_field input.now (item_tree item)) }
+{
+    Parser::new(input).parse_item::<Item>(alloc)
+}
+
+/// Reads a list, as `Parser::parse` does.
+///
+/// # Errors
+///
+/// That of `Parser::parse`.
+pub fn list(alloc: Global, input: &[u8]) -> Result<List, ParseError<OutOfMemory>>
+    ensures { IfOk result (λ list. IsParsedAs rfc9651 list_field input.now (list_tree list.items)) }
+{
+    Parser::new(input).parse_list::<List>(alloc)
+}
+
+/// Reads a dictionary, as `Parser::parse` does.
+///
+/// # Errors
+///
+/// That of `Parser::parse`.
+pub fn dictionary(alloc: Global, input: &[u8]) -> Result<Dictionary, ParseError<OutOfMemory>>
+    ensures { IfOk result (λ dictionary.
+        IsParsedAs rfc9651 dictionary_field input.now (dictionary_tree dictionary.entries)) }
+{
+    Parser::new(input).parse_dictionary::<Dictionary>(alloc)
+}
