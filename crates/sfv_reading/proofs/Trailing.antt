@@ -1,14 +1,16 @@
 -- That something stands after a whole field is the fault of no reader, but of the ending alone.
-use Rattle.std.proofs.Common.{◌≡◌, ℕ, zero, suc, Bool, true, false, cond, List, [], ◌∷◌, ◌++◌, length, Option, Some, None, Ok, Err}
-use Rattle.std.proofs.Common.{refl, ap, subst, ◌∙◌}
+use Rattle.std.proofs.Common.{◌≡◌, ℕ, zero, suc, Bool, true, false, cond, List, [], ◌∷◌, ◌++◌, length, Option, Some}
+use Rattle.std.proofs.Common.{None, Ok, Err, refl, ap, subst, ◌∙◌}
 use Rattle.std.specs.Prelude.{⊤}
-use Rattle.sfv_spec.specs.Values.{Edition, rfc8941, rfc9651, FieldKind, item_field, list_field, dictionary_field, RawField}
+use Rattle.std.specs.List.{list_any}
+use Rattle.sfv_spec.specs.Values.{Edition, rfc8941, rfc9651, FieldKind, item_field, list_field, dictionary_field}
+use Rattle.sfv_spec.specs.Values.{RawField}
 use Rattle.sfv_spec.specs.Grammar.{IsFieldText}
 use Rattle.sfv_spec.specs.Events.{TreeEvent, events, entry_events, keyed_events}
 use Rattle.sfv_spec.specs.Faults.{SyntaxFault, trailing_characters_after_parsed_value}
+use Rattle.sfv_reading.specs.Judgements.{Reached}
 use Rattle.sfv_reading.specs.Reader.{Fault, Answer, Reader, and_then, give, fail, ruled, ◌>>=◌, bind, led_answer, led}
 use Rattle.sfv_reading.specs.Reader.{branch, ahead, at_start, back, up_to, span, go_on, many_within, many}
-use Rattle.std.specs.List.{list_any}
 use Rattle.sfv_reading.specs.Content.{bytes_of, is_colon, content_in, closed_by, bytes_at}
 use Rattle.sfv_reading.specs.Quoted.{string_at, display_at, IsStringFault, IsDisplayFault}
 use Rattle.sfv_reading.specs.Bare.{sign_at, long_at, decimal_at, fraction_at, point_at, whole_at, number_at, boolean_at}
@@ -17,7 +19,6 @@ use Rattle.sfv_reading.specs.Items.{key_at, value_at, parameter_at, parameters_a
 use Rattle.sfv_reading.specs.Members.{inner_item_at, next_item_at, inner_items_at, inner_at, member_at, entry_at}
 use Rattle.sfv_reading.specs.Members.{member_value_at, keyed_at}
 use Rattle.sfv_reading.specs.Fields.{comma_at, next_at, members_at, whole_field_at, ending, read_field}
-use Rattle.sfv_reading.specs.Judgements.{Reached}
 use Rattle.sfv_reading.proofs.sound.Combinators.{Somewhere}
 use Rattle.sfv_reading.proofs.sound.Fields.{FieldGoes, Sound-field}
 use Rattle.sfv_reading.proofs.rules.Quoted.{string_fault, display_fault}
