@@ -305,9 +305,9 @@ finished_first : {S O : Type 0} (takes : S → TreeEvent → S → Type 0) (fini
     (kind : FieldKind) (t : List ℕ) (from : S) (e : Error) → ((index : ℕ) → e ≡ trailing_error index
     → (kind ≡ item_field) × (out : O) × IsAnswerOf takes finishes edition kind (take index t) from out)
     → IsFinishedFirst takes finishes edition kind t from e
-finished_first takes finishes edition item_field t from e h index same = let w = h index same in (w.1, w.2)
-finished_first takes finishes edition list_field t from e h index same = let w = (h index same).0 in cc
-finished_first takes finishes edition dictionary_field t from e h index same = let w = (h index same).0 in cc
+finished_first takes finishes edition item_field t from e h = λ index same. let w = h index same in (w.1, w.2)
+finished_first takes finishes edition list_field t from e h = λ index same. let w = (h index same).0 in cc
+finished_first takes finishes edition dictionary_field t from e h = λ index same. let w = (h index same).0 in cc
 
 module _ {S O E : Type 0} (takes : S → TreeEvent → S → Type 0) (fails : S → TreeEvent → E → Type 0) (finishes : S
     → O → Type 0) (finish_fails : S → E → Type 0) (edition : Edition) (kind : FieldKind) (t : List ℕ) (from : S) where
