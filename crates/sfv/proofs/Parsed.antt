@@ -60,7 +60,7 @@ rejected_at edition kind t f index e here le = record {
 unnamed : (e : Error) → e.index ≡ None → e.kind ≡ OutOfMemory → e ≡ out_of_memory
 unnamed e i k = ap (λ (o : Option ℕ). error_of e.kind o) i ∙ ap (λ (kind : ErrorKind). error_of kind None) k
 
-located_fault : {A : Type 0} (answer : Result A Fault) (k : ErrorKind) (r : List ℕ) → located_whole answer ≡ Err (k, r)
+pub located_fault : {A : Type 0} (answer : Result A Fault) (k : ErrorKind) (r : List ℕ) → located_whole answer ≡ Err (k, r)
     → (f : Fault) × (answer ≡ Err f) × (error_kind f.kind ≡ k) × (f.rest ≡ r)
 located_fault (Ok v) k r h = absurd cc
 located_fault (Err f) k r h =

@@ -1,11 +1,11 @@
 -- What a parser reads, and what it answers with an error.
-use Rattle.std.specs.Prelude.{◌≡◌, ⊤, ℕ, List, drop, Some, Result, Err, ◌⊎◌, MatchResult}
+use Rattle.std.specs.Prelude.{◌≡◌, ⊤, ℕ, List, take, drop, Some, Result, Err, ◌⊎◌, MatchResult}
 use Rattle.std.specs.Borrow.{Bor}
-use Rattle.sfv_spec.specs.Values.{Edition, FieldKind, item_field, RawField}
+use Rattle.sfv_spec.specs.Values.{Edition, FieldKind, item_field, list_field, dictionary_field, RawField}
 use Rattle.sfv_spec.specs.Grammar.{IsFieldText}
 use Rattle.sfv_spec.specs.Events.{TreeEvent, events}
 use Rattle.sfv_spec.specs.Visiting.{NeverFails, IsVisited, IsVisitorError, IsEarlyVisitorError}
-use Rattle.sfv_spec.specs.Faults.{SyntaxFault, IsRejectedAt}
+use Rattle.sfv_spec.specs.Faults.{SyntaxFault, trailing_characters_after_parsed_value, IsRejectedAt}
 use Rattle.sfv_base.specs.declared.error.Error.{Error}
 use Rattle.sfv_base.specs.declared.error.ParseError.{ParseError}
 use Rattle.sfv_base.specs.declared.error.ParseError.TheVariants.{Syntax, Visitor}
@@ -15,7 +15,6 @@ use Rattle.sfv_bare.specs.declared.bare.Version.{Version}
 use Rattle.sfv_reading.specs.Reader.{Fault}
 use Rattle.sfv_reading.specs.Fields.{read_field}
 use Rattle.sfv.specs.declared.parser.Parser.{Parser}
-use Rattle.sfv.specs.Visits.{IsFinishedFirst}
 
 -- the parser of this input under this version
 abbrev pub parser_of : Bor (List ℕ) → Version → Parser
@@ -72,6 +71,19 @@ abbrev pub VisitsAccepted : {S O E : Type 0} → (S → TreeEvent → S → Type
 VisitsAccepted takes fails finishes finish_fails is_memory edition kind t from result =
     NeverFails takes fails finish_fails is_memory kind from → (raw : RawField kind) → IsFieldText edition kind raw t
     → MatchResult result (IsVisited takes finishes from (events kind raw)) (IsMemoryError is_memory)
+
+-- more stands after a whole field, from the index on
+abbrev pub trailing_error : ℕ → Error
+trailing_error index = error_of (error_kind trailing_characters_after_parsed_value) (Some index)
+
+-- What stands after an item is looked at after the visitor's answer: an error there comes only where the text in front
+-- of it is an item, of which the visitor has taken all events and has answered. After members there is no such error.
+abbrev pub IsFinishedFirst : {S O : Type 0} → (S → TreeEvent → S → Type 0) → (S → O → Type 0) → Edition → FieldKind
+    → List ℕ → S → Error → Type 0
+IsFinishedFirst {S} {O} takes finishes edition item_field t from e = (index : ℕ) → e ≡ trailing_error index
+    → (out : O) × IsAnswerOf takes finishes edition item_field (take index t) from out
+IsFinishedFirst takes finishes edition list_field t from e = (index : ℕ) → ¬ (e ≡ trailing_error index)
+IsFinishedFirst takes finishes edition dictionary_field t from e = (index : ℕ) → ¬ (e ≡ trailing_error index)
 
 -- An error of the text is what `parse` returns, and what stands after an item is looked at after the visitor's answer.
 abbrev pub IsSyntaxOf : {S O E : Type 0} → (S → TreeEvent → S → Type 0) → (S → O → Type 0) → Edition → FieldKind

@@ -37,13 +37,13 @@ abbrev pub IsOfVisitor : {E : Type 0} → (E → Type 0) → ParseError E → Ty
 IsOfVisitor is (Syntax error) = ⊥
 IsOfVisitor is (Visitor fault) = is fault
 
--- Where a field of this type stands at the beginning, an error with an index comes only after the visitor's answer.
-abbrev pub IsFinishedFirst : {S O : Type 0} → (S → TreeEvent → S → Type 0) → (S → O → Type 0) → Edition → FieldKind
+-- Where a field is read at the beginning, an error with an index comes only for an item, after the visitor's answer.
+abbrev pub IsFinishedAt : {S O : Type 0} → (S → TreeEvent → S → Type 0) → (S → O → Type 0) → Edition → FieldKind
     → List ℕ → S → Error → Type 0
-IsFinishedFirst {S} {O} takes finishes edition kind t from e =
+IsFinishedAt {S} {O} takes finishes edition kind t from e =
     (raw : RawField kind) (q : List ℕ) → whole_field_at edition kind t ≡ Ok (raw, q)
-    → MatchOption (index_of e) ⊤ (λ index. (s : S) × (out : O) × RunsTo takes from (events kind raw) s
-    × finishes s out)
+    → MatchOption (index_of e) ⊤ (λ index. (kind ≡ item_field) × (out : O)
+    × IsVisited takes finishes from (events kind raw) out)
 
 -- The visitor is asked for its answer after an item whatever follows, and after members at the end alone.
 abbrev pub IsAskedThere : FieldKind → List ℕ → Type 0
@@ -59,7 +59,7 @@ VisitsField takes fails finishes finish_fails edition kind t from (Ok out) = (ra
 VisitsField takes fails finishes finish_fails edition kind t from (Err (Syntax e)) =
     MatchOption (index_of e) (kind_of e ≡ OutOfMemory)
     (λ index. (located_whole (read_field edition kind t) ≡ Err (kind_of e, drop index t)) × (index ≤ length t))
-    × IsFinishedFirst takes finishes edition kind t from e
+    × IsFinishedAt takes finishes edition kind t from e
 VisitsField {S} takes fails finishes finish_fails edition kind t from (Err (Visitor f)) =
     VisitorFails takes fails (events kind) (whole_field_at edition kind t) from f
     ⊎ ((raw : RawField kind) × (q : List ℕ) × (s : S) × (whole_field_at edition kind t ≡ Ok (raw, q))

@@ -8,4 +8,5 @@ pub mod texts
 pub mod visits
 pub mod Exact
 pub mod Theorems
+pub mod Trailing
 mod Examples

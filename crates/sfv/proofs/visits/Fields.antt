@@ -1,11 +1,13 @@
 -- What is visited of a whole field.
-use Rattle.std.proofs.Common.{◌≡◌, ℕ, ◌≤◌, List, [], ◌∷◌, ◌++◌, length, drop, Option, Some, None, Result, Ok, Err, refl}
-use Rattle.std.proofs.Common.{sym, ap, subst, ◌∙◌, inl, inr}
+use Rattle.std.proofs.Common.{◌≡◌, ℕ, ◌≤◌, List, [], ◌∷◌, ◌++◌, length, take, drop, Option, Some, None, Result, Ok, Err}
+use Rattle.std.proofs.Common.{refl, sym, ap, subst, ◌∙◌, inl, inr}
+use Rattle.std.proofs.lemmas.List.{append_cancel_right, take-append-drop}
 use Rattle.std.specs.Prelude.{⊤, Bool, true, false, MatchOption, IfOk, IfErr, flat_map, ◌⊎◌}
 use Rattle.std.specs.declared.alloc.Global.{Global}
 use Rattle.sfv_spec.specs.Classes.{is_space}
 use Rattle.sfv_spec.specs.Values.{Edition, FieldKind, item_field, list_field, dictionary_field, RawField, RawItem}
 use Rattle.sfv_spec.specs.Values.{IsFieldValue}
+use Rattle.sfv_spec.specs.Faults.{SyntaxFault, trailing_characters_after_parsed_value}
 use Rattle.sfv_spec.specs.Grammar.{IsFieldText}
 use Rattle.sfv_spec.specs.Events.{TreeEvent, events, item_events}
 use Rattle.sfv_spec.specs.Visiting.{RunsTo, IsVisited, IsVisitorError, IsEarlyVisitorError}
@@ -14,8 +16,8 @@ use Rattle.sfv_spec.proofs.Structure.{one_field_lem}
 use Rattle.sfv_spec.proofs.Visits.{fails_for_memory}
 use Rattle.sfv_base.specs.declared.error.Error.{Error}
 use Rattle.sfv_base.specs.declared.error.ErrorKind.{ErrorKind}
-use Rattle.sfv_base.specs.declared.error.ErrorKind.TheVariants.{OutOfMemory}
-use Rattle.sfv_base.specs.Errors.{kind_of, index_of, out_of_memory}
+use Rattle.sfv_base.specs.declared.error.ErrorKind.TheVariants.{OutOfMemory, TrailingCharactersAfterParsedValue}
+use Rattle.sfv_base.specs.Errors.{kind_of, index_of, error_kind, out_of_memory}
 use Rattle.sfv_base.specs.declared.error.ParseError.{ParseError}
 use Rattle.sfv_base.specs.declared.error.ParseError.TheVariants.{Syntax, Visitor}
 use Rattle.sfv_reading.specs.Reader.{Answer, Fault, and_then, bind, give, span, visited, ◌>>=◌}
@@ -27,16 +29,18 @@ use Rattle.sfv_reading.proofs.complete.Combinators.{bind_complete}
 use Rattle.sfv_reading.proofs.sound.Combinators.{Somewhere}
 use Rattle.sfv_reading.proofs.sound.Fields.{FieldGoes, Sound-field}
 use Rattle.sfv_reading.proofs.Theorems.{read_is_accepted}
+use Rattle.sfv_reading.proofs.Trailing.{read_before}
 use Rattle.sfv_reading.proofs.visits.Fields.{visited_begins, failed_begins}
 use Rattle.sfv.specs.declared.parser.Parser.{Parser}
 use Rattle.sfv.specs.declared.parser.cursor.Cursor.{Cursor}
 use Rattle.sfv.specs.Cursor.{kept_input, located, IsErrorOf}
 use Rattle.sfv.specs.Fields.{located_whole}
 use Rattle.sfv.specs.Members.{MemberValue, member_parts, one_member_at, field_of}
-use Rattle.sfv.specs.Visits.{VisitsAnswer, IsOfVisitor, VisitsField, IsFinishedFirst, IsAskedThere}
-use Rattle.sfv.specs.Parsers.{IsAnswerOf, IsSyntaxOf, IsVisitorErrorOf, IsParseError, VisitsAccepted}
+use Rattle.sfv.specs.Visits.{VisitsAnswer, IsOfVisitor, VisitsField, IsFinishedAt, IsAskedThere}
+use Rattle.sfv.specs.Parsers.{IsAnswerOf, IsSyntaxOf, IsVisitorErrorOf, IsParseError, VisitsAccepted, IsFinishedFirst}
+use Rattle.sfv.specs.Parsers.{trailing_error}
 use Rattle.sfv.proofs.visits.Whole.{spaced, field_error, ending_located}
-use Rattle.sfv.proofs.Parsed.{reader_fault}
+use Rattle.sfv.proofs.Parsed.{located_fault, reader_fault}
 use Rattle.sfv.proofs.reads.Delimiters.{span_total}
 
 whole_is : (edition : Edition) (t s r : List ℕ) → span is_space t ≡ Ok (s, r)
@@ -109,7 +113,8 @@ no_item : {S O : Type 0} (takes : S → TreeEvent → S → Type 0) (finishes : 
     → O → Type 0) (edition : Edition) (t s r q : List ℕ) (from : S) (i : List ℕ) (e : Error) (raw : RawItem)
     → span is_space t ≡ Ok (s, r) → IsErrorOf i e (item_at edition r)
     → whole_field_at edition item_field t ≡ Ok (raw, q)
-    → MatchOption (index_of e) ⊤ (λ index. (s : S) × (out : O) × RunsTo takes from (item_events raw) s × finishes s out)
+    → MatchOption (index_of e) ⊤ (λ index. (item_field ≡ item_field) × (out : O)
+    × IsVisited takes finishes from (item_events raw) out)
 no_item {S} {O} takes finishes edition t s r q from i e raw skipped error whole = on (index_of e) error
   where
     never : (a : Answer RawItem) (k : ErrorKind) (rest : List ℕ) → item_at edition r ≡ a → located a ≡ Err (k, rest) → ⊥
@@ -118,25 +123,27 @@ no_item {S} {O} takes finishes edition t s r q from i e raw skipped error whole 
 
     on : (o : Option ℕ) → MatchOption o (kind_of e
         ≡ OutOfMemory) (λ index. (located (item_at edition r) ≡ Err (kind_of e, drop index i)) × (index ≤ length i))
-        → MatchOption o ⊤ (λ index. (s : S) × (out : O) × RunsTo takes from (item_events raw) s × finishes s out)
+        → MatchOption o ⊤ (λ index. (item_field ≡ item_field) × (out : O)
+        × IsVisited takes finishes from (item_events raw) out)
     on None h = tt
     on (Some n) h = absurd (never (item_at edition r) _ _ refl h.0)
 
 -- what stands after an item is looked at after the answer
-pub finished_first : {S O : Type 0} (takes : S → TreeEvent → S → Type 0) (finishes : S
+pub finished_at : {S O : Type 0} (takes : S → TreeEvent → S → Type 0) (finishes : S
     → O → Type 0) (edition : Edition) (t s r q : List ℕ) (item : RawItem) (from to : S) (out : O) (e : Error)
     → span is_space t ≡ Ok (s, r) → item_at edition r ≡ Ok (item, q) → RunsTo takes from (item_events item) to
-    → finishes to out → IsFinishedFirst takes finishes edition item_field t from e
-finished_first {S} {O} takes finishes edition t s r q item from to out e skipped read run finished raw w whole =
+    → finishes to out → IsFinishedAt takes finishes edition item_field t from e
+finished_at {S} {O} takes finishes edition t s r q item from to out e skipped read run finished raw w whole =
     on (index_of e)
   where
-    on : (o : Option ℕ) → MatchOption o ⊤ (λ index. (s : S) × (out : O) × RunsTo takes from (item_events raw) s
-        × finishes s out)
+    on : (o : Option ℕ) → MatchOption o ⊤ (λ index. (item_field ≡ item_field) × (out : O)
+        × IsVisited takes finishes from (item_events raw) out)
     on None = tt
     on (Some n) =
         let there = whole_some edition t s r q item skipped read in
         let same = same_value (whole_field_at edition item_field t) item raw there.0 w there.1 whole in
-        (to, out, subst (λ (i : RawItem). RunsTo takes from (item_events i) to) same run, finished)
+        let taken = subst (λ (i : RawItem). RunsTo takes from (item_events i) to) same run in
+        (refl, out, record { last = to; taken = taken; answered = finished })
 
 -- an error within the item: a fault, or the visitor fails
 pub item_fails : {S O E : Type 0} (takes : S → TreeEvent → S → Type 0) (fails : S → TreeEvent
@@ -192,7 +199,8 @@ field_fails {S} {O} takes fails finishes finish_fails edition kind k from to aft
     never : (raw : RawField kind) (q : List ℕ) → whole_field_at edition kind t ≡ Ok (raw, q) → (o : Option ℕ)
         → MatchOption o (kind_of e ≡ OutOfMemory) (λ index. (located (whole_field_at edition kind t)
         ≡ Err (kind_of e, drop index t)) × (index ≤ length t))
-        → MatchOption o ⊤ (λ index. (s : S) × (out : O) × RunsTo takes from (events kind raw) s × finishes s out)
+        → MatchOption o ⊤ (λ index. (kind ≡ item_field) × (out : O)
+        × IsVisited takes finishes from (events kind raw) out)
     never raw q whole None m = tt
     never raw q whole (Some n) m = absurd (no_fault (whole_field_at edition kind t) raw q _ _ whole m.0)
 
@@ -283,6 +291,24 @@ an_item : {kind : FieldKind} {A : Type 0} → (kind ≡ item_field) ⊎ A → (A
 an_item (inl same) h = same
 an_item (inr a) h = h a
 
+trailing_kind : (k : SyntaxFault) → error_kind k ≡ TrailingCharactersAfterParsedValue
+    → k ≡ trailing_characters_after_parsed_value
+trailing_kind trailing_characters_after_parsed_value e = refl
+trailing_kind _ e = absurd cc
+
+front_is : (t front rest : List ℕ) (n : ℕ) → t ≡ front ++ rest → rest ≡ drop n t → front ≡ take n t
+front_is t front rest n e d = append_cancel_right front (take n t) rest (sym e ∙ sym (take-append-drop n t)
+    ∙ ap (λ (l : List ℕ). take n t ++ l) (sym d))
+
+-- what stands after a whole field was looked at after the answer, and only after an item
+finished_first : {S O : Type 0} (takes : S → TreeEvent → S → Type 0) (finishes : S → O → Type 0) (edition : Edition)
+    (kind : FieldKind) (t : List ℕ) (from : S) (e : Error) → ((index : ℕ) → e ≡ trailing_error index
+    → (kind ≡ item_field) × (out : O) × IsAnswerOf takes finishes edition kind (take index t) from out)
+    → IsFinishedFirst takes finishes edition kind t from e
+finished_first takes finishes edition item_field t from e h = λ index same. let w = h index same in (w.1, w.2)
+finished_first takes finishes edition list_field t from e h = λ index same. let w = (h index same).0 in cc
+finished_first takes finishes edition dictionary_field t from e h = λ index same. let w = (h index same).0 in cc
+
 module _ {S O E : Type 0} (takes : S → TreeEvent → S → Type 0) (fails : S → TreeEvent → E → Type 0) (finishes : S
     → O → Type 0) (finish_fails : S → E → Type 0) (edition : Edition) (kind : FieldKind) (t : List ℕ) (from : S) where
   failed_on_accepted : (f : E) → VisitsField takes fails finishes finish_fails edition kind t from (Err (Visitor f))
@@ -335,11 +361,32 @@ module _ {S O E : Type 0} (takes : S → TreeEvent → S → Type 0) (fails : S 
       }
   visits_answer (Err e) h = tt
 
+  in_front : (index : ℕ)
+      → VisitsField takes fails finishes finish_fails edition kind t from (Err (Syntax (trailing_error index)))
+      → (kind ≡ item_field) × (out : O) × IsAnswerOf takes finishes edition kind (take index t) from out
+  in_front index h =
+      let f = located_fault (read_field edition kind t) _ _ h.0.0 in
+      let before = read_before edition kind t f.0 f.1 (trailing_kind f.0.kind f.2) in
+      let accepted : IsFieldText edition kind before.raw (take index t) = subst (IsFieldText edition kind before.raw)
+      (front_is t before.front f.0.rest index before.text f.3) before.means in
+      let answered = h.1 before.raw f.0.rest before.read in (
+        answered.0,
+        answered.1,
+        record {
+          raw = before.raw;
+          accepted = accepted;
+          only = λ other k. one_field_lem edition kind (take index t) other before.raw k accepted;
+          visited = answered.2;
+        },
+      )
+
   pub visits_syntax : (r : Result O (ParseError E))
       → VisitsField takes fails finishes finish_fails edition kind t from r
       → IfErr r (IsSyntaxOf takes finishes edition kind t from)
   visits_syntax (Ok out) h = tt
-  visits_syntax (Err (Syntax e)) h = let both = reader_fault edition kind t e h.0 in (both.1, both.0, h.1)
+  visits_syntax (Err (Syntax e)) h = let both = reader_fault edition kind t e h.0 in
+      (both.1, both.0, finished_first takes finishes edition kind t from e (λ index same. in_front index (subst
+      (λ (e : Error). VisitsField takes fails finishes finish_fails edition kind t from (Err (Syntax e))) same h)))
   visits_syntax (Err (Visitor f)) h = tt
 
   pub visits_failure : (r : Result O (ParseError E))

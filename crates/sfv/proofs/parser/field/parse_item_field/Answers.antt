@@ -8,7 +8,7 @@ use Rattle.sfv.specs.Cursor.{rest}
 use Rattle.sfv.specs.Parsers.{input_of, parser_edition}
 use Rattle.sfv.proofs.visits.Whole.{field_trailing_error, field_done}
 use Rattle.sfv.proofs.visits.Parts.{kept_visits}
-use Rattle.sfv.proofs.visits.Fields.{item_fails, finish_failed, finished_first}
+use Rattle.sfv.proofs.visits.Fields.{item_fails, finish_failed, finished_at}
 use Rattle.sfv.proofs.parser.field.parse_item_field.Goals as goal
 
 pub returns-in_err-item : goal.returns-in_err-item
@@ -52,7 +52,7 @@ returns-then-is_some g c =
           ) _ (c.skip_sp-2.ensures.kept
           ∙ read.3) skipped read.1 c.skip_sp-2.ensures.skipped.1 (rw (← c.peek.ensures) (sym c.is_some.ensures
           ∙ c.if-is_some.true))),
-      finished_first g.V.Visitor.takes g.V.Visitor.finishes _ _ _ _ _ _ _ c.item.new.visitor c.in_ok-out.out
+      finished_at g.V.Visitor.takes g.V.Visitor.finishes _ _ _ _ _ _ _ c.item.new.visitor c.in_ok-out.out
           c.error-error.result skipped read.1 read.2 c.in_ok-out.ensures.answered,
     )
 
