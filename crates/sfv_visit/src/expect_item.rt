@@ -181,7 +181,7 @@ impl<'de> ExpectedItem<'de> for BareItem {
 
     fn from_bare_item(item: BareItemFromInput<'de>, alloc: Global) -> Result<BareItem, ItemFault> {
         match item.try_into_owned(alloc) {
-            Ok(item) => Ok(item),
+            Ok(owned) => Ok(owned),
             Err(OutOfMemory) => Err(ItemFault::OutOfMemory),
         }
     }

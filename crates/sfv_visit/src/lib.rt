@@ -8,3 +8,5 @@ pub mod ignored;
 pub mod item_visitor;
 pub mod make;
 pub mod parameter_visitor;
+#[cfg(test)]
+mod tests;
