@@ -384,9 +384,12 @@ module _ {S O E : Type 0} (takes : S → TreeEvent → S → Type 0) (fails : S 
       → VisitsField takes fails finishes finish_fails edition kind t from r
       → IfErr r (IsSyntaxOf takes finishes edition kind t from)
   visits_syntax (Ok out) h = tt
-  visits_syntax (Err (Syntax e)) h = let both = reader_fault edition kind t e h.0 in
-      (both.1, both.0, finished_first takes finishes edition kind t from e (λ index same. in_front index (subst
-      (λ (e : Error). VisitsField takes fails finishes finish_fails edition kind t from (Err (Syntax e))) same h)))
+  visits_syntax (Err (Syntax e)) h = let both = reader_fault edition kind t e h.0 in (
+    both.1,
+    both.0,
+    finished_first takes finishes edition kind t from e (λ index same. in_front index (subst
+        (λ (e : Error). VisitsField takes fails finishes finish_fails edition kind t from (Err (Syntax e))) same h)),
+  )
   visits_syntax (Err (Visitor f)) h = tt
 
   pub visits_failure : (r : Result O (ParseError E))
