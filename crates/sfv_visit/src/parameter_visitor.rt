@@ -26,10 +26,7 @@ pub fn parameter_visitor_with<
     E,
     V: Visitor<'de, Out = A, Error = E>,
     F: FnOnce(A) -> Result<T, E>,
->(
-    visitor: V,
-    f: F,
-) -> ParameterVisitorWith<V, F, A>
+>(visitor: V, f: F) -> ParameterVisitorWith<V, F, A>
     requires { F.IsAlwaysCallable f }
     ensures within { visitor_within result ≡ visitor }
     ensures after { function_after result ≡ f }

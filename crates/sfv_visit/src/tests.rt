@@ -121,17 +121,29 @@ fn item_of_another_kind_fails(rt: HostRuntime) -> Result<(), Fail> {
     let alloc = rt.alloc();
     let cases = [
         (mistaken::<Decimal>(alloc, number(5)), BareItemType::Decimal),
-        (mistaken::<StringFromInput<'static>>(alloc, number(5)), BareItemType::String),
-        (mistaken::<Vec<u8>>(alloc, number(5)), BareItemType::ByteSequence),
+        (
+            mistaken::<StringFromInput<'static>>(alloc, number(5)),
+            BareItemType::String,
+        ),
+        (
+            mistaken::<Vec<u8>>(alloc, number(5)),
+            BareItemType::ByteSequence,
+        ),
         (mistaken::<bool>(alloc, number(5)), BareItemType::Boolean),
-        (mistaken::<TokenRef<'static>>(alloc, number(5)), BareItemType::Token),
+        (
+            mistaken::<TokenRef<'static>>(alloc, number(5)),
+            BareItemType::Token,
+        ),
         (mistaken::<Date>(alloc, number(5)), BareItemType::Date),
     ];
     for (answer, expected) in cases {
         assert_eq!(rt; answer, Some((expected, BareItemType::Integer)));
     }
     let cases = [
-        (GenericBareItem::Decimal(Decimal::ZERO), BareItemType::Decimal),
+        (
+            GenericBareItem::Decimal(Decimal::ZERO),
+            BareItemType::Decimal,
+        ),
         (string(), BareItemType::String),
         (bytes(alloc)?, BareItemType::ByteSequence),
         (BareItemFromInput::from(true), BareItemType::Boolean),
@@ -140,7 +152,10 @@ fn item_of_another_kind_fails(rt: HostRuntime) -> Result<(), Fail> {
         (display_string(), BareItemType::DisplayString),
     ];
     for (item, got) in cases {
-        assert_eq!(rt; mistaken::<Integer>(alloc, item), Some((BareItemType::Integer, got)));
+        assert_eq!(rt;
+            mistaken::<Integer>(alloc, item),
+            Some((BareItemType::Integer, got))
+        );
     }
     Ok(())
 }
@@ -192,12 +207,14 @@ fn function_is_called_on_the_first_item(rt: HostRuntime) -> Result<(), Fail> {
 #[test]
 fn closure_is_called_on_the_first_item(rt: HostRuntime) -> Result<(), Fail> {
     let mut seen = false;
-    let mut visitor = item_visitor_with(|item: BareItemFromInput<'_>|
-        ensures { ⊤ }
-    {
-        seen = item == number(5);
-        integer_of(item)
-    });
+    let mut visitor = item_visitor_with(
+        |item: BareItemFromInput<'_>|
+            ensures { ⊤ }
+        {
+            seen = item == number(5);
+            integer_of(item)
+        },
+    );
     visitor.event(Event::BareItem(number(5)))?;
     assert_eq!(rt; visitor.finish()?, Some(Integer::from(5u8)));
     assert!(rt; seen);
@@ -237,11 +254,12 @@ fn visitor_within_fails_first(rt: HostRuntime) -> Result<(), Fail> {
 #[test]
 fn closure_is_called_on_the_answer(rt: HostRuntime) -> Result<(), Fail> {
     let word = token_ref("abc");
-    let visitor = parameter_visitor_with(Ignored, move |_answer: ()|
-        ensures { ⊤ }
-    {
-        Ok(word)
-    });
+    let visitor = parameter_visitor_with(
+        Ignored,
+        move |_answer: ()|
+            ensures { ⊤ }
+        { Ok(word) },
+    );
     assert!(rt; visitor.finish() == Ok(token_ref("abc")));
     Ok(())
 }
