@@ -14,11 +14,9 @@ use std::test::Fail;
 #[test]
 fn tokens_are_expected(rt: HostRuntime) -> Result<(), Fail> {
     let alloc = rt.alloc();
-    let Ok(name) = Parser::new(b"abc;x").parse_item::<TokenRef<'_>>(alloc) else {
-        return Err(Fail::from("no token"));
-    };
-    assert!(rt; name == token_ref("abc"));
-    assert!(rt; matches!(token(alloc, b"abc;x"), Ok(name) if name.as_str() == "abc"));
+    let name = Parser::new(b"abc;x").parse_item::<TokenRef<'_>>(alloc);
+    assert!(rt; name.ok() == Some(token_ref("abc")));
+    assert!(rt; token(alloc, b"abc;x").ok() == Some(token_ref("abc")));
     // The bare item comes before what stands behind it.
     let Err(ParseError::Visitor(fault)) = Parser::new(b"abc;0").parse_item::<Integer>(alloc) else {
         return Err(Fail::from("no fault"));
@@ -48,29 +46,31 @@ fn kinds_are_told_apart(rt: HostRuntime) -> Result<(), Fail> {
 }
 
 #[test]
-fn every_type_is_made_a_visitor(rt: HostRuntime) -> Result<(), Fail> {
+fn numbers_are_expected(rt: HostRuntime) {
     let alloc = rt.alloc();
-    assert!(rt; matches!(expect::<Integer>(alloc, b"5;a"), Ok(value) if value == integer(5)));
-    assert!(rt; matches!(expect::<Decimal>(alloc, b"5.5"), Ok(value) if value == Decimal::from_integer_scaled_1000(integer(5500))));
-    assert!(rt; matches!(expect::<Date>(alloc, b"@5"), Ok(value) if value == Date::from_unix_seconds(integer(5))));
-    assert!(rt; matches!(expect::<bool>(alloc, b"?1"), Ok(true)));
-    let Ok(text) = expect::<StringFromInput<'_>>(alloc, b"\"a\"") else {
-        return Err(Fail::from("no string"));
-    };
-    assert_eq!(rt; text.as_string_ref().as_str(), "a");
-    let Ok(bytes) = expect::<Vec<u8>>(alloc, b":AAE=:") else {
-        return Err(Fail::from("no bytes"));
-    };
-    assert!(rt; bytes.as_slice() == [0u8, 1].as_slice());
-    let Ok(owned) = expect::<BareItem>(alloc, b"abc") else {
-        return Err(Fail::from("no bare item"));
-    };
-    assert!(rt; owned.as_token() == Some(token_ref("abc")));
-    let Ok(read) = expect::<BareItemFromInput<'_>>(alloc, b"?0") else {
-        return Err(Fail::from("no bare item"));
-    };
-    assert_eq!(rt; read.as_boolean(), Some(false));
-    Ok(())
+    let (decimal, date) = (Decimal::from(5u8), Date::from_unix_seconds(integer(5)));
+    assert!(rt; expect::<Integer>(alloc, b"5;a").ok() == Some(integer(5)));
+    assert!(rt; expect::<Decimal>(alloc, b"5.0").ok() == Some(decimal));
+    assert!(rt; expect::<Date>(alloc, b"@5").ok() == Some(date));
+    assert!(rt; expect::<bool>(alloc, b"?1").ok() == Some(true));
+}
+
+#[test]
+fn texts_are_expected(rt: HostRuntime) {
+    let alloc = rt.alloc();
+    let text = expect::<StringFromInput<'_>>(alloc, b"\"a\"").ok();
+    assert_eq!(rt; text.as_ref().map(|text| text.as_string_ref().as_str()), Some("a"));
+    let bytes = expect::<Vec<u8>>(alloc, b":AAE=:").ok();
+    assert_eq!(rt; bytes.as_ref().map(|bytes| bytes.len()), Some(2));
+}
+
+#[test]
+fn every_bare_item_is_expected(rt: HostRuntime) {
+    let alloc = rt.alloc();
+    let owned = expect::<BareItem>(alloc, b"?1").ok();
+    assert_eq!(rt; owned.and_then(|item| item.as_boolean()), Some(true));
+    let read = expect::<BareItemFromInput<'_>>(alloc, b"?0").ok();
+    assert_eq!(rt; read.and_then(|item| item.as_boolean()), Some(false));
 }
 
 #[test]
@@ -92,17 +92,14 @@ fn fields_are_made_visitors(rt: HostRuntime) -> Result<(), Fail> {
 }
 
 #[test]
-fn a_visitor_may_be_left_out(rt: HostRuntime) -> Result<(), Fail> {
+fn a_visitor_may_be_left_out(rt: HostRuntime) {
     let alloc = rt.alloc();
     let some = Some(Integer::make_item_visitor(alloc));
-    let Ok(Some(value)) = Parser::new(b"5").parse_item_with_visitor(alloc, some) else {
-        return Err(Fail::from("no integer"));
-    };
-    assert!(rt; value == integer(5));
+    let answer = Parser::new(b"5").parse_item_with_visitor(alloc, some);
+    assert!(rt; answer.ok() == Some(Some(integer(5))));
     let none: Option<ExpectItem<Integer>> = None;
     let answer = Parser::new(b"abc").parse_item_with_visitor(alloc, none);
-    assert!(rt; matches!(answer, Ok(None)));
-    Ok(())
+    assert!(rt; answer.ok() == Some(None));
 }
 
 // Answers seven, whatever it is called on.
@@ -116,19 +113,18 @@ fn integer_of(value: BareItemFromInput<'_>) -> Result<Integer, ItemFault> {
 }
 
 #[test]
-fn functions_are_called(rt: HostRuntime) -> Result<(), Fail> {
+fn functions_are_called(rt: HostRuntime) {
     let alloc = rt.alloc();
     let visitor = parameter_visitor_with(Ignored, seven);
     let answer = Parser::new(b"a;b").parse_item_with_visitor(alloc, visitor);
     assert!(rt; matches!(answer, Ok(7)));
     let visitor = item_visitor_with(integer_of);
     let answer = Parser::new(b"(1 2), 3").parse_list_with_visitor(alloc, visitor);
-    assert!(rt; matches!(answer, Ok(Some(value)) if value == integer(1)));
+    assert!(rt; answer.ok() == Some(Some(integer(1))));
     let visitor = item_visitor_with(integer_of);
     let answer = Parser::new(b"").parse_list_with_visitor(alloc, visitor);
-    assert!(rt; matches!(answer, Ok(None)));
+    assert!(rt; answer.ok() == Some(None));
     let visitor = item_visitor_with(integer_of);
     let answer = Parser::new(b"a, 3").parse_list_with_visitor(alloc, visitor);
     assert!(rt; matches!(answer, Err(ParseError::Visitor(ItemFault::NoItem))));
-    Ok(())
 }
