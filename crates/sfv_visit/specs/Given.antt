@@ -1,5 +1,5 @@
 -- What the given visitors do with the events of a field.
-use Rattle.std.specs.Prelude.{◌≡◌, ℕ, Option, Some, None, MatchOption, Result, Ok, Err}
+use Rattle.std.specs.Prelude.{◌≡◌, ℕ, Option, Some, None, MatchOption, Result, Ok, Err, IsTrue}
 use Rattle.std.specs.declared.alloc.Global.{Global}
 use Rattle.std.specs.declared.vec.Vec.{Vec}
 use Rattle.std.specs.declared.borrow.CowStr.{CowStr}
@@ -7,7 +7,7 @@ use Rattle.sfv_spec.specs.Values.{BareValue}
 use Rattle.sfv_spec.specs.Values as values
 use Rattle.sfv_spec.specs.Events.{TreeEvent, bare_item}
 use Rattle.sfv_text.specs.TokenText.{TokenRef}
-use Rattle.sfv_bare.specs.BareItems.{input_value}
+use Rattle.sfv_bare.specs.BareItems.{is_text, input_value}
 use Rattle.sfv_bare.specs.declared.bare.GenericBareItem.{GenericBareItem}
 use Rattle.sfv_bare.specs.declared.bare.StringFromInput.{StringFromInput}
 use Rattle.sfv_tree.specs.declared.visitor.BareItemType.{BareItemType}
@@ -18,8 +18,8 @@ use Rattle.sfv_visit.specs.declared.parameter_visitor.ParameterVisitorWith.{Para
 use Rattle.sfv_visit.specs.declared.item_visitor.ItemVisitorWith.{ItemVisitorWith}
 use Rattle.sfv_visit.specs.declared.expect_item.ExpectItem.{ExpectItem}
 
--- a bare item comes to what waits for one: that with the bare item's value. No other event does anything to it, and
--- none to what waits no more
+-- what waits for a bare item, with the value of the bare item that comes; nothing, where another event comes or nothing
+-- waits
 abbrev pub comes : {W : Type 0} → Option W → TreeEvent → Option (W × BareValue)
 comes (Some w) (bare_item value) = Some (w, value)
 comes waiting e = None
@@ -102,7 +102,11 @@ kind_of_value (values.token t) = kinds.Token
 kind_of_value (values.date z) = kinds.Date
 kind_of_value (values.display_string d) = kinds.DisplayString
 
--- a value of another kind than this, and the fault says both kinds
+-- the value is of another kind than this, and the fault says both kinds
 abbrev pub IsWrongType : BareItemType → BareValue → ItemFault → Type 0
 IsWrongType kind value fault =
     ¬ (kind_of_value value ≡ kind) × (fault ≡ faults.WrongType kind (kind_of_value value))
+
+-- the value is a text, which couldn't be copied
+abbrev pub LacksMemory : BareValue → ItemFault → Type 0
+LacksMemory value fault = IsTrue (is_text value) × (fault ≡ faults.OutOfMemory)

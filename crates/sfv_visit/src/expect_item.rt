@@ -1,15 +1,15 @@
 //! A visitor that keeps a bare item of one type.
 
-ghost use Rattle.std.specs.Prelude.{◌≡◌, Some, None, IfOk, IfErr, IsTrue};
+ghost use Rattle.std.specs.Prelude.{◌≡◌, Some, None, IfOk, IfErr};
 ghost use Rattle.sfv_spec.specs.Values as values;
 ghost use Rattle.sfv_spec.specs.Values.{BareValue};
 ghost use Rattle.sfv_base.specs.Numbers.{integer_of, thousandths_of, seconds_of};
 ghost use Rattle.sfv_text.specs.TokenText.{token_text};
-ghost use Rattle.sfv_bare.specs.BareItems.{is_text, read_text, bare_value, input_value};
+ghost use Rattle.sfv_bare.specs.BareItems.{read_text, bare_value, input_value};
 ghost use Rattle.sfv_tree.specs.declared.visitor.BareItemType.TheVariants as kinds;
 ghost use Rattle.sfv_tree.specs.declared.visitor.ItemFault.{ItemFault};
 ghost use Rattle.sfv_tree.specs.declared.visitor.ItemFault.TheVariants as faults;
-ghost use Rattle.sfv_visit.specs.Given.{kind_of_value, IsWrongType, item_kept, KeepTakes, KeepFails};
+ghost use Rattle.sfv_visit.specs.Given.{kind_of_value, IsWrongType, LacksMemory, item_kept, KeepTakes, KeepFails};
 
 use sfv_bare::bare::{BareItem, BareItemFromInput, GenericBareItem, StringFromInput};
 use sfv_base::date::Date;
@@ -25,7 +25,7 @@ pub trait ExpectedItem<'de>: Drop {
     /// The bare value that it holds.
     ghost holds: { Self → BareValue };
 
-    /// It doesn't hold a bare item of this value, with this fault.
+    /// It may refuse a bare item of this value, with this fault.
     ghost refuses: { BareValue → ItemFault → Type 0 };
 
     /// Returns the type's value that holds the bare item. What is copied of it takes memory from `alloc`.
@@ -177,7 +177,7 @@ impl<'de> ExpectedItem<'de> for BareItemFromInput<'de> {
 impl<'de> ExpectedItem<'de> for BareItem {
     ghost holds = { λ item. bare_value item };
 
-    ghost refuses = { λ value fault. (fault ≡ faults.OutOfMemory) × IsTrue (is_text value) };
+    ghost refuses = { LacksMemory };
 
     fn from_bare_item(item: BareItemFromInput<'de>, alloc: Global) -> Result<BareItem, ItemFault> {
         match item.try_into_owned(alloc) {
@@ -193,8 +193,8 @@ impl<'de> ExpectedItem<'de> for BareItem {
 /// `ItemFault::OutOfMemory` where a `BareItem` copies a text and is out of memory. It fails at the end with
 /// `ItemFault::NoItem` if no bare item came. Every other event changes nothing.
 ///
-/// Of a repeated key the first value is no more than the first to come, so a visitor that hands on bare items of a
-/// dictionary makes a new one for each.
+/// It is for one item. Of a repeated key of a dictionary it would be told of each member, and keep the first bare item
+/// of all, where the last member counts.
 #[derive(Drop)]
 pub struct ExpectItem<T> {
     alloc: Global,

@@ -8,8 +8,10 @@ use sfv_tree::visitor::{Event, Visitor};
 
 /// Calls a function once, on the first bare item, and answers what it gave, or `None` if no bare item came.
 ///
-/// A failure of the function is the event's. Every other event changes nothing. Of a repeated key the first value is
-/// no more than the first to come, so a visitor that hands on bare items of a dictionary makes a new one for each.
+/// It fails where the function does, at that event. Every other event changes nothing.
+///
+/// It is for one item. Of a repeated key of a dictionary it would be told of each member, and call the function on the
+/// first bare item of all, where the last member counts.
 #[derive(Drop)]
 pub struct ItemVisitorWith<F, T> {
     // The function, until it is called.
