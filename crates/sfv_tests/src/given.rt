@@ -65,12 +65,16 @@ fn texts_are_expected(rt: HostRuntime) {
 }
 
 #[test]
-fn every_bare_item_is_expected(rt: HostRuntime) {
-    let alloc = rt.alloc();
-    let owned = expect::<BareItem>(alloc, b"?1").ok();
-    assert_eq!(rt; owned.and_then(|item| item.as_boolean()), Some(true));
-    let read = expect::<BareItemFromInput<'_>>(alloc, b"?0").ok();
-    assert_eq!(rt; read.and_then(|item| item.as_boolean()), Some(false));
+fn every_bare_item_is_expected(rt: HostRuntime) -> Result<(), Fail> {
+    let Ok(owned) = expect::<BareItem>(rt.alloc(), b"?1") else {
+        return Err(Fail::from("no bare item"));
+    };
+    assert_eq!(rt; owned.as_boolean(), Some(true));
+    let Ok(read) = expect::<BareItemFromInput<'_>>(rt.alloc(), b"?0") else {
+        return Err(Fail::from("no bare item"));
+    };
+    assert_eq!(rt; read.as_boolean(), Some(false));
+    Ok(())
 }
 
 #[test]
