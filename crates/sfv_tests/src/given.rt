@@ -1,7 +1,8 @@
 //! The given visitors, and reading a field into the type that is expected.
 
 use sfv::visitor::{
-    BareItemType, ExpectItem, Ignored, ItemFault, MakeItemVisitor, item_visitor_with, parameter_visitor_with,
+    BareItemType, ExpectItem, Ignored, ItemFault, MakeItemVisitor, item_visitor_with,
+    parameter_visitor_with,
 };
 use sfv::{
     BareItem, BareItemFromInput, Date, Decimal, FieldType, Integer, ParseError, Parser,
@@ -22,13 +23,19 @@ fn tokens_are_expected(rt: HostRuntime) -> Result<(), Fail> {
         return Err(Fail::from("no fault"));
     };
     let text = format!(in alloc; "{fault}")?;
-    assert_eq!(rt; text.as_str(), "unexpected bare item type: expected integer, got token");
+    assert_eq!(rt;
+        text.as_str(),
+        "unexpected bare item type: expected integer, got token"
+    );
     let ignored = Parser::new(b"abc;0").parse_item_with_visitor(alloc, Ignored);
     let Err(ParseError::Syntax(error)) = ignored else {
         return Err(Fail::from("no error"));
     };
     let text = format!(in alloc; "{error}")?;
-    assert_eq!(rt; text.as_str(), "expected start of key ('a'-'z' or '*') at index 4");
+    assert_eq!(rt;
+        text.as_str(),
+        "expected start of key ('a'-'z' or '*') at index 4"
+    );
     Ok(())
 }
 
@@ -41,7 +48,10 @@ fn kinds_are_told_apart(rt: HostRuntime) -> Result<(), Fail> {
     let (expected, got) = (BareItemType::Decimal, BareItemType::Integer);
     assert!(rt; fault == ItemFault::WrongType { expected, got });
     let text = format!(in alloc; "{fault}")?;
-    assert_eq!(rt; text.as_str(), "unexpected bare item type: expected decimal, got integer");
+    assert_eq!(rt;
+        text.as_str(),
+        "unexpected bare item type: expected decimal, got integer"
+    );
     Ok(())
 }
 
@@ -59,7 +69,10 @@ fn numbers_are_expected(rt: HostRuntime) {
 fn texts_are_expected(rt: HostRuntime) {
     let alloc = rt.alloc();
     let text = expect::<StringFromInput<'_>>(alloc, b"\"a\"").ok();
-    assert_eq!(rt; text.as_ref().map(|text| text.as_string_ref().as_str()), Some("a"));
+    assert_eq!(rt;
+        text.as_ref().map(|text| text.as_string_ref().as_str()),
+        Some("a")
+    );
     let bytes = expect::<Vec<u8>>(alloc, b":AAE=:").ok();
     assert_eq!(rt; bytes.as_ref().map(|bytes| bytes.len()), Some(2));
 }

@@ -1,9 +1,9 @@
 //! The uses of the library that its page for callers shows.
 
 use sfv::{FieldType, KeyRef, ParseError, integer, key_ref};
-use std::test::Fail;
 use sfv_uses::reading::{explain, integer_with_default, param_of_member, read_older_list};
 use sfv_uses::visiting::{TooMany, count_members, each_key};
+use std::test::Fail;
 
 #[test]
 fn lists_are_checked(rt: HostRuntime) -> Result<(), Fail> {

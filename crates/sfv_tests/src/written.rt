@@ -1,8 +1,8 @@
 //! Items that are written part by part.
 
 use sfv::{
-    FieldType, GenericBareItem, Item, ItemSerializer, Parser, RefBareItem, integer, key_ref, string_ref,
-    token_ref,
+    FieldType, GenericBareItem, Item, ItemSerializer, Parser, RefBareItem, integer, key_ref,
+    string_ref, token_ref,
 };
 use sfv_uses::writing::{write_item, write_parts, written_and_read};
 use std::test::Fail;

@@ -35,10 +35,7 @@ pub fn expect<'de, T: ExpectedItem<'de>>(
 /// # Errors
 ///
 /// Of an item: `ItemFault::WrongType` exactly where it is no token, with its kind, or out of memory.
-pub fn token<'de>(
-    alloc: Global,
-    input: &'de [u8],
-) -> Result<TokenRef<'de>, ParseError<ItemFault>>
+pub fn token<'de>(alloc: Global, input: &'de [u8]) -> Result<TokenRef<'de>, ParseError<ItemFault>>
     ensures { (raw : RawItem) → IsFieldText rfc9651 item_field raw input.now
         → MatchResult result (λ name. values.token (token_text name) ≡ raw.bare) (IsTokenError raw.bare) }
 {

@@ -1,5 +1,3 @@
-use Rattle.std.proofs.Common.{sym}
-use Rattle.std.proofs.lemmas.Result.{IfOk-weaker}
 use Rattle.sfv.specs.Values.{rfc9651}
 use Rattle.sfv.proofs.Callers.{expect_answers}
 use Rattle.sfv_uses.proofs.Uses.{expected}
