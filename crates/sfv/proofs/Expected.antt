@@ -15,12 +15,12 @@ use Rattle.sfv_visit.specs.Given.{item_kept, first_value, KeepTakes, KeepFails}
 use Rattle.sfv_visit.specs.declared.expect_item.ExpectItem.{ExpectItem}
 use Rattle.sfv.specs.Parsers.{IsAnswerOf, IsVisitorErrorOf, OfMade}
 
-module _ {T : Type 0} (holds : T → BareValue) (refuses : BareValue → ItemFault → Type 0) where
+module _ {T : Type 0} (holds : T → BareValue) (fails : BareValue → ItemFault → Type 0) where
   abbrev Takes : ExpectItem T → TreeEvent → ExpectItem T → Type 0
   Takes = KeepTakes holds
 
   abbrev Fails : ExpectItem T → TreeEvent → ItemFault → Type 0
-  Fails = KeepFails refuses
+  Fails = KeepFails fails
 
   abbrev Finishes : ExpectItem T → T → Type 0
   Finishes s item = item_kept s ≡ Some item
@@ -55,11 +55,11 @@ module _ {T : Type 0} (holds : T → BareValue) (refuses : BareValue → ItemFau
 
   -- it fails on a field exactly for the bare item
   failure_is : (raw : RawItem) (from : ExpectItem T) (fault : ItemFault) → item_kept from ≡ None
-      → IsVisitorError Takes Fails FinishFails from (item_events raw) fault → refuses raw.bare fault
+      → IsVisitorError Takes Fails FinishFails from (item_events raw) fault → fails raw.bare fault
   failure_is raw from fault none (inl h) = at h.0 h.4 h.5
     where
       at : (before : List TreeEvent) → item_events raw ≡ before ++ h.1 ∷ h.2 → RunsTo Takes from before h.3
-          → refuses raw.bare fault
+          → fails raw.bare fault
       at [] split taken =
           let e : h.1 ≡ bare_item raw.bare = cc in
           let here : item_kept h.3 ≡ None = ap item_kept (sym taken) ∙ none in
@@ -87,5 +87,5 @@ module _ {T : Type 0} (holds : T → BareValue) (refuses : BareValue → ItemFau
   pub expect_fails : (edition : Edition) (t : List ℕ) (raw : RawItem) (fault : ItemFault)
       → IsFieldText edition item_field raw t
       → OfMade Made (IsVisitorErrorOf Takes Fails FinishFails edition item_field t) (Visitor fault)
-      → refuses raw.bare fault
+      → fails raw.bare fault
   expect_fails edition t raw fault accepted h = failure_is raw h.0 fault h.1 (h.2.0 raw accepted)
