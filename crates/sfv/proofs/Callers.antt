@@ -45,7 +45,9 @@ pub use Rattle.sfv_spec.proofs.Runs.{runs_fold, entry_in, keys_in_events, entrie
 pub use Rattle.sfv_spec.proofs.Kept.{last_kept, fold_members, fold_parameters, idle_within}
 pub use Rattle.sfv_spec.proofs.Runs.{IsInside, member_inside}
 -- what a visitor that expects one bare item says of the field
-pub use Rattle.sfv.proofs.Expected.{expect_answers, expect_fails}
+pub use Rattle.sfv.proofs.Expected.{expect_answers, expect_fails, expect_first}
+-- an accepted item has the bare item that stands first in its text
+pub use Rattle.sfv.proofs.visits.First.{begins_with_its}
 -- what the builders answer is the value of the text
 pub use Rattle.sfv.proofs.built.Items.{built as item_built}
 pub use Rattle.sfv.proofs.built.Lists.{built_list as list_built}

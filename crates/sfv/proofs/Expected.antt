@@ -4,16 +4,18 @@ use Rattle.std.proofs.Common.{inl, inr}
 use Rattle.std.specs.Prelude.{ℕ, IfOk, MatchOption}
 use Rattle.std.proofs.lemmas.Option.{same_Some}
 use Rattle.sfv_spec.specs.Values.{Edition, item_field, BareValue, RawItem}
-use Rattle.sfv_spec.specs.Grammar.{IsFieldText}
+use Rattle.sfv_spec.specs.Grammar.{IsFieldText, BeginsWithBareItem}
 use Rattle.sfv_spec.specs.Events.{TreeEvent, bare_item, parameters_events, item_events}
 use Rattle.sfv_spec.specs.Visiting.{RunsTo, IsVisitorError}
+use Rattle.sfv_base.specs.declared.error.Error.{Error}
 use Rattle.sfv_base.specs.declared.error.ParseError.{ParseError}
-use Rattle.sfv_base.specs.declared.error.ParseError.TheVariants.{Visitor}
+use Rattle.sfv_base.specs.declared.error.ParseError.TheVariants.{Syntax, Visitor}
+use Rattle.sfv_base.specs.Errors.{out_of_memory}
 use Rattle.sfv_tree.specs.declared.visitor.ItemFault.{ItemFault}
 use Rattle.sfv_tree.specs.declared.visitor.ItemFault.TheVariants as faults
 use Rattle.sfv_visit.specs.Given.{item_kept, first_value, KeepTakes, KeepFails}
 use Rattle.sfv_visit.specs.declared.expect_item.ExpectItem.{ExpectItem}
-use Rattle.sfv.specs.Parsers.{IsAnswerOf, IsVisitorErrorOf, OfMade}
+use Rattle.sfv.specs.Parsers.{IsAnswerOf, IsVisitorErrorOf, VisitsFirst, OfMade}
 
 module _ {T : Type 0} (holds : T → BareValue) (fails : BareValue → ItemFault → Type 0) where
   abbrev Takes : ExpectItem T → TreeEvent → ExpectItem T → Type 0
@@ -89,3 +91,22 @@ module _ {T : Type 0} (holds : T → BareValue) (fails : BareValue → ItemFault
       → OfMade Made (IsVisitorErrorOf Takes Fails FinishFails edition item_field t) (Visitor fault)
       → fails raw.bare fault
   expect_fails edition t raw fault accepted h = failure_is raw h.0 fault h.1 (h.2.0 raw accepted)
+
+  -- at a bare item that the type doesn't hold it fails, whatever stands after it, or out of memory
+  pub expect_first : (edition : Edition) (t : List ℕ) (value : BareValue) → BeginsWithBareItem edition value t
+      → ((item : T) → ¬ (holds item ≡ value))
+      → ((e : Error) → OfMade Made (VisitsFirst Takes Fails FinishFails edition t) (Syntax e) → e ≡ out_of_memory)
+      × ((fault : ItemFault) → OfMade Made (VisitsFirst Takes Fails FinishFails edition t) (Visitor fault)
+      → fails value fault)
+  expect_first edition t value begins none = (
+    λ e h. elim h.2 [
+      | inl same ↦ same
+      | inr k ↦
+          let taken = k value begins in
+          let first : (item : T) × (holds item ≡ value) × (item_kept taken.0 ≡ Some item) = rw h.1 at taken.1 in
+          absurd (none first.0 first.1)
+    ],
+    λ fault h.
+        let k = h.2 value begins in
+        subst (λ (v : BareValue). fails v fault) k.1 (failure_is k.0 h.0 fault h.1 k.2),
+  )

@@ -9,17 +9,17 @@ use Rattle.sfv.specs.Values.{rfc9651, FieldKind, item_field, dictionary_field, R
 use Rattle.sfv.specs.Values.{boolean, date, display_string, RawMember, item, inner_list}
 use Rattle.sfv.specs.Events.{TreeEvent, entry, keyed_entry, begins_item, begins_inner_list, bare_item, parameter}
 use Rattle.sfv.specs.Events.{parameters_end, inner_list_end, events, key_in}
-use Rattle.sfv.specs.Grammar.{IsFieldText}
+use Rattle.sfv.specs.Grammar.{IsFieldText, BeginsWithBareItem}
 use Rattle.sfv.specs.Ordered.{last_of, ordered_member}
 use Rattle.sfv.specs.Statements.{IsParsedAs}
 use Rattle.sfv.specs.Visiting.{RunsTo, IsVisitorError}
-use Rattle.sfv.specs.Parsers.{IsParseError, IsAnswerOf, IsSyntaxOf, IsVisitorErrorOf, OfMade}
+use Rattle.sfv.specs.Parsers.{IsParseError, IsAnswerOf, IsSyntaxOf, IsVisitorErrorOf, VisitsFirst, OfMade}
 use Rattle.sfv.specs.Given.{item_kept, KeepTakes, KeepFails}
 use Rattle.sfv.specs.Types.{Error, ParseError, ItemFault, ExpectItem}
 use Rattle.sfv.specs.Types.item_faults as item_faults
 use Rattle.sfv.specs.Types.parse_errors.{Syntax, Visitor}
 use Rattle.sfv.proofs.Callers.{runs_fold, keys_in_events, member_read, last_of-collapse, expect_answers}
-use Rattle.sfv.proofs.Callers.{expect_fails, accepted_error}
+use Rattle.sfv.proofs.Callers.{expect_fails, expect_first, begins_with_its, accepted_error}
 use Rattle.sfv_uses.specs.Uses.{integer_or, param_in, counts, HasMembers, IsCountError, IsExpectError, IsReadError}
 use Rattle.sfv_uses.specs.declared.visiting.MemberCounter.{MemberCounter}
 use Rattle.sfv_uses.specs.declared.visiting.TooMany.{TooMany}
@@ -153,6 +153,18 @@ module _ {T : Type 0} (holds : T → BareValue) (fails : BareValue → ItemFault
       read.2 ∙ ap (λ (i : RawItem). i.bare) (h.2.only read.0 read.1 ∙ sym (h.2.only raw accepted))
   expected t (Err (Syntax e)) h k l raw accepted = accepted_error rfc9651 item_field t raw e accepted k.2.0
   expected t (Err (Visitor fault)) h k l raw accepted = expect_fails holds fails rfc9651 t raw fault accepted l
+
+  pub expected_first : (t : List ℕ) (r : Result T (ParseError ItemFault))
+      → IfOk r (OfMade Waits (IsAnswerOf (KeepTakes holds) Keeps rfc9651 item_field t))
+      → IfErr r (OfMade Waits (VisitsFirst (KeepTakes holds) (KeepFails fails) KeepsNone rfc9651 t))
+      → (value : BareValue) → BeginsWithBareItem rfc9651 value t → ((held : T) → ¬ (holds held ≡ value))
+      → MatchResult r (λ _. ⊥) (IsExpectError fails value)
+  expected_first t (Ok held) h k value begins none =
+      let read = expect_answers holds fails rfc9651 t (Ok held) h in
+      none held (read.2 ∙ begins_with_its rfc9651 value t read.0 read.1 begins)
+  expected_first t (Err (Syntax e)) h k value begins none = (expect_first holds fails rfc9651 t value begins none).0 e k
+  expected_first t (Err (Visitor fault)) h k value begins none =
+      (expect_first holds fails rfc9651 t value begins none).1 fault k
 
 -- what a reading with a visitor rejects, `parse` rejects
 pub read_failed : {O E : Type 0} (P : ParseError E → Type 0) (kind : FieldKind) (t : List ℕ)

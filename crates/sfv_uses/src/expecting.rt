@@ -1,9 +1,9 @@
 //! Reading a field into the type that is expected.
 
-ghost use Rattle.std.specs.Prelude.{◌≡◌, IfOk, IfErr, MatchResult};
-ghost use Rattle.sfv.specs.Values.{rfc9651, item_field, list_field, dictionary_field, RawItem};
+ghost use Rattle.std.specs.Prelude.{◌≡◌, ℕ, List, IfOk, IfErr, MatchResult};
+ghost use Rattle.sfv.specs.Values.{rfc9651, item_field, list_field, dictionary_field, BareValue, RawItem};
 ghost use Rattle.sfv.specs.Values as values;
-ghost use Rattle.sfv.specs.Grammar.{IsFieldText};
+ghost use Rattle.sfv.specs.Grammar.{IsFieldText, BeginsWithBareItem};
 ghost use Rattle.sfv.specs.Statements.{IsParsedAs};
 ghost use Rattle.sfv.specs.TokenText.{token_text};
 ghost use Rattle.sfv.specs.Trees.{item_tree, list_tree, dictionary_tree};
@@ -17,8 +17,8 @@ use std::alloc::Global;
 ///
 /// # Errors
 ///
-/// Of an item: that it is of another kind, or out of memory. Of any other input that of `Parser::parse`, or that the bare
-/// item at its beginning is of another kind.
+/// Where a bare item of another kind stands first: that it is of another kind, whatever stands after it, or out of
+/// memory. Of any other input that is no item that of `Parser::parse`.
 pub fn expect<'de, T: ExpectedItem<'de>>(
     alloc: Global,
     input: &'de [u8],
@@ -26,6 +26,8 @@ pub fn expect<'de, T: ExpectedItem<'de>>(
     ensures held { IfOk result (λ item. HasBareItem input.now (T.holds item)) }
     ensures of_an_item { (raw : RawItem) → IsFieldText rfc9651 item_field raw input.now
         → MatchResult result (λ item. T.holds item ≡ raw.bare) (IsExpectError T.fails raw.bare) }
+    ensures of_another_kind { (value : BareValue) → BeginsWithBareItem rfc9651 value input.now
+        → ((item : T) → ¬ (T.holds item ≡ value)) → MatchResult result (λ _. ⊥) (IsExpectError T.fails value) }
 {
     Parser::new(input).parse_item::<T>(alloc)
 }
@@ -34,10 +36,13 @@ pub fn expect<'de, T: ExpectedItem<'de>>(
 ///
 /// # Errors
 ///
-/// Of an item: `ItemFault::WrongType` exactly where it is no token, with its kind, or out of memory.
+/// Where a bare item stands first: `ItemFault::WrongType` exactly where it is no token, with its kind, whatever stands after
+/// it, or out of memory.
 pub fn token<'de>(alloc: Global, input: &'de [u8]) -> Result<TokenRef<'de>, ParseError<ItemFault>>
-    ensures { (raw : RawItem) → IsFieldText rfc9651 item_field raw input.now
+    ensures of_an_item { (raw : RawItem) → IsFieldText rfc9651 item_field raw input.now
         → MatchResult result (λ name. values.token (token_text name) ≡ raw.bare) (IsTokenError raw.bare) }
+    ensures of_another_kind { (value : BareValue) → BeginsWithBareItem rfc9651 value input.now
+        → ((name : List ℕ) → ¬ (values.token name ≡ value)) → MatchResult result (λ _. ⊥) (IsTokenError value) }
 {
     expect::<TokenRef>(alloc, input)
 }
