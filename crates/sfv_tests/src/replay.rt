@@ -51,6 +51,12 @@ pub fn parse_line(line: &str) -> Option<Case<'_>> {
     })
 }
 
+/// The bytes of a case's input, or `None` if they aren't in hexadecimal or for want of memory.
+pub fn input_of(alloc: Global, case: &Case<'_>) -> Option<Vec<u8>> {
+    let digits = if case.input == "-" { "" } else { case.input };
+    hex::decode(alloc, digits).ok()
+}
+
 /// The canonical text of an input as a field of this type; none of an empty list or dictionary.
 pub fn canonical_text(
     alloc: Global,
@@ -67,13 +73,14 @@ pub fn canonical_text(
     Ok(text)
 }
 
-/// What the library answers to the input of a case, as a line has it.
-pub fn answer_of(alloc: Global, case: &Case<'_>) -> Result<String, AllocError> {
-    let digits = if case.input == "-" { "" } else { case.input };
-    let Ok(input) = hex::decode(alloc, digits) else {
-        return String::from_str(alloc, "no hexadecimal");
-    };
-    match canonical_text(alloc, case.field, case.version, input.as_slice()) {
+/// What the library answers to an input, as a line has it.
+pub fn answer_of(
+    alloc: Global,
+    field: Field,
+    version: Version,
+    input: &[u8],
+) -> Result<String, AllocError> {
+    match canonical_text(alloc, field, version, input) {
         Ok(Some(text)) => {
             let text = hex::encode(alloc, text.as_bytes())?;
             format!(in alloc; "ok {text}")
