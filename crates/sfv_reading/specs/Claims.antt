@@ -10,13 +10,13 @@ use Rattle.sfv_spec.specs.Events.{TreeEvent, events}
 use Rattle.sfv_spec.specs.Reach.{IsReach}
 use Rattle.sfv_spec.specs.Visiting.{BeginsEvents}
 use Rattle.sfv_spec.specs.Base64.{IsBase64Text, symbols}
-use Rattle.sfv_spec.specs.Faults.{has_rule, SyntaxFault, trailing_comma, unterminated_byte_sequence}
+use Rattle.sfv_spec.specs.Faults.{SyntaxFault, trailing_comma, unterminated_byte_sequence}
 use Rattle.sfv_spec.specs.Faults.{invalid_byte_sequence, unterminated_escape_sequence, invalid_escape_sequence}
 use Rattle.sfv_spec.specs.Faults.{unterminated_display_string, invalid_display_string_character}
 use Rattle.sfv_spec.specs.Faults.{invalid_utf8_in_display_string, IsTrailingComma, WantsBetween}
 use Rattle.sfv_spec.specs.Faults.{IsUnterminatedByteSequence, IsLoneSymbol, IsUnterminatedDisplay, IsUnterminatedEscape}
 use Rattle.sfv_spec.specs.Faults.{IsInvalidEscape, IsInvalidDisplayByte, IsInvalidUtf8, IsBase64FaultPlace}
-use Rattle.sfv_reading.specs.Reader.{Fault, Reader, by_rule, visited}
+use Rattle.sfv_reading.specs.Reader.{has_rule, Fault, Reader, by_rule, visited}
 use Rattle.sfv_reading.specs.Judgements.{Sound, Mute, Quiet, IsFault, Local, Complete, StaysButText}
 use Rattle.sfv_reading.specs.Content.{valid_from, bytes_of, fault_place, IsBytesEnd, HasNoColon, content_fault}
 use Rattle.sfv_reading.specs.Content.{bytes_at}
