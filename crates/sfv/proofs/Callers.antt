@@ -1,7 +1,7 @@
 -- Lemmas for callers, who cite them from here: from what is found in a value to the text, from what a visitor did to the
 -- field, and from what was written to what is read.
-use Rattle.std.proofs.Common.{◌≡◌, ℕ, List, [], ◌∷◌, ◌++◌, true, cond, Result, refl, sym, ◌∙◌, ap, subst, inl, inr}
-use Rattle.std.specs.Prelude.{bytes_eq, option_map, Some, None, IfOk}
+use Rattle.std.proofs.Common.{◌≡◌, ℕ, List, [], ◌∷◌, ◌++◌, true, cond, Result, Ok, Err, refl, sym, ◌∙◌, ap, subst, inl, inr}
+use Rattle.std.specs.Prelude.{bytes_eq, option_map, Some, None, IfOk, ◌⊎◌}
 use Rattle.std.specs.declared.alloc.Global.{Global}
 use Rattle.std.specs.declared.vec.Vec.{Vec}
 use Rattle.std.proofs.lemmas.Option.{same_Some}
@@ -9,7 +9,7 @@ use Rattle.std.proofs.lemmas.Result.{IfOk-weaker}
 use Rattle.indexmap.specs.IndexMap.{IndexMap, insert_entry}
 use Rattle.sfv_spec.specs.Values.{Edition, rfc9651, FieldKind, list_field, dictionary_field, RawMember, RawField}
 use Rattle.sfv_spec.specs.Values.{IsFieldValue}
-use Rattle.sfv_spec.specs.Grammar.{IsFieldText}
+use Rattle.sfv_spec.specs.Grammar.{IsFieldText, IsAccepted}
 use Rattle.sfv_spec.specs.Ordered.{keys, last_of, ordered, ordered_member, no_repeats, IsOrdered}
 use Rattle.sfv_spec.specs.Canonical.{canonical}
 use Rattle.sfv_spec.specs.Statements.{IsParsedAs, IsValue}
@@ -26,6 +26,9 @@ use Rattle.sfv_tree.specs.Builders.{dictionary_step, dictionary_members}
 use Rattle.sfv_tree.specs.declared.parsed.ListEntry.{ListEntry}
 use Rattle.sfv_tree.specs.declared.visitor.list_builder.ListBuilder.{ListBuilder}
 use Rattle.sfv_tree.specs.declared.visitor.dictionary_builder.DictionaryBuilder.{DictionaryBuilder}
+use Rattle.sfv_reading.specs.Reader.{Fault}
+use Rattle.sfv_reading.specs.Fields.{read_field}
+use Rattle.sfv_reading.proofs.Theorems.{read_is_accepted}
 use Rattle.sfv.specs.Parsers.{IsParseError, IsAnswerOf}
 use Rattle.sfv.proofs.built.Items.{insert_entry-entered}
 use Rattle.sfv.proofs.built.Lists.{built_list_behind}
@@ -38,8 +41,13 @@ pub use Rattle.sfv_spec.proofs.Collapse.{last_of-collapse, last_of-absent}
 pub use Rattle.sfv_ser.proofs.Lent.{lent_all}
 -- what a visitor did with the events of a field
 pub use Rattle.sfv_spec.proofs.Runs.{runs_fold, entry_in, keys_in_events, entries_in_events, fails_somewhere}
+-- what is kept of a field by the last of each key
+pub use Rattle.sfv_spec.proofs.Kept.{last_kept, fold_members, fold_parameters, idle_within}
+pub use Rattle.sfv_spec.proofs.Runs.{IsInside, member_inside}
 -- what a visitor that expects one bare item says of the field
-pub use Rattle.sfv.proofs.Expected.{expect_answers, expect_fails}
+pub use Rattle.sfv.proofs.Expected.{expect_answers, expect_fails, expect_first}
+-- an accepted item has the bare item that stands first in its text
+pub use Rattle.sfv.proofs.visits.First.{begins_with_its}
 -- what the builders answer is the value of the text
 pub use Rattle.sfv.proofs.built.Items.{built as item_built}
 pub use Rattle.sfv.proofs.built.Lists.{built_list as list_built}
@@ -60,17 +68,30 @@ last_of-insert {A} j ps k v distinct =
     ∙ ap (λ (qs : List (List ℕ × A)). entered qs k v) (sym same) ∙ sym (collapse-push ps k v))
     ∙ last_of-collapse j (ps ++ (k, v) ∷ []) ∙ last_of-push j ps k v
 
+-- a text is accepted or it isn't: so a visitor's error on a dictionary or a list is one on an accepted text
+pub accepted_or_not : (edition : Edition) (kind : FieldKind) (t : List ℕ)
+    → IsAccepted edition kind t ⊎ ¬ IsAccepted edition kind t
+accepted_or_not edition kind t = decided (read_field edition kind t) refl
+  where
+    decided : (r : Result (RawField kind) Fault) → read_field edition kind t ≡ r
+        → IsAccepted edition kind t ⊎ ¬ IsAccepted edition kind t
+    decided (Ok raw) h = inl (raw, (read_is_accepted edition kind t raw).0 h)
+    decided (Err e) h = inr (λ a. let k = (read_is_accepted edition kind t a.0).1 a.1 in absurd (cc))
+
+-- an accepted text is read as the ordered value of its field
+pub parsed_as : (edition : Edition) (kind : FieldKind) (t : List ℕ) (raw : RawField kind)
+    → IsFieldText edition kind raw t → IsParsedAs edition kind t (ordered kind raw)
+parsed_as edition kind t raw accepted = record {
+  raw = raw;
+  accepted = accepted;
+  only = λ other k. one_field_lem edition kind t other raw k accepted;
+  ordered_value = refl;
+}
+
 -- what is written of a field is read as its ordered value: repeated keys too
 pub read_back : (kind : FieldKind) (raw : RawField kind) → IsFieldValue kind raw
     → IsParsedAs rfc9651 kind (canonical kind raw) (ordered kind raw)
-read_back kind raw h =
-    let accepted = (round_trip_lem kind raw h).0 in
-    record {
-      raw = raw;
-      accepted = accepted;
-      only = λ other k. one_field_lem rfc9651 kind (canonical kind raw) other raw k accepted;
-      ordered_value = refl;
-    }
+read_back kind raw h = parsed_as rfc9651 kind (canonical kind raw) raw (round_trip_lem kind raw h).0
 
 -- and a value is read as itself
 pub value_read_back : (kind : FieldKind) (value : RawField kind) → IsValue kind value

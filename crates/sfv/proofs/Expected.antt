@@ -4,23 +4,25 @@ use Rattle.std.proofs.Common.{inl, inr}
 use Rattle.std.specs.Prelude.{ℕ, IfOk, MatchOption}
 use Rattle.std.proofs.lemmas.Option.{same_Some}
 use Rattle.sfv_spec.specs.Values.{Edition, item_field, BareValue, RawItem}
-use Rattle.sfv_spec.specs.Grammar.{IsFieldText}
+use Rattle.sfv_spec.specs.Grammar.{IsFieldText, BeginsWithBareItem}
 use Rattle.sfv_spec.specs.Events.{TreeEvent, bare_item, parameters_events, item_events}
 use Rattle.sfv_spec.specs.Visiting.{RunsTo, IsVisitorError}
+use Rattle.sfv_base.specs.declared.error.Error.{Error}
 use Rattle.sfv_base.specs.declared.error.ParseError.{ParseError}
-use Rattle.sfv_base.specs.declared.error.ParseError.TheVariants.{Visitor}
+use Rattle.sfv_base.specs.declared.error.ParseError.TheVariants.{Syntax, Visitor}
+use Rattle.sfv_base.specs.Errors.{out_of_memory}
 use Rattle.sfv_tree.specs.declared.visitor.ItemFault.{ItemFault}
 use Rattle.sfv_tree.specs.declared.visitor.ItemFault.TheVariants as faults
 use Rattle.sfv_visit.specs.Given.{item_kept, first_value, KeepTakes, KeepFails}
 use Rattle.sfv_visit.specs.declared.expect_item.ExpectItem.{ExpectItem}
-use Rattle.sfv.specs.Parsers.{IsAnswerOf, IsVisitorErrorOf, OfMade}
+use Rattle.sfv.specs.Parsers.{IsAnswerOf, IsVisitorErrorOf, VisitsFirst, OfMade}
 
-module _ {T : Type 0} (holds : T → BareValue) (refuses : BareValue → ItemFault → Type 0) where
+module _ {T : Type 0} (holds : T → BareValue) (fails : BareValue → ItemFault → Type 0) where
   abbrev Takes : ExpectItem T → TreeEvent → ExpectItem T → Type 0
   Takes = KeepTakes holds
 
   abbrev Fails : ExpectItem T → TreeEvent → ItemFault → Type 0
-  Fails = KeepFails refuses
+  Fails = KeepFails fails
 
   abbrev Finishes : ExpectItem T → T → Type 0
   Finishes s item = item_kept s ≡ Some item
@@ -55,11 +57,11 @@ module _ {T : Type 0} (holds : T → BareValue) (refuses : BareValue → ItemFau
 
   -- it fails on a field exactly for the bare item
   failure_is : (raw : RawItem) (from : ExpectItem T) (fault : ItemFault) → item_kept from ≡ None
-      → IsVisitorError Takes Fails FinishFails from (item_events raw) fault → refuses raw.bare fault
+      → IsVisitorError Takes Fails FinishFails from (item_events raw) fault → fails raw.bare fault
   failure_is raw from fault none (inl h) = at h.0 h.4 h.5
     where
       at : (before : List TreeEvent) → item_events raw ≡ before ++ h.1 ∷ h.2 → RunsTo Takes from before h.3
-          → refuses raw.bare fault
+          → fails raw.bare fault
       at [] split taken =
           let e : h.1 ≡ bare_item raw.bare = cc in
           let here : item_kept h.3 ≡ None = ap item_kept (sym taken) ∙ none in
@@ -87,5 +89,24 @@ module _ {T : Type 0} (holds : T → BareValue) (refuses : BareValue → ItemFau
   pub expect_fails : (edition : Edition) (t : List ℕ) (raw : RawItem) (fault : ItemFault)
       → IsFieldText edition item_field raw t
       → OfMade Made (IsVisitorErrorOf Takes Fails FinishFails edition item_field t) (Visitor fault)
-      → refuses raw.bare fault
+      → fails raw.bare fault
   expect_fails edition t raw fault accepted h = failure_is raw h.0 fault h.1 (h.2.0 raw accepted)
+
+  -- at a bare item that the type doesn't hold it fails, whatever stands after it, or out of memory
+  pub expect_first : (edition : Edition) (t : List ℕ) (value : BareValue) → BeginsWithBareItem edition value t
+      → ((item : T) → ¬ (holds item ≡ value))
+      → ((e : Error) → OfMade Made (VisitsFirst Takes Fails FinishFails edition t) (Syntax e) → e ≡ out_of_memory)
+      × ((fault : ItemFault) → OfMade Made (VisitsFirst Takes Fails FinishFails edition t) (Visitor fault)
+      → fails value fault)
+  expect_first edition t value begins none = (
+    λ e h. elim h.2 [
+      | inl same ↦ same
+      | inr k ↦
+          let taken = k value begins in
+          let first : (item : T) × (holds item ≡ value) × (item_kept taken.0 ≡ Some item) = rw h.1 at taken.1 in
+          absurd (none first.0 first.1)
+    ],
+    λ fault h.
+        let k = h.2 value begins in
+        subst (λ (v : BareValue). fails v fault) k.1 (failure_is k.0 h.0 fault h.1 k.2),
+  )

@@ -5,4 +5,5 @@ pub mod InnerLists
 pub mod Keyed
 pub mod Parameters
 pub mod Fields
+pub mod First
 pub mod Whole

@@ -1,15 +1,17 @@
 -- What a reading whose events are visited returns.
-use Rattle.std.specs.Prelude.{◌≡◌, ⊤, ℕ, List, [], Result, Ok, Err, ◌⊎◌, MatchOption, ◌≤◌, length, drop}
+use Rattle.std.specs.Prelude.{◌≡◌, ⊤, ℕ, List, [], Some, Result, Ok, Err, ◌⊎◌, MatchOption, ◌≤◌, length, drop}
 use Rattle.std.specs.declared.alloc.Global.{Global}
-use Rattle.sfv_spec.specs.Values.{Edition, FieldKind, item_field, list_field, dictionary_field, RawField}
-use Rattle.sfv_spec.specs.Events.{TreeEvent, events}
+use Rattle.sfv_spec.specs.Classes.{is_space}
+use Rattle.sfv_spec.specs.Values.{Edition, FieldKind, item_field, list_field, dictionary_field, RawField, BareValue}
+use Rattle.sfv_spec.specs.Events.{TreeEvent, bare_item, events}
 use Rattle.sfv_spec.specs.Visiting.{RunsTo, IsVisited}
 use Rattle.sfv_base.specs.declared.error.Error.{Error}
 use Rattle.sfv_base.specs.declared.error.ErrorKind.TheVariants.{OutOfMemory}
 use Rattle.sfv_base.specs.declared.error.ParseError.{ParseError}
 use Rattle.sfv_base.specs.declared.error.ParseError.TheVariants.{Syntax, Visitor}
 use Rattle.sfv_base.specs.Errors.{kind_of, index_of}
-use Rattle.sfv_reading.specs.Reader.{Answer, Reader}
+use Rattle.sfv_reading.specs.Reader.{Answer, Reader, span}
+use Rattle.sfv_reading.specs.Bare.{bare_at}
 use Rattle.sfv_reading.specs.Fields.{whole_field_at, read_field}
 use Rattle.sfv_reading.specs.Visits.{VisitorFails}
 use Rattle.sfv.specs.declared.parser.Parser.{Parser}
@@ -36,6 +38,16 @@ Visits takes fails parts before after from to result reader =
 abbrev pub IsOfVisitor : {E : Type 0} → (E → Type 0) → ParseError E → Type 0
 IsOfVisitor is (Syntax error) = ⊥
 IsOfVisitor is (Visitor fault) = is fault
+
+-- Where a bare item is read there, an error with an index comes only after the visitor has taken it.
+abbrev pub TookBare : {S E : Type 0} → (S → TreeEvent → S → Type 0) → Edition → List ℕ → S → ParseError E → Type 0
+TookBare {S} takes edition t from (Syntax e) = (index : ℕ) (value : BareValue) (q : List ℕ) → index_of e ≡ Some index
+    → bare_at edition t ≡ Ok (value, q) → (after : S) × takes from (bare_item value) after
+TookBare takes edition t from (Visitor f) = ⊤
+
+-- The same of one that stands first in a text, after spaces.
+abbrev pub TookFirst : {S E : Type 0} → (S → TreeEvent → S → Type 0) → Edition → List ℕ → S → ParseError E → Type 0
+TookFirst takes edition t from error = (s r : List ℕ) → span is_space t ≡ Ok (s, r) → TookBare takes edition r from error
 
 -- Where a field is read at the beginning, an error with an index comes only for an item, after the visitor's answer.
 abbrev pub IsFinishedAt : {S O : Type 0} → (S → TreeEvent → S → Type 0) → (S → O → Type 0) → Edition → FieldKind

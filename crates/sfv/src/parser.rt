@@ -39,7 +39,7 @@ pub struct Parser<'de> {
 
 impl<'de> Parser<'de> {
     ghost use Rattle.sfv.specs.Parsers.{parser_of, input_of, parser_edition, IsParseError, IsReaderFault, IsAnswerOf};
-    ghost use Rattle.sfv.specs.Parsers.{IsSyntaxOf, IsVisitorErrorOf, VisitsAccepted, OfMade};
+    ghost use Rattle.sfv.specs.Parsers.{IsSyntaxOf, IsVisitorErrorOf, VisitsAccepted, VisitsFirst, OfMade};
 
     /// Reads this input, under RFC 9651.
     pub fn new(input: &'de [u8]) -> Parser<'de>
@@ -106,6 +106,9 @@ impl<'de> Parser<'de> {
         ensures accepted { OfMade T.is_made
             (VisitsAccepted T.Visitor.takes T.Visitor.fails T.Visitor.finishes T.Visitor.finish_fails
             T.Visitor.is_memory (parser_edition self.entry) item_field (input_of self.entry)) result }
+        ensures first { IfErr result (OfMade T.is_made
+            (VisitsFirst T.Visitor.takes T.Visitor.fails T.Visitor.finish_fails
+            (parser_edition self.entry) (input_of self.entry))) }
     {
         let visitor = T::make_item_visitor(alloc);
         self.parse_item_with_visitor(alloc, visitor)
@@ -195,6 +198,8 @@ impl<'de> Parser<'de> {
             (parser_edition self.entry) item_field (input_of self.entry) visitor) }
         ensures accepted { VisitsAccepted V.takes V.fails V.finishes V.finish_fails V.is_memory
             (parser_edition self.entry) item_field (input_of self.entry) visitor result }
+        ensures first { IfErr result
+            (VisitsFirst V.takes V.fails V.finish_fails (parser_edition self.entry) (input_of self.entry) visitor) }
     {
         parse_item_field(self, alloc, visitor)
     }

@@ -7,11 +7,11 @@ use Rattle.std.proofs.lemmas.Bool.{or_cases, eqb-true, and_parts, not-true, true
 use Rattle.std.proofs.lemmas.List.{append-nil, append_cancel_right, length-append}
 use Rattle.sfv_spec.specs.Classes.{is_one_of, is_token_inner}
 use Rattle.sfv_spec.specs.Values.{Edition, BareValue}
-use Rattle.sfv_spec.specs.Grammar.{IsBareText}
+use Rattle.sfv_spec.specs.Grammar.{IsBareText, IsEnded}
 use Rattle.sfv_reading.specs.Judgements.{Reached, Lasts}
 use Rattle.sfv_reading.specs.Reader.{Apart, first}
 use Rattle.sfv_reading.specs.Bare.{bare_at}
-use Rattle.sfv_reading.specs.Claims.{BeginsWithBare, IsEnded, BareIsExact}
+use Rattle.sfv_reading.specs.Claims.{BeginsWithBare, BareIsExact}
 use Rattle.sfv_reading.proofs.sound.Combinators.{Somewhere}
 use Rattle.sfv_reading.proofs.complete.Combinators.{Apart-nil, Apart-cons}
 use Rattle.sfv_reading.proofs.sound.Bare.{BareGoes, Sound-bare}
@@ -84,7 +84,7 @@ none_of (b ∷ bytes) c h e =
       | inr i ↦ none_of bytes c p.1 i
     ]
 
-ended_apart : (rest : List ℕ) → IsEnded rest → Apart is_token_inner rest
+pub ended_apart : (rest : List ℕ) → IsEnded rest → Apart is_token_inner rest
 ended_apart [] h = Apart-nil is_token_inner
 ended_apart (c ∷ rest) h = Apart-cons is_token_inner c rest (none_of (codes "; \t,)") c refl h)
 

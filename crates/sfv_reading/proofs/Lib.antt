@@ -9,4 +9,5 @@ pub mod visits
 pub mod Exact
 pub mod Theorems
 pub mod Trailing
+pub mod First
 mod Examples

@@ -1,11 +1,11 @@
 -- What the readers of fields have to do with the grammar.
-use Rattle.std.specs.Prelude.{◌≡◌, ◌↔◌, ℕ, ◌+◌, ◌≤◌, ◌%◌, Bool, List, [], ◌∷◌, ◌++◌, length, drop, true, false, IsTrue}
-use Rattle.std.specs.Prelude.{⊤, Some, None, Ok, Err, ◌⊎◌, codes}
+use Rattle.std.specs.Prelude.{◌≡◌, ◌↔◌, ℕ, ◌+◌, ◌≤◌, ◌%◌, Bool, List, [], ◌∷◌, ◌++◌, length, drop, true, false}
+use Rattle.std.specs.Prelude.{Some, None, Ok, Err, ◌⊎◌, codes}
 use Rattle.sfv_spec.specs.Ascii.{comma, colon, question_mark}
 use Rattle.sfv_spec.specs.Texts.{RunOf}
 use Rattle.sfv_spec.specs.Classes.{is_space_or_tab, is_one_of}
 use Rattle.sfv_spec.specs.Values.{Edition, rfc9651, FieldKind, item_field, RawField, BareValue, RawItem, IsFieldValue}
-use Rattle.sfv_spec.specs.Grammar.{IsBareText, IsItemText, AreMembersText, IsFieldText}
+use Rattle.sfv_spec.specs.Grammar.{IsBareText, IsItemText, AreMembersText, IsFieldText, IsEnded}
 use Rattle.sfv_spec.specs.Events.{TreeEvent, events}
 use Rattle.sfv_spec.specs.Reach.{IsReach}
 use Rattle.sfv_spec.specs.Visiting.{BeginsEvents}
@@ -109,11 +109,6 @@ pub record BeginsWithBare (edition : Edition) (t : List ℕ) (value : BareValue)
   pub only : (other : BareValue) → IsBareText edition other front → other ≡ value
   pub longest : (longer behind : List ℕ) → t ≡ longer ++ behind → IsSomeBareText edition longer
       → length longer ≤ length front
-
--- a bare item ends here: at the end, or at a semicolon, SP, a tab, a comma or a closing parenthesis
-abbrev pub IsEnded : List ℕ → Type 0
-IsEnded [] = ⊤
-IsEnded (c ∷ cs) = IsTrue (is_one_of (codes "; \t,)") c)
 
 -- what is read is the longest text; where nothing is read, no text of a value stands there and is ended
 abbrev pub BareIsExact : Type 0

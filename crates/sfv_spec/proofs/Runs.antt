@@ -1,7 +1,7 @@
 -- What a visitor has done with the events of a field, for callers.
 use Rattle.std.proofs.Common.{◌≡◌, suc, List, [], ◌∷◌, ◌++◌, length, refl, sym, ap, subst, ◌∙◌, inl, inr, arith}
 use Rattle.std.specs.Prelude.{⊤, ℕ, Option, Some, None, fold, filter_map, flat_map, ◌⊎◌}
-use Rattle.std.specs.List.{Contains}
+use Rattle.std.specs.List.{Contains, AllByRecursion}
 use Rattle.std.proofs.lemmas.List.Elements.{filter_map-append, Contains-append_right}
 use Rattle.sfv_spec.specs.Values.{list_field, dictionary_field, RawParameters, RawItem, RawMember, item, inner_list}
 use Rattle.sfv_spec.specs.Events.{TreeEvent, entry, keyed_entry, begins_item, begins_inner_list, bare_item}
@@ -28,55 +28,51 @@ abbrev pub entry_in : TreeEvent → Option (Unit {0})
 entry_in entry = Some tt
 entry_in e = None
 
+-- all events of a member but the one that leads it are such
+all_behind : (xs ys : List TreeEvent) → AllByRecursion IsInside xs → AllByRecursion IsInside ys
+    → AllByRecursion IsInside (xs ++ ys)
+all_behind [] ys h k = k
+all_behind (x ∷ xs) ys h k = (h.0, all_behind xs ys h.1 k)
+
+parameters_inside : (ps : RawParameters) → AllByRecursion IsInside (parameters_events ps)
+parameters_inside [] = (tt, tt)
+parameters_inside (p ∷ ps) = (tt, parameters_inside ps)
+
+items_inside : (xs : List RawItem) → AllByRecursion IsInside (flat_map inner_item_events xs)
+items_inside [] = tt
+items_inside (x ∷ xs) = all_behind (inner_item_events x) (flat_map inner_item_events xs)
+    (tt, (tt, parameters_inside x.parameters)) (items_inside xs)
+
+pub member_inside : (m : RawMember) → AllByRecursion IsInside (member_events m)
+member_inside (item i) = (tt, (tt, parameters_inside i.parameters))
+member_inside (inner_list l) = (
+  tt,
+  all_behind (flat_map inner_item_events l.items) (inner_list_end ∷ parameters_events l.parameters)
+      (items_inside l.items) (tt, parameters_inside l.parameters),
+)
+
 -- what leads a member is given by no event within one
-module _ {A : Type 0} (lead : TreeEvent → Option A) (none_inside : (e : TreeEvent) → IsInside e → lead e ≡ None) where
-  none_of_parameters : (ps : RawParameters) → filter_map lead (parameters_events ps) ≡ []
-  none_of_parameters [] = rw (none_inside parameters_end tt) refl
-  none_of_parameters (p ∷ ps) = rw (none_inside (parameter p.0 p.1) tt) (none_of_parameters ps)
+none_within : {A : Type 0} (lead : TreeEvent → Option A) → ((e : TreeEvent) → IsInside e → lead e ≡ None)
+    → (es : List TreeEvent) → AllByRecursion IsInside es → filter_map lead es ≡ []
+none_within lead none [] h = refl
+none_within lead none (e ∷ es) h = rw (none e h.0) (none_within lead none es h.1)
 
-  none_of_item : (i : RawItem) → filter_map lead (inner_item_events i) ≡ []
-  none_of_item i = rw (none_inside begins_item tt, none_inside (bare_item i.bare) tt) (none_of_parameters i.parameters)
-
-  none_of_items : (xs : List RawItem) → filter_map lead (flat_map inner_item_events xs) ≡ []
-  none_of_items [] = refl
-  none_of_items (x ∷ xs) = filter_map-append lead (inner_item_events x) (flat_map inner_item_events xs)
-      ∙ rw (none_of_item x, none_of_items xs) refl
-
-  none_of_member : (m : RawMember) → filter_map lead (member_events m) ≡ []
-  none_of_member (item i) = none_of_item i
-  none_of_member (inner_list l) =
-      let behind : filter_map lead (inner_list_end ∷ parameters_events l.parameters) ≡ [] =
-      rw (none_inside inner_list_end tt) (none_of_parameters l.parameters) in
-      rw (none_inside begins_inner_list tt)
-      (filter_map-append lead (flat_map inner_item_events l.items) (inner_list_end ∷ parameters_events l.parameters)
-      ∙ rw (none_of_items l.items, behind) refl)
-
-no_key : (e : TreeEvent) → IsInside e → key_in e ≡ None
-no_key entry h = absurd h
-no_key (keyed_entry key) h = absurd h
-no_key begins_item h = refl
-no_key begins_inner_list h = refl
-no_key (bare_item value) h = refl
-no_key (parameter key value) h = refl
-no_key parameters_end h = refl
-no_key inner_list_end h = refl
-
-no_entry : (e : TreeEvent) → IsInside e → entry_in e ≡ None
-no_entry entry h = absurd h
-no_entry (keyed_entry key) h = absurd h
-no_entry begins_item h = refl
-no_entry begins_inner_list h = refl
-no_entry (bare_item value) h = refl
-no_entry (parameter key value) h = refl
-no_entry parameters_end h = refl
-no_entry inner_list_end h = refl
+neither_inside : (e : TreeEvent) → IsInside e → (key_in e ≡ None) × (entry_in e ≡ None)
+neither_inside entry h = absurd h
+neither_inside (keyed_entry key) h = absurd h
+neither_inside begins_item h = (refl, refl)
+neither_inside begins_inner_list h = (refl, refl)
+neither_inside (bare_item value) h = (refl, refl)
+neither_inside (parameter key value) h = (refl, refl)
+neither_inside parameters_end h = (refl, refl)
+neither_inside inner_list_end h = (refl, refl)
 
 -- the keys that are visited of a dictionary are its keys, a repeated one each time
 pub keys_in_events : (ms : List (List ℕ × RawMember)) → filter_map key_in (events dictionary_field ms) ≡ keys ms
 keys_in_events [] = refl
 keys_in_events (m ∷ ms) = ap (λ (ks : List (List ℕ)). m.0 ∷ ks)
     (filter_map-append key_in (member_events m.1) (events dictionary_field ms)
-    ∙ rw (none_of_member key_in no_key m.1, keys_in_events ms) refl)
+    ∙ rw (none_within key_in (λ e h. (neither_inside e h).0) (member_events m.1) (member_inside m.1), keys_in_events ms) refl)
 
 -- the entries that are visited of a list are as many as its members
 pub entries_in_events : (ms : List RawMember) → length (filter_map entry_in (events list_field ms)) ≡ length ms
@@ -84,7 +80,7 @@ entries_in_events [] = refl
 entries_in_events (m ∷ ms) =
     let rest : filter_map entry_in (member_events m ++ events list_field ms) ≡ filter_map entry_in (events list_field ms) =
     filter_map-append entry_in (member_events m) (events list_field ms)
-    ∙ rw (none_of_member entry_in no_entry m) refl in
+    ∙ rw (none_within entry_in (λ e h. (neither_inside e h).1) (member_events m) (member_inside m)) refl in
     rw rest (ap suc (entries_in_events ms))
 
 -- an error of a visitor comes at some event of the field, or at its end

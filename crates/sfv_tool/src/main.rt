@@ -2,6 +2,9 @@
 #![tactic(auto)]
 
 mod answer;
+mod foo;
+#[cfg(test)]
+mod foo_tests;
 mod run;
 #[cfg(test)]
 mod tests;

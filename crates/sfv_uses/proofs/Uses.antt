@@ -5,22 +5,22 @@ use Rattle.std.specs.Prelude.{Option, Some, None, Result, Ok, Err, IsSome, IfOk,
 use Rattle.std.specs.List.{cons_option}
 use Rattle.std.proofs.lemmas.List.{length-append, length-map}
 use Rattle.std.proofs.lemmas.List.Elements.{filter_map-append}
-use Rattle.sfv.specs.Values.{rfc9651, item_field, dictionary_field, RawItem, BareValue, integer, decimal, string, token, byte_sequence}
+use Rattle.sfv.specs.Values.{rfc9651, FieldKind, item_field, dictionary_field, RawItem, BareValue, integer, decimal, string, token, byte_sequence}
 use Rattle.sfv.specs.Values.{boolean, date, display_string, RawMember, item, inner_list}
 use Rattle.sfv.specs.Events.{TreeEvent, entry, keyed_entry, begins_item, begins_inner_list, bare_item, parameter}
 use Rattle.sfv.specs.Events.{parameters_end, inner_list_end, events, key_in}
-use Rattle.sfv.specs.Grammar.{IsFieldText}
+use Rattle.sfv.specs.Grammar.{IsFieldText, BeginsWithBareItem}
 use Rattle.sfv.specs.Ordered.{last_of, ordered_member}
 use Rattle.sfv.specs.Statements.{IsParsedAs}
 use Rattle.sfv.specs.Visiting.{RunsTo, IsVisitorError}
-use Rattle.sfv.specs.Parsers.{IsAnswerOf, IsSyntaxOf, IsVisitorErrorOf, OfMade}
+use Rattle.sfv.specs.Parsers.{IsParseError, IsAnswerOf, IsSyntaxOf, IsVisitorErrorOf, VisitsFirst, OfMade}
 use Rattle.sfv.specs.Given.{item_kept, KeepTakes, KeepFails}
-use Rattle.sfv.specs.Types.{ParseError, ItemFault, ExpectItem}
+use Rattle.sfv.specs.Types.{Error, ParseError, ItemFault, ExpectItem}
 use Rattle.sfv.specs.Types.item_faults as item_faults
 use Rattle.sfv.specs.Types.parse_errors.{Syntax, Visitor}
 use Rattle.sfv.proofs.Callers.{runs_fold, keys_in_events, member_read, last_of-collapse, expect_answers}
-use Rattle.sfv.proofs.Callers.{expect_fails, accepted_error}
-use Rattle.sfv_uses.specs.Uses.{integer_or, param_in, counts, HasMembers, IsCountError, IsExpectError}
+use Rattle.sfv.proofs.Callers.{expect_fails, expect_first, begins_with_its, accepted_error}
+use Rattle.sfv_uses.specs.Uses.{integer_or, param_in, counts, HasMembers, IsCountError, IsExpectError, IsReadError}
 use Rattle.sfv_uses.specs.declared.visiting.MemberCounter.{MemberCounter}
 use Rattle.sfv_uses.specs.declared.visiting.TooMany.{TooMany}
 
@@ -132,7 +132,7 @@ module _ (t : List ℕ) (from : MemberCounter) (start : from.members ≡ 0) wher
   count_failed (Err (Visitor fault)) h k = λ raw accepted. failed_late raw fault (k.0 raw accepted)
 
 -- what a type that holds bare items is read as of an item
-module _ {T : Type 0} (holds : T → BareValue) (refuses : BareValue → ItemFault → Type 0) where
+module _ {T : Type 0} (holds : T → BareValue) (fails : BareValue → ItemFault → Type 0) where
   abbrev Waits : ExpectItem T → Type 0
   Waits s = item_kept s ≡ None
 
@@ -145,11 +145,31 @@ module _ {T : Type 0} (holds : T → BareValue) (refuses : BareValue → ItemFau
   pub expected : (t : List ℕ) (r : Result T (ParseError ItemFault))
       → IfOk r (OfMade Waits (IsAnswerOf (KeepTakes holds) Keeps rfc9651 item_field t))
       → IfErr r (OfMade Waits (IsSyntaxOf (KeepTakes holds) Keeps rfc9651 item_field t))
-      → IfErr r (OfMade Waits (IsVisitorErrorOf (KeepTakes holds) (KeepFails refuses) KeepsNone rfc9651 item_field t))
+      → IfErr r (OfMade Waits (IsVisitorErrorOf (KeepTakes holds) (KeepFails fails) KeepsNone rfc9651 item_field t))
       → (raw : RawItem) → IsFieldText rfc9651 item_field raw t
-      → MatchResult r (λ held. holds held ≡ raw.bare) (IsExpectError refuses raw.bare)
+      → MatchResult r (λ held. holds held ≡ raw.bare) (IsExpectError fails raw.bare)
   expected t (Ok held) h k l raw accepted =
-      let read = expect_answers holds refuses rfc9651 t (Ok held) h in
+      let read = expect_answers holds fails rfc9651 t (Ok held) h in
       read.2 ∙ ap (λ (i : RawItem). i.bare) (h.2.only read.0 read.1 ∙ sym (h.2.only raw accepted))
   expected t (Err (Syntax e)) h k l raw accepted = accepted_error rfc9651 item_field t raw e accepted k.2.0
-  expected t (Err (Visitor fault)) h k l raw accepted = expect_fails holds refuses rfc9651 t raw fault accepted l
+  expected t (Err (Visitor fault)) h k l raw accepted = expect_fails holds fails rfc9651 t raw fault accepted l
+
+  pub expected_first : (t : List ℕ) (r : Result T (ParseError ItemFault))
+      → IfOk r (OfMade Waits (IsAnswerOf (KeepTakes holds) Keeps rfc9651 item_field t))
+      → IfErr r (OfMade Waits (VisitsFirst (KeepTakes holds) (KeepFails fails) KeepsNone rfc9651 t))
+      → (value : BareValue) → BeginsWithBareItem rfc9651 value t → ((held : T) → ¬ (holds held ≡ value))
+      → MatchResult r (λ _. ⊥) (IsExpectError fails value)
+  expected_first t (Ok held) h k value begins none =
+      let read = expect_answers holds fails rfc9651 t (Ok held) h in
+      none held (read.2 ∙ begins_with_its rfc9651 value t read.0 read.1 begins)
+  expected_first t (Err (Syntax e)) h k value begins none = (expect_first holds fails rfc9651 t value begins none).0 e k
+  expected_first t (Err (Visitor fault)) h k value begins none =
+      (expect_first holds fails rfc9651 t value begins none).1 fault k
+
+-- what a reading with a visitor rejects, `parse` rejects
+pub read_failed : {O E : Type 0} (P : ParseError E → Type 0) (kind : FieldKind) (t : List ℕ)
+    → ((e : Error) → P (Syntax e) → IsParseError rfc9651 kind t e) → (r : Result O (ParseError E)) → IfErr r P
+    → IfErr r (IsReadError kind t)
+read_failed P kind t syntax (Ok value) h = tt
+read_failed P kind t syntax (Err (Syntax e)) h = syntax e h
+read_failed P kind t syntax (Err (Visitor fault)) h = tt

@@ -1,7 +1,7 @@
 -- What the uses answer.
-use Rattle.std.specs.Prelude.{◌≡◌, ℕ, ℤ, ◌+◌, ◌<◌, ◌≤◌, List, [], ◌∷◌, ◌++◌, length, Option, Some, None, codes}
+use Rattle.std.specs.Prelude.{◌≡◌, ⊤, ℕ, ℤ, ◌+◌, ◌<◌, ◌≤◌, List, [], ◌∷◌, ◌++◌, length, Option, Some, None, codes}
 use Rattle.std.specs.List.{repeat}
-use Rattle.sfv.specs.Values.{rfc9651, item_field, list_field, dictionary_field, BareValue, integer, RawParameters, RawItem, RawMember}
+use Rattle.sfv.specs.Values.{rfc9651, FieldKind, item_field, list_field, dictionary_field, BareValue, integer, RawParameters, RawItem, RawMember}
 use Rattle.sfv.specs.Values.{item, inner_list}
 use Rattle.sfv.specs.Grammar.{IsFieldText}
 use Rattle.sfv.specs.Ordered.{last_of}
@@ -64,10 +64,15 @@ item_of_one value key param = record { bare = value; parameters = (key, param) �
 abbrev pub HasBareItem : List ℕ → BareValue → Type 0
 HasBareItem t value = (raw : RawItem) × IsFieldText rfc9651 item_field raw t × (value ≡ raw.bare)
 
+-- an error of the parser is that of `parse`; the visitor's is left open
+abbrev pub IsReadError : {E : Type 0} → FieldKind → List ℕ → ParseError E → Type 0
+IsReadError kind t (Syntax e) = IsParseError rfc9651 kind t e
+IsReadError kind t (Visitor fault) = ⊤
+
 -- out of memory, or the type doesn't hold the value
 abbrev pub IsExpectError : (BareValue → ItemFault → Type 0) → BareValue → ParseError ItemFault → Type 0
-IsExpectError refuses value (Syntax e) = e ≡ out_of_memory
-IsExpectError refuses value (Visitor fault) = refuses value fault
+IsExpectError fails value (Syntax e) = e ≡ out_of_memory
+IsExpectError fails value (Visitor fault) = fails value fault
 
 -- the same of a token
 abbrev pub IsTokenError : BareValue → ParseError ItemFault → Type 0

@@ -1,13 +1,13 @@
 //! Reading a field into the type that is expected.
 
-ghost use Rattle.std.specs.Prelude.{◌≡◌, IfOk, MatchResult};
-ghost use Rattle.sfv.specs.Values.{rfc9651, item_field, list_field, dictionary_field, RawItem};
+ghost use Rattle.std.specs.Prelude.{◌≡◌, ℕ, List, IfOk, IfErr, MatchResult};
+ghost use Rattle.sfv.specs.Values.{rfc9651, item_field, list_field, dictionary_field, BareValue, RawItem};
 ghost use Rattle.sfv.specs.Values as values;
-ghost use Rattle.sfv.specs.Grammar.{IsFieldText};
+ghost use Rattle.sfv.specs.Grammar.{IsFieldText, BeginsWithBareItem};
 ghost use Rattle.sfv.specs.Statements.{IsParsedAs};
 ghost use Rattle.sfv.specs.TokenText.{token_text};
 ghost use Rattle.sfv.specs.Trees.{item_tree, list_tree, dictionary_tree};
-ghost use Rattle.sfv_uses.specs.Uses.{HasBareItem, IsExpectError, IsTokenError};
+ghost use Rattle.sfv_uses.specs.Uses.{HasBareItem, IsReadError, IsExpectError, IsTokenError};
 
 use sfv::visitor::{ExpectedItem, ItemFault};
 use sfv::{Dictionary, Item, List, OutOfMemory, ParseError, Parser, TokenRef};
@@ -17,15 +17,17 @@ use std::alloc::Global;
 ///
 /// # Errors
 ///
-/// Of an item: that it is of another kind, or out of memory. Of any other input that of `Parser::parse`, or that the bare
-/// item at its beginning is of another kind.
+/// Where a bare item of another kind stands first: that it is of another kind, whatever stands after it, or out of
+/// memory. Of any other input that is no item that of `Parser::parse`.
 pub fn expect<'de, T: ExpectedItem<'de>>(
     alloc: Global,
     input: &'de [u8],
 ) -> Result<T, ParseError<ItemFault>>
     ensures held { IfOk result (λ item. HasBareItem input.now (T.holds item)) }
     ensures of_an_item { (raw : RawItem) → IsFieldText rfc9651 item_field raw input.now
-        → MatchResult result (λ item. T.holds item ≡ raw.bare) (IsExpectError T.refuses raw.bare) }
+        → MatchResult result (λ item. T.holds item ≡ raw.bare) (IsExpectError T.fails raw.bare) }
+    ensures of_another_kind { (value : BareValue) → BeginsWithBareItem rfc9651 value input.now
+        → ((item : T) → ¬ (T.holds item ≡ value)) → MatchResult result (λ _. ⊥) (IsExpectError T.fails value) }
 {
     Parser::new(input).parse_item::<T>(alloc)
 }
@@ -34,10 +36,13 @@ pub fn expect<'de, T: ExpectedItem<'de>>(
 ///
 /// # Errors
 ///
-/// Of an item: `ItemFault::WrongType` exactly where it is no token, with its kind, or out of memory.
+/// Where a bare item stands first: `ItemFault::WrongType` exactly where it is no token, with its kind, whatever stands after
+/// it, or out of memory.
 pub fn token<'de>(alloc: Global, input: &'de [u8]) -> Result<TokenRef<'de>, ParseError<ItemFault>>
-    ensures { (raw : RawItem) → IsFieldText rfc9651 item_field raw input.now
+    ensures of_an_item { (raw : RawItem) → IsFieldText rfc9651 item_field raw input.now
         → MatchResult result (λ name. values.token (token_text name) ≡ raw.bare) (IsTokenError raw.bare) }
+    ensures of_another_kind { (value : BareValue) → BeginsWithBareItem rfc9651 value input.now
+        → ((name : List ℕ) → ¬ (values.token name ≡ value)) → MatchResult result (λ _. ⊥) (IsTokenError value) }
 {
     expect::<TokenRef>(alloc, input)
 }
@@ -48,7 +53,8 @@ pub fn token<'de>(alloc: Global, input: &'de [u8]) -> Result<TokenRef<'de>, Pars
 ///
 /// That of `Parser::parse`.
 pub fn item(alloc: Global, input: &[u8]) -> Result<Item, ParseError<ItemFault>>
-    ensures { IfOk result (λ item. IsParsedAs rfc9651 item_field input.now (item_tree item)) }
+    ensures read { IfOk result (λ item. IsParsedAs rfc9651 item_field input.now (item_tree item)) }
+    ensures rejected { IfErr result (IsReadError item_field input.now) }
 {
     Parser::new(input).parse_item::<Item>(alloc)
 }
@@ -59,7 +65,8 @@ pub fn item(alloc: Global, input: &[u8]) -> Result<Item, ParseError<ItemFault>>
 ///
 /// That of `Parser::parse`.
 pub fn list(alloc: Global, input: &[u8]) -> Result<List, ParseError<OutOfMemory>>
-    ensures { IfOk result (λ list. IsParsedAs rfc9651 list_field input.now (list_tree list.items)) }
+    ensures read { IfOk result (λ list. IsParsedAs rfc9651 list_field input.now (list_tree list.items)) }
+    ensures rejected { IfErr result (IsReadError list_field input.now) }
 {
     Parser::new(input).parse_list::<List>(alloc)
 }
@@ -70,8 +77,9 @@ pub fn list(alloc: Global, input: &[u8]) -> Result<List, ParseError<OutOfMemory>
 ///
 /// That of `Parser::parse`.
 pub fn dictionary(alloc: Global, input: &[u8]) -> Result<Dictionary, ParseError<OutOfMemory>>
-    ensures { IfOk result (λ dictionary.
+    ensures read { IfOk result (λ dictionary.
         IsParsedAs rfc9651 dictionary_field input.now (dictionary_tree dictionary.entries)) }
+    ensures rejected { IfErr result (IsReadError dictionary_field input.now) }
 {
     Parser::new(input).parse_dictionary::<Dictionary>(alloc)
 }

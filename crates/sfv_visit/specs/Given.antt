@@ -89,7 +89,7 @@ KeepTakes {T} holds s e after =
 
 -- it fails where the type doesn't hold the first bare item
 abbrev pub KeepFails : {T : Type 0} → (BareValue → ItemFault → Type 0) → ExpectItem T → TreeEvent → ItemFault → Type 0
-KeepFails refuses s e fault = MatchOption (first_value (item_kept s) e) ⊥ (λ value. refuses value fault)
+KeepFails fails s e fault = MatchOption (first_value (item_kept s) e) ⊥ (λ value. fails value fault)
 
 -- the kind of a bare value
 abbrev pub kind_of_value : BareValue → BareItemType

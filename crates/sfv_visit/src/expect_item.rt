@@ -25,8 +25,8 @@ pub trait ExpectedItem<'de>: Drop {
     /// The bare value that it holds.
     ghost holds: { Self → BareValue };
 
-    /// It may refuse a bare item of this value, with this fault.
-    ghost refuses: { BareValue → ItemFault → Type 0 };
+    /// It may fail at a bare item of this value, with this fault.
+    ghost fails: { BareValue → ItemFault → Type 0 };
 
     /// Returns the type's value that holds the bare item. What is copied of it takes memory from `alloc`.
     ///
@@ -35,7 +35,7 @@ pub trait ExpectedItem<'de>: Drop {
     /// `ItemFault::WrongType` if the type is for another kind, and `ItemFault::OutOfMemory` when out of memory.
     fn from_bare_item(item: BareItemFromInput<'de>, alloc: Global) -> Result<Self, ItemFault>
         ensures held { IfOk result (λ kept. holds kept ≡ input_value item.entry) }
-        ensures refused { IfErr result (λ fault. refuses (input_value item.entry) fault) };
+        ensures failed { IfErr result (λ fault. fails (input_value item.entry) fault) };
 }
 
 // Returns the kind of the bare item.
@@ -67,7 +67,7 @@ fn wrong_type(expected: BareItemType, item: &BareItemFromInput<'_>) -> ItemFault
 impl<'de> ExpectedItem<'de> for Decimal {
     ghost holds = { λ value. values.decimal (thousandths_of value) };
 
-    ghost refuses = { IsWrongType kinds.Decimal };
+    ghost fails = { IsWrongType kinds.Decimal };
 
     fn from_bare_item(item: BareItemFromInput<'de>, _alloc: Global) -> Result<Decimal, ItemFault> {
         match item {
@@ -80,7 +80,7 @@ impl<'de> ExpectedItem<'de> for Decimal {
 impl<'de> ExpectedItem<'de> for Integer {
     ghost holds = { λ value. values.integer (integer_of value) };
 
-    ghost refuses = { IsWrongType kinds.Integer };
+    ghost fails = { IsWrongType kinds.Integer };
 
     fn from_bare_item(item: BareItemFromInput<'de>, _alloc: Global) -> Result<Integer, ItemFault> {
         match item {
@@ -93,7 +93,7 @@ impl<'de> ExpectedItem<'de> for Integer {
 impl<'de> ExpectedItem<'de> for StringFromInput<'de> {
     ghost holds = { λ text. values.string (read_text text) };
 
-    ghost refuses = { IsWrongType kinds.String };
+    ghost fails = { IsWrongType kinds.String };
 
     fn from_bare_item(
         item: BareItemFromInput<'de>,
@@ -109,7 +109,7 @@ impl<'de> ExpectedItem<'de> for StringFromInput<'de> {
 impl<'de> ExpectedItem<'de> for Vec<u8> {
     ghost holds = { λ bytes. values.byte_sequence bytes.items };
 
-    ghost refuses = { IsWrongType kinds.ByteSequence };
+    ghost fails = { IsWrongType kinds.ByteSequence };
 
     fn from_bare_item(item: BareItemFromInput<'de>, _alloc: Global) -> Result<Vec<u8>, ItemFault> {
         match item {
@@ -122,7 +122,7 @@ impl<'de> ExpectedItem<'de> for Vec<u8> {
 impl<'de> ExpectedItem<'de> for bool {
     ghost holds = { λ value. values.boolean value };
 
-    ghost refuses = { IsWrongType kinds.Boolean };
+    ghost fails = { IsWrongType kinds.Boolean };
 
     fn from_bare_item(item: BareItemFromInput<'de>, _alloc: Global) -> Result<bool, ItemFault> {
         match item {
@@ -135,7 +135,7 @@ impl<'de> ExpectedItem<'de> for bool {
 impl<'de> ExpectedItem<'de> for TokenRef<'de> {
     ghost holds = { λ token. values.token (token_text token) };
 
-    ghost refuses = { IsWrongType kinds.Token };
+    ghost fails = { IsWrongType kinds.Token };
 
     fn from_bare_item(
         item: BareItemFromInput<'de>,
@@ -151,7 +151,7 @@ impl<'de> ExpectedItem<'de> for TokenRef<'de> {
 impl<'de> ExpectedItem<'de> for Date {
     ghost holds = { λ value. values.date (seconds_of value) };
 
-    ghost refuses = { IsWrongType kinds.Date };
+    ghost fails = { IsWrongType kinds.Date };
 
     fn from_bare_item(item: BareItemFromInput<'de>, _alloc: Global) -> Result<Date, ItemFault> {
         match item {
@@ -164,7 +164,7 @@ impl<'de> ExpectedItem<'de> for Date {
 impl<'de> ExpectedItem<'de> for BareItemFromInput<'de> {
     ghost holds = { λ item. input_value item };
 
-    ghost refuses = { λ _ _. ⊥ };
+    ghost fails = { λ _ _. ⊥ };
 
     fn from_bare_item(
         item: BareItemFromInput<'de>,
@@ -177,7 +177,7 @@ impl<'de> ExpectedItem<'de> for BareItemFromInput<'de> {
 impl<'de> ExpectedItem<'de> for BareItem {
     ghost holds = { λ item. bare_value item };
 
-    ghost refuses = { LacksMemory };
+    ghost fails = { LacksMemory };
 
     fn from_bare_item(item: BareItemFromInput<'de>, alloc: Global) -> Result<BareItem, ItemFault> {
         match item.try_into_owned(alloc) {
@@ -217,7 +217,7 @@ impl<'de, T: ExpectedItem<'de>> Visitor<'de> for ExpectItem<T> {
 
     ghost takes = { KeepTakes T.holds };
 
-    ghost fails = { KeepFails T.refuses };
+    ghost fails = { KeepFails T.fails };
 
     ghost finishes = { λ s item. item_kept s ≡ Some item };
 

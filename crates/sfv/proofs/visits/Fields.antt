@@ -64,7 +64,7 @@ unfolding spaced bind
 whole_fault edition t s r f e k = whole_is edition t s r e ∙ ap (λ a. and_then a (λ i. span is_space >>= λ _. give i)) k
 
 -- the spaces before and after an item hand out nothing
-whole_visited : (edition : Edition) (t s r : List ℕ) → span is_space t ≡ Ok (s, r)
+pub whole_visited : (edition : Edition) (t s r : List ℕ) → span is_space t ≡ Ok (s, r)
     → visited (events item_field) (whole_field_at edition item_field t) ≡ visited item_events (item_at edition r)
 whole_visited edition t s r e = on (item_at edition r) refl
   where
@@ -88,7 +88,7 @@ whole_failed takes fails edition t s r from fault e h = record {
   failed = h.failed;
 }
 
-same_value : {A : Type 0} (a : Answer A) (v w : A) (q r : List ℕ) → a ≡ Ok (v, q) → a ≡ Ok (w, r) → v ≡ w
+pub same_value : {A : Type 0} (a : Answer A) (v w : A) (q r : List ℕ) → a ≡ Ok (v, q) → a ≡ Ok (w, r) → v ≡ w
 same_value {A} a v w q r e h =
     let here : A × List ℕ = (v, q) in
     let there : A × List ℕ = (w, r) in
@@ -262,7 +262,7 @@ ending_ok parts (Ok (w, [])) v e = let same : w ≡ v = cc in ap (λ (x : _). Ok
 ending_ok parts (Ok (w, c ∷ r)) v e = absurd cc
 ending_ok parts (Err f) v e = absurd cc
 
-whole_accepted : (edition : Edition) (kind : FieldKind) (t : List ℕ) (raw : RawField kind)
+pub whole_accepted : (edition : Edition) (kind : FieldKind) (t : List ℕ) (raw : RawField kind)
     → IsFieldText edition kind raw t → whole_field_at edition kind t ≡ Ok (raw, [])
 unfolding read_field
 whole_accepted edition kind t raw h = ending_ok (events kind) (whole_field_at edition kind t) raw

@@ -1,9 +1,10 @@
 //! Reading whole fields (RFC 9651, section 4.2).
 
+ghost use Rattle.std.specs.Prelude.{IfErr};
 ghost use Rattle.sfv_spec.specs.Values.{item_field};
 ghost use Rattle.sfv.specs.Members.{field_of};
 ghost use Rattle.sfv.specs.Parsers.{input_of, parser_edition};
-ghost use Rattle.sfv.specs.Visits.{VisitsField};
+ghost use Rattle.sfv.specs.Visits.{VisitsField, TookFirst};
 
 use crate::parser::Parser;
 use crate::parser::cursor::Cursor;
@@ -21,8 +22,9 @@ pub(crate) fn parse_item_field<'de, V: Visitor<'de>>(
     mut visitor: V,
 ) -> Result<V::Out, ParseError<V::Error>>
     requires { V.is_ready visitor }
-    ensures { VisitsField V.takes V.fails V.finishes V.finish_fails
+    ensures visited { VisitsField V.takes V.fails V.finishes V.finish_fails
         (parser_edition parser.entry) item_field (input_of parser.entry) visitor result }
+    ensures told { IfErr result (TookFirst V.takes (parser_edition parser.entry) (input_of parser.entry) visitor) }
 {
     let mut cursor = Cursor::new(parser, alloc);
     cursor.skip_sp();

@@ -5,8 +5,8 @@ ghost use Rattle.sfv_spec.specs.Events.{parameters_events, item_events};
 ghost use Rattle.sfv_bare.specs.BareItems.{input_value};
 ghost use Rattle.sfv_tree.specs.Events.{event_of};
 ghost use Rattle.sfv_reading.specs.Items.{value_at, parameter_at, parameters_at, item_at};
-ghost use Rattle.sfv.specs.Cursor.{edition, ReadsOrOutOfMemory};
-ghost use Rattle.sfv.specs.Visits.{Visits, IsOfVisitor};
+ghost use Rattle.sfv.specs.Cursor.{edition, rest, ReadsOrOutOfMemory};
+ghost use Rattle.sfv.specs.Visits.{Visits, IsOfVisitor, TookBare};
 
 use crate::parser::cursor::Cursor;
 use sfv_bare::bare::{BareItemFromInput, GenericBareItem};
@@ -118,6 +118,7 @@ impl<'de> Cursor<'de> {
         requires { V.is_ready visitor.old }
         ensures ready { OnOk result (V.is_ready visitor.new) }
         ensures visited { Visits V.takes V.fails item_events self.old self.new visitor.old visitor.new result item_at }
+        ensures told { IfErr result (TookBare V.takes (edition self.old) (rest self.old) visitor.old) }
     {
         let bare_item = self.bare_item()?;
         visit(visitor, Event::BareItem(bare_item))?;

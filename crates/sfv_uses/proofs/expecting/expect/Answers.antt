@@ -1,13 +1,18 @@
 use Rattle.sfv.specs.Values.{rfc9651}
 use Rattle.sfv.proofs.Callers.{expect_answers}
-use Rattle.sfv_uses.proofs.Uses.{expected}
+use Rattle.sfv_uses.proofs.Uses.{expected, expected_first}
 use Rattle.sfv_uses.proofs.expecting.expect.Goals as goal
 
 pub returns-clause-held : goal.returns-clause-held
-returns-clause-held g c = expect_answers g.T.ExpectedItem.holds g.T.ExpectedItem.refuses rfc9651 c.args.input.now
+returns-clause-held g c = expect_answers g.T.ExpectedItem.holds g.T.ExpectedItem.fails rfc9651 c.args.input.now
     c.parse_item.result (rw c.new.ensures at c.parse_item.ensures.visited)
 
 pub returns-clause-of_an_item : goal.returns-clause-of_an_item
-returns-clause-of_an_item g c = expected g.T.ExpectedItem.holds g.T.ExpectedItem.refuses c.args.input.now
+returns-clause-of_an_item g c = expected g.T.ExpectedItem.holds g.T.ExpectedItem.fails c.args.input.now
     c.parse_item.result (rw c.new.ensures at c.parse_item.ensures.visited)
     (rw c.new.ensures at c.parse_item.ensures.syntax) (rw c.new.ensures at c.parse_item.ensures.visitor)
+
+pub returns-clause-of_another_kind : goal.returns-clause-of_another_kind
+returns-clause-of_another_kind g c = expected_first g.T.ExpectedItem.holds g.T.ExpectedItem.fails c.args.input.now
+    c.parse_item.result (rw c.new.ensures at c.parse_item.ensures.visited)
+    (rw c.new.ensures at c.parse_item.ensures.first)

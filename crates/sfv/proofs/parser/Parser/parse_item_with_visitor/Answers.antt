@@ -1,24 +1,30 @@
 use Rattle.sfv_spec.specs.Values.{item_field}
 use Rattle.sfv.specs.Parsers.{input_of, parser_edition}
 use Rattle.sfv.proofs.visits.Fields.{visits_answer, visits_syntax, visits_failure, visits_accepted}
+use Rattle.sfv.proofs.visits.First.{visits_first}
 use Rattle.sfv.proofs.parser.Parser.parse_item_with_visitor.Goals as goal
 
 pub returns-clause-visited : goal.returns-clause-visited
 returns-clause-visited g c = visits_answer g.V.Visitor.takes g.V.Visitor.fails g.V.Visitor.finishes
     g.V.Visitor.finish_fails (parser_edition c.args.self) item_field (input_of c.args.self) c.args.visitor
-    c.parse_item_field.result c.parse_item_field.ensures
+    c.parse_item_field.result c.parse_item_field.ensures.visited
 
 pub returns-clause-syntax : goal.returns-clause-syntax
 returns-clause-syntax g c = visits_syntax g.V.Visitor.takes g.V.Visitor.fails g.V.Visitor.finishes
     g.V.Visitor.finish_fails (parser_edition c.args.self) item_field (input_of c.args.self) c.args.visitor
-    c.parse_item_field.result c.parse_item_field.ensures
+    c.parse_item_field.result c.parse_item_field.ensures.visited
 
 pub returns-clause-visitor : goal.returns-clause-visitor
 returns-clause-visitor g c = visits_failure g.V.Visitor.takes g.V.Visitor.fails g.V.Visitor.finishes
     g.V.Visitor.finish_fails (parser_edition c.args.self) item_field (input_of c.args.self) c.args.visitor
-    c.parse_item_field.result c.parse_item_field.ensures
+    c.parse_item_field.result c.parse_item_field.ensures.visited
 
 pub returns-clause-accepted : goal.returns-clause-accepted
 returns-clause-accepted g c = visits_accepted g.V.Visitor.takes g.V.Visitor.fails g.V.Visitor.finishes
     g.V.Visitor.finish_fails (parser_edition c.args.self) item_field (input_of c.args.self) c.args.visitor
-    g.V.Visitor.is_memory c.parse_item_field.result c.parse_item_field.ensures
+    g.V.Visitor.is_memory c.parse_item_field.result c.parse_item_field.ensures.visited
+
+pub returns-clause-first : goal.returns-clause-first
+returns-clause-first g c = visits_first g.V.Visitor.takes g.V.Visitor.fails g.V.Visitor.finishes
+    g.V.Visitor.finish_fails (parser_edition c.args.self) (input_of c.args.self) c.args.visitor
+    c.parse_item_field.result c.parse_item_field.ensures.visited c.parse_item_field.ensures.told

@@ -1,0 +1,134 @@
+-- What a visitor was told of the bare item that stands first in the text of an item.
+use Rattle.std.proofs.Common.{◌≡◌, ℕ, List, ◌∷◌, ◌++◌, Result, Ok, Err, refl, sym, ap, subst, ◌∙◌}
+use Rattle.std.proofs.Common.{inl, inr, append_assoc}
+use Rattle.std.specs.Prelude.{IfErr}
+use Rattle.sfv_spec.specs.Classes.{is_space}
+use Rattle.sfv_spec.specs.Values.{Edition, item_field, BareValue, RawItem, RawParameters}
+use Rattle.sfv_spec.specs.Grammar.{IsFieldText, BeginsWithBareItem}
+use Rattle.sfv_spec.specs.Events.{TreeEvent, bare_item, parameters_events, item_events, events}
+use Rattle.sfv_spec.specs.Visiting.{RunsTo}
+use Rattle.sfv_base.specs.declared.error.Error.{Error}
+use Rattle.sfv_base.specs.Errors.{index_of}
+use Rattle.sfv_base.specs.declared.error.ParseError.{ParseError}
+use Rattle.sfv_base.specs.declared.error.ParseError.TheVariants.{Syntax, Visitor}
+use Rattle.sfv_reading.specs.Reader.{Answer, Fault, bind, give, led, span, visited}
+use Rattle.sfv_reading.specs.Bare.{bare_at}
+use Rattle.sfv_reading.specs.Items.{parameters_at, item_at}
+use Rattle.sfv_reading.specs.Fields.{whole_field_at}
+use Rattle.sfv_reading.proofs.First.{first_bare}
+use Rattle.sfv_reading.proofs.visits.Fields.{visited_begins}
+use Rattle.sfv.specs.Visits.{IsOfVisitor, VisitsField, TookBare, TookFirst}
+use Rattle.sfv.specs.Parsers.{IsParseError, VisitsFirst}
+use Rattle.sfv.proofs.Parsed.{reader_fault}
+use Rattle.sfv.proofs.visits.Fields.{whole_visited, whole_accepted}
+
+-- ---- what was taken before an error
+
+-- the visitor's own error
+pub visitor_failed : {S E : Type 0} (takes : S → TreeEvent → S → Type 0) (edition : Edition) (t : List ℕ) (from : S)
+    (is : E → Type 0) (error : ParseError E) → IsOfVisitor is error → TookBare takes edition t from error
+visitor_failed takes edition t from is (Syntax e) h = absurd h
+visitor_failed takes edition t from is (Visitor f) h = tt
+
+-- ---- in a whole text
+
+same_rest : {A : Type 0} (a : Answer A) (v w : A) (q r : List ℕ) → a ≡ Ok (v, q) → a ≡ Ok (w, r) → q ≡ r
+same_rest {A} a v w q r e h =
+    let here : A × List ℕ = (v, q) in
+    let there : A × List ℕ = (w, r) in
+    let both : Result (A × List ℕ) Fault = Ok here in
+    let same : both ≡ Ok there = sym e ∙ h in
+    let parts : here ≡ there = cc in
+    ap (λ (p : A × List ℕ). p.1) parts
+
+-- it stands after the spaces
+pub after_spaces : {S E : Type 0} (takes : S → TreeEvent → S → Type 0) (edition there : Edition) (t s r : List ℕ)
+    (from : S) (error : ParseError E) → there ≡ edition → span is_space t ≡ Ok (s, r)
+    → TookBare takes there r from error → TookFirst takes edition t from error
+after_spaces {S} {E} takes edition there t s r from error same skipped h z w other =
+    subst (λ (l : List ℕ). TookBare {E = E} takes edition l from error) (same_rest (span is_space t) s z r w skipped other)
+    (subst (λ (here : Edition). TookBare {E = E} takes here r from error) same h)
+
+-- the item begins with it
+item_begins : (edition : Edition) (t q : List ℕ) (value : BareValue) → bare_at edition t ≡ Ok (value, q)
+    → (more : List TreeEvent) × (visited item_events (item_at edition t) ≡ bare_item value ∷ more)
+unfolding item_at led bind give
+item_begins edition t q value read = on (parameters_at edition q) refl
+  where
+    on : (a : Answer RawParameters) → parameters_at edition q ≡ a
+        → (more : List TreeEvent) × (visited item_events (item_at edition t) ≡ bare_item value ∷ more)
+    on (Ok x) e = (parameters_events x.0, rw (read, e) refl)
+    on (Err f) e = (f.events, rw (read, e) refl)
+
+same_head : (a b : BareValue) (xs ys : List TreeEvent) → bare_item a ∷ xs ≡ bare_item b ∷ ys → a ≡ b
+same_head a b xs ys h = cc
+
+-- all parts of the item were taken, and then comes an error of the text
+pub item_taken : {S E : Type 0} (takes : S → TreeEvent → S → Type 0) (fails : S → TreeEvent → E → Type 0)
+    (edition : Edition) (t s r q : List ℕ) (from to : S) (item : RawItem) (e : Error) → span is_space t ≡ Ok (s, r)
+    → item_at edition r ≡ Ok (item, q) → RunsTo takes from (item_events item) to
+    → TookFirst {E = E} takes edition t from (Syntax e)
+item_taken {S} {E} takes fails edition t s r q from to item e skipped read run =
+    after_spaces {E = E} takes edition edition t s r from (Syntax e) refl skipped (λ index value w here k.
+    let begun = item_begins edition r w value k in
+    let events : bare_item item.bare ∷ parameters_events item.parameters ≡ bare_item value ∷ begun.0 =
+    ap (visited item_events) (sym read) ∙ begun.1 in
+    let same : bare_item item.bare ≡ bare_item value = ap bare_item (same_head item.bare value _ _ events) in
+    (run.0, subst (λ (e : TreeEvent). takes from e run.0) same run.1))
+
+-- the field begins with it
+field_begins : (edition : Edition) (value : BareValue) (t : List ℕ) → BeginsWithBareItem edition value t
+    → (more : List TreeEvent) × (visited (events item_field) (whole_field_at edition item_field t) ≡ bare_item value ∷ more)
+field_begins edition value t h =
+    let read = first_bare edition value t h in
+    let begun = item_begins edition (h.front ++ h.rest) h.rest value read.1 in
+    (begun.0, whole_visited edition t h.spaces (h.front ++ h.rest) read.0 ∙ begun.1)
+
+-- an item that is accepted has this bare item
+pub begins_with_its : (edition : Edition) (value : BareValue) (t : List ℕ) (raw : RawItem)
+    → IsFieldText edition item_field raw t → BeginsWithBareItem edition value t → raw.bare ≡ value
+begins_with_its edition value t raw accepted h =
+    let begun = field_begins edition value t h in
+    same_head raw.bare value (parameters_events raw.parameters) begun.0
+    (ap (visited (events item_field)) (sym (whole_accepted edition item_field t raw accepted)) ∙ begun.1)
+
+module _ {S O E : Type 0} (takes : S → TreeEvent → S → Type 0) (fails : S → TreeEvent → E → Type 0) (finishes : S
+    → O → Type 0) (finish_fails : S → E → Type 0) (edition : Edition) (t : List ℕ) (from : S) where
+  failed_first : (f : E) → VisitsField takes fails finishes finish_fails edition item_field t from (Err (Visitor f))
+      → VisitsFirst takes fails finish_fails edition t from (Visitor f)
+  failed_first f (inl r) value h =
+      let begun = field_begins edition value t h in
+      let some = visited_begins edition item_field t in
+      let all : item_events some.raw ≡ (r.before ++ r.e ∷ r.after) ++ some.more =
+      some.all ∙ ap (λ (l : List TreeEvent). l ++ some.more) r.all in
+      let head : bare_item some.raw.bare ∷ parameters_events some.raw.parameters ≡ bare_item value ∷ (begun.0 ++ some.more) =
+      some.all ∙ ap (λ (l : List TreeEvent). l ++ some.more) begun.1 in (
+        some.raw,
+        same_head some.raw.bare value _ _ head,
+        inl (
+          r.before,
+          r.e,
+          r.after ++ some.more,
+          r.s,
+          all ∙ append_assoc r.before (r.e ∷ r.after) some.more,
+          r.taken,
+          r.failed,
+        ),
+      )
+  failed_first f (inr x) value h =
+      let begun = field_begins edition value t h in
+      let head = ap (visited (events item_field)) (sym x.3) ∙ begun.1 in
+      (x.0, same_head x.0.bare value _ _ head, inr (x.2, x.4, x.5))
+
+  pub visits_first : (r : Result O (ParseError E))
+      → VisitsField takes fails finishes finish_fails edition item_field t from r → IfErr r (TookFirst takes edition t from)
+      → IfErr r (VisitsFirst takes fails finish_fails edition t from)
+  visits_first (Ok out) h k = tt
+  visits_first (Err (Syntax e)) h k = on (reader_fault edition item_field t e h.0).1
+    where
+      on : IsParseError edition item_field t e → VisitsFirst takes fails finish_fails edition t from (Syntax e)
+      on (inl same) = inl same
+      on (inr s) = inr (λ value begins.
+          let read = first_bare edition value t begins in
+          k begins.spaces (begins.front ++ begins.rest) read.0 s.index value begins.rest (ap index_of s.error) read.1)
+  visits_first (Err (Visitor f)) h k = failed_first f h

@@ -1,0 +1,75 @@
+-- An example of a field crate's own words: a color, and whether it is strong.
+use Rattle.std.specs.Prelude.{◌≡◌, ℕ, List, [], Bool, false, Option, Some, None, Result, Ok, Err, bytes_eq, if◌then◌else◌}
+use Rattle.std.specs.Prelude.{MatchResult, codes}
+use Rattle.sfv.specs.Values.{Edition, dictionary_field, BareValue, token, boolean, RawMember, item, inner_list}
+use Rattle.sfv.specs.Ordered.{last_of}
+use Rattle.sfv.specs.Statements.{IsParsedAs}
+use Rattle.sfv.specs.Parsers.{IsParseError}
+use Rattle.sfv.specs.Types.{ParseError}
+use Rattle.sfv.specs.Types.parse_errors.{Syntax, Visitor}
+use Rattle.sfv_tool.specs.declared.foo.Color.{Color}
+use Rattle.sfv_tool.specs.declared.foo.Color.TheVariants as colors
+use Rattle.sfv_tool.specs.declared.foo.Foo.{Foo}
+use Rattle.sfv_tool.specs.declared.foo.FooFault.{FooFault}
+use Rattle.sfv_tool.specs.declared.foo.FooFault.TheVariants as faults
+
+-- a fault in words
+abbrev pub fault_text : FooFault → List ℕ
+fault_text faults.ColorMissing = codes "color missing"
+fault_text faults.ColorWrongType = codes "color wrong type"
+fault_text faults.ColorInvalid = codes "color invalid"
+fault_text faults.StrongWrongType = codes "strong wrong type"
+
+-- the key of the member, and that of its parameter
+abbrev pub color_key : List ℕ
+color_key = codes "color"
+
+abbrev pub strong_key : List ℕ
+strong_key = codes "strong"
+
+-- a token names a color
+abbrev pub color_named : List ℕ → Result Color FooFault
+color_named name =
+    if bytes_eq name (codes "red") then Ok colors.Red
+    else if bytes_eq name (codes "blue") then Ok colors.Blue
+    else Err faults.ColorInvalid
+
+abbrev pub color_in : BareValue → Result Color FooFault
+color_in (token name) = color_named name
+color_in b = Err faults.ColorWrongType
+
+-- a Boolean says whether it is strong
+abbrev pub strong_in : BareValue → Result Bool FooFault
+strong_in (boolean b) = Ok b
+strong_in b = Err faults.StrongWrongType
+
+-- without the parameter it isn't
+abbrev pub strong_of : Option BareValue → Result Bool FooFault
+strong_of (Some b) = strong_in b
+strong_of None = Ok false
+
+-- both, or the first fault
+abbrev pub foo_of : Result Color FooFault → Result Bool FooFault → Result Foo FooFault
+foo_of (Err fault) strong = Err fault
+foo_of (Ok color) (Err fault) = Err fault
+foo_of (Ok color) (Ok strong) = Ok (record { color = color; strong = strong })
+
+-- the member must be an item
+abbrev pub foo_in : Option RawMember → Result Foo FooFault
+foo_in None = Err faults.ColorMissing
+foo_in (Some (item i)) = foo_of (color_in i.bare) (strong_of (last_of strong_key i.parameters))
+foo_in (Some (inner_list l)) = Err faults.ColorWrongType
+
+-- the field in an ordered dictionary
+abbrev pub foo : List (List ℕ × RawMember) → Result Foo FooFault
+foo members = foo_in (last_of color_key members)
+
+-- the input is read as a dictionary of which this is the field
+abbrev pub IsFooOf : Edition → List ℕ → Result Foo FooFault → Type 0
+IsFooOf edition t found = (value : List (List ℕ × RawMember)) × IsParsedAs edition dictionary_field t value
+    × (foo value ≡ found)
+
+-- out of memory, or the input is no dictionary; or it is one that has this fault
+abbrev pub IsFooError : Edition → List ℕ → ParseError FooFault → Type 0
+IsFooError edition t (Syntax e) = IsParseError edition dictionary_field t e
+IsFooError edition t (Visitor fault) = IsFooOf edition t (Err fault)
