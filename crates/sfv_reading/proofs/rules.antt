@@ -10,3 +10,5 @@ pub mod Commas
 pub mod Origins
 pub mod Fields
 pub mod UpToFault
+pub mod Numbers
+pub mod BareFaults
