@@ -12,3 +12,4 @@ pub mod Fields
 pub mod UpToFault
 pub mod Numbers
 pub mod BareFaults
+pub mod BareRows

@@ -145,10 +145,10 @@ token_complete edition (c ∷ s) q h a =
     ∙ bind_complete _ _ _ _ _ (span_complete is_token_inner s q p.1 a)
 
 -- how a number begins
-abbrev NumberFront : List ℕ → Type 0
+abbrev pub NumberFront : List ℕ → Type 0
 NumberFront t = (c : ℕ) × (r : List ℕ) × (t ≡ c ∷ r) × (is_number_start c ≡ true)
 
-front : (negative : Bool) (whole q : List ℕ) → 1 ≤ length whole → RunOf is_digit whole
+pub front : (negative : Bool) (whole q : List ℕ) → 1 ≤ length whole → RunOf is_digit whole
     → NumberFront (minus_text negative ++ (whole ++ q))
 front true whole q some each = (minus_sign, whole ++ q, refl, refl)
 front false [] q some each = absurd (omega arith)
@@ -159,7 +159,7 @@ front false (d ∷ ds) q some each = (
   or_left (is_digit d) (eqb d minus_sign) (run_head is_digit d ds each),
 )
 
-number_from : (edition : Edition) (t : List ℕ) → NumberFront t → bare_at edition t ≡ number_at false t
+pub number_from : (edition : Edition) (t : List ℕ) → NumberFront t → bare_at edition t ≡ number_at false t
 number_from edition t f = ap (bare_at edition) f.2 ∙ bare_number edition f.0 f.1 f.3 ∙ ap (number_at false) (sym f.2)
 
 integer_front : (t q : List ℕ) (z : ℤ) → IsIntegerText z t → NumberFront (t ++ q)
