@@ -13,3 +13,4 @@ pub mod UpToFault
 pub mod Numbers
 pub mod BareFaults
 pub mod BareRows
+pub mod RuledFaults
