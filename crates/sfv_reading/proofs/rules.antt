@@ -14,3 +14,4 @@ pub mod Numbers
 pub mod BareFaults
 pub mod BareRows
 pub mod RuledFaults
+pub mod Insides
