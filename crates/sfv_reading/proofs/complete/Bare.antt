@@ -1,19 +1,19 @@
 -- A text of a bare item is read, as that bare item.
 use Rattle.std.proofs.Common.{◌≡◌, ℕ, ◌≤◌, Bool, true, false, eqb, not, ℤ, List, [], ◌∷◌, ◌++◌, length, Ok, refl, sym}
-use Rattle.std.proofs.Common.{ap, subst, ◌∙◌, append_assoc, arith, inl, inr}
+use Rattle.std.proofs.Common.{ap, ◌∙◌, arith, inl, inr}
 use Rattle.std.specs.Prelude.{◌⊎◌, IsTrue}
 use Rattle.std.specs.List.{list_all}
 use Rattle.std.proofs.lemmas.Bool.{eqb-true, or_left, or_from, ne_eqb, and_parts, true≢false, both_ways, cases_Bool}
 use Rattle.std.proofs.lemmas.Bool.{or_cases, not-true}
 use Rattle.sfv_spec.specs.Ascii.{double_quote, percent_sign, minus_sign, dot, digit_zero, digit_one, digit_nine, colon}
 use Rattle.sfv_spec.specs.Ascii.{question_mark, at_sign}
-use Rattle.sfv_spec.specs.Texts.{RunOf}
+use Rattle.sfv_spec.specs.Texts.{begins_with, RunOf}
 use Rattle.sfv_spec.specs.Classes.{is_digit, is_token, is_token_start, is_token_inner}
 use Rattle.sfv_spec.specs.Values.{Edition, rfc9651, BareValue, integer, decimal, string, token, byte_sequence, boolean}
 use Rattle.sfv_spec.specs.Values.{date, display_string}
 use Rattle.sfv_spec.specs.Numbers.{minus_text, IsIntegerText, IsDecimalText}
 use Rattle.sfv_spec.specs.Grammar.{IsBareText, boolean_text}
-use Rattle.sfv_spec.proofs.Parts.{implied, between_below, no_digit, no_point}
+use Rattle.sfv_spec.proofs.Parts.{implied, between_below, no_digit, no_point, integer_text, decimal_text}
 use Rattle.sfv_reading.specs.Reader.{Apart, byte, give, ◌>>=◌, branch, ahead}
 use Rattle.sfv_reading.specs.Content.{bytes_at}
 use Rattle.sfv_reading.specs.Quoted.{string_at, IsDisplayEnd}
@@ -145,30 +145,24 @@ token_complete edition (c ∷ s) q h a =
     ∙ bind_complete _ _ _ _ _ (span_complete is_token_inner s q p.1 a)
 
 -- how a number begins
-abbrev pub NumberFront : List ℕ → Type 0
-NumberFront t = (c : ℕ) × (r : List ℕ) × (t ≡ c ∷ r) × (is_number_start c ≡ true)
-
 pub front : (negative : Bool) (whole q : List ℕ) → 1 ≤ length whole → RunOf is_digit whole
-    → NumberFront (minus_text negative ++ (whole ++ q))
-front true whole q some each = (minus_sign, whole ++ q, refl, refl)
+    → begins_with is_number_start (minus_text negative ++ (whole ++ q)) ≡ true
+front true whole q some each = refl
 front false [] q some each = absurd (omega arith)
-front false (d ∷ ds) q some each = (
-  d,
-  ds ++ q,
-  refl,
-  or_left (is_digit d) (eqb d minus_sign) (run_head is_digit d ds each),
-)
+front false (d ∷ ds) q some each = or_left (is_digit d) (eqb d minus_sign) (run_head is_digit d ds each)
 
-pub number_from : (edition : Edition) (t : List ℕ) → NumberFront t → bare_at edition t ≡ number_at false t
-number_from edition t f = ap (bare_at edition) f.2 ∙ bare_number edition f.0 f.1 f.3 ∙ ap (number_at false) (sym f.2)
+pub number_from : (edition : Edition) (t : List ℕ) → begins_with is_number_start t ≡ true
+    → bare_at edition t ≡ number_at false t
+number_from edition [] h = absurd (true≢false (sym h))
+number_from edition (c ∷ r) h = bare_number edition c r h
 
-integer_front : (t q : List ℕ) (z : ℤ) → IsIntegerText z t → NumberFront (t ++ q)
-integer_front t q z i = subst NumberFront (sym (ap (λ (l : List ℕ). l ++ q) i.text
-    ∙ append_assoc (minus_text i.negative) i.digits q)) (front i.negative i.digits q i.counted.0 i.counted.2)
+integer_front : (t q : List ℕ) (z : ℤ) → IsIntegerText z t → begins_with is_number_start (t ++ q) ≡ true
+integer_front t q z i = ap (begins_with is_number_start) (integer_text z t q i)
+    ∙ front i.negative i.digits q i.counted.0 i.counted.2
 
-decimal_front : (t q : List ℕ) (z : ℤ) → IsDecimalText z t → NumberFront (t ++ q)
-decimal_front t q z i = subst NumberFront (sym (ap (λ (l : List ℕ). l ++ q) i.text
-    ∙ simp append_assoc)) (front i.negative i.whole (dot ∷ (i.fraction ++ q)) i.counted.0.0 i.counted.0.2)
+decimal_front : (t q : List ℕ) (z : ℤ) → IsDecimalText z t → begins_with is_number_start (t ++ q) ≡ true
+decimal_front t q z i = ap (begins_with is_number_start) (decimal_text z t q i)
+    ∙ front i.negative i.whole (dot ∷ (i.fraction ++ q)) i.counted.0.0 i.counted.0.2
 
 -- what ends a token ends a number
 number_ends : (q : List ℕ) → Apart is_token_inner q → Apart goes_on q

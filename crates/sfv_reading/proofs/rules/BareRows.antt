@@ -15,24 +15,26 @@ use Rattle.sfv_spec.specs.Faults.{SyntaxFault, rfc8941_date, rfc8941_display_str
 use Rattle.sfv_spec.specs.Faults.{invalid_byte_sequence, too_many_digits_after_decimal_point}
 use Rattle.sfv_spec.specs.Faults.{unterminated_string, unterminated_escape_sequence, invalid_escape_sequence}
 use Rattle.sfv_spec.specs.Faults.{invalid_string_character, too_many_digits, too_many_digits_before_decimal_point}
-use Rattle.sfv_spec.specs.Faults.{at_text, BeginsBase64, BareItemFault, no_boolean, old_date, old_display, no_quote, no_digit, no_number}
+use Rattle.sfv_spec.specs.Faults.{at_text, BeginsBase64, BareItemFault, no_boolean, old_date, old_display, no_quote}
+use Rattle.sfv_spec.specs.Faults.{no_digit, no_number}
 use Rattle.sfv_spec.specs.Faults.{long_integer, late_point, long_decimal, open_string, wrong_string_byte}
 use Rattle.sfv_spec.specs.Faults.{open_string_escape, wrong_string_escape, wrong_bytes}
 use Rattle.sfv_reading.specs.Reader.{Fault, Answer, byte, give, fail, and_then, at_start, at_reach, placed}
 use Rattle.sfv_reading.specs.Content.{valid_from, fault_place, bytes_at}
 use Rattle.sfv_reading.specs.Quoted.{string_at, IsStringFault}
-use Rattle.sfv_reading.specs.Bare.{number_at, date_at, quoted_at, as_date, bare_at}
+use Rattle.sfv_reading.specs.Bare.{is_number_start, number_at, date_at, quoted_at, as_date, bare_at}
 use Rattle.sfv_reading.specs.BareFaults.{BareRowIsGiven}
 use Rattle.sfv_reading.proofs.base64.Contents.{longest_valid, rejected_at}
 use Rattle.sfv_reading.proofs.complete.Bare.{bare_boolean, bare_quote, bare_colon, bare_at_sign, bare_percent}
-use Rattle.sfv_reading.proofs.complete.Bare.{NumberFront, front, number_from}
+use Rattle.sfv_reading.proofs.complete.Bare.{front, number_from}
 use Rattle.sfv_reading.proofs.sound.ByteSequences.{read_fault, fault_at}
 use Rattle.sfv_reading.proofs.rules.DisplayRules.{same_longest}
 use Rattle.sfv_reading.proofs.rules.Quoted.{string_faulty}
 use Rattle.sfv_reading.proofs.rules.UpToFault.{bind_met}
 use Rattle.sfv_reading.proofs.rules.Numbers.{next_of, NumberShape, no_digits, sixteen_digits, point_too_late}
 use Rattle.sfv_reading.proofs.rules.Numbers.{long_fraction, shape_read}
-use Rattle.sfv_reading.proofs.rules.BareFaults.{one_of, begins_same, boolean_fault, quote_fault, date_read}
+use Rattle.sfv_reading.proofs.rules.NumberRows.{one_of, begins_same, date_read}
+use Rattle.sfv_reading.proofs.rules.BareFaults.{boolean_fault, quote_fault}
 
 -- ---- numbers and Dates
 
@@ -43,7 +45,8 @@ date_given edition t a known read = ap (λ e. bare_at e (at_sign ∷ t)) known �
     ∙ ap (λ a. at_start non_integer_date (at_sign ∷ t) (and_then a (λ v. give (as_date v)))) read
 
 pub number_given : (edition : Edition) (dated : Bool) (t : List ℕ) (e : Fault) → (dated ≡ true → edition ≡ rfc9651)
-    → (dated ≡ false → NumberFront t) → NumberShape dated t (Err e) → bare_at edition (at_text dated ++ t) ≡ Err e
+    → (dated ≡ false → begins_with is_number_start t ≡ true) → NumberShape dated t (Err e)
+    → bare_at edition (at_text dated ++ t) ≡ Err e
 number_given edition true t e known start h = date_given edition t (Err e) (known refl) (shape_read true t (Err e) h)
 number_given edition false t e known start h = number_from edition t (start refl) ∙ shape_read false t (Err e) h
 
@@ -80,7 +83,7 @@ row_read edition s there _ (no_quote known text h) = ap (λ e. bare_at e s) know
 row_read edition s there _ (no_digit dated known text h) =
     ap (bare_at edition) (text ∙ append_assoc (at_text dated) (codes "-") there)
     ∙ number_given edition dated (minus_sign ∷ there) (at_reach expected_digit there) known
-    (λ _. (minus_sign, there, refl, refl)) (no_digits true there refl h (λ e. absurd (true≢false e)))
+    (λ _. refl) (no_digits true there refl h (λ e. absurd (true≢false e)))
 row_read edition s there _ (no_number known text h) =
     let n = begins_apart is_digit (is_one_of (codes "-")) there h in
     ap (bare_at edition) text

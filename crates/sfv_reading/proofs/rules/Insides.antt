@@ -279,7 +279,8 @@ module _ (edition : Edition) (m : ℕ) (run : List ℕ) (can : Stands m run) whe
   inside (token s) b x c h =
       let all = subst (λ (s : List ℕ). IsTrue (is_token s)) (sym h.1) h.0 in
       let p = and_parts (is_token_start b) (list_all is_token_inner (x ++ m ∷ c)) all in
-      let word : RunOf is_token_inner (x ++ run) = run_both is_token_inner x run (run_parts is_token_inner x (m ∷ c) p.1).0
+      let word : RunOf is_token_inner (x ++ run) =
+      run_both is_token_inner x run (run_parts is_token_inner x (m ∷ c) p.1).0
       (can.run_token (run_holds is_token_inner x m c p.1)) in (
         token (b ∷ (x ++ run)),
         [],

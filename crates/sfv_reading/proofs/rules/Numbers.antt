@@ -16,7 +16,8 @@ use Rattle.sfv_reading.specs.Reader.{at_start, at_reach, by_rule, placed}
 use Rattle.sfv_reading.specs.Bare.{long_at, decimal_at, fraction_at, point_at, whole_at, number_at}
 use Rattle.sfv_reading.proofs.complete.Combinators.{Apart-nil, Apart-cons, branch_take, ahead_past}
 use Rattle.sfv_reading.proofs.complete.Combinators.{ahead_take, bind_complete, up_to_taken}
-use Rattle.sfv_reading.proofs.complete.Numbers.{goes_on, minus_apart, start_read, start_complete, some_eqb, integer_complete, decimal_complete}
+use Rattle.sfv_reading.proofs.complete.Numbers.{goes_on, minus_apart, start_read, start_complete, some_eqb}
+use Rattle.sfv_reading.proofs.complete.Numbers.{integer_complete, decimal_complete}
 use Rattle.sfv_reading.proofs.sound.Combinators.{run_cons}
 use Rattle.sfv_reading.proofs.sound.Numbers.{thousandths}
 
@@ -102,10 +103,10 @@ pub data NumberShape (dated : Bool) (t : List ℕ) : Answer BareValue → Type 0
   no_digits : (negative : Bool) (q : List ℕ) → t ≡ minus_text negative ++ q → begins_with is_digit q ≡ false
       → (negative ≡ false → begins_with (byte minus_sign) q ≡ false)
       → NumberShape dated t (Err (at_reach expected_digit q))
-  sixteen_digits : (negative : Bool) (whole q : List ℕ) → t ≡ minus_text negative ++ (whole ++ q) → AreDigits 15 15 whole
-      → begins_with is_digit q ≡ true → NumberShape dated t (Err (at_reach too_many_digits q))
-  point_too_late : (negative : Bool) (whole q : List ℕ) → t ≡ minus_text negative ++ (whole ++ q) → AreDigits 13 15 whole
-      → begins_with (byte dot) q ≡ true
+  sixteen_digits : (negative : Bool) (whole q : List ℕ) → t ≡ minus_text negative ++ (whole ++ q)
+      → AreDigits 15 15 whole → begins_with is_digit q ≡ true → NumberShape dated t (Err (at_reach too_many_digits q))
+  point_too_late : (negative : Bool) (whole q : List ℕ) → t ≡ minus_text negative ++ (whole ++ q)
+      → AreDigits 13 15 whole → begins_with (byte dot) q ≡ true
       → NumberShape dated t (Err (at_reach too_many_digits_before_decimal_point q))
   no_fraction : (negative : Bool) (whole q : List ℕ) → t ≡ minus_text negative ++ (whole ++ dot ∷ q)
       → AreDigits 1 12 whole → begins_with is_digit q ≡ false

@@ -11,15 +11,15 @@ use Rattle.sfv_spec.specs.Faults.{SyntaxFault, trailing_decimal_point, non_integ
 use Rattle.sfv_spec.specs.Faults.{too_many_digits_after_decimal_point, IsTrailingPoint, IsDecimalDate}
 use Rattle.sfv_spec.specs.Faults.{IsLongDecimalDate, comma, point, decimal_date, long_decimal_date, open_bytes}
 use Rattle.sfv_spec.specs.Faults.{lone_symbol, open_display, open_escape, wrong_escape, wrong_byte, wrong_utf8}
-use Rattle.sfv_reading.specs.Reader.{give, and_then, bind, branch, by_rule}
-use Rattle.sfv_reading.specs.Quoted.{display_at}
-use Rattle.sfv_reading.specs.Bare.{quoted_at, bare_at}
+use Rattle.sfv_reading.specs.Reader.{give, and_then, by_rule}
+use Rattle.sfv_reading.specs.Bare.{bare_at}
 use Rattle.sfv_reading.specs.Claims.{IsFaultOfBytes, IsFaultOfDisplay}
 use Rattle.sfv_reading.specs.BareFaults.{IsFaultInBare, RuledIsGiven}
 use Rattle.sfv_reading.proofs.complete.Bare.{bare_percent, front}
 use Rattle.sfv_reading.proofs.rules.BytesRules.{bytes_rules}
 use Rattle.sfv_reading.proofs.rules.DisplayRules.{display_rules}
 use Rattle.sfv_reading.proofs.rules.Numbers.{no_fraction, long_fraction, a_decimal, shape_read}
+use Rattle.sfv_reading.proofs.rules.BareFaults.{quoted_read}
 use Rattle.sfv_reading.proofs.rules.BareRows.{date_given, number_given, bytes_given}
 
 -- a fault by a rule, in any spelling of the text that is left at before
@@ -87,18 +87,12 @@ bytes_in edition kind whole k index h =
     in_bare edition kind whole h.before (colon ∷ h.inside) (colon ∷ h.inside) h.there k index h.place refl
     (bytes_given edition h.inside (by_rule k h.there) h.fault) h.here
 
--- a Display String is read after its quote
-opened : (t : List ℕ) → quoted_at rfc9651 (percent_sign ∷ double_quote ∷ t)
-    ≡ and_then (display_at t) (λ s. give (display_string s))
-unfolding quoted_at branch bind
-opened t = refl
-
 display_in : (edition : Edition) (kind : FieldKind) (whole : List ℕ) (k : SyntaxFault) (index : ℕ)
     → IsFaultOfDisplay edition kind whole k index → IsFaultInBare edition kind whole k index
 display_in edition kind whole k index h =
     let s : List ℕ = percent_sign ∷ double_quote ∷ h.inside in
     in_bare edition kind whole h.before s s h.there k index h.place refl (ap (λ e. bare_at e s) h.known
-    ∙ bare_percent rfc9651 (double_quote ∷ h.inside) ∙ opened h.inside
+    ∙ bare_percent rfc9651 (double_quote ∷ h.inside) ∙ quoted_read h.inside
     ∙ ap (λ a. and_then a (λ s. give (display_string s))) h.fault) h.here
 
 pub ruled_is_given : RuledIsGiven
