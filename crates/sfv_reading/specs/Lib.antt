@@ -8,3 +8,4 @@ pub mod Members
 pub mod Fields
 pub mod Claims
 pub mod Visits
+pub mod Places

@@ -1,0 +1,1 @@
+use Rattle.sfv_reading.proofs.places.Readers.{walk-field}

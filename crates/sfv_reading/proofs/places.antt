@@ -1,0 +1,4 @@
+-- Where in a field bare items and keys are read.
+pub mod Calls
+pub mod Walks
+pub mod Readers
