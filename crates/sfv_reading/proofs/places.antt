@@ -2,3 +2,4 @@
 pub mod Calls
 pub mod Walks
 pub mod Readers
+pub mod Wanted

@@ -1,7 +1,7 @@
 -- What the readers of parameters, items and members call.
 use Rattle.std.proofs.Common.{◌≡◌, ℕ, Bool, true, false, eqb, ◌||◌, List, [], ◌∷◌, ◌++◌, Option, Some, None, Ok, Err, refl, inl, inr}
 use Rattle.std.proofs.Common.{sym, ap, subst, ◌∙◌}
-use Rattle.std.proofs.lemmas.Bool.{true≢false, cases_Bool, or_left, or_from, or_parts}
+use Rattle.std.proofs.lemmas.Bool.{true≢false, cases_Bool, or_left, or_parts}
 use Rattle.sfv_spec.specs.Ascii.{space, tab, comma, left_parenthesis, right_parenthesis}
 use Rattle.sfv_spec.specs.Texts.{RunOf}
 use Rattle.sfv_spec.specs.Classes.{is_space, is_space_or_tab}
@@ -35,7 +35,7 @@ use Rattle.sfv_reading.proofs.local.Combinators.{local_rules, Local-span}
 use Rattle.sfv_reading.proofs.local.Items.{Local-key, Local-value, Local-parameter, Local-parameters, Local-item}
 use Rattle.sfv_reading.proofs.local.Bare.{Local-bare}
 use Rattle.sfv_reading.proofs.local.Members.{Local-inner_item, Local-next_item, Local-next_items, Local-items}
-use Rattle.sfv_reading.proofs.local.Members.{Local-member, Local-member_value}
+use Rattle.sfv_reading.proofs.local.Members.{Local-member_value}
 use Rattle.sfv_reading.proofs.complete.Combinators.{Apart-cons, span_complete, back_complete, branch_take, bind_complete}
 use Rattle.sfv_reading.proofs.complete.Combinators.{ahead_any}
 use Rattle.sfv_reading.proofs.places.Calls.{Leaf, bare, key, blocked, Stuck, stuck_led, stuck_bind}
@@ -174,6 +174,10 @@ unfolding give
 met_nothing mark v m = absurd (met_give mark [] v m)
 
 -- ---- the readers
+
+-- each leaf
+abbrev pub Ever : Leaf → Type 0
+Ever leaf = Unit {0}
 
 module _ (edition : Edition) (mark : Mark) where
   walk-value : Walk edition mark (value_at edition) Never
@@ -341,9 +345,6 @@ module _ (edition : Edition) (mark : Mark) where
         (λ m. met_nothing mark [] m))
 
   -- ---- fields
-
-  abbrev pub Ever : Leaf → Type 0
-  Ever leaf = Unit {0}
 
   pub walk-field : (kind : FieldKind) → Walk edition mark (whole_field_at edition kind) Ever
   unfolding whole_field_at

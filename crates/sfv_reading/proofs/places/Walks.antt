@@ -12,15 +12,15 @@ use Rattle.sfv_spec.specs.Events.{TreeEvent}
 use Rattle.sfv_spec.specs.Faults.{SyntaxFault, trailing_comma, trailing_characters_after_member}
 use Rattle.sfv_spec.specs.Faults.{expected_inner_list_delimiter, unterminated_inner_list}
 use Rattle.sfv_reading.specs.Judgements.{IsFault, Lasts, Local}
-use Rattle.sfv_reading.specs.Reader.{Fault, Answer, Reader, behind_events, first, any, at_reach, and_then, give, fail, ◌>>=◌}
+use Rattle.sfv_reading.specs.Reader.{Fault, Answer, Reader, first, any, at_reach, and_then, give, fail, ◌>>=◌}
 use Rattle.sfv_reading.specs.Reader.{bind, led_answer, led, branch, ahead, go_on, many}
 use Rattle.sfv_reading.specs.Bare.{bare_at}
 use Rattle.sfv_reading.specs.Items.{key_at}
 use Rattle.sfv_reading.specs.Places.{IsLike}
 use Rattle.sfv_reading.proofs.sound.Combinators.{run_head, run_tail}
-use Rattle.sfv_reading.proofs.sound.Many.{Consumes, put, many_is}
+use Rattle.sfv_reading.proofs.sound.Many.{Consumes, many_is}
 use Rattle.sfv_reading.proofs.complete.Combinators.{branch_take, ahead_any, bind_complete}
-use Rattle.sfv_reading.proofs.places.Calls.{Leaf, bare, key, leaf_at, blocked, no_blank, Stuck, Calls, like_trans}
+use Rattle.sfv_reading.proofs.places.Calls.{Leaf, bare, key, leaf_at, blocked, Stuck, Calls}
 use Rattle.sfv_reading.proofs.places.Calls.{calls_bare, calls_key, calls_as, calls_led, calls_bind, stuck_led, stuck_bind}
 
 -- a byte that nothing but bare items and keys takes
@@ -126,8 +126,8 @@ met_split (eaten b m) t p r v (Err x) parts h = absurd h
 met_split (eaten b m) t p r v (Ok x) parts h =
     let q : List ℕ = marked b ∷ m in
     let on : (length q ≤ length r) ⊎ (length r ≤ length m)
-        → ((u : List ℕ) × (t ≡ u ++ marked b ∷ m) × (length r ≤ length m))
-        ⊎ ((u : List ℕ) × (r ≡ u ++ marked b ∷ m) × (length x.1 ≤ length m)) =
+    → ((u : List ℕ) × (t ≡ u ++ marked b ∷ m) × (length r ≤ length m))
+    ⊎ ((u : List ℕ) × (r ≡ u ++ marked b ∷ m) × (length x.1 ≤ length m)) =
     λ o. elim o [
       | inl le ↦ let w = tail_split h.0 q p r (sym h.1 ∙ parts) le in inr (w.0, w.1, h.2)
       | inr le ↦ inl (h.0, h.1, le)
@@ -252,14 +252,14 @@ module _ (edition : Edition) (mark : Mark) where
       elim (met_split mark t l.0 x.1 x.0 (g x.0 x.1) l.1 m) [
         | inl w ↦ left (h.walk t (subst (λ (a : Answer A). Met mark t a) (sym i) w))
         | inr w ↦ lift (g x.0) (f >>= g) Never E x.1 t l.0 l.1 (λ leaf before s' e some c. (
-            behind f g x.0 l.0 x.1 E l.2 leaf before s' e some c,
-            λ z. absurd (some (no_front l.0 before z)),
-          )) ((k x.0).walk x.1 w)
+          behind f g x.0 l.0 x.1 E l.2 leaf before s' e some c,
+          λ z. absurd (some (no_front l.0 before z)),
+        )) ((k x.0).walk x.1 w)
       ]
   bind_on {A} {B} f g E h k s t (Err x) i l m = lift f (f >>= g) E E t t [] refl (λ leaf before s' e some c. (
-        calls_bind edition leaf f g before s c,
-        some,
-      )) (h.walk t (subst (λ (a : Answer A). Met mark t a) (sym i) (met_fault B A mark t x m)))
+    calls_bind edition leaf f g before s c,
+    some,
+  )) (h.walk t (subst (λ (a : Answer A). Met mark t a) (sym i) (met_fault B A mark t x m)))
 
   -- one reader after another that calls no leaf at once
   pub Walk-bind : {A B : Type 0} (f : Reader A) (g : A → Reader B) (E : Leaf → Type 0) → Walk f E → Local f
@@ -287,9 +287,9 @@ module _ (edition : Edition) (mark : Mark) where
       elim (met_split mark t w.0 x.1 x.0 (g x.0 x.1) w.1 m) [
         | inl o ↦ absurd (met_skip mark t w.0 x.1 x.0 w.1 w.2 o)
         | inr o ↦ lift (g x.0) (f >>= g) E E' x.1 t w.0 w.1 (λ leaf before s e at_once c. (
-            on leaf before s e c,
-            λ z. some w.0 x.1 x.0 (ap f (sym w.1) ∙ i) (no_back w.0 before z) leaf (at_once (no_front w.0 before z)),
-          )) ((k x.0).walk x.1 o)
+          on leaf before s e c,
+          λ z. some w.0 x.1 x.0 (ap f (sym w.1) ∙ i) (no_back w.0 before z) leaf (at_once (no_front w.0 before z)),
+        )) ((k x.0).walk x.1 o)
       ]
   skip_on {A} {B} f g E E' h some k t (Err x) i l m = elsewhere (met_fail B mark t x (h.faults t x i) m)
 
@@ -447,10 +447,10 @@ module _ (edition : Edition) (mark : Mark) where
     as_many : (t : List ℕ) → Found edition mark unrolled Never t → Found edition mark (many parts step) Never t
     unfolding unrolled
     as_many t w = lift unrolled (many parts step) Never Never t t [] refl (λ leaf before s e some d. (
-        calls_as edition leaf (many parts step) unrolled [] before d
-            (λ b q none. many_is parts step c (before ++ b ∷ q)),
-        some,
-      )) w
+      calls_as edition leaf (many parts step) unrolled [] before d
+          (λ b q none. many_is parts step c (before ++ b ∷ q)),
+      some,
+    )) w
 
     within : (n : ℕ) (t : List ℕ) → length t < n → Met mark t (many parts step t)
         → Found edition mark (many parts step) Never t
@@ -460,9 +460,9 @@ module _ (edition : Edition) (mark : Mark) where
       where
         left : Met mark t (step t) → Found edition mark unrolled Never t
         left w = lift step unrolled Never Never t t [] refl (λ leaf before s' e some d. (
-            calls_bind edition leaf step (go_on parts (many parts step)) before stuck_on d,
-            some,
-          )) (h.walk t w)
+          calls_bind edition leaf step (go_on parts (many parts step)) before stuck_on d,
+          some,
+        )) (h.walk t w)
 
         go : ((r : List ℕ) → length r < n → Met mark r (many parts step r) → Found edition mark (many parts step) Never r)
             → (p r : List ℕ) (o : Option A) → step t ≡ Ok (o, r) → t ≡ p ++ r
