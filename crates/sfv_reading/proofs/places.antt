@@ -3,3 +3,4 @@ pub mod Calls
 pub mod Walks
 pub mod Readers
 pub mod Wanted
+pub mod Read

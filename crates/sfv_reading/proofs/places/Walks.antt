@@ -108,7 +108,7 @@ tail_split [] q (x ∷ p) r e le =
 tail_split (y ∷ u) q (x ∷ p) r e le = let tails : u ++ q ≡ p ++ r = cc in tail_split u q p r tails le
 
 -- a byte that was taken as one of a class is of it
-run_has : (class : ℕ → Bool) (u m p r : List ℕ) (c : ℕ) → u ++ c ∷ m ≡ p ++ r → length r ≤ length m → RunOf class p
+pub run_has : (class : ℕ → Bool) (u m p r : List ℕ) (c : ℕ) → u ++ c ∷ m ≡ p ++ r → length r ≤ length m → RunOf class p
     → class c ≡ true
 run_has class u m [] r c e le h = absurd (omega (arith, le, ap (length {A = ℕ}) e, length-append u (c ∷ m)))
 run_has class [] m (x ∷ p) r c e le h = let same : x ≡ c = cc in ap class (sym same) ∙ run_head class x p h
