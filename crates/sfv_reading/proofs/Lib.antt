@@ -1,6 +1,7 @@
 pub mod base64
 pub mod complete
 pub mod local
+pub mod places
 pub mod quoted
 pub mod rules
 pub mod sound

@@ -9,3 +9,4 @@ pub mod Fields
 pub mod Claims
 pub mod Visits
 pub mod BareFaults
+pub mod Places

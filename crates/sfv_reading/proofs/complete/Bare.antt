@@ -28,7 +28,7 @@ use Rattle.sfv_reading.proofs.complete.Numbers.{goes_on, digit_apart, integer_co
 -- ---- how the readers of bare items are chosen, by the first byte
 
 -- the byte begins none of the kinds before
-apart_from : (class : ℕ → Bool) (n : ℕ) → class n ≡ false → (c : ℕ) → class c ≡ true → eqb c n ≡ false
+pub apart_from : (class : ℕ → Bool) (n : ℕ) → class n ≡ false → (c : ℕ) → class c ≡ true → eqb c n ≡ false
 apart_from class n none c e = ne_eqb c n (λ i. true≢false (sym e ∙ ap class i ∙ none))
 
 pub bare_boolean : (edition : Edition) (r : List ℕ) → bare_at edition (question_mark ∷ r) ≡ boolean_at r

@@ -146,7 +146,7 @@ module _ {A : Type 0} (P : A → List ℕ → Type 0) (parts : A → List TreeEv
   unfolding comma_at
   Local-comma = search local_rules depth 40
 
-  Local-next : Local one → Local (next_at one)
+  pub Local-next : Local one → Local (next_at one)
   unfolding next_at
   Local-next l = Local-bind _ _ (Local-span _) (λ _.
       Local-ahead _ _ _ (Local-ahead _ _ _ (Local-bind _ _ (Local-back _ _ Local-comma)
