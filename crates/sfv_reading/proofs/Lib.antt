@@ -10,5 +10,6 @@ pub mod visits
 pub mod Exact
 pub mod Theorems
 pub mod Trailing
+pub mod Faults
 pub mod First
 mod Examples

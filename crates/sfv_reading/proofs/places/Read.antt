@@ -101,7 +101,7 @@ module _ (edition : Edition) (kind : FieldKind) where
   abbrev Field : Reader (RawField kind)
   Field = whole_field_at edition kind
 
-  bare_stuck : (before s : List ℕ) (w : BareValue) → Calls edition bare Field before → IsBareText edition w s
+  pub bare_stuck : (before s : List ℕ) (w : BareValue) → Calls edition bare Field before → IsBareText edition w s
       → BeginsAccepted edition kind (before ++ s)
   bare_stuck before [] w c h = absurd (true≢false (sym (bare_begins edition w [] h)))
   bare_stuck before (d ∷ s) w c h =
