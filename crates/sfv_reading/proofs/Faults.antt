@@ -52,7 +52,7 @@ wanted_kind : (edition : Edition) (kind : FieldKind) (u : List ℕ) (f : SyntaxF
     → is_want f ≡ true
 wanted_kind edition kind u _ (faults.bare_item _) = refl
 wanted_kind edition kind u _ (faults.key _) = refl
-wanted_kind edition kind u _ (faults.delimiter _) = refl
+wanted_kind edition kind u _ (faults.delimiter _ _) = refl
 wanted_kind edition kind u _ (faults.comma _ _ _ _) = refl
 wanted_kind edition kind u _ (faults.end _ _) = refl
 
