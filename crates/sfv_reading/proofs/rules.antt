@@ -7,6 +7,8 @@ pub mod DisplayFaults
 pub mod DisplayRules
 pub mod Quoted
 pub mod Commas
-pub mod Origins
+pub mod Tight
+pub mod Standing
+pub mod Ends
 pub mod Fields
 pub mod UpToFault
