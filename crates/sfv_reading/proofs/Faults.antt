@@ -1,11 +1,11 @@
 -- The fault of the reader is that of the table of faults, and no other is.
-use Rattle.std.proofs.Common.{◌≡◌, ℕ, ◌+◌, ◌-◌, ◌≤◌, Bool, true, false, List, [], ◌∷◌, ◌++◌, length, take, Result}
+use Rattle.std.proofs.Common.{◌≡◌, ℕ, ◌+◌, ◌-◌, ◌≤◌, Bool, true, false, List, [], ◌++◌, length, take, Result}
 use Rattle.std.proofs.Common.{Ok, Err, refl, sym, ap, subst, ◌∙◌, inl, inr, arith, append_assoc}
 use Rattle.std.specs.Prelude.{◌⊎◌, codes}
 use Rattle.std.proofs.lemmas.Bool.{cases_Bool, true≢false}
 use Rattle.std.proofs.lemmas.List.{length-append, length-drop, take_at}
 use Rattle.sfv_spec.specs.Values.{Edition, FieldKind, RawField, boolean}
-use Rattle.sfv_spec.specs.Grammar.{IsBareText, IsAccepted}
+use Rattle.sfv_spec.specs.Grammar.{IsAccepted}
 use Rattle.sfv_spec.specs.Reach.{IsReach}
 use Rattle.sfv_spec.specs.Faults.{SyntaxFault, trailing_comma, expected_start_of_bare_item, expected_start_of_key}
 use Rattle.sfv_spec.specs.Faults.{expected_inner_list_delimiter, trailing_characters_after_member}
@@ -17,16 +17,15 @@ use Rattle.sfv_spec.specs.Statements.{TrueIsWanted}
 use Rattle.sfv_spec.proofs.Editions.{one_reach_lem}
 use Rattle.sfv_reading.specs.Reader.{Fault, has_rule}
 use Rattle.sfv_reading.specs.Fields.{read_field}
-use Rattle.sfv_reading.specs.Places.{IsLike, IsOfBare, IsOfComma, IsOfStructure, WantedBareIsRead}
-use Rattle.sfv_reading.specs.Places as places
+use Rattle.sfv_reading.specs.Places.{IsLike, IsOfBare}
 use Rattle.sfv_reading.proofs.Theorems.{read_is_accepted, fault_is_placed}
 use Rattle.sfv_reading.proofs.rules.Commas.{comma_row}
 use Rattle.sfv_reading.proofs.rules.BareFaults.{bare_fault_has_row}
 use Rattle.sfv_reading.proofs.rules.BareRows.{bare_row_is_given}
 use Rattle.sfv_reading.proofs.rules.RuledFaults.{ruled_is_given}
-use Rattle.sfv_reading.proofs.rules.Insides.{mark_inside}
 use Rattle.sfv_reading.proofs.places.Wanted.{bare_is_wanted}
-use Rattle.sfv_reading.proofs.places.Read.{wanted_bare_is_read, bare_stuck, calls_wanted}
+use Rattle.sfv_reading.proofs.places.Read.{wanted_bare_is_read, wanted_key_is_read, bare_stuck, calls_wanted}
+use Rattle.sfv_reading.proofs.places.Wants.{one_wanted}
 
 -- ---- kinds
 
@@ -95,16 +94,6 @@ index_here t u rest e = let n = ap (length {A = ℕ}) e in omega (arith, n, leng
 taken_here : (t u rest : List ℕ) → t ≡ u ++ rest → take (length t - length rest) t ≡ u
 taken_here t u rest e = rw (index_here t u rest e) (ap (take (length u)) e ∙ take_at u rest _ refl)
 
--- what can stand in a bare item in place of a question mark
-marks : places.MarkInside
-marks edition v b x c h =
-    let k = mark_inside edition v b x c h in
-    let same : b ∷ x ++ codes "((" ++ k.1 ≡ b ∷ (x ++ (codes "((" ++ k.1)) = simp append_assoc in
-    (k.0, k.1, subst (IsBareText edition k.0) same k.2)
-
-wanted_is_read : WantedBareIsRead
-wanted_is_read = wanted_bare_is_read marks
-
 module _ (edition : Edition) (kind : FieldKind) where
   rejected : (t : List ℕ) (e : Fault) → read_field edition kind t ≡ Err e → ¬ IsAccepted edition kind t
   rejected t e h a = let r = (read_is_accepted edition kind t a.0).1 a.1 in absurd cc
@@ -164,7 +153,7 @@ module _ (edition : Edition) (kind : FieldKind) where
     | inr b ↦
         let not_start : ¬ (b.fault.kind ≡ expected_start_of_bare_item) =
         λ e. true≢false (ap is_want (sym e ∙ b.kind) ∙ ruled_kind edition kind t f i h) in
-        let w = wanted_is_read edition kind t b.before b.s b.fault b.place b.given (inl not_start) in (
+        let w = wanted_bare_is_read edition kind t b.before b.s b.fault b.place b.given (inl not_start) in (
           record {
             fault = w.0;
             read = w.1;
@@ -180,12 +169,7 @@ module _ (edition : Edition) (kind : FieldKind) where
   module _ (open_is_read : (t : List ℕ) → IsAccepted edition kind (t ++ codes ")")
       → ((u : List ℕ) → ¬ (t ≡ u ++ codes " "))
       → (e : Fault) × (read_field edition kind t ≡ Err e) × (e.kind ≡ unterminated_inner_list)
-      × (e.exact ≡ true) × (e.rest ≡ []))
-      (structure : (t : List ℕ) (e : Fault) → read_field edition kind t ≡ Err e → IsOfStructure e.kind
-      → BegunFault edition kind t e.kind (length t - length e.rest)
-      ⊎ ((u : List ℕ) × (t ≡ u ++ e.rest) × (is_want e.kind ≡ true) × WantedFault edition kind u e.kind))
-      (one_wanted : (u : List ℕ) (f g : SyntaxFault) → WantedFault edition kind u f → WantedFault edition kind u g
-      → f ≡ g) where
+      × (e.exact ≡ true) × (e.rest ≡ [])) where
     begun_given : (t : List ℕ) (f : SyntaxFault) (i : ℕ) → BegunFault edition kind t f i
         → (g : IsGiven t f i) × (g.fault.exact ≡ true) × (is_want f ≡ false)
     begun_given t f _ (faults.bare before s there place row) =
@@ -193,7 +177,7 @@ module _ (edition : Edition) (kind : FieldKind) where
         let want = row_kind edition s there f row in
         let not_start : ¬ (r.0.kind ≡ expected_start_of_bare_item) =
         λ e. true≢false (ap is_want (sym e ∙ r.2) ∙ want) in
-        let w = wanted_is_read edition kind t before s r.0 place r.1 (inl not_start) in
+        let w = wanted_bare_is_read edition kind t before s r.0 place r.1 (inl not_start) in
         let exact : w.0.exact ≡ true = sym w.2.exact ∙ r.3 in
         let left : w.0.rest ≡ there = sym w.2.rest ∙ r.4 in
         let within = (at_the_reach t w.0 w.1 exact).0 in (
@@ -255,10 +239,13 @@ module _ (edition : Edition) (kind : FieldKind) where
           ) in
           inl (subst (λ (k : SyntaxFault). RuledFault edition kind t k (length t - length e.rest)) (sym c.kind_of)
           (subst (RuledFault edition kind t trailing_comma) same (faults.comma c.trails)))
-      | inr (inr s) ↦ elim (structure t e h s.1) [
-        | inl b ↦ inr (inl b)
-        | inr w ↦ inr (inr (wanted_at t e h s.0 w.2 w.0 w.1 w.3))
-      ]
+      | inr (inr (x, inl w)) ↦
+          inr (inr (wanted_at t e h x (wanted_kind edition kind w.before e.kind w.wanted) w.before w.text w.wanted))
+      | inr (inr (x, inr o)) ↦
+          let whole : length t ≡ length t - length e.rest = omega (arith, ap (length {A = ℕ}) o.rest) in
+          inr (inl (subst (λ (n : ℕ). BegunFault edition kind t e.kind n) whole
+          (subst (λ (k : SyntaxFault). BegunFault edition kind t k (length t)) (sym o.kind_of)
+          (faults.open_inner_list o.closes o.no_space))))
     ]
       where
         like : (x : Fault) → IsLike x e → RuledFault edition kind t x.kind (length t - length x.rest)
@@ -303,7 +290,7 @@ module _ (edition : Edition) (kind : FieldKind) where
             record {
               fault = e;
               read = h;
-              kind_of = one_wanted (take i t) e.kind f
+              kind_of = one_wanted wanted_bare_is_read wanted_key_is_read edition kind (take i t) e.kind f
                   (subst (λ (n : ℕ). WantedFault edition kind (take n t) e.kind) place v.wanted) w.wanted;
               here = omega (
                 arith,
@@ -359,7 +346,7 @@ module _ (edition : Edition) (kind : FieldKind) where
 -- where a bare item is wanted true can stand, as it can where a question mark can and two parentheses can't
 pub true_is_wanted : TrueIsWanted
 true_is_wanted edition kind u = (
-  λ h. (bare_stuck edition kind u (codes "?1") (boolean true) (calls_wanted edition kind marks u h) refl, h.outside),
+  λ h. (bare_stuck edition kind u (codes "?1") (boolean true) (calls_wanted edition kind u h) refl, h.outside),
   λ h. record {
     bare = (codes "1" ++ h.0.0, subst (IsAccepted edition kind) (simp append_assoc) h.0.1);
     outside = h.1;

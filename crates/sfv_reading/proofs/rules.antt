@@ -7,7 +7,9 @@ pub mod DisplayFaults
 pub mod DisplayRules
 pub mod Quoted
 pub mod Commas
-pub mod Origins
+pub mod Tight
+pub mod Standing
+pub mod Ends
 pub mod Fields
 pub mod UpToFault
 pub mod Numbers

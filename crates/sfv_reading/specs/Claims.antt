@@ -1,11 +1,11 @@
 -- What the readers of fields have to do with the grammar.
 use Rattle.std.specs.Prelude.{◌≡◌, ◌↔◌, ℕ, ◌+◌, ◌≤◌, ◌%◌, Bool, List, [], ◌∷◌, ◌++◌, length, drop, true, false}
 use Rattle.std.specs.Prelude.{Some, None, Ok, Err, ◌⊎◌, codes}
-use Rattle.sfv_spec.specs.Ascii.{comma, colon, question_mark}
+use Rattle.sfv_spec.specs.Ascii.{colon, question_mark}
 use Rattle.sfv_spec.specs.Texts.{RunOf}
-use Rattle.sfv_spec.specs.Classes.{is_space_or_tab, is_one_of}
+use Rattle.sfv_spec.specs.Classes.{is_one_of}
 use Rattle.sfv_spec.specs.Values.{Edition, rfc9651, FieldKind, item_field, RawField, BareValue, RawItem, IsFieldValue}
-use Rattle.sfv_spec.specs.Grammar.{IsBareText, IsItemText, AreMembersText, IsFieldText, IsEnded}
+use Rattle.sfv_spec.specs.Grammar.{IsBareText, IsItemText, IsFieldText, IsEnded}
 use Rattle.sfv_spec.specs.Events.{TreeEvent, events}
 use Rattle.sfv_spec.specs.Reach.{IsReach}
 use Rattle.sfv_spec.specs.Visiting.{BeginsEvents}
@@ -64,36 +64,6 @@ CommaRow = (edition : Edition) (kind : FieldKind) (t : List ℕ) (index : ℕ) �
       rest = drop index t;
       events = events kind raw;
     }))
-
--- the fault is that of a bare item, which is wanted after before
-pub record Origin (edition : Edition) (t : List ℕ) (e : Fault) : Type 0 where
-  pub before : List ℕ
-  pub item : List ℕ
-  pub fault : Fault
-  pub text : t ≡ before ++ item
-  pub is_fault : bare_at edition item ≡ Err fault
-  pub ruled : fault.exact ≡ false
-  pub kind : fault.kind ≡ e.kind
-  pub rest : fault.rest ≡ e.rest
-
--- the comma at the end, after members
-pub record CommaAt {A : Type 0} (P : A → List ℕ → Type 0) (t : List ℕ) (e : Fault) : Type 0 where
-  pub before : List ℕ
-  pub whitespace : List ℕ
-  pub m : A
-  pub ms : List A
-  pub text : t ≡ before ++ comma ∷ whitespace
-  pub blank : RunOf is_space_or_tab whitespace
-  pub accepted : AreMembersText P (m ∷ ms) before
-  pub kind : e.kind ≡ trailing_comma
-  pub rest : e.rest ≡ comma ∷ whitespace
-
--- a fault that isn't exact is that of a bare item, or of the comma at the end
-abbrev pub RuledComes : Type 0
-RuledComes = (edition : Edition) (kind : FieldKind) (t : List ℕ) (e : Fault) → read_field edition kind t ≡ Err e
-    → e.exact ≡ false →
-    Origin edition t e ⊎ ((index : ℕ) × (drop index t ≡ e.rest) × (e.kind ≡ trailing_comma)
-    × IsTrailingComma edition kind t index)
 
 -- ---- bare items
 

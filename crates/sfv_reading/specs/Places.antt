@@ -1,15 +1,14 @@
 -- What the faults of a field come from, and where in it a bare item or a key is read.
-use Rattle.std.specs.Prelude.{◌≡◌, ℕ, Bool, true, false, List, ◌∷◌, ◌++◌, drop, ⊤, ◌⊎◌, ◌||◌, ◌==◌, not, IsTrue, Err, codes}
-use Rattle.sfv_spec.specs.Ascii.{left_parenthesis, right_parenthesis, question_mark, asterisk}
+use Rattle.std.specs.Prelude.{◌≡◌, ℕ, Bool, true, false, List, [], ◌++◌, drop, ◌⊎◌, ◌||◌, ◌==◌, not, IsTrue, Err, codes}
+use Rattle.sfv_spec.specs.Ascii.{left_parenthesis, right_parenthesis}
 use Rattle.sfv_spec.specs.Texts.{begins_with}
 use Rattle.sfv_spec.specs.Classes.{is_space_or_tab}
-use Rattle.sfv_spec.specs.Values.{Edition, FieldKind, BareValue}
-use Rattle.sfv_spec.specs.Grammar.{IsBareText}
+use Rattle.sfv_spec.specs.Values.{Edition, FieldKind}
+use Rattle.sfv_spec.specs.Grammar.{IsAccepted}
 use Rattle.sfv_spec.specs.Reach.{WantsKey}
-use Rattle.sfv_spec.specs.Faults.{SyntaxFault, trailing_comma, trailing_characters_after_member}
-use Rattle.sfv_spec.specs.Faults.{trailing_characters_after_parsed_value, expected_inner_list_delimiter}
-use Rattle.sfv_spec.specs.Faults.{unterminated_inner_list, expected_start_of_bare_item, expected_start_of_key}
-use Rattle.sfv_spec.specs.Faults.{IsTrailingComma, WantsBetween}
+use Rattle.sfv_spec.specs.Faults.{trailing_comma, unterminated_inner_list}
+use Rattle.sfv_spec.specs.Faults.{expected_start_of_bare_item}
+use Rattle.sfv_spec.specs.Faults.{IsTrailingComma, WantsBetween, WantedFault}
 use Rattle.sfv_reading.specs.Reader.{Fault}
 use Rattle.sfv_reading.specs.Bare.{bare_at}
 use Rattle.sfv_reading.specs.Items.{key_at}
@@ -38,35 +37,29 @@ pub record IsOfComma (edition : Edition) (kind : FieldKind) (t : List ℕ) (e : 
   pub inexact : e.exact ≡ false
   pub trails : IsTrailingComma edition kind t index
 
--- the kinds of fault that neither of them is of
-abbrev pub IsOfStructure : SyntaxFault → Type 0
-IsOfStructure expected_start_of_key = ⊤
-IsOfStructure expected_inner_list_delimiter = ⊤
-IsOfStructure unterminated_inner_list = ⊤
-IsOfStructure trailing_characters_after_member = ⊤
-IsOfStructure trailing_characters_after_parsed_value = ⊤
-IsOfStructure _ = ⊥
+-- what is wanted after before doesn't stand there
+pub record IsOfWanted (edition : Edition) (kind : FieldKind) (t : List ℕ) (e : Fault) : Type 0 where
+  pub before : List ℕ
+  pub text : t ≡ before ++ e.rest
+  pub wanted : WantedFault edition kind before e.kind
 
--- A fault of a field is that of a bare item, where one is wanted, or that of the comma at the end, or stands
--- between the bare items, at the reach.
+-- the end cuts an inner list off, right after the parenthesis or after an item
+pub record IsOfOpenList (edition : Edition) (kind : FieldKind) (t : List ℕ) (e : Fault) : Type 0 where
+  pub kind_of : e.kind ≡ unterminated_inner_list
+  pub rest : e.rest ≡ []
+  pub closes : IsAccepted edition kind (t ++ codes ")")
+  pub no_space : (u : List ℕ) → ¬ (t ≡ u ++ codes " ")
+
+-- A fault of a field is that of a bare item, where one is wanted, or that of the comma at the end, or that what
+-- is wanted doesn't stand there, or that the end cuts an inner list off.
 abbrev pub BareIsWanted : Type 0
 BareIsWanted = (edition : Edition) (kind : FieldKind) (t : List ℕ) (e : Fault) → read_field edition kind t ≡ Err e
-    → IsOfBare edition kind t e ⊎ (IsOfComma edition kind t e ⊎ ((e.exact ≡ true) × IsOfStructure e.kind))
+    → IsOfBare edition kind t e ⊎ (IsOfComma edition kind t e
+    ⊎ ((e.exact ≡ true) × (IsOfWanted edition kind t e ⊎ IsOfOpenList edition kind t e)))
 
 -- neither a blank, which may stand before a bare item, nor a parenthesis
 abbrev pub is_beginning : ℕ → Bool
 is_beginning c = not (is_space_or_tab c || (c == left_parenthesis || c == right_parenthesis))
-
--- where a question mark stands after the first byte of a bare item, two parentheses can stand too
-abbrev pub MarkInside : Type 0
-MarkInside = (edition : Edition) (v : BareValue) (b : ℕ) (x c : List ℕ)
-    → IsBareText edition v (b ∷ (x ++ question_mark ∷ c))
-    → (w : BareValue) × (more : List ℕ) × IsBareText edition w (b ∷ (x ++ (codes "((" ++ more)))
-
--- where an asterisk stands in a bare item, a digit can stand too
-abbrev pub AsteriskInside : Type 0
-AsteriskInside = (edition : Edition) (v : BareValue) (x c : List ℕ) → IsBareText edition v (x ++ asterisk ∷ c)
-    → (w : BareValue) × (more : List ℕ) × IsBareText edition w (x ++ (codes "1" ++ more))
 
 -- where a bare item is wanted, the fault of the one that stands there is the field's
 abbrev pub WantedBareIsRead : Type 0

@@ -20,7 +20,8 @@ use Rattle.sfv_reading.specs.Reader.{Fault, Answer, Reader, at_reach, fail, bran
 use Rattle.sfv_reading.specs.Bare.{token_at, bare_at}
 use Rattle.sfv_reading.specs.Items.{key_at}
 use Rattle.sfv_reading.specs.Fields.{whole_field_at, read_field}
-use Rattle.sfv_reading.specs.Places.{is_beginning, MarkInside, AsteriskInside, WantedBareIsRead, WantedKeyIsRead}
+use Rattle.sfv_reading.specs.Places.{is_beginning, WantedBareIsRead, WantedKeyIsRead}
+use Rattle.sfv_reading.proofs.rules.Insides.{mark_inside, asterisk_inside}
 use Rattle.sfv_reading.proofs.sound.Combinators.{Somewhere, run_cons, run_head, run_tail}
 use Rattle.sfv_reading.proofs.sound.Bare.{BareGoes, Sound-bare}
 use Rattle.sfv_reading.proofs.sound.Items.{Sound-key}
@@ -148,81 +149,77 @@ module _ (edition : Edition) (kind : FieldKind) where
 
   -- ---- bare items
 
-  module _ (inside : MarkInside) where
-    no_mark_in_key : (x w v : List ℕ) → IsKeyText v (x ++ question_mark ∷ w) → ⊥
-    no_mark_in_key x w v h = true≢false (sym
-        (run_has is_key_inner x w (x ++ question_mark ∷ w) [] question_mark (sym (append-nil _)) (omega arith)
-        (key_run v (x ++ question_mark ∷ w) h)))
+  no_mark_in_key : (x w v : List ℕ) → IsKeyText v (x ++ question_mark ∷ w) → ⊥
+  no_mark_in_key x w v h = true≢false (sym
+      (run_has is_key_inner x w (x ++ question_mark ∷ w) [] question_mark (sym (append-nil _)) (omega arith)
+      (key_run v (x ++ question_mark ∷ w) h)))
 
-    -- the mark begins a bare item, or two parentheses can stand in its place
-    by_mark : (u before x w : List ℕ) (v : BareValue) → u ≡ before ++ x → Calls edition bare Field before
-        → IsBareText edition v (x ++ question_mark ∷ w) → ¬ BeginsAccepted edition kind (u ++ codes "((")
-        → Calls edition bare Field u
-    by_mark u before [] w v parts c h out = subst (Calls edition bare Field) (sym (parts ∙ append-nil before)) c
-    by_mark u before (d ∷ x) w v parts c h out =
-        let m = inside edition v d x w h in
-        let b = bare_stuck before (d ∷ (x ++ (codes "((" ++ m.1))) m.0 c m.2 in
-        absurd (out (begins_part edition kind (u ++ codes "((") m.1 (subst (BeginsAccepted edition kind)
-        (ap (λ (l : List ℕ). before ++ l) (sym (append_assoc (d ∷ x) (codes "((") m.1))
-        ∙ sym (append_assoc before ((d ∷ x) ++ codes "((") m.1)
-        ∙ ap (λ (l : List ℕ). l ++ m.1) (sym (append_assoc before (d ∷ x) (codes "(("))
-        ∙ ap (λ (l : List ℕ). l ++ codes "((") (sym parts))) b)))
+  -- the mark begins a bare item, or two parentheses can stand in its place
+  by_mark : (u before x w : List ℕ) (v : BareValue) → u ≡ before ++ x → Calls edition bare Field before
+      → IsBareText edition v (x ++ question_mark ∷ w) → ¬ BeginsAccepted edition kind (u ++ codes "((")
+      → Calls edition bare Field u
+  by_mark u before [] w v parts c h out = subst (Calls edition bare Field) (sym (parts ∙ append-nil before)) c
+  by_mark u before (d ∷ x) w v parts c h out =
+      let m = mark_inside edition v d x w h in
+      let b = bare_stuck before (d ∷ x ++ codes "((" ++ m.1) m.0 c m.2 in
+      absurd (out (begins_part edition kind (u ++ codes "((") m.1 (subst (BeginsAccepted edition kind)
+      (sym (append_assoc before ((d ∷ x) ++ codes "((") m.1)
+      ∙ ap (λ (l : List ℕ). l ++ m.1) (sym (append_assoc before (d ∷ x) (codes "(("))
+      ∙ ap (λ (l : List ℕ). l ++ codes "((") (sym parts))) b)))
 
-    pub calls_wanted : (u : List ℕ) → WantsBareItem edition kind u → Calls edition bare Field u
-    calls_wanted u h =
-        on (found u true h.bare.0 (subst (IsAccepted edition kind) (append_assoc u (codes "?") h.bare.0) h.bare.1))
-      where
-        on : Found edition (eaten true h.bare.0) Field Ever (u ++ question_mark ∷ h.bare.0) → Calls edition bare Field u
-        on (called bare before s parts c some met) =
-            let m = at_leaf (bare_at edition) (IsBareText edition) (bare_read edition) true h.bare.0 s met in
-            by_mark u before m.0 m.1 m.2 (append_cancel_right u (before ++ m.0) (question_mark ∷ h.bare.0)
-            (parts ∙ ap (λ (l : List ℕ). before ++ l) m.3 ∙ sym (append_assoc before m.0 (question_mark ∷ h.bare.0))))
-            c m.4 h.outside
-        on (called key before s parts c some met) =
-            let m = at_leaf key_at IsKeyText key_read true h.bare.0 s met in
-            absurd (no_mark_in_key m.0 m.1 m.2 m.4)
-        on (elsewhere o) = absurd o
+  pub calls_wanted : (u : List ℕ) → WantsBareItem edition kind u → Calls edition bare Field u
+  calls_wanted u h =
+      on (found u true h.bare.0 (subst (IsAccepted edition kind) (append_assoc u (codes "?") h.bare.0) h.bare.1))
+    where
+      on : Found edition (eaten true h.bare.0) Field Ever (u ++ question_mark ∷ h.bare.0) → Calls edition bare Field u
+      on (called bare before s parts c some met) =
+          let m = at_leaf (bare_at edition) (IsBareText edition) (bare_read edition) true h.bare.0 s met in
+          by_mark u before m.0 m.1 m.2 (append_cancel_right u (before ++ m.0) (question_mark ∷ h.bare.0)
+          (parts ∙ ap (λ (l : List ℕ). before ++ l) m.3 ∙ sym (append_assoc before m.0 (question_mark ∷ h.bare.0))))
+          c m.4 h.outside
+      on (called key before s parts c some met) =
+          let m = at_leaf key_at IsKeyText key_read true h.bare.0 s met in
+          absurd (no_mark_in_key m.0 m.1 m.2 m.4)
+      on (elsewhere o) = absurd o
 
   -- ---- keys
 
-  module _ (inside : AsteriskInside) where
-    by_bare : (u before x w : List ℕ) (v : BareValue) → u ≡ before ++ x → Calls edition bare Field before
-        → IsBareText edition v (x ++ asterisk ∷ w) → BeginsAccepted edition kind (u ++ codes "1")
-    by_bare u before x w v parts c h =
-        let m = inside edition v x w h in
-        let b = bare_stuck before (x ++ (codes "1" ++ m.1)) m.0 c m.2 in
-        begins_part edition kind (u ++ codes "1") m.1 (subst (BeginsAccepted edition kind)
-        (ap (λ (l : List ℕ). before ++ l) (sym (append_assoc x (codes "1") m.1))
-        ∙ sym (append_assoc before (x ++ codes "1") m.1)
-        ∙ ap (λ (l : List ℕ). l ++ m.1) (sym (append_assoc before x (codes "1"))
-        ∙ ap (λ (l : List ℕ). l ++ codes "1") (sym parts))) b)
+  by_bare : (u before x w : List ℕ) (v : BareValue) → u ≡ before ++ x → Calls edition bare Field before
+      → IsBareText edition v (x ++ asterisk ∷ w) → BeginsAccepted edition kind (u ++ codes "1")
+  by_bare u before x w v parts c h =
+      let m = asterisk_inside edition v x w h in
+      let b = bare_stuck before (x ++ codes "1" ++ m.1) m.0 c m.2 in
+      begins_part edition kind (u ++ codes "1") m.1 (subst (BeginsAccepted edition kind)
+      (sym (append_assoc before (x ++ codes "1") m.1)
+      ∙ ap (λ (l : List ℕ). l ++ m.1) (sym (append_assoc before x (codes "1"))
+      ∙ ap (λ (l : List ℕ). l ++ codes "1") (sym parts))) b)
 
-    by_key : (u before x w v : List ℕ) → u ≡ before ++ x → Calls edition key Field before
-        → IsKeyText v (x ++ asterisk ∷ w) → ¬ BeginsAccepted edition kind (u ++ codes "1") → Calls edition key Field u
-    by_key u before [] w v parts c h out = subst (Calls edition key Field) (sym (parts ∙ append-nil before)) c
-    by_key u before (d ∷ x) w v parts c h out =
-        let is : is_key (d ∷ (x ++ asterisk ∷ w)) ≡ true = ap is_key h.1 ∙ h.0 in
-        let p = and_parts (is_key_start d) (list_all is_key_inner (x ++ asterisk ∷ w)) is in
-        let b = key_stuck before d (x ++ codes "1") c p.0 (key_longer d x (asterisk ∷ w) (codes "1") is refl) in
-        absurd (out (subst (BeginsAccepted edition kind) (sym (append_assoc before (d ∷ x) (codes "1"))
-        ∙ ap (λ (l : List ℕ). l ++ codes "1") (sym parts)) b))
+  by_key : (u before x w v : List ℕ) → u ≡ before ++ x → Calls edition key Field before
+      → IsKeyText v (x ++ asterisk ∷ w) → ¬ BeginsAccepted edition kind (u ++ codes "1") → Calls edition key Field u
+  by_key u before [] w v parts c h out = subst (Calls edition key Field) (sym (parts ∙ append-nil before)) c
+  by_key u before (d ∷ x) w v parts c h out =
+      let is : is_key (d ∷ (x ++ asterisk ∷ w)) ≡ true = ap is_key h.1 ∙ h.0 in
+      let p = and_parts (is_key_start d) (list_all is_key_inner (x ++ asterisk ∷ w)) is in
+      let b = key_stuck before d (x ++ codes "1") c p.0 (key_longer d x (asterisk ∷ w) (codes "1") is refl) in
+      absurd (out (subst (BeginsAccepted edition kind) (sym (append_assoc before (d ∷ x) (codes "1"))
+      ∙ ap (λ (l : List ℕ). l ++ codes "1") (sym parts)) b))
 
-    pub calls_wanted_key : (u : List ℕ) → WantsKey edition kind u → Calls edition key Field u
-    calls_wanted_key u h =
-        on (found u false h.key.0 (subst (IsAccepted edition kind) (append_assoc u (codes "*") h.key.0) h.key.1))
-      where
-        on : Found edition (eaten false h.key.0) Field Ever (u ++ asterisk ∷ h.key.0) → Calls edition key Field u
-        on (called bare before s parts c some met) =
-            let m = at_leaf (bare_at edition) (IsBareText edition) (bare_read edition) false h.key.0 s met in
-            absurd (h.outside (by_bare u before m.0 m.1 m.2 (append_cancel_right u (before ++ m.0) (asterisk ∷ h.key.0)
-            (parts ∙ ap (λ (l : List ℕ). before ++ l) m.3 ∙ sym (append_assoc before m.0 (asterisk ∷ h.key.0))))
-            c m.4))
-        on (called key before s parts c some met) =
-            let m = at_leaf key_at IsKeyText key_read false h.key.0 s met in
-            by_key u before m.0 m.1 m.2 (append_cancel_right u (before ++ m.0) (asterisk ∷ h.key.0)
-            (parts ∙ ap (λ (l : List ℕ). before ++ l) m.3 ∙ sym (append_assoc before m.0 (asterisk ∷ h.key.0))))
-            c m.4 h.outside
-        on (elsewhere o) = absurd o
+  pub calls_wanted_key : (u : List ℕ) → WantsKey edition kind u → Calls edition key Field u
+  calls_wanted_key u h =
+      on (found u false h.key.0 (subst (IsAccepted edition kind) (append_assoc u (codes "*") h.key.0) h.key.1))
+    where
+      on : Found edition (eaten false h.key.0) Field Ever (u ++ asterisk ∷ h.key.0) → Calls edition key Field u
+      on (called bare before s parts c some met) =
+          let m = at_leaf (bare_at edition) (IsBareText edition) (bare_read edition) false h.key.0 s met in
+          absurd (h.outside (by_bare u before m.0 m.1 m.2 (append_cancel_right u (before ++ m.0) (asterisk ∷ h.key.0)
+          (parts ∙ ap (λ (l : List ℕ). before ++ l) m.3 ∙ sym (append_assoc before m.0 (asterisk ∷ h.key.0))))
+          c m.4))
+      on (called key before s parts c some met) =
+          let m = at_leaf key_at IsKeyText key_read false h.key.0 s met in
+          by_key u before m.0 m.1 m.2 (append_cancel_right u (before ++ m.0) (asterisk ∷ h.key.0)
+          (parts ∙ ap (λ (l : List ℕ). before ++ l) m.3 ∙ sym (append_assoc before m.0 (asterisk ∷ h.key.0))))
+          c m.4 h.outside
+      on (elsewhere o) = absurd o
 
 -- ---- the faults
 
@@ -265,10 +262,10 @@ opening edition (c ∷ r) x i (inl n) = elim (cases_Bool (blocked bare c)) [
   | inr f ↦ (c, r, refl, f)
 ]
 
-pub wanted_bare_is_read : MarkInside → WantedBareIsRead
-wanted_bare_is_read inside edition kind t before s x place i side =
+pub wanted_bare_is_read : WantedBareIsRead
+wanted_bare_is_read edition kind t before s x place i side =
     let o = opening edition s x i side in
-    let c = calls_wanted edition kind inside before place.wanted in
+    let c = calls_wanted edition kind before place.wanted in
     let on = c.follows o.0 o.1 o.3 in
     let follows : Follows {A = BareValue} (Err x) (whole_field_at edition kind (before ++ o.0 ∷ o.1)) =
     subst (λ (a : Answer BareValue). Follows a (whole_field_at edition kind (before ++ o.0 ∷ o.1)))
@@ -279,10 +276,10 @@ wanted_bare_is_read inside edition kind t before s x place i side =
       follows.2,
     )
 
-pub wanted_key_is_read : AsteriskInside → WantedKeyIsRead
-wanted_key_is_read inside edition kind u [] x wanted i begun = absurd (true≢false (sym begun))
-wanted_key_is_read inside edition kind u (c ∷ r) x wanted i begun =
-    let on = (calls_wanted_key edition kind inside u wanted).follows c r (not-true (is_space_or_tab c) begun) in
+pub wanted_key_is_read : WantedKeyIsRead
+wanted_key_is_read edition kind u [] x wanted i begun = absurd (true≢false (sym begun))
+wanted_key_is_read edition kind u (c ∷ r) x wanted i begun =
+    let on = (calls_wanted_key edition kind u wanted).follows c r (not-true (is_space_or_tab c) begun) in
     let follows : Follows {A = List ℕ} (Err x) (whole_field_at edition kind (u ++ c ∷ r)) =
     subst (λ (a : Answer (List ℕ)). Follows a (whole_field_at edition kind (u ++ c ∷ r))) i on in
     (follows.0, ends_faulty edition kind (u ++ c ∷ r) follows.0 follows.1, follows.2)
