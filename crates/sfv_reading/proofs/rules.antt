@@ -11,4 +11,5 @@ pub mod Tight
 pub mod Standing
 pub mod Ends
 pub mod Fields
+pub mod Cut
 pub mod UpToFault
