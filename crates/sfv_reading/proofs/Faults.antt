@@ -1,5 +1,5 @@
 -- The fault of the reader is that of the table of faults, and no other is.
-use Rattle.std.proofs.Common.{◌≡◌, ℕ, ◌+◌, ◌-◌, ◌≤◌, Bool, true, false, List, [], ◌++◌, length, take, Result}
+use Rattle.std.proofs.Common.{◌≡◌, ℕ, ◌+◌, ◌-◌, ◌≤◌, Bool, true, false, List, ◌++◌, length, take, Result}
 use Rattle.std.proofs.Common.{Ok, Err, refl, sym, ap, subst, ◌∙◌, inl, inr, arith, append_assoc}
 use Rattle.std.specs.Prelude.{◌⊎◌, codes}
 use Rattle.std.proofs.lemmas.Bool.{cases_Bool, true≢false}
@@ -23,6 +23,7 @@ use Rattle.sfv_reading.proofs.rules.Commas.{comma_row}
 use Rattle.sfv_reading.proofs.rules.BareFaults.{bare_fault_has_row}
 use Rattle.sfv_reading.proofs.rules.BareRows.{bare_row_is_given}
 use Rattle.sfv_reading.proofs.rules.RuledFaults.{ruled_is_given}
+use Rattle.sfv_reading.proofs.rules.Cut.{open_list_is_read}
 use Rattle.sfv_reading.proofs.places.Wanted.{bare_is_wanted}
 use Rattle.sfv_reading.proofs.places.Read.{wanted_bare_is_read, wanted_key_is_read, bare_stuck, calls_wanted}
 use Rattle.sfv_reading.proofs.places.Wants.{one_wanted}
@@ -164,184 +165,178 @@ module _ (edition : Edition) (kind : FieldKind) where
         )
   ]
 
-  -- ---- what is still to be known of the faults between the bare items
+  begun_given : (t : List ℕ) (f : SyntaxFault) (i : ℕ) → BegunFault edition kind t f i
+      → (g : IsGiven t f i) × (g.fault.exact ≡ true) × (is_want f ≡ false)
+  begun_given t f _ (faults.bare before s there place row) =
+      let r = bare_row_is_given edition s there f row in
+      let want = row_kind edition s there f row in
+      let not_start : ¬ (r.0.kind ≡ expected_start_of_bare_item) =
+      λ e. true≢false (ap is_want (sym e ∙ r.2) ∙ want) in
+      let w = wanted_bare_is_read edition kind t before s r.0 place r.1 (inl not_start) in
+      let exact : w.0.exact ≡ true = sym w.2.exact ∙ r.3 in
+      let left : w.0.rest ≡ there = sym w.2.rest ∙ r.4 in
+      let within = (at_the_reach t w.0 w.1 exact).0 in (
+        record {
+          fault = w.0;
+          read = w.1;
+          kind_of = sym w.2.kind ∙ r.2;
+          here = omega (arith, within, ap (length {A = ℕ}) left);
+        },
+        exact,
+        want,
+      )
+  begun_given t _ _ (faults.open_inner_list accepted no_space) =
+      let r = open_list_is_read edition kind t accepted no_space in (
+        record {
+          fault = r.0;
+          read = r.1;
+          kind_of = r.2;
+          here = omega (arith, ap (length {A = ℕ}) r.3);
+        },
+        r.4,
+        refl,
+      )
 
-  module _ (open_is_read : (t : List ℕ) → IsAccepted edition kind (t ++ codes ")")
-      → ((u : List ℕ) → ¬ (t ≡ u ++ codes " "))
-      → (e : Fault) × (read_field edition kind t ≡ Err e) × (e.kind ≡ unterminated_inner_list)
-      × (e.exact ≡ true) × (e.rest ≡ [])) where
-    begun_given : (t : List ℕ) (f : SyntaxFault) (i : ℕ) → BegunFault edition kind t f i
-        → (g : IsGiven t f i) × (g.fault.exact ≡ true) × (is_want f ≡ false)
-    begun_given t f _ (faults.bare before s there place row) =
-        let r = bare_row_is_given edition s there f row in
-        let want = row_kind edition s there f row in
-        let not_start : ¬ (r.0.kind ≡ expected_start_of_bare_item) =
-        λ e. true≢false (ap is_want (sym e ∙ r.2) ∙ want) in
-        let w = wanted_bare_is_read edition kind t before s r.0 place r.1 (inl not_start) in
-        let exact : w.0.exact ≡ true = sym w.2.exact ∙ r.3 in
-        let left : w.0.rest ≡ there = sym w.2.rest ∙ r.4 in
-        let within = (at_the_reach t w.0 w.1 exact).0 in (
+  -- ---- the reader's fault is the table's
+
+  wanted_at : (t : List ℕ) (e : Fault) → read_field edition kind t ≡ Err e → e.exact ≡ true → is_want e.kind ≡ true
+      → (u : List ℕ) → t ≡ u ++ e.rest → WantedFault edition kind u e.kind
+      → IsWantedAt edition kind t e.kind (length t - length e.rest)
+  wanted_at t e h x w u parts wanted = record {
+    rejected = rejected t e h;
+    no_rule = λ f i r.
+        let g = ruled_given t f i r in
+        let same = same_fault t e g.0.fault h g.0.read in
+        true≢false (sym x ∙ ap (λ (e : Fault). e.exact) same ∙ g.1);
+    nothing_begun = λ f i b.
+        let g = begun_given t f i b in
+        let same = same_fault t e g.0.fault h g.0.read in
+        true≢false (sym w ∙ ap (λ (e : Fault). is_want e.kind) same ∙ ap is_want g.0.kind_of ∙ g.2);
+    reach = (at_the_reach t e h x).1;
+    wanted = subst (λ (l : List ℕ). WantedFault edition kind l e.kind) (sym (taken_here t u e.rest parts)) wanted;
+  }
+
+  pub fault_is_at : (t : List ℕ) (e : Fault) → read_field edition kind t ≡ Err e
+      → IsFaultAt edition kind t e.kind (length t - length e.rest)
+  fault_is_at t e h = elim (bare_is_wanted edition kind t e h) [
+    | inl b ↦ of_bare b (bare_fault_has_row edition kind t b.before b.item b.fault b.place b.is_fault)
+    | inr (inl c) ↦
+        let n = ap (length {A = ℕ}) c.here in
+        let m = ap (length {A = ℕ}) c.trails.text in
+        let same : c.index ≡ length t - length e.rest = omega (
+          arith,
+          n,
+          length-drop c.index t,
+          m,
+          c.trails.here,
+          length-append (c.trails.before ++ codes ",") c.trails.whitespace,
+          length-append c.trails.before (codes ","),
+        ) in
+        inl (subst (λ (k : SyntaxFault). RuledFault edition kind t k (length t - length e.rest)) (sym c.kind_of)
+        (subst (RuledFault edition kind t trailing_comma) same (faults.comma c.trails)))
+    | inr (inr (x, inl w)) ↦
+        inr (inr (wanted_at t e h x (wanted_kind edition kind w.before e.kind w.wanted) w.before w.text w.wanted))
+    | inr (inr (x, inr o)) ↦
+        let whole : length t ≡ length t - length e.rest = omega (arith, ap (length {A = ℕ}) o.rest) in
+        inr (inl (subst (λ (n : ℕ). BegunFault edition kind t e.kind n) whole
+        (subst (λ (k : SyntaxFault). BegunFault edition kind t k (length t)) (sym o.kind_of)
+        (faults.open_inner_list o.closes o.no_space))))
+  ]
+    where
+      like : (x : Fault) → IsLike x e → RuledFault edition kind t x.kind (length t - length x.rest)
+          ⊎ BegunFault edition kind t x.kind (length t - length x.rest) → IsFaultAt edition kind t e.kind (length t - length e.rest)
+      like x l r =
+          let same : (k : SyntaxFault) (rest : List ℕ) → x.kind ≡ k → x.rest ≡ rest →
+          RuledFault edition kind t k (length t - length rest) ⊎ BegunFault edition kind t k (length t - length rest) =
+          λ k rest a b. subst (λ (l : List ℕ). RuledFault edition kind t k (length t - length l)
+          ⊎ BegunFault edition kind t k (length t - length l)) b
+          (subst (λ (k : SyntaxFault). RuledFault edition kind t k (length t - length x.rest)
+          ⊎ BegunFault edition kind t k (length t - length x.rest)) a r) in
+          elim (same e.kind e.rest l.kind l.rest) [ inl y ↦ inl y | inr y ↦ inr (inl y) ]
+
+      of_bare : (b : IsOfBare edition kind t e)
+          → ((b.fault.exact ≡ true)
+          × (((b.fault.kind ≡ expected_start_of_bare_item) × (b.fault.rest ≡ b.item))
+          ⊎ BareItemFault edition b.item b.fault.rest b.fault.kind))
+          ⊎ ((b.fault.exact ≡ false) × RuledFault edition kind t b.fault.kind (length t - length b.fault.rest))
+          → IsFaultAt edition kind t e.kind (length t - length e.rest)
+      of_bare b (inl (x, inl (start, here))) =
+          let named : e.kind ≡ expected_start_of_bare_item = sym b.like.kind ∙ start in
+          let left : b.item ≡ e.rest = sym here ∙ b.like.rest in
+          inr (inr (wanted_at t e h (sym b.like.exact ∙ x) (ap is_want named) b.before
+          (b.place.text ∙ ap (λ (l : List ℕ). b.before ++ l) left)
+          (subst (WantedFault edition kind b.before) (sym named) (faults.bare_item b.place.wanted))))
+      of_bare b (inl (x, inr row)) = like b.fault b.like (inr (faults.bare b.before b.item b.fault.rest b.place row))
+      of_bare b (inr (x, ruled)) = like b.fault b.like (inl ruled)
+
+  -- ---- the laws
+
+  given : (t : List ℕ) (f : SyntaxFault) (i : ℕ) → IsFaultAt edition kind t f i → IsGiven t f i
+  given t f i (inl r) = (ruled_given t f i r).0
+  given t f i (inr (inl b)) = (begun_given t f i b).0
+  given t f i (inr (inr w)) = on (read_field edition kind t) refl
+    where
+      same_place : (e : Fault) → read_field edition kind t ≡ Err e → IsFaultAt edition kind t e.kind (length t - length e.rest)
+          → IsGiven t f i
+      same_place e h (inl r) = absurd (w.no_rule e.kind _ r)
+      same_place e h (inr (inl b)) = absurd (w.nothing_begun e.kind _ b)
+      same_place e h (inr (inr v)) =
+          let place : length t - length e.rest ≡ i = one_reach_lem edition kind t _ i v.reach w.reach in
           record {
-            fault = w.0;
-            read = w.1;
-            kind_of = sym w.2.kind ∙ r.2;
-            here = omega (arith, within, ap (length {A = ℕ}) left);
-          },
-          exact,
-          want,
-        )
-    begun_given t _ _ (faults.open_inner_list accepted no_space) =
-        let r = open_is_read t accepted no_space in (
-          record {
-            fault = r.0;
-            read = r.1;
-            kind_of = r.2;
-            here = omega (arith, ap (length {A = ℕ}) r.4);
-          },
-          r.3,
-          refl,
-        )
+            fault = e;
+            read = h;
+            kind_of = one_wanted wanted_bare_is_read wanted_key_is_read edition kind (take i t) e.kind f
+                (subst (λ (n : ℕ). WantedFault edition kind (take n t) e.kind) place v.wanted) w.wanted;
+            here = omega (
+              arith,
+              place,
+              (at_the_reach t e h (want_exact t e h
+                  (wanted_kind edition kind (take (length t - length e.rest) t) e.kind v.wanted))).0,
+            );
+          }
 
-    -- ---- the reader's fault is the table's
+      on : (a : Result (RawField kind) Fault) → read_field edition kind t ≡ a → IsGiven t f i
+      on (Ok raw) h = absurd (w.rejected (raw, (read_is_accepted edition kind t raw).0 h))
+      on (Err e) h = same_place e h (fault_is_at t e h)
 
-    wanted_at : (t : List ℕ) (e : Fault) → read_field edition kind t ≡ Err e → e.exact ≡ true → is_want e.kind ≡ true
-        → (u : List ℕ) → t ≡ u ++ e.rest → WantedFault edition kind u e.kind
-        → IsWantedAt edition kind t e.kind (length t - length e.rest)
-    wanted_at t e h x w u parts wanted = record {
-      rejected = rejected t e h;
-      no_rule = λ f i r.
-          let g = ruled_given t f i r in
-          let same = same_fault t e g.0.fault h g.0.read in
-          true≢false (sym x ∙ ap (λ (e : Fault). e.exact) same ∙ g.1);
-      nothing_begun = λ f i b.
-          let g = begun_given t f i b in
-          let same = same_fault t e g.0.fault h g.0.read in
-          true≢false (sym w ∙ ap (λ (e : Fault). is_want e.kind) same ∙ ap is_want g.0.kind_of ∙ g.2);
-      reach = (at_the_reach t e h x).1;
-      wanted = subst (λ (l : List ℕ). WantedFault edition kind l e.kind) (sym (taken_here t u e.rest parts)) wanted;
-    }
+  pub one_fault : (t : List ℕ) (f g : SyntaxFault) (i j : ℕ) → IsFaultAt edition kind t f i
+      → IsFaultAt edition kind t g j → (f ≡ g) × (i ≡ j)
+  one_fault t f g i j h k =
+      let a = given t f i h in
+      let b = given t g j k in
+      let same = same_fault t a.fault b.fault a.read b.read in
+      let rest = ap (λ (e : Fault). length e.rest) same in
+      (sym a.kind_of ∙ ap (λ (e : Fault). e.kind) same ∙ b.kind_of, omega (arith, a.here, b.here, rest))
 
-    fault_is_at : (t : List ℕ) (e : Fault) → read_field edition kind t ≡ Err e
-        → IsFaultAt edition kind t e.kind (length t - length e.rest)
-    fault_is_at t e h = elim (bare_is_wanted edition kind t e h) [
-      | inl b ↦ of_bare b (bare_fault_has_row edition kind t b.before b.item b.fault b.place b.is_fault)
-      | inr (inl c) ↦
-          let n = ap (length {A = ℕ}) c.here in
-          let m = ap (length {A = ℕ}) c.trails.text in
-          let same : c.index ≡ length t - length e.rest = omega (
-            arith,
-            n,
-            length-drop c.index t,
-            m,
-            c.trails.here,
-            length-append (c.trails.before ++ codes ",") c.trails.whitespace,
-            length-append c.trails.before (codes ","),
-          ) in
-          inl (subst (λ (k : SyntaxFault). RuledFault edition kind t k (length t - length e.rest)) (sym c.kind_of)
-          (subst (RuledFault edition kind t trailing_comma) same (faults.comma c.trails)))
-      | inr (inr (x, inl w)) ↦
-          inr (inr (wanted_at t e h x (wanted_kind edition kind w.before e.kind w.wanted) w.before w.text w.wanted))
-      | inr (inr (x, inr o)) ↦
-          let whole : length t ≡ length t - length e.rest = omega (arith, ap (length {A = ℕ}) o.rest) in
-          inr (inl (subst (λ (n : ℕ). BegunFault edition kind t e.kind n) whole
-          (subst (λ (k : SyntaxFault). BegunFault edition kind t k (length t)) (sym o.kind_of)
-          (faults.open_inner_list o.closes o.no_space))))
-    ]
-      where
-        like : (x : Fault) → IsLike x e → RuledFault edition kind t x.kind (length t - length x.rest)
-            ⊎ BegunFault edition kind t x.kind (length t - length x.rest) → IsFaultAt edition kind t e.kind (length t - length e.rest)
-        like x l r =
-            let same : (k : SyntaxFault) (rest : List ℕ) → x.kind ≡ k → x.rest ≡ rest →
-            RuledFault edition kind t k (length t - length rest) ⊎ BegunFault edition kind t k (length t - length rest) =
-            λ k rest a b. subst (λ (l : List ℕ). RuledFault edition kind t k (length t - length l)
-            ⊎ BegunFault edition kind t k (length t - length l)) b
-            (subst (λ (k : SyntaxFault). RuledFault edition kind t k (length t - length x.rest)
-            ⊎ BegunFault edition kind t k (length t - length x.rest)) a r) in
-            elim (same e.kind e.rest l.kind l.rest) [ inl y ↦ inl y | inr y ↦ inr (inl y) ]
+  pub fault_rejects : (t : List ℕ) (f : SyntaxFault) (i : ℕ) → IsFaultAt edition kind t f i
+      → (¬ IsAccepted edition kind t) × (i ≤ length t)
+  fault_rejects t f i h = let a = given t f i h in (rejected t a.fault a.read, omega (arith, a.here))
 
-        of_bare : (b : IsOfBare edition kind t e)
-            → ((b.fault.exact ≡ true)
-            × (((b.fault.kind ≡ expected_start_of_bare_item) × (b.fault.rest ≡ b.item))
-            ⊎ BareItemFault edition b.item b.fault.rest b.fault.kind))
-            ⊎ ((b.fault.exact ≡ false) × RuledFault edition kind t b.fault.kind (length t - length b.fault.rest))
-            → IsFaultAt edition kind t e.kind (length t - length e.rest)
-        of_bare b (inl (x, inl (start, here))) =
-            let named : e.kind ≡ expected_start_of_bare_item = sym b.like.kind ∙ start in
-            let left : b.item ≡ e.rest = sym here ∙ b.like.rest in
-            inr (inr (wanted_at t e h (sym b.like.exact ∙ x) (ap is_want named) b.before
-            (b.place.text ∙ ap (λ (l : List ℕ). b.before ++ l) left)
-            (subst (WantedFault edition kind b.before) (sym named) (faults.bare_item b.place.wanted))))
-        of_bare b (inl (x, inr row)) = like b.fault b.like (inr (faults.bare b.before b.item b.fault.rest b.place row))
-        of_bare b (inr (x, ruled)) = like b.fault b.like (inl ruled)
+  pub field_or_fault : (t : List ℕ)
+      → IsAccepted edition kind t ⊎ ((f : SyntaxFault) × (i : ℕ) × IsFaultAt edition kind t f i)
+  field_or_fault t = on (read_field edition kind t) refl
+    where
+      on : (a : Result (RawField kind) Fault) → read_field edition kind t ≡ a
+          → IsAccepted edition kind t ⊎ ((f : SyntaxFault) × (i : ℕ) × IsFaultAt edition kind t f i)
+      on (Ok raw) h = inl (raw, (read_is_accepted edition kind t raw).0 h)
+      on (Err e) h = inr (e.kind, length t - length e.rest, fault_is_at t e h)
 
-    -- ---- the laws
-
-    given : (t : List ℕ) (f : SyntaxFault) (i : ℕ) → IsFaultAt edition kind t f i → IsGiven t f i
-    given t f i (inl r) = (ruled_given t f i r).0
-    given t f i (inr (inl b)) = (begun_given t f i b).0
-    given t f i (inr (inr w)) = on (read_field edition kind t) refl
-      where
-        same_place : (e : Fault) → read_field edition kind t ≡ Err e → IsFaultAt edition kind t e.kind (length t - length e.rest)
-            → IsGiven t f i
-        same_place e h (inl r) = absurd (w.no_rule e.kind _ r)
-        same_place e h (inr (inl b)) = absurd (w.nothing_begun e.kind _ b)
-        same_place e h (inr (inr v)) =
-            let place : length t - length e.rest ≡ i = one_reach_lem edition kind t _ i v.reach w.reach in
-            record {
-              fault = e;
-              read = h;
-              kind_of = one_wanted wanted_bare_is_read wanted_key_is_read edition kind (take i t) e.kind f
-                  (subst (λ (n : ℕ). WantedFault edition kind (take n t) e.kind) place v.wanted) w.wanted;
-              here = omega (
-                arith,
-                place,
-                (at_the_reach t e h (want_exact t e h
-                    (wanted_kind edition kind (take (length t - length e.rest) t) e.kind v.wanted))).0,
-              );
-            }
-
-        on : (a : Result (RawField kind) Fault) → read_field edition kind t ≡ a → IsGiven t f i
-        on (Ok raw) h = absurd (w.rejected (raw, (read_is_accepted edition kind t raw).0 h))
-        on (Err e) h = same_place e h (fault_is_at t e h)
-
-    pub one_fault : (t : List ℕ) (f g : SyntaxFault) (i j : ℕ) → IsFaultAt edition kind t f i
-        → IsFaultAt edition kind t g j → (f ≡ g) × (i ≡ j)
-    one_fault t f g i j h k =
-        let a = given t f i h in
-        let b = given t g j k in
-        let same = same_fault t a.fault b.fault a.read b.read in
-        let rest = ap (λ (e : Fault). length e.rest) same in
-        (sym a.kind_of ∙ ap (λ (e : Fault). e.kind) same ∙ b.kind_of, omega (arith, a.here, b.here, rest))
-
-    pub fault_rejects : (t : List ℕ) (f : SyntaxFault) (i : ℕ) → IsFaultAt edition kind t f i
-        → (¬ IsAccepted edition kind t) × (i ≤ length t)
-    fault_rejects t f i h = let a = given t f i h in (rejected t a.fault a.read, omega (arith, a.here))
-
-    pub field_or_fault : (t : List ℕ)
-        → IsAccepted edition kind t ⊎ ((f : SyntaxFault) × (i : ℕ) × IsFaultAt edition kind t f i)
-    field_or_fault t = on (read_field edition kind t) refl
-      where
-        on : (a : Result (RawField kind) Fault) → read_field edition kind t ≡ a
-            → IsAccepted edition kind t ⊎ ((f : SyntaxFault) × (i : ℕ) × IsFaultAt edition kind t f i)
-        on (Ok raw) h = inl (raw, (read_is_accepted edition kind t raw).0 h)
-        on (Err e) h = inr (e.kind, length t - length e.rest, fault_is_at t e h)
-
-    pub ruled_or_at_reach : (t : List ℕ) (f : SyntaxFault) (i : ℕ) → IsFaultAt edition kind t f i
-        → RuledFault edition kind t f i
-        ⊎ (((g : SyntaxFault) (j : ℕ) → ¬ RuledFault edition kind t g j) × IsReach edition kind t i)
-    ruled_or_at_reach t f i (inl r) = inl r
-    ruled_or_at_reach t f i (inr (inr w)) = inr (w.no_rule, w.reach)
-    ruled_or_at_reach t f i (inr (inl b)) =
-        let a = begun_given t f i b in
-        let reach = at_the_reach t a.0.fault a.0.read a.1 in
-        let here : length t - length a.0.fault.rest ≡ i = omega (arith, a.0.here) in
-        inr (
-          λ g j r.
-              let c = ruled_given t g j r in
-              let same = same_fault t a.0.fault c.0.fault a.0.read c.0.read in
-              true≢false (sym a.1 ∙ ap (λ (e : Fault). e.exact) same ∙ c.1),
-          subst (IsReach edition kind t) here reach.1,
-        )
+  pub ruled_or_at_reach : (t : List ℕ) (f : SyntaxFault) (i : ℕ) → IsFaultAt edition kind t f i
+      → RuledFault edition kind t f i
+      ⊎ (((g : SyntaxFault) (j : ℕ) → ¬ RuledFault edition kind t g j) × IsReach edition kind t i)
+  ruled_or_at_reach t f i (inl r) = inl r
+  ruled_or_at_reach t f i (inr (inr w)) = inr (w.no_rule, w.reach)
+  ruled_or_at_reach t f i (inr (inl b)) =
+      let a = begun_given t f i b in
+      let reach = at_the_reach t a.0.fault a.0.read a.1 in
+      let here : length t - length a.0.fault.rest ≡ i = omega (arith, a.0.here) in
+      inr (
+        λ g j r.
+            let c = ruled_given t g j r in
+            let same = same_fault t a.0.fault c.0.fault a.0.read c.0.read in
+            true≢false (sym a.1 ∙ ap (λ (e : Fault). e.exact) same ∙ c.1),
+        subst (IsReach edition kind t) here reach.1,
+      )
 
 -- where a bare item is wanted true can stand, as it can where a question mark can and two parentheses can't
 pub true_is_wanted : TrueIsWanted

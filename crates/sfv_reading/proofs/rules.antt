@@ -11,6 +11,7 @@ pub mod Tight
 pub mod Standing
 pub mod Ends
 pub mod Fields
+pub mod Cut
 pub mod UpToFault
 pub mod Numbers
 pub mod NumberRows

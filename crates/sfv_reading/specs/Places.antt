@@ -73,3 +73,10 @@ abbrev pub WantedKeyIsRead : Type 0
 WantedKeyIsRead = (edition : Edition) (kind : FieldKind) (u w : List ℕ) (x : Fault) → WantsKey edition kind u
     → key_at w ≡ Err x → IsTrue (begins_with (λ c. not (is_space_or_tab c)) w)
     → (e : Fault) × (read_field edition kind (u ++ w) ≡ Err e) × IsLike x e
+
+-- where but a parenthesis is missing, right after the opening one or after an item, that is the fault
+abbrev pub OpenListIsRead : Type 0
+OpenListIsRead = (edition : Edition) (kind : FieldKind) (t : List ℕ) → IsAccepted edition kind (t ++ codes ")")
+    → ((u : List ℕ) → ¬ (t ≡ u ++ codes " "))
+    → (e : Fault) × (read_field edition kind t ≡ Err e) × (e.kind ≡ unterminated_inner_list) × (e.rest ≡ [])
+    × (e.exact ≡ true)

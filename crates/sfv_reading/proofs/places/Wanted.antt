@@ -1,8 +1,7 @@
 -- Where the readers of a field call that of bare items, or of keys, one is wanted.
-use Rattle.std.proofs.Common.{◌≡◌, ℕ, Bool, true, false, eqb, List, [], ◌∷◌, ◌++◌, length, drop, Ok, Err, refl, sym, ap}
+use Rattle.std.proofs.Common.{◌≡◌, ℕ, Bool, true, false, List, [], ◌∷◌, ◌++◌, length, drop, Ok, Err, refl, sym, ap}
 use Rattle.std.proofs.Common.{subst, ◌∙◌, append_assoc, arith, inl, inr, ◌⊎◌, length-drop}
 use Rattle.std.specs.Prelude.{codes}
-use Rattle.std.proofs.lemmas.Bool.{true≢false}
 use Rattle.std.proofs.lemmas.List.{append-nil, take_at, drop_at, length-append}
 use Rattle.sfv_spec.specs.Ascii.{space, comma, digit_one, question_mark, asterisk}
 use Rattle.sfv_spec.specs.Values.{Edition, FieldKind, item_field, list_field, dictionary_field, RawField, BareValue}
@@ -23,7 +22,7 @@ use Rattle.sfv_reading.proofs.Theorems.{read_is_accepted, fault_is_placed}
 use Rattle.sfv_reading.proofs.Trailing.{key_fault, comes_from}
 use Rattle.sfv_reading.proofs.sound.Combinators.{Somewhere}
 use Rattle.sfv_reading.proofs.sound.Fields.{FieldGoes, Sound-field}
-use Rattle.sfv_reading.proofs.rules.Tight.{IsTight}
+use Rattle.sfv_reading.proofs.rules.Tight.{IsTight, not_last}
 use Rattle.sfv_reading.proofs.rules.Standing.{Stands, IsLastComma}
 use Rattle.sfv_reading.proofs.rules.Fields.{HasMembers, field_rules}
 use Rattle.sfv_reading.proofs.rules.Ends.{field_none}
@@ -97,22 +96,9 @@ wants_key edition kind u h = record {
 
 -- ---- the faults
 
-last_same : (s t : List ℕ) (c d : ℕ) → s ++ c ∷ [] ≡ t ++ d ∷ [] → c ≡ d
-last_same [] [] c d e = cc
-last_same [] (y ∷ t) c d e = absurd (omega (arith, ap (length {A = ℕ}) e, length-append t (d ∷ [])))
-last_same (x ∷ s) [] c d e = absurd (omega (arith, ap (length {A = ℕ}) e, length-append s (c ∷ [])))
-last_same (x ∷ s) (y ∷ t) c d e = let tails : s ++ c ∷ [] ≡ t ++ d ∷ [] = cc in last_same s t c d tails
-
 abbrev Sorted : Edition → FieldKind → List ℕ → Fault → Type 0
 Sorted edition kind t e = IsOfBare edition kind t e ⊎ (IsOfComma edition kind t e
     ⊎ ((e.exact ≡ true) × (IsOfWanted edition kind t e ⊎ IsOfOpenList edition kind t e)))
-
--- no space ends the text
-not_spaced : (t u : List ℕ) → IsTight t → ¬ (t ≡ u ++ codes " ")
-not_spaced t u h e =
-    let same : h.before ++ h.last ∷ [] ≡ u ++ space ∷ [] = sym h.text ∙ e in
-    true≢false (ap (λ (c : ℕ). eqb c space) (sym (last_same h.before u h.last space same))
-    ∙ h.no_space)
 
 at_comma : (edition : Edition) (kind : FieldKind) (t : List ℕ) (e : Fault)
     → IsLastComma (IsFieldText edition kind) (HasMembers kind) t e.rest → e.kind ≡ trailing_comma → e.exact ≡ false
@@ -156,7 +142,7 @@ by_kind edition kind t e unterminated_inner_list true i x h s =
         kind_of = i;
         rest = s.ends refl;
         closes = subst (λ (l : List ℕ). IsAccepted edition kind (l ++ codes ")")) (sym whole) s.closes;
-        no_space = λ u. not_spaced t u (subst IsTight (sym whole) s.tight);
+        no_space = λ u. not_last space t u (subst (IsTight space) (sym whole) s.tight);
       }),
     ))
 by_kind edition kind t e trailing_characters_after_member true i x h s = inr (inr (

@@ -1,5 +1,5 @@
 -- What stands after a field with a member, and is no more of it.
-use Rattle.std.proofs.Common.{◌≡◌, ℕ, false, eqb, List, [], ◌∷◌, ◌++◌, length, drop, Ok, Err, refl, sym, ap, subst}
+use Rattle.std.proofs.Common.{◌≡◌, ℕ, false, eqb, List, [], ◌∷◌, ◌++◌, length, drop, Ok, Err, refl, sym, ap}
 use Rattle.std.proofs.Common.{◌∙◌, append_assoc, arith}
 use Rattle.std.proofs.lemmas.List.{append-nil, drop_at}
 use Rattle.std.specs.Prelude.{codes}
@@ -55,17 +55,16 @@ met : (edition : Edition) (kind : FieldKind) (raw : RawField kind) (t q : List �
     → Apart lengthens_item q → whole_field_at edition kind (t ++ q) ≡ Err (behind_events (events kind raw) e)
 unfolding whole_field_at
 met edition item_field raw t q e many has h after f = absurd many
-met edition list_field raw t q e many has h after f =
+met edition list_field [] t q e many has h after f = absurd (let none = has.2 in cc)
+met edition list_field (m ∷ ms) t q e many has h after f =
     members_met (IsMemberText edition) entry_events (entry_at edition) (Apart lengthens_item) (entry_complete edition)
-    (entry_fresh edition) blank_ends comma_ends (Apart-nil lengthens_item) (Sound-entry edition) has.0 has.1 t q e
-    (subst (λ raw. IsFieldText edition list_field raw t) has.2 h) (after _ (entry_at edition)) f
-    ∙ ap (λ ms. Err (behind_events (events list_field ms) e)) (sym has.2)
-met edition dictionary_field raw t q e many has h after f =
+    (entry_fresh edition) blank_ends comma_ends (Apart-nil lengthens_item) (Sound-entry edition) m ms t q e h
+    (after _ (entry_at edition) h.second.back h.second.second) f
+met edition dictionary_field [] t q e many has h after f = absurd (let none = has.2 in cc)
+met edition dictionary_field (m ∷ ms) t q e many has h after f =
     members_met (IsDictionaryMemberText edition) keyed_events (keyed_at edition) (Apart lengthens_item)
     (keyed_complete edition) (keyed_fresh edition) blank_ends comma_ends (Apart-nil lengthens_item)
-    (Sound-keyed edition) has.0 has.1 t q e (subst (λ raw. IsFieldText edition dictionary_field raw t) has.2 h)
-    (after _ (keyed_at edition)) f
-    ∙ ap (λ ms. Err (behind_events (events dictionary_field ms) e)) (sym has.2)
+    (Sound-keyed edition) m ms t q e h (after _ (keyed_at edition) h.second.back h.second.second) f
 
 -- a comma and blanks at the end
 pub comma_after : (edition : Edition) (kind : FieldKind) (raw : RawField kind) (t w : List ℕ) → HasManyMembers kind

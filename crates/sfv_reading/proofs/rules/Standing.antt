@@ -4,7 +4,7 @@ use Rattle.std.proofs.Common.{sym, ap, subst, ◌∙◌, append_assoc, arith}
 use Rattle.std.specs.Prelude.{⊤, codes}
 use Rattle.std.proofs.lemmas.List.{append-nil}
 use Rattle.std.proofs.lemmas.Bool.{eqb-true}
-use Rattle.sfv_spec.specs.Ascii.{left_parenthesis, right_parenthesis, comma, equals_sign}
+use Rattle.sfv_spec.specs.Ascii.{space, left_parenthesis, right_parenthesis, comma, equals_sign}
 use Rattle.sfv_spec.specs.Texts.{RunOf, IsJoining}
 use Rattle.sfv_spec.specs.Classes.{is_space, is_space_or_tab}
 use Rattle.sfv_spec.specs.Values.{Edition, boolean, RawItem}
@@ -31,14 +31,14 @@ use Rattle.sfv_reading.proofs.texts.Joining.{joining_none, joining_into, joining
 use Rattle.sfv_reading.proofs.rules.Combinators.{Rules, Rules-give, Rules-steady, Rules-led, Rules-bind, Rules-branch}
 use Rattle.sfv_reading.proofs.rules.Combinators.{Rules-ahead, Rules-any, Rules-weaker, fail_at}
 use Rattle.sfv_reading.proofs.rules.Many.{Rules-many}
-use Rattle.sfv_reading.proofs.rules.Tight.{IsTight, tight_after, item_tight}
+use Rattle.sfv_reading.proofs.rules.Tight.{IsTight, tight_after, item_tight, outer_space}
 
 -- front ends in an inner list, where a parenthesis can stand, and, after an item, a parameter too
 pub record IsOpen {A : Type 0} (P : A → List ℕ → Type 0) (k : SyntaxFault) (t rest : List ℕ) : Type 0 where
   pub front : List ℕ
   pub text : t ≡ front ++ rest
   pub closes : (v : A) × P v (front ++ codes ")")
-  pub tight : IsTight front
+  pub tight : IsTight space front
   pub longer : k ≡ expected_inner_list_delimiter → (v : A) × P v (front ++ codes ";a)")
   pub some : k ≡ expected_inner_list_delimiter → 1 ≤ length rest
   pub ends : k ≡ unterminated_inner_list → rest ≡ []
@@ -84,7 +84,7 @@ open_within P Q p h k t rest o = record {
   text = ap (λ (l : List ℕ). p ++ l) o.text ∙ sym (append_assoc p o.front rest);
   closes = let m = h o.closes.0 (o.front ++ codes ")") o.closes.1 in
       (m.0, subst (Q m.0) (sym (append_assoc p o.front (codes ")"))) m.1);
-  tight = tight_after p o.front o.tight;
+  tight = tight_after space p o.front o.tight;
   longer = λ e. let w = o.longer e in let m = h w.0 (o.front ++ codes ";a)") w.1 in
       (m.0, subst (Q m.0) (sym (append_assoc p o.front (codes ";a)"))) m.1);
   some = o.some;
@@ -204,14 +204,14 @@ module _ (edition : Edition) where
       }
 
   items_tight : (i : RawItem) (is : List RawItem) (s u : List ℕ) → IsItemText edition i s
-      → IsJoining (IsNextItem edition) is u → IsTight (s ++ u)
-  items_tight i [] s u h j = subst IsTight (sym (ap (λ (l : List ℕ). s ++ l) (joining-nil j) ∙ append-nil s))
-      (item_tight edition i s h)
+      → IsJoining (IsNextItem edition) is u → IsTight space (s ++ u)
+  items_tight i [] s u h j = subst (IsTight space) (sym (ap (λ (l : List ℕ). s ++ l) (joining-nil j) ∙ append-nil s))
+      (item_tight space outer_space edition i s h)
   items_tight i (next ∷ is) s u h j =
       let c = joining-cons j in
       let n = c.first in
-      tight_after s u (subst IsTight (sym (c.text ∙ ap (λ (l : List ℕ). l ++ c.back) n.text
-      ∙ append_assoc n.front n.back c.back)) (tight_after n.front (n.back ++ c.back)
+      tight_after space s u (subst (IsTight space) (sym (c.text ∙ ap (λ (l : List ℕ). l ++ c.back) n.text
+      ∙ append_assoc n.front n.back c.back)) (tight_after space n.front (n.back ++ c.back)
       (items_tight next is n.back c.back n.second c.second)))
 
   -- ---- inner lists
@@ -247,7 +247,7 @@ module _ (edition : Edition) where
                   (joined_split (IsNextItem edition) IsClosed is u (codes ")") j bracket),
             ),
           );
-          tight = tight_after (left_parenthesis ∷ s) (t ++ u) (items_tight i is t u h j);
+          tight = tight_after space (left_parenthesis ∷ s) (t ++ u) (items_tight i is t u h j);
           longer = λ _. (
             m.i ∷ m.is,
             (
@@ -300,7 +300,7 @@ module _ (edition : Edition) where
         front = left_parenthesis ∷ [];
         text = refl;
         closes = ([], (right_parenthesis ∷ [], refl, bracket));
-        tight = record { before = []; last = left_parenthesis; text = refl; no_space = refl };
+        tight = record { before = []; last = left_parenthesis; text = refl; other = refl };
         longer = λ k. absurd cc;
         some = λ k. absurd cc;
         ends = λ _. refl;

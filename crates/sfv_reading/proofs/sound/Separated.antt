@@ -161,7 +161,7 @@ module _ {A : Type 0} (P : A → List ℕ → Type 0) (parts : A → List TreeEv
 
   -- ---- members are read again
 
-  comma_complete : (behind q : List ℕ) → RunOf is_space_or_tab behind → Apart is_space_or_tab q → 1 ≤ length q
+  pub comma_complete : (behind q : List ℕ) → RunOf is_space_or_tab behind → Apart is_space_or_tab q → 1 ≤ length q
       → back trailing_comma comma_at (comma ∷ (behind ++ q)) ≡ Ok (tt, q)
   unfolding comma_at give
   comma_complete behind q each h some = back_complete _ _ _ _ _ (branch_take _ _ _ comma (behind ++ q) refl
@@ -173,7 +173,7 @@ module _ {A : Type 0} (P : A → List ℕ → Type 0) (parts : A → List TreeEv
       → Apart is_space_or_tab (t ++ q) × (1 ≤ length (t ++ q)))
       (ends : (c : ℕ) (q : List ℕ) → is_space_or_tab c ≡ true → F (c ∷ q)) (comma_ends : (q : List ℕ)
       → F (comma ∷ q)) (end : F []) where
-    blank_ends : (s q : List ℕ) → RunOf is_space_or_tab s → F q → F (s ++ q)
+    pub blank_ends : (s q : List ℕ) → RunOf is_space_or_tab s → F q → F (s ++ q)
     blank_ends [] q each f = f
     blank_ends (c ∷ s) q each f = ends c (s ++ q) (run_head is_space_or_tab c s each)
 
@@ -232,14 +232,14 @@ module _ {A : Type 0} (P : A → List ℕ → Type 0) (parts : A → List TreeEv
 
     -- up to a fault of what comes after the last
     pub members_met : Reads one P (Goes P parts) → (m : A) (ms : List A) (t q : List ℕ) (e : Fault)
-        → AreMembersText P (m ∷ ms) t → ((z : List ℕ) → RunOf is_space_or_tab z → next_at one (z ++ q) ≡ Err e) → F q
+        → (h : AreMembersText P (m ∷ ms) t) → next_at one (h.second.back ++ q) ≡ Err e → F q
         → members_at parts one (t ++ q) ≡ Err (behind_events (flat_map parts (m ∷ ms)) e)
     unfolding members_at
     members_met r m ms t q e h met f =
         let o = h.second.first in
         let z : List ℕ = h.second.back in
         let more = many_met parts (next_at one) (Consumes-next r) IsNext F (λ v a q p f. next_complete v a q p f)
-        (z ++ q) e (met z h.second.second) (blank_ends z q h.second.second f) ms o.back o.second in
+        (z ++ q) e met (blank_ends z q h.second.second f) ms o.back o.second in
         let all : t ++ q ≡ h.front ++ (o.front ++ (o.back ++ (z ++ q))) =
         ap (λ (l : List ℕ). l ++ q) (h.text
         ∙ ap (λ (l : List ℕ). h.front ++ l) (h.second.text ∙ ap (λ (l : List ℕ). l ++ z) o.text))
