@@ -17,7 +17,7 @@ use Rattle.sfv_spec.proofs.Collapse.{entered, collapse-distinct, collapse-push, 
 use Rattle.sfv_spec.proofs.Laws.{round_trip_lem}
 use Rattle.sfv_spec.proofs.Structure.{one_field_lem}
 use Rattle.sfv_spec.proofs.Valid.{accepted_is_value_lem}
-use Rattle.sfv_spec.specs.Faults.{SyntaxFault, IsRejectedAt}
+use Rattle.sfv_spec.specs.Faults.{SyntaxFault, IsFaultAt}
 use Rattle.sfv_base.specs.declared.error.Error.{Error}
 use Rattle.sfv_base.specs.Errors.{index_of, kind_of, error_kind, out_of_memory}
 use Rattle.sfv_tree.specs.Trees.{list_tree, dictionary_tree}
@@ -29,6 +29,7 @@ use Rattle.sfv_tree.specs.declared.visitor.dictionary_builder.DictionaryBuilder.
 use Rattle.sfv_reading.specs.Reader.{Fault}
 use Rattle.sfv_reading.specs.Fields.{read_field}
 use Rattle.sfv_reading.proofs.Theorems.{read_is_accepted}
+use Rattle.sfv_reading.proofs.Faults.{fault_rejects}
 use Rattle.sfv.specs.Parsers.{IsParseError, IsAnswerOf}
 use Rattle.sfv.proofs.built.Items.{insert_entry-entered}
 use Rattle.sfv.proofs.built.Lists.{built_list_behind}
@@ -114,17 +115,17 @@ one_value edition kind t a b h k = h.ordered_value ∙ ap (ordered kind) (k.only
 pub accepted_error : (edition : Edition) (kind : FieldKind) (t : List ℕ) (raw : RawField kind) (e : Error)
     → IsFieldText edition kind raw t → IsParseError edition kind t e → e ≡ out_of_memory
 accepted_error edition kind t raw e accepted (inl same) = same
-accepted_error edition kind t raw e accepted (inr h) = absurd (h.rejected.rejected (raw, accepted))
+accepted_error edition kind t raw e accepted (inr h) = absurd ((fault_rejects edition kind t h.fault h.index h.located).0 (raw, accepted))
 
 -- an error with an index is a fault of the text there
 pub located_error : (edition : Edition) (kind : FieldKind) (t : List ℕ) (e : Error) (index : ℕ)
     → IsParseError edition kind t e → index_of e ≡ Some index
-    → (fault : SyntaxFault) × (kind_of e ≡ error_kind fault) × IsRejectedAt edition kind t fault index
+    → (fault : SyntaxFault) × (kind_of e ≡ error_kind fault) × IsFaultAt edition kind t fault index
 located_error edition kind t e index (inl same) here =
     absurd (let none : index_of e ≡ None = ap index_of same in cc)
 located_error edition kind t e index (inr h) here =
     let place : h.index ≡ index = same_Some h.index index (sym (ap index_of h.error) ∙ here) in
-    (h.fault, ap kind_of h.error, subst (IsRejectedAt edition kind t h.fault) place h.rejected)
+    (h.fault, ap kind_of h.error, subst (IsFaultAt edition kind t h.fault) place h.located)
 
 -- a further line of a list: its members stand behind those that the builder was given
 pub list_behind : {E : Type 0} (edition : Edition) (t : List ℕ) (held : List RawMember) (from : ListBuilder)

@@ -6,15 +6,13 @@ use Rattle.sfv_spec.specs.Values.{BareValue, RawItem}
 use Rattle.sfv_spec.specs.Grammar.{IsFieldText, BeginsWithBareItem}
 use Rattle.sfv_spec.specs.Events.{TreeEvent, bare_item, item_events, events}
 use Rattle.sfv_spec.specs.Visiting.{NeverFails, IsVisited, IsVisitorError, IsEarlyVisitorError}
-use Rattle.sfv_spec.specs.Faults.{SyntaxFault, trailing_characters_after_parsed_value, IsRejectedAt}
+use Rattle.sfv_spec.specs.Faults.{SyntaxFault, trailing_characters_after_parsed_value, IsFaultAt}
 use Rattle.sfv_base.specs.declared.error.Error.{Error}
 use Rattle.sfv_base.specs.declared.error.ParseError.{ParseError}
 use Rattle.sfv_base.specs.declared.error.ParseError.TheVariants.{Syntax, Visitor}
 use Rattle.sfv_base.specs.Errors.{error_of, error_kind, out_of_memory}
 use Rattle.sfv_bare.specs.BareItems.{edition_of}
 use Rattle.sfv_bare.specs.declared.bare.Version.{Version}
-use Rattle.sfv_reading.specs.Reader.{Fault}
-use Rattle.sfv_reading.specs.Fields.{read_field}
 use Rattle.sfv.specs.declared.parser.Parser.{Parser}
 
 -- the parser of this input under this version
@@ -33,23 +31,11 @@ pub record IsSyntaxError (edition : Edition) (kind : FieldKind) (t : List ℕ) (
   pub fault : SyntaxFault
   pub index : ℕ
   pub error : e ≡ error_of (error_kind fault) (Some index)
-  pub rejected : IsRejectedAt edition kind t fault index
+  pub located : IsFaultAt edition kind t fault index
 
--- out of memory, or the text is rejected
+-- out of memory, or a fault of the text
 abbrev pub IsParseError : Edition → FieldKind → List ℕ → Error → Type 0
 IsParseError edition kind t e = (e ≡ out_of_memory) ⊎ IsSyntaxError edition kind t e
-
--- the fault is the reader's, at its place
-pub record IsFaultOfReader (edition : Edition) (kind : FieldKind) (t : List ℕ) (e : Error) : Type 0 where
-  pub fault : Fault
-  pub index : ℕ
-  pub answered : read_field edition kind t ≡ Err fault
-  pub error : e ≡ error_of (error_kind fault.kind) (Some index)
-  pub here : drop index t ≡ fault.rest
-
--- out of memory, or the fault is the reader's
-abbrev pub IsReaderFault : Edition → FieldKind → List ℕ → Error → Type 0
-IsReaderFault edition kind t e = (e ≡ out_of_memory) ⊎ IsFaultOfReader edition kind t e
 
 -- the text is accepted, as this tree and no other, and the answer is the visitor's after all its events
 pub record IsAnswerOf {S O : Type 0} (takes : S → TreeEvent → S → Type 0) (finishes : S → O → Type 0)
@@ -90,7 +76,7 @@ IsFinishedFirst takes finishes edition dictionary_field t from e = (index : ℕ)
 abbrev pub IsSyntaxOf : {S O E : Type 0} → (S → TreeEvent → S → Type 0) → (S → O → Type 0) → Edition → FieldKind
     → List ℕ → S → ParseError E → Type 0
 IsSyntaxOf takes finishes edition kind t from (Syntax e) = IsParseError edition kind t e
-    × IsReaderFault edition kind t e × IsFinishedFirst takes finishes edition kind t from e
+    × IsFinishedFirst takes finishes edition kind t from e
 IsSyntaxOf takes finishes edition kind t from (Visitor fault) = ⊤
 
 -- The visitor's error comes on an accepted text after exactly the events before it; on a text that isn't accepted,

@@ -4,7 +4,7 @@ ghost use Rattle.std.specs.Prelude.{ℕ, List, Option, Some, option_map, IfOk, I
 ghost use Rattle.sfv_spec.specs.Values.{FieldKind, RawField, HasMember, item_field, list_field, dictionary_field};
 ghost use Rattle.sfv_spec.specs.Statements.{IsParsedAs, IsSerializedAs};
 ghost use Rattle.sfv_tree.specs.Trees.{item_tree, list_tree, dictionary_tree};
-ghost use Rattle.sfv.specs.Parsers.{input_of, parser_edition, IsParseError, IsReaderFault};
+ghost use Rattle.sfv.specs.Parsers.{input_of, parser_edition, IsParseError};
 
 use crate::parser::Parser;
 use sfv_base::error::{Error, OutOfMemory, ParseError};
@@ -45,8 +45,7 @@ pub trait FieldType: sealed::Sealed + Drop {
     fn parse(alloc: Global, parser: Parser<'_>) -> Result<Self, Error>
         ensures read { IfOk result (λ value.
             IsParsedAs (parser_edition parser.entry) kind (input_of parser.entry) (tree value)) }
-        ensures rejected { IfErr result (IsParseError (parser_edition parser.entry) kind (input_of parser.entry)) }
-        ensures fault { IfErr result (IsReaderFault (parser_edition parser.entry) kind (input_of parser.entry)) };
+        ensures rejected { IfErr result (IsParseError (parser_edition parser.entry) kind (input_of parser.entry)) };
 
     /// Returns the canonical text (RFC 9651, section 4.1), with memory from `alloc`. For a list or a dictionary without
     /// members it returns `None`, and asks for no memory.

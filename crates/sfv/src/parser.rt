@@ -38,7 +38,7 @@ pub struct Parser<'de> {
 }
 
 impl<'de> Parser<'de> {
-    ghost use Rattle.sfv.specs.Parsers.{parser_of, input_of, parser_edition, IsParseError, IsReaderFault, IsAnswerOf};
+    ghost use Rattle.sfv.specs.Parsers.{parser_of, input_of, parser_edition, IsParseError, IsAnswerOf};
     ghost use Rattle.sfv.specs.Parsers.{IsSyntaxOf, IsVisitorErrorOf, VisitsAccepted, VisitsFirst, OfMade};
 
     /// Reads this input, under RFC 9651.
@@ -76,7 +76,6 @@ impl<'de> Parser<'de> {
         ensures read { IfOk result
             (λ value. IsParsedAs (parser_edition self.entry) T.kind (input_of self.entry) (T.tree value)) }
         ensures rejected { IfErr result (IsParseError (parser_edition self.entry) T.kind (input_of self.entry)) }
-        ensures fault { IfErr result (IsReaderFault (parser_edition self.entry) T.kind (input_of self.entry)) }
     {
         T::parse(alloc, self)
     }

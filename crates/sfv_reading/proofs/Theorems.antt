@@ -7,11 +7,11 @@ use Rattle.sfv_spec.specs.Values.{Edition, FieldKind}
 use Rattle.sfv_spec.specs.Grammar.{IsFieldText}
 use Rattle.sfv_spec.specs.Events.{TreeEvent, events}
 use Rattle.sfv_spec.specs.Reach.{BeginsAccepted, IsReach}
-use Rattle.sfv_spec.specs.Faults.{has_rule, trailing_characters_after_parsed_value}
+use Rattle.sfv_spec.specs.Faults.{trailing_characters_after_parsed_value}
 use Rattle.sfv_spec.proofs.Reached.{reach_before, reach_end}
 use Rattle.sfv_spec.proofs.Valid.{accepted_is_value_lem}
 use Rattle.sfv_reading.specs.Judgements.{Reached, Lasts, Local}
-use Rattle.sfv_reading.specs.Reader.{first, Fault, Answer, Reader}
+use Rattle.sfv_reading.specs.Reader.{has_rule, first, Fault, Answer, Reader}
 use Rattle.sfv_reading.specs.Fields.{whole_field_at, ending, read_field}
 use Rattle.sfv_reading.specs.Claims.{ReadIsAccepted, FaultIsPlaced}
 use Rattle.sfv_reading.proofs.sound.Combinators.{Somewhere, Goes, Reads}

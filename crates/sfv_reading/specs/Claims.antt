@@ -1,22 +1,22 @@
 -- What the readers of fields have to do with the grammar.
 use Rattle.std.specs.Prelude.{◌≡◌, ◌↔◌, ℕ, ◌+◌, ◌≤◌, ◌%◌, Bool, List, [], ◌∷◌, ◌++◌, length, drop, true, false}
 use Rattle.std.specs.Prelude.{Some, None, Ok, Err, ◌⊎◌, codes}
-use Rattle.sfv_spec.specs.Ascii.{comma, colon, question_mark}
+use Rattle.sfv_spec.specs.Ascii.{colon, question_mark}
 use Rattle.sfv_spec.specs.Texts.{RunOf}
-use Rattle.sfv_spec.specs.Classes.{is_space_or_tab, is_one_of}
+use Rattle.sfv_spec.specs.Classes.{is_one_of}
 use Rattle.sfv_spec.specs.Values.{Edition, rfc9651, FieldKind, item_field, RawField, BareValue, RawItem, IsFieldValue}
-use Rattle.sfv_spec.specs.Grammar.{IsBareText, IsItemText, AreMembersText, IsFieldText, IsEnded}
+use Rattle.sfv_spec.specs.Grammar.{IsBareText, IsItemText, IsFieldText, IsEnded}
 use Rattle.sfv_spec.specs.Events.{TreeEvent, events}
 use Rattle.sfv_spec.specs.Reach.{IsReach}
 use Rattle.sfv_spec.specs.Visiting.{BeginsEvents}
 use Rattle.sfv_spec.specs.Base64.{IsBase64Text, symbols}
-use Rattle.sfv_spec.specs.Faults.{has_rule, SyntaxFault, trailing_comma, unterminated_byte_sequence}
+use Rattle.sfv_spec.specs.Faults.{SyntaxFault, trailing_comma, unterminated_byte_sequence}
 use Rattle.sfv_spec.specs.Faults.{invalid_byte_sequence, unterminated_escape_sequence, invalid_escape_sequence}
 use Rattle.sfv_spec.specs.Faults.{unterminated_display_string, invalid_display_string_character}
 use Rattle.sfv_spec.specs.Faults.{invalid_utf8_in_display_string, IsTrailingComma, WantsBetween}
 use Rattle.sfv_spec.specs.Faults.{IsUnterminatedByteSequence, IsLoneSymbol, IsUnterminatedDisplay, IsUnterminatedEscape}
 use Rattle.sfv_spec.specs.Faults.{IsInvalidEscape, IsInvalidDisplayByte, IsInvalidUtf8, IsBase64FaultPlace}
-use Rattle.sfv_reading.specs.Reader.{Fault, Reader, by_rule, visited}
+use Rattle.sfv_reading.specs.Reader.{has_rule, Fault, Reader, by_rule, visited}
 use Rattle.sfv_reading.specs.Judgements.{Sound, Mute, Quiet, IsFault, Local, Complete, StaysButText}
 use Rattle.sfv_reading.specs.Content.{valid_from, bytes_of, fault_place, IsBytesEnd, HasNoColon, content_fault}
 use Rattle.sfv_reading.specs.Content.{bytes_at}
@@ -64,36 +64,6 @@ CommaRow = (edition : Edition) (kind : FieldKind) (t : List ℕ) (index : ℕ) �
       rest = drop index t;
       events = events kind raw;
     }))
-
--- the fault is that of a bare item, which is wanted after before
-pub record Origin (edition : Edition) (t : List ℕ) (e : Fault) : Type 0 where
-  pub before : List ℕ
-  pub item : List ℕ
-  pub fault : Fault
-  pub text : t ≡ before ++ item
-  pub is_fault : bare_at edition item ≡ Err fault
-  pub ruled : fault.exact ≡ false
-  pub kind : fault.kind ≡ e.kind
-  pub rest : fault.rest ≡ e.rest
-
--- the comma at the end, after members
-pub record CommaAt {A : Type 0} (P : A → List ℕ → Type 0) (t : List ℕ) (e : Fault) : Type 0 where
-  pub before : List ℕ
-  pub whitespace : List ℕ
-  pub m : A
-  pub ms : List A
-  pub text : t ≡ before ++ comma ∷ whitespace
-  pub blank : RunOf is_space_or_tab whitespace
-  pub accepted : AreMembersText P (m ∷ ms) before
-  pub kind : e.kind ≡ trailing_comma
-  pub rest : e.rest ≡ comma ∷ whitespace
-
--- a fault that isn't exact is that of a bare item, or of the comma at the end
-abbrev pub RuledComes : Type 0
-RuledComes = (edition : Edition) (kind : FieldKind) (t : List ℕ) (e : Fault) → read_field edition kind t ≡ Err e
-    → e.exact ≡ false →
-    Origin edition t e ⊎ ((index : ℕ) × (drop index t ≡ e.rest) × (e.kind ≡ trailing_comma)
-    × IsTrailingComma edition kind t index)
 
 -- ---- bare items
 

@@ -1,8 +1,8 @@
 -- What it is for a reader to be right.
 use Rattle.std.specs.Prelude.{◌≡◌, ℕ, true, false, List, [], ◌++◌, Ok, Err}
 use Rattle.sfv_spec.specs.Events.{TreeEvent}
-use Rattle.sfv_spec.specs.Faults.{has_rule, invalid_utf8_in_display_string}
-use Rattle.sfv_reading.specs.Reader.{Fault, Answer, Reader, first}
+use Rattle.sfv_spec.specs.Faults.{invalid_utf8_in_display_string}
+use Rattle.sfv_reading.specs.Reader.{has_rule, Fault, Answer, Reader, first}
 
 -- W u es: u is a text of the grammar, and es begins what is visited for it. Such a text goes on after
 -- what stands before the fault.

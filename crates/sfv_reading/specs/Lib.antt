@@ -8,3 +8,5 @@ pub mod Members
 pub mod Fields
 pub mod Claims
 pub mod Visits
+pub mod BareFaults
+pub mod Places

@@ -2,7 +2,25 @@
 use Rattle.std.specs.Prelude.{◌≡◌, ℕ, zero, suc, Bool, true, false, List, [], ◌∷◌, ◌++◌, length, Option, Some, None}
 use Rattle.std.specs.Prelude.{Result, Ok, Err, if◌then◌else◌, ◌==◌}
 use Rattle.sfv_spec.specs.Events.{TreeEvent}
-use Rattle.sfv_spec.specs.Faults.{SyntaxFault, unterminated_byte_sequence}
+use Rattle.sfv_spec.specs.Faults.{SyntaxFault, trailing_comma, trailing_decimal_point, non_integer_date}
+use Rattle.sfv_spec.specs.Faults.{too_many_digits_after_decimal_point, unterminated_byte_sequence, invalid_byte_sequence}
+use Rattle.sfv_spec.specs.Faults.{unterminated_display_string, unterminated_escape_sequence, invalid_escape_sequence}
+use Rattle.sfv_spec.specs.Faults.{invalid_display_string_character, invalid_utf8_in_display_string}
+
+-- the kinds of fault that a rule of their own may place
+abbrev pub has_rule : SyntaxFault → Bool
+has_rule trailing_comma = true
+has_rule trailing_decimal_point = true
+has_rule non_integer_date = true
+has_rule too_many_digits_after_decimal_point = true
+has_rule unterminated_byte_sequence = true
+has_rule invalid_byte_sequence = true
+has_rule unterminated_display_string = true
+has_rule unterminated_escape_sequence = true
+has_rule invalid_escape_sequence = true
+has_rule invalid_display_string_character = true
+has_rule invalid_utf8_in_display_string = true
+has_rule _ = false
 
 -- What is met first that isn't of the grammar. Where it is exact, the rest begins at the first byte after
 -- which no text of the grammar goes on; the events are those that were visited before.

@@ -4,7 +4,7 @@ ghost use Rattle.std.specs.Prelude.{◌≡◌, ◌++◌, IfOk, IfErr, codes, str
 ghost use Rattle.sfv.specs.Errors.{out_of_memory};
 ghost use Rattle.sfv.specs.Values.{item_field, list_field, dictionary_field};
 ghost use Rattle.sfv.specs.BareItems.{edition_of};
-ghost use Rattle.sfv.specs.Parsers.{IsParseError, IsReaderFault};
+ghost use Rattle.sfv.specs.Parsers.{IsParseError};
 ghost use Rattle.sfv_tool.specs.Answers.{kind_of_field, without_newline, text_or_empty, IsAnswer};
 
 use sfv::{Dictionary, Error, FieldType, Item, List, Parser, Version};
@@ -48,7 +48,6 @@ fn line(alloc: Global, text: Option<String>) -> Result<String, Error>
 fn answer_item(alloc: Global, version: Version, input: &[u8]) -> Result<String, Error>
     ensures accepted { IfOk result (λ text. IsAnswer (edition_of version) item_field input.now (string_bytes text)) }
     ensures rejected { IfErr result (IsParseError (edition_of version) item_field input.now) }
-    ensures fault { IfErr result (IsReaderFault (edition_of version) item_field input.now) }
 {
     let parser = Parser::new(input).with_version(version);
     let item = parser.parse::<Item>(alloc)?;
@@ -59,7 +58,6 @@ fn answer_item(alloc: Global, version: Version, input: &[u8]) -> Result<String, 
 fn answer_list(alloc: Global, version: Version, input: &[u8]) -> Result<String, Error>
     ensures accepted { IfOk result (λ text. IsAnswer (edition_of version) list_field input.now (string_bytes text)) }
     ensures rejected { IfErr result (IsParseError (edition_of version) list_field input.now) }
-    ensures fault { IfErr result (IsReaderFault (edition_of version) list_field input.now) }
 {
     let parser = Parser::new(input).with_version(version);
     let list = parser.parse::<List>(alloc)?;
@@ -71,7 +69,6 @@ fn answer_dictionary(alloc: Global, version: Version, input: &[u8]) -> Result<St
     ensures accepted { IfOk result (λ text. IsAnswer (edition_of version) dictionary_field input.now
         (string_bytes text)) }
     ensures rejected { IfErr result (IsParseError (edition_of version) dictionary_field input.now) }
-    ensures fault { IfErr result (IsReaderFault (edition_of version) dictionary_field input.now) }
 {
     let parser = Parser::new(input).with_version(version);
     let dictionary = parser.parse::<Dictionary>(alloc)?;
@@ -88,8 +85,6 @@ pub fn answer(alloc: Global, field: Field, version: Version, input: &[u8]) -> Re
     ensures accepted { IfOk result (λ text. IsAnswer (edition_of version) (kind_of_field field)
         (without_newline input.now) (string_bytes text)) }
     ensures rejected { IfErr result (IsParseError (edition_of version) (kind_of_field field)
-        (without_newline input.now)) }
-    ensures fault { IfErr result (IsReaderFault (edition_of version) (kind_of_field field)
         (without_newline input.now)) }
 {
     let input = without_newline(input);

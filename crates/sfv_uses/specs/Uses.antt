@@ -10,7 +10,7 @@ use Rattle.sfv.specs.Types.{ParseError}
 use Rattle.sfv.specs.Types.parse_errors.{Syntax, Visitor}
 use Rattle.sfv.specs.Parsers.{IsParseError}
 use Rattle.sfv_uses.specs.declared.visiting.TooMany.{TooMany}
-use Rattle.sfv.specs.Faults.{SyntaxFault, IsRejectedAt}
+use Rattle.sfv.specs.Faults.{SyntaxFault, IsFaultAt}
 use Rattle.sfv.specs.Errors.{error_kind, out_of_memory}
 use Rattle.sfv.specs.Given.{IsWrongType}
 use Rattle.sfv.specs.Types.{ItemFault}
@@ -21,7 +21,7 @@ use Rattle.sfv.specs.Messages.{message_of}
 pub record IsExplained (t text : List ℕ) : Type 0 where
   pub fault : SyntaxFault
   pub index : ℕ
-  pub rejected : IsRejectedAt rfc9651 list_field t fault index
+  pub located : IsFaultAt rfc9651 list_field t fault index
   pub text_is : text ≡ repeat index (codes " ") ++ codes "^ " ++ message_of (error_kind fault)
 
 -- an integer, or else the default

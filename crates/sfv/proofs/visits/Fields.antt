@@ -29,6 +29,7 @@ use Rattle.sfv_reading.proofs.complete.Combinators.{bind_complete}
 use Rattle.sfv_reading.proofs.sound.Combinators.{Somewhere}
 use Rattle.sfv_reading.proofs.sound.Fields.{FieldGoes, Sound-field}
 use Rattle.sfv_reading.proofs.Theorems.{read_is_accepted}
+use Rattle.sfv_reading.proofs.Faults.{fault_rejects}
 use Rattle.sfv_reading.proofs.Trailing.{read_before}
 use Rattle.sfv_reading.proofs.visits.Fields.{visited_begins, failed_begins}
 use Rattle.sfv.specs.declared.parser.Parser.{Parser}
@@ -40,7 +41,7 @@ use Rattle.sfv.specs.Visits.{VisitsAnswer, IsOfVisitor, VisitsField, IsFinishedA
 use Rattle.sfv.specs.Parsers.{IsAnswerOf, IsSyntaxOf, IsVisitorErrorOf, IsParseError, VisitsAccepted, IsFinishedFirst}
 use Rattle.sfv.specs.Parsers.{trailing_error}
 use Rattle.sfv.proofs.visits.Whole.{spaced, field_error, ending_located}
-use Rattle.sfv.proofs.Parsed.{located_fault, reader_fault}
+use Rattle.sfv.proofs.Parsed.{located_fault, parse_error}
 use Rattle.sfv.proofs.reads.Delimiters.{span_total}
 
 whole_is : (edition : Edition) (t s r : List ℕ) → span is_space t ≡ Ok (s, r)
@@ -384,9 +385,8 @@ module _ {S O E : Type 0} (takes : S → TreeEvent → S → Type 0) (fails : S 
       → VisitsField takes fails finishes finish_fails edition kind t from r
       → IfErr r (IsSyntaxOf takes finishes edition kind t from)
   visits_syntax (Ok out) h = tt
-  visits_syntax (Err (Syntax e)) h = let both = reader_fault edition kind t e h.0 in (
-    both.1,
-    both.0,
+  visits_syntax (Err (Syntax e)) h = (
+    parse_error edition kind t e h.0,
     finished_first takes finishes edition kind t from e (λ index same. in_front index (subst
         (λ (e : Error). VisitsField takes fails finishes finish_fails edition kind t from (Err (Syntax e))) same h)),
   )
@@ -406,11 +406,11 @@ module _ {S O E : Type 0} (takes : S → TreeEvent → S → Type 0) (fails : S 
       let read = (read_is_accepted edition kind t h.0).0 h.1 in
       subst (λ (i : RawField kind). IsVisited takes finishes from (events kind i) out)
       (one_field_lem edition kind t h.0 raw read accepted) h.2
-  visits_accepted is_memory (Err (Syntax e)) h never raw accepted = on (reader_fault edition kind t e h.0).1
+  visits_accepted is_memory (Err (Syntax e)) h never raw accepted = on (parse_error edition kind t e h.0)
     where
       on : IsParseError edition kind t e → e ≡ out_of_memory
       on (inl same) = same
-      on (inr s) = absurd (s.rejected.rejected (raw, accepted))
+      on (inr s) = absurd ((fault_rejects edition kind t s.fault s.index s.located).0 (raw, accepted))
   visits_accepted is_memory (Err (Visitor f)) h never raw accepted =
       fails_for_memory takes fails finish_fails is_memory kind from raw f never
       (accepted_is_value_lem edition kind t raw accepted).0 (failed_on_accepted f h raw accepted)

@@ -19,7 +19,7 @@ use Rattle.sfv_reading.proofs.First.{first_bare}
 use Rattle.sfv_reading.proofs.visits.Fields.{visited_begins}
 use Rattle.sfv.specs.Visits.{IsOfVisitor, VisitsField, TookBare, TookFirst}
 use Rattle.sfv.specs.Parsers.{IsParseError, VisitsFirst}
-use Rattle.sfv.proofs.Parsed.{reader_fault}
+use Rattle.sfv.proofs.Parsed.{parse_error}
 use Rattle.sfv.proofs.visits.Fields.{whole_visited, whole_accepted}
 
 -- ---- what was taken before an error
@@ -124,7 +124,7 @@ module _ {S O E : Type 0} (takes : S → TreeEvent → S → Type 0) (fails : S 
       → VisitsField takes fails finishes finish_fails edition item_field t from r → IfErr r (TookFirst takes edition t from)
       → IfErr r (VisitsFirst takes fails finish_fails edition t from)
   visits_first (Ok out) h k = tt
-  visits_first (Err (Syntax e)) h k = on (reader_fault edition item_field t e h.0).1
+  visits_first (Err (Syntax e)) h k = on (parse_error edition item_field t e h.0)
     where
       on : IsParseError edition item_field t e → VisitsFirst takes fails finish_fails edition t from (Syntax e)
       on (inl same) = inl same

@@ -1,22 +1,22 @@
 -- A text of a bare item is read, as that bare item.
 use Rattle.std.proofs.Common.{◌≡◌, ℕ, ◌≤◌, Bool, true, false, eqb, not, ℤ, List, [], ◌∷◌, ◌++◌, length, Ok, refl, sym}
-use Rattle.std.proofs.Common.{ap, subst, ◌∙◌, append_assoc, arith, inl, inr}
-use Rattle.std.specs.Prelude.{IsTrue}
+use Rattle.std.proofs.Common.{ap, ◌∙◌, arith, inl, inr}
+use Rattle.std.specs.Prelude.{◌⊎◌, IsTrue}
 use Rattle.std.specs.List.{list_all}
 use Rattle.std.proofs.lemmas.Bool.{eqb-true, or_left, or_from, ne_eqb, and_parts, true≢false, both_ways, cases_Bool}
 use Rattle.std.proofs.lemmas.Bool.{or_cases, not-true}
 use Rattle.sfv_spec.specs.Ascii.{double_quote, percent_sign, minus_sign, dot, digit_zero, digit_one, digit_nine, colon}
 use Rattle.sfv_spec.specs.Ascii.{question_mark, at_sign}
-use Rattle.sfv_spec.specs.Texts.{RunOf}
+use Rattle.sfv_spec.specs.Texts.{begins_with, RunOf}
 use Rattle.sfv_spec.specs.Classes.{is_digit, is_token, is_token_start, is_token_inner}
 use Rattle.sfv_spec.specs.Values.{Edition, rfc9651, BareValue, integer, decimal, string, token, byte_sequence, boolean}
 use Rattle.sfv_spec.specs.Values.{date, display_string}
 use Rattle.sfv_spec.specs.Numbers.{minus_text, IsIntegerText, IsDecimalText}
 use Rattle.sfv_spec.specs.Grammar.{IsBareText, boolean_text}
-use Rattle.sfv_spec.proofs.Parts.{implied, between_below, no_digit, no_point}
-use Rattle.sfv_reading.specs.Reader.{Apart, byte, give}
-use Rattle.sfv_reading.specs.Content.{IsBytesEnd}
-use Rattle.sfv_reading.specs.Quoted.{IsStringEnd, IsDisplayEnd}
+use Rattle.sfv_spec.proofs.Parts.{implied, between_below, no_digit, no_point, integer_text, decimal_text}
+use Rattle.sfv_reading.specs.Reader.{Apart, byte, give, ◌>>=◌, branch, ahead}
+use Rattle.sfv_reading.specs.Content.{bytes_at}
+use Rattle.sfv_reading.specs.Quoted.{string_at, IsDisplayEnd}
 use Rattle.sfv_reading.specs.Bare.{is_number_start, number_at, boolean_at, token_at, date_at, quoted_at, bare_at}
 use Rattle.sfv_reading.proofs.sound.Combinators.{run_head}
 use Rattle.sfv_reading.proofs.complete.Combinators.{Apart-cons, branch_past, branch_take, ahead_past, ahead_take}
@@ -28,19 +28,31 @@ use Rattle.sfv_reading.proofs.complete.Numbers.{goes_on, digit_apart, integer_co
 -- ---- how the readers of bare items are chosen, by the first byte
 
 -- the byte begins none of the kinds before
-apart_from : (class : ℕ → Bool) (n : ℕ) → class n ≡ false → (c : ℕ) → class c ≡ true → eqb c n ≡ false
+pub apart_from : (class : ℕ → Bool) (n : ℕ) → class n ≡ false → (c : ℕ) → class c ≡ true → eqb c n ≡ false
 apart_from class n none c e = ne_eqb c n (λ i. true≢false (sym e ∙ ap class i ∙ none))
 
-bare_boolean : (edition : Edition) (r : List ℕ) → bare_at edition (question_mark ∷ r) ≡ boolean_at r
-unfolding bare_at
-bare_boolean edition r = branch_take _ _ _ question_mark r refl
+pub bare_boolean : (edition : Edition) (r : List ℕ) → bare_at edition (question_mark ∷ r) ≡ boolean_at r
+unfolding bare_at branch
+bare_boolean edition r = refl
 
-bare_string : (edition : Edition) (s t q : List ℕ) → IsStringEnd s t
-    → bare_at edition (double_quote ∷ (t ++ q)) ≡ Ok (string s, q)
-unfolding bare_at give
-bare_string edition s t q h = branch_past _ _ _ (double_quote ∷ (t ++ q))
-    (Apart-cons (byte question_mark) double_quote (t ++ q) refl) ∙ branch_take _ _ _ double_quote (t ++ q) refl
-    ∙ bind_complete _ _ _ _ _ (string_complete s t q h)
+pub bare_quote : (edition : Edition) (r : List ℕ)
+    → bare_at edition (double_quote ∷ r) ≡ (string_at >>= λ s. give (string s)) r
+unfolding bare_at branch
+bare_quote edition r = refl
+
+pub bare_colon : (edition : Edition) (r : List ℕ)
+    → bare_at edition (colon ∷ r) ≡ (bytes_at >>= λ s. give (byte_sequence s)) r
+unfolding bare_at branch
+bare_colon edition r = refl
+
+pub bare_at_sign : (edition : Edition) (r : List ℕ) → bare_at edition (at_sign ∷ r) ≡ date_at edition (at_sign ∷ r)
+unfolding bare_at branch ahead
+bare_at_sign edition r = refl
+
+pub bare_percent : (edition : Edition) (r : List ℕ)
+    → bare_at edition (percent_sign ∷ r) ≡ quoted_at edition (percent_sign ∷ r)
+unfolding bare_at branch ahead
+bare_percent edition r = refl
 
 number_no_token : (c : ℕ) → is_number_start c ≡ true → is_token_start c ≡ false
 number_no_token c e = elim (or_cases (is_digit c) (eqb c minus_sign) e) [
@@ -67,7 +79,7 @@ bare_token_start edition c r e =
     ∙ ahead_past _ _ _ (c ∷ r) (Apart-cons (byte percent_sign) c r (apart_from is_token_start percent_sign refl c e))
     ∙ ahead_past _ _ _ (c ∷ r) (Apart-cons is_number_start c r (token_no_number c e))
 
-bare_number : (edition : Edition) (c : ℕ) (r : List ℕ) → is_number_start c ≡ true
+pub bare_number : (edition : Edition) (c : ℕ) (r : List ℕ) → is_number_start c ≡ true
     → bare_at edition (c ∷ r) ≡ number_at false (c ∷ r)
 unfolding bare_at
 bare_number edition c r e =
@@ -78,19 +90,30 @@ bare_number edition c r e =
     ∙ ahead_past _ _ _ (c ∷ r) (Apart-cons (byte percent_sign) c r (apart_from is_number_start percent_sign refl c e))
     ∙ ahead_take _ _ _ c r e
 
-bare_colon : (edition : Edition) (bytes t q : List ℕ) → IsBytesEnd bytes t
-    → bare_at edition (colon ∷ (t ++ q)) ≡ Ok (byte_sequence bytes, q)
-unfolding bare_at give
-bare_colon edition bytes t q h =
-    branch_past _ _ _ (colon ∷ (t ++ q)) (Apart-cons (byte question_mark) colon (t ++ q) refl)
-    ∙ branch_past _ _ _ (colon ∷ (t ++ q)) (Apart-cons (byte double_quote) colon (t ++ q) refl)
-    ∙ branch_take _ _ _ colon (t ++ q) refl ∙ bind_complete _ _ _ _ _ (bytes_complete bytes t q h)
-
-bare_date : (r : List ℕ) → bare_at rfc9651 (at_sign ∷ r) ≡ date_at rfc9651 (at_sign ∷ r)
-unfolding bare_at
-bare_date r = branch_past _ _ _ (at_sign ∷ r) (Apart-cons (byte question_mark) at_sign r refl)
-    ∙ branch_past _ _ _ (at_sign ∷ r) (Apart-cons (byte double_quote) at_sign r refl)
-    ∙ branch_past _ _ _ (at_sign ∷ r) (Apart-cons (byte colon) at_sign r refl) ∙ ahead_take _ _ _ at_sign r refl
+-- which of these it is
+pub first_byte : (edition : Edition) (c : ℕ) (r : List ℕ)
+    → (c ≡ question_mark) ⊎ (c ≡ double_quote) ⊎ (c ≡ colon) ⊎ (c ≡ at_sign) ⊎ (c ≡ percent_sign)
+    ⊎ (is_number_start c ≡ true) ⊎ (bare_at edition (c ∷ r) ≡ token_at (c ∷ r))
+unfolding bare_at branch ahead
+first_byte edition c r = elim (cases_Bool (byte question_mark c)) [
+  | inl y ↦ inl (eqb-true c question_mark y)
+  | inr n ↦ inr (elim (cases_Bool (byte double_quote c)) [
+    | inl y ↦ inl (eqb-true c double_quote y)
+    | inr m ↦ inr (elim (cases_Bool (byte colon c)) [
+      | inl y ↦ inl (eqb-true c colon y)
+      | inr k ↦ inr (elim (cases_Bool (byte at_sign c)) [
+        | inl y ↦ inl (eqb-true c at_sign y)
+        | inr j ↦ inr (elim (cases_Bool (byte percent_sign c)) [
+          | inl y ↦ inl (eqb-true c percent_sign y)
+          | inr i ↦ inr (elim (cases_Bool (is_number_start c)) [
+            | inl y ↦ inl y
+            | inr h ↦ inr (rw (n, m, k, j, i, h) refl)
+          ])
+        ])
+      ])
+    ])
+  ])
+]
 
 date_complete : (z : ℤ) (t q : List ℕ) → IsIntegerText z t → Apart goes_on q
     → date_at rfc9651 (at_sign ∷ (t ++ q)) ≡ Ok (date z, q)
@@ -98,18 +121,11 @@ unfolding date_at give
 date_complete z t q i h = back_complete _ _ _ _ _ (branch_take _ _ _ at_sign (t ++ q) refl
     ∙ bind_complete _ _ _ _ _ (integer_complete true t q z i h))
 
-bare_quoted : (s t q : List ℕ) → IsDisplayEnd s t → bare_at rfc9651 (percent_sign ∷ double_quote ∷ (t ++ q))
+quoted_complete : (s t q : List ℕ) → IsDisplayEnd s t → quoted_at rfc9651 (percent_sign ∷ double_quote ∷ (t ++ q))
     ≡ Ok (display_string s, q)
-unfolding bare_at quoted_at give
-bare_quoted s t q h =
-    let r : List ℕ = double_quote ∷ (t ++ q) in
-    branch_past _ _ _ (percent_sign ∷ r) (Apart-cons (byte question_mark) percent_sign r refl)
-    ∙ branch_past _ _ _ (percent_sign ∷ r) (Apart-cons (byte double_quote) percent_sign r refl)
-    ∙ branch_past _ _ _ (percent_sign ∷ r) (Apart-cons (byte colon) percent_sign r refl)
-    ∙ ahead_past _ _ _ (percent_sign ∷ r) (Apart-cons (byte at_sign) percent_sign r refl)
-    ∙ ahead_take _ _ _ percent_sign r refl
-    ∙ branch_take _ _ _ percent_sign r refl ∙ branch_take _ _ _ double_quote (t ++ q) refl
-    ∙ bind_complete _ _ _ _ _ (display_complete s t q h)
+unfolding quoted_at give
+quoted_complete s t q h = branch_take _ _ _ percent_sign (double_quote ∷ (t ++ q)) refl
+    ∙ branch_take _ _ _ double_quote (t ++ q) refl ∙ bind_complete _ _ _ _ _ (display_complete s t q h)
 
 boolean_complete : (edition : Edition) (b : Bool) (q : List ℕ)
     → bare_at edition (boolean_text b ++ q) ≡ Ok (boolean b, q)
@@ -129,30 +145,24 @@ token_complete edition (c ∷ s) q h a =
     ∙ bind_complete _ _ _ _ _ (span_complete is_token_inner s q p.1 a)
 
 -- how a number begins
-abbrev NumberFront : List ℕ → Type 0
-NumberFront t = (c : ℕ) × (r : List ℕ) × (t ≡ c ∷ r) × (is_number_start c ≡ true)
-
-front : (negative : Bool) (whole q : List ℕ) → 1 ≤ length whole → RunOf is_digit whole
-    → NumberFront (minus_text negative ++ (whole ++ q))
-front true whole q some each = (minus_sign, whole ++ q, refl, refl)
+pub front : (negative : Bool) (whole q : List ℕ) → 1 ≤ length whole → RunOf is_digit whole
+    → begins_with is_number_start (minus_text negative ++ (whole ++ q)) ≡ true
+front true whole q some each = refl
 front false [] q some each = absurd (omega arith)
-front false (d ∷ ds) q some each = (
-  d,
-  ds ++ q,
-  refl,
-  or_left (is_digit d) (eqb d minus_sign) (run_head is_digit d ds each),
-)
+front false (d ∷ ds) q some each = or_left (is_digit d) (eqb d minus_sign) (run_head is_digit d ds each)
 
-number_from : (edition : Edition) (t : List ℕ) → NumberFront t → bare_at edition t ≡ number_at false t
-number_from edition t f = ap (bare_at edition) f.2 ∙ bare_number edition f.0 f.1 f.3 ∙ ap (number_at false) (sym f.2)
+pub number_from : (edition : Edition) (t : List ℕ) → begins_with is_number_start t ≡ true
+    → bare_at edition t ≡ number_at false t
+number_from edition [] h = absurd (true≢false (sym h))
+number_from edition (c ∷ r) h = bare_number edition c r h
 
-integer_front : (t q : List ℕ) (z : ℤ) → IsIntegerText z t → NumberFront (t ++ q)
-integer_front t q z i = subst NumberFront (sym (ap (λ (l : List ℕ). l ++ q) i.text
-    ∙ append_assoc (minus_text i.negative) i.digits q)) (front i.negative i.digits q i.counted.0 i.counted.2)
+integer_front : (t q : List ℕ) (z : ℤ) → IsIntegerText z t → begins_with is_number_start (t ++ q) ≡ true
+integer_front t q z i = ap (begins_with is_number_start) (integer_text z t q i)
+    ∙ front i.negative i.digits q i.counted.0 i.counted.2
 
-decimal_front : (t q : List ℕ) (z : ℤ) → IsDecimalText z t → NumberFront (t ++ q)
-decimal_front t q z i = subst NumberFront (sym (ap (λ (l : List ℕ). l ++ q) i.text
-    ∙ simp append_assoc)) (front i.negative i.whole (dot ∷ (i.fraction ++ q)) i.counted.0.0 i.counted.0.2)
+decimal_front : (t q : List ℕ) (z : ℤ) → IsDecimalText z t → begins_with is_number_start (t ++ q) ≡ true
+decimal_front t q z i = ap (begins_with is_number_start) (decimal_text z t q i)
+    ∙ front i.negative i.whole (dot ∷ (i.fraction ++ q)) i.counted.0.0 i.counted.0.2
 
 -- what ends a token ends a number
 number_ends : (q : List ℕ) → Apart is_token_inner q → Apart goes_on q
@@ -163,6 +173,7 @@ number_ends q h = record {
 
 pub bare_complete : (edition : Edition) (v : BareValue) (t q : List ℕ) → IsBareText edition v t → Apart is_token_inner q
     → bare_at edition (t ++ q) ≡ Ok (v, q)
+unfolding give
 bare_complete edition (integer z) t q i h = number_from edition (t ++ q) (integer_front t q z i)
     ∙ integer_complete false t q z i (number_ends q h)
 bare_complete edition (decimal z) t q i h = number_from edition (t ++ q) (decimal_front t q z i)
@@ -170,23 +181,26 @@ bare_complete edition (decimal z) t q i h = number_from edition (t ++ q) (decima
 bare_complete edition (string s) t q i h =
     let all : t ++ q ≡ double_quote ∷ (i.back ++ q) =
     ap (λ (l : List ℕ). l ++ q) (i.text ∙ ap (λ (l : List ℕ). l ++ i.back) i.first) in
-    ap (bare_at edition) all ∙ bare_string edition s i.back q i.second
+    ap (bare_at edition) all ∙ bare_quote edition (i.back ++ q)
+    ∙ bind_complete _ _ _ _ _ (string_complete s i.back q i.second)
 bare_complete edition (token s) t q i h = ap (λ (l : List ℕ). bare_at edition (l ++ q)) i.1
     ∙ token_complete edition s q i.0 h
 bare_complete edition (byte_sequence s) t q i h =
     let all : t ++ q ≡ colon ∷ (i.back ++ q) = ap (λ (l : List ℕ). l ++ q) (i.text
     ∙ ap (λ (l : List ℕ). l ++ i.back) i.first) in
-    ap (bare_at edition) all ∙ bare_colon edition s i.back q i.second
+    ap (bare_at edition) all ∙ bare_colon edition (i.back ++ q)
+    ∙ bind_complete _ _ _ _ _ (bytes_complete s i.back q i.second)
 bare_complete edition (boolean b) t q i h = ap (λ (l : List ℕ). bare_at edition (l ++ q)) i
     ∙ boolean_complete edition b q
 bare_complete edition (date z) t q i h =
     let d = i.1 in
     let all : t ++ q ≡ at_sign ∷ (d.back ++ q) = ap (λ (l : List ℕ). l ++ q) (d.text
     ∙ ap (λ (l : List ℕ). l ++ d.back) d.first) in
-    ap (λ e. bare_at e (t ++ q)) i.0 ∙ ap (bare_at rfc9651) all ∙ bare_date (d.back ++ q)
+    ap (λ e. bare_at e (t ++ q)) i.0 ∙ ap (bare_at rfc9651) all ∙ bare_at_sign rfc9651 (d.back ++ q)
     ∙ date_complete z d.back q d.second (number_ends q h)
 bare_complete edition (display_string s) t q i h =
     let d = i.1 in
     let all : t ++ q ≡ percent_sign ∷ double_quote ∷ (d.back ++ q) =
     ap (λ (l : List ℕ). l ++ q) (d.text ∙ ap (λ (l : List ℕ). l ++ d.back) d.first) in
-    ap (λ e. bare_at e (t ++ q)) i.0 ∙ ap (bare_at rfc9651) all ∙ bare_quoted s d.back q d.second
+    ap (λ e. bare_at e (t ++ q)) i.0 ∙ ap (bare_at rfc9651) all ∙ bare_percent rfc9651 (double_quote ∷ (d.back ++ q))
+    ∙ quoted_complete s d.back q d.second

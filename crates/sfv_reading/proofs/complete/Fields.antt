@@ -1,5 +1,5 @@
 -- A text of a field is read, as that field.
-use Rattle.std.proofs.Common.{◌≡◌, ℕ, List, [], ◌∷◌, ◌++◌, Ok, refl, sym, ap, subst, ◌∙◌}
+use Rattle.std.proofs.Common.{◌≡◌, ℕ, List, [], ◌∷◌, ◌++◌, Ok, refl, sym, ap, subst, ◌∙◌, append_assoc}
 use Rattle.std.proofs.lemmas.List.{append-nil}
 use Rattle.std.proofs.lemmas.Bool.{eqb-true}
 use Rattle.sfv_spec.specs.Ascii.{space, comma}
@@ -8,7 +8,7 @@ use Rattle.sfv_spec.specs.Classes.{is_space}
 use Rattle.sfv_spec.specs.Values.{Edition, FieldKind, item_field, list_field, dictionary_field, RawField, RawItem}
 use Rattle.sfv_spec.specs.Grammar.{IsMemberText, IsDictionaryMemberText, IsFieldText}
 use Rattle.sfv_spec.specs.Events.{entry_events, keyed_events}
-use Rattle.sfv_reading.specs.Reader.{Apart, give, span}
+use Rattle.sfv_reading.specs.Reader.{Apart, give}
 use Rattle.sfv_reading.specs.Members.{entry_at, keyed_at}
 use Rattle.sfv_reading.specs.Fields.{whole_field_at}
 use Rattle.sfv_reading.proofs.sound.Combinators.{run_head}
@@ -18,23 +18,24 @@ use Rattle.sfv_reading.proofs.sound.Separated.{members_complete}
 use Rattle.sfv_reading.proofs.complete.Items.{lengthens_item, item_complete, item_no, blank_ends, space_ends}
 use Rattle.sfv_reading.proofs.complete.Members.{entry_complete, entry_fresh, keyed_complete, keyed_fresh}
 
-spaces_end : (s : List ℕ) → RunOf is_space s → Apart lengthens_item s
-spaces_end [] each = Apart-nil lengthens_item
-spaces_end (c ∷ s) each = subst (λ (c : ℕ). Apart lengthens_item (c ∷ s))
-    (sym (eqb-true c space (run_head is_space c s each))) (space_ends s)
+spaces_end : (s q : List ℕ) → RunOf is_space s → Apart lengthens_item q → Apart lengthens_item (s ++ q)
+spaces_end [] q each f = f
+spaces_end (c ∷ s) q each f = subst (λ (c : ℕ). Apart lengthens_item (c ∷ (s ++ q)))
+    (sym (eqb-true c space (run_head is_space c s each))) (space_ends (s ++ q))
 
-item_field_complete : (edition : Edition) (i : RawItem) (t : List ℕ) → IsFieldText edition item_field i t
-    → whole_field_at edition item_field t ≡ Ok (i, [])
+-- an item, whatever follows it that is no more of it
+pub item_field_complete : (edition : Edition) (i : RawItem) (t q : List ℕ) → IsFieldText edition item_field i t
+    → Apart is_space q → Apart lengthens_item q → whole_field_at edition item_field (t ++ q) ≡ Ok (i, q)
 unfolding whole_field_at give
-item_field_complete edition i t h =
+item_field_complete edition i t q h none f =
     let o = h.second in
-    let end : span is_space o.back ≡ Ok (o.back, []) = ap (span is_space) (sym (append-nil o.back))
-    ∙ span_complete is_space o.back [] o.second (Apart-nil is_space) in
-    ap (whole_field_at edition item_field) (h.text ∙ ap (λ (l : List ℕ). h.front ++ l) o.text)
-    ∙ bind_complete _ _ _ _ _ (span_complete is_space h.front (o.front ++ o.back) h.first
-    (item_no space edition i o.front o.back refl o.first))
-    ∙ bind_complete _ _ _ _ _ (item_complete edition i o.front o.back o.first (spaces_end o.back o.second))
-    ∙ bind_complete _ _ _ _ _ end
+    let all : t ++ q ≡ h.front ++ (o.front ++ (o.back ++ q)) =
+    ap (λ (l : List ℕ). l ++ q) (h.text ∙ ap (λ (l : List ℕ). h.front ++ l) o.text) ∙ simp append_assoc in
+    ap (whole_field_at edition item_field) all
+    ∙ bind_complete _ _ _ _ _ (span_complete is_space h.front (o.front ++ (o.back ++ q)) h.first
+    (item_no space edition i o.front (o.back ++ q) refl o.first))
+    ∙ bind_complete _ _ _ _ _ (item_complete edition i o.front (o.back ++ q) o.first (spaces_end o.back q o.second f))
+    ∙ bind_complete _ _ _ _ _ (span_complete is_space o.back q o.second none)
 
 pub comma_ends : (q : List ℕ) → Apart lengthens_item (comma ∷ q)
 comma_ends q = Apart-cons lengthens_item comma q refl
@@ -42,7 +43,8 @@ comma_ends q = Apart-cons lengthens_item comma q refl
 pub field_complete : (edition : Edition) (kind : FieldKind) (raw : RawField kind) (t : List ℕ)
     → IsFieldText edition kind raw t → whole_field_at edition kind t ≡ Ok (raw, [])
 unfolding whole_field_at
-field_complete edition item_field i t h = item_field_complete edition i t h
+field_complete edition item_field i t h = ap (whole_field_at edition item_field) (sym (append-nil t))
+    ∙ item_field_complete edition i t [] h (Apart-nil is_space) (Apart-nil lengthens_item)
 field_complete edition list_field ms t h = members_complete (IsMemberText edition) entry_events (entry_at edition)
     (Apart lengthens_item) (entry_complete edition) (entry_fresh edition) blank_ends comma_ends
     (Apart-nil lengthens_item) (Sound-entry edition) ms t h

@@ -26,7 +26,7 @@ use Rattle.sfv_reading.proofs.complete.Items.{space_ends}
 
 -- ---- inner items
 
-inner_item_complete : (edition : Edition) (i : RawItem) (t q : List ℕ) → IsItemText edition i t → Apart lengthens_item q
+pub inner_item_complete : (edition : Edition) (i : RawItem) (t q : List ℕ) → IsItemText edition i t → Apart lengthens_item q
     → inner_item_at edition (t ++ q) ≡ Ok (i, q)
 unfolding inner_item_at
 inner_item_complete edition i t q h f = led_complete _ _ _ _ _ (item_complete edition i t q h f)
@@ -37,7 +37,7 @@ bracket_ends q = Apart-cons lengthens_item right_parenthesis q refl
 bracket_no_space : (q : List ℕ) → Apart is_space (right_parenthesis ∷ q)
 bracket_no_space q = Apart-cons is_space right_parenthesis q refl
 
-next_item_complete : (edition : Edition) (i : RawItem) (t q : List ℕ) → IsNextItem edition i t → Apart lengthens_item q
+pub next_item_complete : (edition : Edition) (i : RawItem) (t q : List ℕ) → IsNextItem edition i t → Apart lengthens_item q
     → (next_item_at edition (t ++ q) ≡ Ok (Some i, q)) × Apart lengthens_item (t ++ q)
 unfolding next_item_at give
 next_item_complete edition i t q h f =
@@ -114,14 +114,14 @@ items_complete edition (i ∷ is) t q h =
 -- ---- inner lists
 
 -- the items with the closing parenthesis, and the parameters
-record Inner (edition : Edition) (is : List RawItem) (ps : RawParameters) (t : List ℕ) : Type 0 where
+pub record Inner (edition : Edition) (is : List RawItem) (ps : RawParameters) (t : List ℕ) : Type 0 where
   pub items : List ℕ
   pub rest : List ℕ
   pub text : t ≡ left_parenthesis ∷ (items ++ rest)
   pub are_items : IsItems edition is items
   pub are_parameters : IsParametersText edition ps rest
 
-inner_parts : (edition : Edition) (is : List RawItem) (ps : RawParameters) (t : List ℕ)
+pub inner_parts : (edition : Edition) (is : List RawItem) (ps : RawParameters) (t : List ℕ)
     → IsMemberText edition (inner_of is ps) t → Inner edition is ps t
 inner_parts edition [] ps t h =
     let s = h.second in

@@ -1,15 +1,16 @@
 -- A text of a number is read, as that number.
-use Rattle.std.proofs.Common.{◌≡◌, ℕ, ◌≤◌, Bool, true, false, eqb, leb, ◌||◌, ℤ, List, [], ◌∷◌, ◌++◌, length}
+use Rattle.std.proofs.Common.{◌≡◌, ℕ, ◌<◌, ◌≤◌, Bool, true, false, eqb, leb, ◌||◌, ℤ, List, [], ◌∷◌, ◌++◌, length}
 use Rattle.std.proofs.Common.{Some, Ok, refl, sym, ap, ◌∙◌, append_assoc, arith}
 use Rattle.std.proofs.lemmas.Bool.{and_parts, or_parts, leb-true, ne_eqb, le-ltb}
 use Rattle.sfv_spec.specs.Ascii.{minus_sign, dot, digit_zero, digit_nine}
+use Rattle.sfv_spec.specs.Texts.{RunOf}
 use Rattle.sfv_spec.specs.Classes.{is_digit}
 use Rattle.sfv_spec.specs.Values.{integer, decimal}
 use Rattle.sfv_spec.specs.Numbers.{AreDigits, minus_text, signed, IsIntegerText, IsDecimalText}
 use Rattle.sfv_reading.specs.Reader.{Apart, byte, give}
 use Rattle.sfv_reading.specs.Bare.{sign_at, decimal_at, fraction_at, point_at, whole_at, number_at}
 use Rattle.sfv_reading.proofs.complete.Combinators.{Apart-cons, branch_past, branch_take, ahead_past, ahead_take}
-use Rattle.sfv_reading.proofs.complete.Combinators.{bind_complete, back_complete, up_to_complete}
+use Rattle.sfv_reading.proofs.complete.Combinators.{bind_complete, back_complete, up_to_taken, up_to_complete}
 use Rattle.sfv_reading.proofs.sound.Numbers.{thousandths}
 
 -- ---- a number is read again
@@ -28,24 +29,31 @@ digit_apart q h = record { apart = λ c e. (or_parts (is_digit c) (eqb c dot) (h
 point_apart : (q : List ℕ) → Apart goes_on q → Apart (byte dot) q
 point_apart q h = record { apart = λ c e. (or_parts (is_digit c) (eqb c dot) (h.apart c e)).1 }
 
-minus_apart : (ds q : List ℕ) → AreDigits 1 15 ds → Apart (byte minus_sign) (ds ++ q)
+pub minus_apart : (ds q : List ℕ) → AreDigits 1 15 ds → Apart (byte minus_sign) (ds ++ q)
 minus_apart [] q counted = absurd (omega (arith, counted.0))
 minus_apart (d ∷ ds) q counted = Apart-cons (byte minus_sign) d (ds ++ q)
     (ne_eqb d minus_sign (λ e. omega (arith, digit_within d (and_parts (is_digit d) _ counted.2).0)))
 
-sign_complete : (negative : Bool) (q : List ℕ) → Apart (byte minus_sign) q
+sign_complete : (negative : Bool) (q : List ℕ) → (negative ≡ false → Apart (byte minus_sign) q)
     → sign_at (minus_text negative ++ q) ≡ Ok (negative, q)
 unfolding sign_at give
 sign_complete true q h = branch_take (byte minus_sign) (λ _. give true) (give false) minus_sign q refl
-sign_complete false q h = branch_past (byte minus_sign) (λ _. give true) (give false) q h
+sign_complete false q h = branch_past (byte minus_sign) (λ _. give true) (give false) q (h refl)
+
+-- the sign and the first digits
+pub start_read : (dated negative : Bool) (whole q : List ℕ) → RunOf is_digit whole → length whole ≤ 15
+    → (length whole < 15 → Apart is_digit q) → (negative ≡ false → Apart (byte minus_sign) (whole ++ q))
+    → number_at dated (minus_text negative ++ (whole ++ q)) ≡ whole_at dated negative whole q
+unfolding number_at
+start_read dated negative whole q each most ends plain =
+    bind_complete _ _ _ _ _ (sign_complete negative (whole ++ q) plain)
+    ∙ bind_complete _ _ _ _ _ (up_to_taken is_digit 15 whole q each most ends)
 
 -- the sign and the whole part
 pub start_complete : (dated negative : Bool) (whole q : List ℕ) → AreDigits 1 15 whole → Apart is_digit q
     → number_at dated (minus_text negative ++ (whole ++ q)) ≡ whole_at dated negative whole q
-unfolding number_at
 start_complete dated negative whole q counted h =
-    bind_complete _ _ _ _ _ (sign_complete negative (whole ++ q) (minus_apart whole q counted))
-    ∙ bind_complete _ _ _ _ _ (up_to_complete is_digit 15 whole q counted.2 counted.1 h)
+    start_read dated negative whole q counted.2 counted.1 (λ _. h) (λ _. minus_apart whole q counted)
 
 pub some_eqb : (n : ℕ) → 1 ≤ n → eqb n 0 ≡ false
 some_eqb n h = ne_eqb n 0 (λ e. omega arith)

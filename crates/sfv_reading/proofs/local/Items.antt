@@ -13,11 +13,11 @@ pub Local-key : Local key_at
 unfolding key_at
 Local-key = search local_rules depth 40
 
-Local-value : (edition : Edition) → Local (value_at edition)
+pub Local-value : (edition : Edition) → Local (value_at edition)
 unfolding value_at
 Local-value edition = search (local_rules, Local-bare) depth 40
 
-Local-parameter : (edition : Edition) → Local (parameter_at edition)
+pub Local-parameter : (edition : Edition) → Local (parameter_at edition)
 unfolding parameter_at
 Local-parameter edition = search (local_rules, Local-key, Local-value) depth 40
 

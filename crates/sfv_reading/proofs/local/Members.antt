@@ -12,27 +12,27 @@ use Rattle.sfv_reading.proofs.sound.Members.{Consumes-next_item}
 
 -- ---- what an answer rests on
 
-Local-inner_item : (edition : Edition) → Local (inner_item_at edition)
+pub Local-inner_item : (edition : Edition) → Local (inner_item_at edition)
 unfolding inner_item_at
 Local-inner_item edition = search (local_rules, Local-item) depth 40
 
-Local-next_item : (edition : Edition) → Local (next_item_at edition)
+pub Local-next_item : (edition : Edition) → Local (next_item_at edition)
 unfolding next_item_at
 Local-next_item edition = search (local_rules, Local-inner_item) depth 40
 
-Local-next_items : (edition : Edition) → Local (many inner_item_events (next_item_at edition))
+pub Local-next_items : (edition : Edition) → Local (many inner_item_events (next_item_at edition))
 Local-next_items edition = Local-many inner_item_events (next_item_at edition) (Consumes-next_item edition)
     (Local-next_item edition)
 
-Local-items : (edition : Edition) → Local (inner_items_at edition)
+pub Local-items : (edition : Edition) → Local (inner_items_at edition)
 unfolding inner_items_at
 Local-items edition = search (local_rules, Local-inner_item, Local-next_items) depth 40
 
-Local-inner : (edition : Edition) → Local (inner_at edition)
+pub Local-inner : (edition : Edition) → Local (inner_at edition)
 unfolding inner_at
 Local-inner edition = search (local_rules, Local-items, Local-parameters) depth 40
 
-Local-member : (edition : Edition) → Local (member_at edition)
+pub Local-member : (edition : Edition) → Local (member_at edition)
 unfolding member_at
 Local-member edition = search (local_rules, Local-item, Local-inner) depth 40
 
@@ -40,7 +40,7 @@ pub Local-entry : (edition : Edition) → Local (entry_at edition)
 unfolding entry_at
 Local-entry edition = search (local_rules, Local-member) depth 40
 
-Local-member_value : (edition : Edition) → Local (member_value_at edition)
+pub Local-member_value : (edition : Edition) → Local (member_value_at edition)
 unfolding member_value_at
 Local-member_value edition = search (local_rules, Local-member, Local-parameters) depth 40
 

@@ -3,7 +3,7 @@ use Rattle.std.proofs.Common.{◌≡◌, ℕ, suc, ◌<◌, ◌≤◌, ◌+◌, 
 use Rattle.std.proofs.Common.{length, drop, Ok, Err, refl, sym, ap, subst, ◌∙◌, append_assoc, length-drop, arith, inl}
 use Rattle.std.proofs.Common.{inr}
 use Rattle.std.specs.Prelude.{◌==◌, IsUtf8, slice_index, slice_range}
-use Rattle.std.specs.List.{concat, AllZip, list_all}
+use Rattle.std.specs.List.{concat, AllZip}
 use Rattle.std.proofs.lemmas.Bool.{and_parts, and_cases, or_parts, or_from, not-true, not_from_false, both_ways}
 use Rattle.std.proofs.lemmas.Bool.{eqb-true, ne_eqb}
 use Rattle.std.proofs.lemmas.List.{append-nil, drop-drop, drop_all, length-append}
@@ -19,27 +19,20 @@ use Rattle.sfv_reading.specs.Quoted.{DisplayStops, Traced}
 use Rattle.std.specs.Str.Lossy.{utf8_valid_len}
 use Rattle.sfv_reading.proofs.complete.Quoted.{passes}
 use Rattle.sfv_reading.proofs.rules.Quoted.{not_text}
+use Rattle.sfv_reading.proofs.texts.Joining.{joining_run}
 use Rattle.sfv_reading.proofs.texts.Ranges.{byte_at, range_at, run_more, string_utf8, run_weaker, run_at}
 use Rattle.sfv_reading.proofs.quoted.Traces.{Ends, trace_of_display}
 use Rattle.sfv_reading.proofs.quoted.Pieces.{behind_bytes_none, behind_bytes_more, behind_bytes_ok, past_display}
 use Rattle.sfv_reading.proofs.quoted.Pieces.{quote_display, display_stops}
-
--- each byte of a run is a piece
-plain_pieces : (run : List ℕ) → RunOf is_plain_in_display run
-    → (pieces : List (List ℕ)) × (run ≡ concat pieces) × AllZip IsDisplayPiece run pieces
-plain_pieces [] h = ([], refl, tt)
-plain_pieces (c ∷ run) h =
-    let a = and_parts (is_plain_in_display c) (list_all is_plain_in_display run) h in
-    let w = plain_pieces run a.1 in ((c ∷ []) ∷ w.0, ap (λ (l : List ℕ). c ∷ l) w.1, (inl (a.0, refl), w.2))
 
 pub plain_reads : (input : List ℕ) (at end : ℕ) → at ≤ end → RunOf is_plain_in_display (slice_range input at end)
     → pieces_from outside (drop at input) ≡ behind_bytes (slice_range input at end)
     (pieces_from outside (drop end input))
 plain_reads input at end l h =
     let run : List ℕ = slice_range input at end in
-    let w = plain_pieces run h in
-    ap (pieces_from outside) (range_at input at end l ∙ ap (λ (r : List ℕ). r ++ drop end input) w.1)
-    ∙ past_display run w.0 (drop end input) w.2
+    let w = joining_run IsDisplayPiece is_plain_in_display (λ c e. inl (e, refl)) run h in
+    ap (pieces_from outside) (range_at input at end l ∙ ap (λ (r : List ℕ). r ++ drop end input) w.text)
+    ∙ past_display run w.pieces (drop end input) w.each
 
 pub plain_utf8 : (run : List ℕ) → RunOf is_plain_in_display run → IsUtf8 run
 plain_utf8 run h = string_utf8 run (run_weaker is_plain_in_display is_string_byte

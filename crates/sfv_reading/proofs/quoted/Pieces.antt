@@ -9,10 +9,10 @@ use Rattle.sfv_spec.specs.Ascii.{double_quote, percent_sign, backslash}
 use Rattle.sfv_spec.specs.Texts.{RunOf}
 use Rattle.sfv_spec.specs.Classes.{is_string_byte, is_lower_hexadecimal}
 use Rattle.sfv_spec.specs.Strings.{is_escaped_in_string, is_plain_in_display, IsStringPiece, IsDisplayPiece}
-use Rattle.sfv_spec.specs.Faults.{has_rule, SyntaxFault, invalid_string_character, unterminated_string}
+use Rattle.sfv_spec.specs.Faults.{SyntaxFault, invalid_string_character, unterminated_string}
 use Rattle.sfv_spec.specs.Faults.{unterminated_escape_sequence, invalid_escape_sequence}
 use Rattle.sfv_spec.specs.Faults.{invalid_display_string_character, unterminated_display_string}
-use Rattle.sfv_reading.specs.Reader.{first, Answer, Reader, at_reach, by_rule}
+use Rattle.sfv_reading.specs.Reader.{has_rule, first, Answer, Reader, at_reach, by_rule}
 use Rattle.sfv_reading.specs.Quoted.{behind_bytes, string_from, Place, outside, percent, digit, pieces_from}
 use Rattle.sfv_reading.specs.Quoted.{StringStops, DisplayStops}
 

@@ -16,23 +16,16 @@ use Rattle.sfv_reading.specs.Quoted.{behind_bytes, string_from, StringStops, Tra
 use Rattle.sfv_reading.proofs.quoted.Traces.{Ends, trace_of_string}
 use Rattle.sfv_reading.proofs.quoted.Pieces.{behind_bytes_none, behind_bytes_more, behind_bytes_ok, past_string}
 use Rattle.sfv_reading.proofs.quoted.Pieces.{quote_string, string_stops}
+use Rattle.sfv_reading.proofs.texts.Joining.{joining_run}
 use Rattle.sfv_reading.proofs.texts.Ranges.{byte_at, range_at, run_more, run_weaker, string_utf8, run_at}
-
--- each byte of a run is a piece
-plain_pieces : (run : List ℕ) → RunOf is_plain_in_string run
-    → (pieces : List (List ℕ)) × (run ≡ concat pieces) × AllZip IsStringPiece run pieces
-plain_pieces [] h = ([], refl, tt)
-plain_pieces (c ∷ run) h =
-    let a = and_parts (is_plain_in_string c) (list_all is_plain_in_string run) h in
-    let w = plain_pieces run a.1 in ((c ∷ []) ∷ w.0, ap (λ (l : List ℕ). c ∷ l) w.1, (inl (a.0, refl), w.2))
 
 pub plain_reads : (input : List ℕ) (at end : ℕ) → at ≤ end → RunOf is_plain_in_string (slice_range input at end)
     → string_from false (drop at input) ≡ behind_bytes (slice_range input at end) (string_from false (drop end input))
 plain_reads input at end l h =
     let run : List ℕ = slice_range input at end in
-    let w = plain_pieces run h in
-    ap (string_from false) (range_at input at end l ∙ ap (λ (r : List ℕ). r ++ drop end input) w.1)
-    ∙ past_string run w.0 (drop end input) w.2
+    let w = joining_run IsStringPiece is_plain_in_string (λ c e. inl (e, refl)) run h in
+    ap (string_from false) (range_at input at end l ∙ ap (λ (r : List ℕ). r ++ drop end input) w.text)
+    ∙ past_string run w.pieces (drop end input) w.each
 
 -- the bytes of a plain run are of a string
 pub plain_bytes : (run : List ℕ) → RunOf is_plain_in_string run → RunOf is_string_byte run

@@ -26,7 +26,7 @@ use Rattle.sfv_reading.proofs.texts.Utf8.{longest_text}
 use Rattle.std.proofs.lemmas.Str.{utf8_valid_len_le}
 
 -- two texts with a longest beginning of one kind, of one length
-same_longest : (P : List ℕ → Type 0) (t : List ℕ) (n m : ℕ) → IsLongestBeginning P t n → IsLongestBeginning P t m
+pub same_longest : (P : List ℕ → Type 0) (t : List ℕ) (n m : ℕ) → IsLongestBeginning P t n → IsLongestBeginning P t m
     → n ≡ m
 same_longest P t n m a b = elim (cases_order n m) as (λ x. n ≡ m) [
   | inl e ↦ e

@@ -1,5 +1,5 @@
--- Faults whose place has a rule of its own, of many steps.
-use Rattle.std.proofs.Common.{◌≡◌, ℕ, zero, suc, ◌<◌, false, List, [], ◌∷◌, ◌++◌, length, Option, Some, None, Ok, Err}
+-- Where the faults of many steps stand.
+use Rattle.std.proofs.Common.{◌≡◌, ℕ, zero, suc, ◌<◌, List, [], ◌∷◌, ◌++◌, length, Option, Some, None, Ok, Err}
 use Rattle.std.proofs.Common.{refl, sym, ap, subst, ◌∙◌, append_assoc, arith}
 use Rattle.std.specs.Prelude.{flat_map}
 use Rattle.sfv_spec.specs.Texts.{IsJoining}
@@ -28,10 +28,10 @@ module _ {A : Type 0} (P : A → List ℕ → Type 0) (E : List ℕ → Type 0)
       })) (events_push parts vs v y.events) g)
 
   within : (n : ℕ) (t : List ℕ) → length t < n → (s : List ℕ) (vs : List A) → IsJoining P vs s → (e : Fault)
-      → many parts step t ≡ Err e → e.exact ≡ false → V (s ++ t) (behind_events (flat_map parts vs) e)
+      → many parts step t ≡ Err e → V (s ++ t) (behind_events (flat_map parts vs) e)
   unfolding bind give led
-  within zero t lt s vs j e i exact = absurd (omega arith)
-  within (suc n) t lt s vs j e i exact =
+  within zero t lt s vs j e i = absurd (omega arith)
+  within (suc n) t lt s vs j e i =
       let on : (a : Answer (Option A)) → step t ≡ a → and_then a (go_on parts (many parts step)) ≡ Err e
       → V (s ++ t) (behind_events (flat_map parts vs) e) =
       λ a. elim a as (λ (a : Answer (Option A)). step t ≡ a → and_then a (go_on parts (many parts step)) ≡ Err e
@@ -50,17 +50,16 @@ module _ {A : Type 0} (P : A → List ℕ → Type 0) (E : List ℕ → Type 0)
                     | Ok z ↦ λ p q. absurd cc
                     | Err y ↦ λ p q.
                         let same : behind_events (parts v) y ≡ e = cc in
-                        let inexact : y.exact ≡ false = ap (λ (e : Fault). e.exact) same ∙ exact in
                         subst (λ (e : Fault). V (s ++ t) (behind_events (flat_map parts vs) e)) same
                         (subst (λ (l : List ℕ). V (s ++ l)
                         (behind_events (flat_map parts vs) (behind_events (parts v) y)))
                         (sym m.1)
                         (moved s m.0 x.1 vs v y (within n x.1 (omega arith) (s ++ m.0) (vs ++ v ∷ [])
-                        (joining_push P vs v s m.0 j m.2) y p inexact)))
+                        (joining_push P vs v s m.0 j m.2) y p)))
                   ] in inner (many parts step x.1) refl l
             ]
-        | Err x ↦ λ k l. let same : x ≡ e = cc in (h s vs j).rules t e (k ∙ ap (λ (x : Fault). Err x) same) exact
+        | Err x ↦ λ k l. let same : x ≡ e = cc in (h s vs j).rules t e (k ∙ ap (λ (x : Fault). Err x) same)
       ] in on (step t) refl (sym (many_is parts step c t) ∙ i)
 
   pub Rules-many : Rules (many parts step) V
-  Rules-many = record { rules = λ t e i x. within (suc (length t)) t (omega arith) [] [] (joining_none P) e i x }
+  Rules-many = record { rules = λ t e i. within (suc (length t)) t (omega arith) [] [] (joining_none P) e i }

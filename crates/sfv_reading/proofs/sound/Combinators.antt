@@ -6,9 +6,9 @@ use Rattle.std.specs.List.{list_all}
 use Rattle.std.proofs.lemmas.Bool.{and_from, and_parts, true≢false, eqb-true}
 use Rattle.sfv_spec.specs.Texts.{RunOf}
 use Rattle.sfv_spec.specs.Events.{TreeEvent}
-use Rattle.sfv_spec.specs.Faults.{has_rule, SyntaxFault}
+use Rattle.sfv_spec.specs.Faults.{SyntaxFault}
 use Rattle.sfv_reading.specs.Judgements.{GoesOn, Reached, Sound}
-use Rattle.sfv_reading.specs.Reader.{Fault, Answer, Reader, and_then, give, fail, ruled, ◌>>=◌, bind, led_answer, led}
+use Rattle.sfv_reading.specs.Reader.{has_rule, Fault, Answer, Reader, and_then, give, fail, ruled, ◌>>=◌, bind, led_answer, led}
 use Rattle.sfv_reading.specs.Reader.{branch, ahead, at_start, back, up_to, span, byte}
 
 further : (W : List ℕ → List TreeEvent → Type 0) (s q : List ℕ) (e : Fault) → GoesOn (λ u es. W (s ++ u) es) q e

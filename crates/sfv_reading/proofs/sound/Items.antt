@@ -38,7 +38,7 @@ Sound-key = Sound-branch _ _ _ _ _ _
 -- ---- parameters
 
 -- *SP key, and a value, after the semicolon
-parameter_of : (edition : Edition) (spaces k key t : List ℕ) (v : BareValue) → RunOf is_space spaces → IsKeyText key k
+pub parameter_of : (edition : Edition) (spaces k key t : List ℕ) (v : BareValue) → RunOf is_space spaces → IsKeyText key k
     → IsValueText edition v t → IsParameterText edition (key, v) (semicolon ∷ (spaces ++ (k ++ t)))
 parameter_of edition spaces k key t v each is_key is_value = record {
   front = semicolon ∷ [];
@@ -57,7 +57,7 @@ parameter_of edition spaces k key t v each is_key is_value = record {
 abbrev pub ParameterGoes : Edition → List ℕ → List TreeEvent → Type 0
 ParameterGoes edition = StepGoes (IsParameterText edition) (Exactly []) parameter_event
 
-true_value : (edition : Edition) → IsValueText edition (boolean true) []
+pub true_value : (edition : Edition) → IsValueText edition (boolean true) []
 true_value edition = inl (refl, refl)
 
 value_of : (edition : Edition) (v : BareValue) (t : List ℕ) → IsBareText edition v t

@@ -103,7 +103,7 @@ IsItems edition (i ∷ is) = Spaces ⨾ IsItemText edition i ⨾ Joined (IsNextI
 abbrev pub ItemsGo : Edition → List ℕ → List TreeEvent → Type 0
 ItemsGo edition = Goes (IsItems edition) (λ is. flat_map inner_item_events is)
 
-items_with : (edition : Edition) (spaces s t : List ℕ) (i : RawItem) (is : List RawItem) → RunOf is_space spaces
+pub items_with : (edition : Edition) (spaces s t : List ℕ) (i : RawItem) (is : List RawItem) → RunOf is_space spaces
     → IsItemText edition i s → Joined (IsNextItem edition) IsClosed is t → IsItems edition (i ∷ is) (spaces ++ (s ++ t))
 items_with edition spaces s t i is each h k = record {
   front = spaces;
@@ -295,7 +295,7 @@ KeyedGoes edition = Goes (IsDictionaryMemberText edition) keyed_events
 abbrev pub ValueGoes : Edition → List ℕ → List TreeEvent → Type 0
 ValueGoes edition = Goes (IsMemberValueText edition) member_events
 
-given : (edition : Edition) (m : RawMember) (t : List ℕ) → IsMemberText edition m t
+pub given : (edition : Edition) (m : RawMember) (t : List ℕ) → IsMemberText edition m t
     → IsMemberValueText edition m (equals_sign ∷ t)
 given edition m t h = inl (record { front = equals_sign ∷ []; back = t; text = refl; first = refl; second = h })
 
@@ -321,7 +321,7 @@ Sound-member_value edition = Sound-byte _ _ _ _ _ _
           (parameters_events g.0) es g.2,
     )))))
 
-keyed : (edition : Edition) (key k t : List ℕ) (m : RawMember) → IsKeyText key k → IsMemberValueText edition m t
+pub keyed : (edition : Edition) (key k t : List ℕ) (m : RawMember) → IsKeyText key k → IsMemberValueText edition m t
     → IsDictionaryMemberText edition (key, m) (k ++ t)
 keyed edition key k t m h g = record { front = k; back = t; text = refl; first = h; second = g }
 

@@ -1,5 +1,5 @@
 -- Members with commas between them, of any kind.
-use Rattle.std.proofs.Common.{◌≡◌, ℕ, ◌≤◌, true, false, eqb, List, [], ◌∷◌, ◌++◌, length, Some, None, Ok, Err, refl}
+use Rattle.std.proofs.Common.{◌≡◌, ℕ, ◌≤◌, true, eqb, List, [], ◌∷◌, ◌++◌, length, Some, None, Ok, Err, refl}
 use Rattle.std.proofs.Common.{sym, ap, subst, ◌∙◌, append_assoc, arith}
 use Rattle.std.specs.Prelude.{codes, flat_map}
 use Rattle.std.proofs.lemmas.List.{append-nil, length-append}
@@ -11,7 +11,7 @@ use Rattle.sfv_spec.specs.Grammar.{Spaces, OptionalWhitespace, Comma, AreMembers
 use Rattle.sfv_spec.specs.Events.{TreeEvent}
 use Rattle.sfv_spec.specs.Faults.{trailing_comma}
 use Rattle.sfv_reading.specs.Judgements.{Sound, Local}
-use Rattle.sfv_reading.specs.Reader.{Fault, Reader, Apart, any, at_start, back, many, span, give}
+use Rattle.sfv_reading.specs.Reader.{Fault, Reader, Apart, any, behind_events, back, many, give}
 use Rattle.sfv_reading.specs.Fields.{comma_at, next_at, members_at}
 use Rattle.sfv_reading.proofs.sound.Combinators.{run_head, Found, Sound-give, Sound-fail, Sound-led, Sound-byte}
 use Rattle.sfv_reading.proofs.sound.Combinators.{Sound-ahead, Sound-bind, Sound-map, Sound-back, Sound-within}
@@ -25,7 +25,7 @@ use Rattle.sfv_reading.proofs.texts.Joining.{Joined, split_joined, joined_split}
 use Rattle.sfv_reading.proofs.sound.Many.{Step, Consumes, Consumes-from, Local-many, many_complete}
 use Rattle.sfv_reading.proofs.sound.Steps.{StepGoes, Sound-steps}
 use Rattle.sfv_reading.proofs.sound.Items.{as_it_stands}
-use Rattle.sfv_reading.proofs.rules.UpToFault.{bind_met, led_met, many_met}
+use Rattle.sfv_reading.proofs.rules.UpToFault.{behind_twice, bind_met, led_met, many_met}
 
 -- a comma, and what may stand after it
 abbrev pub IsComma : Unit {0} → List ℕ → Type 0
@@ -56,7 +56,7 @@ module _ {A : Type 0} (P : A → List ℕ → Type 0) (parts : A → List TreeEv
   abbrev pub MembersGo : List ℕ → List TreeEvent → Type 0
   MembersGo = Goes (AreMembersText P) (λ ms. flat_map parts ms)
 
-  next_member : (before c t : List ℕ) (u : Unit {0}) (m : A) → RunOf is_space_or_tab before → IsComma u c → P m t
+  pub next_member : (before c t : List ℕ) (u : Unit {0}) (m : A) → RunOf is_space_or_tab before → IsComma u c → P m t
       → IsNext m (before ++ (c ++ t))
   next_member before c t u m each h k = record {
     front = before ++ c;
@@ -146,7 +146,7 @@ module _ {A : Type 0} (P : A → List ℕ → Type 0) (parts : A → List TreeEv
   unfolding comma_at
   Local-comma = search local_rules depth 40
 
-  Local-next : Local one → Local (next_at one)
+  pub Local-next : Local one → Local (next_at one)
   unfolding next_at
   Local-next l = Local-bind _ _ (Local-span _) (λ _.
       Local-ahead _ _ _ (Local-ahead _ _ _ (Local-bind _ _ (Local-back _ _ Local-comma)
@@ -161,7 +161,7 @@ module _ {A : Type 0} (P : A → List ℕ → Type 0) (parts : A → List TreeEv
 
   -- ---- members are read again
 
-  comma_complete : (behind q : List ℕ) → RunOf is_space_or_tab behind → Apart is_space_or_tab q → 1 ≤ length q
+  pub comma_complete : (behind q : List ℕ) → RunOf is_space_or_tab behind → Apart is_space_or_tab q → 1 ≤ length q
       → back trailing_comma comma_at (comma ∷ (behind ++ q)) ≡ Ok (tt, q)
   unfolding comma_at give
   comma_complete behind q each h some = back_complete _ _ _ _ _ (branch_take _ _ _ comma (behind ++ q) refl
@@ -173,7 +173,7 @@ module _ {A : Type 0} (P : A → List ℕ → Type 0) (parts : A → List TreeEv
       → Apart is_space_or_tab (t ++ q) × (1 ≤ length (t ++ q)))
       (ends : (c : ℕ) (q : List ℕ) → is_space_or_tab c ≡ true → F (c ∷ q)) (comma_ends : (q : List ℕ)
       → F (comma ∷ q)) (end : F []) where
-    blank_ends : (s q : List ℕ) → RunOf is_space_or_tab s → F q → F (s ++ q)
+    pub blank_ends : (s q : List ℕ) → RunOf is_space_or_tab s → F q → F (s ++ q)
     blank_ends [] q each f = f
     blank_ends (c ∷ s) q each f = ends c (s ++ q) (run_head is_space_or_tab c s each)
 
@@ -230,54 +230,24 @@ module _ {A : Type 0} (P : A → List ℕ → Type 0) (parts : A → List TreeEv
         ∙ bind_complete _ _ _ _ _ (again m o.front (rest ++ []) o.first more.1)
         ∙ led_complete _ _ _ _ _ (bind_complete _ _ _ _ _ more.0)
 
-    -- ---- and a comma after the last
-
-    comma_met : (z w : List ℕ) → RunOf is_space_or_tab z → RunOf is_space_or_tab w
-        → (next_at one (z ++ comma ∷ w) ≡ Err (record {
-          kind = trailing_comma;
-          exact = false;
-          rest = comma ∷ w;
-          events = [];
-        }))
-    unfolding next_at comma_at back give
-    comma_met z w each each' =
-        let end : span is_space_or_tab w ≡ Ok (w, []) = ap (span is_space_or_tab) (sym (append-nil w))
-        ∙ span_complete is_space_or_tab w [] each' (Apart-nil is_space_or_tab) in
-        bind_complete _ _ _ _ _ (span_complete is_space_or_tab z (comma ∷ w) each (comma_no_blank w))
-        ∙ ahead_any _ _ _ (omega arith) ∙ ahead_take _ _ _ comma w refl
-        ∙ bind_met _ _ _ _ (ap (at_start trailing_comma (comma ∷ w)) (branch_take _ _ _ comma w refl
-        ∙ bind_complete _ _ _ _ _ end ∙ ahead_past _ _ _ [] (Apart-nil any)))
-
-    pub members_met : Reads one P (Goes P parts) → (m : A) (ms : List A) (t w : List ℕ) → AreMembersText P (m ∷ ms) t
-        → RunOf is_space_or_tab w
-        → members_at parts one (t ++ comma ∷ w) ≡ Err (record {
-          kind = trailing_comma;
-          exact = false;
-          rest = comma ∷ w;
-          events = flat_map parts (m ∷ ms);
-        })
+    -- up to a fault of what comes after the last
+    pub members_met : Reads one P (Goes P parts) → (m : A) (ms : List A) (t q : List ℕ) (e : Fault)
+        → (h : AreMembersText P (m ∷ ms) t) → next_at one (h.second.back ++ q) ≡ Err e → F q
+        → members_at parts one (t ++ q) ≡ Err (behind_events (flat_map parts (m ∷ ms)) e)
     unfolding members_at
-    members_met r m ms t w h each =
+    members_met r m ms t q e h met f =
         let o = h.second.first in
         let z : List ℕ = h.second.back in
-        let q : List ℕ = z ++ comma ∷ w in
-        let e : Fault = record { kind = trailing_comma; exact = false; rest = comma ∷ w; events = [] } in
-        let more = many_met parts (next_at one) (Consumes-next r) IsNext F (λ v a q p f. next_complete v a q p f) q e
-        (comma_met z w h.second.second each) (blank_ends z (comma ∷ w) h.second.second (comma_ends w)) ms o.back
-        o.second in
-        let all : t ++ comma ∷ w ≡ h.front ++ (o.front ++ (o.back ++ q)) =
-        ap (λ (l : List ℕ). l ++ comma ∷ w) (h.text
+        let more = many_met parts (next_at one) (Consumes-next r) IsNext F (λ v a q p f. next_complete v a q p f)
+        (z ++ q) e met (blank_ends z q h.second.second f) ms o.back o.second in
+        let all : t ++ q ≡ h.front ++ (o.front ++ (o.back ++ (z ++ q))) =
+        ap (λ (l : List ℕ). l ++ q) (h.text
         ∙ ap (λ (l : List ℕ). h.front ++ l) (h.second.text ∙ ap (λ (l : List ℕ). l ++ z) o.text))
         ∙ simp append_assoc in
-        let n = fresh m o.front (o.back ++ q) o.first in
+        let n = fresh m o.front (o.back ++ (z ++ q)) o.first in
         ap (members_at parts one) all ∙ bind_complete _ _ _ _ _
-        (span_complete is_space h.front (o.front ++ (o.back ++ q)) h.first (no_space _ n.0))
-        ∙ ahead_any _ _ (o.front ++ (o.back ++ q)) n.1
-        ∙ bind_complete _ _ _ _ _ (again m o.front (o.back ++ q) o.first more.1)
+        (span_complete is_space h.front (o.front ++ (o.back ++ (z ++ q))) h.first (no_space _ n.0))
+        ∙ ahead_any _ _ (o.front ++ (o.back ++ (z ++ q))) n.1
+        ∙ bind_complete _ _ _ _ _ (again m o.front (o.back ++ (z ++ q)) o.first more.1)
         ∙ led_met _ _ _ _ (bind_met _ _ _ _ more.0)
-        ∙ ap (λ (l : List TreeEvent). Err (record {
-          kind = trailing_comma;
-          exact = false;
-          rest = comma ∷ w;
-          events = parts m ++ l;
-        })) (append-nil (flat_map parts ms))
+        ∙ ap (λ (x : Fault). Err x) (behind_twice (parts m) (flat_map parts ms) e)

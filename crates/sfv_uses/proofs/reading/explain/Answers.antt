@@ -23,4 +23,4 @@ returns-clause-explained c =
     let written : string_bytes c.push_str-2.new.self ≡ repeat c.in-Some.index (codes " ") ++ codes "^ "
     ++ message_of (kind_of c.in-Err.error) = search rules in
     let message = ap (λ k. repeat c.in-Some.index (codes " ") ++ codes "^ " ++ message_of k) fault.1 in
-    record { fault = fault.0; index = c.in-Some.index; rejected = fault.2; text_is = written ∙ message }
+    record { fault = fault.0; index = c.in-Some.index; located = fault.2; text_is = written ∙ message }

@@ -1,0 +1,205 @@
+-- A fault of a number or a Date is a row of the table of faults.
+use Rattle.std.proofs.Common.{◌≡◌, ℕ, ◌-◌, Bool, true, false, not, ◌||◌, List, [], ◌∷◌, ◌++◌}
+use Rattle.std.proofs.Common.{length, Err, refl, sym, ap, subst, ◌∙◌, append_assoc, arith, inl, inr}
+use Rattle.std.specs.Prelude.{◌==◌, ◌⊎◌, codes}
+use Rattle.std.proofs.lemmas.Bool.{cases_Bool, eqb-true, true≢false, or_from, eq-eqb, both_ways}
+use Rattle.std.proofs.lemmas.List.{length-append}
+use Rattle.sfv_spec.specs.Ascii.{minus_sign, dot}
+use Rattle.sfv_spec.specs.Ascii.{at_sign}
+use Rattle.sfv_spec.specs.Texts.{begins_with}
+use Rattle.sfv_spec.specs.Classes.{is_digit, is_one_of}
+use Rattle.sfv_spec.specs.Values.{Edition, rfc8941, rfc9651, FieldKind, BareValue}
+use Rattle.sfv_spec.specs.Numbers.{AreDigits, minus_text}
+use Rattle.sfv_spec.specs.Faults.{expected_digit, too_many_digits, too_many_digits_before_decimal_point}
+use Rattle.sfv_spec.specs.Faults.{too_many_digits_after_decimal_point, trailing_decimal_point, non_integer_date}
+use Rattle.sfv_spec.specs.Faults.{expected_start_of_bare_item, rfc8941_date}
+use Rattle.sfv_spec.specs.Faults.{at_text, WantsBetween, RuledFault, point, decimal_date, long_decimal_date}
+use Rattle.sfv_spec.specs.Faults.{IsNumberSign, BareItemFault, old_date}
+use Rattle.sfv_spec.specs.Faults.{no_digit, no_number, long_integer, late_point, long_decimal}
+use Rattle.sfv_reading.specs.Reader.{Fault, Answer, byte, give, fail, and_then, bind, branch, back, at_start}
+use Rattle.sfv_reading.specs.Reader.{at_reach, by_rule, placed}
+use Rattle.sfv_reading.specs.Bare.{number_at, as_date, date_at, is_number_start}
+use Rattle.sfv_reading.proofs.rules.Numbers.{next_of, NumberShape, no_digits, sixteen_digits, point_too_late}
+use Rattle.sfv_reading.proofs.rules.Numbers.{no_fraction, long_fraction, a_decimal, an_integer, number_shape}
+use Rattle.sfv_reading.proofs.rules.Numbers.{shape_read}
+
+-- what the table says of a fault of the bare item that s begins with
+abbrev pub HasRow : Edition → List ℕ → Fault → Type 0
+HasRow edition s e =
+    ((e.exact ≡ true)
+    × (((e.kind ≡ expected_start_of_bare_item) × (e.rest ≡ s)) ⊎ BareItemFault edition s e.rest e.kind))
+    ⊎ ((e.exact ≡ false) × ((kind : FieldKind) (whole before : List ℕ) → WantsBetween edition kind whole before s
+    → RuledFault edition kind whole e.kind (length whole - length e.rest)))
+
+-- ---- one byte of a text
+
+pub one_of : (n c : ℕ) → is_one_of (n ∷ []) c ≡ byte n c
+one_of n c = elim (cases_Bool (byte n c)) as (λ x. is_one_of (n ∷ []) c ≡ byte n c) [
+  | inl y ↦ let same : c ≡ n = eqb-true c n y in
+      ap (is_one_of (n ∷ [])) same ∙ or_true (n == n) (eq-eqb n n refl) ∙ sym y
+  | inr m ↦ or_from (n == c) false (not_eqb m) refl ∙ sym m
+]
+  where
+    or_true : (b : Bool) → b ≡ true → (b || false) ≡ true
+    or_true b e = rw e refl
+
+    not_eqb : (c == n) ≡ false → (n == c) ≡ false
+    not_eqb m = elim (cases_Bool (n == c)) as (λ x. (n == c) ≡ false) [
+      | inl y ↦ absurd (both_ways (c == n) m (eq-eqb c n (sym (eqb-true n c y))))
+      | inr k ↦ k
+    ]
+
+-- two tests of the next byte that are one
+pub begins_same : (p q : ℕ → Bool) (t : List ℕ) → ((c : ℕ) → p c ≡ q c) → begins_with p t ≡ begins_with q t
+begins_same p q [] f = refl
+begins_same p q (c ∷ t) f = f c
+
+-- neither a digit nor a minus sign
+pub begins_neither : (p q r : ℕ → Bool) (t : List ℕ) → ((c : ℕ) → r c ≡ q c) → begins_with p t ≡ false
+    → begins_with q t ≡ false → begins_with (λ c. p c || r c) t ≡ false
+begins_neither p q r [] f n m = refl
+begins_neither p q r (c ∷ t) f n m = or_from (p c) (r c) n (f c ∙ m)
+
+-- how much stands in front of an end
+pub index_of : (whole a b : List ℕ) → whole ≡ a ++ b → length whole - length b ≡ length a
+index_of whole a b e = omega (arith, ap (length {A = ℕ}) e, length-append a b)
+
+-- ---- numbers
+
+module _ (edition : Edition) (dated : Bool) (known : dated ≡ true → edition ≡ rfc9651) (t : List ℕ)
+    (start : dated ≡ false → begins_with is_number_start t ≡ true) where
+  digits_row : (dated' negative : Bool) → dated ≡ dated' → (q : List ℕ) → t ≡ minus_text negative ++ q
+      → begins_with is_digit q ≡ false → (negative ≡ false → begins_with (byte minus_sign) q ≡ false)
+      → BareItemFault edition (at_text dated' ++ t) q expected_digit
+  digits_row dated' true same q text n plain = no_digit dated' (λ e. known (same ∙ e))
+      (ap (λ (l : List ℕ). at_text dated' ++ l) text ∙ sym (append_assoc (at_text dated') (codes "-") q)) n
+  digits_row true false same q text n plain = no_number (known same) (ap (λ (l : List ℕ). at_sign ∷ l) text)
+      (begins_neither is_digit (byte minus_sign) (is_one_of (codes "-")) q (one_of minus_sign) n (plain refl))
+  digits_row false false same q text n plain = absurd (both_ways (begins_with is_number_start q)
+      (begins_neither is_digit (byte minus_sign) (byte minus_sign) q (λ c. refl) n (plain refl))
+      (ap (begins_with is_number_start) (sym text) ∙ start same))
+
+  sign_of : (negative : Bool) → IsNumberSign edition (at_text dated ++ minus_text negative)
+  sign_of negative = (dated, negative, known, refl)
+
+  pub number_row : (a : Answer BareValue) → NumberShape dated t a → (e : Fault) → a ≡ Err e
+      → HasRow edition (at_text dated ++ t) e
+  number_row _ (no_digits negative q text n plain) e i =
+      let same : at_reach expected_digit q ≡ e = cc in
+      subst (HasRow edition (at_text dated ++ t)) same
+      (inl (refl, inr (digits_row dated negative refl q text n plain)))
+  number_row _ (sixteen_digits negative whole q text counted h) e i =
+      let same : at_reach too_many_digits q ≡ e = cc in
+      let all : at_text dated ++ t ≡ at_text dated ++ minus_text negative ++ whole ++ q =
+      ap (λ (l : List ℕ). at_text dated ++ l) text ∙ simp append_assoc in
+      subst (HasRow edition (at_text dated ++ t)) same
+      (inl (refl, inr (long_integer (at_text dated ++ minus_text negative) whole (sign_of negative) counted all h)))
+  number_row _ (point_too_late negative whole q text counted h) e i =
+      let same : at_reach too_many_digits_before_decimal_point q ≡ e = cc in
+      let all : at_text dated ++ t ≡ at_text dated ++ minus_text negative ++ whole ++ q =
+      ap (λ (l : List ℕ). at_text dated ++ l) text ∙ simp append_assoc in
+      subst (HasRow edition (at_text dated ++ t)) same
+      (inl (
+        refl,
+        inr (late_point (at_text dated ++ minus_text negative) whole (sign_of negative) counted all
+            (begins_same (is_one_of (codes ".")) (byte dot) q (one_of dot) ∙ h)),
+      ))
+  number_row _ (no_fraction negative whole q text counted h) e i =
+      let same : by_rule trailing_decimal_point (dot ∷ q) ≡ e = cc in
+      let all : at_text dated ++ t ≡ at_text dated ++ minus_text negative ++ whole ++ codes "." ++ q =
+      ap (λ (l : List ℕ). at_text dated ++ l) text ∙ simp append_assoc in
+      subst (HasRow edition (at_text dated ++ t)) same
+      (inr (
+        refl,
+        λ kind w before place. point (record {
+          before = before;
+          dated = dated;
+          negative = negative;
+          digits = whole;
+          rest = q;
+          place = subst (λ (l : List ℕ). WantsBetween edition kind w before l) all place;
+          known = known;
+          counted = counted;
+          no_digit = h;
+          here = index_of w (before ++ at_text dated ++ minus_text negative ++ whole) (dot ∷ q) (place.text
+              ∙ ap (λ (l : List ℕ). before ++ l) all ∙ simp append_assoc);
+        }),
+      ))
+  number_row _ (long_fraction negative whole fraction q text counted three h) e i =
+      let same : placed (not dated) too_many_digits_after_decimal_point q ≡ e = cc in
+      subst (HasRow edition (at_text dated ++ t)) same
+      (fraction_row dated negative refl whole fraction q text counted three h)
+    where
+      fraction_row : (dated' negative : Bool) → dated ≡ dated' → (whole fraction q : List ℕ)
+          → t ≡ minus_text negative ++ (whole ++ dot ∷ (fraction ++ q)) → AreDigits 1 12 whole → AreDigits 3 3 fraction
+          → begins_with is_digit q ≡ true
+          → HasRow edition (at_text dated' ++ t) (placed (not dated') too_many_digits_after_decimal_point q)
+      fraction_row false negative same whole fraction q text counted three h =
+          inl (refl, inr (long_decimal negative whole fraction counted three (text ∙ simp append_assoc) h))
+      fraction_row true negative same whole fraction q text counted three h =
+          let n = next_of is_digit q h in
+          let all : at_sign ∷ t ≡ codes "@" ++ minus_text negative ++ whole ++ codes "." ++ fraction ++ n.c ∷ n.rest =
+          ap (λ (l : List ℕ). at_sign ∷ l) (text ∙ ap (λ (l : List ℕ).
+          minus_text negative ++ (whole ++ dot ∷ (fraction ++ l))) n.text) ∙ simp append_assoc in
+          inr (
+            refl,
+            λ kind w before place. long_decimal_date (record {
+              before = before;
+              negative = negative;
+              whole = whole;
+              fraction = fraction;
+              digit = n.c;
+              rest = n.rest;
+              place = subst (λ (l : List ℕ). WantsBetween edition kind w before l) all place;
+              known = known same;
+              counted = (counted, three, n.is);
+              here = index_of w (before ++ codes "@" ++ minus_text negative ++ whole ++ codes "." ++ fraction) q
+                  (place.text ∙ ap (λ (l : List ℕ). before ++ at_sign ∷ l) text ∙ simp append_assoc);
+            }),
+          )
+  number_row _ (a_decimal z number q means text h) e i = absurd cc
+  number_row _ (an_integer z number q means text h) e i = absurd cc
+
+-- ---- Dates
+
+dated_row : (t : List ℕ) (a : Answer BareValue) → NumberShape true t a → (e : Fault)
+    → at_start non_integer_date (at_sign ∷ t) (and_then a (λ v. give (as_date v))) ≡ Err e
+    → HasRow rfc9651 (at_sign ∷ t) e
+unfolding give
+dated_row t (Err x) h e i = number_row rfc9651 true (λ _. refl) t (λ f. absurd (true≢false f)) (Err x) h e i
+dated_row t _ (a_decimal z number q means text h) e i =
+    let same : by_rule non_integer_date (at_sign ∷ t) ≡ e = cc in
+    let all : at_sign ∷ t ≡ codes "@" ++ number ++ q = ap (λ (l : List ℕ). at_sign ∷ l) text in
+    subst (HasRow rfc9651 (at_sign ∷ t)) same
+    (inr (
+      refl,
+      λ kind w before place. decimal_date (record {
+        before = before;
+        z = z;
+        number = number;
+        rest = q;
+        place = subst (λ (l : List ℕ). WantsBetween rfc9651 kind w before l) all place;
+        known = refl;
+        is_decimal = means;
+        no_digit = h;
+        here = index_of w before (at_sign ∷ t) place.text;
+      }),
+    ))
+dated_row t _ (an_integer z number q means text h) e i = absurd cc
+
+-- what is read at the sign
+pub date_read : (t : List ℕ) → date_at rfc9651 (at_sign ∷ t)
+    ≡ at_start non_integer_date (at_sign ∷ t) (and_then (number_at true t) (λ v. give (as_date v)))
+unfolding date_at branch back bind
+date_read t = refl
+
+pub date_row : (edition : Edition) (t : List ℕ) (e : Fault) → date_at edition (at_sign ∷ t) ≡ Err e
+    → HasRow edition (at_sign ∷ t) e
+unfolding date_at fail
+date_row rfc8941 t e i =
+    let same : at_reach rfc8941_date (at_sign ∷ t) ≡ e = cc in
+    subst (HasRow rfc8941 (at_sign ∷ t)) same (inl (refl, inr (old_date t refl refl refl)))
+date_row rfc9651 t e i =
+    let n = number_shape true t in
+    dated_row t n.0 n.1 e (ap (λ a. at_start non_integer_date (at_sign ∷ t) (and_then a (λ v. give (as_date v))))
+    (sym (shape_read true t n.0 n.1)) ∙ sym (date_read t) ∙ i)
