@@ -29,7 +29,6 @@ use Rattle.sfv_tree.specs.declared.visitor.dictionary_builder.DictionaryBuilder.
 use Rattle.sfv_reading.specs.Reader.{Fault}
 use Rattle.sfv_reading.specs.Fields.{read_field}
 use Rattle.sfv_reading.proofs.Theorems.{read_is_accepted}
-use Rattle.sfv_reading.proofs.Faults.{fault_rejects}
 use Rattle.sfv.specs.Parsers.{IsParseError, IsAnswerOf}
 use Rattle.sfv.proofs.built.Items.{insert_entry-entered}
 use Rattle.sfv.proofs.built.Lists.{built_list_behind}
@@ -115,7 +114,7 @@ one_value edition kind t a b h k = h.ordered_value ∙ ap (ordered kind) (k.only
 pub accepted_error : (edition : Edition) (kind : FieldKind) (t : List ℕ) (raw : RawField kind) (e : Error)
     → IsFieldText edition kind raw t → IsParseError edition kind t e → e ≡ out_of_memory
 accepted_error edition kind t raw e accepted (inl same) = same
-accepted_error edition kind t raw e accepted (inr h) = absurd ((fault_rejects edition kind t h.fault h.index h.located).0 (raw, accepted))
+accepted_error edition kind t raw e accepted (inr h) = absurd (h.rejected (raw, accepted))
 
 -- an error with an index is a fault of the text there
 pub located_error : (edition : Edition) (kind : FieldKind) (t : List ℕ) (e : Error) (index : ℕ)

@@ -17,7 +17,7 @@ use Rattle.sfv_base.specs.Errors.{error_of, error_kind, out_of_memory}
 use Rattle.sfv_reading.specs.Reader.{Fault}
 use Rattle.sfv_reading.specs.Fields.{read_field}
 use Rattle.sfv_reading.proofs.Theorems.{read_is_accepted}
-use Rattle.sfv_reading.proofs.Faults.{fault_is_at}
+use Rattle.sfv_reading.proofs.Faults.{fault_is_at, fault_rejects}
 use Rattle.sfv.specs.Fields.{located_whole}
 use Rattle.sfv.specs.Parsers.{IsParseError}
 
@@ -69,9 +69,12 @@ parse_error edition kind t e = on e.index refl
         let f = located_fault (read_field edition kind t) e.kind (drop index t) h.0 in
         let same : e ≡ error_of (error_kind f.0.kind) (Some index) = ap (λ (o : Option ℕ). error_of e.kind o) i
         ∙ ap (λ (kind : ErrorKind). error_of kind (Some index)) (sym f.2) in
+        let there = located_at edition kind t f.0 index f.1 (sym f.3) h.1 in
         inr (record {
           fault = f.0.kind;
           index = index;
           error = same;
-          located = located_at edition kind t f.0 index f.1 (sym f.3) h.1;
+          rejected = (fault_rejects edition kind t f.0.kind index there).0;
+          within = h.1;
+          located = there;
         })

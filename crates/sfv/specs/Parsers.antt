@@ -1,9 +1,9 @@
 -- What a parser reads, and what it answers with an error.
-use Rattle.std.specs.Prelude.{◌≡◌, ⊤, ℕ, List, take, drop, Some, Result, Err, ◌⊎◌, MatchResult}
+use Rattle.std.specs.Prelude.{◌≡◌, ◌≤◌, ⊤, ℕ, List, length, take, Some, Result, Err, ◌⊎◌, MatchResult}
 use Rattle.std.specs.Borrow.{Bor}
 use Rattle.sfv_spec.specs.Values.{Edition, FieldKind, item_field, list_field, dictionary_field, RawField}
 use Rattle.sfv_spec.specs.Values.{BareValue, RawItem}
-use Rattle.sfv_spec.specs.Grammar.{IsFieldText, BeginsWithBareItem}
+use Rattle.sfv_spec.specs.Grammar.{IsFieldText, IsAccepted, BeginsWithBareItem}
 use Rattle.sfv_spec.specs.Events.{TreeEvent, bare_item, item_events, events}
 use Rattle.sfv_spec.specs.Visiting.{NeverFails, IsVisited, IsVisitorError, IsEarlyVisitorError}
 use Rattle.sfv_spec.specs.Faults.{SyntaxFault, trailing_characters_after_parsed_value, IsFaultAt}
@@ -26,11 +26,13 @@ input_of p = p.input.now
 abbrev pub parser_edition : Parser → Edition
 parser_edition p = edition_of p.version
 
--- a fault of the text, with its kind and its index
+-- the text isn't accepted, and this is its fault, with its kind and its index
 pub record IsSyntaxError (edition : Edition) (kind : FieldKind) (t : List ℕ) (e : Error) : Type 0 where
   pub fault : SyntaxFault
   pub index : ℕ
   pub error : e ≡ error_of (error_kind fault) (Some index)
+  pub rejected : ¬ IsAccepted edition kind t
+  pub within : index ≤ length t
   pub located : IsFaultAt edition kind t fault index
 
 -- out of memory, or a fault of the text

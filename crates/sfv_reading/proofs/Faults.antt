@@ -26,7 +26,7 @@ use Rattle.sfv_reading.proofs.rules.RuledFaults.{ruled_is_given}
 use Rattle.sfv_reading.proofs.rules.Cut.{open_list_is_read}
 use Rattle.sfv_reading.proofs.places.Wanted.{bare_is_wanted}
 use Rattle.sfv_reading.proofs.places.Read.{wanted_bare_is_read, wanted_key_is_read, bare_stuck, calls_wanted}
-use Rattle.sfv_reading.proofs.places.Wants.{one_wanted}
+use Rattle.sfv_reading.proofs.places.OneWanted.{one_wanted}
 
 -- ---- kinds
 
@@ -52,7 +52,7 @@ wanted_kind : (edition : Edition) (kind : FieldKind) (u : List ℕ) (f : SyntaxF
     → is_want f ≡ true
 wanted_kind edition kind u _ (faults.bare_item _) = refl
 wanted_kind edition kind u _ (faults.key _) = refl
-wanted_kind edition kind u _ (faults.delimiter _ _) = refl
+wanted_kind edition kind u _ (faults.delimiter _) = refl
 wanted_kind edition kind u _ (faults.comma _ _ _ _) = refl
 wanted_kind edition kind u _ (faults.end _ _) = refl
 
@@ -285,7 +285,7 @@ module _ (edition : Edition) (kind : FieldKind) where
           record {
             fault = e;
             read = h;
-            kind_of = one_wanted wanted_bare_is_read wanted_key_is_read edition kind (take i t) e.kind f
+            kind_of = one_wanted edition kind (take i t) e.kind f
                 (subst (λ (n : ℕ). WantedFault edition kind (take n t) e.kind) place v.wanted) w.wanted;
             here = omega (
               arith,

@@ -4,4 +4,4 @@ pub mod Walks
 pub mod Readers
 pub mod Wanted
 pub mod Read
-pub mod Wants
+pub mod OneWanted

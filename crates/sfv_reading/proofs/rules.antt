@@ -12,6 +12,7 @@ pub mod Standing
 pub mod Ends
 pub mod Fields
 pub mod Cut
+pub mod Longer
 pub mod UpToFault
 pub mod Numbers
 pub mod NumberRows

@@ -29,7 +29,6 @@ use Rattle.sfv_reading.proofs.complete.Combinators.{bind_complete}
 use Rattle.sfv_reading.proofs.sound.Combinators.{Somewhere}
 use Rattle.sfv_reading.proofs.sound.Fields.{FieldGoes, Sound-field}
 use Rattle.sfv_reading.proofs.Theorems.{read_is_accepted}
-use Rattle.sfv_reading.proofs.Faults.{fault_rejects}
 use Rattle.sfv_reading.proofs.Trailing.{read_before}
 use Rattle.sfv_reading.proofs.visits.Fields.{visited_begins, failed_begins}
 use Rattle.sfv.specs.declared.parser.Parser.{Parser}
@@ -410,7 +409,7 @@ module _ {S O E : Type 0} (takes : S → TreeEvent → S → Type 0) (fails : S 
     where
       on : IsParseError edition kind t e → e ≡ out_of_memory
       on (inl same) = same
-      on (inr s) = absurd ((fault_rejects edition kind t s.fault s.index s.located).0 (raw, accepted))
+      on (inr s) = absurd (s.rejected (raw, accepted))
   visits_accepted is_memory (Err (Visitor f)) h never raw accepted =
       fails_for_memory takes fails finish_fails is_memory kind from raw f never
       (accepted_is_value_lem edition kind t raw accepted).0 (failed_on_accepted f h raw accepted)

@@ -18,14 +18,14 @@ use Rattle.sfv_reading.proofs.sound.Separated.{members_complete}
 use Rattle.sfv_reading.proofs.complete.Items.{lengthens_item, item_complete, item_no, blank_ends, space_ends}
 use Rattle.sfv_reading.proofs.complete.Members.{entry_complete, entry_fresh, keyed_complete, keyed_fresh}
 
-spaces_end : (s q : List ℕ) → RunOf is_space s → Apart lengthens_item q → Apart lengthens_item (s ++ q)
+pub spaces_end : (s q : List ℕ) → RunOf is_space s → Apart lengthens_item q → Apart lengthens_item (s ++ q)
 spaces_end [] q each f = f
 spaces_end (c ∷ s) q each f = subst (λ (c : ℕ). Apart lengthens_item (c ∷ (s ++ q)))
     (sym (eqb-true c space (run_head is_space c s each))) (space_ends (s ++ q))
 
 -- an item, whatever follows it that is no more of it
-pub item_field_complete : (edition : Edition) (i : RawItem) (t q : List ℕ) → IsFieldText edition item_field i t
-    → Apart is_space q → Apart lengthens_item q → whole_field_at edition item_field (t ++ q) ≡ Ok (i, q)
+pub item_field_complete : (edition : Edition) (i : RawItem) (t q : List ℕ) (h : IsFieldText edition item_field i t)
+    → Apart is_space q → Apart lengthens_item (h.second.back ++ q) → whole_field_at edition item_field (t ++ q) ≡ Ok (i, q)
 unfolding whole_field_at give
 item_field_complete edition i t q h none f =
     let o = h.second in
@@ -34,7 +34,7 @@ item_field_complete edition i t q h none f =
     ap (whole_field_at edition item_field) all
     ∙ bind_complete _ _ _ _ _ (span_complete is_space h.front (o.front ++ (o.back ++ q)) h.first
     (item_no space edition i o.front (o.back ++ q) refl o.first))
-    ∙ bind_complete _ _ _ _ _ (item_complete edition i o.front (o.back ++ q) o.first (spaces_end o.back q o.second f))
+    ∙ bind_complete _ _ _ _ _ (item_complete edition i o.front (o.back ++ q) o.first f)
     ∙ bind_complete _ _ _ _ _ (span_complete is_space o.back q o.second none)
 
 pub comma_ends : (q : List ℕ) → Apart lengthens_item (comma ∷ q)
@@ -44,7 +44,8 @@ pub field_complete : (edition : Edition) (kind : FieldKind) (raw : RawField kind
     → IsFieldText edition kind raw t → whole_field_at edition kind t ≡ Ok (raw, [])
 unfolding whole_field_at
 field_complete edition item_field i t h = ap (whole_field_at edition item_field) (sym (append-nil t))
-    ∙ item_field_complete edition i t [] h (Apart-nil is_space) (Apart-nil lengthens_item)
+    ∙ item_field_complete edition i t [] h (Apart-nil is_space)
+    (spaces_end h.second.back [] h.second.second (Apart-nil lengthens_item))
 field_complete edition list_field ms t h = members_complete (IsMemberText edition) entry_events (entry_at edition)
     (Apart lengthens_item) (entry_complete edition) (entry_fresh edition) blank_ends comma_ends
     (Apart-nil lengthens_item) (Sound-entry edition) ms t h

@@ -130,8 +130,7 @@ by_kind edition kind t e expected_inner_list_delimiter true i x h s = inr (inr (
   inl (record {
     before = s.front;
     text = s.text;
-    wanted = subst (WantedFault edition kind s.front) (sym i) (delimiter (λ a. not_bracketed edition kind s.front a s.closes)
-        (s.longer refl));
+    wanted = subst (WantedFault edition kind s.front) (sym i) (delimiter (s.longer refl));
   }),
 ))
 by_kind edition kind t e unterminated_inner_list true i x h s =

@@ -24,7 +24,7 @@ use Rattle.sfv_reading.proofs.sound.Members.{Sound-entry, Sound-keyed}
 use Rattle.sfv_reading.proofs.sound.Separated.{members_met}
 use Rattle.sfv_reading.proofs.complete.Items.{lengthens_item, blank_ends}
 use Rattle.sfv_reading.proofs.complete.Members.{entry_complete, entry_fresh, keyed_complete, keyed_fresh}
-use Rattle.sfv_reading.proofs.complete.Fields.{comma_ends, item_field_complete}
+use Rattle.sfv_reading.proofs.complete.Fields.{spaces_end, comma_ends, item_field_complete}
 use Rattle.sfv_reading.proofs.Theorems.{read_is_accepted}
 use Rattle.sfv_reading.proofs.rules.UpToFault.{bind_met}
 
@@ -41,7 +41,7 @@ comma_met one w z each' each =
     ∙ bind_complete _ _ _ _ _ end ∙ ahead_past _ _ _ [] (Apart-nil any)))
 
 -- blanks, and another byte
-byte_met : {A : Type 0} (one : Reader A) (c : ℕ) (w z : List ℕ) → is_space_or_tab c ≡ false → eqb c comma ≡ false
+pub byte_met : {A : Type 0} (one : Reader A) (c : ℕ) (w z : List ℕ) → is_space_or_tab c ≡ false → eqb c comma ≡ false
     → RunOf is_space_or_tab z → next_at one (z ++ c ∷ w) ≡ Err (at_reach trailing_characters_after_member (c ∷ w))
 unfolding next_at fail
 byte_met one c w z none no_comma each =
@@ -49,7 +49,7 @@ byte_met one c w z none no_comma each =
     ∙ ahead_any _ _ _ (omega arith) ∙ ahead_past _ _ _ (c ∷ w) (Apart-cons (byte comma) c w no_comma)
 
 -- a fault that comes after any member is the field's
-met : (edition : Edition) (kind : FieldKind) (raw : RawField kind) (t q : List ℕ) (e : Fault) → HasManyMembers kind
+pub met : (edition : Edition) (kind : FieldKind) (raw : RawField kind) (t q : List ℕ) (e : Fault) → HasManyMembers kind
     → HasMember kind raw → IsFieldText edition kind raw t
     → ((A : Type 0) (one : Reader A) (z : List ℕ) → RunOf is_space_or_tab z → next_at one (z ++ q) ≡ Err e)
     → Apart lengthens_item q → whole_field_at edition kind (t ++ q) ≡ Err (behind_events (events kind raw) e)
@@ -114,7 +114,7 @@ bracket_after edition item_field raw t h = (
   _,
   ap (ending (events item_field)) (item_field_complete edition raw t (codes ")") h
       (Apart-cons is_space right_parenthesis [] refl)
-      (Apart-cons lengthens_item right_parenthesis [] refl)),
+      (spaces_end h.second.back (codes ")") h.second.second (Apart-cons lengthens_item right_parenthesis [] refl))),
 )
 bracket_after edition list_field [] t h =
     let m = none_begun entry_events (entry_at edition) t [] h (no_entry edition []) in

@@ -99,7 +99,7 @@ run_none (c ∷ t) each h =
     ∙ ap (λ (c : ℕ). c ∷ []) (eqb-true c space (run_head is_space c t each))))
 
 -- the last piece
-joining_last : {A : Type 0} (P : A → List ℕ → Type 0) (v : A) (vs : List A) (t : List ℕ) → IsJoining P (v ∷ vs) t
+pub joining_last : {A : Type 0} (P : A → List ℕ → Type 0) (v : A) (vs : List A) (t : List ℕ) → IsJoining P (v ∷ vs) t
     → (ws : List A) × (w : A) × (a b : List ℕ) × (t ≡ a ++ b) × IsJoining P ws a × P w b
 joining_last P v [] t j =
     let c = joining-cons j in (
@@ -232,6 +232,7 @@ module _ (edition : Edition) where
             omega (arith, ap (length {A = ℕ}) (append-nil g.back ∙ z), some))
         | inr w ↦
             let whole : y ≡ k ++ equals_sign ∷ w.0 = w.2 ∙ append_assoc k (equals_sign ∷ []) w.0 in
+            let some : 1 ≤ length y = omega (arith, ap (length {A = ℕ}) whole, length-append k (equals_sign ∷ w.0)) in
             let c = cut_member m w.0 (subst (IsMemberText edition m) w.1 g.second)
             (no_space_part (k ++ equals_sign ∷ []) w.0 (subst NoSpace w.2 none)) in
             let value : Cut (member_value_at edition) (equals_sign ∷ w.0) = (
@@ -248,7 +249,7 @@ module _ (edition : Edition) where
                     (Apart-cons is_key_inner equals_sign w.0 refl)) ∙ rest.1,
                 rest.2,
               ),
-              omega (arith, ap (length {A = ℕ}) whole, length-append k (equals_sign ∷ w.0)),
+              some,
             )
       ]
 

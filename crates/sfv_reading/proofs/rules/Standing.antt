@@ -145,10 +145,10 @@ Rules-other f P Has at h = record {
 -- ---- items, of which the last gets one more parameter
 
 module _ (edition : Edition) where
-  parameter_a : IsParameterText edition (codes "a", boolean true) (codes ";a")
+  pub parameter_a : IsParameterText edition (codes "a", boolean true) (codes ";a")
   parameter_a = parameter_of edition [] (codes "a") (codes "a") [] (boolean true) refl (refl, refl) (true_value edition)
 
-  item_longer : (i : RawItem) (t : List ℕ) → IsItemText edition i t → (j : RawItem) × IsItemText edition j (t ++ codes ";a")
+  pub item_longer : (i : RawItem) (t : List ℕ) → IsItemText edition i t → (j : RawItem) × IsItemText edition j (t ++ codes ";a")
   item_longer i t h = (
     item_of i.bare (i.parameters ++ (codes "a", boolean true) ∷ []),
     record {
