@@ -1,5 +1,5 @@
 -- What a text holds to which another was added.
-use Rattle.std.specs.Prelude.{◌≡◌, ℕ, List, ◌++◌, map, Result, MatchResult, string_bytes}
+use Rattle.std.specs.Prelude.{◌≡◌, ℕ, Bool, false, if◌then◌else◌, List, [], ◌∷◌, ◌++◌, map, Result, MatchResult, string_bytes, length, IsUtf8}
 use Rattle.std.specs.Borrow.{Bor}
 use Rattle.std.specs.declared.string.String.{String}
 use Rattle.sfv_spec.specs.Values.{RawParameters}
@@ -23,3 +23,11 @@ AppendsOrKeeps old new text result =
 -- the pairs of parameters that are lent
 abbrev pub lent_pairs : List (Bor (List ℕ) × Bor OwnedBareItem) → RawParameters
 lent_pairs pairs = pairs_tree (map (λ p. (p.0.now, p.1.now)) pairs)
+
+-- what stands in front of a part: the separator, unless it is the first
+abbrev pub lead : Bool → List ℕ → List ℕ
+lead is_first separator = if is_first then [] else separator
+
+-- a text that began with another of this length is cut back to it
+pub record IsCutBack (len : ℕ) (old new : List ℕ) : Type 0 where
+  pub back : (before : List ℕ) → IsUtf8 before → len ≡ length before → Extends before old → new ≡ before
