@@ -1,5 +1,5 @@
 -- The text that a serializer writes to.
-use Rattle.std.specs.Prelude.{◌≡◌, ◌++◌, ℕ, Bool, List, Result, IfOk, string_bytes, string_len}
+use Rattle.std.specs.Prelude.{◌≡◌, ◌++◌, ℕ, Bool, List, Result, IfOk, string_bytes}
 use Rattle.std.specs.Borrow.{MutBor, RattleType, Fml, GName, RestsIfErr}
 use Rattle.sfv_base.specs.declared.error.OutOfMemory.{OutOfMemory}
 use Rattle.sfv_ser.specs.declared.ser.item_serializer.ItemSerializer.{ItemSerializer}
@@ -18,6 +18,10 @@ item_buffer s = s.buffer
 -- what is lent to the serializer of parameters
 abbrev pub params_sink : {X : Type 0} → ParameterSerializer X → MutBor X
 params_sink s = s.sink
+
+-- the same, as the logic of borrows names it
+abbrev pub params_name : {X : Type 0} → ParameterSerializer X → GName
+params_name s = s.sink.ghost_name
 
 -- out of memory, the text that was lent is as it was
 abbrev pub RestsIfOutOfMemory : MutBor Text → Result (ParameterSerializer Text) OutOfMemory → Fml
@@ -42,7 +46,7 @@ has_no_member s = s.is_first
 abbrev pub items_sink : {X : Type 0} → InnerListSerializer X → X
 items_sink s = s.sink
 
--- what an inner list is written into, as the logic of borrows names it
+-- the same, as the logic of borrows names it
 abbrev pub inner_list_name : {X : Type 0} → InnerListSerializer (MutBor X) → GName
 inner_list_name s = s.sink.ghost_name
 

@@ -2,6 +2,7 @@
 
 mod append;
 mod append_member;
+mod append_members;
 mod byte_sequence;
 mod dict_serializer;
 mod dictionary;

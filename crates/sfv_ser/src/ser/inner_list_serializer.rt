@@ -1,27 +1,30 @@
 //! Writing an inner list item by item (RFC 9651, section 4.1.1.1).
 
-ghost use Rattle.std.specs.Prelude.{◌≡◌, ◌++◌, true, false, IfOk, OnOk, codes, string_bytes};
+ghost use Rattle.std.specs.Prelude.{◌≡◌, ◌++◌, true, false, IfOk, OnOk, OnErr, List, codes, string_bytes};
 ghost use Rattle.std.specs.Borrow.{sem};
+ghost use Rattle.std.specs.Iterator.{IsFinite, Drains};
 ghost use Rattle.sfv_spec.specs.Values.{IsBareValue};
 ghost use Rattle.sfv_spec.specs.Canonical.{bare_text};
 ghost use Rattle.sfv_bare.specs.BareItems.{ref_value};
-ghost use Rattle.sfv_ser.specs.Written.{lead, IsCutBack};
-ghost use Rattle.sfv_ser.specs.Serializers.{ItemsRest, HasMoreItems, MembersCutBack, HasMoreMembers};
-ghost use Rattle.sfv_ser.specs.Serializers.{params_sink, items_sink, members_sink, has_no_member, has_no_item};
+ghost use Rattle.sfv_ser.specs.Written.{lead, still_first, items_text, AreItems, IsCutBack};
+ghost use Rattle.sfv_ser.specs.Serializers.{ItemsRest, HasMoreItems, KeepsItems, MembersCutBack, HasMoreMembers};
+ghost use Rattle.sfv_ser.specs.Serializers.{params_sink, params_name, items_sink, members_sink, has_no_member, has_no_item};
 ghost use Rattle.sfv_ser.specs.Serializers.{length_before};
 
 use crate::ser::append_member::{append_closing, append_part, cut_back};
+use crate::ser::append_members::append_items;
 use crate::ser::member_serializer::MemberSerializer;
 use crate::ser::parameter_serializer::ParameterSerializer;
 use crate::ser::sink::Sink;
 use sfv_bare::bare::RefBareItem;
 use sfv_base::error::OutOfMemory;
+use sfv_tree::parsed::Item;
 
 /// Writes an inner list (RFC 9651, section 4.1.1.1), item by item, into `X`: the serializer of which it is a member.
 ///
 /// It is ended by `finish` or by `abandon`, and can't be dropped.
 pub struct InnerListSerializer<X> {
-    sink: X,
+    pub(crate) sink: X,
     // How long the text was before the inner list, its separator and its key.
     len_before: usize,
     is_first: bool,
@@ -54,8 +57,8 @@ impl<X: Sink> InnerListSerializer<X> {
         bare_item: RefBareItem<'_>,
     ) -> Result<ParameterSerializer<'_, InnerListSerializer<X>>, OutOfMemory>
         ensures* out_of_memory { sem 𝓛 (ItemsRest X.row X.same X.text self.entry
-            (λ p. (params_sink p).ghost_name) result) }
-        ensures lent { IfOk result (λ p. (params_sink p).ghost_name ≡ self.entry.ghost_name) }
+            params_name result) }
+        ensures lent { IfOk result (λ p. params_name p ≡ self.entry.ghost_name) }
         ensures text { IfOk result (λ p. HasMoreItems X.same X.text self.old (params_sink p).now
             (lead (has_no_item self.old) (codes " ") ++ bare_text (ref_value bare_item.entry)) false) }
         ensures is_value { OnOk result (IsBareValue (ref_value bare_item.entry)) }
@@ -63,6 +66,28 @@ impl<X: Sink> InnerListSerializer<X> {
         append_part(self.is_first, " ", bare_item, self.sink.text_mut())?;
         self.is_first = false;
         Ok(ParameterSerializer::new(self))
+    }
+
+    /// Writes items, in their order, as `FieldType::serialize` writes them (RFC 9651, section 4.1.1.1).
+    ///
+    /// # Errors
+    ///
+    /// `OutOfMemory`; the text is then as it was.
+    pub fn items<'m, I: Iterator<Item = &'m Item> + Drop>(
+        &mut self,
+        items: I,
+    ) -> Result<(), OutOfMemory>
+        requires can { I.can_next items }
+        requires ends { IsFinite (I.remaining items) }
+        ensures text { OnOk result ((taken : List _) × Drains I.next_gives items taken
+            × HasMoreItems X.same X.text self.old self.new (items_text (has_no_item self.old) taken) (still_first (has_no_item self.old) taken)
+            × AreItems taken) }
+        ensures out_of_memory { OnErr result (KeepsItems X.same X.text self.old self.new) }
+    {
+        let mut is_first = self.is_first;
+        append_items(&mut is_first, items, self.sink.text_mut())?;
+        self.is_first = is_first;
+        Ok(())
     }
 }
 
@@ -75,8 +100,8 @@ impl<'s, W: Sink, K> InnerListSerializer<&'s mut MemberSerializer<W, K>> {
     /// `OutOfMemory`; the inner list is then taken away with its separator or key, as by `abandon`.
     pub fn finish(self) -> Result<ParameterSerializer<'s, MemberSerializer<W, K>>, OutOfMemory>
         ensures* out_of_memory { sem 𝓛 (MembersCutBack W.row K.row W.same W.text (length_before self.entry)
-            (items_sink self.entry) (λ p. (params_sink p).ghost_name) result) }
-        ensures lent { IfOk result (λ p. (params_sink p).ghost_name ≡ (items_sink self.entry).ghost_name) }
+            (items_sink self.entry) params_name result) }
+        ensures lent { IfOk result (λ p. params_name p ≡ (items_sink self.entry).ghost_name) }
         ensures text { IfOk result (λ p. HasMoreMembers W.same W.text (items_sink self.entry).now (params_sink p).now
             (codes ")") false) }
     {
