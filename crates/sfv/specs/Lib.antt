@@ -45,5 +45,6 @@ pub use Rattle.sfv_tree.specs.Kinds
 pub use Rattle.sfv_tree.specs.Trees
 pub use Rattle.sfv_visit.specs.Given
 pub use Rattle.sfv_ser.specs.Serializers
+pub use Rattle.sfv_ser.specs.Texts as LentTexts
 pub use Rattle.sfv_ser.specs.Written
 pub use Rattle.indexmap.specs.IndexMap as Maps

@@ -19,7 +19,10 @@ pub use sfv_base::decimal::Decimal;
 pub use sfv_base::error::{Error, ErrorKind, OutOfMemory, ParseError};
 pub use sfv_base::integer::Integer;
 pub use sfv_base::shorthand::integer;
-pub use sfv_ser::ser::{ItemSerializer, ParameterSerializer};
+pub use sfv_ser::ser::{
+    DictMembers, DictSerializer, InnerListSerializer, ItemSerializer, ListMembers, ListSerializer,
+    MemberSerializer, ParameterSerializer, Sink,
+};
 pub use sfv_text::key::Key;
 pub use sfv_text::key_ref::KeyRef;
 pub use sfv_text::shorthand::{key_ref, string_ref, token_ref};

@@ -3,8 +3,9 @@ use Rattle.std.proofs.Common.{◌≡◌, ℕ, suc, ◌+◌, ◌<◌, Bool, true,
 use Rattle.std.proofs.Common.{refl, sym, ap, subst, ◌∙◌, append_assoc, Result, Ok, Err, arith}
 use Rattle.std.specs.Prelude.{IfErr, OnOk}
 use Rattle.std.specs.List.{AllByRecursion}
-use Rattle.std.proofs.lemmas.List.{take_more, map-append}
+use Rattle.std.proofs.lemmas.List.{take_more, map-append, append-nil}
 use Rattle.sfv_spec.specs.Texts.{joined}
+use Rattle.sfv_ser.specs.Written.{lead, led, still_first}
 
 -- whether there are none
 abbrev pub is_none : {A : Type 0} → List A → Bool
@@ -110,3 +111,49 @@ parts_on_ok Q S (Err e) p q h k = tt
 pub anyway : {A E : Type 0} (X : Type 0) (r : Result A E) → X → IfErr r (λ _. X)
 anyway X (Ok v) x = tt
 anyway X (Err e) x = x
+
+-- What is known when these parts are written after others: whether none stands, the text, and that each is good.
+pub record IsLed {A : Type 0} (text_of : A → List ℕ) (IsGood : A → Type 0) (separator : List ℕ) (xs : List A)
+    (was_first is_first : Bool) (before output : List ℕ) : Type 0 where
+  pub first : is_first ≡ still_first was_first xs
+  pub text : output ≡ before ++ led was_first separator (map text_of xs)
+  pub good : AllByRecursion IsGood xs
+
+still_first-push : {A : Type 0} (b : Bool) (xs : List A) (x : A) → still_first b (xs ++ x ∷ []) ≡ false
+still_first-push b [] x = refl
+still_first-push b (y ∷ ys) x = refl
+
+still_first-false : {A : Type 0} (xs : List A) → still_first false xs ≡ false
+still_first-false [] = refl
+still_first-false (y ∷ ys) = refl
+
+-- one more text, after the separator unless it is the first
+led_push : {A : Type 0} (text_of : A → List ℕ) (s : List ℕ) (b : Bool) (xs : List A) (x : A)
+    → led b s (map text_of (xs ++ x ∷ []))
+    ≡ (led b s (map text_of xs) ++ lead (still_first b xs) s) ++ text_of x
+led_push text_of s b [] x = append-nil (lead b s ++ text_of x)
+led_push text_of s b (y ∷ ys) x =
+    let rest : List ℕ = led false s (map text_of ys) in
+    let front : List ℕ = lead b s ++ text_of y in
+    ap (λ (t : List ℕ). front ++ t) (led_push text_of s false ys x
+    ∙ ap (λ (f : Bool). (rest ++ lead f s) ++ text_of x) (still_first-false ys))
+    ∙ sym (append_assoc front (rest ++ s) (text_of x))
+    ∙ ap (λ (t : List ℕ). t ++ text_of x) (sym (append_assoc front rest s))
+
+-- one more part is written
+pub led_more : {A : Type 0} (text_of : A → List ℕ) (IsGood : A → Type 0) (s : List ℕ) (xs : List A)
+    (was_first is_first is_next : Bool) (before output front new : List ℕ) (x : A)
+    → IsLed text_of IsGood s xs was_first is_first before output → is_next ≡ false
+    → front ≡ output ++ lead is_first s → new ≡ front ++ text_of x → IsGood x
+    → IsLed text_of IsGood s (xs ++ x ∷ []) was_first is_next before new
+led_more text_of IsGood s xs was_first is_first is_next before output front new x row f l n g =
+    let so_far : List ℕ = led was_first s (map text_of xs) in
+    let between : List ℕ = lead (still_first was_first xs) s in
+    record {
+      first = f ∙ sym (still_first-push was_first xs x);
+      text = n ∙ ap (λ (t : List ℕ). t ++ text_of x) (l ∙ ap (λ (t : List ℕ). t ++ lead is_first s) row.text
+          ∙ ap (λ (b : Bool). (before ++ so_far) ++ lead b s) row.first ∙ append_assoc before so_far between)
+          ∙ append_assoc before (so_far ++ between) (text_of x)
+          ∙ ap (λ (t : List ℕ). before ++ t) (sym (led_push text_of s was_first xs x));
+      good = all_push IsGood xs x row.good g;
+    }

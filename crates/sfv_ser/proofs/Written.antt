@@ -14,7 +14,7 @@ use Rattle.sfv_spec.specs.Classes.{is_string_byte}
 use Rattle.sfv_spec.specs.Strings.{is_escaped_in_string, is_plain_in_string}
 use Rattle.sfv_reading.proofs.quoted.StringSteps as in_string
 use Rattle.sfv_reading.proofs.quoted.DisplaySteps as in_display
-use Rattle.sfv_ser.specs.Written.{Extends}
+use Rattle.sfv_ser.specs.Written.{Extends, IsCutBack}
 use Rattle.sfv_ser.specs.Quoted.{plain_of, piece_of}
 
 flat_map_append : (f : ℕ → List ℕ) (xs ys : List ℕ) → flat_map f (xs ++ ys) ≡ flat_map f xs ++ flat_map f ys
@@ -77,18 +77,35 @@ string_escape c h e = elim (and_cases (is_string_byte c) (not (is_escaped_in_str
       | inr n ↦ not-false (is_escaped_in_string c) n
     ]
 
+-- what stood in front of a text may be cut off it
+pub front_of : (before text : List ℕ) (len : ℕ) → IsUtf8 before → IsUtf8 text → len ≡ length before
+    → Extends before text → IsCharBoundary text len × (take len text ≡ before)
+front_of before text len utf8 whole is more =
+    let front : take len text ≡ before = ap (take len) more.1 ∙ take_at before more.0 len (sym is) in
+    let long = ap (length {A = ℕ}) more.1 in (
+      IsCharBoundary-from_take text len whole (omega (arith, is, long, length-append before more.0))
+          (subst IsUtf8 (sym front) utf8),
+      front,
+    )
+
+-- cut where a character begins
+pub cut_there : (text new : List ℕ) (len : ℕ) → IsUtf8 text → new ≡ take len text → IsCutBack len text new
+cut_there text new len whole is = record {
+  back = λ before utf8 at more.
+      is ∙ (front_of before text len utf8 whole at more).1;
+}
+
+-- where none begins, no text ended
+pub cut_nowhere : (text : List ℕ) (len : ℕ) → IsUtf8 text → ¬ IsCharBoundary text len → IsCutBack len text text
+cut_nowhere text len whole none = record {
+  back = λ before utf8 at more.
+      absurd (none (front_of before text len utf8 whole at more).0);
+}
+
 -- a text that was added to may be cut where the old one ended
 pub cut_back : {Z T E : Type 0} (old new : String Z) (result : Result T E) (len : ℕ) → len ≡ length (string_bytes old)
     → OnErr result (Extends (string_bytes old) (string_bytes new))
     → OnErr result (IsCharBoundary (string_bytes new) len)
 cut_back old new (Ok x) len is more = tt
 cut_back old new (Err e) len is more =
-    let front : take len (string_bytes new) ≡ string_bytes old = ap (take len) more.1
-    ∙ take_at (string_bytes old) more.0 len (sym is) in
-    let long = ap (length {A = ℕ}) more.1 in
-    IsCharBoundary-from_take (string_bytes new) len (IsUtf8-string_bytes new) (omega (
-      arith,
-      is,
-      long,
-      length-append (string_bytes old) more.0,
-    )) (subst IsUtf8 (sym front) (IsUtf8-string_bytes old))
+    (front_of (string_bytes old) (string_bytes new) len (IsUtf8-string_bytes old) (IsUtf8-string_bytes new) is more).0

@@ -1,9 +1,15 @@
 -- What a text holds to which another was added.
-use Rattle.std.specs.Prelude.{◌≡◌, ℕ, List, ◌++◌, map, Result, MatchResult, string_bytes}
+use Rattle.std.specs.Prelude.{◌≡◌, ℕ, Bool, false, if◌then◌else◌, List, [], ◌∷◌, ◌++◌, map, Result, MatchResult, IsTrue, codes, string_bytes, length, IsUtf8}
 use Rattle.std.specs.Borrow.{Bor}
+use Rattle.std.specs.List.{AllByRecursion}
 use Rattle.std.specs.declared.string.String.{String}
-use Rattle.sfv_spec.specs.Values.{RawParameters}
-use Rattle.sfv_tree.specs.Trees.{OwnedBareItem, pairs_tree}
+use Rattle.sfv_spec.specs.Values.{RawParameters, RawItem, RawMember, IsItem, IsMember}
+use Rattle.sfv_spec.specs.Ordered.{IsOrderedItem, IsOrderedMember}
+use Rattle.sfv_spec.specs.Classes.{is_key}
+use Rattle.sfv_spec.specs.Canonical.{item_text, member_text, dictionary_member_text}
+use Rattle.sfv_tree.specs.Trees.{OwnedBareItem, pairs_tree, item_tree, member_tree}
+use Rattle.sfv_tree.specs.declared.parsed.Item.{Item}
+use Rattle.sfv_tree.specs.declared.parsed.ListEntry.{ListEntry}
 
 -- something may stand after the old text
 abbrev pub Extends : List ℕ → List ℕ → Type 0
@@ -23,3 +29,52 @@ AppendsOrKeeps old new text result =
 -- the pairs of parameters that are lent
 abbrev pub lent_pairs : List (Bor (List ℕ) × Bor OwnedBareItem) → RawParameters
 lent_pairs pairs = pairs_tree (map (λ p. (p.0.now, p.1.now)) pairs)
+
+-- what stands in front of a part: the separator, unless it is the first
+abbrev pub lead : Bool → List ℕ → List ℕ
+lead is_first separator = if is_first then [] else separator
+
+-- a text that began with another of this length is cut back to it
+pub record IsCutBack (len : ℕ) (old new : List ℕ) : Type 0 where
+  pub back : (before : List ℕ) → IsUtf8 before → len ≡ length before → Extends before old → new ≡ before
+
+-- parts in a row, each after the separator unless it is the first
+abbrev pub led : Bool → List ℕ → List (List ℕ) → List ℕ
+led is_first separator [] = []
+led is_first separator (t ∷ ts) = lead is_first separator ++ t ++ led false separator ts
+
+-- whether none stands yet, when these were added
+abbrev pub still_first : {A : Type 0} → Bool → List A → Bool
+still_first is_first [] = is_first
+still_first is_first (x ∷ xs) = false
+
+-- what is lent, as a part of a field
+abbrev pub lent_item : Bor Item → RawItem
+lent_item item = item_tree item.now
+
+abbrev pub lent_entry : Bor ListEntry → RawMember
+lent_entry member = member_tree member.now
+
+abbrev pub lent_member : Bor (List ℕ) × Bor ListEntry → List ℕ × RawMember
+lent_member member = (member.0.now, member_tree member.1.now)
+
+-- each is a value of its class
+abbrev pub AreItems : List (Bor Item) → Type 0
+AreItems = AllByRecursion (λ i. IsItem (lent_item i) × IsOrderedItem (lent_item i))
+
+abbrev pub AreEntries : List (Bor ListEntry) → Type 0
+AreEntries = AllByRecursion (λ m. IsMember (lent_entry m) × IsOrderedMember (lent_entry m))
+
+abbrev pub AreMembers : List (Bor (List ℕ) × Bor ListEntry) → Type 0
+AreMembers = AllByRecursion (λ m. (IsTrue (is_key m.0.now) × IsMember (member_tree m.1.now))
+    × IsOrderedMember (member_tree m.1.now))
+
+-- what is written of them
+abbrev pub items_text : Bool → List (Bor Item) → List ℕ
+items_text is_first items = led is_first (codes " ") (map (λ i. item_text (lent_item i)) items)
+
+abbrev pub entries_text : Bool → List (Bor ListEntry) → List ℕ
+entries_text is_first members = led is_first (codes ", ") (map (λ m. member_text (lent_entry m)) members)
+
+abbrev pub members_text : Bool → List (Bor (List ℕ) × Bor ListEntry) → List ℕ
+members_text is_first members = led is_first (codes ", ") (map (λ m. dictionary_member_text (lent_member m)) members)

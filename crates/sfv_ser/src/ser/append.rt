@@ -21,7 +21,7 @@ use std::string::String as StdString;
 
 /// Returns what was written, and after a write that was out of memory cuts the output back to its
 /// first `len` bytes.
-fn or_truncate<A: Allocator>(
+pub(crate) fn or_truncate<A: Allocator>(
     written: Result<(), OutOfMemory>,
     len: usize,
     output: &mut StdString<A>,

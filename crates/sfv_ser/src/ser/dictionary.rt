@@ -32,7 +32,7 @@ fn serialize_item_after_key<A: Allocator>(
 }
 
 /// Appends a member of a dictionary.
-fn serialize_dictionary_member<A: Allocator>(
+pub(crate) fn serialize_dictionary_member<A: Allocator>(
     key: &Key,
     member: &ListEntry,
     output: &mut StdString<A>,

@@ -1,0 +1,18 @@
+-- Texts that are lent.
+use Rattle.std.specs.Borrow.{MutBor, RattleType}
+use Rattle.std.specs.declared.alloc.Global.{Global}
+use Rattle.std.specs.declared.string.String.{String}
+use Rattle.std.specs.contracts.string.String as text
+use Rattle.std.specs.contracts.alloc.Global as heap
+use Rattle.std.specs.contracts.impls.GlobalAllocator.TheImpl.{ghosts}
+
+abbrev pub Text : Type 0
+Text = String Global
+
+-- a text, as the logic of borrows names its type
+abbrev pub text_row : RattleType
+text_row = text.the_row heap.the_row ghosts
+
+-- the same loan, of another text
+abbrev pub with_lent : MutBor Text → Text → MutBor Text
+with_lent s t = record s { now = t }

@@ -1,0 +1,168 @@
+//! Appending the beginning of a member or of an item of an inner list whole, or not at all.
+#![tactic(auto, using(crate::proofs::Written::cut_back))]
+
+ghost use Rattle.std.specs.Prelude.{◌≡◌, ◌++◌, OnOk, OnErr, IsTrue, codes, string_bytes};
+ghost use Rattle.sfv_spec.specs.Classes.{is_key};
+ghost use Rattle.sfv_spec.specs.Values.{IsBareValue};
+ghost use Rattle.sfv_spec.specs.Canonical.{bare_text, value_text};
+ghost use Rattle.sfv_bare.specs.BareItems.{ref_value};
+ghost use Rattle.sfv_text.specs.KeyText.{key_text};
+ghost use Rattle.sfv_ser.specs.Written.{Appends, AppendsOrKeeps, IsCutBack, lead};
+
+use crate::ser::append::or_truncate;
+use crate::ser::item::{serialize_bare_item, serialize_key, serialize_value};
+use crate::ser::list::serialize_separator;
+use sfv_bare::bare::RefBareItem;
+use sfv_base::error::OutOfMemory;
+use sfv_text::key_ref::KeyRef;
+use std::alloc::Allocator;
+use std::string::String as StdString;
+
+/// Appends the separator, which the first part doesn't have, and a bare item.
+fn serialize_part<A: Allocator>(
+    is_first: bool,
+    separator: &str,
+    value: RefBareItem<'_>,
+    output: &mut StdString<A>,
+) -> Result<(), OutOfMemory>
+    ensures text { Appends output.old output.new
+        (lead is_first separator.now ++ bare_text (ref_value value.entry)) result }
+    ensures value { OnOk result (IsBareValue (ref_value value.entry)) }
+{
+    let mut is_first = is_first;
+    serialize_separator(&mut is_first, separator, output)?;
+    serialize_bare_item(value, output)
+}
+
+/// Appends the separator, which the first part doesn't have, and a bare item; out of memory, the output keeps its text.
+pub(crate) fn append_part<A: Allocator>(
+    is_first: bool,
+    separator: &str,
+    value: RefBareItem<'_>,
+    output: &mut StdString<A>,
+) -> Result<(), OutOfMemory>
+    ensures text { AppendsOrKeeps output.old output.new
+        (lead is_first separator.now ++ bare_text (ref_value value.entry)) result }
+    ensures value { OnOk result (IsBareValue (ref_value value.entry)) }
+{
+    let len = output.len();
+    let written = serialize_part(is_first, separator, value, output);
+    or_truncate(written, len, output)
+}
+
+/// Appends the beginning of an inner list in a list.
+fn serialize_opening<A: Allocator>(
+    is_first: bool,
+    output: &mut StdString<A>,
+) -> Result<(), OutOfMemory>
+    ensures { Appends output.old output.new (lead is_first (codes ", ") ++ codes "(") result }
+{
+    let mut is_first = is_first;
+    serialize_separator(&mut is_first, ", ", output)?;
+    output.push('(')?;
+    Ok(())
+}
+
+/// Appends the beginning of an inner list in a list; out of memory, the output keeps its text.
+pub(crate) fn append_opening<A: Allocator>(
+    is_first: bool,
+    output: &mut StdString<A>,
+) -> Result<(), OutOfMemory>
+    ensures { AppendsOrKeeps output.old output.new (lead is_first (codes ", ") ++ codes "(") result }
+{
+    let len = output.len();
+    let written = serialize_opening(is_first, output);
+    or_truncate(written, len, output)
+}
+
+/// Appends a member of a dictionary that is an item, without its parameters.
+fn serialize_named<A: Allocator>(
+    is_first: bool,
+    name: KeyRef<'_>,
+    value: RefBareItem<'_>,
+    output: &mut StdString<A>,
+) -> Result<(), OutOfMemory>
+    ensures text { Appends output.old output.new
+        (lead is_first (codes ", ") ++ key_text name.entry ++ value_text (ref_value value.entry)) result }
+    ensures key { OnOk result (IsTrue (is_key (key_text name.entry))) }
+    ensures value { OnOk result (IsBareValue (ref_value value.entry)) }
+{
+    let mut is_first = is_first;
+    serialize_separator(&mut is_first, ", ", output)?;
+    serialize_key(name, output)?;
+    serialize_value(value, output)
+}
+
+/// Appends a member of a dictionary that is an item, without its parameters; out of memory, the output keeps its text.
+pub(crate) fn append_named<A: Allocator>(
+    is_first: bool,
+    name: KeyRef<'_>,
+    value: RefBareItem<'_>,
+    output: &mut StdString<A>,
+) -> Result<(), OutOfMemory>
+    ensures text { AppendsOrKeeps output.old output.new
+        (lead is_first (codes ", ") ++ key_text name.entry ++ value_text (ref_value value.entry)) result }
+    ensures key { OnOk result (IsTrue (is_key (key_text name.entry))) }
+    ensures value { OnOk result (IsBareValue (ref_value value.entry)) }
+{
+    let len = output.len();
+    let written = serialize_named(is_first, name, value, output);
+    or_truncate(written, len, output)
+}
+
+/// Appends the beginning of an inner list in a dictionary.
+fn serialize_named_opening<A: Allocator>(
+    is_first: bool,
+    name: KeyRef<'_>,
+    output: &mut StdString<A>,
+) -> Result<(), OutOfMemory>
+    ensures text { Appends output.old output.new
+        (lead is_first (codes ", ") ++ key_text name.entry ++ codes "=(") result }
+    ensures key { OnOk result (IsTrue (is_key (key_text name.entry))) }
+{
+    let mut is_first = is_first;
+    serialize_separator(&mut is_first, ", ", output)?;
+    serialize_key(name, output)?;
+    output.push_str("=(")?;
+    Ok(())
+}
+
+/// Appends the beginning of an inner list in a dictionary; out of memory, the output keeps its text.
+pub(crate) fn append_named_opening<A: Allocator>(
+    is_first: bool,
+    name: KeyRef<'_>,
+    output: &mut StdString<A>,
+) -> Result<(), OutOfMemory>
+    ensures text { AppendsOrKeeps output.old output.new
+        (lead is_first (codes ", ") ++ key_text name.entry ++ codes "=(") result }
+    ensures key { OnOk result (IsTrue (is_key (key_text name.entry))) }
+{
+    let len = output.len();
+    let written = serialize_named_opening(is_first, name, output);
+    or_truncate(written, len, output)
+}
+
+/// Takes away what stands after the first `len` bytes, which were the whole text once.
+pub(crate) fn cut_back<A: Allocator>(len: usize, output: &mut StdString<A>)
+    ensures { IsCutBack len (string_bytes output.old) (string_bytes output.new) }
+{
+    // What was a whole text ends between two characters; to ask is cheaper than to keep the proof.
+    if output.as_str().is_char_boundary(len) {
+        output.truncate(len);
+    }
+}
+
+/// Appends the closing parenthesis of an inner list; out of memory, takes away what stands after the first `len` bytes.
+pub(crate) fn append_closing<A: Allocator>(
+    len: usize,
+    output: &mut StdString<A>,
+) -> Result<(), OutOfMemory>
+    ensures text { OnOk result (string_bytes output.new ≡ string_bytes output.old ++ codes ")") }
+    ensures out_of_memory { OnErr result (IsCutBack len (string_bytes output.old) (string_bytes output.new)) }
+{
+    if output.push(')').is_err() {
+        cut_back(len, output);
+        return Err(OutOfMemory);
+    }
+    Ok(())
+}
