@@ -25,7 +25,7 @@ use Rattle.sfv_reading.proofs.rules.BareRows.{bare_row_is_given}
 use Rattle.sfv_reading.proofs.rules.RuledFaults.{ruled_is_given}
 use Rattle.sfv_reading.proofs.rules.Cut.{open_list_is_read}
 use Rattle.sfv_reading.proofs.places.Wanted.{bare_is_wanted}
-use Rattle.sfv_reading.proofs.places.Read.{wanted_bare_is_read, wanted_key_is_read, bare_stuck, calls_wanted}
+use Rattle.sfv_reading.proofs.places.Read.{wanted_bare_is_read, bare_stuck, calls_wanted}
 use Rattle.sfv_reading.proofs.places.OneWanted.{one_wanted}
 
 -- ---- kinds

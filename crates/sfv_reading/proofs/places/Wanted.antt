@@ -26,7 +26,6 @@ use Rattle.sfv_reading.proofs.rules.Tight.{IsTight, not_last}
 use Rattle.sfv_reading.proofs.rules.Standing.{Stands, IsLastComma}
 use Rattle.sfv_reading.proofs.rules.Fields.{HasMembers, field_rules}
 use Rattle.sfv_reading.proofs.rules.Ends.{field_none}
-use Rattle.sfv_reading.proofs.rules.Commas.{not_bracketed}
 use Rattle.sfv_reading.proofs.places.Calls.{bare, key, Stuck, Calls}
 use Rattle.sfv_reading.proofs.places.Walks.{faulty, Met, Elsewhere, Found, called, elsewhere}
 use Rattle.sfv_reading.proofs.places.Readers.{Ever}
