@@ -1,6 +1,7 @@
 -- Lemmas for callers, who cite them from here: from what is found in a value to the text, from what a visitor did to the
 -- field, and from what was written to what is read.
-use Rattle.std.proofs.Common.{◌≡◌, ℕ, List, [], ◌∷◌, ◌++◌, true, cond, Result, Ok, Err, refl, sym, ◌∙◌, ap, subst, inl, inr}
+use Rattle.std.proofs.Common.{◌≡◌, ℕ, List, [], ◌∷◌, ◌++◌, true, cond, Result, Ok, Err, refl, sym, ◌∙◌, ap, subst}
+use Rattle.std.proofs.Common.{inl, inr}
 use Rattle.std.specs.Prelude.{bytes_eq, option_map, Some, None, IfOk, ◌⊎◌}
 use Rattle.std.specs.declared.alloc.Global.{Global}
 use Rattle.std.specs.declared.vec.Vec.{Vec}
@@ -61,7 +62,8 @@ member_read edition t value key h = ap (last_of key) h.ordered_value ∙ last_of
 
 -- a member that is entered is the last of its key, and those of other keys stay
 pub last_of-insert : {A : Type 0} (j : List ℕ) (ps : List (List ℕ × A)) (k : List ℕ) (v : A)
-    → no_repeats (keys ps) ≡ true → last_of j (insert_entry bytes_eq ps k v) ≡ cond (bytes_eq j k) (Some v) (last_of j ps)
+    → no_repeats (keys ps) ≡ true → last_of j (insert_entry bytes_eq ps k v)
+    ≡ cond (bytes_eq j k) (Some v) (last_of j ps)
 last_of-insert {A} j ps k v distinct =
     let same = collapse-distinct ps distinct in
     ap (last_of j) (insert_entry-entered ps k v

@@ -1,5 +1,6 @@
 -- What an answer of the reading says of the text, in the words of the definitions.
-use Rattle.std.proofs.Common.{◌≡◌, ℕ, ◌≤◌, ◌-◌, Bool, true, false, List, length, drop, Option, Some, None, Result, Ok, Err}
+use Rattle.std.proofs.Common.{◌≡◌, ℕ, ◌≤◌, ◌-◌, Bool, true, false, List, length, drop, Option, Some, None, Result, Ok}
+use Rattle.std.proofs.Common.{Err}
 use Rattle.std.proofs.Common.{refl, sym, ap, subst, ◌∙◌, inl, inr, arith}
 use Rattle.std.specs.Prelude.{MatchOption}
 use Rattle.std.proofs.lemmas.List.{length-drop}
@@ -46,7 +47,8 @@ located_at edition kind t f index e here le =
 unnamed : (e : Error) → e.index ≡ None → e.kind ≡ OutOfMemory → e ≡ out_of_memory
 unnamed e i k = ap (λ (o : Option ℕ). error_of e.kind o) i ∙ ap (λ (kind : ErrorKind). error_of kind None) k
 
-pub located_fault : {A : Type 0} (answer : Result A Fault) (k : ErrorKind) (r : List ℕ) → located_whole answer ≡ Err (k, r)
+pub located_fault : {A : Type 0} (answer : Result A Fault) (k : ErrorKind) (r : List ℕ) → located_whole answer
+    ≡ Err (k, r)
     → (f : Fault) × (answer ≡ Err f) × (error_kind f.kind ≡ k) × (f.rest ≡ r)
 located_fault (Ok v) k r h = absurd cc
 located_fault (Err f) k r h =

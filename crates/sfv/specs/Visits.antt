@@ -47,7 +47,8 @@ TookBare takes edition t from (Visitor f) = ⊤
 
 -- The same of one that stands first in a text, after spaces.
 abbrev pub TookFirst : {S E : Type 0} → (S → TreeEvent → S → Type 0) → Edition → List ℕ → S → ParseError E → Type 0
-TookFirst takes edition t from error = (s r : List ℕ) → span is_space t ≡ Ok (s, r) → TookBare takes edition r from error
+TookFirst takes edition t from error = (s r : List ℕ) → span is_space t ≡ Ok (s, r)
+    → TookBare takes edition r from error
 
 -- Where a field is read at the beginning, an error with an index comes only for an item, after the visitor's answer.
 abbrev pub IsFinishedAt : {S O : Type 0} → (S → TreeEvent → S → Type 0) → (S → O → Type 0) → Edition → FieldKind

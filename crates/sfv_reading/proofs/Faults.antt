@@ -70,7 +70,8 @@ ruled_kind edition kind t _ i (faults.wrong_escape h) = refl
 ruled_kind edition kind t _ i (faults.wrong_byte h) = refl
 ruled_kind edition kind t _ i (faults.wrong_utf8 h) = refl
 
-row_kind : (edition : Edition) (s there : List ℕ) (f : SyntaxFault) → BareItemFault edition s there f → is_want f ≡ false
+row_kind : (edition : Edition) (s there : List ℕ) (f : SyntaxFault) → BareItemFault edition s there f → is_want f
+    ≡ false
 row_kind edition s there _ (faults.no_boolean _ _) = refl
 row_kind edition s there _ (faults.old_date _ _ _ _) = refl
 row_kind edition s there _ (faults.old_display _ _ _ _) = refl
@@ -99,7 +100,8 @@ module _ (edition : Edition) (kind : FieldKind) where
   rejected : (t : List ℕ) (e : Fault) → read_field edition kind t ≡ Err e → ¬ IsAccepted edition kind t
   rejected t e h a = let r = (read_is_accepted edition kind t a.0).1 a.1 in absurd cc
 
-  same_fault : (t : List ℕ) (e x : Fault) → read_field edition kind t ≡ Err e → read_field edition kind t ≡ Err x → e ≡ x
+  same_fault : (t : List ℕ) (e x : Fault) → read_field edition kind t ≡ Err e → read_field edition kind t ≡ Err x
+      → e ≡ x
   same_fault t e x h k =
       let a : Result (RawField kind) Fault = Err e in
       let b : Result (RawField kind) Fault = Err x in
@@ -244,7 +246,8 @@ module _ (edition : Edition) (kind : FieldKind) where
   ]
     where
       like : (x : Fault) → IsLike x e → RuledFault edition kind t x.kind (length t - length x.rest)
-          ⊎ BegunFault edition kind t x.kind (length t - length x.rest) → IsFaultAt edition kind t e.kind (length t - length e.rest)
+          ⊎ BegunFault edition kind t x.kind (length t - length x.rest)
+          → IsFaultAt edition kind t e.kind (length t - length e.rest)
       like x l r =
           let same : (k : SyntaxFault) (rest : List ℕ) → x.kind ≡ k → x.rest ≡ rest →
           RuledFault edition kind t k (length t - length rest) ⊎ BegunFault edition kind t k (length t - length rest) =
@@ -276,7 +279,8 @@ module _ (edition : Edition) (kind : FieldKind) where
   given t f i (inr (inl b)) = (begun_given t f i b).0
   given t f i (inr (inr w)) = on (read_field edition kind t) refl
     where
-      same_place : (e : Fault) → read_field edition kind t ≡ Err e → IsFaultAt edition kind t e.kind (length t - length e.rest)
+      same_place : (e : Fault) → read_field edition kind t ≡ Err e
+          → IsFaultAt edition kind t e.kind (length t - length e.rest)
           → IsGiven t f i
       same_place e h (inl r) = absurd (w.no_rule e.kind _ r)
       same_place e h (inr (inl b)) = absurd (w.nothing_begun e.kind _ b)

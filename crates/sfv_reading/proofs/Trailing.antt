@@ -13,7 +13,8 @@ use Rattle.sfv_spec.specs.Faults.{trailing_characters_after_parsed_value, expect
 use Rattle.sfv_spec.specs.Faults.{unterminated_inner_list, expected_start_of_key}
 use Rattle.sfv_reading.specs.Judgements.{Reached}
 use Rattle.sfv_reading.specs.Reader.{Fault, Answer, Reader, at_reach, and_then, give, fail, ruled, ◌>>=◌, bind}
-use Rattle.sfv_reading.specs.Reader.{branch, ahead, at_start, back, up_to, span, led_answer, led, go_on, many_within, many}
+use Rattle.sfv_reading.specs.Reader.{branch, ahead, at_start, back, up_to, span, led_answer, led, go_on, many_within}
+use Rattle.sfv_reading.specs.Reader.{many}
 use Rattle.sfv_reading.specs.Content.{bytes_of, is_colon, content_in, closed_by, bytes_at}
 use Rattle.sfv_reading.specs.Quoted.{string_at, display_at, StringStops, IsDisplayFault}
 use Rattle.sfv_reading.specs.Bare.{sign_at, long_at, decimal_at, fraction_at, point_at, whole_at, number_at, boolean_at}
@@ -183,7 +184,8 @@ from_faults {A} f h = record { shuns = λ t. on t (f t) refl }
     on t (Err e) i = h t e i
 
 pub Shuns-string : Shuns string_at
-Shuns-string = from_faults string_at (λ t e i. let h = (string_fault t e i).0 in string_kind e.kind h.left e.rest h.ends)
+Shuns-string = from_faults string_at (λ t e i. let h =
+    (string_fault t e i).0 in string_kind e.kind h.left e.rest h.ends)
 
 pub Shuns-display : Shuns display_at
 Shuns-display = from_faults display_at (λ t e i. display_kind e.kind t e.rest (display_fault t e i).0)
@@ -239,7 +241,8 @@ key_fault (c ∷ r) e i = on (is_key_start c) i
     none : (v r : List ℕ) → give v r ≡ Err e → ⊥
     none v r j = absurd cc
 
-    on : (b : Bool) → cond b ((span is_key_inner >>= λ cs. give (c ∷ cs)) r) (Err (at_reach expected_start_of_key (c ∷ r)))
+    on : (b : Bool) → cond b ((span is_key_inner >>= λ cs. give (c ∷ cs)) r) (Err (at_reach expected_start_of_key
+        (c ∷ r)))
         ≡ Err e → at_reach expected_start_of_key (c ∷ r) ≡ e
     on false j = cc
     on true j =

@@ -3,7 +3,8 @@ use Rattle.std.specs.Prelude.{◌≡◌, ℕ, zero, suc, Bool, true, false, List
 use Rattle.std.specs.Prelude.{Result, Ok, Err, if◌then◌else◌, ◌==◌}
 use Rattle.sfv_spec.specs.Events.{TreeEvent}
 use Rattle.sfv_spec.specs.Faults.{SyntaxFault, trailing_comma, trailing_decimal_point, non_integer_date}
-use Rattle.sfv_spec.specs.Faults.{too_many_digits_after_decimal_point, unterminated_byte_sequence, invalid_byte_sequence}
+use Rattle.sfv_spec.specs.Faults.{too_many_digits_after_decimal_point, unterminated_byte_sequence}
+use Rattle.sfv_spec.specs.Faults.{invalid_byte_sequence}
 use Rattle.sfv_spec.specs.Faults.{unterminated_display_string, unterminated_escape_sequence, invalid_escape_sequence}
 use Rattle.sfv_spec.specs.Faults.{invalid_display_string_character, invalid_utf8_in_display_string}
 

@@ -15,8 +15,10 @@ use Rattle.sfv_spec.proofs.Runs.{IsInside}
 
 -- What is looked at is left alone by the pairs of other keys, and set by each pair of the key, wherever `holds` is true of
 -- the state, and so it stays. Then it is what the last pair of the key sets.
-pub last_kept : {A S X : Type 0} (holds : S → Type 0) (step : S → List ℕ × A → S) (look : S → X) (key : List ℕ) (of : A → X)
-    → ((s : S) (k : List ℕ) (v : A) → holds s → bytes_eq key k ≡ false → (look (step s (k, v)) ≡ look s) × holds (step s (k, v)))
+pub last_kept : {A S X : Type 0} (holds : S → Type 0) (step : S → List ℕ × A → S) (look : S
+    → X) (key : List ℕ) (of : A → X)
+    → ((s : S) (k : List ℕ) (v : A) → holds s → bytes_eq key k ≡ false → (look (step s (k, v)) ≡ look s)
+    × holds (step s (k, v)))
     → ((s : S) (v : A) → holds s → (look (step s (key, v)) ≡ of v) × holds (step s (key, v)))
     → (pairs : List (List ℕ × A)) (s : S) → holds s
     → (look (fold step s pairs) ≡ unwrap_or (option_map of (last_of key pairs)) (look s)) × holds (fold step s pairs)
@@ -36,7 +38,8 @@ last_kept {A} {S} {X} holds step look key of other own ((k, v) ∷ pairs) s h = 
       (rest.0 ∙ rw (n, here.0) (left (last_of key pairs)), rest.1)
 ]
   where
-    set : (o : Option A) → unwrap_or (option_map of o) (of v) ≡ unwrap_or (option_map of (option_or o (Some v))) (look s)
+    set : (o : Option A) → unwrap_or (option_map of o) (of v)
+        ≡ unwrap_or (option_map of (option_or o (Some v))) (look s)
     set None = refl
     set (Some w) = refl
 

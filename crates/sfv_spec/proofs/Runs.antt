@@ -72,13 +72,18 @@ pub keys_in_events : (ms : List (List ℕ × RawMember)) → filter_map key_in (
 keys_in_events [] = refl
 keys_in_events (m ∷ ms) = ap (λ (ks : List (List ℕ)). m.0 ∷ ks)
     (filter_map-append key_in (member_events m.1) (events dictionary_field ms)
-    ∙ rw (none_within key_in (λ e h. (neither_inside e h).0) (member_events m.1) (member_inside m.1), keys_in_events ms) refl)
+    ∙ rw (
+      none_within key_in (λ e h. (neither_inside e h).0) (member_events m.1)
+          (member_inside m.1),
+      keys_in_events ms,
+    ) refl)
 
 -- the entries that are visited of a list are as many as its members
 pub entries_in_events : (ms : List RawMember) → length (filter_map entry_in (events list_field ms)) ≡ length ms
 entries_in_events [] = refl
 entries_in_events (m ∷ ms) =
-    let rest : filter_map entry_in (member_events m ++ events list_field ms) ≡ filter_map entry_in (events list_field ms) =
+    let rest : filter_map entry_in (member_events m ++ events list_field ms)
+    ≡ filter_map entry_in (events list_field ms) =
     filter_map-append entry_in (member_events m) (events list_field ms)
     ∙ rw (none_within entry_in (λ e h. (neither_inside e h).1) (member_events m) (member_inside m)) refl in
     rw rest (ap suc (entries_in_events ms))
@@ -89,5 +94,11 @@ pub fails_somewhere : {S F : Type 0} (takes : S → TreeEvent → S → Type 0) 
     → IsVisitorError takes fails finish_fails start es fault
     → ((e : TreeEvent) × Contains es e × (s : S) × fails s e fault) ⊎ ((s : S) × finish_fails s fault)
 fails_somewhere takes fails finish_fails start es fault (inl h) =
-    inl (h.1, subst (λ (xs : List TreeEvent). Contains xs h.1) (sym h.4) (Contains-append_right h.0 (h.1 ∷ h.2) h.1 (0, omega arith, refl)), h.3, h.6)
+    inl (
+      h.1,
+      subst (λ (xs : List TreeEvent). Contains xs h.1) (sym h.4) (Contains-append_right h.0 (h.1 ∷ h.2) h.1
+          (0, omega arith, refl)),
+      h.3,
+      h.6,
+    )
 fails_somewhere takes fails finish_fails start es fault (inr h) = inr (h.0, h.2)

@@ -6,7 +6,8 @@ use Rattle.std.specs.List.{AllByRecursion}
 use Rattle.std.proofs.lemmas.List.Sums.{fold-append}
 use Rattle.std.proofs.lemmas.Slice.Eq.{bytes_eq-Decides}
 use Rattle.sfv.specs.Values.{Edition, dictionary_field, BareValue, RawParameters, RawItem, RawMember, item, inner_list}
-use Rattle.sfv.specs.Events.{TreeEvent, entry, keyed_entry, begins_item, begins_inner_list, bare_item, parameter, inner_list_end, parameters_end}
+use Rattle.sfv.specs.Events.{TreeEvent, entry, keyed_entry, begins_item, begins_inner_list, bare_item, parameter}
+use Rattle.sfv.specs.Events.{inner_list_end, parameters_end}
 use Rattle.sfv.specs.Events.{parameters_events, inner_item_events, member_events, keyed_events, events}
 use Rattle.sfv.specs.Ordered.{last_of, ordered, ordered_member}
 use Rattle.sfv.specs.Grammar.{IsFieldText}
@@ -14,14 +15,16 @@ use Rattle.sfv.specs.Visiting.{RunsTo, IsVisitorError, IsEarlyVisitorError}
 use Rattle.sfv.specs.Parsers.{IsAnswerOf, IsSyntaxOf, IsVisitorErrorOf}
 use Rattle.sfv.specs.Types.{ParseError}
 use Rattle.sfv.specs.Types.parse_errors.{Syntax, Visitor}
-use Rattle.sfv.proofs.Callers.{runs_fold, last_kept, fold_members, fold_parameters, idle_within, IsInside, member_inside}
+use Rattle.sfv.proofs.Callers.{runs_fold, last_kept, fold_members, fold_parameters, idle_within, IsInside}
+use Rattle.sfv.proofs.Callers.{member_inside}
 use Rattle.sfv.proofs.Callers.{last_of-ordered, last_of-collapse, parsed_as, accepted_or_not}
 use Rattle.sfv_tool.specs.declared.foo.Color.{Color}
 use Rattle.sfv_tool.specs.declared.foo.Foo.{Foo}
 use Rattle.sfv_tool.specs.declared.foo.FooFault.{FooFault}
 use Rattle.sfv_tool.specs.declared.foo.FooFault.TheVariants as faults
 use Rattle.sfv_tool.specs.declared.foo.FooVisitor.{FooVisitor}
-use Rattle.sfv_tool.specs.Foo.{color_key, strong_key, color_in, strong_in, strong_of, foo_of, foo_in, foo, IsFooOf, IsFooError}
+use Rattle.sfv_tool.specs.Foo.{color_key, strong_key, color_in, strong_in, strong_of, foo_of, foo_in, foo, IsFooOf}
+use Rattle.sfv_tool.specs.Foo.{IsFooError}
 use Rattle.sfv_tool.specs.FooSteps.{unread, begun, foo_step, foo_found}
 
 -- outside of the item `color` no part of a member is looked at
@@ -83,13 +86,17 @@ module _ (c : Result Color FooFault) where
       → ((keep_parameter s (strong_key, v)).strong ≡ strong_in v) × InColor (keep_parameter s (strong_key, v))
   own_parameter s v h =
       subst (λ (a : FooVisitor). (a.strong ≡ strong_in v) × InColor a)
-      (sym (parameter_set s strong_key v h ∙ rw ((bytes_eq-Decides strong_key strong_key).1 refl) refl)) (refl, (refl, h.1))
+      (sym (parameter_set s strong_key v h ∙ rw ((bytes_eq-Decides strong_key strong_key).1 refl) refl)) (
+        refl,
+        (refl, h.1),
+      )
 
   -- after all of them the last one of its key stands
   kept_parameters : (ps : RawParameters) (s : FooVisitor) → InColor s → s.strong ≡ Ok false
       → kept (fold foo_step s (parameters_events ps)) ≡ (c, strong_of (last_of strong_key ps))
   kept_parameters ps s h none =
-      let k = last_kept InColor keep_parameter (λ s. s.strong) strong_key strong_in other_parameter own_parameter ps s h in
+      let k = last_kept InColor keep_parameter
+      (λ s. s.strong) strong_key strong_in other_parameter own_parameter ps s h in
       let strong : (fold keep_parameter s ps).strong ≡ strong_of (last_of strong_key ps) = k.0
       ∙ rw none (by_default (last_of strong_key ps)) in
       ap kept (fold_parameters foo_step ps s) ∙ rw (k.1.1, strong) refl
@@ -152,7 +159,8 @@ FinishFails s fault = foo_found s ≡ Err fault
 
 module _ (edition : Edition) (t : List ℕ) where
   pub foo_read : (r : Result Foo (ParseError FooFault))
-      → IfOk r (IsAnswerOf Takes Finishes edition dictionary_field t unread) → IfOk r (λ out. IsFooOf edition t (Ok out))
+      → IfOk r (IsAnswerOf Takes Finishes edition dictionary_field t unread)
+      → IfOk r (λ out. IsFooOf edition t (Ok out))
   foo_read (Ok out) h = (
     ordered dictionary_field h.raw,
     parsed_as edition dictionary_field t h.raw h.accepted,
@@ -161,7 +169,8 @@ module _ (edition : Edition) (t : List ℕ) where
   foo_read (Err e) h = tt
 
   failed_of : (raw : List (List ℕ × RawMember)) (fault : FooFault) → IsFieldText edition dictionary_field raw t
-      → IsVisitorError Takes Fails FinishFails unread (events dictionary_field raw) fault → IsFooOf edition t (Err fault)
+      → IsVisitorError Takes Fails FinishFails unread (events dictionary_field raw) fault
+      → IsFooOf edition t (Err fault)
   failed_of raw fault accepted (inl h) = absurd h.6
   failed_of raw fault accepted (inr h) = (
     ordered dictionary_field raw,

@@ -46,7 +46,8 @@ pub after_spaces : {S E : Type 0} (takes : S → TreeEvent → S → Type 0) (ed
     (from : S) (error : ParseError E) → there ≡ edition → span is_space t ≡ Ok (s, r)
     → TookBare takes there r from error → TookFirst takes edition t from error
 after_spaces {S} {E} takes edition there t s r from error same skipped h z w other =
-    subst (λ (l : List ℕ). TookBare {E = E} takes edition l from error) (same_rest (span is_space t) s z r w skipped other)
+    subst (λ (l : List ℕ). TookBare {E = E} takes edition l from error) (same_rest
+    (span is_space t) s z r w skipped other)
     (subst (λ (here : Edition). TookBare {E = E} takes here r from error) same h)
 
 -- the item begins with it
@@ -78,7 +79,8 @@ item_taken {S} {E} takes fails edition t s r q from to item e skipped read run =
 
 -- the field begins with it
 field_begins : (edition : Edition) (value : BareValue) (t : List ℕ) → BeginsWithBareItem edition value t
-    → (more : List TreeEvent) × (visited (events item_field) (whole_field_at edition item_field t) ≡ bare_item value ∷ more)
+    → (more : List TreeEvent) × (visited (events item_field) (whole_field_at edition item_field t)
+    ≡ bare_item value ∷ more)
 field_begins edition value t h =
     let read = first_bare edition value t h in
     let begun = item_begins edition (h.front ++ h.rest) h.rest value read.1 in
@@ -101,7 +103,8 @@ module _ {S O E : Type 0} (takes : S → TreeEvent → S → Type 0) (fails : S 
       let some = visited_begins edition item_field t in
       let all : item_events some.raw ≡ (r.before ++ r.e ∷ r.after) ++ some.more =
       some.all ∙ ap (λ (l : List TreeEvent). l ++ some.more) r.all in
-      let head : bare_item some.raw.bare ∷ parameters_events some.raw.parameters ≡ bare_item value ∷ (begun.0 ++ some.more) =
+      let head : bare_item some.raw.bare ∷ parameters_events some.raw.parameters
+      ≡ bare_item value ∷ (begun.0 ++ some.more) =
       some.all ∙ ap (λ (l : List TreeEvent). l ++ some.more) begun.1 in (
         some.raw,
         same_head some.raw.bare value _ _ head,
@@ -121,7 +124,8 @@ module _ {S O E : Type 0} (takes : S → TreeEvent → S → Type 0) (fails : S 
       (x.0, same_head x.0.bare value _ _ head, inr (x.2, x.4, x.5))
 
   pub visits_first : (r : Result O (ParseError E))
-      → VisitsField takes fails finishes finish_fails edition item_field t from r → IfErr r (TookFirst takes edition t from)
+      → VisitsField takes fails finishes finish_fails edition item_field t from r
+      → IfErr r (TookFirst takes edition t from)
       → IfErr r (VisitsFirst takes fails finish_fails edition t from)
   visits_first (Ok out) h k = tt
   visits_first (Err (Syntax e)) h k = on (parse_error edition item_field t e h.0)

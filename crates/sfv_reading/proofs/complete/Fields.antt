@@ -25,7 +25,8 @@ spaces_end (c ∷ s) q each f = subst (λ (c : ℕ). Apart lengthens_item (c ∷
 
 -- an item, whatever follows it that is no more of it
 pub item_field_complete : (edition : Edition) (i : RawItem) (t q : List ℕ) (h : IsFieldText edition item_field i t)
-    → Apart is_space q → Apart lengthens_item (h.second.back ++ q) → whole_field_at edition item_field (t ++ q) ≡ Ok (i, q)
+    → Apart is_space q → Apart lengthens_item (h.second.back ++ q) → whole_field_at edition item_field (t ++ q)
+    ≡ Ok (i, q)
 unfolding whole_field_at give
 item_field_complete edition i t q h none f =
     let o = h.second in

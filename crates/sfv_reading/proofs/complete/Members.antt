@@ -26,7 +26,8 @@ use Rattle.sfv_reading.proofs.complete.Items.{space_ends}
 
 -- ---- inner items
 
-pub inner_item_complete : (edition : Edition) (i : RawItem) (t q : List ℕ) → IsItemText edition i t → Apart lengthens_item q
+pub inner_item_complete : (edition : Edition) (i : RawItem) (t q : List ℕ) → IsItemText edition i t
+    → Apart lengthens_item q
     → inner_item_at edition (t ++ q) ≡ Ok (i, q)
 unfolding inner_item_at
 inner_item_complete edition i t q h f = led_complete _ _ _ _ _ (item_complete edition i t q h f)
@@ -37,7 +38,8 @@ bracket_ends q = Apart-cons lengthens_item right_parenthesis q refl
 bracket_no_space : (q : List ℕ) → Apart is_space (right_parenthesis ∷ q)
 bracket_no_space q = Apart-cons is_space right_parenthesis q refl
 
-pub next_item_complete : (edition : Edition) (i : RawItem) (t q : List ℕ) → IsNextItem edition i t → Apart lengthens_item q
+pub next_item_complete : (edition : Edition) (i : RawItem) (t q : List ℕ) → IsNextItem edition i t
+    → Apart lengthens_item q
     → (next_item_at edition (t ++ q) ≡ Ok (Some i, q)) × Apart lengthens_item (t ++ q)
 unfolding next_item_at give
 next_item_complete edition i t q h f =

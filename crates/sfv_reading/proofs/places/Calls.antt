@@ -7,7 +7,8 @@ use Rattle.sfv_spec.specs.Classes.{is_space_or_tab}
 use Rattle.sfv_spec.specs.Values.{Edition, BareValue}
 use Rattle.sfv_spec.specs.Events.{TreeEvent}
 use Rattle.sfv_reading.specs.Judgements.{IsFault}
-use Rattle.sfv_reading.specs.Reader.{Fault, Answer, Reader, behind_events, and_then, ◌>>=◌, bind, led_answer, led, branch, ahead, fail}
+use Rattle.sfv_reading.specs.Reader.{Fault, Answer, Reader, behind_events, and_then, ◌>>=◌, bind, led_answer, led}
+use Rattle.sfv_reading.specs.Reader.{branch, ahead, fail}
 use Rattle.sfv_reading.specs.Bare.{token_at, bare_at}
 use Rattle.sfv_reading.specs.Items.{key_at}
 use Rattle.sfv_reading.specs.Places.{IsLike}

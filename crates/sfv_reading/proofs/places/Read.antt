@@ -8,7 +8,8 @@ use Rattle.std.proofs.lemmas.Bool.{not-true, eqb-true}
 use Rattle.std.proofs.lemmas.List.{append-nil, append_cancel_right, length-append}
 use Rattle.sfv_spec.specs.Ascii.{space, tab, left_parenthesis, right_parenthesis, question_mark, asterisk}
 use Rattle.sfv_spec.specs.Texts.{RunOf, begins_with}
-use Rattle.sfv_spec.specs.Classes.{is_space_or_tab, is_key_start, is_key_inner, is_lower_letter, is_digit, is_one_of, is_key}
+use Rattle.sfv_spec.specs.Classes.{is_space_or_tab, is_key_start, is_key_inner, is_lower_letter, is_digit, is_one_of}
+use Rattle.sfv_spec.specs.Classes.{is_key}
 use Rattle.sfv_spec.specs.Classes.{is_token_inner}
 use Rattle.sfv_spec.specs.Values.{Edition, FieldKind, RawField, BareValue}
 use Rattle.sfv_spec.specs.Grammar.{IsAccepted, IsBareText, IsKeyText}
@@ -55,16 +56,19 @@ begins_part edition kind u v b = (v ++ b.0, subst (IsAccepted edition kind) (app
 
 bare_read : (edition : Edition) (t r : List ℕ) (v : BareValue) → bare_at edition t ≡ Ok (v, r)
     → (s : List ℕ) × (t ≡ s ++ r) × IsBareText edition v s
-bare_read edition t r v i = subst (λ a. Reached (IsBareText edition) (BareGoes edition) (Somewhere (BareGoes edition)) t a)
+bare_read edition t r v i = subst (λ a. Reached (IsBareText edition) (BareGoes edition) (Somewhere
+    (BareGoes edition)) t a)
     i ((Sound-bare edition).sound t)
 
 key_read : (t r k : List ℕ) → key_at t ≡ Ok (k, r) → (s : List ℕ) × (t ≡ s ++ r) × IsKeyText k s
-key_read t r k i = subst (λ a. Reached IsKeyText (Mute IsKeyText) (Somewhere (Mute IsKeyText)) t a) i (Sound-key.sound t)
+key_read t r k i = subst (λ a. Reached IsKeyText (Mute IsKeyText) (Somewhere (Mute IsKeyText)) t a) i
+    (Sound-key.sound t)
 
 start_inner : (c : ℕ) → is_key_start c ≡ true → is_key_inner c ≡ true
 start_inner c e = elim (or_cases (is_lower_letter c) (eqb c asterisk) e) [
   | inl l ↦
-      or_left (is_lower_letter c || is_digit c) (is_one_of (codes "_-.*") c) (or_left (is_lower_letter c) (is_digit c) l)
+      or_left (is_lower_letter c || is_digit c) (is_one_of (codes "_-.*") c) (or_left (is_lower_letter c)
+      (is_digit c) l)
   | inr a ↦ ap is_key_inner (eqb-true c asterisk a)
 ]
 
@@ -90,7 +94,8 @@ key_run (c ∷ k) s h =
 
 bare_free : (c : ℕ) → is_bare_start c ≡ true → blocked bare c ≡ false
 bare_free c h = or_from (is_space_or_tab c) (eqb c left_parenthesis || eqb c right_parenthesis)
-    (or_from (eqb c space) (eqb c tab) (apart_from is_bare_start space refl c h) (apart_from is_bare_start tab refl c h))
+    (or_from (eqb c space) (eqb c tab) (apart_from is_bare_start space refl c h)
+    (apart_from is_bare_start tab refl c h))
     (or_from (eqb c left_parenthesis) (eqb c right_parenthesis) (apart_from is_bare_start left_parenthesis refl c h)
     (apart_from is_bare_start right_parenthesis refl c h))
 

@@ -1,5 +1,6 @@
 -- What the readers of parameters, items and members call.
-use Rattle.std.proofs.Common.{◌≡◌, ℕ, Bool, true, false, eqb, ◌||◌, List, [], ◌∷◌, ◌++◌, Option, Some, None, Ok, Err, refl, inl, inr}
+use Rattle.std.proofs.Common.{◌≡◌, ℕ, Bool, true, false, eqb, ◌||◌, List, [], ◌∷◌, ◌++◌, Option, Some, None, Ok, Err}
+use Rattle.std.proofs.Common.{refl, inl, inr}
 use Rattle.std.proofs.Common.{sym, ap, subst, ◌∙◌}
 use Rattle.std.proofs.lemmas.Bool.{true≢false, cases_Bool, or_left, or_parts}
 use Rattle.sfv_spec.specs.Ascii.{space, tab, comma, left_parenthesis, right_parenthesis}
@@ -9,7 +10,8 @@ use Rattle.sfv_spec.specs.Values.{Edition, RawParameters}
 use Rattle.sfv_spec.specs.Events.{TreeEvent, inner_item_events}
 use Rattle.sfv_spec.specs.Faults.{trailing_comma}
 use Rattle.sfv_reading.specs.Judgements.{Reached, Local, IsFault}
-use Rattle.sfv_reading.specs.Reader.{Fault, Answer, Reader, at_start, give, fail, ◌>>=◌, bind, led, branch, ahead, back, span}
+use Rattle.sfv_reading.specs.Reader.{Fault, Answer, Reader, at_start, give, fail, ◌>>=◌, bind, led, branch, ahead}
+use Rattle.sfv_reading.specs.Reader.{back, span}
 use Rattle.sfv_reading.specs.Reader.{many_within, many, byte}
 use Rattle.sfv_reading.specs.Bare.{token_at, bare_at}
 use Rattle.sfv_reading.specs.Items.{key_at, value_at, parameter_at, parameter_event, parameters_at, item_of, item_at}
@@ -27,7 +29,8 @@ use Rattle.sfv_reading.proofs.sound.Many.{Local-many}
 use Rattle.sfv_reading.proofs.local.Members.{Local-entry, Local-keyed}
 use Rattle.std.proofs.Common.{length, arith}
 use Rattle.std.proofs.lemmas.List.{length-append}
-use Rattle.sfv_reading.proofs.sound.Combinators.{run_head, run_tail, run_cons, Found, Sound-back, Steady-span, Reads, Goes}
+use Rattle.sfv_reading.proofs.sound.Combinators.{run_head, run_tail, run_cons, Found, Sound-back, Steady-span, Reads}
+use Rattle.sfv_reading.proofs.sound.Combinators.{Goes}
 use Rattle.sfv_reading.proofs.sound.Items.{Consumes-parameter}
 use Rattle.sfv_reading.proofs.sound.Members.{Consumes-next_item}
 use Rattle.sfv_reading.proofs.sound.Separated.{IsComma, Sound-comma, Consumes-next, Local-next}
@@ -36,11 +39,14 @@ use Rattle.sfv_reading.proofs.local.Items.{Local-key, Local-value, Local-paramet
 use Rattle.sfv_reading.proofs.local.Bare.{Local-bare}
 use Rattle.sfv_reading.proofs.local.Members.{Local-inner_item, Local-next_item, Local-next_items, Local-items}
 use Rattle.sfv_reading.proofs.local.Members.{Local-member_value}
-use Rattle.sfv_reading.proofs.complete.Combinators.{Apart-cons, span_complete, back_complete, branch_take, bind_complete}
+use Rattle.sfv_reading.proofs.complete.Combinators.{Apart-cons, span_complete, back_complete, branch_take}
+use Rattle.sfv_reading.proofs.complete.Combinators.{bind_complete}
 use Rattle.sfv_reading.proofs.complete.Combinators.{ahead_any}
 use Rattle.sfv_reading.proofs.places.Calls.{Leaf, bare, key, blocked, Stuck, stuck_led, stuck_bind}
-use Rattle.sfv_reading.proofs.places.Walks.{Mark, Met, Other, met_fail, met_give, Elsewhere, Never, Only, is_skipped, Skips, Walk, Walk-weaker, Walk-bare}
-use Rattle.sfv_reading.proofs.places.Walks.{Walk-key, Walk-give, Walk-fail, Walk-led, Walk-bind, Walk-skip, Walk-skip_some, Walk-branch}
+use Rattle.sfv_reading.proofs.places.Walks.{Mark, Met, Other, met_fail, met_give, Elsewhere, Never, Only, is_skipped}
+use Rattle.sfv_reading.proofs.places.Walks.{Skips, Walk, Walk-weaker, Walk-bare}
+use Rattle.sfv_reading.proofs.places.Walks.{Walk-key, Walk-give, Walk-fail, Walk-led, Walk-bind, Walk-skip}
+use Rattle.sfv_reading.proofs.places.Walks.{Walk-skip_some, Walk-branch}
 use Rattle.sfv_reading.proofs.places.Walks.{Walk-branch_never, Walk-any, Walk-ahead, Walk-many}
 
 run_weaker : (class more : ℕ → Bool) → ((c : ℕ) → class c ≡ true → more c ≡ true) → (t : List ℕ) → RunOf class t
@@ -252,7 +258,8 @@ module _ (edition : Edition) (mark : Mark) where
   unfolding next_item_at
   walk-next_item = Walk-branch_never edition mark _ _ _ _ (refl, refl)
       (λ _ _. Walk-skip edition mark _ _ _ skips_spaces (Local-span _)
-      (λ _. Walk-branch edition mark _ _ _ (Only bare) Never (refl, refl) (λ _ _. Walk-give edition mark _ _) walk-another
+      (λ _. Walk-branch edition mark _ _ _ (Only bare) Never (refl, refl)
+      (λ _ _. Walk-give edition mark _ _) walk-another
       (λ leaf is. (no_bracket leaf is, λ r. barred-another (left_parenthesis ∷ r)))))
       (Walk-branch_never edition mark _ _ _ Never (refl, refl) (λ _ _. Walk-give edition mark _ _)
       (Walk-ahead edition mark _ _ _ (Walk-fail edition mark _ _ tt) (Walk-fail edition mark _ _ tt)))

@@ -1,6 +1,8 @@
 -- A fault of a reader, or a byte that it takes, is that of the reader of bare items, or of keys, which it calls.
-use Rattle.std.proofs.Common.{◌≡◌, ℕ, zero, suc, ◌<◌, ◌≤◌, Bool, true, false, cond, eqb, ◌||◌, List, [], ◌∷◌, ◌++◌, length}
-use Rattle.std.proofs.Common.{Option, Some, None, Ok, Err, refl, sym, ap, subst, ◌∙◌, append_assoc, arith, inl, inr, ◌⊎◌}
+use Rattle.std.proofs.Common.{◌≡◌, ℕ, zero, suc, ◌<◌, ◌≤◌, Bool, true, false, cond, eqb, ◌||◌, List, [], ◌∷◌, ◌++◌}
+use Rattle.std.proofs.Common.{length}
+use Rattle.std.proofs.Common.{Option, Some, None, Ok, Err, refl, sym, ap, subst, ◌∙◌, append_assoc, arith, inl, inr}
+use Rattle.std.proofs.Common.{◌⊎◌}
 use Rattle.std.specs.Prelude.{⊤}
 use Rattle.std.proofs.lemmas.Bool.{true≢false, cases_order}
 use Rattle.std.proofs.lemmas.List.{append_cancel_right, length-append}
@@ -21,7 +23,8 @@ use Rattle.sfv_reading.proofs.sound.Combinators.{run_head, run_tail}
 use Rattle.sfv_reading.proofs.sound.Many.{Consumes, many_is}
 use Rattle.sfv_reading.proofs.complete.Combinators.{branch_take, ahead_any, bind_complete}
 use Rattle.sfv_reading.proofs.places.Calls.{Leaf, bare, key, leaf_at, blocked, Stuck, Calls}
-use Rattle.sfv_reading.proofs.places.Calls.{calls_bare, calls_key, calls_as, calls_led, calls_bind, stuck_led, stuck_bind}
+use Rattle.sfv_reading.proofs.places.Calls.{calls_bare, calls_key, calls_as, calls_led, calls_bind, stuck_led}
+use Rattle.sfv_reading.proofs.places.Calls.{stuck_bind}
 
 -- a byte that nothing but bare items and keys takes
 abbrev pub marked : Bool → ℕ
@@ -167,13 +170,15 @@ met_give (faulty e) t v h = h
 met_give (eaten b m) t v h =
     absurd (omega (arith, h.2, ap (length {A = ℕ}) h.1, length-append h.0 (marked b ∷ m)))
 
-pub met_fail : (A : Type 0) (mark : Mark) (t : List ℕ) (x : Fault) → Elsewhere x.kind x.exact → Met {A = A} mark t (Err x)
+pub met_fail : (A : Type 0) (mark : Mark) (t : List ℕ) (x : Fault) → Elsewhere x.kind x.exact
+    → Met {A = A} mark t (Err x)
     → Other mark
 met_fail A (faulty e) t x h m = subst (λ b. Elsewhere e.kind b) m.exact (subst (λ k. Elsewhere k x.exact) m.kind h)
 met_fail A (eaten b m) t x h g = g
 
 -- a value made of it
-met_map : {A B : Type 0} (mark : Mark) (t : List ℕ) (m : A → B) (a : Answer A) → Met mark t (and_then a (λ v. give (m v)))
+met_map : {A B : Type 0} (mark : Mark) (t : List ℕ) (m : A → B) (a : Answer A)
+    → Met mark t (and_then a (λ v. give (m v)))
     → Met mark t a
 unfolding give
 met_map (faulty e) t m (Ok x) h = h
@@ -234,7 +239,8 @@ module _ (edition : Edition) (mark : Mark) where
 
   -- a leaf that the second reader calls after some byte
   behind : {A B : Type 0} (f : Reader A) (g : A → Reader B) (v : A) (p r : List ℕ) (E : Leaf → Type 0)
-      → ((q : List ℕ) → first q ≡ first r → f (p ++ q) ≡ Ok (v, q)) → (leaf : Leaf) (before s : List ℕ) → r ≡ before ++ s
+      → ((q : List ℕ) → first q ≡ first r → f (p ++ q) ≡ Ok (v, q)) → (leaf : Leaf) (before s : List ℕ) → r
+      ≡ before ++ s
       → ¬ (before ≡ []) → Calls edition leaf (g v) before → Calls edition leaf (f >>= g) (p ++ before)
   behind f g v p r E reads leaf before s e some c = calls_as edition leaf (f >>= g) (g v) p before c
       (λ b q _. bind_complete f g (p ++ (before ++ b ∷ q)) (before ++ b ∷ q) v (reads (before ++ b ∷ q)
@@ -394,7 +400,8 @@ module _ (edition : Edition) (mark : Mark) where
         some,
       )) (h.walk (c ∷ r) m)
     where
-      looking : (before s : List ℕ) → c ∷ r ≡ before ++ s → ¬ (before ≡ []) → (leaf : Leaf) → Calls edition leaf x before
+      looking : (before s : List ℕ) → c ∷ r ≡ before ++ s → ¬ (before ≡ []) → (leaf : Leaf)
+          → Calls edition leaf x before
           → Calls edition leaf (ahead class x y) before
       looking [] s e some leaf d = absurd (some refl)
       looking (b ∷ u) s e some leaf d =
@@ -406,7 +413,8 @@ module _ (edition : Edition) (mark : Mark) where
         some,
       )) (k.walk (c ∷ r) m)
     where
-      looking : (before s : List ℕ) → c ∷ r ≡ before ++ s → ¬ (before ≡ []) → (leaf : Leaf) → Calls edition leaf y before
+      looking : (before s : List ℕ) → c ∷ r ≡ before ++ s → ¬ (before ≡ []) → (leaf : Leaf)
+          → Calls edition leaf y before
           → Calls edition leaf (ahead class x y) before
       looking [] s e some leaf d = absurd (some refl)
       looking (b ∷ u) s e some leaf d =
@@ -438,7 +446,8 @@ module _ (edition : Edition) (mark : Mark) where
     stuck_on : (o : Option A) → Stuck (go_on parts (many parts step) o (0 ∷ []))
     unfolding give led bind
     stuck_on None = refl
-    stuck_on (Some v) = stuck_led (parts v) _ (stuck_bind (λ vs. give (v ∷ vs)) (many parts step (0 ∷ [])) (λ vs. refl) s)
+    stuck_on (Some v) = stuck_led (parts v) _ (stuck_bind (λ vs. give (v ∷ vs)) (many parts step (0 ∷ []))
+        (λ vs. refl) s)
 
     -- as the first step and what goes on after it
     unrolled : Reader (List A)
@@ -456,7 +465,8 @@ module _ (edition : Edition) (mark : Mark) where
         → Found edition mark (many parts step) Never t
     unfolding unrolled bind give led
     within zero t lt m = absurd (omega arith)
-    within (suc n) t lt m = as_many t (on (λ r less m. within n r less m) (step t) refl (l.lasts t) (subst (Met mark t) (many_is parts step c t) m))
+    within (suc n) t lt m = as_many t (on (λ r less m. within n r less m) (step t) refl (l.lasts t) (subst
+        (Met mark t) (many_is parts step c t) m))
       where
         left : Met mark t (step t) → Found edition mark unrolled Never t
         left w = lift step unrolled Never Never t t [] refl (λ leaf before s' e some d. (
@@ -464,14 +474,16 @@ module _ (edition : Edition) (mark : Mark) where
           some,
         )) (h.walk t w)
 
-        go : ((r : List ℕ) → length r < n → Met mark r (many parts step r) → Found edition mark (many parts step) Never r)
+        go : ((r : List ℕ) → length r < n → Met mark r (many parts step r)
+            → Found edition mark (many parts step) Never r)
             → (p r : List ℕ) (o : Option A) → step t ≡ Ok (o, r) → t ≡ p ++ r
             → ((q : List ℕ) → first q ≡ first r → step (p ++ q) ≡ Ok (o, q))
             → Met mark r (go_on parts (many parts step) o r) → Found edition mark unrolled Never t
         go again p r None i parted reads w = absurd (met_give mark r [] w)
         go again p r (Some v) i parted reads w =
             let less : length r < length t = c.consumes t r v i in
-            let inner : Met mark r (many parts step r) = met_map mark r (λ vs. v ∷ vs) (many parts step r) (met_led mark (parts v) r _ w) in
+            let inner : Met mark r (many parts step r) = met_map mark r (λ vs. v ∷ vs) (many parts step r)
+            (met_led mark (parts v) r _ w) in
             lift (many parts step) unrolled Never Never r t p parted (λ leaf before s' e some d. (
               behind step (go_on parts (many parts step)) (Some v) p r Never reads leaf before s' e some
                   (calls_led edition leaf (parts v) (many parts step >>= λ vs. give (v ∷ vs)) before
@@ -479,8 +491,10 @@ module _ (edition : Edition) (mark : Mark) where
               λ z. absurd (some (no_front p before z)),
             )) (again r (omega arith) inner)
 
-        on : ((r : List ℕ) → length r < n → Met mark r (many parts step r) → Found edition mark (many parts step) Never r)
-            → (a : Answer (Option A)) → step t ≡ a → Lasts step t a → Met mark t (and_then a (go_on parts (many parts step)))
+        on : ((r : List ℕ) → length r < n → Met mark r (many parts step r)
+            → Found edition mark (many parts step) Never r)
+            → (a : Answer (Option A)) → step t ≡ a → Lasts step t a
+            → Met mark t (and_then a (go_on parts (many parts step)))
             → Found edition mark unrolled Never t
         on again (Ok x) i w z = elim (met_split mark t w.0 x.1 x.0 (go_on parts (many parts step) x.0 x.1) w.1 z) [
           | inl o ↦ left (subst (λ (a : Answer (Option A)). Met mark t a) (sym i) o)

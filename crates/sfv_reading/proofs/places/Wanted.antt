@@ -47,13 +47,15 @@ begins_to edition kind u r e i exact rest =
     subst (BeginsAccepted edition kind) (take_at u r h.0 (sym n)) h.2.holds
 
 -- a fault of the readers is one of the field
-pub ends_faulty : (edition : Edition) (kind : FieldKind) (t : List ℕ) (e : Fault) → whole_field_at edition kind t ≡ Err e
+pub ends_faulty : (edition : Edition) (kind : FieldKind) (t : List ℕ) (e : Fault) → whole_field_at edition kind t
+    ≡ Err e
     → read_field edition kind t ≡ Err e
 unfolding read_field
 ends_faulty edition kind t e i = ap (ending (events kind)) i
 
 -- what is read up to the byte 0 begins an accepted text
-pub begins_stuck : (edition : Edition) (kind : FieldKind) (u : List ℕ) → Stuck (whole_field_at edition kind (u ++ 0 ∷ []))
+pub begins_stuck : (edition : Edition) (kind : FieldKind) (u : List ℕ)
+    → Stuck (whole_field_at edition kind (u ++ 0 ∷ []))
     → BeginsAccepted edition kind u
 unfolding read_field
 begins_stuck edition kind u s = on (whole_field_at edition kind (u ++ 0 ∷ [])) refl s
@@ -200,7 +202,8 @@ after_item : (edition : Edition) (kind : FieldKind) (raw : RawField kind) (t s r
     → whole_field_at edition kind t ≡ Ok (raw, c ∷ r) → IsFieldText edition kind raw s
     → WantedFault edition kind s trailing_characters_after_parsed_value
 after_item edition item_field raw t s r c i h = end refl (raw, h)
-after_item edition list_field raw t s r c i h = absurd (let none = field_none edition list_field tt t (c ∷ r) raw i in cc)
+after_item edition list_field raw t s r c i h = absurd (let none = field_none edition list_field tt t
+    (c ∷ r) raw i in cc)
 after_item edition dictionary_field raw t s r c i h =
     absurd (let none = field_none edition dictionary_field tt t (c ∷ r) raw i in cc)
 

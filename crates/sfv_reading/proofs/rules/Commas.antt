@@ -10,7 +10,8 @@ use Rattle.sfv_spec.specs.Values.{Edition, FieldKind, item_field, list_field, di
 use Rattle.sfv_spec.specs.Grammar.{IsMemberText, IsDictionaryMemberText, IsFieldText, IsAccepted}
 use Rattle.sfv_spec.specs.Events.{TreeEvent, events, entry_events, keyed_events}
 use Rattle.sfv_spec.specs.Faults.{trailing_comma, trailing_characters_after_member, HasManyMembers}
-use Rattle.sfv_reading.specs.Reader.{Fault, Reader, Apart, any, byte, at_reach, by_rule, behind_events, at_start, give, fail}
+use Rattle.sfv_reading.specs.Reader.{Fault, Reader, Apart, any, byte, at_reach, by_rule, behind_events, at_start}
+use Rattle.sfv_reading.specs.Reader.{give, fail}
 use Rattle.sfv_reading.specs.Reader.{back, span, branch, ahead, bind, led}
 use Rattle.sfv_reading.specs.Judgements.{IsFault}
 use Rattle.sfv_reading.specs.Bare.{token_at, bare_at}
@@ -18,7 +19,8 @@ use Rattle.sfv_reading.specs.Items.{key_at, item_at}
 use Rattle.sfv_reading.specs.Members.{member_at, entry_at, keyed_at}
 use Rattle.sfv_reading.specs.Fields.{comma_at, next_at, members_at, whole_field_at, ending, read_field}
 use Rattle.sfv_reading.specs.Claims.{CommaRow}
-use Rattle.sfv_reading.proofs.complete.Combinators.{Apart-nil, Apart-cons, branch_take, ahead_past, ahead_take, ahead_any}
+use Rattle.sfv_reading.proofs.complete.Combinators.{Apart-nil, Apart-cons, branch_take, ahead_past, ahead_take}
+use Rattle.sfv_reading.proofs.complete.Combinators.{ahead_any}
 use Rattle.sfv_reading.proofs.complete.Combinators.{bind_complete, span_complete}
 use Rattle.sfv_reading.proofs.sound.Members.{Sound-entry, Sound-keyed}
 use Rattle.sfv_reading.proofs.sound.Separated.{members_met}

@@ -6,10 +6,13 @@ use Rattle.std.proofs.lemmas.Bool.{true≢false, eqb-true}
 use Rattle.sfv_spec.specs.Ascii.{space, left_parenthesis, right_parenthesis, equals_sign, comma}
 use Rattle.sfv_spec.specs.Texts.{RunOf, IsJoining}
 use Rattle.sfv_spec.specs.Classes.{is_space, is_space_or_tab, is_key_inner}
-use Rattle.sfv_spec.specs.Values.{Edition, FieldKind, item_field, list_field, dictionary_field, RawField, RawItem, RawInnerList, RawMember}
+use Rattle.sfv_spec.specs.Values.{Edition, FieldKind, item_field, list_field, dictionary_field, RawField, RawItem}
+use Rattle.sfv_spec.specs.Values.{RawInnerList, RawMember}
 use Rattle.sfv_spec.specs.Values.{item, inner_list}
-use Rattle.sfv_spec.specs.Events.{TreeEvent, entry, keyed_entry, begins_inner_list, inner_item_events, entry_events, keyed_events}
-use Rattle.sfv_spec.specs.Grammar.{IsKeyText, IsMemberValueText, IsMemberText, IsDictionaryMemberText, AreMembersText, IsFieldText}
+use Rattle.sfv_spec.specs.Events.{TreeEvent, entry, keyed_entry, begins_inner_list, inner_item_events, entry_events}
+use Rattle.sfv_spec.specs.Events.{keyed_events}
+use Rattle.sfv_spec.specs.Grammar.{IsKeyText, IsMemberValueText, IsMemberText, IsDictionaryMemberText, AreMembersText}
+use Rattle.sfv_spec.specs.Grammar.{IsFieldText}
 use Rattle.sfv_spec.specs.Faults.{unterminated_inner_list}
 use Rattle.sfv_spec.proofs.Settled.{joining-nil, joining-cons}
 use Rattle.sfv_reading.specs.Reader.{Fault, Reader, Apart, at_reach, behind_events, fail, give, ◌>>=◌}
@@ -30,7 +33,8 @@ use Rattle.sfv_reading.proofs.texts.Joining.{split_joined, joining_none, joining
 use Rattle.sfv_reading.proofs.complete.Combinators.{Apart-nil, Apart-cons, branch_past, branch_take, ahead_any}
 use Rattle.sfv_reading.proofs.complete.Combinators.{bind_complete, span_complete}
 use Rattle.sfv_reading.proofs.complete.Items.{lengthens_item, key_complete, item_no, item_begun, begun_some}
-use Rattle.sfv_reading.proofs.complete.Members.{inner_item_complete, next_item_complete, inner_parts, entry_complete, entry_fresh, keyed_complete}
+use Rattle.sfv_reading.proofs.complete.Members.{inner_item_complete, next_item_complete, inner_parts, entry_complete}
+use Rattle.sfv_reading.proofs.complete.Members.{entry_fresh, keyed_complete}
 use Rattle.sfv_reading.proofs.complete.Members.{keyed_fresh}
 use Rattle.sfv_reading.proofs.sound.Members.{Sound-entry, Sound-keyed}
 use Rattle.sfv_reading.specs.Places.{OpenListIsRead}
@@ -38,7 +42,8 @@ use Rattle.sfv_reading.specs.Fields.{ending, read_field}
 use Rattle.sfv_spec.specs.Events.{events}
 use Rattle.sfv_spec.proofs.Bare.{is_bare_start}
 use Rattle.sfv_reading.proofs.rules.UpToFault.{bind_met, led_met, many_met}
-use Rattle.sfv_reading.proofs.rules.Tight.{IsTight, tight_after, not_last, outer_parenthesis, item_tight, parameters_tight}
+use Rattle.sfv_reading.proofs.rules.Tight.{IsTight, tight_after, not_last, outer_parenthesis, item_tight}
+use Rattle.sfv_reading.proofs.rules.Tight.{parameters_tight}
 use Rattle.sfv_reading.proofs.rules.Tight.{key_tight, tight_both}
 
 pub record IsCut (e : Fault) : Type 0 where
@@ -158,7 +163,8 @@ module _ (edition : Edition) where
       (Apart lengthens_item) (λ v a q p f. next_item_complete edition v a q p f) []
       (at_reach unterminated_inner_list []) next_cut (Apart-nil lengthens_item) is m.front m.first in
       let q : List ℕ = m.front ++ [] in
-      let some : 1 ≤ length (o.front ++ q) = begun_some is_bare_start (o.front ++ q) (item_begun edition i o.front q o.first)
+      let some : 1 ≤ length (o.front ++ q) = begun_some is_bare_start (o.front ++ q)
+      (item_begun edition i o.front q o.first)
       in (
         _,
         ap (inner_items_at edition) all ∙ ahead_any _ _ (h.front ++ (o.front ++ q)) (omega (
@@ -183,7 +189,8 @@ module _ (edition : Edition) where
       → (rest ≡ []) → x ++ right_parenthesis ∷ [] ≡ left_parenthesis ∷ (b ++ rest) → NoSpace x
       → Cut (member_at edition) x × (1 ≤ length x)
   unfolding member_at inner_at
-  cut_inner l b [] rest h z e none = absurd (let heads : right_parenthesis ≡ left_parenthesis = cc in omega (arith, heads))
+  cut_inner l b [] rest h z e none = absurd (let heads : right_parenthesis
+      ≡ left_parenthesis = cc in omega (arith, heads))
   cut_inner l b (c ∷ x) rest h z e none =
       let head : c ≡ left_parenthesis = cc in
       let tail : x ++ right_parenthesis ∷ [] ≡ b ++ rest = cc in
@@ -202,7 +209,8 @@ module _ (edition : Edition) where
   cut_member : (m : RawMember) (y : List ℕ) → IsMemberText edition m (y ++ right_parenthesis ∷ []) → NoSpace y
       → Cut (member_at edition) y × (1 ≤ length y)
   cut_member (item i) y h none =
-      absurd (not_closed (y ++ right_parenthesis ∷ []) y (item_tight right_parenthesis outer_parenthesis edition i _ h) refl)
+      absurd (not_closed (y ++ right_parenthesis ∷ []) y
+      (item_tight right_parenthesis outer_parenthesis edition i _ h) refl)
   cut_member (inner_list l) y h none =
       let p = inner_parts edition l.items l.parameters (y ++ right_parenthesis ∷ []) h in
       elim (parameters_tight right_parenthesis outer_parenthesis edition l.parameters p.rest p.are_parameters) [
@@ -241,7 +249,8 @@ module _ (edition : Edition) where
               c.0.2,
             ) in
             let rest : Cut (led (keyed_entry key ∷ []) (member_value_at edition >>= λ m. give (key, m)))
-            (equals_sign ∷ w.0) = cut_led (keyed_entry key ∷ []) (member_value_at edition >>= λ m. give (key, m)) (equals_sign ∷ w.0)
+            (equals_sign ∷ w.0) = cut_led (keyed_entry key ∷ []) (member_value_at edition >>= λ m. give (key, m))
+            (equals_sign ∷ w.0)
             (cut_bind (member_value_at edition) (λ m. give (key, m)) (equals_sign ∷ w.0) value) in (
               (
                 rest.0,
@@ -320,13 +329,15 @@ module _ {A : Type 0} (P : A → List ℕ → Type 0) (parts : A → List TreeEv
       let all : c ++ y ≡ h.front ++ comma ∷ (k.back ++ y) =
       ap (λ (l : List ℕ). l ++ y) (h.text ∙ ap (λ (l : List ℕ). h.front ++ l) (k.text
       ∙ ap (λ (l : List ℕ). l ++ k.back) k.first)) ∙ append_assoc h.front (comma ∷ k.back) y in
-      ap (next_at one) all ∙ bind_complete _ _ _ _ _ (span_complete is_space_or_tab h.front (comma ∷ (k.back ++ y)) h.first
+      ap (next_at one) all ∙ bind_complete _ _ _ _ _ (span_complete is_space_or_tab h.front (comma ∷
+      (k.back ++ y)) h.first
       (Apart-cons is_space_or_tab comma (k.back ++ y) refl)) ∙ ahead_any _ _ _ (omega arith)
       ∙ ahead_take _ _ _ comma (k.back ++ y) refl
       ∙ bind_complete _ _ _ _ _ (comma_complete P parts one k.back y k.second no_blank some)
       ∙ bind_met _ _ _ _ x.1
 
-  cut_later : (m : A) (ms : List A) (s t u c y : List ℕ) → RunOf is_space s → P m t → IsJoining (IsNext P parts one) ms u
+  cut_later : (m : A) (ms : List A) (s t u c y : List ℕ) → RunOf is_space s → P m t
+      → IsJoining (IsNext P parts one) ms u
       → Comma c → Cut one y → 1 ≤ length y → Apart is_space_or_tab y
       → Cut (members_at parts one) (s ++ (t ++ (u ++ (c ++ y))))
   cut_later m ms s t u c y each k j h x some no_blank =
@@ -405,12 +416,14 @@ cut_field edition item_field i t h none =
           (tight_after right_parenthesis h.front o.front
           (item_tight right_parenthesis outer_parenthesis edition i o.front o.first))
           (sym (all ∙ ap (λ (l : List ℕ). (h.front ++ o.front) ++ l) z ∙ append-nil (h.front ++ o.front))))
-      | inr w ↦ absurd (true≢false (sym (run_last is_space w.0 right_parenthesis (subst (RunOf is_space) w.1 o.second))))
+      | inr w ↦ absurd (true≢false (sym (run_last is_space w.0 right_parenthesis (subst
+          (RunOf is_space) w.1 o.second))))
     ]
 cut_field edition list_field ms t h none = cut_members (IsMemberText edition) entry_events (entry_at edition)
     (entry_complete edition) (entry_fresh edition) (Sound-entry edition) (cut_entry edition) ms t h none
 cut_field edition dictionary_field ms t h none = cut_members (IsDictionaryMemberText edition) keyed_events
-    (keyed_at edition) (keyed_complete edition) (keyed_fresh edition) (Sound-keyed edition) (cut_keyed edition) ms t h none
+    (keyed_at edition) (keyed_complete edition) (keyed_fresh edition) (Sound-keyed edition)
+    (cut_keyed edition) ms t h none
 
 pub open_list_is_read : OpenListIsRead
 unfolding read_field

@@ -7,7 +7,8 @@ use Rattle.sfv_spec.specs.Values.{Edition, FieldKind, item_field, list_field, di
 use Rattle.sfv_spec.specs.Events.{entry_events, keyed_events}
 use Rattle.sfv_spec.specs.Grammar.{IsMemberText, IsDictionaryMemberText}
 use Rattle.sfv_spec.specs.Faults.{trailing_comma, trailing_characters_after_member, HasManyMembers}
-use Rattle.sfv_reading.specs.Reader.{Answer, Reader, any, byte, and_then, give, fail, ◌>>=◌, bind, led_answer, led, ahead}
+use Rattle.sfv_reading.specs.Reader.{Answer, Reader, any, byte, and_then, give, fail, ◌>>=◌, bind, led_answer, led}
+use Rattle.sfv_reading.specs.Reader.{ahead}
 use Rattle.sfv_reading.specs.Reader.{go_on, many, back, one_and_more}
 use Rattle.sfv_reading.specs.Members.{entry_at, keyed_at}
 use Rattle.sfv_reading.specs.Fields.{comma_at, next_at, members_at, whole_field_at}
@@ -60,7 +61,8 @@ next_none {A} one t r i = let b = bind_read _ _ t r None i in on b.1 b.3
     on : (q : List ℕ) → ahead any (ahead (byte comma) (back trailing_comma comma_at >>= λ _. one >>= λ m. give (Some m))
         (fail trailing_characters_after_member)) (give None) q ≡ Ok (None, r) → r ≡ []
     on [] j = sym (give_read _ _ [] r j).1
-    on (c ∷ q) j = at (byte comma c) (c ∷ q) _ (λ k. let b = bind_read _ _ (c ∷ q) r None k in some_read one b.1 r b.3) j
+    on (c ∷ q) j = at (byte comma c) (c ∷ q) _ (λ k. let b = bind_read _ _
+        (c ∷ q) r None k in some_read one b.1 r b.3) j
 
 module _ {A : Type 0} (parts : A → List TreeEvent) (step : Reader (Option A)) (c : Consumes step)
     (h : (t r : List ℕ) → step t ≡ Ok (None, r) → r ≡ []) where

@@ -7,7 +7,8 @@ use Rattle.sfv_spec.specs.Ascii.{comma}
 use Rattle.sfv_spec.specs.Texts.{RunOf, IsJoining}
 use Rattle.sfv_spec.specs.Classes.{is_space, is_space_or_tab}
 use Rattle.sfv_spec.specs.Values.{Edition, FieldKind, item_field, list_field, dictionary_field, RawField, HasMember}
-use Rattle.sfv_spec.specs.Grammar.{OptionalWhitespace, IsMemberText, IsDictionaryMemberText, IsFieldText, AreMembersText}
+use Rattle.sfv_spec.specs.Grammar.{OptionalWhitespace, IsMemberText, IsDictionaryMemberText, IsFieldText}
+use Rattle.sfv_spec.specs.Grammar.{AreMembersText}
 use Rattle.sfv_spec.specs.Events.{TreeEvent, entry_events, keyed_events}
 use Rattle.sfv_spec.specs.Faults.{trailing_comma, trailing_characters_after_member, HasManyMembers}
 use Rattle.sfv_reading.specs.Reader.{Fault, Reader, by_rule, byte, any, ahead, back, many, span, ◌>>=◌, give}
@@ -22,7 +23,8 @@ use Rattle.sfv_reading.proofs.sound.Separated.{IsComma, Sound-comma, IsNext, Sou
 use Rattle.sfv_reading.proofs.sound.Separated.{next_member}
 use Rattle.sfv_reading.proofs.Trailing.{Shuns-item, Shuns-bind, Shuns-span, Shuns-give}
 use Rattle.sfv_reading.proofs.rules.Combinators.{Rules, Rules-give, Rules-steady, Rules-led, Rules-bind}
-use Rattle.sfv_reading.proofs.rules.Combinators.{Rules-branch, Rules-back, Rules-ahead, Rules-any, Rules-weaker, fail_at, no_fault, ahead_at}
+use Rattle.sfv_reading.proofs.rules.Combinators.{Rules-branch, Rules-back, Rules-ahead, Rules-any, Rules-weaker}
+use Rattle.sfv_reading.proofs.rules.Combinators.{fail_at, no_fault, ahead_at}
 use Rattle.sfv_reading.proofs.rules.Many.{Rules-many}
 use Rattle.sfv_reading.proofs.rules.Standing.{Stands, HasNone, stands_within, Rules-other, entry_rules, keyed_rules}
 

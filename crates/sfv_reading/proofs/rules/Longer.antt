@@ -7,9 +7,11 @@ use Rattle.std.proofs.lemmas.Bool.{or_left}
 use Rattle.sfv_spec.specs.Ascii.{tab, semicolon, left_parenthesis}
 use Rattle.sfv_spec.specs.Texts.{RunOf, IsJoining, ◌⨾◌}
 use Rattle.sfv_spec.specs.Classes.{is_space, is_space_or_tab}
-use Rattle.sfv_spec.specs.Values.{Edition, FieldKind, item_field, list_field, dictionary_field, RawField, RawMember, item}
+use Rattle.sfv_spec.specs.Values.{Edition, FieldKind, item_field, list_field, dictionary_field, RawField, RawMember}
+use Rattle.sfv_spec.specs.Values.{item}
 use Rattle.sfv_spec.specs.Values.{inner_list, boolean, RawParameters, RawItem, HasMember}
-use Rattle.sfv_spec.specs.Grammar.{IsParameterText, IsParametersText, IsMemberText, IsMemberValueText, IsDictionaryMemberText}
+use Rattle.sfv_spec.specs.Grammar.{IsParameterText, IsParametersText, IsMemberText, IsMemberValueText}
+use Rattle.sfv_spec.specs.Grammar.{IsDictionaryMemberText}
 use Rattle.sfv_spec.specs.Grammar.{AreMembersText, IsItemText, Spaces, IsFieldText, IsAccepted, Comma, true_with}
 use Rattle.sfv_spec.specs.Faults.{trailing_characters_after_member, HasManyMembers}
 use Rattle.sfv_spec.proofs.Settled.{joining-nil}
@@ -223,7 +225,8 @@ item_not edition i u h a = on h.second.back refl
         let f : Apart lengthens_item (h.second.back ++ codes ";a)") =
         subst (λ (l : List ℕ). Apart lengthens_item (l ++ codes ";a)")) (sym e)
         (blank_ends c (z ++ codes ";a)") (or_left (is_space c) (eqb c tab) blank)) in
-        let read = item_field_complete edition i u (codes ";a)") h (Apart-cons is_space semicolon (codes "a)") refl) f in
+        let read = item_field_complete edition i u (codes ";a)") h (Apart-cons is_space semicolon
+        (codes "a)") refl) f in
         let other = field_complete edition item_field a.0 _ a.1 in
         let one : RawItem × List ℕ = (i, codes ";a)") in
         let two : RawItem × List ℕ = (a.0, []) in

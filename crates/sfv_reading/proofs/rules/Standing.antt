@@ -17,14 +17,16 @@ use Rattle.sfv_spec.specs.Faults.{unterminated_inner_list}
 use Rattle.sfv_spec.proofs.Settled.{joining-nil, joining-cons}
 use Rattle.sfv_reading.specs.Reader.{Fault, Reader, span, many, any}
 use Rattle.sfv_reading.specs.Items.{key_at, item_of}
-use Rattle.sfv_reading.specs.Members.{inner_item_at, next_item_at, inner_items_at, inner_of, inner_at, member_at, entry_at}
+use Rattle.sfv_reading.specs.Members.{inner_item_at, next_item_at, inner_items_at, inner_of, inner_at, member_at}
+use Rattle.sfv_reading.specs.Members.{entry_at}
 use Rattle.sfv_reading.specs.Members.{member_value_at, keyed_at}
 use Rattle.sfv_reading.proofs.Trailing.{IsOther, Shuns, Shuns-item, Shuns-key, Shuns-parameters, Shuns-led, Shuns-bind}
 use Rattle.sfv_reading.proofs.Trailing.{Shuns-give, Shuns-branch, Shuns-span, other_kind}
 use Rattle.sfv_reading.proofs.sound.Combinators.{Steady-span, Sound-steady, IsSpan}
 use Rattle.sfv_reading.proofs.sound.Items.{Sound-key, parameter_of, true_value}
 use Rattle.sfv_reading.proofs.sound.Members.{IsClosed, IsNextItem, Sound-inner_item, Sound-next_item}
-use Rattle.sfv_reading.proofs.sound.Members.{Consumes-next_item, IsItems, items_with, bracket, Sound-items, inner_text, given}
+use Rattle.sfv_reading.proofs.sound.Members.{Consumes-next_item, IsItems, items_with, bracket, Sound-items}
+use Rattle.sfv_reading.proofs.sound.Members.{inner_text, given}
 use Rattle.sfv_reading.proofs.sound.Members.{Sound-member_value, keyed}
 use Rattle.sfv_reading.proofs.sound.Steps.{Sound-steps}
 use Rattle.sfv_reading.proofs.texts.Joining.{joining_none, joining_into, joining_push, joined_split}
@@ -148,7 +150,8 @@ module _ (edition : Edition) where
   pub parameter_a : IsParameterText edition (codes "a", boolean true) (codes ";a")
   parameter_a = parameter_of edition [] (codes "a") (codes "a") [] (boolean true) refl (refl, refl) (true_value edition)
 
-  pub item_longer : (i : RawItem) (t : List ℕ) → IsItemText edition i t → (j : RawItem) × IsItemText edition j (t ++ codes ";a")
+  pub item_longer : (i : RawItem) (t : List ℕ) → IsItemText edition i t → (j : RawItem)
+      × IsItemText edition j (t ++ codes ";a")
   item_longer i t h = (
     item_of i.bare (i.parameters ++ (codes "a", boolean true) ∷ []),
     record {

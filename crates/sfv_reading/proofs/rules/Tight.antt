@@ -1,5 +1,6 @@
 -- The text of an item ends with no space, and with no parenthesis.
-use Rattle.std.proofs.Common.{◌≡◌, ℕ, ◌≤◌, Bool, true, false, eqb, List, [], ◌∷◌, ◌++◌, length, refl, sym, ap, subst, ◌∙◌}
+use Rattle.std.proofs.Common.{◌≡◌, ℕ, ◌≤◌, Bool, true, false, eqb, List, [], ◌∷◌, ◌++◌, length, refl, sym, ap, subst}
+use Rattle.std.proofs.Common.{◌∙◌}
 use Rattle.std.proofs.Common.{append_assoc, arith, inl, inr, ◌⊎◌}
 use Rattle.std.specs.Prelude.{codes}
 use Rattle.std.specs.List.{list_all}
@@ -93,11 +94,13 @@ module _ (n : ℕ) (outer : IsOuter n) where
   after_front t h k = subst (IsTight n) (sym h.text) (tight_after n h.front h.back k)
 
   integer_tight : {z : _} (t : List ℕ) → IsIntegerText z t → IsTight n t
-  integer_tight t h = subst (IsTight n) (sym h.text) (tight_after n _ h.digits (digits_tight 1 15 h.digits (omega arith) h.counted))
+  integer_tight t h = subst (IsTight n) (sym h.text) (tight_after n _ h.digits (digits_tight 1 15 h.digits
+      (omega arith) h.counted))
 
   bare_tight : (edition : Edition) (v : BareValue) (t : List ℕ) → IsBareText edition v t → IsTight n t
   bare_tight edition (integer z) t h = integer_tight t h
-  bare_tight edition (decimal z) t h = subst (IsTight n) (sym h.text) (tight_after n (minus_text h.negative ++ h.whole ++ codes ".")
+  bare_tight edition (decimal z) t h = subst (IsTight n) (sym h.text) (tight_after n
+      (minus_text h.negative ++ h.whole ++ codes ".")
       h.fraction (digits_tight 1 3 h.fraction (omega arith) h.counted.1))
   bare_tight edition (string s) t h = after_front t h (closed_tight double_quote h.back outer.closing.0 h.second)
   bare_tight edition (token []) t h = absurd (true≢false (sym h.0))
@@ -105,8 +108,10 @@ module _ (n : ℕ) (outer : IsOuter n) where
       let p = and_parts (is_token_start c) (list_all is_token_inner s) h.0 in
       subst (IsTight n) (sym h.1) (started_tight is_token_start is_token_inner outer.token.0 outer.token.1 c s p.0 p.1)
   bare_tight edition (byte_sequence s) t h = after_front t h (closed_tight colon h.back outer.closing.1 h.second)
-  bare_tight edition (boolean true) t h = subst (IsTight n) (sym h) (tight_after n (codes "?") (codes "1") (tight_byte digit_one (apart_from is_digit n outer.digit digit_one refl)))
-  bare_tight edition (boolean false) t h = subst (IsTight n) (sym h) (tight_after n (codes "?") (codes "0") (tight_byte digit_zero (apart_from is_digit n outer.digit digit_zero refl)))
+  bare_tight edition (boolean true) t h = subst (IsTight n) (sym h) (tight_after n (codes "?") (codes "1")
+      (tight_byte digit_one (apart_from is_digit n outer.digit digit_one refl)))
+  bare_tight edition (boolean false) t h = subst (IsTight n) (sym h) (tight_after n (codes "?") (codes "0")
+      (tight_byte digit_zero (apart_from is_digit n outer.digit digit_zero refl)))
   bare_tight edition (date z) t h = after_front t h.1 (integer_tight h.1.back h.1.second)
   bare_tight edition (display_string s) t h = after_front t h.1
       (closed_tight double_quote h.1.back outer.closing.0 h.1.second)
@@ -121,18 +126,21 @@ module _ (n : ℕ) (outer : IsOuter n) where
   value_tight edition v t (inl h) = inl h.1
   value_tight edition v t (inr h) = inr (after_front t h (bare_tight edition v h.back h.second))
 
-  parameter_tight : (edition : Edition) (p : List ℕ × BareValue) (t : List ℕ) → IsParameterText edition p t → IsTight n t
+  parameter_tight : (edition : Edition) (p : List ℕ × BareValue) (t : List ℕ) → IsParameterText edition p t
+      → IsTight n t
   parameter_tight edition p t h =
       let k = h.second.second in
       after_front t h (after_front h.back h.second (subst (IsTight n) (sym k.text)
       (tight_both k.front k.back (key_tight p.0 k.front k.first) (value_tight edition p.1 k.back k.second))))
 
-  pub parameters_tight : (edition : Edition) (ps : RawParameters) (t : List ℕ) → IsParametersText edition ps t → TightOrNone n t
+  pub parameters_tight : (edition : Edition) (ps : RawParameters) (t : List ℕ) → IsParametersText edition ps t
+      → TightOrNone n t
   parameters_tight edition [] t h = inl (joining-nil h)
   parameters_tight edition (p ∷ ps) t h =
       let c = joining-cons h in
       inr (subst (IsTight n) (sym c.text)
-      (tight_both c.front c.back (parameter_tight edition p c.front c.first) (parameters_tight edition ps c.back c.second)))
+      (tight_both c.front c.back (parameter_tight edition p c.front c.first)
+      (parameters_tight edition ps c.back c.second)))
 
   pub item_tight : (edition : Edition) (i : RawItem) (t : List ℕ) → IsItemText edition i t → IsTight n t
   item_tight edition i t h = subst (IsTight n) (sym h.text)

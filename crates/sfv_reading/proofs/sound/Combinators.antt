@@ -8,7 +8,8 @@ use Rattle.sfv_spec.specs.Texts.{RunOf}
 use Rattle.sfv_spec.specs.Events.{TreeEvent}
 use Rattle.sfv_spec.specs.Faults.{SyntaxFault}
 use Rattle.sfv_reading.specs.Judgements.{GoesOn, Reached, Sound}
-use Rattle.sfv_reading.specs.Reader.{has_rule, Fault, Answer, Reader, and_then, give, fail, ruled, ◌>>=◌, bind, led_answer, led}
+use Rattle.sfv_reading.specs.Reader.{has_rule, Fault, Answer, Reader, and_then, give, fail, ruled, ◌>>=◌, bind}
+use Rattle.sfv_reading.specs.Reader.{led_answer, led}
 use Rattle.sfv_reading.specs.Reader.{branch, ahead, at_start, back, up_to, span, byte}
 
 further : (W : List ℕ → List TreeEvent → Type 0) (s q : List ℕ) (e : Fault) → GoesOn (λ u es. W (s ++ u) es) q e

@@ -38,7 +38,8 @@ Sound-key = Sound-branch _ _ _ _ _ _
 -- ---- parameters
 
 -- *SP key, and a value, after the semicolon
-pub parameter_of : (edition : Edition) (spaces k key t : List ℕ) (v : BareValue) → RunOf is_space spaces → IsKeyText key k
+pub parameter_of : (edition : Edition) (spaces k key t : List ℕ) (v : BareValue) → RunOf is_space spaces
+    → IsKeyText key k
     → IsValueText edition v t → IsParameterText edition (key, v) (semicolon ∷ (spaces ++ (k ++ t)))
 parameter_of edition spaces k key t v each is_key is_value = record {
   front = semicolon ∷ [];

@@ -5,7 +5,8 @@ use Rattle.sfv_uses.proofs.Uses.{read_failed}
 use Rattle.sfv_uses.proofs.expecting.item.Goals as goal
 
 pub returns-clause-read : goal.returns-clause-read
-returns-clause-read c = IfOk-weaker c.parse_item.result _ _ (λ value h. item_built rfc9651 c.args.input.now h.0 value h.1 h.2)
+returns-clause-read c = IfOk-weaker c.parse_item.result _ _
+    (λ value h. item_built rfc9651 c.args.input.now h.0 value h.1 h.2)
     (rw c.new.ensures at c.parse_item.ensures.visited)
 
 pub returns-clause-rejected : goal.returns-clause-rejected
