@@ -166,3 +166,54 @@ pub(crate) fn append_closing<A: Allocator>(
     }
     Ok(())
 }
+
+#[cfg(test)]
+mod tests {
+    use super::*;
+    use linked_list_allocator::LocalHeap;
+    use sfv_bare::bare::GenericBareItem;
+    use sfv_text::shorthand::{key_ref, token_ref};
+    use std::test::Fail;
+
+    // Sizes from none to enough for each text below, so that each request fails at some size.
+    const SIZES: std::ops::Range<usize> = 16..640;
+
+    #[test]
+    fn parts_are_written_or_left_out(rt: HostRuntime) -> Result<(), Fail> {
+        let word: RefBareItem = GenericBareItem::Token(token_ref("a/long*token-of-twenty-five"));
+        let key = key_ref("a-long_key.of.twenty-five");
+        let cases = [
+            "X: 1, a/long*token-of-twenty-five",
+            "X: 1, (",
+            "X: 1, a-long_key.of.twenty-five=a/long*token-of-twenty-five",
+            "X: 1, a-long_key.of.twenty-five=(",
+            "X: 1)",
+        ];
+        for (call, want) in cases[..].iter().enumerate() {
+            let (mut was_out_of_memory, mut was_written) = (false, false);
+            for size in SIZES {
+                let heap = LocalHeap::new(rt.alloc(), size)?;
+                let Ok(mut text) = StdString::from_str(&heap, "X: 1") else {
+                    continue;
+                };
+                let written = match call {
+                    0 => append_part(false, ", ", word, &mut text),
+                    1 => append_opening(false, &mut text),
+                    2 => append_named(false, key, word, &mut text),
+                    3 => append_named_opening(false, key, &mut text),
+                    _ => append_closing(2, &mut text),
+                };
+                if written.is_ok() {
+                    assert_eq!(rt; text.as_str(), *want);
+                    was_written = true;
+                } else {
+                    // A closing parenthesis that isn't written takes with it what began after two bytes.
+                    assert_eq!(rt; text.as_str(), if call == 4 { "X:" } else { "X: 1" });
+                    was_out_of_memory = true;
+                }
+            }
+            assert!(rt; was_out_of_memory && was_written, "{want}");
+        }
+        Ok(())
+    }
+}
