@@ -14,6 +14,8 @@ mod content_digest;
 mod further_lines;
 #[cfg(test)]
 mod given;
+#[cfg(test)]
+mod members_written;
 mod positions;
 mod replay;
 #[cfg(test)]

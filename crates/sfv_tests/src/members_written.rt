@@ -1,0 +1,174 @@
+//! Lists and dictionaries that are written member by member.
+
+use sfv::{
+    Decimal, DictSerializer, Dictionary, FieldType, GenericBareItem, InnerListSerializer, KeyRef,
+    List, ListEntry, ListSerializer, OutOfMemory, Parser, RefBareItem, Sink, integer, key_ref,
+    string_ref, token_ref,
+};
+use std::test::Fail;
+
+/// Writes an item of an inner list.
+fn put<X: Sink>(
+    inner: &mut InnerListSerializer<X>,
+    value: RefBareItem<'_>,
+) -> Result<(), OutOfMemory> {
+    inner.bare_item(value)?.finish();
+    Ok(())
+}
+
+/// Writes an item of an inner list with a parameter.
+fn put_with<X: Sink>(
+    inner: &mut InnerListSerializer<X>,
+    value: RefBareItem<'_>,
+    key: KeyRef<'_>,
+    param: RefBareItem<'_>,
+) -> Result<(), OutOfMemory> {
+    inner.bare_item(value)?.parameter(key, param)?.finish();
+    Ok(())
+}
+
+#[test]
+fn members_go_behind_what_stands(rt: HostRuntime) -> Result<(), Fail> {
+    let one: RefBareItem = GenericBareItem::Integer(integer(1));
+    let yes: RefBareItem = GenericBareItem::Boolean(true);
+    let mut text = String::from_str(rt.alloc(), "X: ")?;
+    let mut list = ListSerializer::with_buffer(&mut text);
+    list.bare_item(one)?.finish();
+    list.bare_item(yes)?.finish();
+    assert_eq!(rt; list.finish(), Some("X: 1, ?1"));
+    assert_eq!(rt; text.as_str(), "X: 1, ?1");
+    Ok(())
+}
+
+#[test]
+fn abandoned_inner_lists_leave_nothing(rt: HostRuntime) -> Result<(), Fail> {
+    let one: RefBareItem = GenericBareItem::Integer(integer(1));
+    let two: RefBareItem = GenericBareItem::Integer(integer(2));
+    let three: RefBareItem = GenericBareItem::Integer(integer(3));
+    let five: RefBareItem = GenericBareItem::Integer(integer(5));
+
+    let mut text = String::new(rt.alloc());
+    let mut list = ListSerializer::with_buffer(&mut text);
+    let mut inner = list.inner_list()?;
+    let written = put(&mut inner, two);
+    inner.abandon();
+    assert!(rt; written.is_ok());
+    list.bare_item(five)?.finish();
+    assert_eq!(rt; list.finish(), Some("5"));
+
+    let mut text = String::new(rt.alloc());
+    let mut list = ListSerializer::with_buffer(&mut text);
+    list.bare_item(one)?.finish();
+    list.inner_list()?.abandon();
+    list.bare_item(three)?.finish();
+    assert_eq!(rt; list.finish(), Some("1, 3"));
+
+    let mut text = String::from_str(rt.alloc(), "Z")?;
+    let mut list = ListSerializer::with_buffer(&mut text);
+    list.inner_list()?.abandon();
+    assert_eq!(rt; list.finish(), None);
+    assert_eq!(rt; text.as_str(), "Z");
+
+    let mut text = String::from_str(rt.alloc(), "Z")?;
+    let mut dict = DictSerializer::with_buffer(&mut text);
+    dict.inner_list(key_ref("a"))?.abandon();
+    assert_eq!(rt; dict.finish(), None);
+    assert_eq!(rt; text.as_str(), "Z");
+    Ok(())
+}
+
+#[test]
+fn repeated_keys_are_written_each_time(rt: HostRuntime) -> Result<(), Fail> {
+    let alloc = rt.alloc();
+    let one: RefBareItem = GenericBareItem::Integer(integer(1));
+    let two: RefBareItem = GenericBareItem::Integer(integer(2));
+    let three: RefBareItem = GenericBareItem::Integer(integer(3));
+    let mut text = String::new(alloc);
+    let mut dict = DictSerializer::with_buffer(&mut text);
+    dict.bare_item(key_ref("a"), one)?.finish();
+    dict.bare_item(key_ref("b"), two)?.finish();
+    dict.bare_item(key_ref("a"), three)?.finish();
+    assert_eq!(rt; dict.finish(), Some("a=1, b=2, a=3"));
+    let again = Parser::new(text.as_bytes())
+        .parse::<Dictionary>(alloc)?
+        .serialize(alloc)?;
+    assert_eq!(rt; again.as_ref().map(|text| text.as_str()), Some("a=3, b=2"));
+    Ok(())
+}
+
+#[test]
+fn dictionaries_are_written_member_by_member(rt: HostRuntime) -> Result<(), Fail> {
+    let yes: RefBareItem = GenericBareItem::Boolean(true);
+    let no: RefBareItem = GenericBareItem::Boolean(false);
+    let eleven: RefBareItem = GenericBareItem::Integer(integer(11));
+    let abc: RefBareItem = GenericBareItem::Token(token_ref("abc"));
+    let def: RefBareItem = GenericBareItem::Token(token_ref("def"));
+    let val: RefBareItem = GenericBareItem::String(string_ref("val"));
+    let part: RefBareItem = GenericBareItem::Decimal(Decimal::from_integer_scaled_1000(integer(
+        12346,
+    )));
+    let mut text = String::new(rt.alloc());
+    let mut dict = DictSerializer::with_buffer(&mut text);
+    let params = dict.bare_item(key_ref("member1"), eleven)?;
+    params.parameter(key_ref("foo"), yes)?.finish();
+    let mut inner = dict.inner_list(key_ref("member2"))?;
+    let first = put_with(&mut inner, abc, key_ref("abc_param"), no);
+    let second = put(&mut inner, def);
+    inner.finish()?.parameter(key_ref("bar"), val)?.finish();
+    assert!(rt; first.is_ok() && second.is_ok());
+    dict.bare_item(key_ref("member3"), part)?.finish();
+    let want = "member1=11;foo, member2=(abc;abc_param=?0 def);bar=\"val\", member3=12.346";
+    assert_eq!(rt; dict.finish(), Some(want));
+    Ok(())
+}
+
+#[test]
+fn members_of_values_are_written(rt: HostRuntime) -> Result<(), Fail> {
+    let alloc = rt.alloc();
+    let one: RefBareItem = GenericBareItem::Integer(integer(1));
+    let list = Parser::new(b"2;a, (3 4;b);c, ()").parse::<List>(alloc)?;
+    let mut text = String::new(alloc);
+    let mut serializer = ListSerializer::with_buffer(&mut text);
+    serializer.bare_item(one)?.finish();
+    serializer.members(list[..].iter())?;
+    assert_eq!(rt; serializer.finish(), Some("1, 2;a, (3 4;b);c, ()"));
+
+    let empty: List = Vec::new(alloc);
+    let mut text = String::new(alloc);
+    let mut serializer = ListSerializer::with_buffer(&mut text);
+    serializer.members(empty[..].iter())?;
+    assert_eq!(rt; serializer.finish(), None);
+
+    let dictionary = Parser::new(b"a, b=2;x, c=(1)").parse::<Dictionary>(alloc)?;
+    let mut text = String::new(alloc);
+    let mut serializer = DictSerializer::with_buffer(&mut text);
+    serializer.members(dictionary.iter())?;
+    serializer.members(dictionary.iter())?;
+    let want = "a, b=2;x, c=(1), a, b=2;x, c=(1)";
+    assert_eq!(rt; serializer.finish(), Some(want));
+
+    let mut text = String::new(alloc);
+    let mut serializer = ListSerializer::with_buffer(&mut text);
+    let mut inner = serializer.inner_list()?;
+    let mut written = put(&mut inner, one);
+    if let Some(ListEntry::InnerList(items)) = list[..].get(1) {
+        written = inner.items(items.items[..].iter());
+    }
+    let params = inner.finish()?;
+    if let Some(ListEntry::InnerList(items)) = list[..].get(1) {
+        params.parameters(items.params.iter())?.finish();
+    }
+    assert!(rt; written.is_ok());
+    assert_eq!(rt; serializer.finish(), Some("(1 3 4;b);c"));
+    Ok(())
+}
+
+#[test]
+fn serializers_of_members_may_be_let_go(rt: HostRuntime) -> Result<(), Fail> {
+    let one: RefBareItem = GenericBareItem::Integer(integer(1));
+    let mut text = String::new(rt.alloc());
+    let mut list = ListSerializer::with_buffer(&mut text);
+    let _ = list.bare_item(one)?;
+    assert_eq!(rt; text.as_str(), "1");
+    Ok(())
+}
