@@ -1,5 +1,5 @@
 -- What a parser reads, and what it answers with an error.
-use Rattle.std.specs.Prelude.{◌≡◌, ◌≤◌, ⊤, ℕ, List, length, take, Some, Result, Err, ◌⊎◌, MatchResult}
+use Rattle.std.specs.Prelude.{◌≡◌, ◌≤◌, ⊤, ℕ, List, length, take, Some, Result, ◌⊎◌, MatchResult}
 use Rattle.std.specs.Borrow.{Bor}
 use Rattle.sfv_spec.specs.Values.{Edition, FieldKind, item_field, list_field, dictionary_field, RawField}
 use Rattle.sfv_spec.specs.Values.{BareValue, RawItem}
