@@ -40,6 +40,9 @@ pub use Rattle.sfv_spec.proofs.Last.{last_of-ordered}
 pub use Rattle.sfv_spec.proofs.Collapse.{last_of-collapse, last_of-absent}
 -- the pairs that an iterator over a map lends
 pub use Rattle.sfv_ser.proofs.Lent.{lent_all}
+-- an inner list that is taken away again, and what a text holds behind what was written to it
+pub use Rattle.sfv_ser.proofs.Scripts.{taken_away, kept_as, more_as, written_behind}
+pub use Rattle.sfv_ser.proofs.Scripts.{inner_list_ended, named_list_ended}
 -- what a visitor did with the events of a field
 pub use Rattle.sfv_spec.proofs.Runs.{runs_fold, entry_in, keys_in_events, entries_in_events, fails_somewhere}
 -- what is kept of a field by the last of each key

@@ -14,6 +14,7 @@ pub mod Types
 -- The words of lower crates, and of the map, that public clauses use: a caller's clauses need no crate but this one.
 pub use Rattle.sfv_spec.specs.Ascii
 pub use Rattle.sfv_spec.specs.Base64
+pub use Rattle.sfv_spec.specs.Calls
 pub use Rattle.sfv_spec.specs.Canonical
 pub use Rattle.sfv_spec.specs.Classes
 pub use Rattle.sfv_spec.specs.Events
@@ -44,6 +45,7 @@ pub use Rattle.sfv_tree.specs.Events as EventValues
 pub use Rattle.sfv_tree.specs.Kinds
 pub use Rattle.sfv_tree.specs.Trees
 pub use Rattle.sfv_visit.specs.Given
+pub use Rattle.sfv_ser.specs.Scripts
 pub use Rattle.sfv_ser.specs.Serializers
 pub use Rattle.sfv_ser.specs.Texts as LentTexts
 pub use Rattle.sfv_ser.specs.Written

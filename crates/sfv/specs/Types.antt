@@ -21,3 +21,7 @@ pub use Rattle.sfv_tree.specs.declared.visitor.ItemFault.TheVariants as item_fau
 pub use Rattle.sfv_tree.specs.declared.visitor.BareItemType.{BareItemType}
 pub use Rattle.sfv_tree.specs.declared.visitor.BareItemType.TheVariants as bare_item_types
 pub use Rattle.sfv_visit.specs.declared.expect_item.ExpectItem.{ExpectItem}
+pub use Rattle.sfv_ser.specs.declared.ser.script.ParamCall.{ParamCall}
+pub use Rattle.sfv_ser.specs.declared.ser.script.ItemCalls.{ItemCalls}
+pub use Rattle.sfv_ser.specs.declared.ser.script.MemberCalls.{MemberCalls}
+pub use Rattle.sfv_ser.specs.declared.ser.script.MemberCalls.TheVariants as script_members

@@ -7,6 +7,7 @@
 mod field_type;
 pub mod laws;
 mod parser;
+pub mod script;
 pub mod visitor;
 
 pub use field_type::FieldType;

@@ -5,3 +5,4 @@ pub mod Written
 pub mod Lent
 pub mod Rows
 pub mod Members
+pub mod Scripts

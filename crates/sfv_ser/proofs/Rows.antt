@@ -1,5 +1,6 @@
 -- Parts that are written in a row, with a separator between each two.
-use Rattle.std.proofs.Common.{◌≡◌, ℕ, suc, ◌+◌, ◌<◌, Bool, true, false, cond, List, [], ◌∷◌, ◌++◌, length, get_or, map, take}
+use Rattle.std.proofs.Common.{◌≡◌, ℕ, suc, ◌+◌, ◌<◌, Bool, true, false, cond, List, [], ◌∷◌, ◌++◌, length, get_or}
+use Rattle.std.proofs.Common.{map, take}
 use Rattle.std.proofs.Common.{refl, sym, ap, subst, ◌∙◌, append_assoc, Result, Ok, Err, arith}
 use Rattle.std.specs.Prelude.{IfErr, OnOk}
 use Rattle.std.specs.List.{AllByRecursion}

@@ -9,7 +9,7 @@ use Rattle.sfv_ser.specs.declared.ser.inner_list_serializer.InnerListSerializer.
 use Rattle.sfv_ser.specs.contracts.ser.member_serializer.MemberSerializer as members
 use Rattle.sfv_ser.specs.contracts.ser.inner_list_serializer.InnerListSerializer as items
 use Rattle.sfv_ser.specs.Texts.{Text, text_row}
-use Rattle.sfv_ser.specs.Written.{IsCutBack}
+use Rattle.sfv_ser.specs.Written.{Extends, IsCutBack}
 
 -- the text that is lent to the serializer of an item
 abbrev pub item_buffer : ItemSerializer → MutBor Text
@@ -58,6 +58,12 @@ has_no_item s = s.is_first
 abbrev pub length_before : {X : Type 0} → InnerListSerializer X → ℕ
 length_before s = s.len_before
 
+-- the same loan of members, at the same place, of which one stands or doesn't as before
+abbrev pub SameMembers : {W K : Type 0} → (W → W → Type 0) → MutBor (MemberSerializer W K)
+    → MutBor (MemberSerializer W K) → Type 0
+SameMembers same s t = (t.ghost_name ≡ s.ghost_name) × same s.now.buffer t.now.buffer
+    × (t.now.is_first ≡ s.now.is_first)
+
 module _ {W : Type 0} (same : W → W → Type 0) (text : W → Text) where
   -- the same place, with the same text, and a member stands or doesn't as before
   abbrev pub KeepsMembers : {K : Type 0} → MemberSerializer W K → MemberSerializer W K → Type 0
@@ -79,6 +85,14 @@ module _ {W : Type 0} (same : W → W → Type 0) (text : W → Text) where
       × (string_bytes (text t.sink) ≡ string_bytes (text s.sink) ++ more) × (t.is_first ≡ is_first)
       × (t.len_before ≡ s.len_before)
 
+  -- the same place; something may stand at the end of its text
+  abbrev pub GrowsMembers : {K : Type 0} → MemberSerializer W K → MemberSerializer W K → Type 0
+  GrowsMembers s t = same s.buffer t.buffer × Extends (string_bytes (text s.buffer)) (string_bytes (text t.buffer))
+
+  abbrev pub GrowsItems : InnerListSerializer W → InnerListSerializer W → Type 0
+  GrowsItems s t = same s.sink t.sink × Extends (string_bytes (text s.sink)) (string_bytes (text t.sink))
+      × (t.len_before ≡ s.len_before)
+
 module _ (W K : RattleType) (same : W.Denot → W.Denot → Type 0) (text : W.Denot → Text) where
   -- out of memory, the serializer of members that was lent is as it was
   abbrev pub MembersRest : {A : Type 0} → MutBor (MemberSerializer W.Denot K.Denot) → (A → GName)
@@ -90,7 +104,8 @@ module _ (W K : RattleType) (same : W.Denot → W.Denot → Type 0) (text : W.De
   abbrev pub MembersCutBack : {A : Type 0} → ℕ → MutBor (MemberSerializer W.Denot K.Denot) → (A → GName)
       → Result A OutOfMemory → Fml
   MembersCutBack len lent name result = RestsIfErr (members.the_row W K) lent name result
-      (λ last. same lent.now.buffer last.buffer × IsCutBack len (string_bytes (text lent.now.buffer)) (string_bytes (text last.buffer))
+      (λ last. same lent.now.buffer last.buffer
+      × IsCutBack len (string_bytes (text lent.now.buffer)) (string_bytes (text last.buffer))
       × (last.is_first ≡ lent.now.is_first))
 
 module _ (X : RattleType) (same : X.Denot → X.Denot → Type 0) (text : X.Denot → Text) where

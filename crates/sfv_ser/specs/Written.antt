@@ -1,5 +1,6 @@
 -- What a text holds to which another was added.
-use Rattle.std.specs.Prelude.{◌≡◌, ℕ, Bool, false, if◌then◌else◌, List, [], ◌∷◌, ◌++◌, map, Result, MatchResult, IsTrue, codes, string_bytes, length, IsUtf8}
+use Rattle.std.specs.Prelude.{◌≡◌, ℕ, Bool, false, if◌then◌else◌, List, [], ◌∷◌, ◌++◌, map, Result, MatchResult}
+use Rattle.std.specs.Prelude.{IsTrue, codes, string_bytes, length, IsUtf8}
 use Rattle.std.specs.Borrow.{Bor}
 use Rattle.std.specs.List.{AllByRecursion}
 use Rattle.std.specs.declared.string.String.{String}

@@ -16,6 +16,7 @@ mod member_serializer;
 mod number;
 mod parameter_serializer;
 mod quoted;
+pub mod script;
 mod sink;
 mod string;
 

@@ -21,6 +21,8 @@ mod replay;
 #[cfg(test)]
 mod rows;
 #[cfg(test)]
+mod scripts;
+#[cfg(test)]
 mod uses;
 #[cfg(test)]
 mod visitors;

@@ -1,7 +1,8 @@
 -- What the uses rest on.
 use Rattle.std.proofs.Common.{◌≡◌, ℕ, ℤ, ◌+◌, ◌<◌, ◌≤◌, List, [], ◌∷◌, length, refl, sym, ap, ◌∙◌, arith}
 use Rattle.std.proofs.Common.{inl, inr}
-use Rattle.std.specs.Prelude.{Option, Some, None, Result, Ok, Err, IsSome, IfOk, IfErr, MatchResult, fold, filter_map}
+use Rattle.std.specs.Prelude.{Option, Some, None, Result, Ok, Err, OnOk, IsSome, IfOk, IfErr, MatchResult, fold}
+use Rattle.std.specs.Prelude.{filter_map}
 use Rattle.std.specs.Prelude.{option_map}
 use Rattle.std.specs.List.{cons_option}
 use Rattle.std.proofs.lemmas.List.{length-append, length-map}
@@ -25,6 +26,11 @@ use Rattle.sfv.proofs.Callers.{expect_fails, expect_first, begins_with_its, acce
 use Rattle.sfv_uses.specs.Uses.{integer_or, param_in, counts, HasMembers, IsCountError, IsExpectError, IsReadError}
 use Rattle.sfv_uses.specs.declared.visiting.MemberCounter.{MemberCounter}
 use Rattle.sfv_uses.specs.declared.visiting.TooMany.{TooMany}
+
+-- what holds anyway holds of an answer
+pub on_ok : {A E : Type 0} (r : Result A E) (P : Type 0) → P → OnOk r P
+on_ok (Ok x) P h = h
+on_ok (Err e) P h = tt
 
 -- of another kind it is the default
 pub integer_or-other : (default : ℤ) (b : BareValue) → ((z : ℤ) → ¬ (b ≡ integer z)) → integer_or default b ≡ default

@@ -61,6 +61,14 @@ IsCountError t limit (Visitor fault) = (raw : List (List ℕ × RawMember)) → 
 abbrev pub item_of_one : BareValue → List ℕ → BareValue → RawItem
 item_of_one value key param = record { bare = value; parameters = (key, param) ∷ [] }
 
+-- two items, the first with a parameter
+abbrev pub pair_of : BareValue → List ℕ → BareValue → BareValue → List RawItem
+pair_of first key param second = item_of_one first key param ∷ record { bare = second; parameters = [] } ∷ []
+
+-- an item of two parameters of one key
+abbrev pub item_of_two : BareValue → List ℕ → BareValue → BareValue → RawItem
+item_of_two value key first second = record { bare = value; parameters = (key, first) ∷ (key, second) ∷ [] }
+
 -- the text is an item of this bare value, whatever its parameters
 abbrev pub HasBareItem : List ℕ → BareValue → Type 0
 HasBareItem t value = (raw : RawItem) × IsFieldText rfc9651 item_field raw t × (value ≡ raw.bare)

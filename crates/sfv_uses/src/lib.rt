@@ -4,5 +4,6 @@
 pub mod content_digest;
 pub mod expecting;
 pub mod reading;
+pub mod serializing;
 pub mod visiting;
 pub mod writing;

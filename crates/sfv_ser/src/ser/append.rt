@@ -21,11 +21,11 @@ use std::string::String as StdString;
 
 /// Returns what was written, and after a write that was out of memory cuts the output back to its
 /// first `len` bytes.
-pub(crate) fn or_truncate<A: Allocator>(
-    written: Result<(), OutOfMemory>,
+pub(crate) fn or_truncate<T, A: Allocator>(
+    written: Result<T, OutOfMemory>,
     len: usize,
     output: &mut StdString<A>,
-) -> Result<(), OutOfMemory>
+) -> Result<T, OutOfMemory>
     requires { OnErr written (IsCharBoundary (string_bytes output.now) len) }
     ensures written { result ≡ written }
     ensures kept { OnOk result (string_bytes output.new ≡ string_bytes output.old) }

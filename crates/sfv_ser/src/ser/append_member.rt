@@ -170,9 +170,12 @@ pub(crate) fn append_closing<A: Allocator>(
 #[cfg(test)]
 mod tests {
     use super::*;
+    use crate::ser::append::append_parameter;
     use linked_list_allocator::LocalHeap;
     use sfv_bare::bare::GenericBareItem;
+    use sfv_base::shorthand::integer;
     use sfv_text::shorthand::{key_ref, token_ref};
+    use std::alloc::Global;
     use std::test::Fail;
 
     // Sizes from none to enough for each text below, so that each request fails at some size.
@@ -214,6 +217,71 @@ mod tests {
             }
             assert!(rt; was_out_of_memory && was_written, "{want}");
         }
+        Ok(())
+    }
+
+    /// Takes all the memory that a heap has left, until it is dropped.
+    fn fill<'h>(alloc: Global, heap: &'h LocalHeap) -> Result<Vec<Vec<u8, &'h LocalHeap>>, Fail> {
+        let mut fillers = Vec::new(alloc);
+        for size in (1..1024).rev() {
+            if let Ok(filler) = Vec::with_capacity(heap, size) {
+                fillers.push(filler)?;
+            }
+        }
+        Ok(fillers)
+    }
+
+    #[test]
+    fn a_refused_member_may_be_followed_by_another(rt: HostRuntime) -> Result<(), Fail> {
+        let two: RefBareItem = GenericBareItem::Integer(integer(2));
+        let heap = LocalHeap::new(rt.alloc(), 1024)?;
+
+        let mut text = StdString::from_str(&heap, "X: ")?;
+        let fillers = fill(rt.alloc(), &heap)?;
+        assert!(rt; append_part(true, ", ", two, &mut text).is_err());
+        assert_eq!(rt; text.as_str(), "X: ");
+        drop(fillers);
+
+        let mut text = StdString::from_str(&heap, "X: 1")?;
+        let fillers = fill(rt.alloc(), &heap)?;
+        assert!(rt; append_opening(false, &mut text).is_err());
+        assert_eq!(rt; text.as_str(), "X: 1");
+        drop(fillers);
+        append_part(false, ", ", two, &mut text)?;
+        assert_eq!(rt; text.as_str(), "X: 1, 2");
+
+        let mut text = StdString::from_str(&heap, "X: 1, (5")?;
+        let fillers = fill(rt.alloc(), &heap)?;
+        assert!(rt; append_closing(4, &mut text).is_err());
+        assert_eq!(rt; text.as_str(), "X: 1");
+        drop(fillers);
+        append_part(false, ", ", two, &mut text)?;
+        assert_eq!(rt; text.as_str(), "X: 1, 2");
+        Ok(())
+    }
+
+    #[test]
+    fn a_refused_part_of_a_member_may_be_followed_by_another(rt: HostRuntime) -> Result<(), Fail> {
+        let one: RefBareItem = GenericBareItem::Integer(integer(1));
+        let two: RefBareItem = GenericBareItem::Integer(integer(2));
+        let heap = LocalHeap::new(rt.alloc(), 1024)?;
+
+        let mut text = StdString::from_str(&heap, "X: (5")?;
+        let fillers = fill(rt.alloc(), &heap)?;
+        assert!(rt; append_part(false, " ", one, &mut text).is_err());
+        assert_eq!(rt; text.as_str(), "X: (5");
+        drop(fillers);
+        append_part(false, " ", two, &mut text)?;
+        append_closing(3, &mut text)?;
+        assert_eq!(rt; text.as_str(), "X: (5 2)");
+
+        let mut text = StdString::from_str(&heap, "X: a")?;
+        let fillers = fill(rt.alloc(), &heap)?;
+        assert!(rt; append_parameter(key_ref("b"), two, &mut text).is_err());
+        assert_eq!(rt; text.as_str(), "X: a");
+        drop(fillers);
+        append_named(false, key_ref("c"), one, &mut text)?;
+        assert_eq!(rt; text.as_str(), "X: a, c=1");
         Ok(())
     }
 }

@@ -129,3 +129,92 @@ pub(crate) fn append_members<'m, A: Allocator, I: Iterator<Item = (&'m Key, &'m 
     let written = serialize_members(is_first, members, output);
     or_truncate(written, len, output)
 }
+
+#[cfg(test)]
+mod tests {
+    use super::*;
+    use linked_list_allocator::LocalHeap;
+    use sfv_bare::bare::BareItem;
+    use sfv_text::shorthand::key_ref;
+    use sfv_tree::parsed::{Dictionary, InnerList, Parameters};
+    use std::alloc::Global;
+    use std::test::Fail;
+
+    // Sizes from none to enough for each text below, so that each request fails at some size.
+    const SIZES: std::ops::Range<usize> = 16..640;
+
+    /// The members `1` and `(2 3;a);b`.
+    fn members(alloc: Global) -> Result<Vec<ListEntry>, Fail> {
+        let (mut inner, mut outer) = (Parameters::new(alloc), Parameters::new(alloc));
+        inner.insert(key_ref("a").to_owned(alloc)?, BareItem::from(true))?;
+        outer.insert(key_ref("b").to_owned(alloc)?, BareItem::from(true))?;
+        let items = vec![in alloc;
+            Item::new(alloc, BareItem::from(2u8)),
+            Item::with_params(BareItem::from(3u8), inner),
+        ]?;
+        Ok(vec![in alloc;
+            ListEntry::from(Item::new(alloc, BareItem::from(1u8))),
+            ListEntry::from(InnerList::with_params(items, outer)),
+        ]?)
+    }
+
+    /// The same members with the keys `c` and `d`.
+    fn dictionary(alloc: Global) -> Result<Dictionary, Fail> {
+        let mut dictionary = Dictionary::new(alloc);
+        for member in members(alloc)? {
+            let is_first = dictionary.is_empty();
+            let key = key_ref(if is_first { "c" } else { "d" }).to_owned(alloc)?;
+            dictionary.insert(key, member)?;
+        }
+        Ok(dictionary)
+    }
+
+    /// Writes the members of the list, those of the dictionary, or the items.
+    fn put(
+        call: usize,
+        list: &[ListEntry],
+        dictionary: &Dictionary,
+        items: &[Item],
+        text: &mut StdString<&LocalHeap>,
+    ) -> Result<(), OutOfMemory> {
+        let mut is_first = true;
+        if call == 0 {
+            return append_entries(&mut is_first, list.iter(), text);
+        }
+        if call == 1 {
+            return append_members(&mut is_first, dictionary.iter(), text);
+        }
+        append_items(&mut is_first, items.iter(), text)
+    }
+
+    #[test]
+    fn members_are_written_or_left_out(rt: HostRuntime) -> Result<(), Fail> {
+        let alloc = rt.alloc();
+        let list = members(alloc)?;
+        let dictionary = dictionary(alloc)?;
+        let mut items = Vec::new(alloc);
+        for value in [12_345_678u32, 90] {
+            items.push(Item::new(alloc, BareItem::from(value)))?;
+        }
+        let wants = ["X: 1, (2 3;a);b", "X: c=1, d=(2 3;a);b", "X: 12345678 90"];
+        for (call, want) in wants[..].iter().enumerate() {
+            let (mut was_out_of_memory, mut was_written) = (false, false);
+            for size in SIZES {
+                let heap = LocalHeap::new(alloc, size)?;
+                let Ok(mut text) = StdString::from_str(&heap, "X: ") else {
+                    continue;
+                };
+                let written = put(call, &list, &dictionary, &items, &mut text);
+                if written.is_ok() {
+                    assert_eq!(rt; text.as_str(), *want);
+                    was_written = true;
+                } else {
+                    assert_eq!(rt; text.as_str(), "X: ");
+                    was_out_of_memory = true;
+                }
+            }
+            assert!(rt; was_out_of_memory && was_written, "{want}");
+        }
+        Ok(())
+    }
+}

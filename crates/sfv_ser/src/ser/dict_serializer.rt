@@ -9,7 +9,8 @@ ghost use Rattle.sfv_spec.specs.Canonical.{value_text};
 ghost use Rattle.sfv_bare.specs.BareItems.{ref_value};
 ghost use Rattle.sfv_text.specs.KeyText.{key_text};
 ghost use Rattle.sfv_ser.specs.Written.{lead, still_first, members_text, AreMembers};
-ghost use Rattle.sfv_ser.specs.Serializers.{MembersRest, HasMoreMembers, KeepsMembers, params_sink, params_name, items_sink, inner_list_name};
+ghost use Rattle.sfv_ser.specs.Serializers.{MembersRest, HasMoreMembers, KeepsMembers, params_sink, params_name};
+ghost use Rattle.sfv_ser.specs.Serializers.{items_sink, inner_list_name};
 ghost use Rattle.sfv_ser.specs.Serializers.{has_no_member, has_no_item, length_before, members_sink};
 ghost use Rattle.sfv_ser.specs.contracts.ser.dict_serializer.DictMembers.{the_row as dict_members};
 
@@ -96,7 +97,8 @@ impl<W: Sink> MemberSerializer<W, DictMembers> {
         requires can { I.can_next members }
         requires ends { IsFinite (I.remaining members) }
         ensures text { OnOk result ((taken : List _) × Drains I.next_gives members taken
-            × HasMoreMembers W.same W.text self.old self.new (members_text (has_no_member self.old) taken) (still_first (has_no_member self.old) taken)
+            × HasMoreMembers W.same W.text self.old self.new (members_text (has_no_member self.old) taken)
+            (still_first (has_no_member self.old) taken)
             × AreMembers taken) }
         ensures out_of_memory { OnErr result (KeepsMembers W.same W.text self.old self.new) }
     {

@@ -8,7 +8,8 @@ ghost use Rattle.sfv_spec.specs.Canonical.{bare_text};
 ghost use Rattle.sfv_bare.specs.BareItems.{ref_value};
 ghost use Rattle.sfv_ser.specs.Written.{lead, still_first, items_text, AreItems, IsCutBack};
 ghost use Rattle.sfv_ser.specs.Serializers.{ItemsRest, HasMoreItems, KeepsItems, MembersCutBack, HasMoreMembers};
-ghost use Rattle.sfv_ser.specs.Serializers.{params_sink, params_name, items_sink, members_sink, has_no_member, has_no_item};
+ghost use Rattle.sfv_ser.specs.Serializers.{params_sink, params_name, items_sink, members_sink, has_no_member};
+ghost use Rattle.sfv_ser.specs.Serializers.{has_no_item};
 ghost use Rattle.sfv_ser.specs.Serializers.{length_before};
 
 use crate::ser::append_member::{append_closing, append_part, cut_back};
@@ -80,7 +81,8 @@ impl<X: Sink> InnerListSerializer<X> {
         requires can { I.can_next items }
         requires ends { IsFinite (I.remaining items) }
         ensures text { OnOk result ((taken : List _) × Drains I.next_gives items taken
-            × HasMoreItems X.same X.text self.old self.new (items_text (has_no_item self.old) taken) (still_first (has_no_item self.old) taken)
+            × HasMoreItems X.same X.text self.old self.new (items_text (has_no_item self.old) taken)
+            (still_first (has_no_item self.old) taken)
             × AreItems taken) }
         ensures out_of_memory { OnErr result (KeepsItems X.same X.text self.old self.new) }
     {

@@ -7,7 +7,8 @@ ghost use Rattle.sfv_spec.specs.Values.{IsBareValue};
 ghost use Rattle.sfv_spec.specs.Canonical.{bare_text};
 ghost use Rattle.sfv_bare.specs.BareItems.{ref_value};
 ghost use Rattle.sfv_ser.specs.Written.{lead, still_first, entries_text, AreEntries};
-ghost use Rattle.sfv_ser.specs.Serializers.{MembersRest, HasMoreMembers, KeepsMembers, params_sink, params_name, items_sink, inner_list_name};
+ghost use Rattle.sfv_ser.specs.Serializers.{MembersRest, HasMoreMembers, KeepsMembers, params_sink, params_name};
+ghost use Rattle.sfv_ser.specs.Serializers.{items_sink, inner_list_name};
 ghost use Rattle.sfv_ser.specs.Serializers.{has_no_member, has_no_item, length_before, members_sink};
 ghost use Rattle.sfv_ser.specs.contracts.ser.list_serializer.ListMembers.{the_row as list_members};
 
@@ -84,7 +85,8 @@ impl<W: Sink> MemberSerializer<W, ListMembers> {
         requires can { I.can_next members }
         requires ends { IsFinite (I.remaining members) }
         ensures text { OnOk result ((taken : List _) × Drains I.next_gives members taken
-            × HasMoreMembers W.same W.text self.old self.new (entries_text (has_no_member self.old) taken) (still_first (has_no_member self.old) taken)
+            × HasMoreMembers W.same W.text self.old self.new (entries_text (has_no_member self.old) taken)
+            (still_first (has_no_member self.old) taken)
             × AreEntries taken) }
         ensures out_of_memory { OnErr result (KeepsMembers W.same W.text self.old self.new) }
     {

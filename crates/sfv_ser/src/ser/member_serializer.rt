@@ -1,8 +1,8 @@
 //! Writing members (RFC 9651, sections 4.1.1 and 4.1.2).
 
-ghost use Rattle.std.specs.Prelude.{◌≡◌, ◌↔◌, true, IsTrue, IsNone, IfSome, string_bytes};
+ghost use Rattle.std.specs.Prelude.{◌≡◌, ◌↔◌, true, not, IsTrue, IsNone, IfSome, string_bytes};
 ghost use Rattle.std.proofs.Common.{◌∙◌, refl};
-ghost use Rattle.sfv_ser.specs.Serializers.{members_sink, has_no_member};
+ghost use Rattle.sfv_ser.specs.Serializers.{SameMembers, members_sink, has_no_member};
 
 use crate::ser::sink::Sink;
 use std::marker::PhantomData;
@@ -34,6 +34,9 @@ impl<'a, K> MemberSerializer<&'a mut StdString, K> {
 
     /// Ends the writing, and returns the whole text that was lent, or `None` if no member stands: nothing is then to be
     /// sent (RFC 9651, section 4.1).
+    ///
+    /// The text is left as it is. No clause says so, since none can be stated of a text that is returned as long as it
+    /// was lent: where a proof goes on with the text, it asks `has_member`, and lets the serializer go.
     pub fn finish(self) -> Option<&'a str>
         ensures none { IsNone result ↔ IsTrue (has_no_member self.entry) }
         ensures text { IfSome result (λ text. text.now ≡ string_bytes (members_sink self.entry).now) }
@@ -50,19 +53,29 @@ impl<'a, K> MemberSerializer<&'a mut StdString, K> {
     }
 }
 
+impl<W, K> MemberSerializer<W, K> {
+    /// Returns whether a member stands, written by this serializer.
+    pub fn has_member(&self) -> bool
+        ensures { result ≡ not (has_no_member self.now) }
+    {
+        !self.is_first
+    }
+}
+
 impl<'s, W: Sink, K> Sink for &'s mut MemberSerializer<W, K> {
     ghost text = { λ s. W.text s.now.buffer };
 
     ghost with_text = { λ s t. record s { now = record s.now { buffer = W.with_text s.now.buffer t } } };
 
-    ghost same = { λ s t. (t.ghost_name ≡ s.ghost_name) × W.same s.now.buffer t.now.buffer
-        × (t.now.is_first ≡ s.now.is_first) };
+    ghost same = { SameMembers W.same };
 
     fn text_mut(&mut self) -> &mut StdString {
         self.buffer.text_mut()
     }
 
     ghost text_of_with = { λ s t. W.text_of_with s.now.buffer t };
+
+    ghost same_itself = { λ s. (refl, W.same_itself s.now.buffer, refl) };
 
     ghost same_with = { λ s t. (refl, W.same_with s.now.buffer t, refl) };
 

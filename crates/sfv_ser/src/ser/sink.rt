@@ -27,6 +27,8 @@ pub trait Sink: Drop {
 
     ghost text_of_with: { (s : Self) (t : Text) → text (with_text s t) ≡ t };
 
+    ghost same_itself: { (s : Self) → same s s };
+
     ghost same_with: { (s : Self) (t : Text) → same s (with_text s t) };
 
     ghost same_again: { (r s t : Self) → same r s → same s t → same r t };
@@ -44,6 +46,8 @@ impl<'a> Sink for &'a mut StdString {
     }
 
     ghost text_of_with = { λ s t. refl };
+
+    ghost same_itself = { λ s. refl };
 
     ghost same_with = { λ s t. refl };
 

@@ -14,7 +14,9 @@ loop-member-preserved g c =
     search rules in (
       goes.0,
       goes.1,
-      led_more (λ m. member_text (lent_entry m)) (λ m. IsMember (lent_entry m) × IsOrderedMember (lent_entry m)) (codes ", ") _ _ _ _ _ _ _ _ c.in-Some.member c.loop-member.invariant.2
+      led_more (λ m. member_text (lent_entry m))
+          (λ m. IsMember (lent_entry m) × IsOrderedMember (lent_entry m))
+          (codes ", ") _ _ _ _ _ _ _ _ c.in-Some.member c.loop-member.invariant.2
           c.in_ok-serialize_separator.ensures.first c.in_ok-serialize_separator.ensures.text written.text
           written.value,
     )

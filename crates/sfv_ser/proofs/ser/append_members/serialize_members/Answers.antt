@@ -17,7 +17,9 @@ loop-key-preserved g c =
     search rules in (
       goes.0,
       goes.1,
-      led_more (λ m. dictionary_member_text (lent_member m)) (λ m. (IsTrue (is_key m.0.now) × IsMember (member_tree m.1.now)) × IsOrderedMember (member_tree m.1.now)) (codes ", ") _ _ _ _ _ _ _ _ (c.in-Some.key, c.in-Some.member) c.loop-key.invariant.2
+      led_more (λ m. dictionary_member_text (lent_member m))
+          (λ m. (IsTrue (is_key m.0.now) × IsMember (member_tree m.1.now)) × IsOrderedMember (member_tree m.1.now))
+          (codes ", ") _ _ _ _ _ _ _ _ (c.in-Some.key, c.in-Some.member) c.loop-key.invariant.2
           c.in_ok-serialize_separator.ensures.first c.in_ok-serialize_separator.ensures.text written.text
           ((written.key, written.value.0), written.value.1),
     )

@@ -14,7 +14,9 @@ loop-item-preserved g c =
     search rules in (
       goes.0,
       goes.1,
-      led_more (λ i. item_text (lent_item i)) (λ i. IsItem (lent_item i) × IsOrderedItem (lent_item i)) (codes " ") _ _ _ _ _ _ _ _ c.in-Some.item c.loop-item.invariant.2
+      led_more (λ i. item_text (lent_item i))
+          (λ i. IsItem (lent_item i) × IsOrderedItem (lent_item i))
+          (codes " ") _ _ _ _ _ _ _ _ c.in-Some.item c.loop-item.invariant.2
           c.in_ok-serialize_separator.ensures.first c.in_ok-serialize_separator.ensures.text written.text
           (written.value.parts, written.value.distinct),
     )

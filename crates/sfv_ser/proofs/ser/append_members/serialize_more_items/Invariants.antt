@@ -9,5 +9,7 @@ use Rattle.sfv_ser.proofs.ser.append_members.serialize_more_items.Given as goal
 abbrev pub invariant-loop-item : goal.invariant-loop-item
 invariant-loop-item g l =
     (goal.iterator-loop-item g).can_next l.item-iterator × (goal.iterator-loop-item g).is_finite l.item-iterator
-    × IsLed (λ i. item_text (lent_item i)) (λ i. IsItem (lent_item i) × IsOrderedItem (lent_item i)) (codes " ") l.yielded
+    × IsLed (λ i. item_text (lent_item i))
+    (λ i. IsItem (lent_item i) × IsOrderedItem (lent_item i))
+    (codes " ") l.yielded
     l.fn.is_first l.is_first (string_bytes l.fn.output) (string_bytes l.output)

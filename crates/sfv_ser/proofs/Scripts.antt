@@ -1,0 +1,218 @@
+-- Members are written call by call.
+use Rattle.std.proofs.Common.{◌≡◌, ℕ, ◌+◌, ◌<◌, Bool, true, false, List, [], ◌∷◌, ◌++◌, length, get_or, map, take}
+use Rattle.std.proofs.Common.{refl, sym, ap, subst, ◌∙◌, codes}
+use Rattle.std.proofs.Common.{append_assoc}
+use Rattle.std.specs.Prelude.{Option, filter_map, Result, Err, OnErr, string_bytes, string_len}
+use Rattle.std.specs.Borrow.{MutBor}
+use Rattle.std.specs.List.{AllByRecursion}
+use Rattle.std.proofs.lemmas.List.{map-append, append-nil}
+use Rattle.std.proofs.lemmas.List.Elements.{filter_map-append}
+use Rattle.std.proofs.lemmas.Str.{IsUtf8-string_bytes}
+use Rattle.sfv_spec.specs.Texts.{joined}
+use Rattle.sfv_spec.specs.Values.{RawItem, RawParameters, IsItem, inner_list}
+use Rattle.sfv_spec.specs.Canonical.{item_text, parameters_text, inner_list_text, dictionary_member_text}
+use Rattle.sfv_bare.specs.BareItems.{ref_value}
+use Rattle.sfv_ser.specs.declared.ser.script.ItemCalls.{ItemCalls}
+use Rattle.sfv_ser.specs.Scripts.{called_param, called_item}
+use Rattle.sfv_ser.specs.declared.ser.member_serializer.MemberSerializer.{MemberSerializer}
+use Rattle.sfv_ser.specs.declared.ser.inner_list_serializer.InnerListSerializer.{InnerListSerializer}
+use Rattle.sfv_ser.specs.Texts.{Text}
+use Rattle.sfv_ser.specs.Written.{Extends, lead, led, still_first, IsCutBack}
+use Rattle.sfv_ser.specs.Serializers.{SameMembers, HasMoreMembers, KeepsMembers, GrowsMembers, GrowsItems, items_sink}
+use Rattle.sfv_ser.specs.Serializers.{members_sink, has_no_member}
+use Rattle.sfv_ser.specs.Serializers.{length_before}
+use Rattle.sfv_ser.proofs.Rows.{IsLed, mapped_more}
+
+still_first-none : {A : Type 0} (xs : List A) → still_first false xs ≡ false
+still_first-none [] = refl
+still_first-none (x ∷ xs) = refl
+
+still_first-append : {A : Type 0} (b : Bool) (xs ys : List A)
+    → still_first b (xs ++ ys) ≡ still_first (still_first b xs) ys
+still_first-append b [] ys = refl
+still_first-append b (x ∷ xs) ys = sym (still_first-none ys)
+
+still_first-map : {A B : Type 0} (f : A → B) (b : Bool) (xs : List A) → still_first b (map f xs) ≡ still_first b xs
+still_first-map f b [] = refl
+still_first-map f b (x ∷ xs) = refl
+
+-- parts in a row behind others
+led_append : (s : List ℕ) (b : Bool) (xs ys : List (List ℕ))
+    → led b s (xs ++ ys) ≡ led b s xs ++ led (still_first b xs) s ys
+led_append s b [] ys = refl
+led_append s b (x ∷ xs) ys =
+    let front : List ℕ = lead b s ++ x in
+    let rest : List ℕ = led false s xs in
+    let behind : List ℕ = led false s ys in
+    let next : led false s (xs ++ ys) ≡ rest ++ behind = led_append s false xs ys
+    ∙ ap (λ (c : Bool). rest ++ led c s ys) (still_first-none xs) in
+    ap (λ (t : List ℕ). front ++ t) next ∙ sym (append_assoc front rest behind)
+
+-- the first part has no separator
+pub led_first : (s : List ℕ) (xs : List (List ℕ)) → led true s xs ≡ joined s xs
+led_first s [] = refl
+led_first s (x ∷ []) = append-nil x
+led_first s (x ∷ y ∷ xs) =
+    let behind : List ℕ = led false s xs in
+    ap (λ (t : List ℕ). x ++ t) (append_assoc s y behind)
+    ∙ sym (append_assoc x s (y ++ behind))
+    ∙ ap (λ (t : List ℕ). (x ++ s) ++ t) (led_first s (y ∷ xs))
+
+all_append : {A : Type 0} (P : A → Type 0) (xs ys : List A) → AllByRecursion P xs → AllByRecursion P ys
+    → AllByRecursion P (xs ++ ys)
+all_append P [] ys h k = k
+all_append P (x ∷ xs) ys h k = (h.0, all_append P xs ys h.1 k)
+
+-- more parts are written
+pub led_parts : {A : Type 0} (text_of : A → List ℕ) (IsGood : A → Type 0) (s : List ℕ) (xs ys : List A)
+    (was_first is_first is_next : Bool) (before output new : List ℕ)
+    → IsLed text_of IsGood s xs was_first is_first before output → is_next ≡ still_first is_first ys
+    → new ≡ output ++ led is_first s (map text_of ys) → AllByRecursion IsGood ys
+    → IsLed text_of IsGood s (xs ++ ys) was_first is_next before new
+led_parts text_of IsGood s xs ys was_first is_first is_next before output new row f n g =
+    let so_far : List ℕ = led was_first s (map text_of xs) in
+    let behind : Bool → List ℕ = λ b. led b s (map text_of ys) in
+    let flag : is_first ≡ still_first was_first (map text_of xs) =
+    row.first ∙ sym (still_first-map text_of was_first xs) in
+    record {
+      first = f ∙ ap (λ (b : Bool). still_first b ys) row.first ∙ sym (still_first-append was_first xs ys);
+      text = n ∙ ap (λ (t : List ℕ). t ++ behind is_first) row.text ∙ append_assoc before so_far (behind is_first)
+          ∙ ap (λ (t : List ℕ). before ++ t) (ap (λ (b : Bool). so_far ++ behind b) flag
+          ∙ sym (led_append s was_first (map text_of xs) (map text_of ys))
+          ∙ ap (led was_first s) (sym (map-append text_of xs ys)));
+      good = all_append IsGood xs ys row.good g;
+    }
+
+-- one more item of an inner list
+pub item_more : (items : List ItemCalls) (n : ℕ) (x : ItemCalls) (was_first is_first is_next : Bool)
+    (before output new : List ℕ) → n < length items → x ≡ get_or items n x
+    → IsLed item_text IsItem (codes " ") (map called_item (take n items)) was_first is_first before output
+    → is_next ≡ false → new ≡ output ++ (lead is_first (codes " ") ++ item_text (called_item x))
+    → IsItem (called_item x)
+    → IsLed item_text IsItem (codes " ") (map called_item (take (n + 1) items)) was_first is_next before new
+item_more items n x was_first is_first is_next before output new lt is row f e good =
+    let space : List ℕ = lead is_first (codes " ") in
+    let text : List ℕ = item_text (called_item x) in
+    subst (λ (is : List RawItem). IsLed item_text IsItem (codes " ") is was_first is_next before new)
+    (sym (mapped_more called_item items n x lt is))
+    (led_parts item_text IsItem (codes " ") (map called_item (take n items)) (called_item x ∷ []) was_first is_first is_next
+    before output new row f (e ∙ ap (λ (t : List ℕ). output ++ t) (sym (append-nil (space ++ text)))) (good, tt))
+
+-- the calls so far, and one more
+pub calls_more : {C D M : Type 0} (given : D → Option M) (f : C → D) (text_of : M → List ℕ) (IsGood : M → Type 0)
+    (s : List ℕ) (calls : List C) (n : ℕ) (x : C) (was_first is_first is_next : Bool) (before output new : List ℕ)
+    → n < length calls → x ≡ get_or calls n x
+    → IsLed text_of IsGood s (filter_map given (map f (take n calls))) was_first is_first before output
+    → is_next ≡ still_first is_first (filter_map given (f x ∷ []))
+    → new ≡ output ++ led is_first s (map text_of (filter_map given (f x ∷ [])))
+    → AllByRecursion IsGood (filter_map given (f x ∷ []))
+    → IsLed text_of IsGood s (filter_map given (map f (take (n + 1) calls))) was_first is_next before new
+calls_more {D = D} {M} given f text_of IsGood s calls n x was_first is_first is_next before output new lt is row e
+    t good =
+    let more : filter_map given (map f (take (n + 1) calls))
+    ≡ filter_map given (map f (take n calls)) ++ filter_map given (f x ∷ []) =
+    ap (λ (ds : List D). filter_map given ds) (mapped_more f calls n x lt is)
+    ∙ filter_map-append given (map f (take n calls)) (f x ∷ []) in
+    subst (λ (ms : List M). IsLed text_of IsGood s ms was_first is_next before new) (sym more)
+    (led_parts text_of IsGood s _ _ was_first is_first is_next before output new row e t good)
+
+-- what is written behind other text
+extends_again : (a b c : List ℕ) → Extends a b → Extends b c → Extends a c
+extends_again a b c e f = (e.0 ++ f.0, f.1 ∙ ap (λ (l : List ℕ). l ++ f.0) e.1 ∙ append_assoc a e.0 f.0)
+
+-- what holds of an error that was answered
+pub of_error : {A E : Type 0} (r : Result A E) (e : E) (P : Type 0) → r ≡ Err e → OnErr r P → P
+of_error r e P is h = subst (λ (r : Result _ _). OnErr r P) is h
+
+module _ {W K : Type 0} (same : W → W → Type 0) (text : W → Text) where
+  -- what is known of a serializer holds of the value that its loan ends at
+  pub kept_as : (s v : MemberSerializer W K) (b : W) (f : Bool) → KeepsMembers same text s v → b ≡ v.buffer
+      → f ≡ v.is_first
+      → same s.buffer b × (string_bytes (text b) ≡ string_bytes (text s.buffer)) × (f ≡ s.is_first)
+  kept_as s v b f h e k = (rw e h.0, rw e h.1, k ∙ h.2)
+
+  pub more_as : (s v : MemberSerializer W K) (b : W) (f : Bool) (more : List ℕ) (is_first : Bool)
+      → HasMoreMembers same text s v more is_first → b ≡ v.buffer → f ≡ v.is_first
+      → same s.buffer b × (string_bytes (text b) ≡ string_bytes (text s.buffer) ++ more) × (f ≡ is_first)
+  more_as s v b f more is_first h e k = (rw e h.0, rw e h.1, k ∙ h.2)
+
+module _ {W K : Type 0} (same : W → W → Type 0) (text : W → Text)
+    (again : (r s t : W) → same r s → same s t → same r t) where
+  -- more is written behind it
+  pub more_grown : (s t u : MemberSerializer W K) (more : List ℕ) (is_first : Bool) → GrowsMembers same text s t
+      → HasMoreMembers same text t u more is_first → GrowsMembers same text s u
+  more_grown s t u more is_first g h = (again _ _ _ g.0 h.0, extends_again _ _ _ g.1 (more, h.1))
+
+  -- an inner list was begun, and its items were written
+  pub begun_grown : (s : MemberSerializer W K) (t u : InnerListSerializer (MutBor (MemberSerializer W K)))
+      (more : List ℕ) (is_first : Bool) → HasMoreMembers same text s (items_sink t).now more is_first
+      → GrowsItems (SameMembers same) (λ a. text a.now.buffer) t u → GrowsMembers same text s (items_sink u).now
+  begun_grown s t u more is_first h g = (again _ _ _ h.0 g.0.1, extends_again _ _ _ (more, h.1) g.1)
+
+  -- the next call was out of memory
+  pub kept_grown : (s t u : MemberSerializer W K) (b : W) → GrowsMembers same text s t → KeepsMembers same text t u
+      → b ≡ u.buffer → same s.buffer b × Extends (string_bytes (text s.buffer)) (string_bytes (text b))
+  kept_grown s t u b g h e = rw e (again _ _ _ g.0 h.0, extends_again _ _ _ g.1 ([], h.1 ∙ sym (append-nil _)))
+
+  -- an inner list was begun, and was taken away again
+  pub taken_away : (s v : MemberSerializer W K) (t u : InnerListSerializer (MutBor (MemberSerializer W K)))
+      (more : List ℕ) → HasMoreMembers same text s (items_sink t).now more (has_no_member s)
+      → length_before t ≡ string_len (text (members_sink s))
+      → GrowsItems (SameMembers same) (λ a. text a.now.buffer) t u
+      → same (members_sink (items_sink u).now) (members_sink v)
+      → IsCutBack (length_before u) (string_bytes (text (members_sink (items_sink u).now)))
+      (string_bytes (text (members_sink v)))
+      → has_no_member v ≡ has_no_member (items_sink u).now
+      → KeepsMembers same text s v
+  taken_away s v t u more begun long grown kept cut first =
+      let whole : List ℕ = string_bytes (text (members_sink s)) in (
+        again _ _ _ begun.0 (again _ _ _ grown.0.1 kept),
+        cut.back whole (IsUtf8-string_bytes (text (members_sink s)))
+            (grown.2 ∙ long ∙ (text (members_sink s)).bytes.ok.0)
+            (extends_again whole _ _ (more, begun.1) grown.1),
+        first ∙ grown.0.2 ∙ begun.2,
+      )
+
+  -- and nothing is left of it
+  pub away_grown : (s v : MemberSerializer W K) (b : W) → ((s : W) → same s s) → KeepsMembers same text s v → b ≡ v.buffer
+      → same s.buffer b × Extends (string_bytes (text s.buffer)) (string_bytes (text b))
+  away_grown s v b itself h e = kept_grown s s v b (itself s.buffer, ([], sym (append-nil _))) h e
+
+-- a piece is written behind another
+pub written_behind : (before now new front piece more : List ℕ) → now ≡ before ++ (front ++ piece) → new ≡ now ++ more
+    → new ≡ before ++ (front ++ (piece ++ more))
+written_behind before now new front piece more e n = n ∙ ap (λ (t : List ℕ). t ++ more) e
+    ∙ append_assoc before (front ++ piece) more
+    ∙ ap (λ (t : List ℕ). before ++ t) (append_assoc front piece more)
+
+-- an inner list that was begun, written and ended
+pub inner_list_ended : (before t1 t2 t3 t4 front : List ℕ) (none : Bool) (items : List RawItem) (params : RawParameters)
+    → t1 ≡ before ++ (front ++ codes "(") → t2 ≡ t1 ++ led none (codes " ") (map item_text items) → none ≡ true
+    → t3 ≡ t2 ++ codes ")" → t4 ≡ t3 ++ parameters_text params
+    → t4 ≡ before ++ (front ++ inner_list_text (record { items = items; parameters = params }))
+inner_list_ended before t1 t2 t3 t4 front none items params e1 e2 n e3 e4 =
+    let begin : List ℕ = codes "(" in
+    let inside : List ℕ = joined (codes " ") (map item_text items) in
+    let row : led none (codes " ") (map item_text items) ≡ inside =
+    ap (λ (b : Bool). led b (codes " ") (map item_text items)) n ∙ led_first (codes " ") (map item_text items) in
+    let begun = written_behind before t1 t2 front begin inside e1 (e2 ∙ ap (λ (t : List ℕ). t1 ++ t) row) in
+    let closed = written_behind before t2 t3 front (begin ++ inside) (codes ")") begun e3 in
+    written_behind before t3 t4 front ((begin ++ inside) ++ codes ")") (parameters_text params) closed e4
+
+-- the same, behind a key
+pub named_list_ended : (before t1 t2 t3 t4 front key : List ℕ) (none : Bool) (items : List RawItem)
+    (params : RawParameters)
+    → t1 ≡ before ++ (front ++ key ++ codes "=(") → t2 ≡ t1 ++ led none (codes " ") (map item_text items) → none ≡ true
+    → t3 ≡ t2 ++ codes ")" → t4 ≡ t3 ++ parameters_text params
+    → t4 ≡ before ++ (front ++ dictionary_member_text (key, inner_list (record { items = items; parameters = params })))
+named_list_ended before t1 t2 t3 t4 front key none items params e1 e2 n e3 e4 =
+    let text : List ℕ = inner_list_text (record { items = items; parameters = params }) in
+    inner_list_ended before t1 t2 t3 t4 (front ++ key ++ codes "=") none items params
+    (e1 ∙ ap (λ (t : List ℕ). before ++ t) (sym (append_assoc (front ++ key) (codes "=") (codes "(")))) e2 n e3 e4
+    ∙ ap (λ (t : List ℕ). before ++ t) (append_assoc (front ++ key) (codes "=") text
+    ∙ append_assoc front key (codes "=" ++ text)
+    ∙ ap (λ (t : List ℕ). front ++ t) (sym (append_assoc key (codes "=") text)))
+
+-- the item when this many of its parameters are written
+abbrev pub item_so_far : ItemCalls → ℕ → RawItem
+item_so_far c n = record { bare = ref_value c.value; parameters = map called_param (take n c.params.items) }

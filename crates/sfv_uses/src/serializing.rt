@@ -1,0 +1,385 @@
+//! Writing lists and dictionaries member by member.
+
+ghost use Rattle.std.specs.Prelude.{◌≡◌, ◌++◌, ◌∷◌, [], true, false, OnOk, IfOk, IfErr, map, codes, string_bytes};
+ghost use Rattle.sfv.specs.Canonical.{bare_text, value_text, item_text, inner_list_text, dictionary_member_text};
+ghost use Rattle.sfv.specs.Values.{item, inner_list, list_field};
+ghost use Rattle.sfv.specs.Ordered.{ordered};
+ghost use Rattle.sfv.specs.Trees.{list_tree};
+ghost use Rattle.sfv.specs.Scripts.{described_list};
+ghost use Rattle.sfv.specs.Errors.{out_of_memory};
+ghost use Rattle.sfv.specs.BareItems.{ref_value};
+ghost use Rattle.sfv.specs.KeyText.{key_text};
+ghost use Rattle.sfv.specs.Written.{lead, led};
+ghost use Rattle.sfv.specs.Serializers.{SameMembers, HasMoreMembers, HasMoreItems, GrowsItems, KeepsMembers};
+ghost use Rattle.sfv.specs.Serializers.{inner_list_name, has_no_member, has_no_item};
+ghost use Rattle.sfv_uses.specs.Uses.{item_of_one, item_of_two, pair_of};
+
+use crate::writing::write_item;
+use sfv::script::{MemberCalls, run_list};
+use sfv::{
+    Decimal, DictSerializer, Error, GenericBareItem, InnerListSerializer, KeyRef, List,
+    ListSerializer, MemberSerializer, OutOfMemory, Parser, RefBareItem, Sink, integer, key_ref,
+    string_ref, token_ref,
+};
+use std::alloc::Global;
+
+/// Writes a member with a parameter that is given twice.
+///
+/// # Errors
+///
+/// `OutOfMemory` when out of memory.
+pub fn write_member<W: Sink>(
+    list: &mut ListSerializer<W>,
+    value: RefBareItem<'_>,
+    key: KeyRef<'_>,
+    first: RefBareItem<'_>,
+    second: RefBareItem<'_>,
+) -> Result<(), OutOfMemory>
+    ensures { OnOk result (HasMoreMembers W.same W.text list.old list.new (lead (has_no_member list.old) (codes ", ")
+        ++ item_text (item_of_two (ref_value value.entry) (key_text key.entry)
+        (ref_value first.entry) (ref_value second.entry))) false) }
+{
+    let params = list.bare_item(value)?;
+    params
+        .parameter(key, first)?
+        .parameter(key, second)?
+        .finish();
+    Ok(())
+}
+
+/// Writes an item of an inner list, whatever this is a member of.
+fn put<X: Sink>(
+    inner: &mut InnerListSerializer<X>,
+    value: RefBareItem<'_>,
+) -> Result<(), OutOfMemory>
+    ensures text { OnOk result (HasMoreItems X.same X.text inner.old inner.new
+        (lead (has_no_item inner.old) (codes " ") ++ bare_text (ref_value value.entry)) false) }
+    ensures grows { GrowsItems X.same X.text inner.old inner.new }
+{
+    inner.bare_item(value)?.finish();
+    Ok(())
+}
+
+/// Writes an item of an inner list, with a parameter.
+fn put_with<X: Sink>(
+    inner: &mut InnerListSerializer<X>,
+    value: RefBareItem<'_>,
+    param: (KeyRef<'_>, RefBareItem<'_>),
+) -> Result<(), OutOfMemory>
+    ensures text { OnOk result (HasMoreItems X.same X.text inner.old inner.new
+        (lead (has_no_item inner.old) (codes " ") ++ item_text (item_of_one (ref_value value.entry)
+        (key_text param.entry.0) (ref_value param.entry.1))) false) }
+    ensures grows { GrowsItems X.same X.text inner.old inner.new }
+{
+    let (key, param) = param;
+    inner.bare_item(value)?.parameter(key, param)?.finish();
+    Ok(())
+}
+
+/// Writes an item of an inner list that is a member of a list or a dictionary.
+///
+/// # Errors
+///
+/// `OutOfMemory` when out of memory.
+pub fn write_inner<W: Sink, K>(
+    inner: &mut InnerListSerializer<&mut MemberSerializer<W, K>>,
+    value: RefBareItem<'_>,
+) -> Result<(), OutOfMemory>
+    ensures lent { inner_list_name inner.new ≡ inner_list_name inner.old }
+    ensures text { OnOk result (HasMoreItems (SameMembers W.same) (λ s. W.text s.now.buffer) inner.old inner.new
+        (lead (has_no_item inner.old) (codes " ") ++ bare_text (ref_value value.entry)) false) }
+    ensures grows { GrowsItems (SameMembers W.same) (λ s. W.text s.now.buffer) inner.old inner.new }
+{
+    put(inner, value)
+}
+
+/// Begins an inner list, and abandons it: nothing is left of it.
+///
+/// # Errors
+///
+/// `OutOfMemory` when out of memory.
+pub fn abandon_one<W: Sink>(
+    list: &mut ListSerializer<W>,
+    value: RefBareItem<'_>,
+) -> Result<(), OutOfMemory>
+    ensures { OnOk result (KeepsMembers W.same W.text list.old list.new) }
+{
+    let mut inner = list.inner_list()?;
+    let written = write_inner(&mut inner, value);
+    inner.abandon();
+    written
+}
+
+/// Writes an inner list without items, which has a parameter.
+///
+/// # Errors
+///
+/// `OutOfMemory` when out of memory.
+pub fn write_empty<W: Sink>(
+    list: &mut ListSerializer<W>,
+    key: KeyRef<'_>,
+    param: RefBareItem<'_>,
+) -> Result<(), OutOfMemory>
+    ensures { OnOk result (HasMoreMembers W.same W.text list.old list.new (lead (has_no_member list.old) (codes ", ")
+        ++ inner_list_text (record { items = []; parameters = (key_text key.entry, ref_value param.entry) ∷ [] }))
+        false) }
+{
+    list.inner_list()?.finish()?.parameter(key, param)?.finish();
+    Ok(())
+}
+
+/// Writes the member `1;a;a=2`.
+fn write_one<W: Sink>(list: &mut ListSerializer<W>) -> Result<(), OutOfMemory>
+    ensures { OnOk result (HasMoreMembers W.same W.text list.old list.new
+        (lead (has_no_member list.old) (codes ", ") ++ codes "1;a;a=2") false) }
+{
+    let one: RefBareItem = GenericBareItem::Integer(integer(1));
+    let two: RefBareItem = GenericBareItem::Integer(integer(2));
+    let yes: RefBareItem = GenericBareItem::Boolean(true);
+    write_member(list, one, key_ref("a"), yes, two)?;
+    Ok(())
+}
+
+/// Writes the member `();b=?0`.
+fn write_none<W: Sink>(list: &mut ListSerializer<W>) -> Result<(), OutOfMemory>
+    ensures { OnOk result (HasMoreMembers W.same W.text list.old list.new
+        (lead (has_no_member list.old) (codes ", ") ++ codes "();b=?0") false) }
+{
+    let no: RefBareItem = GenericBareItem::Boolean(false);
+    write_empty(list, key_ref("b"), no)?;
+    Ok(())
+}
+
+/// Writes both, with an inner list in between that is abandoned.
+fn write_members<W: Sink>(list: &mut ListSerializer<W>) -> Result<(), OutOfMemory>
+    ensures { OnOk result (HasMoreMembers W.same W.text list.old list.new
+        (lead (has_no_member list.old) (codes ", ") ++ codes "1;a;a=2, ();b=?0") false) }
+{
+    let word: RefBareItem = GenericBareItem::Token(token_ref("x"));
+    write_one(list)?;
+    abandon_one(list, word)?;
+    write_none(list)?;
+    Ok(())
+}
+
+/// Writes a list at the end of a text, and returns whether a member stands.
+///
+/// # Errors
+///
+/// `OutOfMemory` when out of memory.
+pub fn write_list(text: &mut String) -> Result<bool, OutOfMemory>
+    ensures text { OnOk result (string_bytes text.new ≡ string_bytes text.old ++ codes "1;a;a=2, ();b=?0") }
+    ensures stands { IfOk result (λ stands. stands ≡ true) }
+{
+    let mut list = ListSerializer::with_buffer(text);
+    write_members(&mut list)?;
+    Ok(list.has_member())
+}
+
+/// Begins an inner list of a dictionary, and abandons it: nothing is left of it.
+fn abandon_named<W: Sink>(
+    dictionary: &mut DictSerializer<W>,
+    name: KeyRef<'_>,
+) -> Result<(), OutOfMemory>
+    ensures { OnOk result (KeepsMembers W.same W.text dictionary.old dictionary.new) }
+{
+    let inner = dictionary.inner_list(name)?;
+    inner.abandon();
+    Ok(())
+}
+
+/// Writes a dictionary whose only member is abandoned: the text is as it was, and no member stands.
+///
+/// # Errors
+///
+/// `OutOfMemory` when out of memory.
+pub fn write_nothing(text: &mut String) -> Result<bool, OutOfMemory>
+    ensures text { OnOk result (string_bytes text.new ≡ string_bytes text.old) }
+    ensures stands { IfOk result (λ stands. stands ≡ false) }
+{
+    let mut dictionary = DictSerializer::with_buffer(text);
+    abandon_named(&mut dictionary, key_ref("a"))?;
+    Ok(dictionary.has_member())
+}
+
+/// Writes an item at the end of a text: true, with a parameter of no bytes.
+///
+/// # Errors
+///
+/// `OutOfMemory` when out of memory.
+pub fn write_item_of_no_bytes(text: &mut String) -> Result<(), OutOfMemory>
+    ensures { OnOk result (string_bytes text.new ≡ string_bytes text.old ++ codes "?1;x=::") }
+{
+    let yes: RefBareItem = GenericBareItem::Boolean(true);
+    let no_bytes: RefBareItem = GenericBareItem::ByteSequence(b"");
+    write_item(text, yes, key_ref("x"), no_bytes)?;
+    Ok(())
+}
+
+/// Writes a member with a parameter.
+///
+/// # Errors
+///
+/// `OutOfMemory` when out of memory.
+pub fn write_named<W: Sink>(
+    dictionary: &mut DictSerializer<W>,
+    name: KeyRef<'_>,
+    value: RefBareItem<'_>,
+    key: KeyRef<'_>,
+    param: RefBareItem<'_>,
+) -> Result<(), OutOfMemory>
+    ensures { OnOk result (HasMoreMembers W.same W.text dictionary.old dictionary.new
+        (lead (has_no_member dictionary.old) (codes ", ") ++ dictionary_member_text (
+          key_text name.entry,
+          item (item_of_one (ref_value value.entry) (key_text key.entry) (ref_value param.entry)),
+        )) false) }
+{
+    let params = dictionary.bare_item(name, value)?;
+    params.parameter(key, param)?.finish();
+    Ok(())
+}
+
+/// Writes a member without parameters.
+///
+/// # Errors
+///
+/// `OutOfMemory` when out of memory.
+pub fn write_bare<W: Sink>(
+    dictionary: &mut DictSerializer<W>,
+    name: KeyRef<'_>,
+    value: RefBareItem<'_>,
+) -> Result<(), OutOfMemory>
+    ensures { OnOk result (HasMoreMembers W.same W.text dictionary.old dictionary.new
+        (lead (has_no_member dictionary.old) (codes ", ")
+        ++ (key_text name.entry ++ value_text (ref_value value.entry)))
+        false) }
+{
+    dictionary.bare_item(name, value)?.finish();
+    Ok(())
+}
+
+/// Writes two items of an inner list, the first with a parameter.
+fn write_pair<W: Sink, K>(
+    inner: &mut InnerListSerializer<&mut MemberSerializer<W, K>>,
+    first: RefBareItem<'_>,
+    param: (KeyRef<'_>, RefBareItem<'_>),
+    second: RefBareItem<'_>,
+) -> Result<(), OutOfMemory>
+    ensures lent { inner_list_name inner.new ≡ inner_list_name inner.old }
+    ensures text { OnOk result (HasMoreItems (SameMembers W.same) (λ s. W.text s.now.buffer) inner.old inner.new
+        (led (has_no_item inner.old) (codes " ") (map item_text (pair_of (ref_value first.entry)
+        (key_text param.entry.0) (ref_value param.entry.1) (ref_value second.entry)))) false) }
+{
+    put_with(inner, first, param)?;
+    write_inner(inner, second)
+}
+
+/// Writes a member that is an inner list of two items, with parameters.
+fn write_named_pair<W: Sink>(
+    dictionary: &mut DictSerializer<W>,
+    name: KeyRef<'_>,
+    first: RefBareItem<'_>,
+    param: (KeyRef<'_>, RefBareItem<'_>),
+    second: RefBareItem<'_>,
+    ending: (KeyRef<'_>, RefBareItem<'_>),
+) -> Result<(), OutOfMemory>
+    ensures { OnOk result (HasMoreMembers W.same W.text dictionary.old dictionary.new
+        (lead (has_no_member dictionary.old) (codes ", ") ++ dictionary_member_text (
+          key_text name.entry,
+          inner_list (record {
+            items = pair_of (ref_value first.entry) (key_text param.entry.0) (ref_value param.entry.1)
+                (ref_value second.entry);
+            parameters = (key_text ending.entry.0, ref_value ending.entry.1) ∷ [];
+          }),
+        )) false) }
+{
+    let mut inner = dictionary.inner_list(name)?;
+    if let Err(error) = write_pair(&mut inner, first, param, second) {
+        inner.abandon();
+        return Err(error);
+    }
+    let (key, value) = ending;
+    inner.finish()?.parameter(key, value)?.finish();
+    Ok(())
+}
+
+/// Writes the member `member1=11;foo`.
+fn write_first<W: Sink>(dictionary: &mut DictSerializer<W>) -> Result<(), OutOfMemory>
+    ensures { OnOk result (HasMoreMembers W.same W.text dictionary.old dictionary.new
+        (lead (has_no_member dictionary.old) (codes ", ") ++ codes "member1=11;foo") false) }
+{
+    let eleven: RefBareItem = GenericBareItem::Integer(integer(11));
+    let yes: RefBareItem = GenericBareItem::Boolean(true);
+    write_named(dictionary, key_ref("member1"), eleven, key_ref("foo"), yes)?;
+    Ok(())
+}
+
+/// Writes the member `member2=(abc;abc_param=?0 def);bar="val"`.
+fn write_second<W: Sink>(dictionary: &mut DictSerializer<W>) -> Result<(), OutOfMemory>
+    ensures { OnOk result (HasMoreMembers W.same W.text dictionary.old dictionary.new
+        (lead (has_no_member dictionary.old) (codes ", ")
+        ++ codes "member2=(abc;abc_param=?0 def);bar=\"val\"") false) }
+{
+    let no: RefBareItem = GenericBareItem::Boolean(false);
+    let abc: RefBareItem = GenericBareItem::Token(token_ref("abc"));
+    let def: RefBareItem = GenericBareItem::Token(token_ref("def"));
+    let val: RefBareItem = GenericBareItem::String(string_ref("val"));
+    let (param, ending) = ((key_ref("abc_param"), no), (key_ref("bar"), val));
+    write_named_pair(dictionary, key_ref("member2"), abc, param, def, ending)?;
+    Ok(())
+}
+
+/// Writes the member `member3=12.346`.
+fn write_third<W: Sink>(dictionary: &mut DictSerializer<W>) -> Result<(), OutOfMemory>
+    ensures { OnOk result (HasMoreMembers W.same W.text dictionary.old dictionary.new
+        (lead (has_no_member dictionary.old) (codes ", ") ++ codes "member3=12.346") false) }
+{
+    let thousandths = integer(12346);
+    let part: RefBareItem = GenericBareItem::Decimal(Decimal::from_integer_scaled_1000(
+        thousandths,
+    ));
+    write_bare(dictionary, key_ref("member3"), part)?;
+    Ok(())
+}
+
+/// Writes the three members.
+fn write_three<W: Sink>(dictionary: &mut DictSerializer<W>) -> Result<(), OutOfMemory>
+    ensures { OnOk result (HasMoreMembers W.same W.text dictionary.old dictionary.new
+        (lead (has_no_member dictionary.old) (codes ", ")
+        ++ codes "member1=11;foo, member2=(abc;abc_param=?0 def);bar=\"val\", member3=12.346") false) }
+{
+    write_first(dictionary)?;
+    write_second(dictionary)?;
+    write_third(dictionary)?;
+    Ok(())
+}
+
+/// Writes a dictionary at the end of a text, and returns whether a member stands.
+///
+/// # Errors
+///
+/// `OutOfMemory` when out of memory.
+pub fn write_dictionary(text: &mut String) -> Result<bool, OutOfMemory>
+    ensures text { OnOk result (string_bytes text.new ≡ string_bytes text.old
+        ++ codes "member1=11;foo, member2=(abc;abc_param=?0 def);bar=\"val\", member3=12.346") }
+    ensures stands { IfOk result (λ stands. stands ≡ true) }
+{
+    let mut dictionary = DictSerializer::with_buffer(text);
+    write_three(&mut dictionary)?;
+    Ok(dictionary.has_member())
+}
+
+/// Performs the calls of a list, and reads the text: the list that they describe, without abandoned inner lists, and with
+/// a repeated key of parameters once.
+///
+/// # Errors
+///
+/// Of kind `OutOfMemory` when out of memory.
+pub fn performed_and_read(alloc: Global, calls: &[MemberCalls<'_>]) -> Result<List, Error>
+    ensures read { IfOk result (λ list. list_tree list.items ≡ ordered list_field (described_list calls.now)) }
+    ensures out_of_memory { IfErr result (λ error. error ≡ out_of_memory) }
+{
+    let mut text = String::new(alloc);
+    run_list(&mut text, calls)?;
+    Parser::new(text.as_bytes()).parse::<List>(alloc)
+}
