@@ -10,6 +10,7 @@ pub use Rattle.sfv_base.specs.declared.error.ParseError.{ParseError}
 pub use Rattle.sfv_base.specs.declared.error.ParseError.TheVariants as parse_errors
 pub use Rattle.sfv_bare.specs.declared.bare.GenericBareItem.{GenericBareItem}
 pub use Rattle.sfv_bare.specs.declared.bare.GenericBareItem.TheVariants as bare_items
+pub use Rattle.sfv_bare.specs.declared.bare.StringFromInput.{StringFromInput}
 pub use Rattle.sfv_bare.specs.declared.bare.Version.{Version}
 pub use Rattle.sfv_bare.specs.declared.bare.Version.TheVariants as versions
 pub use Rattle.sfv_tree.specs.declared.parsed.Item.{Item}
@@ -20,7 +21,12 @@ pub use Rattle.sfv_tree.specs.declared.visitor.ItemFault.{ItemFault}
 pub use Rattle.sfv_tree.specs.declared.visitor.ItemFault.TheVariants as item_faults
 pub use Rattle.sfv_tree.specs.declared.visitor.BareItemType.{BareItemType}
 pub use Rattle.sfv_tree.specs.declared.visitor.BareItemType.TheVariants as bare_item_types
+pub use Rattle.sfv_tree.specs.declared.visitor.item_builder.ItemBuilder.{ItemBuilder}
+pub use Rattle.sfv_tree.specs.declared.visitor.list_builder.ListBuilder.{ListBuilder}
+pub use Rattle.sfv_tree.specs.declared.visitor.dictionary_builder.DictionaryBuilder.{DictionaryBuilder}
 pub use Rattle.sfv_visit.specs.declared.expect_item.ExpectItem.{ExpectItem}
+pub use Rattle.sfv_visit.specs.declared.item_visitor.ItemVisitorWith.{ItemVisitorWith}
+pub use Rattle.sfv_visit.specs.declared.parameter_visitor.ParameterVisitorWith.{ParameterVisitorWith}
 pub use Rattle.sfv_ser.specs.declared.ser.script.ParamCall.{ParamCall}
 pub use Rattle.sfv_ser.specs.declared.ser.script.ItemCalls.{ItemCalls}
 pub use Rattle.sfv_ser.specs.declared.ser.script.MemberCalls.{MemberCalls}

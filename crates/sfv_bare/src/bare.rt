@@ -27,7 +27,8 @@ use std::string::String as StdString;
 ///
 /// `BareItem` owns its text, `RefBareItem` borrows it, and `BareItemFromInput` borrows what of it
 /// stands in the input. Each is compared by its value, and a copy has the same value; what is borrowed stays
-/// borrowed. A copy of a number, a boolean or a borrowed text takes no memory.
+/// borrowed. A copy of a number, a boolean or a borrowed text takes no memory (of a display string that was read no
+/// clause says so).
 ///
 /// `From` gives the bare item of its kind, and `From` a number the integer of the same number. `TryFrom` a
 /// number fails with `ErrorKind::OutOfRange` and no index, exactly if an integer (section 3.3.1) doesn't hold

@@ -325,22 +325,24 @@ module _ (edition : Edition) (kind : FieldKind) where
       on (Ok raw) h = inl (raw, (read_is_accepted edition kind t raw).0 h)
       on (Err e) h = inr (e.kind, length t - length e.rest, fault_is_at t e h)
 
+  -- a rule applies, or something is begun that can't go on, and not both
+  not_both : (t : List ℕ) (f g : SyntaxFault) (i j : ℕ) → RuledFault edition kind t f i → ¬ BegunFault edition kind t g j
+  not_both t f g i j r b =
+      let a = ruled_given t f i r in
+      let c = begun_given t g j b in
+      let same = same_fault t a.0.fault c.0.fault a.0.read c.0.read in
+      true≢false (sym c.1 ∙ sym (ap (λ (e : Fault). e.exact) same) ∙ a.1)
+
   pub ruled_or_at_reach : (t : List ℕ) (f : SyntaxFault) (i : ℕ) → IsFaultAt edition kind t f i
-      → RuledFault edition kind t f i
+      → (RuledFault edition kind t f i × ((g : SyntaxFault) (j : ℕ) → ¬ BegunFault edition kind t g j))
       ⊎ (((g : SyntaxFault) (j : ℕ) → ¬ RuledFault edition kind t g j) × IsReach edition kind t i)
-  ruled_or_at_reach t f i (inl r) = inl r
+  ruled_or_at_reach t f i (inl r) = inl (r, λ g j b. not_both t f g i j r b)
   ruled_or_at_reach t f i (inr (inr w)) = inr (w.no_rule, w.reach)
   ruled_or_at_reach t f i (inr (inl b)) =
       let a = begun_given t f i b in
       let reach = at_the_reach t a.0.fault a.0.read a.1 in
       let here : length t - length a.0.fault.rest ≡ i = omega (arith, a.0.here) in
-      inr (
-        λ g j r.
-            let c = ruled_given t g j r in
-            let same = same_fault t a.0.fault c.0.fault a.0.read c.0.read in
-            true≢false (sym a.1 ∙ ap (λ (e : Fault). e.exact) same ∙ c.1),
-        subst (IsReach edition kind t) here reach.1,
-      )
+      inr (λ g j r. not_both t g f j i r b, subst (IsReach edition kind t) here reach.1)
 
 -- where a bare item is wanted true can stand, as it can where a question mark can and two parentheses can't
 pub true_is_wanted : TrueIsWanted

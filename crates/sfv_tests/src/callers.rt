@@ -3,12 +3,12 @@
 ghost use Rattle.std.specs.Prelude.{◌≡◌, ◌++◌, ◌∷◌, ◌↔◌, [], pos, neg_ℤ, OnOk, IfOk, IsTrue, string_bytes};
 ghost use Rattle.std.specs.Cmp.Lexicographic.{slice_cmp};
 ghost use Rattle.std.specs.Ordering.{nat_cmp, int_cmp};
-ghost use Rattle.sfv_spec.specs.Canonical.{item_text};
-ghost use Rattle.sfv_base.specs.Numbers.{integer_of, thousandths_of, seconds_of};
-ghost use Rattle.sfv_bare.specs.BareItems.{bare_value, ref_value, input_value, read_text};
-ghost use Rattle.sfv_text.specs.KeyText.{key_text};
-ghost use Rattle.sfv_tree.specs.Trees.{item_tree};
-ghost use Rattle.sfv_spec.specs.Values.{integer};
+ghost use Rattle.sfv.specs.Canonical.{item_text};
+ghost use Rattle.sfv.specs.NumberValues.{integer_of, thousandths_of, seconds_of};
+ghost use Rattle.sfv.specs.BareItems.{bare_value, ref_value, input_value, read_text};
+ghost use Rattle.sfv.specs.KeyText.{key_text};
+ghost use Rattle.sfv.specs.Trees.{item_tree};
+ghost use Rattle.sfv.specs.Values.{integer};
 
 use sfv::{
     BareItem, BareItemFromInput, Date, Decimal, Error, Integer, Item, KeyRef, OutOfMemory,

@@ -3,10 +3,12 @@
 use linked_list_allocator::LocalHeap;
 use sfv::visitor::{BareItemType, Event, ItemBuilder, ItemFault, Visitor};
 use sfv::{
-    Error, ErrorKind, GenericBareItem, ParseError, Parser, StringFromInput, Version, integer,
+    BareItemFromInput, Error, ErrorKind, GenericBareItem, ParseError, Parser, StringFromInput,
+    Version, integer,
 };
 use std::alloc::{AllocError, Allocator};
 use std::borrow::CowStr;
+use std::fmt::Write;
 use std::test::Fail;
 
 /// Counts its events, and fails at one of them, or at its end.
@@ -89,13 +91,13 @@ impl<'de, A: Allocator> Visitor<'de> for Teller<A> {
         match event {
             Event::BareItem(item) => {
                 self.text.push_str("bare ")?;
-                self.text.push_str(kind(item.as_integer().is_some()))
+                push_value(&mut self.text, &item)
             }
             Event::Parameter(key, value) => {
                 self.text.push_str(", ")?;
                 self.text.push_str(key.as_str())?;
                 self.text.push('=')?;
-                self.text.push_str(kind(value.as_integer().is_some()))
+                push_value(&mut self.text, &value)
             }
             Event::ParametersEnd => self.text.push_str(", end"),
             Event::Entry => self.text.push_str("; entry "),
@@ -115,11 +117,21 @@ impl<'de, A: Allocator> Visitor<'de> for Teller<A> {
     }
 }
 
-fn kind(is_integer: bool) -> &'static str {
-    if is_integer { "integer" } else { "other" }
+/// Writes an integer, a boolean or a token.
+fn push_value<A: Allocator>(
+    text: &mut String<A>,
+    value: &BareItemFromInput<'_>,
+) -> Result<(), AllocError> {
+    match value {
+        GenericBareItem::Integer(number) => write!(text, "{number}").map_err(|_| AllocError),
+        GenericBareItem::Boolean(true) => text.push_str("true"),
+        GenericBareItem::Boolean(false) => text.push_str("false"),
+        GenericBareItem::Token(token) => text.push_str(token.as_str()),
+        _ => text.push_str("other"),
+    }
 }
 
-/// Says whether the string or the display string that it visits is a slice of the input.
+/// Says whether a string or a display string that it visits is a slice of the input.
 #[derive(Drop)]
 struct Lender {
     is_borrowed: bool,
@@ -150,6 +162,12 @@ impl<'de> Visitor<'de> for Lender {
             Event::BareItem(GenericBareItem::DisplayString(CowStr::Borrowed(_))) => {
                 self.is_borrowed = true;
             }
+            Event::Parameter(_, GenericBareItem::String(StringFromInput::Borrowed(_))) => {
+                self.is_borrowed = true;
+            }
+            Event::Parameter(_, GenericBareItem::DisplayString(CowStr::Borrowed(_))) => {
+                self.is_borrowed = true;
+            }
             _ => {}
         }
         Ok(())
@@ -162,13 +180,17 @@ impl<'de> Visitor<'de> for Lender {
 
 #[test]
 fn texts_without_an_escape_are_borrowed(rt: HostRuntime) {
-    let rows: [(&[u8], bool); 6] = [
+    let rows: [(&[u8], bool); 10] = [
         (b"\"a%b\"", true),
         (b"\"\"", true),
         (b"\"a\\\\b\"", false),
         (b"%\"a\\b\"", true),
         (b"%\"\"", true),
         (b"%\"a%20b\"", false),
+        (b"1;a=\"b\"", true),
+        (b"1;a=\"b\\\\\"", false),
+        (b"1;a=%\"b\"", true),
+        (b"1;a=%\"%20\"", false),
     ];
     for (input, is_borrowed) in rows {
         let lender = Lender { is_borrowed: false };
@@ -244,7 +266,7 @@ fn events_stand_in_their_order(rt: HostRuntime) -> Result<(), Fail> {
     };
     assert_eq!(rt;
         text.as_str(),
-        "bare integer, a=other, b=integer, a=integer, end"
+        "bare 1, a=true, b=2, a=3, end"
     );
     Ok(())
 }
@@ -291,6 +313,25 @@ fn failures_within_dictionaries(rt: HostRuntime) {
 }
 
 #[test]
+fn inner_list_that_is_cut_off_has_no_end(rt: HostRuntime) {
+    // Five events stand in front of the fault; the end of the inner list would be the sixth.
+    for failing_event in 1..6u64 {
+        let counter = Counter::failing_at(failing_event);
+        let answer = Parser::new(b"(a").parse_list_with_visitor(rt.alloc(), counter);
+        assert!(rt; matches!(answer, Err(ParseError::Visitor(n)) if n == failing_event));
+    }
+    let answer = Parser::new(b"(a").parse_list_with_visitor(rt.alloc(), Counter::failing_at(6));
+    let Err(ParseError::Syntax(error)) = answer else {
+        assert!(rt; false);
+        return;
+    };
+    assert_eq!(rt;
+        error,
+        Error::with_kind(ErrorKind::UnterminatedInnerList, Some(2))
+    );
+}
+
+#[test]
 fn empty_lists_have_no_event(rt: HostRuntime) {
     let mut counter = Counter::failing_at(0);
     counter.fails_to_finish = true;
@@ -319,7 +360,7 @@ fn events_of_members_stand_in_their_order(rt: HostRuntime) -> Result<(), Fail> {
     };
     assert_eq!(rt;
         text.as_str(),
-        "; entry a list item bare integer, enditem bare other, y=other, end list end, end; entry b item bare other, end"
+        "; entry a list item bare 1, enditem bare x, y=true, end list end, end; entry b item bare true, end"
     );
     let teller = Teller {
         text: String::new(rt.alloc()),
@@ -330,7 +371,7 @@ fn events_of_members_stand_in_their_order(rt: HostRuntime) -> Result<(), Fail> {
     };
     assert_eq!(rt;
         text.as_str(),
-        "; entry item bare integer, a=other, end; entry list  list end, end"
+        "; entry item bare 1, a=true, end; entry list  list end, end"
     );
     Ok(())
 }
@@ -345,7 +386,7 @@ fn want_of_memory_is_the_visitors_answer(rt: HostRuntime) -> Result<(), Fail> {
         };
         match Parser::new(b"1;a;b=2").parse_item_with_visitor(rt.alloc(), teller) {
             Ok(text) => {
-                assert_eq!(rt; text.as_str(), "bare integer, a=other, b=integer, end");
+                assert_eq!(rt; text.as_str(), "bare 1, a=true, b=2, end");
                 was_answered = true;
             }
             Err(ParseError::Visitor(AllocError)) => was_out_of_memory = true,

@@ -51,8 +51,10 @@ pub enum Event<'de> {
 
 /// Visits each part of a field while it is read, and answers at its end.
 ///
-/// A visitor may fail at a part or at its answer, and that ends the reading. A contract gives a visitor by what it may
-/// do in each state, and sees an event as its value, whether a text in it is borrowed or owned.
+/// A visitor may fail at a part or at its answer, and that ends the reading. It visits each value of a repeated key, of
+/// which only the last counts, and so mustn't fail for one that another may follow (the module's head says what to do).
+/// A contract gives a visitor by what it may do in each state, and sees an event as its value, whether a text in it is
+/// borrowed or owned.
 ///
 /// `Some` of a visitor visits as that one does and answers `Some` of its answer; `None` takes every event and answers
 /// `None`.

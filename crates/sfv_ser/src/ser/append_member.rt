@@ -264,16 +264,18 @@ mod tests {
     fn a_refused_part_of_a_member_may_be_followed_by_another(rt: HostRuntime) -> Result<(), Fail> {
         let one: RefBareItem = GenericBareItem::Integer(integer(1));
         let two: RefBareItem = GenericBareItem::Integer(integer(2));
+        let six: RefBareItem = GenericBareItem::Integer(integer(6));
+        let seven: RefBareItem = GenericBareItem::Integer(integer(7));
         let heap = LocalHeap::new(rt.alloc(), 1024)?;
 
         let mut text = StdString::from_str(&heap, "X: (5")?;
         let fillers = fill(rt.alloc(), &heap)?;
-        assert!(rt; append_part(false, " ", one, &mut text).is_err());
+        assert!(rt; append_part(false, " ", six, &mut text).is_err());
         assert_eq!(rt; text.as_str(), "X: (5");
         drop(fillers);
-        append_part(false, " ", two, &mut text)?;
+        append_part(false, " ", seven, &mut text)?;
         append_closing(3, &mut text)?;
-        assert_eq!(rt; text.as_str(), "X: (5 2)");
+        assert_eq!(rt; text.as_str(), "X: (5 7)");
 
         let mut text = StdString::from_str(&heap, "X: a")?;
         let fillers = fill(rt.alloc(), &heap)?;

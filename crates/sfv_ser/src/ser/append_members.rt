@@ -137,11 +137,11 @@ mod tests {
     use sfv_bare::bare::BareItem;
     use sfv_text::shorthand::key_ref;
     use sfv_tree::parsed::{Dictionary, InnerList, Parameters};
-    use std::alloc::Global;
+    use std::alloc::{AllocError, Global};
     use std::test::Fail;
 
-    // Sizes from none to enough for each text below, so that each request fails at some size.
-    const SIZES: std::ops::Range<usize> = 16..640;
+    // How much of a heap is taken, from nothing to almost all, so that each request fails at some of these.
+    const TAKEN: std::ops::Range<usize> = 1..1024;
 
     /// The members `1` and `(2 3;a);b`.
     fn members(alloc: Global) -> Result<Vec<ListEntry>, Fail> {
@@ -199,19 +199,26 @@ mod tests {
         let wants = ["X: 1, (2 3;a);b", "X: c=1, d=(2 3;a);b", "X: 12345678 90"];
         for (call, want) in wants[..].iter().enumerate() {
             let (mut was_out_of_memory, mut was_written) = (false, false);
-            for size in SIZES {
-                let heap = LocalHeap::new(alloc, size)?;
-                let Ok(mut text) = StdString::from_str(&heap, "X: ") else {
+            for taken in TAKEN {
+                let heap = LocalHeap::new(alloc, 1024)?;
+                let mut text = StdString::from_str(&heap, "X: ")?;
+                let filler: Result<Vec<u8, &LocalHeap>, AllocError> = Vec::with_capacity(
+                    &heap,
+                    taken,
+                );
+                let Ok(filler) = filler else {
                     continue;
                 };
                 let written = put(call, &list, &dictionary, &items, &mut text);
+                drop(filler);
                 if written.is_ok() {
-                    assert_eq!(rt; text.as_str(), *want);
                     was_written = true;
                 } else {
                     assert_eq!(rt; text.as_str(), "X: ");
+                    put(call, &list, &dictionary, &items, &mut text)?;
                     was_out_of_memory = true;
                 }
+                assert_eq!(rt; text.as_str(), *want);
             }
             assert!(rt; was_out_of_memory && was_written, "{want}");
         }
