@@ -49,11 +49,11 @@ pub use Rattle.sfv_spec.proofs.Runs.{runs_fold, entry_in, keys_in_events, entrie
 pub use Rattle.sfv_spec.proofs.Kept.{last_kept, fold_members, fold_parameters, idle_within}
 pub use Rattle.sfv_spec.proofs.Runs.{IsInside, member_inside}
 -- what a visitor that expects one bare item says of the field
-pub use Rattle.sfv.proofs.Expected.{expect_answers, expect_fails, expect_first}
+pub use Rattle.sfv.proofs.Expected.{expect_answers, expect_fails, expect_first, expect_only}
 -- an accepted item has the bare item that stands first in its text
 pub use Rattle.sfv.proofs.visits.First.{begins_with_its}
 -- what the builders answer is the value of the text
-pub use Rattle.sfv.proofs.built.Items.{built as item_built}
+pub use Rattle.sfv.proofs.built.Items.{built as item_built, built_fails as item_built_fails}
 pub use Rattle.sfv.proofs.built.Lists.{built_list as list_built}
 pub use Rattle.sfv.proofs.built.Dictionaries.{built_dictionary as dictionary_built}
 

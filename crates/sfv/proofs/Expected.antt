@@ -4,7 +4,7 @@ use Rattle.std.proofs.Common.{inl, inr}
 use Rattle.std.specs.Prelude.{ℕ, IfOk, MatchOption}
 use Rattle.std.proofs.lemmas.Option.{same_Some}
 use Rattle.sfv_spec.specs.Values.{Edition, item_field, BareValue, RawItem}
-use Rattle.sfv_spec.specs.Grammar.{IsFieldText, BeginsWithBareItem}
+use Rattle.sfv_spec.specs.Grammar.{IsFieldText, StandsFirst, BeginsWithBareItem}
 use Rattle.sfv_spec.specs.Events.{TreeEvent, bare_item, parameters_events, item_events}
 use Rattle.sfv_spec.specs.Visiting.{RunsTo, IsVisitorError}
 use Rattle.sfv_base.specs.declared.error.Error.{Error}
@@ -107,6 +107,12 @@ module _ {T : Type 0} (holds : T → BareValue) (fails : BareValue → ItemFault
           absurd (none first.0 first.1)
     ],
     λ fault h.
-        let k = h.2 value begins in
-        subst (λ (v : BareValue). fails v fault) k.1 (failure_is k.0 h.0 fault h.1 k.2),
+        let k = h.2 in
+        subst (λ (v : BareValue). fails v fault) (k.2 value begins) (failure_is k.0 h.0 fault h.1 k.3),
   )
+
+  -- and it fails only so: at a bare item that stands first
+  pub expect_only : (edition : Edition) (t : List ℕ) (fault : ItemFault)
+      → OfMade Made (VisitsFirst Takes Fails FinishFails edition t) (Visitor fault)
+      → (value : BareValue) × StandsFirst edition value t × fails value fault
+  expect_only edition t fault h = let k = h.2 in (k.0.bare, k.1, failure_is k.0 h.0 fault h.1 k.3)

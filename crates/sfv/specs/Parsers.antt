@@ -3,7 +3,7 @@ use Rattle.std.specs.Prelude.{◌≡◌, ◌≤◌, ⊤, ℕ, List, length, take
 use Rattle.std.specs.Borrow.{Bor}
 use Rattle.sfv_spec.specs.Values.{Edition, FieldKind, item_field, list_field, dictionary_field, RawField}
 use Rattle.sfv_spec.specs.Values.{BareValue, RawItem}
-use Rattle.sfv_spec.specs.Grammar.{IsFieldText, IsAccepted, BeginsWithBareItem}
+use Rattle.sfv_spec.specs.Grammar.{IsFieldText, IsAccepted, StandsFirst, BeginsWithBareItem}
 use Rattle.sfv_spec.specs.Events.{TreeEvent, bare_item, item_events, events}
 use Rattle.sfv_spec.specs.Visiting.{NeverFails, IsVisited, IsVisitorError, IsEarlyVisitorError}
 use Rattle.sfv_spec.specs.Faults.{SyntaxFault, trailing_characters_after_parsed_value, IsFaultAt}
@@ -92,16 +92,18 @@ IsVisitorErrorOf takes fails finish_fails edition kind t from (Visitor fault) =
     × ((kind ≡ item_field) ⊎ ((raw : RawField kind) → IsFieldText edition kind raw t → ⊥)
     → IsEarlyVisitorError takes fails finish_fails kind from fault)
 
--- A bare item that stands first in the text of an item is visited before any fault of what follows it: an error of the
--- text comes after the visitor has taken it, and an error of the visitor is one on some item of this bare value.
+-- A bare item that stands first in the text of an item, and ends there, is visited before any fault of what follows it:
+-- an error of the text comes after the visitor has taken it. An error of the visitor is one on some item whose bare item
+-- stands first, and is that one if it ends there.
 abbrev pub VisitsFirst : {S E : Type 0} → (S → TreeEvent → S → Type 0) → (S → TreeEvent → E → Type 0)
     → (S → E → Type 0) → Edition → List ℕ → S → ParseError E → Type 0
 VisitsFirst {S} takes fails finish_fails edition t from (Syntax e) =
     (e ≡ out_of_memory) ⊎ ((value : BareValue) → BeginsWithBareItem edition value t
     → (after : S) × takes from (bare_item value) after)
 VisitsFirst takes fails finish_fails edition t from (Visitor fault) =
-    (value : BareValue) → BeginsWithBareItem edition value t
-    → (raw : RawItem) × (raw.bare ≡ value) × IsVisitorError takes fails finish_fails from (item_events raw) fault
+    (raw : RawItem) × StandsFirst edition raw.bare t
+    × ((value : BareValue) → BeginsWithBareItem edition value t → raw.bare ≡ value)
+    × IsVisitorError takes fails finish_fails from (item_events raw) fault
 
 -- it is so of some visitor that is as it was made
 abbrev pub OfMade : {S X : Type 0} → (S → Type 0) → (S → X → Type 0) → X → Type 0

@@ -1,29 +1,48 @@
 -- A bare item that stands first in the text of an item is read, whatever follows where it ends.
-use Rattle.std.proofs.Common.{◌≡◌, List, [], ◌++◌, Ok, ℕ, refl, sym, ap, ◌∙◌, append_assoc}
-use Rattle.std.proofs.lemmas.List.{append-nil}
+use Rattle.std.proofs.Common.{◌≡◌, List, [], ◌++◌, length, take, drop, Ok, ℕ, refl, sym, ap, subst, ◌∙◌, append_assoc}
+use Rattle.std.proofs.Common.{arith}
+use Rattle.std.proofs.lemmas.List.{append-nil, take_at, take-append-drop, length-append, length-take-le}
 use Rattle.sfv_spec.specs.Ascii.{space}
 use Rattle.sfv_spec.specs.Classes.{is_space}
 use Rattle.sfv_spec.specs.Values.{Edition, BareValue}
-use Rattle.sfv_spec.specs.Grammar.{BeginsWithBareItem}
+use Rattle.sfv_spec.specs.Texts.{IsLongestBeginning}
+use Rattle.sfv_spec.specs.Grammar.{IsBareText, BeginsWithBareItem}
 use Rattle.sfv_reading.specs.Reader.{span}
 use Rattle.sfv_reading.specs.Bare.{bare_at}
 use Rattle.sfv_reading.specs.Items.{item_of}
+use Rattle.sfv_reading.specs.Claims.{BeginsWithBare}
 use Rattle.sfv_reading.proofs.Exact.{ended_apart}
 use Rattle.sfv_reading.proofs.complete.Combinators.{span_complete}
 use Rattle.sfv_reading.proofs.complete.Bare.{bare_complete}
 use Rattle.sfv_reading.proofs.complete.Items.{item_no}
 
 pub first_bare : (edition : Edition) (value : BareValue) (t : List ℕ) (h : BeginsWithBareItem edition value t)
-    → (span is_space t ≡ Ok (h.spaces, h.front ++ h.rest)) × (bare_at edition (h.front ++ h.rest) ≡ Ok (value, h.rest))
-first_bare edition value t h = (
-  ap (span is_space) (h.text ∙ append_assoc h.spaces h.front h.rest)
-      ∙ span_complete is_space h.spaces (h.front ++ h.rest) h.blank
-      (item_no space edition (item_of value []) h.front h.rest refl (record {
-        front = h.front;
-        back = [];
-        text = sym (append-nil h.front);
-        first = h.means;
-        second = record { pieces = []; text = refl; each = tt };
-      })),
-  bare_complete edition value h.front h.rest h.means (ended_apart h.rest h.ended),
-)
+    → (span is_space t ≡ Ok (h.first.spaces, h.first.front ++ h.first.rest))
+    × (bare_at edition (h.first.front ++ h.first.rest) ≡ Ok (value, h.first.rest))
+first_bare edition value t h =
+    let f = h.first in (
+      ap (span is_space) (f.text ∙ append_assoc f.spaces f.front f.rest)
+          ∙ span_complete is_space f.spaces (f.front ++ f.rest) f.blank
+          (item_no space edition (item_of value []) f.front f.rest refl (record {
+            front = f.front;
+            back = [];
+            text = sym (append-nil f.front);
+            first = f.means;
+            second = record { pieces = []; text = refl; each = tt };
+          })),
+      bare_complete edition value f.front f.rest f.means (ended_apart f.rest h.ended),
+    )
+
+-- and what is read is the longest text of one
+pub longest_read : (edition : Edition) (t : List ℕ) (value : BareValue) (rest : List ℕ)
+    → (h : BeginsWithBare edition t value rest)
+    → IsLongestBeginning (λ d. (any : BareValue) × IsBareText edition any d) (h.front ++ rest) (length h.front)
+longest_read edition t value rest h = record {
+  within = omega (arith, length-append h.front rest);
+  holds = (value, subst (IsBareText edition value) (sym (take_at h.front rest (length h.front) refl)) h.means);
+  longest = λ m more within w.
+      let some : (any : BareValue) × IsBareText edition any (take m (h.front ++ rest)) = w in
+      let short = h.longest (take m (h.front ++ rest)) (drop m (h.front ++ rest))
+      (h.text ∙ sym (take-append-drop m (h.front ++ rest))) some in
+      omega (arith, more, short, length-take-le m (h.front ++ rest) within);
+}

@@ -174,10 +174,15 @@ module _ {T : Type 0} (holds : T → BareValue) (fails : BareValue → ItemFault
   expected_first t (Err (Visitor fault)) h k value begins none =
       (expect_first holds fails rfc9651 t value begins none).1 fault k
 
--- what a reading with a visitor rejects, `parse` rejects
-pub read_failed : {O E : Type 0} (P : ParseError E → Type 0) (kind : FieldKind) (t : List ℕ)
-    → ((e : Error) → P (Syntax e) → IsParseError rfc9651 kind t e) → (r : Result O (ParseError E)) → IfErr r P
-    → IfErr r (IsReadError kind t)
-read_failed P kind t syntax (Ok value) h = tt
-read_failed P kind t syntax (Err (Syntax e)) h = syntax e h
-read_failed P kind t syntax (Err (Visitor fault)) h = tt
+-- what holds of the error alone
+pub of_error_alone : {A E : Type 0} (P : A → Type 0) (Q : E → Type 0) (r : Result A E) → MatchResult r P Q → IfErr r Q
+of_error_alone P Q (Ok value) h = tt
+of_error_alone P Q (Err e) h = h
+
+-- what a reading with a visitor rejects, `parse` rejects, or the visitor does
+pub read_failed : {O E : Type 0} (P Q : ParseError E → Type 0) (holds : E → Type 0) (kind : FieldKind) (t : List ℕ)
+    → ((e : Error) → P (Syntax e) → IsParseError rfc9651 kind t e) → ((f : E) → Q (Visitor f) → holds f)
+    → (r : Result O (ParseError E)) → IfErr r P → IfErr r Q → IfErr r (IsReadError holds kind t)
+read_failed P Q holds kind t syntax visitor (Ok value) h k = tt
+read_failed P Q holds kind t syntax visitor (Err (Syntax e)) h k = syntax e h
+read_failed P Q holds kind t syntax visitor (Err (Visitor fault)) h k = visitor fault k

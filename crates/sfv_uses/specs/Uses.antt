@@ -4,7 +4,7 @@ use Rattle.std.specs.List.{repeat}
 use Rattle.sfv.specs.Values.{rfc9651, FieldKind, item_field, list_field, dictionary_field, BareValue, integer}
 use Rattle.sfv.specs.Values.{RawParameters, RawItem, RawMember}
 use Rattle.sfv.specs.Values.{item, inner_list}
-use Rattle.sfv.specs.Grammar.{IsFieldText}
+use Rattle.sfv.specs.Grammar.{IsFieldText, StandsFirst}
 use Rattle.sfv.specs.Ordered.{last_of}
 use Rattle.sfv.specs.Events.{TreeEvent, keyed_entry}
 use Rattle.sfv.specs.Types.{ParseError}
@@ -73,10 +73,14 @@ item_of_two value key first second = record { bare = value; parameters = (key, f
 abbrev pub HasBareItem : List ℕ → BareValue → Type 0
 HasBareItem t value = (raw : RawItem) × IsFieldText rfc9651 item_field raw t × (value ≡ raw.bare)
 
--- an error of the parser is that of `parse`; the visitor's is left open
-abbrev pub IsReadError : {E : Type 0} → FieldKind → List ℕ → ParseError E → Type 0
-IsReadError kind t (Syntax e) = IsParseError rfc9651 kind t e
-IsReadError kind t (Visitor fault) = ⊤
+-- an error of the text is that of `parse`, and of the visitor's this holds
+abbrev pub IsReadError : {E : Type 0} → (E → Type 0) → FieldKind → List ℕ → ParseError E → Type 0
+IsReadError holds kind t (Syntax e) = IsParseError rfc9651 kind t e
+IsReadError holds kind t (Visitor fault) = holds fault
+
+-- the type doesn't hold the bare item that stands first
+abbrev pub FailsAtFirst : (BareValue → ItemFault → Type 0) → List ℕ → ItemFault → Type 0
+FailsAtFirst fails t fault = (value : BareValue) × StandsFirst rfc9651 value t × fails value fault
 
 -- out of memory, or the type doesn't hold the value
 abbrev pub IsExpectError : (BareValue → ItemFault → Type 0) → BareValue → ParseError ItemFault → Type 0

@@ -1,13 +1,14 @@
 //! Reading a field into the type that is expected.
 
-ghost use Rattle.std.specs.Prelude.{◌≡◌, ℕ, List, IfOk, IfErr, MatchResult};
+ghost use Rattle.std.specs.Prelude.{◌≡◌, ⊤, ℕ, List, IfOk, IfErr, MatchResult};
 ghost use Rattle.sfv.specs.Values.{rfc9651, item_field, list_field, dictionary_field, BareValue, RawItem};
 ghost use Rattle.sfv.specs.Values as values;
 ghost use Rattle.sfv.specs.Grammar.{IsFieldText, BeginsWithBareItem};
 ghost use Rattle.sfv.specs.Statements.{IsParsedAs};
 ghost use Rattle.sfv.specs.TokenText.{token_text};
 ghost use Rattle.sfv.specs.Trees.{item_tree, list_tree, dictionary_tree};
-ghost use Rattle.sfv_uses.specs.Uses.{HasBareItem, IsReadError, IsExpectError, IsTokenError};
+ghost use Rattle.sfv.specs.Types.item_faults as item_faults;
+ghost use Rattle.sfv_uses.specs.Uses.{HasBareItem, FailsAtFirst, IsReadError, IsExpectError, IsTokenError};
 
 use sfv::visitor::{ExpectedItem, ItemFault};
 use sfv::{Dictionary, Item, List, OutOfMemory, ParseError, Parser, TokenRef};
@@ -17,8 +18,8 @@ use std::alloc::Global;
 ///
 /// # Errors
 ///
-/// Where a bare item of another kind stands first: that it is of another kind, whatever stands after it, or out of
-/// memory. Of any other input that is no item that of `Parser::parse`.
+/// Where a bare item of another kind stands first, and nowhere else: that it is of another kind, whatever stands after
+/// it, or out of memory. Of any other input that is no item that of `Parser::parse`.
 pub fn expect<'de, T: ExpectedItem<'de>>(
     alloc: Global,
     input: &'de [u8],
@@ -28,6 +29,7 @@ pub fn expect<'de, T: ExpectedItem<'de>>(
         → MatchResult result (λ item. T.holds item ≡ raw.bare) (IsExpectError T.fails raw.bare) }
     ensures of_another_kind { (value : BareValue) → BeginsWithBareItem rfc9651 value input.now
         → ((item : T) → ¬ (T.holds item ≡ value)) → MatchResult result (λ _. ⊥) (IsExpectError T.fails value) }
+    ensures rejected { IfErr result (IsReadError (FailsAtFirst T.fails input.now) item_field input.now) }
 {
     Parser::new(input).parse_item::<T>(alloc)
 }
@@ -51,10 +53,10 @@ pub fn token<'de>(alloc: Global, input: &'de [u8]) -> Result<TokenRef<'de>, Pars
 ///
 /// # Errors
 ///
-/// That of `Parser::parse`.
+/// That of `Parser::parse`, and `ItemFault::OutOfMemory` when out of memory.
 pub fn item(alloc: Global, input: &[u8]) -> Result<Item, ParseError<ItemFault>>
     ensures read { IfOk result (λ item. IsParsedAs rfc9651 item_field input.now (item_tree item)) }
-    ensures rejected { IfErr result (IsReadError item_field input.now) }
+    ensures rejected { IfErr result (IsReadError (λ fault. fault ≡ item_faults.OutOfMemory) item_field input.now) }
 {
     Parser::new(input).parse_item::<Item>(alloc)
 }
@@ -66,7 +68,7 @@ pub fn item(alloc: Global, input: &[u8]) -> Result<Item, ParseError<ItemFault>>
 /// That of `Parser::parse`.
 pub fn list(alloc: Global, input: &[u8]) -> Result<List, ParseError<OutOfMemory>>
     ensures read { IfOk result (λ list. IsParsedAs rfc9651 list_field input.now (list_tree list.items)) }
-    ensures rejected { IfErr result (IsReadError list_field input.now) }
+    ensures rejected { IfErr result (IsReadError (λ _. ⊤) list_field input.now) }
 {
     Parser::new(input).parse_list::<List>(alloc)
 }
@@ -79,7 +81,7 @@ pub fn list(alloc: Global, input: &[u8]) -> Result<List, ParseError<OutOfMemory>
 pub fn dictionary(alloc: Global, input: &[u8]) -> Result<Dictionary, ParseError<OutOfMemory>>
     ensures read { IfOk result (λ dictionary.
         IsParsedAs rfc9651 dictionary_field input.now (dictionary_tree dictionary.entries)) }
-    ensures rejected { IfErr result (IsReadError dictionary_field input.now) }
+    ensures rejected { IfErr result (IsReadError (λ _. ⊤) dictionary_field input.now) }
 {
     Parser::new(input).parse_dictionary::<Dictionary>(alloc)
 }

@@ -4,6 +4,7 @@ ghost use Rattle.std.specs.Prelude.{◌≡◌, ⊤, ◌≤◌, IsSome, IfOk, IfE
 ghost use Rattle.sfv.specs.Values.{rfc9651, dictionary_field};
 ghost use Rattle.sfv.specs.Grammar.{IsAccepted};
 ghost use Rattle.sfv.specs.Events.{key_in};
+ghost use Rattle.sfv.specs.Parsers.{IsMemoryError};
 ghost use Rattle.sfv_uses.specs.Uses.{counts, HasMembers, IsCountError};
 
 use sfv::visitor::{Event, Visitor};
@@ -48,14 +49,15 @@ impl<'de, F: FnMut(&str) + Drop> Visitor<'de> for EachKey<F> {
 ///
 /// # Errors
 ///
-/// That of `Parser::parse_dictionary_with_visitor`.
+/// That of `Parser::parse_dictionary_with_visitor`; of a dictionary only out of memory.
 pub fn each_key<F: FnMut(&str) + Drop>(
     alloc: Global,
     input: &[u8],
     visit: F,
 ) -> Result<(), ParseError<Infallible>>
     requires { F.IsAlwaysCallable visit }
-    ensures { OnOk result (IsAccepted rfc9651 dictionary_field input.now) }
+    ensures visited { OnOk result (IsAccepted rfc9651 dictionary_field input.now) }
+    ensures accepted { IsAccepted rfc9651 dictionary_field input.now → IfErr result (IsMemoryError (λ _. ⊥)) }
 {
     Parser::new(input).parse_dictionary_with_visitor(alloc, EachKey { visit })
 }

@@ -1,16 +1,18 @@
 -- The builder of an item: after all events of a tree it has the ordered item.
-use Rattle.std.proofs.Common.{◌≡◌, ℕ, cond, List, [], ◌∷◌, ◌++◌, refl, sym, ap, ◌∙◌, append_assoc}
-use Rattle.std.specs.Prelude.{bytes_eq}
+use Rattle.std.proofs.Common.{◌≡◌, ℕ, cond, List, [], ◌∷◌, ◌++◌, refl, sym, ap, ◌∙◌, append_assoc, inl, inr}
+use Rattle.std.specs.Prelude.{bytes_eq, IsTrue}
 use Rattle.std.proofs.lemmas.List.{append-nil}
 use Rattle.indexmap.specs.IndexMap.{insert_entry}
 use Rattle.sfv_spec.specs.Values.{Edition, item_field, BareValue, RawParameters, RawItem}
 use Rattle.sfv_spec.specs.Events.{TreeEvent, bare_item, parameter, parameters_end, parameters_events, item_events}
 use Rattle.sfv_spec.specs.Ordered.{collapse, ordered_item}
 use Rattle.sfv_spec.specs.Statements.{IsParsedAs}
-use Rattle.sfv_spec.specs.Visiting.{RunsTo}
+use Rattle.sfv_spec.specs.Visiting.{RunsTo, IsEarlyVisitorError}
 use Rattle.sfv_spec.proofs.Collapse.{entered, collapse-push}
 use Rattle.sfv_tree.specs.Trees.{item_tree}
-use Rattle.sfv_tree.specs.Builders.{ItemPlace, at_head, at_parameters, at_end, item_step, item_place}
+use Rattle.sfv_tree.specs.Builders.{ItemPlace, at_head, at_parameters, at_end, item_step, item_place, takes_memory}
+use Rattle.sfv_tree.specs.declared.visitor.ItemFault.{ItemFault}
+use Rattle.sfv_tree.specs.declared.visitor.ItemFault.TheVariants as faults
 use Rattle.sfv_tree.specs.declared.parsed.Item.{Item}
 use Rattle.sfv_tree.specs.declared.visitor.item_builder.ItemBuilder.{ItemBuilder}
 use Rattle.sfv.specs.Parsers.{IsAnswerOf}
@@ -21,6 +23,12 @@ Steps s e after = item_place after ≡ item_step (item_place s) e
 
 abbrev Ends : ItemBuilder → Item → Type 0
 Ends s item = item_place s ≡ at_end (item_tree item)
+
+abbrev Fails : ItemBuilder → TreeEvent → ItemFault → Type 0
+Fails s e fault = (fault ≡ faults.OutOfMemory) × IsTrue (takes_memory (item_place s) e)
+
+abbrev EndFails : ItemBuilder → ItemFault → Type 0
+EndFails s fault = (fault ≡ faults.NoItem) × ((i : RawItem) → ¬ (item_place s ≡ at_end i))
 
 pub insert_entry-entered : {A : Type 0} (ps : List (List ℕ × A)) (k : List ℕ) (v : A)
     → insert_entry bytes_eq ps k v ≡ entered ps k v
@@ -68,3 +76,9 @@ built edition t from item here h =
       only = h.only;
       ordered_value = item_at_end (item_tree item) (ordered_item h.raw) (sym h.visited.answered ∙ whole);
     }
+
+-- the builder's error is want of memory: no event fails otherwise, and after all events of an item there is one
+pub built_fails : (from : ItemBuilder) (fault : ItemFault) → item_place from ≡ at_head
+    → IsEarlyVisitorError Steps Fails EndFails item_field from fault → fault ≡ faults.OutOfMemory
+built_fails from fault here (inl h) = h.5.0
+built_fails from fault here (inr h) = absurd (h.5.1 (ordered_item h.1) (item_built h.1 from h.2 here h.4))

@@ -1,10 +1,13 @@
 -- What a visitor was told of the bare item that stands first in the text of an item.
-use Rattle.std.proofs.Common.{◌≡◌, ℕ, List, ◌∷◌, ◌++◌, Result, Ok, Err, refl, sym, ap, subst, ◌∙◌}
+use Rattle.std.proofs.Common.{◌≡◌, ℕ, List, [], ◌∷◌, ◌++◌, Result, Ok, Err, refl, sym, ap, subst, ◌∙◌}
 use Rattle.std.proofs.Common.{inl, inr, append_assoc}
 use Rattle.std.specs.Prelude.{IfErr}
+use Rattle.std.proofs.lemmas.Bool.{cases_Bool}
+use Rattle.std.proofs.lemmas.List.{append-nil}
 use Rattle.sfv_spec.specs.Classes.{is_space}
 use Rattle.sfv_spec.specs.Values.{Edition, item_field, BareValue, RawItem, RawParameters}
-use Rattle.sfv_spec.specs.Grammar.{IsFieldText, BeginsWithBareItem}
+use Rattle.sfv_spec.specs.Texts.{RunOf}
+use Rattle.sfv_spec.specs.Grammar.{IsFieldText, IsBareText, StandsFirst, BeginsWithBareItem}
 use Rattle.sfv_spec.specs.Events.{TreeEvent, bare_item, parameters_events, item_events, events}
 use Rattle.sfv_spec.specs.Visiting.{RunsTo}
 use Rattle.sfv_base.specs.declared.error.Error.{Error}
@@ -15,7 +18,11 @@ use Rattle.sfv_reading.specs.Reader.{Answer, Fault, bind, give, led, span, visit
 use Rattle.sfv_reading.specs.Bare.{bare_at}
 use Rattle.sfv_reading.specs.Items.{parameters_at, item_at}
 use Rattle.sfv_reading.specs.Fields.{whole_field_at}
-use Rattle.sfv_reading.proofs.First.{first_bare}
+use Rattle.sfv_reading.specs.Judgements.{Reached}
+use Rattle.sfv_reading.proofs.sound.Bare.{BareGoes, Sound-bare}
+use Rattle.sfv_reading.proofs.sound.Combinators.{Somewhere, IsSpan, Steady-span}
+use Rattle.sfv_reading.proofs.Exact.{bare_is_exact}
+use Rattle.sfv_reading.proofs.First.{first_bare, longest_read}
 use Rattle.sfv_reading.proofs.visits.Fields.{visited_begins}
 use Rattle.sfv.specs.Visits.{IsOfVisitor, VisitsField, TookBare, TookFirst}
 use Rattle.sfv.specs.Parsers.{IsParseError, VisitsFirst}
@@ -82,9 +89,54 @@ field_begins : (edition : Edition) (value : BareValue) (t : List ℕ) → Begins
     → (more : List TreeEvent) × (visited (events item_field) (whole_field_at edition item_field t)
     ≡ bare_item value ∷ more)
 field_begins edition value t h =
+    let f = h.first in
     let read = first_bare edition value t h in
-    let begun = item_begins edition (h.front ++ h.rest) h.rest value read.1 in
-    (begun.0, whole_visited edition t h.spaces (h.front ++ h.rest) read.0 ∙ begun.1)
+    let begun = item_begins edition (f.front ++ f.rest) f.rest value read.1 in
+    (begun.0, whole_visited edition t f.spaces (f.front ++ f.rest) read.0 ∙ begun.1)
+
+same_event : (e f : TreeEvent) (xs ys : List TreeEvent) → e ∷ xs ≡ f ∷ ys → e ≡ f
+same_event e f xs ys h = cc
+
+-- nothing is visited of an item without a bare item
+item_is_quiet : (edition : Edition) (r : List ℕ) (f : Fault) → bare_at edition r ≡ Err f
+    → visited item_events (item_at edition r) ≡ []
+unfolding item_at bind
+item_is_quiet edition r f e =
+    let reached = subst (Reached (IsBareText edition) (BareGoes edition) (Somewhere (BareGoes edition)) r) e
+    ((Sound-bare edition).sound r) in
+    let quiet : f.events ≡ [] = elim (cases_Bool f.exact) [ inl x ↦ (reached.0 x).holds.2 | inr x ↦ (reached.1 x).0.1.2 ] in
+    rw e quiet
+
+-- what is visited first of an item's text is a bare item that stands first in it
+visited_first : (edition : Edition) (t : List ℕ) (e : TreeEvent) (es : List TreeEvent)
+    → visited (events item_field) (whole_field_at edition item_field t) ≡ e ∷ es
+    → (value : BareValue) × (e ≡ bare_item value) × StandsFirst edition value t
+visited_first edition t e es h =
+    let skipped = (Steady-span is_space).steady t in
+    on skipped.0 skipped.1 skipped.2 skipped.4 skipped.5
+    (sym (whole_visited edition t skipped.1 skipped.2 skipped.3) ∙ h) (bare_at edition skipped.2) refl
+  where
+    on : (s spaces r : List ℕ) → t ≡ s ++ r → IsSpan is_space spaces s
+        → visited item_events (item_at edition r) ≡ e ∷ es → (a : Answer BareValue) → bare_at edition r ≡ a
+        → (value : BareValue) × (e ≡ bare_item value) × StandsFirst edition value t
+    on s spaces r parts blank begins (Ok x) k =
+        let begun = item_begins edition r x.1 x.0 k in
+        let read = bare_is_exact.0 edition r x.0 x.1 k in (
+          x.0,
+          same_event e (bare_item x.0) es begun.0 (sym begins ∙ begun.1),
+          record {
+            first = record {
+              spaces = s;
+              front = read.front;
+              rest = x.1;
+              text = parts ∙ ap (λ (l : List ℕ). s ++ l) read.text ∙ sym (append_assoc s read.front x.1);
+              blank = subst (RunOf is_space) (sym blank.0) blank.1;
+              means = read.means;
+            };
+            longest = longest_read edition r x.0 x.1 read;
+          },
+        )
+    on s spaces r parts blank begins (Err f) k = absurd (let none = sym (item_is_quiet edition r f k) ∙ begins in cc)
 
 -- an item that is accepted has this bare item
 pub begins_with_its : (edition : Edition) (value : BareValue) (t : List ℕ) (raw : RawItem)
@@ -94,20 +146,41 @@ begins_with_its edition value t raw accepted h =
     same_head raw.bare value (parameters_events raw.parameters) begun.0
     (ap (visited (events item_field)) (sym (whole_accepted edition item_field t raw accepted)) ∙ begun.1)
 
+-- of events that aren't none there is a first
+first_of : (before : List TreeEvent) (e : TreeEvent) (after : List TreeEvent)
+    → (first : TreeEvent) × (more : List TreeEvent) × (before ++ e ∷ after ≡ first ∷ more)
+first_of [] e after = (e, after, refl)
+first_of (b ∷ before) e after = (b, before ++ e ∷ after, refl)
+
 module _ {S O E : Type 0} (takes : S → TreeEvent → S → Type 0) (fails : S → TreeEvent → E → Type 0) (finishes : S
     → O → Type 0) (finish_fails : S → E → Type 0) (edition : Edition) (t : List ℕ) (from : S) where
+  -- the bare item of an item whose events begin with those that were visited
+  its_bare : (raw : RawItem) (e : TreeEvent) (es more : List TreeEvent)
+      → visited (events item_field) (whole_field_at edition item_field t) ≡ e ∷ es → item_events raw ≡ (e ∷ es) ++ more
+      → StandsFirst edition raw.bare t × ((value : BareValue) → BeginsWithBareItem edition value t → raw.bare ≡ value)
+  its_bare raw e es more begins all =
+      let first = visited_first edition t e es begins in
+      let same : raw.bare ≡ first.0 =
+      same_head raw.bare first.0 (parameters_events raw.parameters) (es ++ more)
+      (all ∙ ap (λ (e : TreeEvent). e ∷ (es ++ more)) first.1) in (
+        subst (λ (b : BareValue). StandsFirst edition b t) (sym same) first.2,
+        λ value h. same ∙ (let begun = field_begins edition value t h in
+            same_head first.0 value es begun.0
+            (ap (λ (e : TreeEvent). e ∷ es) (sym first.1) ∙ sym begins ∙ begun.1)),
+      )
+
   failed_first : (f : E) → VisitsField takes fails finishes finish_fails edition item_field t from (Err (Visitor f))
       → VisitsFirst takes fails finish_fails edition t from (Visitor f)
-  failed_first f (inl r) value h =
-      let begun = field_begins edition value t h in
+  failed_first f (inl r) =
       let some = visited_begins edition item_field t in
       let all : item_events some.raw ≡ (r.before ++ r.e ∷ r.after) ++ some.more =
       some.all ∙ ap (λ (l : List TreeEvent). l ++ some.more) r.all in
-      let head : bare_item some.raw.bare ∷ parameters_events some.raw.parameters
-      ≡ bare_item value ∷ (begun.0 ++ some.more) =
-      some.all ∙ ap (λ (l : List TreeEvent). l ++ some.more) begun.1 in (
+      let split = first_of r.before r.e r.after in
+      let bare = its_bare some.raw split.0 split.1 some.more (r.all ∙ split.2)
+      (all ∙ ap (λ (l : List TreeEvent). l ++ some.more) split.2) in (
         some.raw,
-        same_head some.raw.bare value _ _ head,
+        bare.0,
+        bare.1,
         inl (
           r.before,
           r.e,
@@ -118,10 +191,11 @@ module _ {S O E : Type 0} (takes : S → TreeEvent → S → Type 0) (fails : S 
           r.failed,
         ),
       )
-  failed_first f (inr x) value h =
-      let begun = field_begins edition value t h in
-      let head = ap (visited (events item_field)) (sym x.3) ∙ begun.1 in
-      (x.0, same_head x.0.bare value _ _ head, inr (x.2, x.4, x.5))
+  failed_first f (inr x) =
+      let events_of = parameters_events x.0.parameters in
+      let bare = its_bare x.0 (bare_item x.0.bare) events_of [] (ap (visited (events item_field)) x.3)
+      (sym (append-nil (bare_item x.0.bare ∷ events_of))) in
+      (x.0, bare.0, bare.1, inr (x.2, x.4, x.5))
 
   pub visits_first : (r : Result O (ParseError E))
       → VisitsField takes fails finishes finish_fails edition item_field t from r
@@ -134,5 +208,6 @@ module _ {S O E : Type 0} (takes : S → TreeEvent → S → Type 0) (fails : S 
       on (inl same) = inl same
       on (inr s) = inr (λ value begins.
           let read = first_bare edition value t begins in
-          k begins.spaces (begins.front ++ begins.rest) read.0 s.index value begins.rest (ap index_of s.error) read.1)
+          let f = begins.first in
+          k f.spaces (f.front ++ f.rest) read.0 s.index value f.rest (ap index_of s.error) read.1)
   visits_first (Err (Visitor f)) h k = failed_first f h

@@ -10,5 +10,6 @@ returns-clause-read c = IfOk-weaker c.parse_dictionary.result _ _
     (rw c.new.ensures at c.parse_dictionary.ensures.visited)
 
 pub returns-clause-rejected : goal.returns-clause-rejected
-returns-clause-rejected c = read_failed _ dictionary_field c.args.input.now (λ e h. h.2.0) c.parse_dictionary.result
-    (rw c.new.ensures at c.parse_dictionary.ensures.syntax)
+returns-clause-rejected c = read_failed _ _ _ dictionary_field c.args.input.now (λ e h. h.2.0) (λ f h. tt)
+    c.parse_dictionary.result (rw c.new.ensures at c.parse_dictionary.ensures.syntax)
+    (rw c.new.ensures at c.parse_dictionary.ensures.visitor)

@@ -1,6 +1,7 @@
+use Rattle.std.proofs.Common.{refl, inl}
 use Rattle.std.proofs.lemmas.Result.{IfOk-weaker}
 use Rattle.sfv.specs.Values.{rfc9651, item_field}
-use Rattle.sfv.proofs.Callers.{item_built}
+use Rattle.sfv.proofs.Callers.{item_built, item_built_fails}
 use Rattle.sfv_uses.proofs.Uses.{read_failed}
 use Rattle.sfv_uses.proofs.expecting.item.Goals as goal
 
@@ -10,5 +11,6 @@ returns-clause-read c = IfOk-weaker c.parse_item.result _ _
     (rw c.new.ensures at c.parse_item.ensures.visited)
 
 pub returns-clause-rejected : goal.returns-clause-rejected
-returns-clause-rejected c = read_failed _ item_field c.args.input.now (λ e h. h.2.0) c.parse_item.result
-    (rw c.new.ensures at c.parse_item.ensures.syntax)
+returns-clause-rejected c = read_failed _ _ _ item_field c.args.input.now (λ e h. h.2.0)
+    (λ f h. item_built_fails h.0 f h.1 (h.2.1 (inl refl))) c.parse_item.result
+    (rw c.new.ensures at c.parse_item.ensures.syntax) (rw c.new.ensures at c.parse_item.ensures.visitor)

@@ -10,5 +10,6 @@ returns-clause-read c = IfOk-weaker c.parse_list.result _ _
     (rw c.new.ensures at c.parse_list.ensures.visited)
 
 pub returns-clause-rejected : goal.returns-clause-rejected
-returns-clause-rejected c = read_failed _ list_field c.args.input.now (λ e h. h.2.0) c.parse_list.result
-    (rw c.new.ensures at c.parse_list.ensures.syntax)
+returns-clause-rejected c = read_failed _ _ _ list_field c.args.input.now (λ e h. h.2.0) (λ f h. tt)
+    c.parse_list.result (rw c.new.ensures at c.parse_list.ensures.syntax)
+    (rw c.new.ensures at c.parse_list.ensures.visitor)
