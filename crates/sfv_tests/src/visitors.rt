@@ -264,10 +264,7 @@ fn events_stand_in_their_order(rt: HostRuntime) -> Result<(), Fail> {
     let Ok(text) = parser.parse_item_with_visitor(rt.alloc(), teller) else {
         return Err(Fail::from("rejected"));
     };
-    assert_eq!(rt;
-        text.as_str(),
-        "bare 1, a=true, b=2, a=3, end"
-    );
+    assert_eq!(rt; text.as_str(), "bare 1, a=true, b=2, a=3, end");
     Ok(())
 }
 

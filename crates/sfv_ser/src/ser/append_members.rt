@@ -203,8 +203,7 @@ mod tests {
                 let heap = LocalHeap::new(alloc, 1024)?;
                 let mut text = StdString::from_str(&heap, "X: ")?;
                 let filler: Result<Vec<u8, &LocalHeap>, AllocError> = Vec::with_capacity(
-                    &heap,
-                    taken,
+                    &heap, taken,
                 );
                 let Ok(filler) = filler else {
                     continue;
