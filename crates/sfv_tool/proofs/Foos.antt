@@ -1,11 +1,9 @@
 -- The visitor of the example finds what the ordered dictionary holds.
-use Rattle.std.proofs.Common.{◌≡◌, ℕ, List, [], ◌∷◌, ◌++◌, Bool, true, false, Option, Some, None, Result, Ok, Err}
+use Rattle.std.proofs.Common.{◌≡◌, ℕ, List, ◌∷◌, ◌++◌, Bool, true, false, Option, Some, None, Result, Ok, Err}
 use Rattle.std.proofs.Common.{refl, sym, ap, subst, ◌∙◌, inl, inr}
 use Rattle.std.specs.Prelude.{bytes_eq, if◌then◌else◌, ◌&&◌, fold, flat_map, option_map, unwrap_or, IfOk, IfErr}
-use Rattle.std.specs.List.{AllByRecursion}
-use Rattle.std.proofs.lemmas.List.Sums.{fold-append}
 use Rattle.std.proofs.lemmas.Slice.Eq.{bytes_eq-Decides}
-use Rattle.sfv.specs.Values.{Edition, dictionary_field, BareValue, RawParameters, RawItem, RawMember, item, inner_list}
+use Rattle.sfv.specs.Values.{Edition, dictionary_field, BareValue, RawParameters, RawMember, item, inner_list}
 use Rattle.sfv.specs.Events.{TreeEvent, entry, keyed_entry, begins_item, begins_inner_list, bare_item, parameter}
 use Rattle.sfv.specs.Events.{inner_list_end, parameters_end}
 use Rattle.sfv.specs.Events.{parameters_events, inner_item_events, member_events, keyed_events, events}

@@ -1,7 +1,7 @@
 -- An example of a field crate's own words: a color, and whether it is strong.
-use Rattle.std.specs.Prelude.{◌≡◌, ℕ, List, [], Bool, false, Option, Some, None, Result, Ok, Err, bytes_eq}
+use Rattle.std.specs.Prelude.{◌≡◌, ℕ, List, Bool, false, Option, Some, None, Result, Ok, Err, bytes_eq}
 use Rattle.std.specs.Prelude.{if◌then◌else◌}
-use Rattle.std.specs.Prelude.{MatchResult, codes}
+use Rattle.std.specs.Prelude.{codes}
 use Rattle.sfv.specs.Values.{Edition, dictionary_field, BareValue, token, boolean, RawMember, item, inner_list}
 use Rattle.sfv.specs.Ordered.{last_of}
 use Rattle.sfv.specs.Statements.{IsParsedAs}

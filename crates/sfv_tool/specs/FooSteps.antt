@@ -1,5 +1,5 @@
 -- What the visitor of the example does with an event.
-use Rattle.std.specs.Prelude.{◌≡◌, Bool, true, false, Result, Ok, Err, ◌&&◌, bytes_eq, if◌then◌else◌}
+use Rattle.std.specs.Prelude.{Bool, true, false, Result, Ok, Err, ◌&&◌, bytes_eq, if◌then◌else◌}
 use Rattle.sfv.specs.Events.{TreeEvent, keyed_entry, begins_inner_list, bare_item, parameter}
 use Rattle.sfv_tool.specs.declared.foo.Foo.{Foo}
 use Rattle.sfv_tool.specs.declared.foo.FooFault.{FooFault}
