@@ -1,43 +1,32 @@
--- Members that are lent by a dictionary.
-use Rattle.std.proofs.Common.{◌≡◌, ℕ, List, [], ◌∷◌, ◌++◌, map, refl, sym, ap, ◌∙◌, append_assoc}
-use Rattle.std.specs.Prelude.{IsTrue}
-use Rattle.std.specs.Borrow.{Bor}
-use Rattle.std.proofs.lemmas.List.{map-append, append-nil}
-use Rattle.sfv_spec.specs.Classes.{is_key}
-use Rattle.sfv_spec.specs.Values.{RawMember, IsMember}
-use Rattle.sfv_spec.specs.Ordered.{IsOrderedMember}
-use Rattle.sfv_tree.specs.declared.parsed.ListEntry.{ListEntry}
-use Rattle.sfv_tree.specs.Trees.{member_tree}
-use Rattle.sfv_tree.specs.Trees.{dictionary_tree}
+-- All members are written, as they are lent.
+use Rattle.std.proofs.Common.{◌≡◌, ℕ, Bool, true, List, [], ◌∷◌, ◌++◌, map, sym, ap, subst, ◌∙◌, Result, Ok, Err}
+use Rattle.std.specs.Prelude.{OnOk, OnErr, string_bytes}
+use Rattle.std.specs.List.{AllByRecursion}
+use Rattle.std.specs.declared.string.String.{String}
+use Rattle.std.proofs.lemmas.Simd.{map-map}
+use Rattle.sfv_spec.specs.Texts.{joined}
+use Rattle.sfv_ser.specs.Written.{Extends, Appends, led, still_first}
+use Rattle.sfv_ser.proofs.Scripts.{led_first}
 
--- the pairs that are lent
-abbrev pub lent_members : List (Bor (List ℕ) × Bor ListEntry) → List (List ℕ × ListEntry)
-lent_members pairs = map (λ p. (p.0.now, p.1.now)) pairs
+-- what holds of what each lends holds of all that is lent
+lent_each : {A B : Type 0} (lent : A → B) (P : B → Type 0) (xs : List A) → AllByRecursion (λ x. P (lent x)) xs
+    → AllByRecursion P (map lent xs)
+lent_each lent P [] h = tt
+lent_each lent P (x ∷ xs) h = (h.0, lent_each lent P xs h.1)
 
--- a member of a dictionary in which no key stands twice
-abbrev pub IsGoodMember : List ℕ × RawMember → Type 0
-IsGoodMember m = (IsTrue (is_key m.0) × IsMember m.1) × IsOrderedMember m.1
-
--- the members so far and those to come, when one more was taken
-pub member_taken : (taken : List (Bor (List ℕ) × Bor ListEntry)) (p : Bor (List ℕ)
-    × Bor ListEntry) (left rest es : List (List ℕ × ListEntry))
-    → lent_members taken ++ left ≡ es → left ≡ (p.0.now, p.1.now) ∷ rest → lent_members (taken ++ p ∷ []) ++ rest ≡ es
-member_taken taken p left rest es h e =
-    let q : List ℕ × ListEntry = (p.0.now, p.1.now) in
-    ap (λ (l : List (List ℕ × ListEntry)). l ++ rest)
-    (map-append (λ (p : Bor (List ℕ) × Bor ListEntry). (p.0.now, p.1.now)) taken (p ∷ []))
-    ∙ append_assoc (lent_members taken) (q ∷ []) rest
-    ∙ ap (λ (l : List (List ℕ × ListEntry)). lent_members taken ++ l) (sym e) ∙ h
-
-pub member_pushed : (taken : List (Bor (List ℕ) × Bor ListEntry)) (p : Bor (List ℕ) × Bor ListEntry)
-    → dictionary_tree (lent_members (taken ++ p ∷ []))
-    ≡ dictionary_tree (lent_members taken) ++ (p.0.now, member_tree p.1.now) ∷ []
-member_pushed [] p = refl
-member_pushed (q ∷ taken) p = ap (λ (ms : List (List ℕ × RawMember)). (q.0.now, member_tree q.1.now) ∷ ms)
-    (member_pushed taken p)
-
--- all of them were taken
-pub members_all : (taken : List (Bor (List ℕ) × Bor ListEntry)) (left es : List (List ℕ × ListEntry))
-    → lent_members taken ++ left ≡ es → left ≡ [] → lent_members taken ≡ es
-members_all taken left es h e = sym (append-nil (lent_members taken))
-    ∙ ap (λ (l : List (List ℕ × ListEntry)). lent_members taken ++ l) (sym e) ∙ h
+-- parts that are taken from the first on, to the end, are written as the whole is
+pub all_written : {T E Z A B : Type 0} (lent : A → B) (text_of : B → List ℕ) (IsGood : B → Type 0) (s : List ℕ)
+    (IsTaken : List A → Type 0) (ys : List B) (Whole : Type 0) (old new : String Z) (is_first : Bool) (r : Result T E)
+    → ((xs : List A) → IsTaken xs → map lent xs ≡ ys) → (AllByRecursion IsGood ys → Whole)
+    → OnOk r ((xs : List A) × IsTaken xs
+    × (string_bytes new ≡ string_bytes old ++ led true s (map (λ x. text_of (lent x)) xs))
+    × (is_first ≡ still_first true xs) × AllByRecursion (λ x. IsGood (lent x)) xs)
+    → OnErr r (Extends (string_bytes old) (string_bytes new))
+    → Appends old new (joined s (map text_of ys)) r × OnOk r Whole
+all_written lent text_of IsGood s IsTaken ys Whole old new is_first (Ok v) all whole w e =
+    let is = all w.0 w.1 in (
+      w.2 ∙ ap (λ (t : List ℕ). string_bytes old ++ t) (led_first s (map (λ x. text_of (lent x)) w.0)
+          ∙ ap (joined s) (sym (map-map text_of lent w.0) ∙ ap (map text_of) is)),
+      whole (subst (AllByRecursion IsGood) is (lent_each lent IsGood w.0 w.4)),
+    )
+all_written lent text_of IsGood s IsTaken ys Whole old new is_first (Err d) all whole w e = (e, tt)

@@ -124,7 +124,8 @@ still_first-push : {A : Type 0} (b : Bool) (xs : List A) (x : A) → still_first
 still_first-push b [] x = refl
 still_first-push b (y ∷ ys) x = refl
 
-still_first-false : {A : Type 0} (xs : List A) → still_first false xs ≡ false
+-- when one stands, one stands from then on
+pub still_first-false : {A : Type 0} (xs : List A) → still_first false xs ≡ false
 still_first-false [] = refl
 still_first-false (y ∷ ys) = refl
 

@@ -21,16 +21,12 @@ use Rattle.sfv_ser.specs.Written.{Extends, lead, led, still_first, IsCutBack}
 use Rattle.sfv_ser.specs.Serializers.{SameMembers, HasMoreMembers, KeepsMembers, GrowsMembers, GrowsItems, items_sink}
 use Rattle.sfv_ser.specs.Serializers.{members_sink, has_no_member}
 use Rattle.sfv_ser.specs.Serializers.{length_before}
-use Rattle.sfv_ser.proofs.Rows.{IsLed, mapped_more}
-
-still_first-none : {A : Type 0} (xs : List A) → still_first false xs ≡ false
-still_first-none [] = refl
-still_first-none (x ∷ xs) = refl
+use Rattle.sfv_ser.proofs.Rows.{IsLed, mapped_more, still_first-false}
 
 still_first-append : {A : Type 0} (b : Bool) (xs ys : List A)
     → still_first b (xs ++ ys) ≡ still_first (still_first b xs) ys
 still_first-append b [] ys = refl
-still_first-append b (x ∷ xs) ys = sym (still_first-none ys)
+still_first-append b (x ∷ xs) ys = sym (still_first-false ys)
 
 still_first-map : {A B : Type 0} (f : A → B) (b : Bool) (xs : List A) → still_first b (map f xs) ≡ still_first b xs
 still_first-map f b [] = refl
@@ -45,7 +41,7 @@ led_append s b (x ∷ xs) ys =
     let rest : List ℕ = led false s xs in
     let behind : List ℕ = led false s ys in
     let next : led false s (xs ++ ys) ≡ rest ++ behind = led_append s false xs ys
-    ∙ ap (λ (c : Bool). rest ++ led c s ys) (still_first-none xs) in
+    ∙ ap (λ (c : Bool). rest ++ led c s ys) (still_first-false xs) in
     ap (λ (t : List ℕ). front ++ t) next ∙ sym (append_assoc front rest behind)
 
 -- the first part has no separator

@@ -37,7 +37,7 @@ fn serialize_more_items<'m, A: Allocator, I: Iterator<Item = &'m Item> + Drop>(
 }
 
 /// Appends members of a list. Whether none stands is changed in place.
-fn serialize_entries<'m, A: Allocator, I: Iterator<Item = &'m ListEntry> + Drop>(
+pub(crate) fn serialize_entries<'m, A: Allocator, I: Iterator<Item = &'m ListEntry> + Drop>(
     is_first: &mut bool,
     members: I,
     output: &mut StdString<A>,
@@ -57,11 +57,11 @@ fn serialize_entries<'m, A: Allocator, I: Iterator<Item = &'m ListEntry> + Drop>
 }
 
 /// Appends members of a dictionary. Whether none stands is changed in place.
-fn serialize_members<'m, A: Allocator, I: Iterator<Item = (&'m Key, &'m ListEntry)> + Drop>(
-    is_first: &mut bool,
-    members: I,
-    output: &mut StdString<A>,
-) -> Result<(), OutOfMemory>
+pub(crate) fn serialize_members<
+    'm,
+    A: Allocator,
+    I: Iterator<Item = (&'m Key, &'m ListEntry)> + Drop,
+>(is_first: &mut bool, members: I, output: &mut StdString<A>) -> Result<(), OutOfMemory>
     requires can { I.can_next members }
     requires ends { IsFinite (I.remaining members) }
     ensures text { OnOk result ((taken : List _) × Drains I.next_gives members taken

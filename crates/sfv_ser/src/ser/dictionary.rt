@@ -10,8 +10,9 @@ ghost use Rattle.sfv_bare.specs.BareItems.{bare_value};
 ghost use Rattle.sfv_tree.specs.Trees.{pairs_tree, item_tree, member_tree, dictionary_tree};
 ghost use Rattle.sfv_ser.specs.Written.{Appends};
 
+use crate::ser::append_members::serialize_members;
 use crate::ser::item::{serialize_all_parameters, serialize_key, serialize_value};
-use crate::ser::list::{serialize_inner_list, serialize_separator};
+use crate::ser::list::serialize_inner_list;
 use sfv_base::error::OutOfMemory;
 use sfv_text::key::Key;
 use sfv_tree::parsed::{Dictionary, Item, ListEntry};
@@ -61,11 +62,7 @@ pub(crate) fn serialize_dictionary<A: Allocator>(
     ensures value { OnOk result (IsValue dictionary_field (dictionary_tree dictionary.now.entries)) }
 {
     let mut is_first = true;
-    for (key, member) in dictionary.iter() {
-        serialize_separator(&mut is_first, ", ", output)?;
-        serialize_dictionary_member(key, member, output)?;
-    }
-    Ok(())
+    serialize_members(&mut is_first, dictionary.iter(), output)
 }
 
 /// Returns the text of a dictionary, with memory from `alloc`, or `None` for a dictionary without

@@ -11,6 +11,7 @@ ghost use Rattle.sfv_spec.specs.Statements.{IsValue, IsSerializedAs};
 ghost use Rattle.sfv_tree.specs.Trees.{item_tree, inner_list_tree, member_tree, list_tree};
 ghost use Rattle.sfv_ser.specs.Written.{Appends};
 
+use crate::ser::append_members::serialize_entries;
 use crate::ser::item::{serialize_all_parameters, serialize_item};
 use sfv_base::error::OutOfMemory;
 use sfv_tree::parsed::{InnerList, Item, List, ListEntry};
@@ -92,11 +93,7 @@ pub(crate) fn serialize_list<A: Allocator>(
     ensures value { OnOk result (IsValue list_field (list_tree list.now.items)) }
 {
     let mut is_first = true;
-    for member in list {
-        serialize_separator(&mut is_first, ", ", output)?;
-        serialize_member(member, output)?;
-    }
-    Ok(())
+    serialize_entries(&mut is_first, list.iter(), output)
 }
 
 /// Returns the text of a list, with memory from `alloc`, or `None` for a list without members, of
