@@ -30,7 +30,10 @@ find crates/*/src -name '*.rt' ! -name tests.rt ! -path '*/sfv_reading/*' ! -pat
             if (part[i + 1] == "as") { imported[part[i + 2]] = part[i]; i += 2 } else imported[part[i]] = part[i]
         next
     }
-    /^(pub )?(trait|impl)/ { in_trait = /^pub trait/ || /^impl.* for / }
+    /^(pub )?(trait|impl)/ { in_trait = /^pub trait/ || /^impl.* for /; in_header = !/\{$/ }
+    # A header of more than one line.
+    in_header && /^ +for / { in_trait = 1 }
+    in_header && /\{$/ { in_header = 0 }
     /^}$/ { in_trait = 0 }
     /^ *(pub(\([a-z]+\))? )?fn / { is_public = /^ *pub fn / || in_trait }
     # The name of a clause or of a ghost member is no use of a word.
