@@ -31,7 +31,7 @@ pub record IsAnswered (request : Field × Version) (input output output' errors 
       × Appends output output' text)
   pub quiet : Keeps errors errors'
 
--- A run that failed: the output is as it was, unless the input is accepted, and then the output itself failed.
+-- A run that failed: the output is as it was, unless the input is accepted: the answer may have been written in part.
 abbrev pub IsFailed : Field × Version → Option (List ℕ) → Option (List ℕ) → Option (List ℕ) → Type 0
 IsFailed request input output output' =
     Keeps output output'
