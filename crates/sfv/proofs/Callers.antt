@@ -8,14 +8,11 @@ use Rattle.std.specs.declared.vec.Vec.{Vec}
 use Rattle.std.proofs.lemmas.Option.{same_Some}
 use Rattle.std.proofs.lemmas.Result.{IfOk-weaker}
 use Rattle.indexmap.specs.IndexMap.{IndexMap, insert_entry}
-use Rattle.sfv_spec.specs.Values.{Edition, rfc9651, FieldKind, list_field, dictionary_field, RawMember, RawField}
-use Rattle.sfv_spec.specs.Values.{IsFieldValue}
+use Rattle.sfv_spec.specs.Values.{Edition, FieldKind, list_field, dictionary_field, RawMember, RawField}
 use Rattle.sfv_spec.specs.Grammar.{IsFieldText, IsAccepted}
 use Rattle.sfv_spec.specs.Ordered.{keys, last_of, ordered, ordered_member, no_repeats, IsOrdered}
-use Rattle.sfv_spec.specs.Canonical.{canonical}
 use Rattle.sfv_spec.specs.Statements.{IsParsedAs, IsValue}
 use Rattle.sfv_spec.proofs.Collapse.{entered, collapse-distinct, collapse-push, last_of-push}
-use Rattle.sfv_spec.proofs.Laws.{round_trip_lem}
 use Rattle.sfv_spec.proofs.Structure.{one_field_lem}
 use Rattle.sfv_spec.proofs.Valid.{accepted_is_value_lem}
 use Rattle.sfv_spec.specs.Faults.{SyntaxFault, IsFaultAt}
@@ -40,6 +37,10 @@ pub use Rattle.sfv_spec.proofs.Last.{last_of-ordered}
 pub use Rattle.sfv_spec.proofs.Collapse.{last_of-collapse, last_of-absent}
 -- the pairs that an iterator over a map lends
 pub use Rattle.sfv_ser.proofs.Lent.{lent_all}
+-- what is written of a field is read as its ordered value, repeated keys too, and what is written of a value as itself,
+-- by each edition that has all that it holds: RFC 9651 has all
+pub use Rattle.sfv_ser.proofs.ReadBack.{read_back, value_read_back}
+pub use Rattle.sfv_spec.proofs.Fields.{all_fit_newer}
 -- an inner list that is taken away again, and what a text holds behind what was written to it
 pub use Rattle.sfv_ser.proofs.Scripts.{taken_away, kept_as, more_as, written_behind}
 pub use Rattle.sfv_ser.proofs.Scripts.{inner_list_ended, named_list_ended}
@@ -92,17 +93,6 @@ parsed_as edition kind t raw accepted = record {
   only = λ other k. one_field_lem edition kind t other raw k accepted;
   ordered_value = refl;
 }
-
--- what is written of a field is read as its ordered value: repeated keys too
-pub read_back : (kind : FieldKind) (raw : RawField kind) → IsFieldValue kind raw
-    → IsParsedAs rfc9651 kind (canonical kind raw) (ordered kind raw)
-read_back kind raw h = parsed_as rfc9651 kind (canonical kind raw) raw (round_trip_lem kind raw h).0
-
--- and a value is read as itself
-pub value_read_back : (kind : FieldKind) (value : RawField kind) → IsValue kind value
-    → IsParsedAs rfc9651 kind (canonical kind value) value
-value_read_back kind value h = subst (IsParsedAs rfc9651 kind (canonical kind value))
-    ((round_trip_lem kind value h.parts).1 h.distinct) (read_back kind value h.parts)
 
 -- what was read is a value: each part is in its range or class, and no key stands twice
 pub read_is_value : (edition : Edition) (kind : FieldKind) (t : List ℕ) (value : RawField kind)

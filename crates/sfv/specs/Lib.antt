@@ -40,13 +40,15 @@ pub use Rattle.sfv_text.specs.KeyText
 pub use Rattle.sfv_text.specs.StringText
 pub use Rattle.sfv_text.specs.TokenText
 pub use Rattle.sfv_bare.specs.BareItems
+pub use Rattle.sfv_bare.specs.Kinds
 pub use Rattle.sfv_tree.specs.Builders
 pub use Rattle.sfv_tree.specs.Events as EventValues
-pub use Rattle.sfv_tree.specs.Kinds
+pub use Rattle.sfv_tree.specs.ItemFaults
 pub use Rattle.sfv_tree.specs.Trees
 pub use Rattle.sfv_visit.specs.Given
 pub use Rattle.sfv_ser.specs.Scripts
 pub use Rattle.sfv_ser.specs.Serializers
 pub use Rattle.sfv_ser.specs.Texts as LentTexts
+pub use Rattle.sfv_ser.specs.Versions
 pub use Rattle.sfv_ser.specs.Written
 pub use Rattle.indexmap.specs.IndexMap as Maps

@@ -9,10 +9,11 @@ use Rattle.sfv_spec.specs.Visiting.{NeverFails, IsVisited, IsVisitorError, IsEar
 use Rattle.sfv_spec.specs.Faults.{SyntaxFault, trailing_characters_after_parsed_value, IsFaultAt}
 use Rattle.sfv_base.specs.declared.error.Error.{Error}
 use Rattle.sfv_base.specs.declared.error.ParseError.{ParseError}
-use Rattle.sfv_base.specs.declared.error.ParseError.TheVariants.{Syntax, Visitor}
+use Rattle.sfv_base.specs.declared.error.ParseError.TheVariants as parse_errors
 use Rattle.sfv_base.specs.Errors.{error_of, error_kind, out_of_memory}
 use Rattle.sfv_bare.specs.BareItems.{edition_of}
 use Rattle.sfv_bare.specs.declared.bare.Version.{Version}
+use Rattle.sfv_tree.specs.declared.visitor.Visitor.{Ghosts as Visitor}
 use Rattle.sfv.specs.declared.parser.Parser.{Parser}
 
 -- the parser of this input under this version
@@ -49,8 +50,8 @@ pub record IsAnswerOf {S O : Type 0} (takes : S → TreeEvent → S → Type 0) 
 
 -- out of memory, as the parser's error or as the visitor's
 abbrev pub IsMemoryError : {E : Type 0} → (E → Type 0) → ParseError E → Type 0
-IsMemoryError is_memory (Syntax e) = e ≡ out_of_memory
-IsMemoryError is_memory (Visitor fault) = is_memory fault
+IsMemoryError is_memory (parse_errors.Syntax e) = e ≡ out_of_memory
+IsMemoryError is_memory (parse_errors.Visitor fault) = is_memory fault
 
 -- Of an accepted text a visitor that never fails takes all events of the tree, and the answer is what it finishes with
 -- there; or memory was refused.
@@ -77,16 +78,16 @@ IsFinishedFirst takes finishes edition dictionary_field t from e = (index : ℕ)
 -- An error of the text is what `parse` returns, and what stands after an item is looked at after the visitor's answer.
 abbrev pub IsSyntaxOf : {S O E : Type 0} → (S → TreeEvent → S → Type 0) → (S → O → Type 0) → Edition → FieldKind
     → List ℕ → S → ParseError E → Type 0
-IsSyntaxOf takes finishes edition kind t from (Syntax e) = IsParseError edition kind t e
+IsSyntaxOf takes finishes edition kind t from (parse_errors.Syntax e) = IsParseError edition kind t e
     × IsFinishedFirst takes finishes edition kind t from e
-IsSyntaxOf takes finishes edition kind t from (Visitor fault) = ⊤
+IsSyntaxOf takes finishes edition kind t from (parse_errors.Visitor fault) = ⊤
 
 -- The visitor's error comes on an accepted text after exactly the events before it; on a text that isn't accepted,
 -- and for an item on every text, after those of some field.
 abbrev pub IsVisitorErrorOf : {S E : Type 0} → (S → TreeEvent → S → Type 0) → (S → TreeEvent → E → Type 0)
     → (S → E → Type 0) → Edition → FieldKind → List ℕ → S → ParseError E → Type 0
-IsVisitorErrorOf takes fails finish_fails edition kind t from (Syntax e) = ⊤
-IsVisitorErrorOf takes fails finish_fails edition kind t from (Visitor fault) =
+IsVisitorErrorOf takes fails finish_fails edition kind t from (parse_errors.Syntax e) = ⊤
+IsVisitorErrorOf takes fails finish_fails edition kind t from (parse_errors.Visitor fault) =
     ((raw : RawField kind) → IsFieldText edition kind raw t
     → IsVisitorError takes fails finish_fails from (events kind raw) fault)
     × ((kind ≡ item_field) ⊎ ((raw : RawField kind) → IsFieldText edition kind raw t → ⊥)
@@ -97,13 +98,32 @@ IsVisitorErrorOf takes fails finish_fails edition kind t from (Visitor fault) =
 -- stands first, and is that one if it ends there.
 abbrev pub VisitsFirst : {S E : Type 0} → (S → TreeEvent → S → Type 0) → (S → TreeEvent → E → Type 0)
     → (S → E → Type 0) → Edition → List ℕ → S → ParseError E → Type 0
-VisitsFirst {S} takes fails finish_fails edition t from (Syntax e) =
+VisitsFirst {S} takes fails finish_fails edition t from (parse_errors.Syntax e) =
     (e ≡ out_of_memory) ⊎ ((value : BareValue) → BeginsWithBareItem edition value t
     → (after : S) × takes from (bare_item value) after)
-VisitsFirst takes fails finish_fails edition t from (Visitor fault) =
+VisitsFirst takes fails finish_fails edition t from (parse_errors.Visitor fault) =
     (raw : RawItem) × StandsFirst edition raw.bare t
     × ((value : BareValue) → BeginsWithBareItem edition value t → raw.bare ≡ value)
     × IsVisitorError takes fails finish_fails from (item_events raw) fault
+
+-- the same of what a parser reads, with a visitor that is given by its ghost members
+module _ {S O E : Type 0} (v : Visitor S O E) (p : Parser) where
+  abbrev pub IsAnswerBy : FieldKind → S → O → Type 0
+  IsAnswerBy kind from out = IsAnswerOf v.takes v.finishes (parser_edition p) kind (input_of p) from out
+
+  abbrev pub IsSyntaxBy : FieldKind → S → ParseError E → Type 0
+  IsSyntaxBy kind from error = IsSyntaxOf v.takes v.finishes (parser_edition p) kind (input_of p) from error
+
+  abbrev pub IsVisitorErrorBy : FieldKind → S → ParseError E → Type 0
+  IsVisitorErrorBy kind from error =
+      IsVisitorErrorOf v.takes v.fails v.finish_fails (parser_edition p) kind (input_of p) from error
+
+  abbrev pub VisitsAcceptedBy : FieldKind → S → Result O (ParseError E) → Type 0
+  VisitsAcceptedBy kind from result = VisitsAccepted v.takes v.fails v.finishes v.finish_fails v.is_memory
+      (parser_edition p) kind (input_of p) from result
+
+  abbrev pub VisitsFirstBy : S → ParseError E → Type 0
+  VisitsFirstBy from error = VisitsFirst v.takes v.fails v.finish_fails (parser_edition p) (input_of p) from error
 
 -- it is so of some visitor that is as it was made
 abbrev pub OfMade : {S X : Type 0} → (S → Type 0) → (S → X → Type 0) → X → Type 0

@@ -8,6 +8,8 @@ pub use Rattle.sfv_base.specs.declared.error.ErrorKind.TheVariants as error_kind
 pub use Rattle.sfv_base.specs.declared.error.OutOfMemory.{OutOfMemory}
 pub use Rattle.sfv_base.specs.declared.error.ParseError.{ParseError}
 pub use Rattle.sfv_base.specs.declared.error.ParseError.TheVariants as parse_errors
+pub use Rattle.sfv_bare.specs.declared.bare.BareItemType.{BareItemType}
+pub use Rattle.sfv_bare.specs.declared.bare.BareItemType.TheVariants as bare_item_types
 pub use Rattle.sfv_bare.specs.declared.bare.GenericBareItem.{GenericBareItem}
 pub use Rattle.sfv_bare.specs.declared.bare.GenericBareItem.TheVariants as bare_items
 pub use Rattle.sfv_bare.specs.declared.bare.StringFromInput.{StringFromInput}
@@ -19,15 +21,15 @@ pub use Rattle.sfv_tree.specs.declared.parsed.ListEntry.{ListEntry}
 pub use Rattle.sfv_tree.specs.declared.parsed.ListEntry.TheVariants as list_entries
 pub use Rattle.sfv_tree.specs.declared.visitor.ItemFault.{ItemFault}
 pub use Rattle.sfv_tree.specs.declared.visitor.ItemFault.TheVariants as item_faults
-pub use Rattle.sfv_tree.specs.declared.visitor.BareItemType.{BareItemType}
-pub use Rattle.sfv_tree.specs.declared.visitor.BareItemType.TheVariants as bare_item_types
 pub use Rattle.sfv_tree.specs.declared.visitor.item_builder.ItemBuilder.{ItemBuilder}
 pub use Rattle.sfv_tree.specs.declared.visitor.list_builder.ListBuilder.{ListBuilder}
 pub use Rattle.sfv_tree.specs.declared.visitor.dictionary_builder.DictionaryBuilder.{DictionaryBuilder}
 pub use Rattle.sfv_visit.specs.declared.expect_item.ExpectItem.{ExpectItem}
 pub use Rattle.sfv_visit.specs.declared.item_visitor.ItemVisitorWith.{ItemVisitorWith}
 pub use Rattle.sfv_visit.specs.declared.parameter_visitor.ParameterVisitorWith.{ParameterVisitorWith}
-pub use Rattle.sfv_ser.specs.declared.ser.script.ParamCall.{ParamCall}
-pub use Rattle.sfv_ser.specs.declared.ser.script.ItemCalls.{ItemCalls}
-pub use Rattle.sfv_ser.specs.declared.ser.script.MemberCalls.{MemberCalls}
-pub use Rattle.sfv_ser.specs.declared.ser.script.MemberCalls.TheVariants as script_members
+pub use Rattle.sfv_ser.specs.declared.script.ParamCall.{ParamCall}
+pub use Rattle.sfv_ser.specs.declared.script.ItemCalls.{ItemCalls}
+pub use Rattle.sfv_ser.specs.declared.script.MemberCalls.{MemberCalls}
+pub use Rattle.sfv_ser.specs.declared.script.MemberCalls.TheVariants as script_members
+pub use Rattle.sfv_ser.specs.declared.serialize_error.SerializeError.{SerializeError}
+pub use Rattle.sfv_ser.specs.declared.serialize_error.SerializeError.TheVariants as serialize_errors

@@ -1,14 +1,21 @@
 //! The types of fields.
 
 ghost use Rattle.std.specs.Prelude.{ℕ, List, Option, Some, option_map, IfOk, IfErr, string_bytes};
-ghost use Rattle.sfv_spec.specs.Values.{FieldKind, RawField, HasMember, item_field, list_field, dictionary_field};
+ghost use Rattle.sfv_spec.specs.Values.{FieldKind, RawField, HasMember, rfc9651, item_field, list_field, dictionary_field};
+ghost use Rattle.sfv_spec.specs.Events.{bare_values};
 ghost use Rattle.sfv_spec.specs.Statements.{IsParsedAs, IsSerializedAs};
+ghost use Rattle.sfv_bare.specs.BareItems.{edition_of};
 ghost use Rattle.sfv_tree.specs.Trees.{item_tree, list_tree, dictionary_tree};
+ghost use Rattle.sfv_ser.specs.Versions.{LooksFirst};
 ghost use Rattle.sfv.specs.Parsers.{input_of, parser_edition, IsParseError};
 
 use crate::parser::Parser;
+use sfv_bare::bare::Version;
 use sfv_base::error::{Error, OutOfMemory, ParseError};
-use sfv_ser::ser::{dictionary_text, list_text, serialize_item};
+use sfv_ser::{
+    SerializeError, dictionary_text, list_text, look_at_dictionary, look_at_item, look_at_list,
+    serialize_item,
+};
 use sfv_tree::parsed::{Dictionary, Item, List};
 use sfv_tree::visitor::{DictionaryBuilder, ItemBuilder, ListBuilder};
 use std::alloc::Global;
@@ -47,15 +54,32 @@ pub trait FieldType: sealed::Sealed + Drop {
             IsParsedAs (parser_edition parser.entry) kind (input_of parser.entry) (tree value)) }
         ensures rejected { IfErr result (IsParseError (parser_edition parser.entry) kind (input_of parser.entry)) };
 
-    /// Returns the canonical text (RFC 9651, section 4.1), with memory from `alloc`. For a list or a dictionary without
-    /// members it returns `None`, and asks for no memory.
+    /// Returns the canonical text (RFC 9651, section 4.1), with memory from `alloc`, which RFC 9651 reads back. For a list
+    /// or a dictionary without members it returns `None`, and asks for no memory.
     ///
     /// # Errors
     ///
     /// `OutOfMemory` when out of memory.
     fn serialize(&self, alloc: Global) -> Result<Self::SerializeResult, OutOfMemory>
-        ensures text { IfOk result (λ text. IsSerializedAs kind (tree self.now) (written text)) }
+        ensures text { IfOk result (λ text. IsSerializedAs rfc9651 kind (tree self.now) (written text)) }
         ensures out_of_memory { IfErr result (λ _. HasMember kind (tree self.now)) };
+
+    /// Returns the canonical text if this version has all values, as `serialize` does, and this version reads it back.
+    /// The whole value is looked at before memory is asked for.
+    ///
+    /// # Errors
+    ///
+    /// `Unsupported` with the kind of the first value that the version doesn't have, in the order of the text, and
+    /// `OutOfMemory` when out of memory.
+    fn serialize_for(
+        &self,
+        alloc: Global,
+        version: Version,
+    ) -> Result<Self::SerializeResult, SerializeError>
+        ensures text { IfOk result (λ text.
+            IsSerializedAs (edition_of version) kind (tree self.now) (written text)) }
+        ensures looks { LooksFirst (edition_of version) (bare_values kind (tree self.now)) result }
+        ensures failed { IfErr result (λ _. HasMember kind (tree self.now)) };
 }
 
 impl FieldType for Item {
@@ -81,6 +105,12 @@ impl FieldType for Item {
         serialize_item(self, &mut text)?;
         Ok(text)
     }
+
+    fn serialize_for(&self, alloc: Global, version: Version) -> Result<StdString, SerializeError> {
+        look_at_item(version, self)?;
+        let text = self.serialize(alloc)?;
+        Ok(text)
+    }
 }
 
 impl FieldType for List {
@@ -104,6 +134,16 @@ impl FieldType for List {
     fn serialize(&self, alloc: Global) -> Result<Option<StdString>, OutOfMemory> {
         list_text(self, alloc)
     }
+
+    fn serialize_for(
+        &self,
+        alloc: Global,
+        version: Version,
+    ) -> Result<Option<StdString>, SerializeError> {
+        look_at_list(version, self)?;
+        let text = self.serialize(alloc)?;
+        Ok(text)
+    }
 }
 
 impl FieldType for Dictionary {
@@ -126,5 +166,15 @@ impl FieldType for Dictionary {
 
     fn serialize(&self, alloc: Global) -> Result<Option<StdString>, OutOfMemory> {
         dictionary_text(self, alloc)
+    }
+
+    fn serialize_for(
+        &self,
+        alloc: Global,
+        version: Version,
+    ) -> Result<Option<StdString>, SerializeError> {
+        look_at_dictionary(version, self)?;
+        let text = self.serialize(alloc)?;
+        Ok(text)
     }
 }

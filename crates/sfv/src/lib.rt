@@ -13,16 +13,17 @@ pub mod visitor;
 pub use field_type::FieldType;
 pub use parser::Parser;
 pub use sfv_bare::bare::{
-    BareItem, BareItemFromInput, GenericBareItem, RefBareItem, StringFromInput, Version,
+    BareItem, BareItemFromInput, BareItemType, GenericBareItem, RefBareItem, StringFromInput,
+    Version,
 };
 pub use sfv_base::date::Date;
 pub use sfv_base::decimal::Decimal;
 pub use sfv_base::error::{Error, ErrorKind, OutOfMemory, ParseError};
 pub use sfv_base::integer::Integer;
 pub use sfv_base::shorthand::integer;
-pub use sfv_ser::ser::{
-    DictMembers, DictSerializer, InnerListSerializer, ItemSerializer, ListMembers, ListSerializer,
-    MemberSerializer, ParameterSerializer, Sink,
+pub use sfv_ser::{
+    DictMembers, DictSerializer, InnerListItems, InnerListSerializer, ItemSerializer, Kind, ListMembers,
+    ListSerializer, Members, ParameterSerializer, Parts, SerializeError, Sink, Unnamed,
 };
 pub use sfv_text::key::Key;
 pub use sfv_text::key_ref::KeyRef;

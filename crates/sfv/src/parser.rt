@@ -38,8 +38,8 @@ pub struct Parser<'de> {
 }
 
 impl<'de> Parser<'de> {
-    ghost use Rattle.sfv.specs.Parsers.{parser_of, input_of, parser_edition, IsParseError, IsAnswerOf};
-    ghost use Rattle.sfv.specs.Parsers.{IsSyntaxOf, IsVisitorErrorOf, VisitsAccepted, VisitsFirst, OfMade};
+    ghost use Rattle.sfv.specs.Parsers.{parser_of, input_of, parser_edition, IsParseError, IsAnswerBy, IsSyntaxBy};
+    ghost use Rattle.sfv.specs.Parsers.{IsVisitorErrorBy, VisitsAcceptedBy, VisitsFirstBy, OfMade};
 
     /// Reads this input, under RFC 9651.
     pub fn new(input: &'de [u8]) -> Parser<'de>
@@ -93,21 +93,12 @@ impl<'de> Parser<'de> {
         self,
         alloc: Global,
     ) -> Result<T, ParseError<<T::Visitor as Visitor<'de>>::Error>>
-        ensures visited { IfOk result (OfMade T.is_made
-            (IsAnswerOf T.Visitor.takes T.Visitor.finishes
-            (parser_edition self.entry) item_field (input_of self.entry))) }
-        ensures syntax { IfErr result (OfMade T.is_made
-            (IsSyntaxOf T.Visitor.takes T.Visitor.finishes
-            (parser_edition self.entry) item_field (input_of self.entry))) }
-        ensures visitor { IfErr result (OfMade T.is_made
-            (IsVisitorErrorOf T.Visitor.takes T.Visitor.fails T.Visitor.finish_fails
-            (parser_edition self.entry) item_field (input_of self.entry))) }
-        ensures accepted { OfMade T.is_made
-            (VisitsAccepted T.Visitor.takes T.Visitor.fails T.Visitor.finishes T.Visitor.finish_fails
-            T.Visitor.is_memory (parser_edition self.entry) item_field (input_of self.entry)) result }
-        ensures first { IfErr result (OfMade T.is_made
-            (VisitsFirst T.Visitor.takes T.Visitor.fails T.Visitor.finish_fails
-            (parser_edition self.entry) (input_of self.entry))) }
+        ensures visited { IfOk result (OfMade T.is_made (IsAnswerBy T.Visitor.Visitor self.entry item_field)) }
+        ensures syntax { IfErr result (OfMade T.is_made (IsSyntaxBy T.Visitor.Visitor self.entry item_field)) }
+        ensures visitor { IfErr result
+            (OfMade T.is_made (IsVisitorErrorBy T.Visitor.Visitor self.entry item_field)) }
+        ensures accepted { OfMade T.is_made (VisitsAcceptedBy T.Visitor.Visitor self.entry item_field) result }
+        ensures first { IfErr result (OfMade T.is_made (VisitsFirstBy T.Visitor.Visitor self.entry)) }
     {
         let visitor = T::make_item_visitor(alloc);
         self.parse_item_with_visitor(alloc, visitor)
@@ -125,18 +116,11 @@ impl<'de> Parser<'de> {
         self,
         alloc: Global,
     ) -> Result<T, ParseError<<T::Visitor as Visitor<'de>>::Error>>
-        ensures visited { IfOk result (OfMade T.is_made
-            (IsAnswerOf T.Visitor.takes T.Visitor.finishes
-            (parser_edition self.entry) list_field (input_of self.entry))) }
-        ensures syntax { IfErr result (OfMade T.is_made
-            (IsSyntaxOf T.Visitor.takes T.Visitor.finishes
-            (parser_edition self.entry) list_field (input_of self.entry))) }
-        ensures visitor { IfErr result (OfMade T.is_made
-            (IsVisitorErrorOf T.Visitor.takes T.Visitor.fails T.Visitor.finish_fails
-            (parser_edition self.entry) list_field (input_of self.entry))) }
-        ensures accepted { OfMade T.is_made
-            (VisitsAccepted T.Visitor.takes T.Visitor.fails T.Visitor.finishes T.Visitor.finish_fails
-            T.Visitor.is_memory (parser_edition self.entry) list_field (input_of self.entry)) result }
+        ensures visited { IfOk result (OfMade T.is_made (IsAnswerBy T.Visitor.Visitor self.entry list_field)) }
+        ensures syntax { IfErr result (OfMade T.is_made (IsSyntaxBy T.Visitor.Visitor self.entry list_field)) }
+        ensures visitor { IfErr result
+            (OfMade T.is_made (IsVisitorErrorBy T.Visitor.Visitor self.entry list_field)) }
+        ensures accepted { OfMade T.is_made (VisitsAcceptedBy T.Visitor.Visitor self.entry list_field) result }
     {
         let visitor = T::make_list_visitor(alloc);
         self.parse_list_with_visitor(alloc, visitor)
@@ -154,18 +138,11 @@ impl<'de> Parser<'de> {
         self,
         alloc: Global,
     ) -> Result<T, ParseError<<T::Visitor as Visitor<'de>>::Error>>
-        ensures visited { IfOk result (OfMade T.is_made
-            (IsAnswerOf T.Visitor.takes T.Visitor.finishes
-            (parser_edition self.entry) dictionary_field (input_of self.entry))) }
-        ensures syntax { IfErr result (OfMade T.is_made
-            (IsSyntaxOf T.Visitor.takes T.Visitor.finishes
-            (parser_edition self.entry) dictionary_field (input_of self.entry))) }
-        ensures visitor { IfErr result (OfMade T.is_made
-            (IsVisitorErrorOf T.Visitor.takes T.Visitor.fails T.Visitor.finish_fails
-            (parser_edition self.entry) dictionary_field (input_of self.entry))) }
-        ensures accepted { OfMade T.is_made
-            (VisitsAccepted T.Visitor.takes T.Visitor.fails T.Visitor.finishes T.Visitor.finish_fails
-            T.Visitor.is_memory (parser_edition self.entry) dictionary_field (input_of self.entry)) result }
+        ensures visited { IfOk result (OfMade T.is_made (IsAnswerBy T.Visitor.Visitor self.entry dictionary_field)) }
+        ensures syntax { IfErr result (OfMade T.is_made (IsSyntaxBy T.Visitor.Visitor self.entry dictionary_field)) }
+        ensures visitor { IfErr result
+            (OfMade T.is_made (IsVisitorErrorBy T.Visitor.Visitor self.entry dictionary_field)) }
+        ensures accepted { OfMade T.is_made (VisitsAcceptedBy T.Visitor.Visitor self.entry dictionary_field) result }
     {
         let visitor = T::make_dictionary_visitor(alloc);
         self.parse_dictionary_with_visitor(alloc, visitor)
@@ -188,17 +165,11 @@ impl<'de> Parser<'de> {
         visitor: V,
     ) -> Result<V::Out, ParseError<V::Error>>
         requires { V.is_ready visitor }
-        ensures visited { IfOk result
-            (IsAnswerOf V.takes V.finishes (parser_edition self.entry) item_field (input_of self.entry) visitor) }
-        ensures syntax { IfErr result
-            (IsSyntaxOf V.takes V.finishes (parser_edition self.entry) item_field (input_of self.entry) visitor) }
-        ensures visitor { IfErr result
-            (IsVisitorErrorOf V.takes V.fails V.finish_fails
-            (parser_edition self.entry) item_field (input_of self.entry) visitor) }
-        ensures accepted { VisitsAccepted V.takes V.fails V.finishes V.finish_fails V.is_memory
-            (parser_edition self.entry) item_field (input_of self.entry) visitor result }
-        ensures first { IfErr result
-            (VisitsFirst V.takes V.fails V.finish_fails (parser_edition self.entry) (input_of self.entry) visitor) }
+        ensures visited { IfOk result (IsAnswerBy V.Visitor self.entry item_field visitor) }
+        ensures syntax { IfErr result (IsSyntaxBy V.Visitor self.entry item_field visitor) }
+        ensures visitor { IfErr result (IsVisitorErrorBy V.Visitor self.entry item_field visitor) }
+        ensures accepted { VisitsAcceptedBy V.Visitor self.entry item_field visitor result }
+        ensures first { IfErr result (VisitsFirstBy V.Visitor self.entry visitor) }
     {
         parse_item_field(self, alloc, visitor)
     }
@@ -221,15 +192,10 @@ impl<'de> Parser<'de> {
         visitor: V,
     ) -> Result<V::Out, ParseError<V::Error>>
         requires { V.is_ready visitor }
-        ensures visited { IfOk result
-            (IsAnswerOf V.takes V.finishes (parser_edition self.entry) list_field (input_of self.entry) visitor) }
-        ensures syntax { IfErr result
-            (IsSyntaxOf V.takes V.finishes (parser_edition self.entry) list_field (input_of self.entry) visitor) }
-        ensures visitor { IfErr result
-            (IsVisitorErrorOf V.takes V.fails V.finish_fails
-            (parser_edition self.entry) list_field (input_of self.entry) visitor) }
-        ensures accepted { VisitsAccepted V.takes V.fails V.finishes V.finish_fails V.is_memory
-            (parser_edition self.entry) list_field (input_of self.entry) visitor result }
+        ensures visited { IfOk result (IsAnswerBy V.Visitor self.entry list_field visitor) }
+        ensures syntax { IfErr result (IsSyntaxBy V.Visitor self.entry list_field visitor) }
+        ensures visitor { IfErr result (IsVisitorErrorBy V.Visitor self.entry list_field visitor) }
+        ensures accepted { VisitsAcceptedBy V.Visitor self.entry list_field visitor result }
     {
         parse_members_field::<Entry, V>(self, alloc, visitor)
     }
@@ -252,15 +218,10 @@ impl<'de> Parser<'de> {
         visitor: V,
     ) -> Result<V::Out, ParseError<V::Error>>
         requires { V.is_ready visitor }
-        ensures visited { IfOk result
-            (IsAnswerOf V.takes V.finishes (parser_edition self.entry) dictionary_field (input_of self.entry) visitor) }
-        ensures syntax { IfErr result
-            (IsSyntaxOf V.takes V.finishes (parser_edition self.entry) dictionary_field (input_of self.entry) visitor) }
-        ensures visitor { IfErr result
-            (IsVisitorErrorOf V.takes V.fails V.finish_fails
-            (parser_edition self.entry) dictionary_field (input_of self.entry) visitor) }
-        ensures accepted { VisitsAccepted V.takes V.fails V.finishes V.finish_fails V.is_memory
-            (parser_edition self.entry) dictionary_field (input_of self.entry) visitor result }
+        ensures visited { IfOk result (IsAnswerBy V.Visitor self.entry dictionary_field visitor) }
+        ensures syntax { IfErr result (IsSyntaxBy V.Visitor self.entry dictionary_field visitor) }
+        ensures visitor { IfErr result (IsVisitorErrorBy V.Visitor self.entry dictionary_field visitor) }
+        ensures accepted { VisitsAcceptedBy V.Visitor self.entry dictionary_field visitor result }
     {
         parse_members_field::<KeyedEntry, V>(self, alloc, visitor)
     }

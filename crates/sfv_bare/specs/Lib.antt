@@ -1,1 +1,2 @@
 pub mod BareItems
+pub mod Kinds

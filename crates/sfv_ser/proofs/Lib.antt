@@ -2,7 +2,8 @@ pub mod Encoded
 pub mod ReadBack
 pub mod Decimals
 pub mod Written
+pub mod Looks
 pub mod Lent
 pub mod Rows
-pub mod Members
+pub mod Drained
 pub mod Scripts

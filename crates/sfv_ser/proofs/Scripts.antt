@@ -12,15 +12,15 @@ use Rattle.sfv_spec.specs.Texts.{joined}
 use Rattle.sfv_spec.specs.Values.{RawItem, RawParameters, IsItem, inner_list}
 use Rattle.sfv_spec.specs.Canonical.{item_text, parameters_text, inner_list_text, dictionary_member_text}
 use Rattle.sfv_bare.specs.BareItems.{ref_value}
-use Rattle.sfv_ser.specs.declared.ser.script.ItemCalls.{ItemCalls}
+use Rattle.sfv_bare.specs.declared.bare.Version.{Version}
+use Rattle.sfv_ser.specs.declared.script.ItemCalls.{ItemCalls}
 use Rattle.sfv_ser.specs.Scripts.{called_param, called_item}
-use Rattle.sfv_ser.specs.declared.ser.member_serializer.MemberSerializer.{MemberSerializer}
-use Rattle.sfv_ser.specs.declared.ser.inner_list_serializer.InnerListSerializer.{InnerListSerializer}
-use Rattle.sfv_ser.specs.Texts.{Text}
+use Rattle.sfv_ser.specs.declared.kind.InnerListItems.{InnerListItems}
+use Rattle.sfv_ser.specs.declared.parts.Parts.{Parts}
+use Rattle.sfv_ser.specs.declared.sink.Sink.{Ghosts as Sink}
 use Rattle.sfv_ser.specs.Written.{Extends, lead, led, still_first, IsCutBack}
-use Rattle.sfv_ser.specs.Serializers.{SameMembers, HasMoreMembers, KeepsMembers, GrowsMembers, GrowsItems, items_sink}
-use Rattle.sfv_ser.specs.Serializers.{members_sink, has_no_member}
-use Rattle.sfv_ser.specs.Serializers.{length_before}
+use Rattle.sfv_ser.specs.Serializers.{HasMoreParts, KeepsParts, GrowsParts, AreCutBack, lent_parts, parts_sink}
+use Rattle.sfv_ser.specs.Serializers.{has_no_part, length_before}
 use Rattle.sfv_ser.proofs.Rows.{IsLed, mapped_more, still_first-false}
 
 still_first-append : {A : Type 0} (b : Bool) (xs ys : List A)
@@ -120,59 +120,60 @@ extends_again a b c e f = (e.0 ++ f.0, f.1 ∙ ap (λ (l : List ℕ). l ++ f.0) 
 pub of_error : {A E : Type 0} (r : Result A E) (e : E) (P : Type 0) → r ≡ Err e → OnErr r P → P
 of_error r e P is h = subst (λ (r : Result _ _). OnErr r P) is h
 
-module _ {W K : Type 0} (same : W → W → Type 0) (text : W → Text) where
+module _ {W K : Type 0} (w : Sink W) where
   -- what is known of a serializer holds of the value that its loan ends at
-  pub kept_as : (s v : MemberSerializer W K) (b : W) (f : Bool) → KeepsMembers same text s v → b ≡ v.buffer
-      → f ≡ v.is_first
-      → same s.buffer b × (string_bytes (text b) ≡ string_bytes (text s.buffer)) × (f ≡ s.is_first)
-  kept_as s v b f h e k = (rw e h.0, rw e h.1, k ∙ h.2)
+  pub kept_as : (s v : Parts W K) (b : W) (f : Bool) (r : Version) (k : K) → KeepsParts w s v → b ≡ v.sink
+      → f ≡ v.is_first → r ≡ v.version → k ≡ v.kind
+      → w.same s.sink b × (string_bytes (w.text b) ≡ string_bytes (w.text s.sink)) × (f ≡ s.is_first) × (r ≡ s.version)
+      × (k ≡ s.kind)
+  kept_as s v b f r k h e i l q = (rw e h.0, rw e h.1, i ∙ h.2, l ∙ h.3, q ∙ h.4)
 
-  pub more_as : (s v : MemberSerializer W K) (b : W) (f : Bool) (more : List ℕ) (is_first : Bool)
-      → HasMoreMembers same text s v more is_first → b ≡ v.buffer → f ≡ v.is_first
-      → same s.buffer b × (string_bytes (text b) ≡ string_bytes (text s.buffer) ++ more) × (f ≡ is_first)
-  more_as s v b f more is_first h e k = (rw e h.0, rw e h.1, k ∙ h.2)
+  pub more_as : (s v : Parts W K) (b : W) (f : Bool) (r : Version) (k : K) (more : List ℕ) (is_first : Bool)
+      → HasMoreParts w s v more is_first → b ≡ v.sink → f ≡ v.is_first → r ≡ v.version → k ≡ v.kind
+      → w.same s.sink b × (string_bytes (w.text b) ≡ string_bytes (w.text s.sink) ++ more) × (f ≡ is_first)
+      × (r ≡ s.version) × (k ≡ s.kind)
+  more_as s v b f r k more is_first h e i l q = (rw e h.0, rw e h.1, i ∙ h.2, l ∙ h.3, q ∙ h.4)
 
-module _ {W K : Type 0} (same : W → W → Type 0) (text : W → Text)
-    (again : (r s t : W) → same r s → same s t → same r t) where
+module _ {W K : Type 0} (w : Sink W) (again : (r s t : W) → w.same r s → w.same s t → w.same r t) where
   -- more is written behind it
-  pub more_grown : (s t u : MemberSerializer W K) (more : List ℕ) (is_first : Bool) → GrowsMembers same text s t
-      → HasMoreMembers same text t u more is_first → GrowsMembers same text s u
-  more_grown s t u more is_first g h = (again _ _ _ g.0 h.0, extends_again _ _ _ g.1 (more, h.1))
+  pub more_grown : (s t u : Parts W K) (more : List ℕ) (is_first : Bool) → GrowsParts w s t
+      → HasMoreParts w t u more is_first → GrowsParts w s u
+  more_grown s t u more is_first g h = (again _ _ _ g.0 h.0, extends_again _ _ _ g.1 (more, h.1), h.4 ∙ g.2)
 
   -- an inner list was begun, and its items were written
-  pub begun_grown : (s : MemberSerializer W K) (t u : InnerListSerializer (MutBor (MemberSerializer W K)))
-      (more : List ℕ) (is_first : Bool) → HasMoreMembers same text s (items_sink t).now more is_first
-      → GrowsItems (SameMembers same) (λ a. text a.now.buffer) t u → GrowsMembers same text s (items_sink u).now
-  begun_grown s t u more is_first h g = (again _ _ _ h.0 g.0.1, extends_again _ _ _ (more, h.1) g.1)
+  pub begun_grown : (s : Parts W K) (t u : Parts (MutBor (Parts W K)) InnerListItems)
+      (more : List ℕ) (is_first : Bool) → HasMoreParts w s (parts_sink t).now more is_first
+      → GrowsParts (lent_parts w) t u → GrowsParts w s (parts_sink u).now
+  begun_grown s t u more is_first h g =
+      (again _ _ _ h.0 g.0.1, extends_again _ _ _ (more, h.1) g.1, g.0.4 ∙ h.4)
 
   -- the next call was out of memory
-  pub kept_grown : (s t u : MemberSerializer W K) (b : W) → GrowsMembers same text s t → KeepsMembers same text t u
-      → b ≡ u.buffer → same s.buffer b × Extends (string_bytes (text s.buffer)) (string_bytes (text b))
-  kept_grown s t u b g h e = rw e (again _ _ _ g.0 h.0, extends_again _ _ _ g.1 ([], h.1 ∙ sym (append-nil _)))
+  pub kept_grown : (s t u : Parts W K) (b : W) (k : K) → GrowsParts w s t → KeepsParts w t u → b ≡ u.sink → k ≡ u.kind
+      → w.same s.sink b × Extends (string_bytes (w.text s.sink)) (string_bytes (w.text b)) × (k ≡ s.kind)
+  kept_grown s t u b k g h e q =
+      rw e (again _ _ _ g.0 h.0, extends_again _ _ _ g.1 ([], h.1 ∙ sym (append-nil _)), q ∙ h.4 ∙ g.2)
 
   -- an inner list was begun, and was taken away again
-  pub taken_away : (s v : MemberSerializer W K) (t u : InnerListSerializer (MutBor (MemberSerializer W K)))
-      (more : List ℕ) → HasMoreMembers same text s (items_sink t).now more (has_no_member s)
-      → length_before t ≡ string_len (text (members_sink s))
-      → GrowsItems (SameMembers same) (λ a. text a.now.buffer) t u
-      → same (members_sink (items_sink u).now) (members_sink v)
-      → IsCutBack (length_before u) (string_bytes (text (members_sink (items_sink u).now)))
-      (string_bytes (text (members_sink v)))
-      → has_no_member v ≡ has_no_member (items_sink u).now
-      → KeepsMembers same text s v
-  taken_away s v t u more begun long grown kept cut first =
-      let whole : List ℕ = string_bytes (text (members_sink s)) in (
-        again _ _ _ begun.0 (again _ _ _ grown.0.1 kept),
-        cut.back whole (IsUtf8-string_bytes (text (members_sink s)))
-            (grown.2 ∙ long ∙ (text (members_sink s)).bytes.ok.0)
+  pub taken_away : (s v : Parts W K) (t u : Parts (MutBor (Parts W K)) InnerListItems) (more : List ℕ)
+      → HasMoreParts w s (parts_sink t).now more (has_no_part s)
+      → length_before t ≡ string_len (w.text (parts_sink s)) → GrowsParts (lent_parts w) t u
+      → AreCutBack w (length_before u) (parts_sink u).now v → KeepsParts w s v
+  taken_away s v t u more begun long grown cut =
+      let whole : List ℕ = string_bytes (w.text (parts_sink s)) in (
+        again _ _ _ begun.0 (again _ _ _ grown.0.1 cut.0),
+        cut.1.back whole (IsUtf8-string_bytes (w.text (parts_sink s)))
+            (ap (λ k. k.len_before) grown.2 ∙ long ∙ (w.text (parts_sink s)).bytes.ok.0)
             (extends_again whole _ _ (more, begun.1) grown.1),
-        first ∙ grown.0.2 ∙ begun.2,
+        cut.2 ∙ grown.0.2 ∙ begun.2,
+        cut.3 ∙ grown.0.3 ∙ begun.3,
+        cut.4 ∙ grown.0.4 ∙ begun.4,
       )
 
   -- and nothing is left of it
-  pub away_grown : (s v : MemberSerializer W K) (b : W) → ((s : W) → same s s) → KeepsMembers same text s v → b ≡ v.buffer
-      → same s.buffer b × Extends (string_bytes (text s.buffer)) (string_bytes (text b))
-  away_grown s v b itself h e = kept_grown s s v b (itself s.buffer, ([], sym (append-nil _))) h e
+  pub away_grown : (s v : Parts W K) (b : W) (k : K) → ((s : W) → w.same s s) → KeepsParts w s v → b ≡ v.sink
+      → k ≡ v.kind
+      → w.same s.sink b × Extends (string_bytes (w.text s.sink)) (string_bytes (w.text b)) × (k ≡ s.kind)
+  away_grown s v b k itself h e q = kept_grown s s v b k (itself s.sink, ([], sym (append-nil _)), refl) h e q
 
 -- a piece is written behind another
 pub written_behind : (before now new front piece more : List ℕ) → now ≡ before ++ (front ++ piece) → new ≡ now ++ more

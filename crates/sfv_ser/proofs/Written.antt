@@ -1,7 +1,7 @@
 -- A text is written run by run.
 use Rattle.std.proofs.Common.{◌≡◌, ℕ, Bool, true, false, cond, not, List, [], ◌∷◌, ◌++◌, length, take, refl, sym, ap}
 use Rattle.std.proofs.Common.{subst, ◌∙◌, append_assoc, arith, inl, inr}
-use Rattle.std.specs.Prelude.{string_bytes, Result, Ok, Err, OnErr, IsUtf8}
+use Rattle.std.specs.Prelude.{string_bytes, IsUtf8}
 use Rattle.std.specs.Str.{IsCharBoundary}
 use Rattle.std.specs.declared.string.String.{String}
 use Rattle.std.specs.List.{flat_map, list_all}
@@ -102,10 +102,8 @@ cut_nowhere text len whole none = record {
       absurd (none (front_of before text len utf8 whole at more).0);
 }
 
--- a text that was added to may be cut where the old one ended
-pub cut_back : {Z T E : Type 0} (old new : String Z) (result : Result T E) (len : ℕ) → len ≡ length (string_bytes old)
-    → OnErr result (Extends (string_bytes old) (string_bytes new))
-    → OnErr result (IsCharBoundary (string_bytes new) len)
-cut_back old new (Ok x) len is more = tt
-cut_back old new (Err e) len is more =
-    (front_of (string_bytes old) (string_bytes new) len (IsUtf8-string_bytes old) (IsUtf8-string_bytes new) is more).0
+-- a text that was added to and cut back is as it was
+pub cut_to : {Z : Type 0} (old more new : String Z) (len : ℕ) → len ≡ length (string_bytes old)
+    → Extends (string_bytes old) (string_bytes more) → IsCutBack len (string_bytes more) (string_bytes new)
+    → string_bytes new ≡ string_bytes old
+cut_to old more new len is grown cut = cut.back (string_bytes old) (IsUtf8-string_bytes old) is grown

@@ -2,18 +2,18 @@
 use Rattle.std.specs.Prelude.{ℕ, Bool, List, map, codes, if◌then◌else◌}
 use Rattle.sfv_spec.specs.Values.{BareValue, RawItem, RawField, list_field, dictionary_field, item, inner_list}
 use Rattle.sfv_spec.specs.Canonical.{member_text, dictionary_member_text}
-use Rattle.sfv_spec.specs.Calls.{Calls, described, written, abandoned}
+use Rattle.sfv_spec.specs.Calls.{Calls, described, handed, written, abandoned}
 use Rattle.sfv_spec.specs.Calls as spec
 use Rattle.sfv_text.specs.KeyText.{KeyRef, key_text}
 use Rattle.sfv_bare.specs.BareItems.{ref_value}
-use Rattle.sfv_ser.specs.declared.ser.member_serializer.MemberSerializer.{MemberSerializer}
-use Rattle.sfv_ser.specs.Texts.{Text}
+use Rattle.sfv_ser.specs.declared.parts.Parts.{Parts}
+use Rattle.sfv_ser.specs.declared.sink.Sink.{Ghosts as Sink}
 use Rattle.sfv_ser.specs.Written.{led, still_first}
-use Rattle.sfv_ser.specs.Serializers.{HasMoreMembers}
-use Rattle.sfv_ser.specs.declared.ser.script.ParamCall.{ParamCall}
-use Rattle.sfv_ser.specs.declared.ser.script.ItemCalls.{ItemCalls}
-use Rattle.sfv_ser.specs.declared.ser.script.MemberCalls.{MemberCalls}
-use Rattle.sfv_ser.specs.declared.ser.script.MemberCalls.TheVariants as calls
+use Rattle.sfv_ser.specs.Serializers.{HasMoreParts}
+use Rattle.sfv_ser.specs.declared.script.ParamCall.{ParamCall}
+use Rattle.sfv_ser.specs.declared.script.ItemCalls.{ItemCalls}
+use Rattle.sfv_ser.specs.declared.script.MemberCalls.{MemberCalls}
+use Rattle.sfv_ser.specs.declared.script.MemberCalls.TheVariants as calls
 
 -- the key and the value that a call hands over
 abbrev pub called_param : ParamCall → List ℕ × BareValue
@@ -49,6 +49,13 @@ described_list members = described list_field (list_calls members)
 abbrev pub described_dictionary : List (KeyRef × MemberCalls) → RawField dictionary_field
 described_dictionary members = described dictionary_field (dictionary_calls members)
 
+-- what they hand over, abandoned inner lists too
+abbrev pub handed_list : List MemberCalls → RawField list_field
+handed_list members = handed list_field (list_calls members)
+
+abbrev pub handed_dictionary : List (KeyRef × MemberCalls) → RawField dictionary_field
+handed_dictionary members = handed dictionary_field (dictionary_calls members)
+
 -- what calls write, behind members or as the first of a list or a dictionary
 abbrev pub list_text : Bool → Calls list_field → List ℕ
 list_text is_first calls = led is_first (codes ", ") (map member_text (described list_field calls))
@@ -57,13 +64,12 @@ abbrev pub dictionary_text : Bool → Calls dictionary_field → List ℕ
 dictionary_text is_first calls =
     led is_first (codes ", ") (map dictionary_member_text (described dictionary_field calls))
 
-module _ {W : Type 0} (same : W → W → Type 0) (text : W → Text) where
+module _ {W : Type 0} (w : Sink W) where
   -- the calls were performed
-  abbrev pub WritesList : {K : Type 0} → MemberSerializer W K → MemberSerializer W K → Calls list_field → Type 0
-  WritesList s t calls = HasMoreMembers same text s t (list_text s.is_first calls)
+  abbrev pub WritesList : {K : Type 0} → Parts W K → Parts W K → Calls list_field → Type 0
+  WritesList s t calls = HasMoreParts w s t (list_text s.is_first calls)
       (still_first s.is_first (described list_field calls))
 
-  abbrev pub WritesDictionary : {K : Type 0} → MemberSerializer W K → MemberSerializer W K → Calls dictionary_field
-      → Type 0
-  WritesDictionary s t calls = HasMoreMembers same text s t (dictionary_text s.is_first calls)
+  abbrev pub WritesDictionary : {K : Type 0} → Parts W K → Parts W K → Calls dictionary_field → Type 0
+  WritesDictionary s t calls = HasMoreParts w s t (dictionary_text s.is_first calls)
       (still_first s.is_first (described dictionary_field calls))

@@ -11,8 +11,8 @@ ghost use Rattle.sfv.specs.Trees.{item_tree};
 ghost use Rattle.sfv.specs.Values.{integer};
 
 use sfv::{
-    BareItem, BareItemFromInput, Date, Decimal, Error, Integer, Item, KeyRef, OutOfMemory,
-    RefBareItem, StringFromInput,
+    BareItem, BareItemFromInput, Date, Decimal, Error, Integer, Item, KeyRef, RefBareItem,
+    SerializeError, StringFromInput,
 };
 use sfv_uses::writing::write_item;
 use std::alloc::AllocError;
@@ -23,7 +23,7 @@ pub fn write_twice(
     text: &mut String,
     value: RefBareItem<'_>,
     key: KeyRef<'_>,
-) -> Result<(), OutOfMemory>
+) -> Result<(), SerializeError>
     ensures { OnOk result (string_bytes text.new ≡ string_bytes text.old
         ++ item_text (record {
           bare = ref_value value.entry;

@@ -25,6 +25,8 @@ mod scripts;
 #[cfg(test)]
 mod uses;
 #[cfg(test)]
+mod versions;
+#[cfg(test)]
 mod visitors;
 #[cfg(test)]
 mod written;

@@ -2,7 +2,7 @@
 
 use sfv::{
     Decimal, DictSerializer, Dictionary, FieldType, GenericBareItem, InnerListSerializer, KeyRef,
-    List, ListEntry, ListSerializer, OutOfMemory, Parser, RefBareItem, Sink, integer, key_ref,
+    List, ListEntry, ListSerializer, Parser, RefBareItem, SerializeError, Sink, integer, key_ref,
     string_ref, token_ref,
 };
 use std::test::Fail;
@@ -11,7 +11,7 @@ use std::test::Fail;
 fn put<X: Sink>(
     inner: &mut InnerListSerializer<X>,
     value: RefBareItem<'_>,
-) -> Result<(), OutOfMemory> {
+) -> Result<(), SerializeError> {
     inner.bare_item(value)?.finish();
     Ok(())
 }
@@ -22,7 +22,7 @@ fn put_with<X: Sink>(
     value: RefBareItem<'_>,
     key: KeyRef<'_>,
     param: RefBareItem<'_>,
-) -> Result<(), OutOfMemory> {
+) -> Result<(), SerializeError> {
     inner.bare_item(value)?.parameter(key, param)?.finish();
     Ok(())
 }

@@ -1,13 +1,19 @@
 -- What a field's text is, where nothing may have been written.
-use Rattle.std.proofs.Common.{◌≡◌, ℕ, List, [], ◌∷◌, ◌++◌, Option, Some, None, Result, Ok, Err, refl, ap, ◌∙◌}
-use Rattle.std.specs.Prelude.{IfOk, codes, string_bytes, option_map}
+use Rattle.std.proofs.Common.{◌≡◌, ℕ, List, [], ◌∷◌, ◌++◌, Option, Some, None, Result, refl, ap, ◌∙◌}
+use Rattle.std.specs.Prelude.{codes, string_bytes, option_map, IfErr, IsErrAnd}
+use Rattle.std.proofs.lemmas.Result.{err_from_is_err_and}
 use Rattle.std.specs.declared.alloc.Global.{Global}
 use Rattle.std.specs.declared.string.String.{String}
 use Rattle.sfv.specs.Values.{Edition, FieldKind, RawField, item_field, list_field, dictionary_field, HasMember}
 use Rattle.sfv.specs.Canonical.{canonical}
 use Rattle.sfv.specs.Statements.{IsParsedAs, IsSerializedAs}
-use Rattle.sfv.specs.Types.{Error}
-use Rattle.sfv_tool.specs.Answers.{text_or_empty, IsAnswer}
+use Rattle.sfv.specs.Calls.{Fits}
+use Rattle.sfv.specs.Events.{bare_values}
+use Rattle.sfv.specs.Versions.{IsSerializeError}
+use Rattle.sfv.specs.Types.{SerializeError}
+use Rattle.sfv_tool.specs.declared.answer.ToolFault.{ToolFault}
+use Rattle.sfv_tool.specs.declared.answer.ToolFault.TheVariants as faults
+use Rattle.sfv_tool.specs.Answers.{text_or_empty, IsAnswer, IsToolFault}
 
 -- nothing is written of a field without members
 empty_text : (kind : FieldKind) (value : RawField kind) → ¬ HasMember kind value → [] ≡ canonical kind value
@@ -17,16 +23,27 @@ empty_text list_field (m ∷ ms) none = absurd (none (m, ms, refl))
 empty_text dictionary_field [] none = refl
 empty_text dictionary_field (m ∷ ms) none = absurd (none (m, ms, refl))
 
-pub serialized_line : (kind : FieldKind) (value : RawField kind) (o : Option (String Global))
-    → IsSerializedAs kind value (option_map string_bytes o) → text_or_empty o ≡ canonical kind value
-serialized_line kind value None h = empty_text kind value h
-serialized_line kind value (Some text) h = h.1.text
+pub serialized_line : (edition : Edition) (kind : FieldKind) (value : RawField kind) (o : Option (String Global))
+    → IsSerializedAs edition kind value (option_map string_bytes o) → text_or_empty o ≡ canonical kind value
+serialized_line edition kind value None h = empty_text kind value h
+serialized_line edition kind value (Some text) h = h.1.text
 
 -- the line of a field that was read
-pub answered : (edition : Edition) (kind : FieldKind) (input : List ℕ) (value : RawField kind)
-    (o : Option (String Global)) (r : Result (String Global) Error) → IsParsedAs edition kind input value
-    → text_or_empty o ≡ canonical kind value → IfOk r (λ line. string_bytes line ≡ text_or_empty o ++ codes "\n")
-    → IfOk r (λ text. IsAnswer edition kind input (string_bytes text))
-answered edition kind input value o (Ok line) parsed same h =
-    record { value = value; parsed = parsed; written = h ∙ ap (λ (t : List ℕ). t ++ codes "\n") same }
-answered edition kind input value o (Err e) parsed same h = tt
+pub answered : (reading writing : Edition) (kind : FieldKind) (input : List ℕ) (value : RawField kind)
+    (o : Option (String Global)) (line : List ℕ) → IsParsedAs reading kind input value → Fits writing kind value
+    → text_or_empty o ≡ canonical kind value → line ≡ text_or_empty o ++ codes "\n"
+    → IsAnswer reading writing kind input line
+answered reading writing kind input value o line parsed fits same h = record {
+  value = value;
+  parsed = parsed;
+  fits = fits;
+  written = h ∙ ap (λ (t : List ℕ). t ++ codes "\n") same;
+}
+
+-- what was read isn't written
+pub write_fails : (reading writing : Edition) (kind : FieldKind) (t : List ℕ) (value : RawField kind)
+    (r : Result (String Global) ToolFault) (e : SerializeError) → IsErrAnd r (λ f. f ≡ faults.Write e)
+    → IsParsedAs reading kind t value → IsSerializeError writing (bare_values kind value) e
+    → IfErr r (IsToolFault reading writing kind t)
+write_fails reading writing kind t value r e exit parsed h =
+    let p = err_from_is_err_and r exit in rw (p.1, p.2) (value, parsed, h)

@@ -6,6 +6,13 @@ use Rattle.std.specs.declared.string.String.{String}
 use Rattle.sfv.specs.Values.{Edition, FieldKind, item_field, list_field, dictionary_field, RawField}
 use Rattle.sfv.specs.Canonical.{canonical}
 use Rattle.sfv.specs.Statements.{IsParsedAs}
+use Rattle.sfv.specs.Events.{bare_values}
+use Rattle.sfv.specs.Calls.{Fits}
+use Rattle.sfv.specs.Errors.{error_text}
+use Rattle.sfv.specs.Parsers.{IsParseError}
+use Rattle.sfv.specs.Versions.{IsSerializeError, serialize_error_text}
+use Rattle.sfv_tool.specs.declared.answer.ToolFault.{ToolFault}
+use Rattle.sfv_tool.specs.declared.answer.ToolFault.TheVariants as faults
 use Rattle.sfv_tool.specs.declared.answer.Field.{Field}
 use Rattle.sfv_tool.specs.declared.answer.Field.TheVariants as field
 
@@ -24,8 +31,21 @@ abbrev pub text_or_empty : Option (String Global) → List ℕ
 text_or_empty None = []
 text_or_empty (Some text) = string_bytes text
 
--- the canonical text of the ordered value that the input is read as, and a newline
-pub record IsAnswer (edition : Edition) (kind : FieldKind) (input text : List ℕ) : Type 0 where
+-- the canonical text of the ordered value that the input is read as by the one edition and that fits the other, and a
+-- newline
+pub record IsAnswer (reading writing : Edition) (kind : FieldKind) (input text : List ℕ) : Type 0 where
   pub value : RawField kind
-  pub parsed : IsParsedAs edition kind input value
+  pub parsed : IsParsedAs reading kind input value
+  pub fits : Fits writing kind value
   pub written : text ≡ canonical kind value ++ codes "\n"
+
+-- what a fault prints
+abbrev pub tool_fault_text : ToolFault → List ℕ
+tool_fault_text (faults.Read error) = error_text error
+tool_fault_text (faults.Write error) = serialize_error_text error
+
+-- the input isn't read, or it is read as a value that isn't written
+abbrev pub IsToolFault : Edition → Edition → FieldKind → List ℕ → ToolFault → Type 0
+IsToolFault reading writing kind t (faults.Read error) = IsParseError reading kind t error
+IsToolFault reading writing kind t (faults.Write error) =
+    (value : RawField kind) × IsParsedAs reading kind t value × IsSerializeError writing (bare_values kind value) error

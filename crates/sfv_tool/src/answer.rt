@@ -1,14 +1,16 @@
 //! What the program returns for an input.
 
-ghost use Rattle.std.specs.Prelude.{◌≡◌, ◌++◌, IfOk, IfErr, codes, string_bytes};
-ghost use Rattle.sfv.specs.Errors.{out_of_memory};
+ghost use Rattle.std.specs.Prelude.{◌≡◌, ◌++◌, Some, IfOk, IfErr, codes, string_bytes};
 ghost use Rattle.sfv.specs.Values.{item_field, list_field, dictionary_field};
 ghost use Rattle.sfv.specs.BareItems.{edition_of};
-ghost use Rattle.sfv.specs.Parsers.{IsParseError};
-ghost use Rattle.sfv_tool.specs.Answers.{kind_of_field, without_newline, text_or_empty, IsAnswer};
+ghost use Rattle.sfv_tool.specs.Answers.{kind_of_field, without_newline, text_or_empty, IsAnswer, IsToolFault};
+ghost use Rattle.sfv_tool.specs.Answers.{tool_fault_text};
+ghost use Rattle.sfv.specs.Types.serialize_errors as serialize_errors;
+ghost use Rattle.sfv_tool.specs.declared.answer.ToolFault.TheVariants as faults;
 
-use sfv::{Dictionary, Error, FieldType, Item, List, Parser, Version};
+use sfv::{Dictionary, Error, FieldType, Item, List, Parser, SerializeError, Version};
 use std::alloc::Global;
+use std::fmt;
 
 /// The types of fields that the program reads.
 #[derive(Clone, Copy, Debug, PartialEq, Eq)]
@@ -19,6 +21,44 @@ pub enum Field {
     List,
     /// A dictionary.
     Dict,
+}
+
+/// Why there is no answer.
+#[derive(Clone, Copy, Debug, PartialEq, Eq)]
+pub enum ToolFault {
+    /// The input isn't read.
+    Read(Error),
+    /// What was read isn't written.
+    Write(SerializeError),
+}
+
+impl fmt::Display for ToolFault {
+    ghost output = { λ fault. Some (tool_fault_text fault) };
+
+    fn fmt<W: fmt::Write>(&self, f: &mut fmt::Formatter<W>) -> fmt::Result {
+        match self {
+            ToolFault::Read(error) => write!(f, "{error}"),
+            ToolFault::Write(error) => write!(f, "{error}"),
+        }
+    }
+}
+
+impl std::error::Error for ToolFault {}
+
+impl From<Error> for ToolFault {
+    ghost from_gives = { λ error fault. fault ≡ faults.Read error };
+
+    fn from(error: Error) -> ToolFault {
+        ToolFault::Read(error)
+    }
+}
+
+impl From<SerializeError> for ToolFault {
+    ghost from_gives = { λ error fault. fault ≡ faults.Write error };
+
+    fn from(error: SerializeError) -> ToolFault {
+        ToolFault::Write(error)
+    }
 }
 
 /// The input without one closing newline byte, if there is one.
@@ -32,65 +72,93 @@ fn without_newline(input: &[u8]) -> &[u8]
 }
 
 /// The line of a field's text, which is empty where nothing was written.
-fn line(alloc: Global, text: Option<String>) -> Result<String, Error>
+fn line(alloc: Global, text: Option<String>) -> Result<String, SerializeError>
     ensures line { IfOk result (λ line. string_bytes line ≡ text_or_empty text ++ codes "\n") }
-    ensures out_of_memory { IfErr result (λ error. error ≡ out_of_memory) }
+    ensures out_of_memory { IfErr result (λ error. error ≡ serialize_errors.OutOfMemory) }
 {
     let mut line = match text {
         Some(text) => text,
         None => String::new(alloc),
     };
-    line.push('\n')?;
+    if line.push('\n').is_err() {
+        return Err(SerializeError::OutOfMemory);
+    }
     Ok(line)
 }
 
-/// Reads the input as an item, and returns its canonical text and a newline.
-fn answer_item(alloc: Global, version: Version, input: &[u8]) -> Result<String, Error>
-    ensures accepted { IfOk result (λ text. IsAnswer (edition_of version) item_field input.now (string_bytes text)) }
-    ensures rejected { IfErr result (IsParseError (edition_of version) item_field input.now) }
+/// Reads the input as an item under the one version, and returns its canonical text for the other, and a newline.
+fn answer_item(
+    alloc: Global,
+    reading: Version,
+    writing: Version,
+    input: &[u8],
+) -> Result<String, ToolFault>
+    ensures accepted { IfOk result (λ text.
+        IsAnswer (edition_of reading) (edition_of writing) item_field input.now (string_bytes text)) }
+    ensures failed { IfErr result (IsToolFault (edition_of reading) (edition_of writing) item_field input.now) }
 {
-    let parser = Parser::new(input).with_version(version);
+    let parser = Parser::new(input).with_version(reading);
     let item = parser.parse::<Item>(alloc)?;
-    line(alloc, Some(item.serialize(alloc)?))
+    let text = item.serialize_for(alloc, writing)?;
+    Ok(line(alloc, Some(text))?)
 }
 
-/// Reads the input as a list, and returns its canonical text and a newline.
-fn answer_list(alloc: Global, version: Version, input: &[u8]) -> Result<String, Error>
-    ensures accepted { IfOk result (λ text. IsAnswer (edition_of version) list_field input.now (string_bytes text)) }
-    ensures rejected { IfErr result (IsParseError (edition_of version) list_field input.now) }
+/// Reads the input as a list under the one version, and returns its canonical text for the other, and a newline.
+fn answer_list(
+    alloc: Global,
+    reading: Version,
+    writing: Version,
+    input: &[u8],
+) -> Result<String, ToolFault>
+    ensures accepted { IfOk result (λ text.
+        IsAnswer (edition_of reading) (edition_of writing) list_field input.now (string_bytes text)) }
+    ensures failed { IfErr result (IsToolFault (edition_of reading) (edition_of writing) list_field input.now) }
 {
-    let parser = Parser::new(input).with_version(version);
+    let parser = Parser::new(input).with_version(reading);
     let list = parser.parse::<List>(alloc)?;
-    line(alloc, list.serialize(alloc)?)
+    let text = list.serialize_for(alloc, writing)?;
+    Ok(line(alloc, text)?)
 }
 
-/// Reads the input as a dictionary, and returns its canonical text and a newline.
-fn answer_dictionary(alloc: Global, version: Version, input: &[u8]) -> Result<String, Error>
-    ensures accepted { IfOk result (λ text. IsAnswer (edition_of version) dictionary_field input.now
-        (string_bytes text)) }
-    ensures rejected { IfErr result (IsParseError (edition_of version) dictionary_field input.now) }
+/// Reads the input as a dictionary under the one version, and returns its canonical text for the other, and a newline.
+fn answer_dictionary(
+    alloc: Global,
+    reading: Version,
+    writing: Version,
+    input: &[u8],
+) -> Result<String, ToolFault>
+    ensures accepted { IfOk result (λ text.
+        IsAnswer (edition_of reading) (edition_of writing) dictionary_field input.now (string_bytes text)) }
+    ensures failed { IfErr result (IsToolFault (edition_of reading) (edition_of writing) dictionary_field input.now) }
 {
-    let parser = Parser::new(input).with_version(version);
+    let parser = Parser::new(input).with_version(reading);
     let dictionary = parser.parse::<Dictionary>(alloc)?;
-    line(alloc, dictionary.serialize(alloc)?)
+    let text = dictionary.serialize_for(alloc, writing)?;
+    Ok(line(alloc, text)?)
 }
 
-/// Reads the input, without one closing newline byte, as a field of this type, and returns its
-/// canonical text and a newline, for a list or a dictionary without members the newline alone.
+/// Reads the input, without one closing newline byte, as a field of this type under the one version, and returns its
+/// canonical text for the other and a newline, for a list or a dictionary without members the newline alone.
 ///
 /// # Errors
 ///
-/// The fault that `Parser::parse` returns.
-pub fn answer(alloc: Global, field: Field, version: Version, input: &[u8]) -> Result<String, Error>
-    ensures accepted { IfOk result (λ text. IsAnswer (edition_of version) (kind_of_field field)
+/// `Read` with the error of `Parser::parse`, and `Write` with that of `FieldType::serialize_for`.
+pub fn answer(
+    alloc: Global,
+    field: Field,
+    reading: Version,
+    writing: Version,
+    input: &[u8],
+) -> Result<String, ToolFault>
+    ensures accepted { IfOk result (λ text. IsAnswer (edition_of reading) (edition_of writing) (kind_of_field field)
         (without_newline input.now) (string_bytes text)) }
-    ensures rejected { IfErr result (IsParseError (edition_of version) (kind_of_field field)
+    ensures failed { IfErr result (IsToolFault (edition_of reading) (edition_of writing) (kind_of_field field)
         (without_newline input.now)) }
 {
     let input = without_newline(input);
     match field {
-        Field::Item => answer_item(alloc, version, input),
-        Field::List => answer_list(alloc, version, input),
-        Field::Dict => answer_dictionary(alloc, version, input),
+        Field::Item => answer_item(alloc, reading, writing, input),
+        Field::List => answer_list(alloc, reading, writing, input),
+        Field::Dict => answer_dictionary(alloc, reading, writing, input),
     }
 }

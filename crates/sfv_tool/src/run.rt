@@ -2,7 +2,7 @@
 
 ghost use Rattle.std.specs.Prelude.{◌≡◌, ◌≤◌, ◌↔◌, IfSome, IfNone, OnOk, map, string_bytes};
 ghost use Rattle.std.specs.Io.KnownBytes.{Appends};
-ghost use Rattle.sfv_tool.specs.Runs.{Names, NamesNothing, Requests, IsAnswered, IsFailed};
+ghost use Rattle.sfv_tool.specs.Runs.{Names, NamesNothing, Requests, IsAnswered, IsFailed, field_word, version_word};
 
 use crate::answer::{Field, answer};
 use sfv::Version;
@@ -16,26 +16,54 @@ const FAILED: u8 = 1;
 
 const WRONG_ARGUMENTS: u8 = 2;
 
-/// Returns the field and the version that the arguments name.
-fn request(args: &[String]) -> Option<(Field, Version)>
+/// What the program is asked for.
+#[derive(Clone, Copy)]
+pub struct Request {
+    field: Field,
+    reading: Version,
+    writing: Version,
+}
+
+/// Returns the field that the argument names.
+fn field_of(arg: &str) -> Option<Field>
+    ensures named { IfSome result (λ field. arg.now ≡ field_word field) }
+    ensures none { IfNone result ((field : Field) → ¬ (arg.now ≡ field_word field)) }
+{
+    match arg {
+        "item" => Some(Field::Item),
+        "list" => Some(Field::List),
+        "dict" => Some(Field::Dict),
+        _ => None,
+    }
+}
+
+/// Returns the version that the argument names.
+fn version_of(arg: &str) -> Option<Version>
+    ensures named { IfSome result (λ version. arg.now ≡ version_word version) }
+    ensures none { IfNone result ((version : Version) → ¬ (arg.now ≡ version_word version)) }
+{
+    match arg {
+        "8941" => Some(Version::Rfc8941),
+        "9651" => Some(Version::Rfc9651),
+        _ => None,
+    }
+}
+
+/// Returns what the arguments ask for: without a version of writing, RFC 9651.
+fn requested(args: &[String]) -> Option<Request>
     ensures named { IfSome result (Names (map string_bytes args.now)) }
     ensures none { IfNone result (NamesNothing (map string_bytes args.now)) }
 {
-    let [field, version] = args else {
-        return None;
-    };
-    let field = match field.as_str() {
-        "item" => Field::Item,
-        "list" => Field::List,
-        "dict" => Field::Dict,
+    let (field, reading, writing) = match args {
+        [field, reading] => (field, reading, Version::Rfc9651),
+        [field, reading, writing] => (field, reading, version_of(writing.as_str())?),
         _ => return None,
     };
-    let version = match version.as_str() {
-        "8941" => Version::Rfc8941,
-        "9651" => Version::Rfc9651,
-        _ => return None,
-    };
-    Some((field, version))
+    Some(Request {
+        field: field_of(field.as_str())?,
+        reading: version_of(reading.as_str())?,
+        writing,
+    })
 }
 
 /// Writes all of the text, and flushes it.
@@ -49,7 +77,7 @@ fn print<W: Write>(text: &str, output: &mut W) -> io::Result<()>
 /// Reads all of the input, and writes the answer to `output`, or what is wrong to `errors`. Returns the exit status.
 fn convert<R: Read, W: Write, E: Write>(
     alloc: Global,
-    request: (Field, Version),
+    request: Request,
     input: &mut R,
     output: &mut W,
     errors: &mut E,
@@ -65,7 +93,13 @@ fn convert<R: Read, W: Write, E: Write>(
         let _ = errors.write_all(b"error: cannot read input\n");
         return FAILED;
     }
-    match answer(alloc, request.0, request.1, bytes.as_slice()) {
+    match answer(
+        alloc,
+        request.field,
+        request.reading,
+        request.writing,
+        bytes.as_slice(),
+    ) {
         Ok(text) => {
             if print(text.as_str(), output).is_err() {
                 let _ = errors.write_all(b"error: cannot write output\n");
@@ -99,10 +133,10 @@ pub fn run<R: Read, W: Write, E: Write>(
     ensures unread { result ≡ WRONG_ARGUMENTS → (input.new ≡ input.old) × (output.new ≡ output.old) }
     ensures status { result ≤ WRONG_ARGUMENTS }
 {
-    match request(args) {
+    match requested(args) {
         Some(request) => convert(alloc, request, input, output, errors),
         None => {
-            let _ = errors.write_all(b"usage: sfv_tool item|list|dict 8941|9651\n");
+            let _ = errors.write_all(b"usage: sfv_tool item|list|dict 8941|9651 [8941|9651]\n");
             WRONG_ARGUMENTS
         }
     }

@@ -180,15 +180,60 @@ fn lists_and_dictionaries(rt: HostRuntime) -> Result<(), Fail> {
     Ok(())
 }
 
+/// The version of writing is the third argument.
+#[test]
+fn versions_of_writing(rt: HostRuntime) -> Result<(), Fail> {
+    let dates = "error: RFC 8941 does not support dates\n";
+    let display = "error: RFC 8941 does not support display strings\n";
+    let rows: [(&[&str], &[u8], &str, &str, u8); 9] = [
+        (
+            &["dict", "9651", "8941"],
+            b"a=1;x=%\"q\", b=@2\n",
+            "",
+            display,
+            1,
+        ),
+        (&["dict", "9651", "8941"], b"a=@1, a=2\n", "a=2\n", "", 0),
+        (&["dict", "9651", "9651"], b"a=@1\n", "a=@1\n", "", 0),
+        (&["list", "9651", "8941"], b"\n", "\n", "", 0),
+        (&["list", "9651", "8941"], b"1, (2;a=@3 4)\n", "", dates, 1),
+        (
+            &["list", "8941", "8941"],
+            b"1, (2 4)\n",
+            "1, (2 4)\n",
+            "",
+            0,
+        ),
+        (&["item", "9651", "8941"], b"@5\n", "", dates, 1),
+        (&["item", "9651", "8941"], b"5\n", "5\n", "", 0),
+        (
+            &["item", "8941", "9651"],
+            b"@5\n",
+            "",
+            "error: RFC 8941 does not support dates at index 0\n",
+            1,
+        ),
+    ];
+    for (args, input, output, errors, status) in rows {
+        let ended = run_over(rt.alloc(), args, input)?;
+        assert_eq!(rt; ended.output.as_slice(), output.as_bytes());
+        assert_eq!(rt; ended.errors.as_slice(), errors.as_bytes());
+        assert_eq!(rt; ended.status, status);
+    }
+    Ok(())
+}
+
 #[test]
 fn usage(rt: HostRuntime) -> Result<(), Fail> {
-    let usage = "usage: sfv_tool item|list|dict 8941|9651\n";
-    let rows: [&[&str]; 9] = [
+    let usage = "usage: sfv_tool item|list|dict 8941|9651 [8941|9651]\n";
+    let rows: [&[&str]; 11] = [
         &[],
         &["item"],
         &["item", "9652"],
         &["Item", "9651"],
-        &["item", "9651", "9651"],
+        &["item", "9651", "9652"],
+        &["item", "9651", "9651", "9651"],
+        &["item", "9651", "item"],
         &["lists", "9651"],
         &["dictionary", "9651"],
         &["dict"],

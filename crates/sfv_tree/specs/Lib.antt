@@ -1,4 +1,4 @@
 pub mod Trees
-pub mod Kinds
+pub mod ItemFaults
 pub mod Events
 pub mod Builders

@@ -6,7 +6,7 @@
 
 ghost use Rattle.std.specs.Prelude.{◌≡◌, ⊤, Some, OnOk, IfOk, IfErr};
 ghost use Rattle.sfv_spec.specs.Events.{TreeEvent};
-ghost use Rattle.sfv_tree.specs.Kinds.{kind_text, fault_text};
+ghost use Rattle.sfv_tree.specs.ItemFaults.{fault_text};
 ghost use Rattle.sfv_tree.specs.Events.{event_of};
 
 mod dictionary_builder;
@@ -20,6 +20,7 @@ pub use dictionary_builder::DictionaryBuilder;
 pub use item_builder::ItemBuilder;
 pub use list_builder::ListBuilder;
 use sfv_bare::bare::BareItemFromInput;
+pub use sfv_bare::bare::BareItemType;
 use sfv_text::key_ref::KeyRef;
 use std::fmt;
 
@@ -139,50 +140,3 @@ impl fmt::Display for ItemFault {
 }
 
 impl std::error::Error for ItemFault {}
-
-/// The kind of a bare item (RFC 9651, section 3.3).
-#[derive(Clone, Copy, Debug, PartialEq, Eq)]
-pub enum BareItemType {
-    /// A decimal (section 3.3.2).
-    Decimal,
-    /// An integer (section 3.3.1).
-    Integer,
-    /// A string (section 3.3.3).
-    String,
-    /// A byte sequence (section 3.3.5).
-    ByteSequence,
-    /// A boolean (section 3.3.6).
-    Boolean,
-    /// A token (section 3.3.4).
-    Token,
-    /// A date (section 3.3.7).
-    Date,
-    /// A display string (section 3.3.8).
-    DisplayString,
-}
-
-impl BareItemType {
-    // Returns the name of the kind.
-    fn name(self) -> &'static str
-        ensures { result.now ≡ kind_text self }
-    {
-        match self {
-            BareItemType::Decimal => "decimal",
-            BareItemType::Integer => "integer",
-            BareItemType::String => "string",
-            BareItemType::ByteSequence => "byte sequence",
-            BareItemType::Boolean => "boolean",
-            BareItemType::Token => "token",
-            BareItemType::Date => "date",
-            BareItemType::DisplayString => "display string",
-        }
-    }
-}
-
-impl fmt::Display for BareItemType {
-    ghost output = { λ kind. Some (kind_text kind) };
-
-    fn fmt<W: fmt::Write>(&self, f: &mut fmt::Formatter<W>) -> fmt::Result {
-        f.write_str(self.name())
-    }
-}

@@ -105,7 +105,7 @@ AreDigests-members d = go d.sha_256 d.sha_512
 
 -- so what is written is read as these digests
 pub digests_written : (d : Digests) (o : Option (String Global))
-    → IsSerializedAs dictionary_field (digest_members d) (option_map string_bytes o)
+    → IsSerializedAs rfc9651 dictionary_field (digest_members d) (option_map string_bytes o)
     → IfSome o (λ text. IsContentDigest (string_bytes text) d)
 digests_written d None h = tt
 digests_written d (Some text) h =

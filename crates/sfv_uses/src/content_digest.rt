@@ -2,7 +2,7 @@
 
 ghost use Rattle.std.specs.Prelude.{◌≡◌, ◌≢◌, ◌↔◌, None, IfOk, IfErr, IfSome, OnOk, OnErr, MatchOption};
 ghost use Rattle.std.specs.Prelude.{option_map, option_copied, string_bytes};
-ghost use Rattle.sfv.specs.Values.{dictionary_field};
+ghost use Rattle.sfv.specs.Values.{rfc9651, dictionary_field};
 ghost use Rattle.sfv.specs.Statements.{IsSerializedAs};
 ghost use Rattle.sfv.specs.Errors.{out_of_memory};
 ghost use Rattle.sfv.specs.KeyText.{key_text};
@@ -162,7 +162,7 @@ fn dictionary_of(alloc: Global, digest: &ContentDigest) -> Result<Dictionary, Ou
 /// Out of memory, only where there is a digest.
 pub fn write(alloc: Global, digest: &ContentDigest) -> Result<Option<String>, OutOfMemory>
     ensures text { IfOk result (λ text.
-        IsSerializedAs dictionary_field (digest_members (digests_in digest.now)) (option_map string_bytes text)) }
+        IsSerializedAs rfc9651 dictionary_field (digest_members (digests_in digest.now)) (option_map string_bytes text)) }
     ensures read_back { IfOk result (λ text.
         IfSome text (λ text. IsContentDigest (string_bytes text) (digests_in digest.now))) }
     ensures none { IfOk result (λ text. (text ≡ None) ↔ (digests_in digest.now ≡ no_digests)) }

@@ -5,5 +5,6 @@ pub mod content_digest;
 pub mod expecting;
 pub mod reading;
 pub mod serializing;
+pub mod versions;
 pub mod visiting;
 pub mod writing;

@@ -10,15 +10,15 @@ ghost use Rattle.sfv.specs.Errors.{out_of_memory};
 ghost use Rattle.sfv.specs.BareItems.{ref_value};
 ghost use Rattle.sfv.specs.KeyText.{key_text};
 ghost use Rattle.sfv.specs.Written.{lead, led};
-ghost use Rattle.sfv.specs.Serializers.{SameMembers, HasMoreMembers, HasMoreItems, GrowsItems, KeepsMembers};
-ghost use Rattle.sfv.specs.Serializers.{inner_list_name, has_no_member, has_no_item};
+ghost use Rattle.sfv.specs.Serializers.{lent_parts, HasMoreParts, GrowsParts, KeepsParts};
+ghost use Rattle.sfv.specs.Serializers.{inner_list_name, has_no_part};
 ghost use Rattle.sfv_uses.specs.Uses.{item_of_one, item_of_two, pair_of};
 
 use crate::writing::write_item;
 use sfv::script::{MemberCalls, run_list};
 use sfv::{
     Decimal, DictSerializer, Error, GenericBareItem, InnerListSerializer, KeyRef, List,
-    ListSerializer, MemberSerializer, OutOfMemory, Parser, RefBareItem, Sink, integer, key_ref,
+    ListSerializer, Parser, Parts, RefBareItem, SerializeError, Sink, integer, key_ref,
     string_ref, token_ref,
 };
 use std::alloc::Global;
@@ -27,15 +27,15 @@ use std::alloc::Global;
 ///
 /// # Errors
 ///
-/// `OutOfMemory` when out of memory.
+/// Those of the serializer.
 pub fn write_member<W: Sink>(
     list: &mut ListSerializer<W>,
     value: RefBareItem<'_>,
     key: KeyRef<'_>,
     first: RefBareItem<'_>,
     second: RefBareItem<'_>,
-) -> Result<(), OutOfMemory>
-    ensures { OnOk result (HasMoreMembers W.same W.text list.old list.new (lead (has_no_member list.old) (codes ", ")
+) -> Result<(), SerializeError>
+    ensures { OnOk result (HasMoreParts W.Sink list.old list.new (lead (has_no_part list.old) (codes ", ")
         ++ item_text (item_of_two (ref_value value.entry) (key_text key.entry)
         (ref_value first.entry) (ref_value second.entry))) false) }
 {
@@ -51,10 +51,10 @@ pub fn write_member<W: Sink>(
 fn put<X: Sink>(
     inner: &mut InnerListSerializer<X>,
     value: RefBareItem<'_>,
-) -> Result<(), OutOfMemory>
-    ensures text { OnOk result (HasMoreItems X.same X.text inner.old inner.new
-        (lead (has_no_item inner.old) (codes " ") ++ bare_text (ref_value value.entry)) false) }
-    ensures grows { GrowsItems X.same X.text inner.old inner.new }
+) -> Result<(), SerializeError>
+    ensures text { OnOk result (HasMoreParts X.Sink inner.old inner.new
+        (lead (has_no_part inner.old) (codes " ") ++ bare_text (ref_value value.entry)) false) }
+    ensures grows { GrowsParts X.Sink inner.old inner.new }
 {
     inner.bare_item(value)?.finish();
     Ok(())
@@ -65,11 +65,11 @@ fn put_with<X: Sink>(
     inner: &mut InnerListSerializer<X>,
     value: RefBareItem<'_>,
     param: (KeyRef<'_>, RefBareItem<'_>),
-) -> Result<(), OutOfMemory>
-    ensures text { OnOk result (HasMoreItems X.same X.text inner.old inner.new
-        (lead (has_no_item inner.old) (codes " ") ++ item_text (item_of_one (ref_value value.entry)
+) -> Result<(), SerializeError>
+    ensures text { OnOk result (HasMoreParts X.Sink inner.old inner.new
+        (lead (has_no_part inner.old) (codes " ") ++ item_text (item_of_one (ref_value value.entry)
         (key_text param.entry.0) (ref_value param.entry.1))) false) }
-    ensures grows { GrowsItems X.same X.text inner.old inner.new }
+    ensures grows { GrowsParts X.Sink inner.old inner.new }
 {
     let (key, param) = param;
     inner.bare_item(value)?.parameter(key, param)?.finish();
@@ -80,15 +80,15 @@ fn put_with<X: Sink>(
 ///
 /// # Errors
 ///
-/// `OutOfMemory` when out of memory.
+/// Those of the serializer.
 pub fn write_inner<W: Sink, K>(
-    inner: &mut InnerListSerializer<&mut MemberSerializer<W, K>>,
+    inner: &mut InnerListSerializer<&mut Parts<W, K>>,
     value: RefBareItem<'_>,
-) -> Result<(), OutOfMemory>
+) -> Result<(), SerializeError>
     ensures lent { inner_list_name inner.new ≡ inner_list_name inner.old }
-    ensures text { OnOk result (HasMoreItems (SameMembers W.same) (λ s. W.text s.now.buffer) inner.old inner.new
-        (lead (has_no_item inner.old) (codes " ") ++ bare_text (ref_value value.entry)) false) }
-    ensures grows { GrowsItems (SameMembers W.same) (λ s. W.text s.now.buffer) inner.old inner.new }
+    ensures text { OnOk result (HasMoreParts (lent_parts W.Sink) inner.old inner.new
+        (lead (has_no_part inner.old) (codes " ") ++ bare_text (ref_value value.entry)) false) }
+    ensures grows { GrowsParts (lent_parts W.Sink) inner.old inner.new }
 {
     put(inner, value)
 }
@@ -97,12 +97,12 @@ pub fn write_inner<W: Sink, K>(
 ///
 /// # Errors
 ///
-/// `OutOfMemory` when out of memory.
+/// Those of the serializer.
 pub fn abandon_one<W: Sink>(
     list: &mut ListSerializer<W>,
     value: RefBareItem<'_>,
-) -> Result<(), OutOfMemory>
-    ensures { OnOk result (KeepsMembers W.same W.text list.old list.new) }
+) -> Result<(), SerializeError>
+    ensures { OnOk result (KeepsParts W.Sink list.old list.new) }
 {
     let mut inner = list.inner_list()?;
     let written = write_inner(&mut inner, value);
@@ -114,13 +114,13 @@ pub fn abandon_one<W: Sink>(
 ///
 /// # Errors
 ///
-/// `OutOfMemory` when out of memory.
+/// Those of the serializer.
 pub fn write_empty<W: Sink>(
     list: &mut ListSerializer<W>,
     key: KeyRef<'_>,
     param: RefBareItem<'_>,
-) -> Result<(), OutOfMemory>
-    ensures { OnOk result (HasMoreMembers W.same W.text list.old list.new (lead (has_no_member list.old) (codes ", ")
+) -> Result<(), SerializeError>
+    ensures { OnOk result (HasMoreParts W.Sink list.old list.new (lead (has_no_part list.old) (codes ", ")
         ++ inner_list_text (record { items = []; parameters = (key_text key.entry, ref_value param.entry) ∷ [] }))
         false) }
 {
@@ -129,9 +129,9 @@ pub fn write_empty<W: Sink>(
 }
 
 /// Writes the member `1;a;a=2`.
-fn write_one<W: Sink>(list: &mut ListSerializer<W>) -> Result<(), OutOfMemory>
-    ensures { OnOk result (HasMoreMembers W.same W.text list.old list.new
-        (lead (has_no_member list.old) (codes ", ") ++ codes "1;a;a=2") false) }
+fn write_one<W: Sink>(list: &mut ListSerializer<W>) -> Result<(), SerializeError>
+    ensures { OnOk result (HasMoreParts W.Sink list.old list.new
+        (lead (has_no_part list.old) (codes ", ") ++ codes "1;a;a=2") false) }
 {
     let one: RefBareItem = GenericBareItem::Integer(integer(1));
     let two: RefBareItem = GenericBareItem::Integer(integer(2));
@@ -141,9 +141,9 @@ fn write_one<W: Sink>(list: &mut ListSerializer<W>) -> Result<(), OutOfMemory>
 }
 
 /// Writes the member `();b=?0`.
-fn write_none<W: Sink>(list: &mut ListSerializer<W>) -> Result<(), OutOfMemory>
-    ensures { OnOk result (HasMoreMembers W.same W.text list.old list.new
-        (lead (has_no_member list.old) (codes ", ") ++ codes "();b=?0") false) }
+fn write_none<W: Sink>(list: &mut ListSerializer<W>) -> Result<(), SerializeError>
+    ensures { OnOk result (HasMoreParts W.Sink list.old list.new
+        (lead (has_no_part list.old) (codes ", ") ++ codes "();b=?0") false) }
 {
     let no: RefBareItem = GenericBareItem::Boolean(false);
     write_empty(list, key_ref("b"), no)?;
@@ -151,9 +151,9 @@ fn write_none<W: Sink>(list: &mut ListSerializer<W>) -> Result<(), OutOfMemory>
 }
 
 /// Writes both, with an inner list in between that is abandoned.
-fn write_members<W: Sink>(list: &mut ListSerializer<W>) -> Result<(), OutOfMemory>
-    ensures { OnOk result (HasMoreMembers W.same W.text list.old list.new
-        (lead (has_no_member list.old) (codes ", ") ++ codes "1;a;a=2, ();b=?0") false) }
+fn write_members<W: Sink>(list: &mut ListSerializer<W>) -> Result<(), SerializeError>
+    ensures { OnOk result (HasMoreParts W.Sink list.old list.new
+        (lead (has_no_part list.old) (codes ", ") ++ codes "1;a;a=2, ();b=?0") false) }
 {
     let word: RefBareItem = GenericBareItem::Token(token_ref("x"));
     write_one(list)?;
@@ -166,8 +166,8 @@ fn write_members<W: Sink>(list: &mut ListSerializer<W>) -> Result<(), OutOfMemor
 ///
 /// # Errors
 ///
-/// `OutOfMemory` when out of memory.
-pub fn write_list(text: &mut String) -> Result<bool, OutOfMemory>
+/// Those of the serializer.
+pub fn write_list(text: &mut String) -> Result<bool, SerializeError>
     ensures text { OnOk result (string_bytes text.new ≡ string_bytes text.old ++ codes "1;a;a=2, ();b=?0") }
     ensures stands { IfOk result (λ stands. stands ≡ true) }
 {
@@ -180,8 +180,8 @@ pub fn write_list(text: &mut String) -> Result<bool, OutOfMemory>
 fn abandon_named<W: Sink>(
     dictionary: &mut DictSerializer<W>,
     name: KeyRef<'_>,
-) -> Result<(), OutOfMemory>
-    ensures { OnOk result (KeepsMembers W.same W.text dictionary.old dictionary.new) }
+) -> Result<(), SerializeError>
+    ensures { OnOk result (KeepsParts W.Sink dictionary.old dictionary.new) }
 {
     let inner = dictionary.inner_list(name)?;
     inner.abandon();
@@ -192,8 +192,8 @@ fn abandon_named<W: Sink>(
 ///
 /// # Errors
 ///
-/// `OutOfMemory` when out of memory.
-pub fn write_nothing(text: &mut String) -> Result<bool, OutOfMemory>
+/// Those of the serializer.
+pub fn write_nothing(text: &mut String) -> Result<bool, SerializeError>
     ensures text { OnOk result (string_bytes text.new ≡ string_bytes text.old) }
     ensures stands { IfOk result (λ stands. stands ≡ false) }
 {
@@ -206,8 +206,8 @@ pub fn write_nothing(text: &mut String) -> Result<bool, OutOfMemory>
 ///
 /// # Errors
 ///
-/// `OutOfMemory` when out of memory.
-pub fn write_item_of_no_bytes(text: &mut String) -> Result<(), OutOfMemory>
+/// Those of the serializer.
+pub fn write_item_of_no_bytes(text: &mut String) -> Result<(), SerializeError>
     ensures { OnOk result (string_bytes text.new ≡ string_bytes text.old ++ codes "?1;x=::") }
 {
     let yes: RefBareItem = GenericBareItem::Boolean(true);
@@ -220,16 +220,16 @@ pub fn write_item_of_no_bytes(text: &mut String) -> Result<(), OutOfMemory>
 ///
 /// # Errors
 ///
-/// `OutOfMemory` when out of memory.
+/// Those of the serializer.
 pub fn write_named<W: Sink>(
     dictionary: &mut DictSerializer<W>,
     name: KeyRef<'_>,
     value: RefBareItem<'_>,
     key: KeyRef<'_>,
     param: RefBareItem<'_>,
-) -> Result<(), OutOfMemory>
-    ensures { OnOk result (HasMoreMembers W.same W.text dictionary.old dictionary.new
-        (lead (has_no_member dictionary.old) (codes ", ") ++ dictionary_member_text (
+) -> Result<(), SerializeError>
+    ensures { OnOk result (HasMoreParts W.Sink dictionary.old dictionary.new
+        (lead (has_no_part dictionary.old) (codes ", ") ++ dictionary_member_text (
           key_text name.entry,
           item (item_of_one (ref_value value.entry) (key_text key.entry) (ref_value param.entry)),
         )) false) }
@@ -243,14 +243,14 @@ pub fn write_named<W: Sink>(
 ///
 /// # Errors
 ///
-/// `OutOfMemory` when out of memory.
+/// Those of the serializer.
 pub fn write_bare<W: Sink>(
     dictionary: &mut DictSerializer<W>,
     name: KeyRef<'_>,
     value: RefBareItem<'_>,
-) -> Result<(), OutOfMemory>
-    ensures { OnOk result (HasMoreMembers W.same W.text dictionary.old dictionary.new
-        (lead (has_no_member dictionary.old) (codes ", ")
+) -> Result<(), SerializeError>
+    ensures { OnOk result (HasMoreParts W.Sink dictionary.old dictionary.new
+        (lead (has_no_part dictionary.old) (codes ", ")
         ++ (key_text name.entry ++ value_text (ref_value value.entry)))
         false) }
 {
@@ -260,14 +260,14 @@ pub fn write_bare<W: Sink>(
 
 /// Writes two items of an inner list, the first with a parameter.
 fn write_pair<W: Sink, K>(
-    inner: &mut InnerListSerializer<&mut MemberSerializer<W, K>>,
+    inner: &mut InnerListSerializer<&mut Parts<W, K>>,
     first: RefBareItem<'_>,
     param: (KeyRef<'_>, RefBareItem<'_>),
     second: RefBareItem<'_>,
-) -> Result<(), OutOfMemory>
+) -> Result<(), SerializeError>
     ensures lent { inner_list_name inner.new ≡ inner_list_name inner.old }
-    ensures text { OnOk result (HasMoreItems (SameMembers W.same) (λ s. W.text s.now.buffer) inner.old inner.new
-        (led (has_no_item inner.old) (codes " ") (map item_text (pair_of (ref_value first.entry)
+    ensures text { OnOk result (HasMoreParts (lent_parts W.Sink) inner.old inner.new
+        (led (has_no_part inner.old) (codes " ") (map item_text (pair_of (ref_value first.entry)
         (key_text param.entry.0) (ref_value param.entry.1) (ref_value second.entry)))) false) }
 {
     put_with(inner, first, param)?;
@@ -282,9 +282,9 @@ fn write_named_pair<W: Sink>(
     param: (KeyRef<'_>, RefBareItem<'_>),
     second: RefBareItem<'_>,
     ending: (KeyRef<'_>, RefBareItem<'_>),
-) -> Result<(), OutOfMemory>
-    ensures { OnOk result (HasMoreMembers W.same W.text dictionary.old dictionary.new
-        (lead (has_no_member dictionary.old) (codes ", ") ++ dictionary_member_text (
+) -> Result<(), SerializeError>
+    ensures { OnOk result (HasMoreParts W.Sink dictionary.old dictionary.new
+        (lead (has_no_part dictionary.old) (codes ", ") ++ dictionary_member_text (
           key_text name.entry,
           inner_list (record {
             items = pair_of (ref_value first.entry) (key_text param.entry.0) (ref_value param.entry.1)
@@ -304,9 +304,9 @@ fn write_named_pair<W: Sink>(
 }
 
 /// Writes the member `member1=11;foo`.
-fn write_first<W: Sink>(dictionary: &mut DictSerializer<W>) -> Result<(), OutOfMemory>
-    ensures { OnOk result (HasMoreMembers W.same W.text dictionary.old dictionary.new
-        (lead (has_no_member dictionary.old) (codes ", ") ++ codes "member1=11;foo") false) }
+fn write_first<W: Sink>(dictionary: &mut DictSerializer<W>) -> Result<(), SerializeError>
+    ensures { OnOk result (HasMoreParts W.Sink dictionary.old dictionary.new
+        (lead (has_no_part dictionary.old) (codes ", ") ++ codes "member1=11;foo") false) }
 {
     let eleven: RefBareItem = GenericBareItem::Integer(integer(11));
     let yes: RefBareItem = GenericBareItem::Boolean(true);
@@ -315,9 +315,9 @@ fn write_first<W: Sink>(dictionary: &mut DictSerializer<W>) -> Result<(), OutOfM
 }
 
 /// Writes the member `member2=(abc;abc_param=?0 def);bar="val"`.
-fn write_second<W: Sink>(dictionary: &mut DictSerializer<W>) -> Result<(), OutOfMemory>
-    ensures { OnOk result (HasMoreMembers W.same W.text dictionary.old dictionary.new
-        (lead (has_no_member dictionary.old) (codes ", ")
+fn write_second<W: Sink>(dictionary: &mut DictSerializer<W>) -> Result<(), SerializeError>
+    ensures { OnOk result (HasMoreParts W.Sink dictionary.old dictionary.new
+        (lead (has_no_part dictionary.old) (codes ", ")
         ++ codes "member2=(abc;abc_param=?0 def);bar=\"val\"") false) }
 {
     let no: RefBareItem = GenericBareItem::Boolean(false);
@@ -330,9 +330,9 @@ fn write_second<W: Sink>(dictionary: &mut DictSerializer<W>) -> Result<(), OutOf
 }
 
 /// Writes the member `member3=12.346`.
-fn write_third<W: Sink>(dictionary: &mut DictSerializer<W>) -> Result<(), OutOfMemory>
-    ensures { OnOk result (HasMoreMembers W.same W.text dictionary.old dictionary.new
-        (lead (has_no_member dictionary.old) (codes ", ") ++ codes "member3=12.346") false) }
+fn write_third<W: Sink>(dictionary: &mut DictSerializer<W>) -> Result<(), SerializeError>
+    ensures { OnOk result (HasMoreParts W.Sink dictionary.old dictionary.new
+        (lead (has_no_part dictionary.old) (codes ", ") ++ codes "member3=12.346") false) }
 {
     let thousandths = integer(12346);
     let part: RefBareItem = GenericBareItem::Decimal(Decimal::from_integer_scaled_1000(
@@ -343,9 +343,9 @@ fn write_third<W: Sink>(dictionary: &mut DictSerializer<W>) -> Result<(), OutOfM
 }
 
 /// Writes the three members.
-fn write_three<W: Sink>(dictionary: &mut DictSerializer<W>) -> Result<(), OutOfMemory>
-    ensures { OnOk result (HasMoreMembers W.same W.text dictionary.old dictionary.new
-        (lead (has_no_member dictionary.old) (codes ", ")
+fn write_three<W: Sink>(dictionary: &mut DictSerializer<W>) -> Result<(), SerializeError>
+    ensures { OnOk result (HasMoreParts W.Sink dictionary.old dictionary.new
+        (lead (has_no_part dictionary.old) (codes ", ")
         ++ codes "member1=11;foo, member2=(abc;abc_param=?0 def);bar=\"val\", member3=12.346") false) }
 {
     write_first(dictionary)?;
@@ -358,8 +358,8 @@ fn write_three<W: Sink>(dictionary: &mut DictSerializer<W>) -> Result<(), OutOfM
 ///
 /// # Errors
 ///
-/// `OutOfMemory` when out of memory.
-pub fn write_dictionary(text: &mut String) -> Result<bool, OutOfMemory>
+/// Those of the serializer.
+pub fn write_dictionary(text: &mut String) -> Result<bool, SerializeError>
     ensures text { OnOk result (string_bytes text.new ≡ string_bytes text.old
         ++ codes "member1=11;foo, member2=(abc;abc_param=?0 def);bar=\"val\", member3=12.346") }
     ensures stands { IfOk result (λ stands. stands ≡ true) }

@@ -9,7 +9,7 @@ ghost use Rattle.sfv.specs.KeyText.{key_text};
 ghost use Rattle.sfv.specs.Trees.{item_tree};
 ghost use Rattle.sfv_uses.specs.Uses.{item_of_one};
 
-use sfv::{Error, Item, ItemSerializer, KeyRef, OutOfMemory, Parser, RefBareItem};
+use sfv::{Error, Item, ItemSerializer, KeyRef, OutOfMemory, Parser, RefBareItem, SerializeError};
 use std::alloc::Global;
 
 /// Writes an item of one parameter at the end of a text.
@@ -22,7 +22,7 @@ pub fn write_item(
     value: RefBareItem<'_>,
     key: KeyRef<'_>,
     param: RefBareItem<'_>,
-) -> Result<(), OutOfMemory>
+) -> Result<(), SerializeError>
     ensures written { OnOk result (string_bytes text.new ≡ string_bytes text.old
         ++ item_text (item_of_one (ref_value value.entry) (key_text key.entry) (ref_value param.entry))) }
     ensures read_back { OnOk result (IsParsedAs rfc9651 item_field
@@ -51,7 +51,10 @@ pub fn written_and_read(
         ≡ item_of_one (ref_value value.entry) (key_text key.entry) (ref_value param.entry)) }
 {
     let mut text = String::new(alloc);
-    write_item(&mut text, value, key, param)?;
+    // Under RFC 9651 every value is written, unless memory runs out.
+    if let Err(_) = write_item(&mut text, value, key, param) {
+        return Err(Error::from(OutOfMemory));
+    }
     Parser::new(text.as_bytes()).parse::<Item>(alloc)
 }
 
@@ -60,7 +63,7 @@ pub fn written_and_read(
 /// # Errors
 ///
 /// `OutOfMemory` when out of memory.
-pub fn write_parts(text: &mut String, item: &Item) -> Result<(), OutOfMemory>
+pub fn write_parts(text: &mut String, item: &Item) -> Result<(), SerializeError>
     ensures { OnOk result (string_bytes text.new ≡ string_bytes text.old ++ item_text (item_tree item.now)) }
 {
     let value = item.bare_item.as_ref_item();

@@ -10,8 +10,8 @@ use Rattle.sfv_text.specs.TokenText.{TokenRef}
 use Rattle.sfv_bare.specs.BareItems.{is_text, input_value}
 use Rattle.sfv_bare.specs.declared.bare.GenericBareItem.{GenericBareItem}
 use Rattle.sfv_bare.specs.declared.bare.StringFromInput.{StringFromInput}
-use Rattle.sfv_tree.specs.declared.visitor.BareItemType.{BareItemType}
-use Rattle.sfv_tree.specs.declared.visitor.BareItemType.TheVariants as kinds
+use Rattle.sfv_bare.specs.Kinds.{kind_of_value}
+use Rattle.sfv_bare.specs.declared.bare.BareItemType.{BareItemType}
 use Rattle.sfv_tree.specs.declared.visitor.ItemFault.{ItemFault}
 use Rattle.sfv_tree.specs.declared.visitor.ItemFault.TheVariants as faults
 use Rattle.sfv_visit.specs.declared.parameter_visitor.ParameterVisitorWith.{ParameterVisitorWith}
@@ -90,17 +90,6 @@ KeepTakes {T} holds s e after =
 -- it fails where the type doesn't hold the first bare item
 abbrev pub KeepFails : {T : Type 0} → (BareValue → ItemFault → Type 0) → ExpectItem T → TreeEvent → ItemFault → Type 0
 KeepFails fails s e fault = MatchOption (first_value (item_kept s) e) ⊥ (λ value. fails value fault)
-
--- the kind of a bare value
-abbrev pub kind_of_value : BareValue → BareItemType
-kind_of_value (values.decimal z) = kinds.Decimal
-kind_of_value (values.integer z) = kinds.Integer
-kind_of_value (values.string s) = kinds.String
-kind_of_value (values.byte_sequence b) = kinds.ByteSequence
-kind_of_value (values.boolean b) = kinds.Boolean
-kind_of_value (values.token t) = kinds.Token
-kind_of_value (values.date z) = kinds.Date
-kind_of_value (values.display_string d) = kinds.DisplayString
 
 -- the value is of another kind than this, and the fault says both kinds
 abbrev pub IsWrongType : BareItemType → BareValue → ItemFault → Type 0

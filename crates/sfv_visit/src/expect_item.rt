@@ -6,10 +6,11 @@ ghost use Rattle.sfv_spec.specs.Values.{BareValue};
 ghost use Rattle.sfv_base.specs.Numbers.{integer_of, thousandths_of, seconds_of};
 ghost use Rattle.sfv_text.specs.TokenText.{token_text};
 ghost use Rattle.sfv_bare.specs.BareItems.{read_text, bare_value, input_value};
-ghost use Rattle.sfv_tree.specs.declared.visitor.BareItemType.TheVariants as kinds;
+ghost use Rattle.sfv_bare.specs.declared.bare.BareItemType.TheVariants as kinds;
 ghost use Rattle.sfv_tree.specs.declared.visitor.ItemFault.{ItemFault};
 ghost use Rattle.sfv_tree.specs.declared.visitor.ItemFault.TheVariants as faults;
-ghost use Rattle.sfv_visit.specs.Given.{kind_of_value, IsWrongType, LacksMemory, item_kept, KeepTakes, KeepFails};
+ghost use Rattle.sfv_bare.specs.Kinds.{kind_of_value};
+ghost use Rattle.sfv_visit.specs.Given.{IsWrongType, LacksMemory, item_kept, KeepTakes, KeepFails};
 
 use sfv_bare::bare::{BareItem, BareItemFromInput, GenericBareItem, StringFromInput};
 use sfv_base::date::Date;

@@ -12,6 +12,6 @@ returns g c =
     let inner = c.in_ok-inner.inner in
     let begun = c.in_ok-inner.ensures in
     let away = c.abandon.ensures in
-    let kept = taken_away s.same s.text again dictionary last inner inner _ begun.text begun.begins.1
-    ((refl, g.met.W.Sink.same_itself _, refl), ([], sym (append-nil _)), refl) away.same away.text away.members in
-    kept_as s.same s.text dictionary last _ _ kept (search rules) (search rules)
+    let kept = taken_away s again dictionary last inner inner _ begun.text begun.begins.1
+    ((refl, g.met.W.Sink.same_itself _, refl, refl, refl), ([], sym (append-nil _)), refl) away in
+    kept_as s dictionary last _ _ _ _ kept (search rules) (search rules) (search rules) (search rules)

@@ -11,6 +11,6 @@ returns g c =
     let last = c.abandon.new.self.0 in
     let begun = c.in_ok-inner.ensures in
     let away = c.abandon.ensures in
-    let kept = taken_away s.same s.text again list last c.in_ok-inner.inner c.write_inner-written.new.inner _ begun.text
-    begun.begins.1 c.write_inner-written.ensures.grows away.same away.text away.members in
-    on_ok _ _ (kept_as s.same s.text list last _ _ kept (search rules) (search rules))
+    let kept = taken_away s again list last c.in_ok-inner.inner c.write_inner-written.new.inner _ begun.text
+    begun.begins.1 c.write_inner-written.ensures.grows away in
+    on_ok _ _ (kept_as s list last _ _ _ _ kept (search rules) (search rules) (search rules) (search rules))

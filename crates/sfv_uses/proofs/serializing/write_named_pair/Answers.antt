@@ -3,7 +3,7 @@ use Rattle.std.proofs.lemmas.List.{append-nil}
 use Rattle.sfv.specs.BareItems.{ref_value}
 use Rattle.sfv.specs.KeyText.{key_text}
 use Rattle.sfv.specs.Written.{lead}
-use Rattle.sfv.specs.Serializers.{has_no_member}
+use Rattle.sfv.specs.Serializers.{has_no_part}
 use Rattle.sfv.proofs.Callers.{named_list_ended, more_as}
 use Rattle.sfv_uses.specs.Uses.{pair_of}
 use Rattle.sfv_uses.proofs.serializing.write_named_pair.Goals as goal
@@ -17,10 +17,11 @@ returns g c =
     let pair = c.in_default.ensures.text in
     let closed = c.in_ok-finish.ensures.text in
     let ended = c.in_ok-dictionary.ensures.text in
-    let text = named_list_ended _ _ _ _ _ (lead (has_no_member a.dictionary.now) (codes ", ")) (key_text a.name) _
+    let text = named_list_ended _ _ _ _ _ (lead (has_no_part a.dictionary.now) (codes ", ")) (key_text a.name) _
     (pair_of (ref_value a.first) (key_text a.param.0) (ref_value a.param.1) (ref_value a.second))
     ((key_text a.ending.0, ref_value a.ending.1) ∷ []) begun.text.1 pair.1 begun.begins.0 closed.1
-    (ended.1 ∙ ap (λ t. string_bytes (s.text c.in_ok-finish.field-0.sink.now.buffer) ++ t) (sym (append-nil _))) in
+    (ended.1 ∙ ap (λ t. string_bytes (s.text c.in_ok-finish.field-0.sink.now.sink) ++ t) (sym (append-nil _))) in
     let same = again _ _ _ begun.text.0 (again _ _ _ pair.0.1 (again _ _ _ closed.0 ended.0)) in
-    more_as s.same s.text a.dictionary.now c.in_ok-dictionary.field-0.sink.now _ _ _ _
-    (same, text, ended.2 ∙ closed.2) (search rules) (search rules)
+    more_as s a.dictionary.now c.in_ok-dictionary.field-0.sink.now _ _ _ _ _ _
+    (same, text, ended.2 ∙ closed.2, ended.3 ∙ closed.3 ∙ pair.0.3 ∙ begun.text.3,
+    ended.4 ∙ closed.4 ∙ pair.0.4 ∙ begun.text.4) (search rules) (search rules) (search rules) (search rules)

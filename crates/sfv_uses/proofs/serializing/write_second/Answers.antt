@@ -13,4 +13,6 @@ returns g c =
         c.key_ref-3.ensures,
       ) at written.1,
       written.2,
+      written.3,
+      written.4,
     )

@@ -13,6 +13,6 @@ pub returns : goal.returns
 returns c =
     let item : RawItem = item_of_one (ref_value c.args.value) (key_text c.args.key) (ref_value c.args.param) in
     let text : c.as_bytes.result.now ≡ item_text item = search rules in
-    let written = c.in_ok-write_item.ensures.read_back in
+    let written = c.in_default.ensures.read_back in
     let read = rw (c.new.ensures, text) at c.parse.ensures.read in
     IfOk-weaker c.parse.result _ _ (λ again h. one_value rfc9651 item_field (item_text item) (item_tree again) item h written) read

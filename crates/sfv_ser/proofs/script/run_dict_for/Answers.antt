@@ -1,0 +1,13 @@
+use Rattle.sfv_spec.specs.Values.{dictionary_field}
+use Rattle.sfv_spec.proofs.Given.{described_fit}
+use Rattle.sfv_bare.specs.BareItems.{edition_of}
+use Rattle.sfv_ser.specs.Scripts.{dictionary_calls, described_dictionary}
+use Rattle.sfv_ser.proofs.ReadBack.{read_back}
+use Rattle.sfv_ser.proofs.script.run_dict_for.Goals as goal
+
+pub returns-clause-read_back : goal.returns-clause-read_back
+returns-clause-read_back c =
+    let edition = edition_of c.args.version in
+    let calls = c.args.calls.now in
+    read_back edition dictionary_field (described_dictionary calls) c.in_ok-stands.ensures.value
+    (described_fit edition dictionary_field (dictionary_calls calls) c.in_ok-look_at_dictionary_calls.ensures)

@@ -1,0 +1,13 @@
+use Rattle.sfv_spec.specs.Values.{list_field}
+use Rattle.sfv_spec.proofs.Given.{described_fit}
+use Rattle.sfv_bare.specs.BareItems.{edition_of}
+use Rattle.sfv_ser.specs.Scripts.{list_calls, described_list}
+use Rattle.sfv_ser.proofs.ReadBack.{read_back}
+use Rattle.sfv_ser.proofs.script.run_list_for.Goals as goal
+
+pub returns-clause-read_back : goal.returns-clause-read_back
+returns-clause-read_back c =
+    let edition = edition_of c.args.version in
+    let calls = c.args.calls.now in
+    read_back edition list_field (described_list calls) c.in_ok-stands.ensures.value
+    (described_fit edition list_field (list_calls calls) c.in_ok-look_at_list_calls.ensures)

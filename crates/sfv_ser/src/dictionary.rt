@@ -1,0 +1,89 @@
+//! Writing dictionaries (RFC 9651, section 4.1.2).
+
+ghost use Rattle.std.specs.Prelude.{OnOk, IfOk, IfErr, option_map, string_bytes};
+ghost use Rattle.sfv_spec.specs.Values.{rfc9651, HasMember, dictionary_field};
+ghost use Rattle.sfv_spec.specs.Canonical.{canonical};
+ghost use Rattle.sfv_spec.specs.Statements.{IsValue, IsSerializedAs};
+ghost use Rattle.sfv_tree.specs.Trees.{dictionary_tree};
+ghost use Rattle.sfv_ser.specs.Written.{Appends};
+
+use crate::element::serialize_each;
+use crate::serialize_error::only_memory;
+use sfv_bare::bare::Version;
+use sfv_base::error::OutOfMemory;
+use sfv_tree::parsed::Dictionary;
+use std::alloc::{Allocator, Global};
+use std::string::String as StdString;
+
+/// Appends a dictionary.
+pub(crate) fn serialize_dictionary<A: Allocator>(
+    dictionary: &Dictionary,
+    output: &mut StdString<A>,
+) -> Result<(), OutOfMemory>
+    ensures text { Appends output.old output.new
+        (canonical dictionary_field (dictionary_tree dictionary.now.entries)) result }
+    ensures value { OnOk result (IsValue dictionary_field (dictionary_tree dictionary.now.entries)) }
+{
+    let written = serialize_each(Version::Rfc9651, true, ", ", dictionary.iter(), output);
+    if let Err(error) = written {
+        return Err(only_memory(error));
+    }
+    Ok(())
+}
+
+/// Returns the text of a dictionary, with memory from `alloc`, or `None` for a dictionary without
+/// members, of which nothing is written (RFC 9651, section 4.1).
+///
+/// # Errors
+///
+/// `OutOfMemory` when out of memory.
+pub fn dictionary_text(
+    dictionary: &Dictionary,
+    alloc: Global,
+) -> Result<Option<StdString>, OutOfMemory>
+    ensures text { IfOk result (λ text.
+        IsSerializedAs rfc9651 dictionary_field (dictionary_tree dictionary.now.entries) (option_map string_bytes text)) }
+    ensures out_of_memory { IfErr result (λ _. HasMember dictionary_field (dictionary_tree dictionary.now.entries)) }
+{
+    if dictionary.is_empty() {
+        return Ok(None);
+    }
+    let mut text = StdString::new(alloc);
+    serialize_dictionary(dictionary, &mut text)?;
+    Ok(Some(text))
+}
+
+#[cfg(test)]
+mod tests {
+    use super::*;
+    use sfv_bare::bare::BareItem;
+    use sfv_text::shorthand::key_ref;
+    use sfv_tree::parsed::{InnerList, Item, ListEntry, Parameters};
+    use std::test::Fail;
+
+    #[test]
+    fn dictionaries_are_written(rt: HostRuntime) -> Result<(), Fail> {
+        let alloc = rt.alloc();
+        let mut params = Parameters::new(alloc);
+        params.insert(key_ref("x").to_owned(alloc)?, BareItem::from(false))?;
+        let items = vec![in alloc; Item::new(alloc, BareItem::from(true))]?;
+        let members = [
+            (
+                "a",
+                ListEntry::from(Item::with_params(BareItem::from(true), params.clone()?)),
+            ),
+            ("b", ListEntry::from(Item::new(alloc, BareItem::from(20u8)))),
+            ("c", ListEntry::from(InnerList::with_params(items, params))),
+            ("d", ListEntry::from(Item::new(alloc, BareItem::from(true)))),
+        ];
+        let mut dictionary = Dictionary::new(alloc);
+        for (key, member) in members[..].iter() {
+            dictionary.insert(key_ref(key).to_owned(alloc)?, member.clone()?)?;
+        }
+        let text = dictionary_text(&dictionary, alloc)?;
+        let want = "a;x=?0, b=20, c=(?1);x=?0, d";
+        assert_eq!(rt; text.as_ref().map(|text| text.as_str()), Some(want));
+        assert!(rt; dictionary_text(&Dictionary::new(alloc), alloc)?.is_none());
+        Ok(())
+    }
+}

@@ -1,0 +1,81 @@
+//! Writing lists (RFC 9651, section 4.1.1).
+
+ghost use Rattle.std.specs.Prelude.{OnOk, IfOk, IfErr, option_map, string_bytes};
+ghost use Rattle.sfv_spec.specs.Values.{rfc9651, HasMember, list_field};
+ghost use Rattle.sfv_spec.specs.Canonical.{canonical};
+ghost use Rattle.sfv_spec.specs.Statements.{IsValue, IsSerializedAs};
+ghost use Rattle.sfv_tree.specs.Trees.{list_tree};
+ghost use Rattle.sfv_ser.specs.Written.{Appends};
+
+use crate::element::serialize_each;
+use crate::serialize_error::only_memory;
+use sfv_bare::bare::Version;
+use sfv_base::error::OutOfMemory;
+use sfv_tree::parsed::List;
+use std::alloc::{Allocator, Global};
+use std::string::String as StdString;
+
+/// Appends a list.
+pub(crate) fn serialize_list<A: Allocator>(
+    list: &List,
+    output: &mut StdString<A>,
+) -> Result<(), OutOfMemory>
+    ensures text { Appends output.old output.new (canonical list_field (list_tree list.now.items)) result }
+    ensures value { OnOk result (IsValue list_field (list_tree list.now.items)) }
+{
+    if let Err(error) = serialize_each(Version::Rfc9651, true, ", ", list.iter(), output) {
+        return Err(only_memory(error));
+    }
+    Ok(())
+}
+
+/// Returns the text of a list, with memory from `alloc`, or `None` for a list without members, of
+/// which nothing is written (RFC 9651, section 4.1).
+///
+/// # Errors
+///
+/// `OutOfMemory` when out of memory.
+pub fn list_text(list: &List, alloc: Global) -> Result<Option<StdString>, OutOfMemory>
+    ensures text { IfOk result (λ text.
+        IsSerializedAs rfc9651 list_field (list_tree list.now.items) (option_map string_bytes text)) }
+    ensures out_of_memory { IfErr result (λ _. HasMember list_field (list_tree list.now.items)) }
+{
+    if list.is_empty() {
+        return Ok(None);
+    }
+    let mut text = StdString::new(alloc);
+    serialize_list(list, &mut text)?;
+    Ok(Some(text))
+}
+
+#[cfg(test)]
+mod tests {
+    use super::*;
+    use sfv_bare::bare::BareItem;
+    use sfv_text::shorthand::key_ref;
+    use sfv_tree::parsed::{InnerList, Item, ListEntry, Parameters};
+    use std::test::Fail;
+
+    #[test]
+    fn lists_are_written(rt: HostRuntime) -> Result<(), Fail> {
+        let alloc = rt.alloc();
+        let mut params = Parameters::new(alloc);
+        params.insert(key_ref("a").to_owned(alloc)?, BareItem::from(true))?;
+        params.insert(key_ref("b").to_owned(alloc)?, BareItem::from(false))?;
+        let items = vec![in alloc;
+            Item::new(alloc, BareItem::from(true)),
+            Item::with_params(BareItem::from(2u8), params.clone()?),
+        ]?;
+        let list: List = vec![in alloc;
+            ListEntry::from(Item::new(alloc, BareItem::from(false))),
+            ListEntry::from(InnerList::with_params(items, params)),
+            ListEntry::from(InnerList::empty(alloc)),
+            ListEntry::from(Item::new(alloc, BareItem::from(30u8))),
+        ]?;
+        let text = list_text(&list, alloc)?;
+        let want = "?0, (?1 2;a;b=?0);a;b=?0, (), 30";
+        assert_eq!(rt; text.as_ref().map(|text| text.as_str()), Some(want));
+        assert!(rt; list_text(&Vec::new(alloc), alloc)?.is_none());
+        Ok(())
+    }
+}

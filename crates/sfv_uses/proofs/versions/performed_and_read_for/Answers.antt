@@ -1,0 +1,19 @@
+use Rattle.std.proofs.Common.{rules, ◌≡◌}
+use Rattle.std.proofs.lemmas.Result.{IfOk-weaker}
+use Rattle.sfv.specs.Values.{list_field, RawField}
+use Rattle.sfv.specs.Canonical.{canonical}
+use Rattle.sfv.specs.Statements.{IsParsedAs}
+use Rattle.sfv.specs.BareItems.{edition_of}
+use Rattle.sfv.specs.Trees.{list_tree}
+use Rattle.sfv.specs.Scripts.{described_list}
+use Rattle.sfv.proofs.Callers.{one_value}
+use Rattle.sfv_uses.proofs.versions.performed_and_read_for.Goals as goal
+
+pub returns-in-Ok-clause-read : goal.returns-in-Ok-clause-read
+returns-in-Ok-clause-read c =
+    let raw : RawField list_field = described_list c.args.calls.now in
+    let text : c.as_bytes.result.now ≡ canonical list_field raw = search rules in
+    let read : IsParsedAs (edition_of c.args.version) list_field (canonical list_field raw) (list_tree c.in-Ok.list.items) =
+    rw (c.with_version-parser.ensures, c.new.ensures, text) at c.in-Ok.ensures.read in
+    one_value (edition_of c.args.version) list_field (canonical list_field raw) (list_tree c.in-Ok.list.items) _ read
+    c.in_ok-run_list_for.ensures.read_back

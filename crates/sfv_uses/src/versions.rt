@@ -1,0 +1,62 @@
+//! Writing that is bound to a version, and reading under that same version.
+
+ghost use Rattle.std.specs.Prelude.{◌≡◌, ◌++◌, ◌∷◌, [], false, OnOk, IfOk, codes};
+ghost use Rattle.sfv.specs.Values.{list_field};
+ghost use Rattle.sfv.specs.Ordered.{ordered};
+ghost use Rattle.sfv.specs.Canonical.{bare_text};
+ghost use Rattle.sfv.specs.Events.{bare_values};
+ghost use Rattle.sfv.specs.Calls.{AllFit};
+ghost use Rattle.sfv.specs.BareItems.{ref_value, edition_of};
+ghost use Rattle.sfv.specs.Trees.{list_tree};
+ghost use Rattle.sfv.specs.Scripts.{described_list, handed_list};
+ghost use Rattle.sfv.specs.Written.{lead};
+ghost use Rattle.sfv.specs.Serializers.{HasMoreParts, has_no_part, parts_edition};
+ghost use Rattle.sfv.specs.Versions.{LooksFirst};
+
+use sfv::script::{MemberCalls, run_list_for};
+use sfv::{List, ListSerializer, Parser, RefBareItem, SerializeError, Sink, Version};
+use std::alloc::Global;
+
+/// Writes two members of a list that is bound to a version: both are values of this version then.
+///
+/// # Errors
+///
+/// Those of the serializer.
+pub fn write_both<W: Sink>(
+    list: &mut ListSerializer<W>,
+    first: RefBareItem<'_>,
+    second: RefBareItem<'_>,
+) -> Result<(), SerializeError>
+    ensures text { OnOk result (HasMoreParts W.Sink list.old list.new
+        (lead (has_no_part list.old) (codes ", ") ++ bare_text (ref_value first.entry)
+        ++ codes ", " ++ bare_text (ref_value second.entry)) false) }
+    ensures fit { OnOk result
+        (AllFit (parts_edition list.old) (ref_value first.entry ∷ ref_value second.entry ∷ [])) }
+{
+    list.bare_item(first)?.finish();
+    list.bare_item(second)?.finish();
+    Ok(())
+}
+
+/// Performs the calls of a list for a version, and reads the text under that same version: the list that they describe.
+///
+/// # Errors
+///
+/// `Unsupported` with the kind of the first value that the version doesn't have, else `OutOfMemory`.
+pub fn performed_and_read_for(
+    alloc: Global,
+    version: Version,
+    calls: &[MemberCalls<'_>],
+) -> Result<List, SerializeError>
+    ensures read { IfOk result (λ list. list_tree list.items ≡ ordered list_field (described_list calls.now)) }
+    ensures looks { LooksFirst (edition_of version) (bare_values list_field (handed_list calls.now)) result }
+{
+    let mut text = String::new(alloc);
+    run_list_for(version, &mut text, calls)?;
+    let parser = Parser::new(text.as_bytes()).with_version(version);
+    match parser.parse::<List>(alloc) {
+        Ok(list) => Ok(list),
+        // What is written for a version is read under it, unless memory runs out.
+        Err(_) => Err(SerializeError::OutOfMemory),
+    }
+}
