@@ -5,6 +5,8 @@ use Rattle.std.specs.declared.alloc.Global.{Global}
 use Rattle.std.specs.declared.string.String.{String}
 use Rattle.sfv.specs.Values.{Edition, FieldKind, item_field, list_field, dictionary_field, RawField}
 use Rattle.sfv.specs.Canonical.{canonical}
+use Rattle.sfv.specs.BareItems.{edition_of}
+use Rattle.sfv.specs.Types.{Version}
 use Rattle.sfv.specs.Statements.{IsParsedAs}
 use Rattle.sfv.specs.Events.{bare_values}
 use Rattle.sfv.specs.Calls.{Fits}
@@ -49,3 +51,12 @@ abbrev pub IsToolFault : Edition → Edition → FieldKind → List ℕ → Tool
 IsToolFault reading writing kind t (faults.Read error) = IsParseError reading kind t error
 IsToolFault reading writing kind t (faults.Write error) =
     (value : RawField kind) × IsParsedAs reading kind t value × IsSerializeError writing (bare_values kind value) error
+
+-- the same of what is asked for: one closing newline byte of the input is no part of the field
+abbrev pub IsAnswerTo : Field → Version → Version → List ℕ → List ℕ → Type 0
+IsAnswerTo field reading writing input text =
+    IsAnswer (edition_of reading) (edition_of writing) (kind_of_field field) (without_newline input) text
+
+abbrev pub IsFaultFor : Field → Version → Version → List ℕ → ToolFault → Type 0
+IsFaultFor field reading writing input fault =
+    IsToolFault (edition_of reading) (edition_of writing) (kind_of_field field) (without_newline input) fault

@@ -3,11 +3,10 @@ use Rattle.std.specs.Prelude.{◌≡◌, ℕ, List, [], ◌∷◌, ◌⊎◌, Op
 use Rattle.std.specs.Io.KnownBytes.{Keeps, Appends}
 use Rattle.sfv.specs.Types.{Version}
 use Rattle.sfv.specs.Types.versions as version
-use Rattle.sfv.specs.BareItems.{edition_of}
 use Rattle.sfv_tool.specs.declared.answer.Field.{Field}
 use Rattle.sfv_tool.specs.declared.answer.Field.TheVariants as field
 use Rattle.sfv_tool.specs.declared.run.Request.{Request}
-use Rattle.sfv_tool.specs.Answers.{kind_of_field, without_newline, IsAnswer}
+use Rattle.sfv_tool.specs.Answers.{IsAnswerTo}
 
 -- the word of a type of field
 abbrev pub field_word : Field → List ℕ
@@ -30,8 +29,7 @@ Names words request =
 -- A run to its end: the answer to the input stands after what the output held, and nothing was written to the errors.
 pub record IsAnswered (request : Request) (input output output' errors errors' : Option (List ℕ)) : Type 0 where
   pub answer : IfSome input (λ bytes. (text : List ℕ)
-      × IsAnswer (edition_of request.reading) (edition_of request.writing) (kind_of_field request.field)
-      (without_newline bytes) text
+      × IsAnswerTo request.field request.reading request.writing bytes text
       × Appends output output' text)
   pub quiet : Keeps errors errors'
 
@@ -40,8 +38,7 @@ abbrev pub IsFailed : Request → Option (List ℕ) → Option (List ℕ) → Op
 IsFailed request input output output' =
     Keeps output output'
     ⊎ IfSome input (λ bytes. (text : List ℕ)
-    × IsAnswer (edition_of request.reading) (edition_of request.writing) (kind_of_field request.field)
-    (without_newline bytes) text)
+    × IsAnswerTo request.field request.reading request.writing bytes text)
 
 -- the words name a request of which this holds
 abbrev pub Requests : List (List ℕ) → (Request → Type 0) → Type 0

@@ -3,8 +3,8 @@
 ghost use Rattle.std.specs.Prelude.{◌≡◌, ◌++◌, Some, IfOk, IfErr, codes, string_bytes};
 ghost use Rattle.sfv.specs.Values.{item_field, list_field, dictionary_field};
 ghost use Rattle.sfv.specs.BareItems.{edition_of};
-ghost use Rattle.sfv_tool.specs.Answers.{kind_of_field, without_newline, text_or_empty, IsAnswer, IsToolFault};
-ghost use Rattle.sfv_tool.specs.Answers.{tool_fault_text};
+ghost use Rattle.sfv_tool.specs.Answers.{without_newline, text_or_empty, tool_fault_text};
+ghost use Rattle.sfv_tool.specs.Answers.{IsAnswer, IsToolFault, IsAnswerTo, IsFaultFor};
 ghost use Rattle.sfv.specs.Types.serialize_errors as serialize_errors;
 ghost use Rattle.sfv_tool.specs.declared.answer.ToolFault.TheVariants as faults;
 
@@ -150,10 +150,8 @@ pub fn answer(
     writing: Version,
     input: &[u8],
 ) -> Result<String, ToolFault>
-    ensures accepted { IfOk result (λ text. IsAnswer (edition_of reading) (edition_of writing) (kind_of_field field)
-        (without_newline input.now) (string_bytes text)) }
-    ensures failed { IfErr result (IsToolFault (edition_of reading) (edition_of writing) (kind_of_field field)
-        (without_newline input.now)) }
+    ensures accepted { IfOk result (λ text. IsAnswerTo field reading writing input.now (string_bytes text)) }
+    ensures failed { IfErr result (IsFaultFor field reading writing input.now) }
 {
     let input = without_newline(input);
     match field {

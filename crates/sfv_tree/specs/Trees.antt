@@ -1,8 +1,10 @@
 -- The values of parameters, items, inner lists, lists and dictionaries.
-use Rattle.std.specs.Prelude.{ℕ, List, map}
+use Rattle.std.specs.Prelude.{ℕ, List, map, Option, option_map, option_copied, bytes_eq}
+use Rattle.std.specs.Borrow.{Bor}
 use Rattle.std.specs.declared.alloc.Global.{Global}
 use Rattle.std.specs.declared.vec.Vec.{Vec}
 use Rattle.std.specs.declared.string.String.{String}
+use Rattle.indexmap.specs.IndexMap.{insert_entry}
 use Rattle.sfv_spec.specs.Values.{BareValue, RawParameters, RawItem, RawInnerList, RawMember, item, inner_list}
 use Rattle.sfv_bare.specs.declared.bare.GenericBareItem.{GenericBareItem}
 use Rattle.sfv_bare.specs.BareItems.{bare_value}
@@ -55,3 +57,17 @@ entry_tree p = (p.0, member_tree p.1)
 -- the pairs of a dictionary, in order
 abbrev pub dictionary_tree : List (List ℕ × ListEntry) → List (List ℕ × RawMember)
 dictionary_tree entries = map entry_tree entries
+
+-- the value of what was found by its key
+abbrev pub found_member : Option (Bor ListEntry) → Option RawMember
+found_member found = option_map member_tree (option_copied found)
+
+abbrev pub found_value : Option (Bor OwnedBareItem) → Option BareValue
+found_value found = option_map bare_value (option_copied found)
+
+-- the pairs into which another was entered: a key that is there keeps its place, a new one goes last
+abbrev pub with_member : List (List ℕ × ListEntry) → List ℕ → ListEntry → List (List ℕ × RawMember)
+with_member entries key member = insert_entry bytes_eq (dictionary_tree entries) key (member_tree member)
+
+abbrev pub with_value : List (List ℕ × OwnedBareItem) → List ℕ → OwnedBareItem → RawParameters
+with_value pairs key value = insert_entry bytes_eq (pairs_tree pairs) key (bare_value value)

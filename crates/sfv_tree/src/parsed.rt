@@ -7,7 +7,7 @@ ghost use Rattle.sfv_spec.specs.Ordered.{keys, last_of, no_repeats};
 ghost use Rattle.sfv_bare.specs.BareItems.{bare_value};
 ghost use Rattle.sfv_text.specs.KeyText.{key_text};
 ghost use Rattle.sfv_tree.specs.Trees.{item_with, item_tree, pairs_tree, inner_list_with, inner_list_tree};
-ghost use Rattle.sfv_tree.specs.Trees.{member_tree, dictionary_tree};
+ghost use Rattle.sfv_tree.specs.Trees.{member_tree, dictionary_tree, found_member, found_value, with_member, with_value};
 ghost use Rattle.sfv_tree.specs.declared.parsed.ListEntry.TheVariants as entries;
 
 use indexmap::IndexMap;
@@ -179,8 +179,7 @@ impl Clone for ListEntry {
 /// memory.
 pub fn find_entry<'a>(dictionary: &'a Dictionary, key: KeyRef<'_>) -> Option<&'a ListEntry>
     ensures value { option_copied result ≡ get bytes_eq dictionary.now (key_text key.entry) }
-    ensures last { option_map member_tree (option_copied result)
-        ≡ last_of (key_text key.entry) (dictionary_tree dictionary.now.entries) }
+    ensures last { found_member result ≡ last_of (key_text key.entry) (dictionary_tree dictionary.now.entries) }
 {
     for (name, member) in dictionary.iter() {
         if name.as_str() == key.as_str() {
@@ -194,8 +193,7 @@ pub fn find_entry<'a>(dictionary: &'a Dictionary, key: KeyRef<'_>) -> Option<&'a
 /// memory.
 pub fn find_param<'a>(params: &'a Parameters, key: KeyRef<'_>) -> Option<&'a BareItem>
     ensures value { option_copied result ≡ get bytes_eq params.now (key_text key.entry) }
-    ensures last { option_map bare_value (option_copied result)
-        ≡ last_of (key_text key.entry) (pairs_tree params.now.entries) }
+    ensures last { found_value result ≡ last_of (key_text key.entry) (pairs_tree params.now.entries) }
 {
     for (name, value) in params.iter() {
         if name.as_str() == key.as_str() {
@@ -220,8 +218,7 @@ pub fn insert_entry(
     ensures last { IfOk result (λ old. option_map member_tree old
         ≡ last_of key (dictionary_tree dictionary.old.entries)) }
     ensures entries { OnOk result (dictionary.new.entries ≡ insert_entry bytes_eq dictionary.old.entries key member) }
-    ensures tree { OnOk result (dictionary_tree dictionary.new.entries
-        ≡ insert_entry bytes_eq (dictionary_tree dictionary.old.entries) key (member_tree member)) }
+    ensures tree { OnOk result (dictionary_tree dictionary.new.entries ≡ with_member dictionary.old.entries key member) }
     ensures unchanged { OnErr result (dictionary.new.entries ≡ dictionary.old.entries) }
     ensures absent { OnErr result (last_of key (dictionary_tree dictionary.old.entries) ≡ None) }
     ensures succeeds { 0 < spare dictionary.old → IsOk result }
@@ -247,8 +244,7 @@ pub fn insert_param(
     ensures old { IfOk result (λ old. old ≡ get bytes_eq params.old key) }
     ensures last { IfOk result (λ old. option_map bare_value old ≡ last_of key (pairs_tree params.old.entries)) }
     ensures entries { OnOk result (params.new.entries ≡ insert_entry bytes_eq params.old.entries key value) }
-    ensures tree { OnOk result (pairs_tree params.new.entries
-        ≡ insert_entry bytes_eq (pairs_tree params.old.entries) key (bare_value value)) }
+    ensures tree { OnOk result (pairs_tree params.new.entries ≡ with_value params.old.entries key value) }
     ensures unchanged { OnErr result (params.new.entries ≡ params.old.entries) }
     ensures absent { OnErr result (last_of key (pairs_tree params.old.entries) ≡ None) }
     ensures succeeds { 0 < spare params.old → IsOk result }

@@ -1,7 +1,7 @@
 -- The Content-Digest field (RFC 9530, section 2): a Dictionary, in which a key names a hashing algorithm and its value
 -- is the digest by this algorithm, as a Byte Sequence.
 use Rattle.std.specs.Prelude.{◌≡◌, ℕ, List, [], ◌∷◌, ◌++◌, ◌⊎◌, codes, Option, Some, None, option_map}
-use Rattle.std.specs.Prelude.{Result, MatchResult}
+use Rattle.std.specs.Prelude.{Result, MatchResult, MatchOption}
 use Rattle.std.specs.declared.alloc.Global.{Global}
 use Rattle.std.specs.declared.vec.Vec.{Vec}
 use Rattle.sfv.specs.Values.{rfc9651, dictionary_field, BareValue, byte_sequence, RawMember, item, inner_list}
@@ -86,6 +86,11 @@ IsDigestError text errors.WrongType = IsDictionary text HasWrongType
 abbrev pub ReturnsDigests : List ℕ → Result ContentDigest DigestError → Type 0
 ReturnsDigests text result = (digests : Digests) → IsContentDigest text digests
     → MatchResult result (λ digest. digests_in digest ≡ digests) (λ e. e ≡ errors.Field out_of_memory)
+
+-- the same digests again, or nothing where there are none
+abbrev pub AreSameDigests : ContentDigest → Option ContentDigest → Type 0
+AreSameDigests digest again =
+    MatchOption again (digests_in digest ≡ no_digests) (λ d. digests_in d ≡ digests_in digest)
 
 -- a byte sequence without parameters
 abbrev pub bytes_member : List ℕ → RawMember

@@ -1,11 +1,17 @@
 -- What the uses answer.
-use Rattle.std.specs.Prelude.{◌≡◌, ℕ, ℤ, ◌+◌, ◌<◌, ◌≤◌, List, [], ◌∷◌, ◌++◌, length, Option, Some, None, codes}
+use Rattle.std.specs.Prelude.{◌≡◌, ℕ, ℤ, ◌+◌, ◌<◌, ◌≤◌, ⊥, ¬◌, List, [], ◌∷◌, ◌++◌, length, Option, Some, None, codes}
+use Rattle.std.specs.Prelude.{Result, MatchResult, option_map}
 use Rattle.std.specs.List.{repeat}
-use Rattle.sfv.specs.Values.{rfc9651, FieldKind, item_field, list_field, dictionary_field, BareValue, integer}
+use Rattle.sfv.specs.Values.{rfc9651, FieldKind, item_field, list_field, dictionary_field, BareValue, integer, token}
 use Rattle.sfv.specs.Values.{RawParameters, RawItem, RawMember}
 use Rattle.sfv.specs.Values.{item, inner_list}
 use Rattle.sfv.specs.Grammar.{IsFieldText, StandsFirst}
-use Rattle.sfv.specs.Ordered.{last_of}
+use Rattle.sfv.specs.Ordered.{ordered, last_of}
+use Rattle.sfv.specs.Statements.{IsParsedAs}
+use Rattle.sfv.specs.KeyText.{KeyRef, key_text}
+use Rattle.sfv.specs.TokenText.{TokenRef, token_text}
+use Rattle.sfv.specs.BareItems.{bare_value}
+use Rattle.sfv.specs.Trees.{OwnedBareItem}
 use Rattle.sfv.specs.Events.{TreeEvent, keyed_entry}
 use Rattle.sfv.specs.Types.{ParseError}
 use Rattle.sfv.specs.Types.parse_errors.{Syntax, Visitor}
@@ -90,3 +96,34 @@ IsExpectError fails value (Visitor fault) = fails value fault
 -- the same of a token
 abbrev pub IsTokenError : BareValue → ParseError ItemFault → Type 0
 IsTokenError = IsExpectError (IsWrongType kinds.Token)
+
+-- the token that this bare value is, or such an error
+abbrev pub GivesToken : BareValue → Result TokenRef (ParseError ItemFault) → Type 0
+GivesToken value result = MatchResult result (λ name. token (token_text name) ≡ value) (IsTokenError value)
+
+-- such an error, if the bare value is no token
+abbrev pub RefusesOther : BareValue → Result TokenRef (ParseError ItemFault) → Type 0
+RefusesOther value result =
+    ((name : List ℕ) → ¬ (token name ≡ value)) → MatchResult result (λ _. ⊥) (IsTokenError value)
+
+-- the text is read as an item: the integer that it is, or else the default
+abbrev pub HasIntegerOr : ℤ → List ℕ → ℤ → Type 0
+HasIntegerOr default t z =
+    (value : RawItem) × IsParsedAs rfc9651 item_field t value × (z ≡ integer_or default value.bare)
+
+-- the text is a dictionary, in which the last member of the first key has this parameter of the second
+abbrev pub HasParam : List ℕ → KeyRef → KeyRef → Option OwnedBareItem → Type 0
+HasParam t member param found = (raw : List (List ℕ × RawMember)) × IsFieldText rfc9651 dictionary_field raw t
+    × (option_map bare_value found ≡ param_in (key_text param) (last_of (key_text member) raw))
+
+-- both texts are lists, and this is the list of the members of both
+abbrev pub IsListOfBoth : List ℕ → List ℕ → List RawMember → Type 0
+IsListOfBoth first second list = (held : List RawMember) × (raw : List RawMember)
+    × IsParsedAs rfc9651 list_field first held × IsFieldText rfc9651 list_field raw second
+    × (list ≡ held ++ ordered list_field raw)
+
+-- the same of dictionaries, where the second text's member of a key takes the place of the first's
+abbrev pub IsDictionaryOfBoth : List ℕ → List ℕ → List (List ℕ × RawMember) → Type 0
+IsDictionaryOfBoth first second dictionary = (held : List (List ℕ × RawMember)) × (raw : List (List ℕ × RawMember))
+    × IsParsedAs rfc9651 dictionary_field first held × IsFieldText rfc9651 dictionary_field raw second
+    × (dictionary ≡ ordered dictionary_field (held ++ raw))

@@ -163,8 +163,7 @@ fn dictionary_of(alloc: Global, digest: &ContentDigest) -> Result<Dictionary, Ou
 pub fn write(alloc: Global, digest: &ContentDigest) -> Result<Option<String>, OutOfMemory>
     ensures text { IfOk result (λ text.
         IsSerializedAs rfc9651 dictionary_field (digest_members (digests_in digest.now)) (option_map string_bytes text)) }
-    ensures read_back { IfOk result (λ text.
-        IfSome text (λ text. IsContentDigest (string_bytes text) (digests_in digest.now))) }
+    ensures read_back { IfOk result (λ text. IfSome text (λ text. HasDigests (string_bytes text) digest.now)) }
     ensures none { IfOk result (λ text. (text ≡ None) ↔ (digests_in digest.now ≡ no_digests)) }
     ensures out_of_memory { IfErr result (λ _. digests_in digest.now ≢ no_digests) }
 {
@@ -178,8 +177,7 @@ pub fn write(alloc: Global, digest: &ContentDigest) -> Result<Option<String>, Ou
 ///
 /// `Field` with out of memory.
 pub fn reread(alloc: Global, digest: &ContentDigest) -> Result<Option<ContentDigest>, DigestError>
-    ensures same { IfOk result (λ again. MatchOption again (digests_in digest.now ≡ no_digests)
-        (λ again. digests_in again ≡ digests_in digest.now)) }
+    ensures same { IfOk result (AreSameDigests digest.now) }
     ensures failed { IfErr result (λ error. error ≡ errors.Field out_of_memory) }
 {
     let Some(text) = write(alloc, digest)? else {

@@ -1,14 +1,12 @@
 //! Reading a field into the type that is expected.
 
-ghost use Rattle.std.specs.Prelude.{◌≡◌, ⊤, ℕ, List, IfOk, IfErr, MatchResult};
+ghost use Rattle.std.specs.Prelude.{◌≡◌, ⊤, IfOk, IfErr, MatchResult};
 ghost use Rattle.sfv.specs.Values.{rfc9651, item_field, list_field, dictionary_field, BareValue, RawItem};
-ghost use Rattle.sfv.specs.Values as values;
 ghost use Rattle.sfv.specs.Grammar.{IsFieldText, BeginsWithBareItem};
 ghost use Rattle.sfv.specs.Statements.{IsParsedAs};
-ghost use Rattle.sfv.specs.TokenText.{token_text};
 ghost use Rattle.sfv.specs.Trees.{item_tree, list_tree, dictionary_tree};
 ghost use Rattle.sfv.specs.Types.item_faults as item_faults;
-ghost use Rattle.sfv_uses.specs.Uses.{HasBareItem, FailsAtFirst, IsReadError, IsExpectError, IsTokenError};
+ghost use Rattle.sfv_uses.specs.Uses.{HasBareItem, FailsAtFirst, IsReadError, IsExpectError, GivesToken, RefusesOther};
 
 use sfv::visitor::{ExpectedItem, ItemFault};
 use sfv::{Dictionary, Item, List, OutOfMemory, ParseError, Parser, TokenRef};
@@ -41,10 +39,8 @@ pub fn expect<'de, T: ExpectedItem<'de>>(
 /// Where a bare item stands first: `ItemFault::WrongType` exactly where it is no token, with its kind, whatever stands after
 /// it, or out of memory.
 pub fn token<'de>(alloc: Global, input: &'de [u8]) -> Result<TokenRef<'de>, ParseError<ItemFault>>
-    ensures of_an_item { (raw : RawItem) → IsFieldText rfc9651 item_field raw input.now
-        → MatchResult result (λ name. values.token (token_text name) ≡ raw.bare) (IsTokenError raw.bare) }
-    ensures of_another_kind { (value : BareValue) → BeginsWithBareItem rfc9651 value input.now
-        → ((name : List ℕ) → ¬ (values.token name ≡ value)) → MatchResult result (λ _. ⊥) (IsTokenError value) }
+    ensures of_an_item { (raw : RawItem) → IsFieldText rfc9651 item_field raw input.now → GivesToken raw.bare result }
+    ensures of_another_kind { (value : BareValue) → BeginsWithBareItem rfc9651 value input.now → RefusesOther value result }
 {
     expect::<TokenRef>(alloc, input)
 }
@@ -79,8 +75,7 @@ pub fn list(alloc: Global, input: &[u8]) -> Result<List, ParseError<OutOfMemory>
 ///
 /// That of `Parser::parse`.
 pub fn dictionary(alloc: Global, input: &[u8]) -> Result<Dictionary, ParseError<OutOfMemory>>
-    ensures read { IfOk result (λ dictionary.
-        IsParsedAs rfc9651 dictionary_field input.now (dictionary_tree dictionary.entries)) }
+    ensures read { IfOk result (λ value. IsParsedAs rfc9651 dictionary_field input.now (dictionary_tree value.entries)) }
     ensures rejected { IfErr result (IsReadError (λ _. ⊤) dictionary_field input.now) }
 {
     Parser::new(input).parse_dictionary::<Dictionary>(alloc)

@@ -10,7 +10,8 @@ ghost use Rattle.sfv.specs.BareItems.{bare_value};
 ghost use Rattle.sfv.specs.KeyText.{key_text};
 ghost use Rattle.sfv.specs.Parsers.{IsParseError};
 ghost use Rattle.sfv.specs.NumberValues.{integer_of};
-ghost use Rattle.sfv_uses.specs.Uses.{IsExplained, integer_or, parameters_of, param_in};
+ghost use Rattle.sfv_uses.specs.Uses.{IsExplained, HasIntegerOr, parameters_of, param_in, HasParam};
+ghost use Rattle.sfv_uses.specs.Uses.{IsListOfBoth, IsDictionaryOfBoth};
 
 use sfv::visitor::{DictionaryBuilder, ListBuilder};
 use sfv::{
@@ -61,8 +62,7 @@ pub fn explain(alloc: Global, input: &[u8]) -> Result<Option<String>, OutOfMemor
 ///
 /// That of `Parser::parse`.
 pub fn integer_with_default(alloc: Global, input: &[u8], default: Integer) -> Result<Integer, Error>
-    ensures { IfOk result (λ z. (value : RawField item_field) × IsParsedAs rfc9651 item_field input.now value
-        × (integer_of z ≡ integer_or (integer_of default) value.bare)) }
+    ensures { IfOk result (λ z. HasIntegerOr (integer_of default) input.now (integer_of z)) }
 {
     let item = Parser::new(input).parse::<Item>(alloc)?;
     let Some(integer) = item.bare_item.as_integer() else {
@@ -106,9 +106,7 @@ pub fn param_of_member(
     member: KeyRef<'_>,
     param: KeyRef<'_>,
 ) -> Result<Option<BareItem>, Error>
-    ensures { IfOk result (λ found. (raw : RawField dictionary_field)
-        × IsFieldText rfc9651 dictionary_field raw input.now
-        × (option_map bare_value found ≡ param_in (key_text param.entry) (last_of (key_text member.entry) raw))) }
+    ensures { IfOk result (HasParam input.now member.entry param.entry) }
 {
     let dictionary = Parser::new(input).parse::<Dictionary>(alloc)?;
     let Some(value) = param_of(&dictionary, member, param) else {
@@ -128,9 +126,7 @@ pub fn list_of_lines(
     first: &[u8],
     second: &[u8],
 ) -> Result<List, ParseError<OutOfMemory>>
-    ensures { IfOk result (λ list. (held : RawField list_field) × (raw : RawField list_field)
-        × IsParsedAs rfc9651 list_field first.now held × IsFieldText rfc9651 list_field raw second.now
-        × (list_tree list.items ≡ held ++ ordered list_field raw)) }
+    ensures { IfOk result (λ list. IsListOfBoth first.now second.now (list_tree list.items)) }
 {
     let held = Parser::new(first).parse::<List>(alloc)?;
     let builder = ListBuilder::new(held);
@@ -148,9 +144,7 @@ pub fn dictionary_of_lines(
     first: &[u8],
     second: &[u8],
 ) -> Result<Dictionary, ParseError<OutOfMemory>>
-    ensures { IfOk result (λ dictionary. (held : RawField dictionary_field) × (raw : RawField dictionary_field)
-        × IsParsedAs rfc9651 dictionary_field first.now held × IsFieldText rfc9651 dictionary_field raw second.now
-        × (dictionary_tree dictionary.entries ≡ ordered dictionary_field (held ++ raw))) }
+    ensures { IfOk result (λ dictionary. IsDictionaryOfBoth first.now second.now (dictionary_tree dictionary.entries)) }
 {
     let held = Parser::new(first).parse::<Dictionary>(alloc)?;
     let builder = DictionaryBuilder::new(held);
