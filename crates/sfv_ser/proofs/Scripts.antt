@@ -2,7 +2,7 @@
 use Rattle.std.proofs.Common.{◌≡◌, ℕ, ◌+◌, ◌<◌, Bool, true, false, List, [], ◌∷◌, ◌++◌, length, get_or, map, take}
 use Rattle.std.proofs.Common.{refl, sym, ap, subst, ◌∙◌, codes}
 use Rattle.std.proofs.Common.{append_assoc}
-use Rattle.std.specs.Prelude.{Option, filter_map, Result, Err, OnErr, string_bytes, string_len}
+use Rattle.std.specs.Prelude.{Option, filter_map, Result, Ok, Err, OnOk, OnErr, string_bytes, string_len}
 use Rattle.std.specs.Borrow.{MutBor}
 use Rattle.std.specs.List.{AllByRecursion}
 use Rattle.std.proofs.lemmas.List.{map-append, append-nil}
@@ -10,15 +10,18 @@ use Rattle.std.proofs.lemmas.List.Elements.{filter_map-append}
 use Rattle.std.proofs.lemmas.Str.{IsUtf8-string_bytes}
 use Rattle.sfv_spec.specs.Texts.{joined}
 use Rattle.sfv_spec.specs.Values.{RawItem, RawParameters, IsItem, inner_list}
-use Rattle.sfv_spec.specs.Canonical.{item_text, parameters_text, inner_list_text, dictionary_member_text}
+use Rattle.sfv_spec.specs.Canonical.{item_text, parameters_text, dictionary_member_text}
 use Rattle.sfv_bare.specs.BareItems.{ref_value}
 use Rattle.sfv_bare.specs.declared.bare.Version.{Version}
 use Rattle.sfv_ser.specs.declared.script.ItemCalls.{ItemCalls}
-use Rattle.sfv_ser.specs.Scripts.{called_param, called_item}
+use Rattle.sfv_ser.specs.declared.script.ParamCall.{ParamCall}
+use Rattle.sfv_ser.specs.declared.script.MemberCalls.{MemberCalls}
+use Rattle.sfv_ser.specs.Scripts.{called_param, called_item, inner_list_calls, member_calls, ended_text}
+use Rattle.sfv_ser.specs.Scripts.{WritesInner, WritesList, WritesDictionary}
 use Rattle.sfv_ser.specs.declared.kind.InnerListItems.{InnerListItems}
 use Rattle.sfv_ser.specs.declared.parts.Parts.{Parts}
 use Rattle.sfv_ser.specs.declared.sink.Sink.{Ghosts as Sink}
-use Rattle.sfv_ser.specs.Written.{Extends, lead, led, still_first, IsCutBack}
+use Rattle.sfv_ser.specs.Written.{Extends, lead, led, still_first}
 use Rattle.sfv_ser.specs.Serializers.{HasMoreParts, KeepsParts, GrowsParts, AreCutBack, lent_parts, parts_sink}
 use Rattle.sfv_ser.specs.Serializers.{has_no_part, length_before}
 use Rattle.sfv_ser.proofs.Rows.{IsLed, mapped_more, still_first-false}
@@ -183,32 +186,76 @@ written_behind before now new front piece more e n = n ∙ ap (λ (t : List ℕ)
     ∙ ap (λ (t : List ℕ). before ++ t) (append_assoc front piece more)
 
 -- an inner list that was begun, written and ended
-pub inner_list_ended : (before t1 t2 t3 t4 front : List ℕ) (none : Bool) (items : List RawItem) (params : RawParameters)
-    → t1 ≡ before ++ (front ++ codes "(") → t2 ≡ t1 ++ led none (codes " ") (map item_text items) → none ≡ true
+pub inner_list_ended : (before t1 t2 t3 t4 front opening : List ℕ) (none : Bool) (items : List RawItem)
+    (params : RawParameters)
+    → t1 ≡ before ++ (front ++ opening) → t2 ≡ t1 ++ led none (codes " ") (map item_text items) → none ≡ true
     → t3 ≡ t2 ++ codes ")" → t4 ≡ t3 ++ parameters_text params
-    → t4 ≡ before ++ (front ++ inner_list_text (record { items = items; parameters = params }))
-inner_list_ended before t1 t2 t3 t4 front none items params e1 e2 n e3 e4 =
-    let begin : List ℕ = codes "(" in
+    → t4 ≡ before ++ (front ++ ended_text opening items params)
+inner_list_ended before t1 t2 t3 t4 front opening none items params e1 e2 n e3 e4 =
     let inside : List ℕ = joined (codes " ") (map item_text items) in
     let row : led none (codes " ") (map item_text items) ≡ inside =
     ap (λ (b : Bool). led b (codes " ") (map item_text items)) n ∙ led_first (codes " ") (map item_text items) in
-    let begun = written_behind before t1 t2 front begin inside e1 (e2 ∙ ap (λ (t : List ℕ). t1 ++ t) row) in
-    let closed = written_behind before t2 t3 front (begin ++ inside) (codes ")") begun e3 in
-    written_behind before t3 t4 front ((begin ++ inside) ++ codes ")") (parameters_text params) closed e4
+    let begun = written_behind before t1 t2 front opening inside e1 (e2 ∙ ap (λ (t : List ℕ). t1 ++ t) row) in
+    let closed = written_behind before t2 t3 front (opening ++ inside) (codes ")") begun e3 in
+    written_behind before t3 t4 front ((opening ++ inside) ++ codes ")") (parameters_text params) closed e4
 
--- the same, behind a key
-pub named_list_ended : (before t1 t2 t3 t4 front key : List ℕ) (none : Bool) (items : List RawItem)
-    (params : RawParameters)
-    → t1 ≡ before ++ (front ++ key ++ codes "=(") → t2 ≡ t1 ++ led none (codes " ") (map item_text items) → none ≡ true
-    → t3 ≡ t2 ++ codes ")" → t4 ≡ t3 ++ parameters_text params
-    → t4 ≡ before ++ (front ++ dictionary_member_text (key, inner_list (record { items = items; parameters = params })))
-named_list_ended before t1 t2 t3 t4 front key none items params e1 e2 n e3 e4 =
-    let text : List ℕ = inner_list_text (record { items = items; parameters = params }) in
-    inner_list_ended before t1 t2 t3 t4 (front ++ key ++ codes "=") none items params
-    (e1 ∙ ap (λ (t : List ℕ). before ++ t) (sym (append_assoc (front ++ key) (codes "=") (codes "(")))) e2 n e3 e4
-    ∙ ap (λ (t : List ℕ). before ++ t) (append_assoc (front ++ key) (codes "=") text
-    ∙ append_assoc front key (codes "=" ++ text)
-    ∙ ap (λ (t : List ℕ). front ++ t) (sym (append_assoc key (codes "=") text)))
+-- an inner list that begins with a key and an equals sign
+named_inner : (key : List ℕ) (items : List RawItem) (params : RawParameters)
+    → ended_text (key ++ codes "=(") items params
+    ≡ dictionary_member_text (key, inner_list (record { items = items; parameters = params }))
+named_inner key items params =
+    let inside : List ℕ = joined (codes " ") (map item_text items) in
+    let begun : List ℕ = codes "(" ++ inside in
+    ap (λ (t : List ℕ). ((t ++ inside) ++ codes ")") ++ parameters_text params)
+    (sym (append_assoc key (codes "=") (codes "(")))
+    ∙ ap (λ (t : List ℕ). (t ++ codes ")") ++ parameters_text params)
+    (append_assoc (key ++ codes "=") (codes "(") inside)
+    ∙ ap (λ (t : List ℕ). t ++ parameters_text params) (append_assoc (key ++ codes "=") begun (codes ")"))
+    ∙ append_assoc (key ++ codes "=") (begun ++ codes ")") (parameters_text params)
+
+-- what follows from what holds if all went well
+on_ok : {T E P Q : Type 0} (r : Result T E) → (P → Q) → OnOk r P → OnOk r Q
+on_ok (Ok x) f h = f h
+on_ok (Err e) f h = h
+
+module _ {W K : Type 0} (w : Sink W) (s t : Parts W K) where
+  list_inner : (items : List ItemCalls) (params : List ParamCall) (abandon : Bool)
+      → WritesInner w s t (codes ", ") (codes "(") (map called_item items) (map called_param params) abandon
+      → WritesList w s t (inner_list_calls items params abandon ∷ [])
+  list_inner items params true h = (h.0, h.1 ∙ sym (append-nil _), h.2, h.3, h.4)
+  list_inner items params false h =
+      (h.0, h.1 ∙ ap (λ (l : List ℕ). string_bytes (w.text s.sink) ++ l) (sym (append-nil _)), h.2, h.3, h.4)
+
+  dictionary_inner : (key : List ℕ) (items : List ItemCalls) (params : List ParamCall) (abandon : Bool)
+      → WritesInner w s t (codes ", ") (key ++ codes "=(") (map called_item items) (map called_param params) abandon
+      → WritesDictionary w s t ((key, inner_list_calls items params abandon) ∷ [])
+  dictionary_inner key items params true h = (h.0, h.1 ∙ sym (append-nil _), h.2, h.3, h.4)
+  dictionary_inner key items params false h =
+      let front : List ℕ = lead (has_no_part s) (codes ", ") in
+      let named = named_inner key (map called_item items) (map called_param params) in (
+        h.0,
+        h.1 ∙ ap (λ (l : List ℕ). string_bytes (w.text s.sink) ++ l)
+            (ap (λ (l : List ℕ). front ++ l) named ∙ sym (append-nil _)),
+        h.2,
+        h.3,
+        h.4,
+      )
+
+  -- the calls of a member that is an inner list were performed
+  pub list_inner_written : {T E : Type 0} (r : Result T E) (m : MemberCalls) (items : List ItemCalls)
+      (params : List ParamCall) (abandon : Bool) → member_calls m ≡ inner_list_calls items params abandon
+      → OnOk r (WritesInner w s t (codes ", ") (codes "(") (map called_item items) (map called_param params) abandon)
+      → OnOk r (WritesList w s t (member_calls m ∷ []))
+  list_inner_written r m items params abandon is h = rw is (on_ok r (list_inner items params abandon) h)
+
+  pub dictionary_inner_written : {T E : Type 0} (r : Result T E) (key : List ℕ) (m : MemberCalls)
+      (items : List ItemCalls) (params : List ParamCall) (abandon : Bool)
+      → member_calls m ≡ inner_list_calls items params abandon
+      → OnOk r (WritesInner w s t (codes ", ") (key ++ codes "=(") (map called_item items) (map called_param params)
+      abandon)
+      → OnOk r (WritesDictionary w s t ((key, member_calls m) ∷ []))
+  dictionary_inner_written r key m items params abandon is h =
+      rw is (on_ok r (dictionary_inner key items params abandon) h)
 
 -- the item when this many of its parameters are written
 abbrev pub item_so_far : ItemCalls → ℕ → RawItem

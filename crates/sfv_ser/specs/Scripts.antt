@@ -1,15 +1,16 @@
 -- What lists of calls describe.
-use Rattle.std.specs.Prelude.{ℕ, Bool, List, map, codes, if◌then◌else◌}
-use Rattle.sfv_spec.specs.Values.{BareValue, RawItem, RawField, list_field, dictionary_field, item, inner_list}
-use Rattle.sfv_spec.specs.Canonical.{member_text, dictionary_member_text}
+use Rattle.std.specs.Prelude.{◌++◌, ℕ, Bool, false, List, map, codes, if◌then◌else◌, MatchBool}
+use Rattle.sfv_spec.specs.Texts.{joined}
+use Rattle.sfv_spec.specs.Values.{BareValue, RawParameters, RawItem, RawField, list_field, dictionary_field, item, inner_list}
+use Rattle.sfv_spec.specs.Canonical.{item_text, parameters_text, member_text, dictionary_member_text}
 use Rattle.sfv_spec.specs.Calls.{Calls, described, handed, written, abandoned}
 use Rattle.sfv_spec.specs.Calls as spec
 use Rattle.sfv_text.specs.KeyText.{KeyRef, key_text}
 use Rattle.sfv_bare.specs.BareItems.{ref_value}
 use Rattle.sfv_ser.specs.declared.parts.Parts.{Parts}
 use Rattle.sfv_ser.specs.declared.sink.Sink.{Ghosts as Sink}
-use Rattle.sfv_ser.specs.Written.{led, still_first}
-use Rattle.sfv_ser.specs.Serializers.{HasMoreParts}
+use Rattle.sfv_ser.specs.Written.{lead, led, still_first}
+use Rattle.sfv_ser.specs.Serializers.{KeepsParts, HasMoreParts}
 use Rattle.sfv_ser.specs.declared.script.ParamCall.{ParamCall}
 use Rattle.sfv_ser.specs.declared.script.ItemCalls.{ItemCalls}
 use Rattle.sfv_ser.specs.declared.script.MemberCalls.{MemberCalls}
@@ -22,6 +23,11 @@ called_param c = (key_text c.key, ref_value c.value)
 -- the item that these calls write
 abbrev pub called_item : ItemCalls → RawItem
 called_item c = record { bare = ref_value c.value; parameters = map called_param c.params.items }
+
+-- an inner list that was begun like this, with its items and its parameters
+abbrev pub ended_text : List ℕ → List RawItem → RawParameters → List ℕ
+ended_text opening items parameters =
+    opening ++ joined (codes " ") (map item_text items) ++ codes ")" ++ parameters_text parameters
 
 -- the calls of an inner list, which is abandoned behind its items, or ended with its parameters
 abbrev pub inner_list_calls : List ItemCalls → List ParamCall → Bool → spec.MemberCalls
@@ -65,6 +71,12 @@ dictionary_text is_first calls =
     led is_first (codes ", ") (map dictionary_member_text (described dictionary_field calls))
 
 module _ {W : Type 0} (w : Sink W) where
+  -- an inner list was written behind its opening, or abandoned
+  abbrev pub WritesInner : {K : Type 0} → Parts W K → Parts W K → List ℕ → List ℕ → List RawItem → RawParameters → Bool
+      → Type 0
+  WritesInner s t separator opening items parameters abandon = MatchBool abandon (KeepsParts w s t)
+      (HasMoreParts w s t (lead s.is_first separator ++ ended_text opening items parameters) false)
+
   -- the calls were performed
   abbrev pub WritesList : {K : Type 0} → Parts W K → Parts W K → Calls list_field → Type 0
   WritesList s t calls = HasMoreParts w s t (list_text s.is_first calls)

@@ -1,10 +1,10 @@
 //! Lists of calls of the serializers, which are performed in order (RFC 9651, section 4.1).
 
-ghost use Rattle.std.specs.Prelude.{◌≡◌, ◌↔◌, ◌++◌, ◌∷◌, [], false, IfOk, OnOk, OnErr, IsTrue, map, codes};
+ghost use Rattle.std.specs.Prelude.{◌≡◌, ◌↔◌, ◌++◌, ◌∷◌, [], false, ⊤, IfOk, OnOk, OnErr, IsTrue, MatchBool, map, codes};
 ghost use Rattle.std.specs.List.{AllByRecursion};
 ghost use Rattle.sfv_spec.specs.Classes.{is_key};
 ghost use Rattle.sfv_spec.specs.Values.{item, item_field, list_field, dictionary_field};
-ghost use Rattle.sfv_spec.specs.Values.{IsItem, IsFieldValue, HasMember};
+ghost use Rattle.sfv_spec.specs.Values.{rfc9651, IsItem, AreParameters, IsFieldValue, HasMember};
 ghost use Rattle.sfv_spec.specs.Ordered.{ordered};
 ghost use Rattle.sfv_spec.specs.Events.{bare_values};
 ghost use Rattle.sfv_spec.specs.Calls.{described};
@@ -14,20 +14,21 @@ ghost use Rattle.sfv_bare.specs.BareItems.{edition_of};
 ghost use Rattle.sfv_text.specs.KeyText.{key_text};
 ghost use Rattle.sfv_ser.specs.Written.{Appends, AppendsOrKeeps, lead, led, still_first};
 ghost use Rattle.sfv_ser.specs.Serializers.{lent_parts, HasMoreParts, GrowsParts, inner_list_name, has_no_part};
+ghost use Rattle.sfv_ser.specs.Serializers.{parts_edition};
 ghost use Rattle.sfv_ser.specs.Versions.{LooksFirst};
-ghost use Rattle.sfv_ser.specs.Scripts.{called_item, member_calls, inner_list_calls, list_calls, dictionary_calls};
+ghost use Rattle.sfv_ser.specs.Scripts.{called_param, called_item, member_calls, list_calls, dictionary_calls};
 ghost use Rattle.sfv_ser.specs.Scripts.{described_list, described_dictionary, handed_list, handed_dictionary};
-ghost use Rattle.sfv_ser.specs.Scripts.{WritesList, WritesDictionary};
+ghost use Rattle.sfv_ser.specs.Scripts.{WritesInner, WritesList, WritesDictionary};
 
 use crate::dict_serializer::DictSerializer;
 use crate::inner_list_serializer::InnerListSerializer;
 use crate::item_serializer::ItemSerializer;
-use crate::kind::Unnamed;
+use crate::kind::{Kind, Unnamed};
 use crate::list_serializer::ListSerializer;
 use crate::look_at_calls::{look_at_dictionary_calls, look_at_item_calls, look_at_list_calls};
-use crate::part::cut_back;
+use crate::part::{NamedOpening, Opening, Part, cut_back};
 use crate::parts::Parts;
-use crate::serialize_error::SerializeError;
+use crate::serialize_error::{SerializeError, only_memory};
 use crate::sink::Sink;
 use sfv_bare::bare::{RefBareItem, Version};
 use sfv_base::error::OutOfMemory;
@@ -69,13 +70,19 @@ pub enum MemberCalls<'a> {
 }
 
 /// Writes an item.
-fn write_item(text: &mut StdString, calls: &ItemCalls<'_>) -> Result<(), SerializeError>
+fn write_item(text: &mut StdString, calls: &ItemCalls<'_>) -> Result<(), OutOfMemory>
     ensures text { Appends text.old text.new (item_text (called_item calls.now)) result }
     ensures value { OnOk result (IsItem (called_item calls.now)) }
 {
-    let mut params = ItemSerializer::with_buffer(text).bare_item(calls.value)?;
+    let mut params = match ItemSerializer::with_buffer(text).bare_item(calls.value) {
+        Ok(params) => params,
+        Err(error) => return Err(only_memory(error)),
+    };
     for call in &calls.params {
-        params = params.parameter(call.key, call.value)?;
+        params = match params.parameter(call.key, call.value) {
+            Ok(params) => params,
+            Err(error) => return Err(only_memory(error)),
+        };
     }
     params.finish();
     Ok(())
@@ -85,15 +92,22 @@ fn write_item(text: &mut StdString, calls: &ItemCalls<'_>) -> Result<(), Seriali
 fn write_unnamed<W: Sink, K: Unnamed>(
     parts: &mut Parts<W, K>,
     calls: &ItemCalls<'_>,
-) -> Result<(), SerializeError>
+) -> Result<(), OutOfMemory>
+    requires { parts_edition parts.old ≡ rfc9651 }
     ensures text { OnOk result (HasMoreParts W.Sink parts.old parts.new
         (lead (has_no_part parts.old) K.separator ++ item_text (called_item calls.now)) false) }
     ensures value { OnOk result (IsItem (called_item calls.now)) }
     ensures out_of_memory { OnErr result (GrowsParts W.Sink parts.old parts.new) }
 {
-    let mut params = parts.bare_item(calls.value)?;
+    let mut params = match parts.bare_item(calls.value) {
+        Ok(params) => params,
+        Err(error) => return Err(only_memory(error)),
+    };
     for call in &calls.params {
-        params = params.parameter(call.key, call.value)?;
+        params = match params.parameter(call.key, call.value) {
+            Ok(params) => params,
+            Err(error) => return Err(only_memory(error)),
+        };
     }
     params.finish();
     Ok(())
@@ -104,7 +118,8 @@ fn write_dictionary_item<W: Sink>(
     dictionary: &mut DictSerializer<W>,
     name: KeyRef<'_>,
     calls: &ItemCalls<'_>,
-) -> Result<(), SerializeError>
+) -> Result<(), OutOfMemory>
+    requires { parts_edition dictionary.old ≡ rfc9651 }
     ensures text { OnOk result (HasMoreParts W.Sink dictionary.old dictionary.new
         (lead (has_no_part dictionary.old) (codes ", ")
         ++ dictionary_member_text (key_text name.entry, item (called_item calls.now))) false) }
@@ -112,9 +127,15 @@ fn write_dictionary_item<W: Sink>(
     ensures value { OnOk result (IsItem (called_item calls.now)) }
     ensures out_of_memory { OnErr result (GrowsParts W.Sink dictionary.old dictionary.new) }
 {
-    let mut params = dictionary.bare_item(name, calls.value)?;
+    let mut params = match dictionary.bare_item(name, calls.value) {
+        Ok(params) => params,
+        Err(error) => return Err(only_memory(error)),
+    };
     for call in &calls.params {
-        params = params.parameter(call.key, call.value)?;
+        params = match params.parameter(call.key, call.value) {
+            Ok(params) => params,
+            Err(error) => return Err(only_memory(error)),
+        };
     }
     params.finish();
     Ok(())
@@ -124,7 +145,8 @@ fn write_dictionary_item<W: Sink>(
 fn write_inner_items<W: Sink, K>(
     inner: &mut InnerListSerializer<&mut Parts<W, K>>,
     items: &[ItemCalls<'_>],
-) -> Result<(), SerializeError>
+) -> Result<(), OutOfMemory>
+    requires { parts_edition inner.old ≡ rfc9651 }
     ensures lent { inner_list_name inner.new ≡ inner_list_name inner.old }
     ensures text { OnOk result (HasMoreParts (lent_parts W.Sink) inner.old inner.new
         (led (has_no_part inner.old) (codes " ") (map item_text (map called_item items.now)))
@@ -138,20 +160,22 @@ fn write_inner_items<W: Sink, K>(
     Ok(())
 }
 
-/// Writes a member of a list that is an inner list, or abandons it.
-fn write_list_inner<W: Sink>(
-    list: &mut ListSerializer<W>,
+/// Writes a member that is an inner list, behind its opening, or abandons it.
+fn write_inner<W: Sink, K: Kind, P: Part>(
+    parts: &mut Parts<W, K>,
+    opening: P,
     items: &[ItemCalls<'_>],
     params: &[ParamCall<'_>],
     abandon: bool,
-) -> Result<(), SerializeError>
-    ensures text { OnOk result (WritesList W.Sink list.old list.new
-        (inner_list_calls items.now params.now abandon ∷ [])) }
-    ensures value { OnOk result
-        (IsFieldValue list_field (described list_field (inner_list_calls items.now params.now abandon ∷ []))) }
-    ensures out_of_memory { OnErr result (GrowsParts W.Sink list.old list.new) }
+) -> Result<(), OutOfMemory>
+    requires { parts_edition parts.old ≡ rfc9651 }
+    ensures text { OnOk result (WritesInner W.Sink parts.old parts.new K.separator (P.text opening)
+        (map called_item items.now) (map called_param params.now) abandon) }
+    ensures value { OnOk result (MatchBool abandon ⊤ (P.is_valid opening
+        × AllByRecursion IsItem (map called_item items.now) × AreParameters (map called_param params.now))) }
+    ensures out_of_memory { OnErr result (GrowsParts W.Sink parts.old parts.new) }
 {
-    let mut inner = list.inner_list()?;
+    let mut inner = parts.begin(opening)?;
     if let Err(error) = write_inner_items(&mut inner, items) {
         inner.abandon();
         return Err(error);
@@ -162,38 +186,10 @@ fn write_list_inner<W: Sink>(
     }
     let mut ending = inner.finish()?;
     for call in params {
-        ending = ending.parameter(call.key, call.value)?;
-    }
-    ending.finish();
-    Ok(())
-}
-
-/// Writes a member of a dictionary that is an inner list, or abandons it.
-fn write_dictionary_inner<W: Sink>(
-    dictionary: &mut DictSerializer<W>,
-    name: KeyRef<'_>,
-    items: &[ItemCalls<'_>],
-    params: &[ParamCall<'_>],
-    abandon: bool,
-) -> Result<(), SerializeError>
-    ensures text { OnOk result (WritesDictionary W.Sink dictionary.old dictionary.new
-        ((key_text name.entry, inner_list_calls items.now params.now abandon) ∷ [])) }
-    ensures value { OnOk result (IsFieldValue dictionary_field
-        (described dictionary_field ((key_text name.entry, inner_list_calls items.now params.now abandon) ∷ []))) }
-    ensures out_of_memory { OnErr result (GrowsParts W.Sink dictionary.old dictionary.new) }
-{
-    let mut inner = dictionary.inner_list(name)?;
-    if let Err(error) = write_inner_items(&mut inner, items) {
-        inner.abandon();
-        return Err(error);
-    }
-    if abandon {
-        inner.abandon();
-        return Ok(());
-    }
-    let mut ending = inner.finish()?;
-    for call in params {
-        ending = ending.parameter(call.key, call.value)?;
+        ending = match ending.parameter(call.key, call.value) {
+            Ok(ending) => ending,
+            Err(error) => return Err(only_memory(error)),
+        };
     }
     ending.finish();
     Ok(())
@@ -203,7 +199,8 @@ fn write_dictionary_inner<W: Sink>(
 fn write_list_member<W: Sink>(
     list: &mut ListSerializer<W>,
     member: &MemberCalls<'_>,
-) -> Result<(), SerializeError>
+) -> Result<(), OutOfMemory>
+    requires { parts_edition list.old ≡ rfc9651 }
     ensures text { OnOk result (WritesList W.Sink list.old list.new
         (member_calls member.now ∷ [])) }
     ensures value { OnOk result (IsFieldValue list_field (described list_field (member_calls member.now ∷ []))) }
@@ -215,7 +212,7 @@ fn write_list_member<W: Sink>(
             items,
             params,
             abandon,
-        } => write_list_inner(list, items, params, *abandon),
+        } => write_inner(list, Opening {}, items, params, *abandon),
     }
 }
 
@@ -224,7 +221,8 @@ fn write_dictionary_member<W: Sink>(
     dictionary: &mut DictSerializer<W>,
     name: KeyRef<'_>,
     member: &MemberCalls<'_>,
-) -> Result<(), SerializeError>
+) -> Result<(), OutOfMemory>
+    requires { parts_edition dictionary.old ≡ rfc9651 }
     ensures text { OnOk result (WritesDictionary W.Sink dictionary.old dictionary.new
         ((key_text name.entry, member_calls member.now) ∷ [])) }
     ensures value { OnOk result (IsFieldValue dictionary_field
@@ -237,7 +235,7 @@ fn write_dictionary_member<W: Sink>(
             items,
             params,
             abandon,
-        } => write_dictionary_inner(dictionary, name, items, params, *abandon),
+        } => write_inner(dictionary, NamedOpening { name }, items, params, *abandon),
     }
 }
 
@@ -245,7 +243,8 @@ fn write_dictionary_member<W: Sink>(
 fn write_list_members<W: Sink>(
     list: &mut ListSerializer<W>,
     calls: &[MemberCalls<'_>],
-) -> Result<(), SerializeError>
+) -> Result<(), OutOfMemory>
+    requires { parts_edition list.old ≡ rfc9651 }
     ensures text { OnOk result (WritesList W.Sink list.old list.new
         (list_calls calls.now)) }
     ensures value { OnOk result (IsFieldValue list_field (described_list calls.now)) }
@@ -259,7 +258,7 @@ fn write_list_members<W: Sink>(
 
 /// Writes a list, and returns whether a member stands.
 #[tactic(auto, using(crate::proofs::Scripts::led_first))]
-fn write_list(text: &mut StdString, calls: &[MemberCalls<'_>]) -> Result<bool, SerializeError>
+fn write_list(text: &mut StdString, calls: &[MemberCalls<'_>]) -> Result<bool, OutOfMemory>
     ensures text { Appends text.old text.new (canonical list_field (described_list calls.now)) result }
     ensures member { IfOk result (λ stands. IsTrue stands ↔ HasMember list_field (described_list calls.now)) }
     ensures value { OnOk result (IsFieldValue list_field (described_list calls.now)) }
@@ -273,7 +272,8 @@ fn write_list(text: &mut StdString, calls: &[MemberCalls<'_>]) -> Result<bool, S
 fn write_dictionary_members<W: Sink>(
     dictionary: &mut DictSerializer<W>,
     calls: &[(KeyRef<'_>, MemberCalls<'_>)],
-) -> Result<(), SerializeError>
+) -> Result<(), OutOfMemory>
+    requires { parts_edition dictionary.old ≡ rfc9651 }
     ensures text { OnOk result (WritesDictionary W.Sink dictionary.old dictionary.new
         (dictionary_calls calls.now)) }
     ensures value { OnOk result (IsFieldValue dictionary_field (described_dictionary calls.now)) }
@@ -290,7 +290,7 @@ fn write_dictionary_members<W: Sink>(
 fn write_dictionary(
     text: &mut StdString,
     calls: &[(KeyRef<'_>, MemberCalls<'_>)],
-) -> Result<bool, SerializeError>
+) -> Result<bool, OutOfMemory>
     ensures text { Appends text.old text.new (canonical dictionary_field (described_dictionary calls.now)) result }
     ensures member { IfOk result (λ stands. IsTrue stands
         ↔ HasMember dictionary_field (described_dictionary calls.now)) }
@@ -312,10 +312,10 @@ pub fn run_item(text: &mut StdString, calls: &ItemCalls<'_>) -> Result<(), OutOf
     ensures value { OnOk result (IsFieldValue item_field (called_item calls.now)) }
 {
     let len = text.len();
-    let Ok(()) = write_item(text, calls) else {
+    if let Err(error) = write_item(text, calls) {
         cut_back(len, text);
-        return Err(OutOfMemory);
-    };
+        return Err(error);
+    }
     Ok(())
 }
 
@@ -332,11 +332,11 @@ pub fn run_list(text: &mut StdString, calls: &[MemberCalls<'_>]) -> Result<bool,
     ensures value { OnOk result (IsFieldValue list_field (described_list calls.now)) }
 {
     let len = text.len();
-    let Ok(stands) = write_list(text, calls) else {
+    let written = write_list(text, calls);
+    if written.is_err() {
         cut_back(len, text);
-        return Err(OutOfMemory);
-    };
-    Ok(stands)
+    }
+    written
 }
 
 /// Writes a dictionary at the end of a text (RFC 9651, section 4.1.2), by the calls of `DictSerializer`: a key that
@@ -357,11 +357,11 @@ pub fn run_dict(
     ensures value { OnOk result (IsFieldValue dictionary_field (described_dictionary calls.now)) }
 {
     let len = text.len();
-    let Ok(stands) = write_dictionary(text, calls) else {
+    let written = write_dictionary(text, calls);
+    if written.is_err() {
         cut_back(len, text);
-        return Err(OutOfMemory);
-    };
-    Ok(stands)
+    }
+    written
 }
 
 /// Writes an item at the end of a text, as `run_item` does, if this version has all values that the calls hand over.

@@ -1,10 +1,10 @@
 use Rattle.std.proofs.Common.{◌≡◌, ◌++◌, false, codes}
-use Rattle.sfv_spec.specs.Values.{item, IsItem}
+use Rattle.sfv_spec.specs.Values.{item, IsItem, rfc9651}
 use Rattle.sfv_spec.specs.Canonical.{dictionary_member_text}
 use Rattle.sfv_text.specs.KeyText.{key_text}
 use Rattle.sfv_ser.proofs.Scripts.{item_so_far}
 use Rattle.sfv_ser.specs.Written.{lead}
-use Rattle.sfv_ser.specs.Serializers.{params_sink, params_name, HasMoreParts, has_no_part}
+use Rattle.sfv_ser.specs.Serializers.{params_sink, params_name, params_edition, HasMoreParts, has_no_part}
 use Rattle.sfv_ser.proofs.script.write_dictionary_item.Given as goal
 
 abbrev pub invariant-loop-call : goal.invariant-loop-call
@@ -13,4 +13,4 @@ invariant-loop-call g l =
     × HasMoreParts g.W.Sink l.fn.dictionary (params_sink l.params).now
     (lead (has_no_part l.fn.dictionary) (codes ", ")
     ++ dictionary_member_text (key_text l.name, item (item_so_far l.calls l.call-index))) false
-    × IsItem (item_so_far l.calls l.call-index)
+    × IsItem (item_so_far l.calls l.call-index) × (params_edition l.params ≡ rfc9651)

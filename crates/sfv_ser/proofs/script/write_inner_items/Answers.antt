@@ -17,8 +17,13 @@ loop-calls-preserved g c =
     let row = c.loop-calls.invariant in
     let items = c.args.items.now in
     let within : c.loop-calls.calls-index < length items = search rules in (
-      (w.text.0.0 ∙ row.0.0, g.met.W.Sink.same_again _ _ _ row.0.1 w.text.0.1, w.text.0.2 ∙ row.0.2, w.text.0.3 ∙ row.0.3,
-        w.text.0.4 ∙ row.0.4),
+      (
+        w.text.0.0 ∙ row.0.0,
+        g.met.W.Sink.same_again _ _ _ row.0.1 w.text.0.1,
+        w.text.0.2 ∙ row.0.2,
+        w.text.0.3 ∙ row.0.3,
+        w.text.0.4 ∙ row.0.4,
+      ),
       item_more items c.loop-calls.calls-index c.calls-item.result _ _ _ _ _ _ within c.calls-item.is row.1 w.text.2
           w.text.1 w.value,
       w.text.3 ∙ row.2,
