@@ -9,8 +9,8 @@ use Rattle.sfv_text.specs.KeyText.{KeyRef, key_text}
 use Rattle.sfv_bare.specs.BareItems.{ref_value}
 use Rattle.sfv_ser.specs.declared.parts.Parts.{Parts}
 use Rattle.sfv_ser.specs.declared.sink.Sink.{Ghosts as Sink}
-use Rattle.sfv_ser.specs.Written.{lead, led, still_first}
-use Rattle.sfv_ser.specs.Serializers.{KeepsParts, HasMoreParts}
+use Rattle.sfv_ser.specs.Written.{led, still_first}
+use Rattle.sfv_ser.specs.Serializers.{KeepsParts, HasMoreParts, HasNextPart}
 use Rattle.sfv_ser.specs.declared.script.ParamCall.{ParamCall}
 use Rattle.sfv_ser.specs.declared.script.ItemCalls.{ItemCalls}
 use Rattle.sfv_ser.specs.declared.script.MemberCalls.{MemberCalls}
@@ -75,7 +75,7 @@ module _ {W : Type 0} (w : Sink W) where
   abbrev pub WritesInner : {K : Type 0} → Parts W K → Parts W K → List ℕ → List ℕ → List RawItem → RawParameters → Bool
       → Type 0
   WritesInner s t separator opening items parameters abandon = MatchBool abandon (KeepsParts w s t)
-      (HasMoreParts w s t (lead s.is_first separator ++ ended_text opening items parameters) false)
+      (HasNextPart w separator s t (ended_text opening items parameters) false)
 
   -- the calls were performed
   abbrev pub WritesList : {K : Type 0} → Parts W K → Parts W K → Calls list_field → Type 0

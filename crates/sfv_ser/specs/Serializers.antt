@@ -10,7 +10,7 @@ use Rattle.sfv_ser.specs.declared.kind.InnerListItems.{InnerListItems}
 use Rattle.sfv_ser.specs.declared.parts.Parts.{Parts}
 use Rattle.sfv_ser.specs.contracts.parts.Parts as parts
 use Rattle.sfv_ser.specs.Texts.{Text, text_row}
-use Rattle.sfv_ser.specs.Written.{Extends, IsCutBack}
+use Rattle.sfv_ser.specs.Written.{Extends, IsCutBack, lead}
 
 -- the text that is lent to the serializer of an item
 abbrev pub item_buffer : ItemSerializer → MutBor Text
@@ -84,6 +84,10 @@ module _ {W : Type 0} (w : Sink W) where
   HasMoreParts s t more is_first = w.same s.sink t.sink
       × (string_bytes (w.text t.sink) ≡ string_bytes (w.text s.sink) ++ more) × (t.is_first ≡ is_first)
       × (t.version ≡ s.version) × (t.kind ≡ s.kind)
+
+  -- the same, of a part, after the separator unless it is the first
+  abbrev pub HasNextPart : {K : Type 0} → List ℕ → Parts W K → Parts W K → List ℕ → Bool → Type 0
+  HasNextPart separator s t text is_first = HasMoreParts s t (lead s.is_first separator ++ text) is_first
 
   -- the same place and kind; something may stand at the end of its text
   abbrev pub GrowsParts : {K : Type 0} → Parts W K → Parts W K → Type 0

@@ -1,13 +1,16 @@
 -- What a text holds to which another was added.
 use Rattle.std.specs.Prelude.{◌≡◌, ℕ, Bool, false, if◌then◌else◌, List, [], ◌∷◌, ◌++◌, map, Result, MatchResult}
-use Rattle.std.specs.Prelude.{IsTrue, codes, string_bytes, length, IsUtf8}
+use Rattle.std.specs.Prelude.{IsTrue, codes, string_bytes, length, IsUtf8, Option, option_map}
 use Rattle.std.specs.Borrow.{Bor}
 use Rattle.std.specs.List.{AllByRecursion}
+use Rattle.std.specs.declared.alloc.Global.{Global}
 use Rattle.std.specs.declared.string.String.{String}
-use Rattle.sfv_spec.specs.Values.{RawParameters, RawItem, RawMember, IsItem, IsMember}
-use Rattle.sfv_spec.specs.Ordered.{IsOrderedItem, IsOrderedMember}
+use Rattle.sfv_spec.specs.Values.{Edition, rfc9651, FieldKind, RawField, BareValue, RawParameters, RawItem, RawMember}
+use Rattle.sfv_spec.specs.Values.{IsItem, IsMember}
+use Rattle.sfv_spec.specs.Ordered.{ordered, IsOrderedItem, IsOrderedMember}
 use Rattle.sfv_spec.specs.Classes.{is_key}
-use Rattle.sfv_spec.specs.Canonical.{item_text, member_text, dictionary_member_text}
+use Rattle.sfv_spec.specs.Canonical.{value_text, item_text, member_text, dictionary_member_text, canonical}
+use Rattle.sfv_spec.specs.Statements.{IsParsedAs, IsSerializedAs}
 use Rattle.sfv_tree.specs.Trees.{OwnedBareItem, pairs_tree, item_tree, member_tree}
 use Rattle.sfv_tree.specs.declared.parsed.Item.{Item}
 use Rattle.sfv_tree.specs.declared.parsed.ListEntry.{ListEntry}
@@ -30,6 +33,21 @@ AppendsOrKeeps old new text result =
 -- the pairs of parameters that are lent
 abbrev pub lent_pairs : List (Bor (List ℕ) × Bor OwnedBareItem) → RawParameters
 lent_pairs pairs = pairs_tree (map (λ p. (p.0.now, p.1.now)) pairs)
+
+-- what is written of a key with its value, and of a parameter
+abbrev pub keyed_text : List ℕ → BareValue → List ℕ
+keyed_text key value = key ++ value_text value
+
+abbrev pub parameter_text : List ℕ → BareValue → List ℕ
+parameter_text key value = codes ";" ++ keyed_text key value
+
+-- what a list or a dictionary is written as under RFC 9651: nothing if it has no member
+abbrev pub IsSerialized : (kind : FieldKind) → RawField kind → Option (String Global) → Type 0
+IsSerialized kind value text = IsSerializedAs rfc9651 kind value (option_map string_bytes text)
+
+-- the canonical text of this field is read as its ordered value
+abbrev pub IsReadBack : Edition → (kind : FieldKind) → RawField kind → Type 0
+IsReadBack edition kind raw = IsParsedAs edition kind (canonical kind raw) (ordered kind raw)
 
 -- what stands in front of a part: the separator, unless it is the first
 abbrev pub lead : Bool → List ℕ → List ℕ

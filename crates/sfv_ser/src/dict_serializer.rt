@@ -6,13 +6,12 @@ ghost use Rattle.std.specs.Borrow.{sem};
 ghost use Rattle.std.specs.Iterator.{IsFinite, Drains};
 ghost use Rattle.sfv_spec.specs.Classes.{is_key};
 ghost use Rattle.sfv_spec.specs.Values.{IsBareValue};
-ghost use Rattle.sfv_spec.specs.Canonical.{value_text};
 ghost use Rattle.sfv_spec.specs.Calls.{AllFit};
 ghost use Rattle.sfv_bare.specs.BareItems.{ref_value};
 ghost use Rattle.sfv_text.specs.KeyText.{key_text};
-ghost use Rattle.sfv_ser.specs.Written.{lead, still_first, members_text, AreMembers};
-ghost use Rattle.sfv_ser.specs.Serializers.{PartsRest, HasMoreParts, KeepsParts, parts_sink, parts_edition};
-ghost use Rattle.sfv_ser.specs.Serializers.{has_no_part, params_sink, params_name, params_edition};
+ghost use Rattle.sfv_ser.specs.Written.{keyed_text, still_first, members_text, AreMembers};
+ghost use Rattle.sfv_ser.specs.Serializers.{PartsRest, HasMoreParts, HasNextPart, KeepsParts, parts_sink};
+ghost use Rattle.sfv_ser.specs.Serializers.{parts_edition, has_no_part, params_sink, params_name, params_edition};
 ghost use Rattle.sfv_ser.specs.Serializers.{inner_list_name, length_before};
 ghost use Rattle.sfv_ser.specs.Versions.{LooksFirst, FailsAmong, values_of_members};
 ghost use Rattle.sfv_ser.specs.contracts.kind.DictMembers.{the_row as dict_members};
@@ -54,9 +53,8 @@ impl<W: Sink> Parts<W, DictMembers> {
         ensures lent { IfOk result (λ p. params_name p ≡ self.entry.ghost_name) }
         ensures version { IfOk result (λ p. params_edition p ≡ parts_edition self.old) }
         ensures looks { LooksFirst (parts_edition self.old) (ref_value value.entry ∷ []) result }
-        ensures text { IfOk result (λ p. HasMoreParts W.Sink self.old (params_sink p).now
-            (lead (has_no_part self.old) (codes ", ") ++ key_text name.entry ++ value_text (ref_value value.entry))
-            false) }
+        ensures text { IfOk result (λ p. HasNextPart W.Sink (codes ", ") self.old (params_sink p).now
+            (keyed_text (key_text name.entry) (ref_value value.entry)) false) }
         ensures is_key { OnOk result (IsTrue (is_key (key_text name.entry))) }
         ensures is_value { OnOk result (IsBareValue (ref_value value.entry)) }
     {
@@ -81,8 +79,8 @@ impl<W: Sink> Parts<W, DictMembers> {
             inner_list_name result) }
         ensures lent { IfOk result (λ s. inner_list_name s ≡ self.entry.ghost_name) }
         ensures version { IfOk result (λ s. parts_edition s ≡ parts_edition self.old) }
-        ensures text { IfOk result (λ s. HasMoreParts W.Sink self.old (parts_sink s).now
-            (lead (has_no_part self.old) (codes ", ") ++ key_text name.entry ++ codes "=(") (has_no_part self.old)) }
+        ensures text { IfOk result (λ s. HasNextPart W.Sink (codes ", ") self.old (parts_sink s).now
+            (key_text name.entry ++ codes "=(") (has_no_part self.old)) }
         ensures begins { IfOk result (λ s. (has_no_part s ≡ true)
             × (length_before s ≡ string_len (W.text (parts_sink self.old)))) }
         ensures is_key { OnOk result (IsTrue (is_key (key_text name.entry))) }

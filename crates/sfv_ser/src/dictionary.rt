@@ -1,11 +1,11 @@
 //! Writing dictionaries (RFC 9651, section 4.1.2).
 
-ghost use Rattle.std.specs.Prelude.{OnOk, IfOk, IfErr, option_map, string_bytes};
-ghost use Rattle.sfv_spec.specs.Values.{rfc9651, HasMember, dictionary_field};
+ghost use Rattle.std.specs.Prelude.{OnOk, IfOk, IfErr};
+ghost use Rattle.sfv_spec.specs.Values.{HasMember, dictionary_field};
 ghost use Rattle.sfv_spec.specs.Canonical.{canonical};
-ghost use Rattle.sfv_spec.specs.Statements.{IsValue, IsSerializedAs};
+ghost use Rattle.sfv_spec.specs.Statements.{IsValue};
 ghost use Rattle.sfv_tree.specs.Trees.{dictionary_tree};
-ghost use Rattle.sfv_ser.specs.Written.{Appends};
+ghost use Rattle.sfv_ser.specs.Written.{Appends, IsSerialized};
 
 use crate::element::serialize_each;
 use crate::serialize_error::only_memory;
@@ -41,8 +41,7 @@ pub fn dictionary_text(
     dictionary: &Dictionary,
     alloc: Global,
 ) -> Result<Option<StdString>, OutOfMemory>
-    ensures text { IfOk result (λ text.
-        IsSerializedAs rfc9651 dictionary_field (dictionary_tree dictionary.now.entries) (option_map string_bytes text)) }
+    ensures text { IfOk result (IsSerialized dictionary_field (dictionary_tree dictionary.now.entries)) }
     ensures out_of_memory { IfErr result (λ _. HasMember dictionary_field (dictionary_tree dictionary.now.entries)) }
 {
     if dictionary.is_empty() {

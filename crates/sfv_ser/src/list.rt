@@ -1,11 +1,11 @@
 //! Writing lists (RFC 9651, section 4.1.1).
 
-ghost use Rattle.std.specs.Prelude.{OnOk, IfOk, IfErr, option_map, string_bytes};
-ghost use Rattle.sfv_spec.specs.Values.{rfc9651, HasMember, list_field};
+ghost use Rattle.std.specs.Prelude.{OnOk, IfOk, IfErr};
+ghost use Rattle.sfv_spec.specs.Values.{HasMember, list_field};
 ghost use Rattle.sfv_spec.specs.Canonical.{canonical};
-ghost use Rattle.sfv_spec.specs.Statements.{IsValue, IsSerializedAs};
+ghost use Rattle.sfv_spec.specs.Statements.{IsValue};
 ghost use Rattle.sfv_tree.specs.Trees.{list_tree};
-ghost use Rattle.sfv_ser.specs.Written.{Appends};
+ghost use Rattle.sfv_ser.specs.Written.{Appends, IsSerialized};
 
 use crate::element::serialize_each;
 use crate::serialize_error::only_memory;
@@ -36,8 +36,7 @@ pub(crate) fn serialize_list<A: Allocator>(
 ///
 /// `OutOfMemory` when out of memory.
 pub fn list_text(list: &List, alloc: Global) -> Result<Option<StdString>, OutOfMemory>
-    ensures text { IfOk result (λ text.
-        IsSerializedAs rfc9651 list_field (list_tree list.now.items) (option_map string_bytes text)) }
+    ensures text { IfOk result (IsSerialized list_field (list_tree list.now.items)) }
     ensures out_of_memory { IfErr result (λ _. HasMember list_field (list_tree list.now.items)) }
 {
     if list.is_empty() {

@@ -1,12 +1,12 @@
 //! Writing a list member by member (RFC 9651, section 4.1.1).
 
-ghost use Rattle.std.specs.Prelude.{◌≡◌, ◌++◌, true, IfOk, IfErr, OnOk, OnErr, List, codes, string_len};
+ghost use Rattle.std.specs.Prelude.{◌≡◌, true, IfOk, IfErr, OnOk, OnErr, List, codes, string_len};
 ghost use Rattle.std.specs.Borrow.{sem};
 ghost use Rattle.std.specs.Iterator.{IsFinite, Drains};
 ghost use Rattle.sfv_spec.specs.Calls.{AllFit};
-ghost use Rattle.sfv_ser.specs.Written.{lead, still_first, entries_text, AreEntries};
-ghost use Rattle.sfv_ser.specs.Serializers.{PartsRest, HasMoreParts, KeepsParts, parts_sink, parts_edition};
-ghost use Rattle.sfv_ser.specs.Serializers.{has_no_part, inner_list_name, length_before};
+ghost use Rattle.sfv_ser.specs.Written.{still_first, entries_text, AreEntries};
+ghost use Rattle.sfv_ser.specs.Serializers.{PartsRest, HasMoreParts, HasNextPart, KeepsParts, parts_sink};
+ghost use Rattle.sfv_ser.specs.Serializers.{parts_edition, has_no_part, inner_list_name, length_before};
 ghost use Rattle.sfv_ser.specs.Versions.{FailsAmong, values_of_entries};
 ghost use Rattle.sfv_ser.specs.contracts.kind.ListMembers.{the_row as list_members};
 
@@ -36,8 +36,8 @@ impl<W: Sink> Parts<W, ListMembers> {
             inner_list_name result) }
         ensures lent { IfOk result (λ s. inner_list_name s ≡ self.entry.ghost_name) }
         ensures version { IfOk result (λ s. parts_edition s ≡ parts_edition self.old) }
-        ensures text { IfOk result (λ s. HasMoreParts W.Sink self.old (parts_sink s).now
-            (lead (has_no_part self.old) (codes ", ") ++ codes "(") (has_no_part self.old)) }
+        ensures text { IfOk result (λ s. HasNextPart W.Sink (codes ", ") self.old (parts_sink s).now
+            (codes "(") (has_no_part self.old)) }
         ensures begins { IfOk result (λ s. (has_no_part s ≡ true)
             × (length_before s ≡ string_len (W.text (parts_sink self.old)))) }
     {

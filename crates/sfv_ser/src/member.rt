@@ -101,4 +101,3 @@ pub(crate) fn serialize_dictionary_member<A: Allocator>(
         }
     }
 }
-

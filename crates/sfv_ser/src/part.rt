@@ -355,7 +355,16 @@ mod tests {
                 let written = match call {
                     0 => append(separated(false, Bare { value: word }), &mut text),
                     1 => append(separated(false, Opening {}), &mut text),
-                    2 => append(separated(false, Named { name: key, value: word }), &mut text),
+                    2 => append(
+                        separated(
+                            false,
+                            Named {
+                                name: key,
+                                value: word,
+                            },
+                        ),
+                        &mut text,
+                    ),
                     _ => append(separated(false, NamedOpening { name: key }), &mut text),
                 };
                 if written.is_ok() {
@@ -425,7 +434,16 @@ mod tests {
         assert!(rt; append(parameter("b", two), &mut text).is_err());
         assert_eq!(rt; text.as_str(), "X: a");
         drop(fillers);
-        append(separated(false, Named { name: key_ref("c"), value: one }), &mut text)?;
+        append(
+            separated(
+                false,
+                Named {
+                    name: key_ref("c"),
+                    value: one,
+                },
+            ),
+            &mut text,
+        )?;
         assert_eq!(rt; text.as_str(), "X: a, c=1");
         Ok(())
     }

@@ -1,7 +1,7 @@
 //! Writing parts one by one: the members of a list or a dictionary, or the items of an inner list (RFC 9651, sections
 //! 4.1.1, 4.1.1.1 and 4.1.2).
 
-ghost use Rattle.std.specs.Prelude.{◌≡◌, ◌∷◌, ◌++◌, ◌↔◌, [], true, false, not, IsTrue, IsNone, IfSome, IfOk, IfErr, OnOk};
+ghost use Rattle.std.specs.Prelude.{◌≡◌, ◌∷◌, ◌↔◌, [], true, false, not, IsTrue, IsNone, IfSome, IfOk, IfErr, OnOk};
 ghost use Rattle.std.specs.Prelude.{OnErr, List, map, flat_map, string_bytes, string_len};
 ghost use Rattle.std.specs.List.{AllByRecursion};
 ghost use Rattle.std.specs.Borrow.{sem};
@@ -11,10 +11,10 @@ ghost use Rattle.sfv_spec.specs.Values.{rfc9651, IsBareValue};
 ghost use Rattle.sfv_spec.specs.Canonical.{bare_text};
 ghost use Rattle.sfv_spec.specs.Calls.{AllFit};
 ghost use Rattle.sfv_bare.specs.BareItems.{ref_value, edition_of};
-ghost use Rattle.sfv_ser.specs.Written.{lead, led, still_first};
+ghost use Rattle.sfv_ser.specs.Written.{led, still_first};
 ghost use Rattle.sfv_ser.specs.Versions.{LooksFirst, FailsAmong};
-ghost use Rattle.sfv_ser.specs.Serializers.{SameParts, KeepsParts, HasMoreParts, PartsRest, parts_sink, parts_edition};
-ghost use Rattle.sfv_ser.specs.Serializers.{has_no_part, has_no_part, params_sink, params_name, params_edition};
+ghost use Rattle.sfv_ser.specs.Serializers.{SameParts, KeepsParts, HasMoreParts, HasNextPart, PartsRest, parts_sink};
+ghost use Rattle.sfv_ser.specs.Serializers.{parts_edition, has_no_part, params_sink, params_name, params_edition};
 ghost use Rattle.sfv_ser.specs.Serializers.{inner_list_name, length_before};
 
 use crate::element::{Element, append_each};
@@ -105,8 +105,8 @@ impl<W, K: Members> Parts<W, K> {
 impl<W: Sink, K: Kind> Parts<W, K> {
     /// Appends a part, after the separator unless it is the first; out of memory, all is as it was.
     pub(crate) fn append<P: Part>(&mut self, part: P) -> Result<(), OutOfMemory>
-        ensures text { OnOk result (HasMoreParts W.Sink self.old self.new
-            (lead (has_no_part self.old) K.separator ++ P.text part) (has_no_part self.old)) }
+        ensures text { OnOk result
+            (HasNextPart W.Sink K.separator self.old self.new (P.text part) (has_no_part self.old)) }
         ensures valid { OnOk result (P.is_valid part) }
         ensures kept { OnErr result (KeepsParts W.Sink self.old self.new) }
     {
@@ -133,7 +133,13 @@ impl<W: Sink, K: Kind> Parts<W, K> {
         ensures kept { OnErr result (KeepsParts W.Sink self.old self.new) }
     {
         let separator = K::separator();
-        let none = append_each(self.version, self.is_first, separator, elements, self.sink.text_mut())?;
+        let none = append_each(
+            self.version,
+            self.is_first,
+            separator,
+            elements,
+            self.sink.text_mut(),
+        )?;
         self.is_first = none;
         Ok(())
     }
@@ -146,8 +152,8 @@ impl<W: Sink, K: Kind> Parts<W, K> {
         ensures* out_of_memory { sem 𝓛 (PartsRest W.row K.row (KeepsParts W.Sink) self.entry inner_list_name result) }
         ensures lent { IfOk result (λ s. inner_list_name s ≡ self.entry.ghost_name) }
         ensures version { IfOk result (λ s. parts_edition s ≡ parts_edition self.old) }
-        ensures text { IfOk result (λ s. HasMoreParts W.Sink self.old (parts_sink s).now
-            (lead (has_no_part self.old) K.separator ++ P.text opening) (has_no_part self.old)) }
+        ensures text { IfOk result (λ s. HasNextPart W.Sink K.separator self.old (parts_sink s).now
+            (P.text opening) (has_no_part self.old)) }
         ensures begins { IfOk result (λ s. (has_no_part s ≡ true)
             × (length_before s ≡ string_len (W.text (parts_sink self.old)))) }
         ensures valid { OnOk result (P.is_valid opening) }
@@ -180,8 +186,8 @@ impl<W: Sink, K: Unnamed> Parts<W, K> {
         ensures lent { IfOk result (λ p. params_name p ≡ self.entry.ghost_name) }
         ensures version { IfOk result (λ p. params_edition p ≡ parts_edition self.old) }
         ensures looks { LooksFirst (parts_edition self.old) (ref_value bare_item.entry ∷ []) result }
-        ensures text { IfOk result (λ p. HasMoreParts W.Sink self.old (params_sink p).now
-            (lead (has_no_part self.old) K.separator ++ bare_text (ref_value bare_item.entry)) false) }
+        ensures text { IfOk result (λ p. HasNextPart W.Sink K.separator self.old (params_sink p).now
+            (bare_text (ref_value bare_item.entry)) false) }
         ensures is_value { OnOk result (IsBareValue (ref_value bare_item.entry)) }
     {
         look_at_bare_item(self.version, bare_item)?;

@@ -1,19 +1,17 @@
 //! Lists of calls of the serializers, which are performed in order (RFC 9651, section 4.1).
 
-ghost use Rattle.std.specs.Prelude.{◌≡◌, ◌↔◌, ◌++◌, ◌∷◌, [], false, ⊤, IfOk, OnOk, OnErr, IsTrue, MatchBool, map, codes};
+ghost use Rattle.std.specs.Prelude.{◌≡◌, ◌↔◌, ◌∷◌, [], false, ⊤, IfOk, OnOk, OnErr, IsTrue, MatchBool, map, codes};
 ghost use Rattle.std.specs.List.{AllByRecursion};
 ghost use Rattle.sfv_spec.specs.Classes.{is_key};
 ghost use Rattle.sfv_spec.specs.Values.{item, item_field, list_field, dictionary_field};
 ghost use Rattle.sfv_spec.specs.Values.{rfc9651, IsItem, AreParameters, IsFieldValue, HasMember};
-ghost use Rattle.sfv_spec.specs.Ordered.{ordered};
 ghost use Rattle.sfv_spec.specs.Events.{bare_values};
 ghost use Rattle.sfv_spec.specs.Calls.{described};
 ghost use Rattle.sfv_spec.specs.Canonical.{canonical, item_text, dictionary_member_text};
-ghost use Rattle.sfv_spec.specs.Statements.{IsParsedAs};
 ghost use Rattle.sfv_bare.specs.BareItems.{edition_of};
 ghost use Rattle.sfv_text.specs.KeyText.{key_text};
-ghost use Rattle.sfv_ser.specs.Written.{Appends, AppendsOrKeeps, lead, led, still_first};
-ghost use Rattle.sfv_ser.specs.Serializers.{lent_parts, HasMoreParts, GrowsParts, inner_list_name, has_no_part};
+ghost use Rattle.sfv_ser.specs.Written.{Appends, AppendsOrKeeps, IsReadBack, led, still_first};
+ghost use Rattle.sfv_ser.specs.Serializers.{lent_parts, HasMoreParts, HasNextPart, GrowsParts, inner_list_name, has_no_part};
 ghost use Rattle.sfv_ser.specs.Serializers.{parts_edition};
 ghost use Rattle.sfv_ser.specs.Versions.{LooksFirst};
 ghost use Rattle.sfv_ser.specs.Scripts.{called_param, called_item, member_calls, list_calls, dictionary_calls};
@@ -94,8 +92,8 @@ fn write_unnamed<W: Sink, K: Unnamed>(
     calls: &ItemCalls<'_>,
 ) -> Result<(), OutOfMemory>
     requires { parts_edition parts.old ≡ rfc9651 }
-    ensures text { OnOk result (HasMoreParts W.Sink parts.old parts.new
-        (lead (has_no_part parts.old) K.separator ++ item_text (called_item calls.now)) false) }
+    ensures text { OnOk result (HasNextPart W.Sink K.separator parts.old parts.new
+        (item_text (called_item calls.now)) false) }
     ensures value { OnOk result (IsItem (called_item calls.now)) }
     ensures out_of_memory { OnErr result (GrowsParts W.Sink parts.old parts.new) }
 {
@@ -120,9 +118,8 @@ fn write_dictionary_item<W: Sink>(
     calls: &ItemCalls<'_>,
 ) -> Result<(), OutOfMemory>
     requires { parts_edition dictionary.old ≡ rfc9651 }
-    ensures text { OnOk result (HasMoreParts W.Sink dictionary.old dictionary.new
-        (lead (has_no_part dictionary.old) (codes ", ")
-        ++ dictionary_member_text (key_text name.entry, item (called_item calls.now))) false) }
+    ensures text { OnOk result (HasNextPart W.Sink (codes ", ") dictionary.old dictionary.new
+        (dictionary_member_text (key_text name.entry, item (called_item calls.now))) false) }
     ensures key { OnOk result (IsTrue (is_key (key_text name.entry))) }
     ensures value { OnOk result (IsItem (called_item calls.now)) }
     ensures out_of_memory { OnErr result (GrowsParts W.Sink dictionary.old dictionary.new) }
@@ -378,8 +375,7 @@ pub fn run_item_for(
     ensures text { AppendsOrKeeps text.old text.new (canonical item_field (called_item calls.now)) result }
     ensures value { OnOk result (IsFieldValue item_field (called_item calls.now)) }
     ensures looks { LooksFirst (edition_of version) (bare_values item_field (called_item calls.now)) result }
-    ensures read_back { OnOk result (IsParsedAs (edition_of version) item_field
-        (canonical item_field (called_item calls.now)) (ordered item_field (called_item calls.now))) }
+    ensures read_back { OnOk result (IsReadBack (edition_of version) item_field (called_item calls.now)) }
 {
     look_at_item_calls(version, calls)?;
     run_item(text, calls)?;
@@ -402,8 +398,7 @@ pub fn run_list_for(
     ensures member { IfOk result (λ stands. IsTrue stands ↔ HasMember list_field (described_list calls.now)) }
     ensures value { OnOk result (IsFieldValue list_field (described_list calls.now)) }
     ensures looks { LooksFirst (edition_of version) (bare_values list_field (handed_list calls.now)) result }
-    ensures read_back { OnOk result (IsParsedAs (edition_of version) list_field
-        (canonical list_field (described_list calls.now)) (ordered list_field (described_list calls.now))) }
+    ensures read_back { OnOk result (IsReadBack (edition_of version) list_field (described_list calls.now)) }
 {
     look_at_list_calls(version, calls)?;
     let stands = run_list(text, calls)?;
@@ -428,9 +423,7 @@ pub fn run_dict_for(
         ↔ HasMember dictionary_field (described_dictionary calls.now)) }
     ensures value { OnOk result (IsFieldValue dictionary_field (described_dictionary calls.now)) }
     ensures looks { LooksFirst (edition_of version) (bare_values dictionary_field (handed_dictionary calls.now)) result }
-    ensures read_back { OnOk result (IsParsedAs (edition_of version) dictionary_field
-        (canonical dictionary_field (described_dictionary calls.now))
-        (ordered dictionary_field (described_dictionary calls.now))) }
+    ensures read_back { OnOk result (IsReadBack (edition_of version) dictionary_field (described_dictionary calls.now)) }
 {
     look_at_dictionary_calls(version, calls)?;
     let stands = run_dict(text, calls)?;
