@@ -213,6 +213,16 @@ named_inner key items params =
     ∙ ap (λ (t : List ℕ). t ++ parameters_text params) (append_assoc (key ++ codes "=") begun (codes ")"))
     ∙ append_assoc (key ++ codes "=") (begun ++ codes ")") (parameters_text params)
 
+-- an inner list that was begun behind a key, written and ended
+pub named_list_ended : (before t1 t2 t3 t4 front key : List ℕ) (none : Bool) (items : List RawItem)
+    (params : RawParameters)
+    → t1 ≡ before ++ (front ++ (key ++ codes "=(")) → t2 ≡ t1 ++ led none (codes " ") (map item_text items) → none ≡ true
+    → t3 ≡ t2 ++ codes ")" → t4 ≡ t3 ++ parameters_text params
+    → t4 ≡ before ++ (front ++ dictionary_member_text (key, inner_list (record { items = items; parameters = params })))
+named_list_ended before t1 t2 t3 t4 front key none items params e1 e2 n e3 e4 =
+    inner_list_ended before t1 t2 t3 t4 front (key ++ codes "=(") none items params e1 e2 n e3 e4
+    ∙ ap (λ (t : List ℕ). before ++ (front ++ t)) (named_inner key items params)
+
 -- what follows from what holds if all went well
 on_ok : {T E P Q : Type 0} (r : Result T E) → (P → Q) → OnOk r P → OnOk r Q
 on_ok (Ok x) f h = f h

@@ -38,8 +38,8 @@ lent_pairs pairs = pairs_tree (map (λ p. (p.0.now, p.1.now)) pairs)
 abbrev pub keyed_text : List ℕ → BareValue → List ℕ
 keyed_text key value = key ++ value_text value
 
-abbrev pub parameter_text : List ℕ → BareValue → List ℕ
-parameter_text key value = codes ";" ++ keyed_text key value
+abbrev pub param_text : List ℕ → BareValue → List ℕ
+param_text key value = codes ";" ++ keyed_text key value
 
 -- what a list or a dictionary is written as under RFC 9651: nothing if it has no member
 abbrev pub IsSerialized : (kind : FieldKind) → RawField kind → Option (String Global) → Type 0

@@ -9,7 +9,7 @@ ghost use Rattle.sfv_spec.specs.Canonical.{parameters_text};
 ghost use Rattle.sfv_spec.specs.Calls.{AllFit};
 ghost use Rattle.sfv_bare.specs.BareItems.{ref_value, edition_of};
 ghost use Rattle.sfv_text.specs.KeyText.{key_text};
-ghost use Rattle.sfv_ser.specs.Written.{parameter_text, lent_pairs};
+ghost use Rattle.sfv_ser.specs.Written.{param_text, lent_pairs};
 ghost use Rattle.sfv_ser.specs.Versions.{LooksFirst, FailsAmong, values_of_pairs};
 ghost use Rattle.sfv_ser.specs.Serializers.{TextRests, HoldsMore, params_sink, params_name, params_edition};
 ghost use Rattle.sfv_ser.specs.Serializers.{PartsRest, KeepsParts, HasMoreParts, has_no_part};
@@ -73,7 +73,7 @@ impl<'s> ParameterSerializer<'s, StdString> {
         ensures lent { IfOk result (λ p. (params_sink p).ghost_name ≡ (params_sink self.entry).ghost_name) }
         ensures version { IfOk result (λ p. params_edition p ≡ params_edition self.entry) }
         ensures text { HoldsMore (params_sink self.entry)
-            (parameter_text (key_text name.entry) (ref_value value.entry)) result }
+            (param_text (key_text name.entry) (ref_value value.entry)) result }
         ensures looks { LooksFirst (params_edition self.entry) (ref_value value.entry ∷ []) result }
         ensures is_key { IsTrue (is_key (key_text name.entry)) }
         ensures is_value { OnOk result (IsBareValue (ref_value value.entry)) }
@@ -131,7 +131,7 @@ impl<'s, W: Sink, K> ParameterSerializer<'s, Parts<W, K>> {
         ensures lent { IfOk result (λ p. params_name p ≡ params_name self.entry) }
         ensures version { IfOk result (λ p. params_edition p ≡ params_edition self.entry) }
         ensures text { IfOk result (λ p. HasMoreParts W.Sink (params_sink self.entry).now (params_sink p).now
-            (parameter_text (key_text name.entry) (ref_value value.entry)) (has_no_part (params_sink self.entry).now)) }
+            (param_text (key_text name.entry) (ref_value value.entry)) (has_no_part (params_sink self.entry).now)) }
         ensures looks { LooksFirst (params_edition self.entry) (ref_value value.entry ∷ []) result }
         ensures is_key { IsTrue (is_key (key_text name.entry)) }
         ensures is_value { OnOk result (IsBareValue (ref_value value.entry)) }
