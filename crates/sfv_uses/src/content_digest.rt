@@ -1,9 +1,9 @@
 //! The Content-Digest field: digests of a content, by hashing algorithm (RFC 9530, section 2).
 
-ghost use Rattle.std.specs.Prelude.{◌≡◌, ◌≢◌, ◌↔◌, None, IfOk, IfErr, IfSome, OnOk, OnErr, MatchOption};
-ghost use Rattle.std.specs.Prelude.{option_map, option_copied, string_bytes};
-ghost use Rattle.sfv.specs.Values.{rfc9651, dictionary_field};
-ghost use Rattle.sfv.specs.Statements.{IsSerializedAs};
+ghost use Rattle.std.specs.Prelude.{◌≡◌, ◌≢◌, ◌↔◌, None, IfOk, IfErr, IfSome, OnOk, OnErr};
+ghost use Rattle.std.specs.Prelude.{option_copied, string_bytes};
+ghost use Rattle.sfv.specs.Values.{dictionary_field};
+ghost use Rattle.sfv.specs.Written.{IsSerialized};
 ghost use Rattle.sfv.specs.Errors.{out_of_memory};
 ghost use Rattle.sfv.specs.KeyText.{key_text};
 ghost use Rattle.sfv.specs.Trees.{member_tree, dictionary_tree};
@@ -161,8 +161,7 @@ fn dictionary_of(alloc: Global, digest: &ContentDigest) -> Result<Dictionary, Ou
 ///
 /// Out of memory, only where there is a digest.
 pub fn write(alloc: Global, digest: &ContentDigest) -> Result<Option<String>, OutOfMemory>
-    ensures text { IfOk result (λ text.
-        IsSerializedAs rfc9651 dictionary_field (digest_members (digests_in digest.now)) (option_map string_bytes text)) }
+    ensures text { IfOk result (IsSerialized dictionary_field (digest_members (digests_in digest.now))) }
     ensures read_back { IfOk result (λ text. IfSome text (λ text. HasDigests (string_bytes text) digest.now)) }
     ensures none { IfOk result (λ text. (text ≡ None) ↔ (digests_in digest.now ≡ no_digests)) }
     ensures out_of_memory { IfErr result (λ _. digests_in digest.now ≢ no_digests) }

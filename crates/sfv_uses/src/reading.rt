@@ -1,9 +1,9 @@
 //! Reading a field into a value.
 
-ghost use Rattle.std.specs.Prelude.{◌≡◌, ◌++◌, IsNone, IfOk, IfErr, IfSome, option_copied, option_map, string_bytes};
-ghost use Rattle.sfv.specs.Values.{rfc9651, rfc8941, item_field, list_field, dictionary_field, RawField};
-ghost use Rattle.sfv.specs.Grammar.{IsFieldText, IsAccepted};
-ghost use Rattle.sfv.specs.Ordered.{ordered, last_of};
+ghost use Rattle.std.specs.Prelude.{◌≡◌, IsNone, IfOk, IfErr, IfSome, option_copied, option_map, string_bytes};
+ghost use Rattle.sfv.specs.Values.{rfc9651, rfc8941, list_field};
+ghost use Rattle.sfv.specs.Grammar.{IsAccepted};
+ghost use Rattle.sfv.specs.Ordered.{last_of};
 ghost use Rattle.sfv.specs.Statements.{IsParsedAs};
 ghost use Rattle.sfv.specs.Trees.{list_tree, dictionary_tree, member_tree, pairs_tree};
 ghost use Rattle.sfv.specs.BareItems.{bare_value};
