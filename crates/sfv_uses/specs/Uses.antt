@@ -1,7 +1,7 @@
 -- What the uses answer.
-use Rattle.std.specs.Prelude.{◌≡◌, ℕ, ℤ, ◌+◌, ◌<◌, ◌≤◌, List, [], ◌∷◌, ◌++◌, length, Option, Some, None, codes}
+use Rattle.std.specs.Prelude.{◌≡◌, ◌⊎◌, ℕ, ℤ, ◌+◌, ◌<◌, ◌≤◌, List, [], ◌∷◌, ◌++◌, length, Option, Some, None, codes}
 use Rattle.std.specs.List.{repeat}
-use Rattle.sfv.specs.Values.{rfc9651, FieldKind, item_field, list_field, dictionary_field, BareValue, integer}
+use Rattle.sfv.specs.Values.{Edition, rfc9651, FieldKind, item_field, list_field, dictionary_field, BareValue, integer}
 use Rattle.sfv.specs.Values.{RawParameters, RawItem, RawMember}
 use Rattle.sfv.specs.Values.{item, inner_list}
 use Rattle.sfv.specs.Grammar.{IsFieldText, StandsFirst}
@@ -16,6 +16,10 @@ use Rattle.sfv.specs.Errors.{error_kind, out_of_memory}
 use Rattle.sfv.specs.Given.{IsWrongType}
 use Rattle.sfv.specs.Types.{ItemFault}
 use Rattle.sfv.specs.Types.bare_item_types as kinds
+use Rattle.sfv.specs.Types.{SerializeError}
+use Rattle.sfv.specs.Types.serialize_errors as serialize_errors
+use Rattle.sfv.specs.Calls.{AllFit}
+use Rattle.sfv.specs.Versions.{NamesFirst}
 use Rattle.sfv.specs.Messages.{message_of}
 
 -- a caret under the place of the first fault, and its message
@@ -90,3 +94,10 @@ IsExpectError fails value (Visitor fault) = fails value fault
 -- the same of a token
 abbrev pub IsTokenError : BareValue → ParseError ItemFault → Type 0
 IsTokenError = IsExpectError (IsWrongType kinds.Token)
+
+-- the error of writing two values one by one: out of memory where the first fits, or it names the first of both that
+-- doesn't fit
+abbrev pub IsPairError : Edition → BareValue → BareValue → SerializeError → Type 0
+IsPairError edition first second error =
+    ((error ≡ serialize_errors.OutOfMemory) × AllFit edition (first ∷ []))
+    ⊎ NamesFirst edition (first ∷ second ∷ []) error
