@@ -1,6 +1,6 @@
 //! Callers of the library in another crate: what their contracts promise follows from its contracts alone.
 
-ghost use Rattle.std.specs.Prelude.{◌≡◌, ◌++◌, ◌∷◌, ◌↔◌, [], pos, neg_ℤ, OnOk, IfOk, IsTrue, string_bytes};
+ghost use Rattle.std.specs.Prelude.{◌≡◌, ◌↔◌, pos, neg_ℤ, OnOk, IfOk, IsTrue};
 ghost use Rattle.std.specs.Cmp.Lexicographic.{slice_cmp};
 ghost use Rattle.std.specs.Ordering.{nat_cmp, int_cmp};
 ghost use Rattle.sfv.specs.Canonical.{item_text};
@@ -9,6 +9,7 @@ ghost use Rattle.sfv.specs.BareItems.{bare_value, ref_value, input_value, read_t
 ghost use Rattle.sfv.specs.KeyText.{key_text};
 ghost use Rattle.sfv.specs.Trees.{item_tree};
 ghost use Rattle.sfv.specs.Values.{integer};
+ghost use Rattle.sfv_uses.specs.Uses.{one_item, Adds};
 
 use sfv::{
     BareItem, BareItemFromInput, Date, Decimal, Error, Integer, Item, KeyRef, RefBareItem,
@@ -24,11 +25,7 @@ pub fn write_twice(
     value: RefBareItem<'_>,
     key: KeyRef<'_>,
 ) -> Result<(), SerializeError>
-    ensures { OnOk result (string_bytes text.new ≡ string_bytes text.old
-        ++ item_text (record {
-          bare = ref_value value.entry;
-          parameters = (key_text key.entry, ref_value value.entry) ∷ [];
-        })) }
+    ensures { OnOk result (Adds text.old text.new (item_text (one_item value.entry key.entry value.entry))) }
 {
     write_item(text, value, key, value)
 }

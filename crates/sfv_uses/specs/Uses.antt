@@ -1,8 +1,12 @@
 -- What the uses answer.
-use Rattle.std.specs.Prelude.{◌≡◌, ℕ, ℤ, ◌+◌, ◌<◌, ◌≤◌, List, [], ◌∷◌, ◌++◌, length, Option, Some, None, codes}
-use Rattle.std.specs.Prelude.{Result, MatchResult, option_map}
+use Rattle.std.specs.Prelude.{◌≡◌, ◌⊎◌, ℕ, ℤ, ◌+◌, ◌<◌, ◌≤◌, List, [], ◌∷◌, ◌++◌, length, Option, Some, None, codes}
+use Rattle.std.specs.Prelude.{Result, MatchResult, option_map, string_bytes}
+use Rattle.std.specs.Borrow.{Bor}
+use Rattle.std.specs.declared.alloc.Global.{Global}
+use Rattle.std.specs.declared.string.String.{String}
 use Rattle.std.specs.List.{repeat}
-use Rattle.sfv.specs.Values.{rfc9651, FieldKind, item_field, list_field, dictionary_field, BareValue, integer, token}
+use Rattle.sfv.specs.Values.{Edition, rfc9651, FieldKind, item_field, list_field, dictionary_field, BareValue, integer}
+use Rattle.sfv.specs.Values.{token}
 use Rattle.sfv.specs.Values.{RawParameters, RawItem, RawMember}
 use Rattle.sfv.specs.Values.{item, inner_list}
 use Rattle.sfv.specs.Grammar.{IsFieldText, StandsFirst}
@@ -10,7 +14,9 @@ use Rattle.sfv.specs.Ordered.{ordered, last_of}
 use Rattle.sfv.specs.Statements.{IsParsedAs}
 use Rattle.sfv.specs.KeyText.{KeyRef, key_text}
 use Rattle.sfv.specs.TokenText.{TokenRef, token_text}
-use Rattle.sfv.specs.BareItems.{bare_value}
+use Rattle.sfv.specs.StringText.{StringRef}
+use Rattle.sfv.specs.Canonical.{bare_text, item_text}
+use Rattle.sfv.specs.BareItems.{bare_value, ref_value}
 use Rattle.sfv.specs.Trees.{OwnedBareItem}
 use Rattle.sfv.specs.Events.{TreeEvent, keyed_entry}
 use Rattle.sfv.specs.Types.{ParseError}
@@ -22,6 +28,10 @@ use Rattle.sfv.specs.Errors.{error_kind, out_of_memory}
 use Rattle.sfv.specs.Given.{IsWrongType}
 use Rattle.sfv.specs.Types.{ItemFault}
 use Rattle.sfv.specs.Types.bare_item_types as kinds
+use Rattle.sfv.specs.Types.{SerializeError, GenericBareItem}
+use Rattle.sfv.specs.Types.serialize_errors as serialize_errors
+use Rattle.sfv.specs.Calls.{AllFit}
+use Rattle.sfv.specs.Versions.{NamesFirst}
 use Rattle.sfv.specs.Messages.{message_of}
 
 -- a caret under the place of the first fault, and its message
@@ -66,6 +76,34 @@ IsCountError t limit (Visitor fault) = (raw : List (List ℕ × RawMember)) → 
 -- an item of one parameter
 abbrev pub item_of_one : BareValue → List ℕ → BareValue → RawItem
 item_of_one value key param = record { bare = value; parameters = (key, param) ∷ [] }
+
+-- a `RefBareItem`, since antt has no name for an alias
+abbrev pub LentBareItem : Type 0
+LentBareItem = GenericBareItem StringRef (Bor (List ℕ)) TokenRef (Bor (List ℕ))
+
+-- the item of one parameter that these are
+abbrev pub one_item : LentBareItem → KeyRef → LentBareItem → RawItem
+one_item value key param = item_of_one (ref_value value) (key_text key) (ref_value param)
+
+-- the members of a list that these two are
+abbrev pub two_members : LentBareItem → LentBareItem → List ℕ
+two_members first second = bare_text (ref_value first) ++ codes ", " ++ bare_text (ref_value second)
+
+-- an example of a dictionary
+abbrev pub example_dictionary : List ℕ
+example_dictionary = codes "member1=11;foo, member2=(abc;abc_param=?0 def);bar=\"val\", member3=12.346"
+
+-- this stands after what stood in the text
+abbrev pub Adds : String Global → String Global → List ℕ → Type 0
+Adds old new more = string_bytes new ≡ string_bytes old ++ more
+
+-- nothing is added, or this
+abbrev pub AddsAtMost : String Global → String Global → List ℕ → Type 0
+AddsAtMost old new more = (string_bytes new ≡ string_bytes old) ⊎ Adds old new more
+
+-- what is written of the item is read as this item
+abbrev pub IsReadAsItself : RawItem → Type 0
+IsReadAsItself raw = IsParsedAs rfc9651 item_field (item_text raw) raw
 
 -- two items, the first with a parameter
 abbrev pub pair_of : BareValue → List ℕ → BareValue → BareValue → List RawItem
@@ -127,3 +165,10 @@ abbrev pub IsDictionaryOfBoth : List ℕ → List ℕ → List (List ℕ × RawM
 IsDictionaryOfBoth first second dictionary = (held : List (List ℕ × RawMember)) × (raw : List (List ℕ × RawMember))
     × IsParsedAs rfc9651 dictionary_field first held × IsFieldText rfc9651 dictionary_field raw second
     × (dictionary ≡ ordered dictionary_field (held ++ raw))
+
+-- the error of writing two values one by one: out of memory where the first fits, or it names the first of both that
+-- doesn't fit
+abbrev pub IsPairError : Edition → BareValue → BareValue → SerializeError → Type 0
+IsPairError edition first second error =
+    ((error ≡ serialize_errors.OutOfMemory) × AllFit edition (first ∷ []))
+    ⊎ NamesFirst edition (first ∷ second ∷ []) error

@@ -1,7 +1,7 @@
 //! Writing lists and dictionaries member by member.
 
 ghost use Rattle.std.specs.Prelude.{◌≡◌, ◌++◌, ◌∷◌, [], true, false, OnOk, IfOk, IfErr, map, codes, string_bytes};
-ghost use Rattle.sfv.specs.Canonical.{bare_text, value_text, item_text, inner_list_text, dictionary_member_text};
+ghost use Rattle.sfv.specs.Canonical.{bare_text, item_text, inner_list_text, dictionary_member_text};
 ghost use Rattle.sfv.specs.Values.{item, inner_list, list_field};
 ghost use Rattle.sfv.specs.Ordered.{ordered};
 ghost use Rattle.sfv.specs.Trees.{list_tree};
@@ -9,17 +9,17 @@ ghost use Rattle.sfv.specs.Scripts.{described_list};
 ghost use Rattle.sfv.specs.Errors.{out_of_memory};
 ghost use Rattle.sfv.specs.BareItems.{ref_value};
 ghost use Rattle.sfv.specs.KeyText.{key_text};
-ghost use Rattle.sfv.specs.Written.{lead, led};
-ghost use Rattle.sfv.specs.Serializers.{lent_parts, HasMoreParts, GrowsParts, KeepsParts};
+ghost use Rattle.sfv.specs.Written.{keyed_text, led};
+ghost use Rattle.sfv.specs.Serializers.{lent_parts, HasMoreParts, HasNextPart, GrowsParts, KeepsParts};
 ghost use Rattle.sfv.specs.Serializers.{inner_list_name, has_no_part};
-ghost use Rattle.sfv_uses.specs.Uses.{item_of_one, item_of_two, pair_of};
+ghost use Rattle.sfv_uses.specs.Uses.{item_of_one, item_of_two, pair_of, example_dictionary, Adds};
 
 use crate::writing::write_item;
 use sfv::script::{MemberCalls, run_list};
 use sfv::{
     Decimal, DictSerializer, Error, GenericBareItem, InnerListSerializer, KeyRef, List,
-    ListSerializer, Parser, Parts, RefBareItem, SerializeError, Sink, integer, key_ref,
-    string_ref, token_ref,
+    ListSerializer, Parser, Parts, RefBareItem, SerializeError, Sink, integer, key_ref, string_ref,
+    token_ref,
 };
 use std::alloc::Global;
 
@@ -35,8 +35,8 @@ pub fn write_member<W: Sink>(
     first: RefBareItem<'_>,
     second: RefBareItem<'_>,
 ) -> Result<(), SerializeError>
-    ensures { OnOk result (HasMoreParts W.Sink list.old list.new (lead (has_no_part list.old) (codes ", ")
-        ++ item_text (item_of_two (ref_value value.entry) (key_text key.entry)
+    ensures { OnOk result (HasNextPart W.Sink (codes ", ") list.old list.new
+        (item_text (item_of_two (ref_value value.entry) (key_text key.entry)
         (ref_value first.entry) (ref_value second.entry))) false) }
 {
     let params = list.bare_item(value)?;
@@ -52,8 +52,8 @@ fn put<X: Sink>(
     inner: &mut InnerListSerializer<X>,
     value: RefBareItem<'_>,
 ) -> Result<(), SerializeError>
-    ensures text { OnOk result (HasMoreParts X.Sink inner.old inner.new
-        (lead (has_no_part inner.old) (codes " ") ++ bare_text (ref_value value.entry)) false) }
+    ensures text { OnOk result (HasNextPart X.Sink (codes " ") inner.old inner.new
+        (bare_text (ref_value value.entry)) false) }
     ensures grows { GrowsParts X.Sink inner.old inner.new }
 {
     inner.bare_item(value)?.finish();
@@ -66,8 +66,8 @@ fn put_with<X: Sink>(
     value: RefBareItem<'_>,
     param: (KeyRef<'_>, RefBareItem<'_>),
 ) -> Result<(), SerializeError>
-    ensures text { OnOk result (HasMoreParts X.Sink inner.old inner.new
-        (lead (has_no_part inner.old) (codes " ") ++ item_text (item_of_one (ref_value value.entry)
+    ensures text { OnOk result (HasNextPart X.Sink (codes " ") inner.old inner.new
+        (item_text (item_of_one (ref_value value.entry)
         (key_text param.entry.0) (ref_value param.entry.1))) false) }
     ensures grows { GrowsParts X.Sink inner.old inner.new }
 {
@@ -86,8 +86,8 @@ pub fn write_inner<W: Sink, K>(
     value: RefBareItem<'_>,
 ) -> Result<(), SerializeError>
     ensures lent { inner_list_name inner.new ≡ inner_list_name inner.old }
-    ensures text { OnOk result (HasMoreParts (lent_parts W.Sink) inner.old inner.new
-        (lead (has_no_part inner.old) (codes " ") ++ bare_text (ref_value value.entry)) false) }
+    ensures text { OnOk result (HasNextPart (lent_parts W.Sink) (codes " ") inner.old inner.new
+        (bare_text (ref_value value.entry)) false) }
     ensures grows { GrowsParts (lent_parts W.Sink) inner.old inner.new }
 {
     put(inner, value)
@@ -120,8 +120,8 @@ pub fn write_empty<W: Sink>(
     key: KeyRef<'_>,
     param: RefBareItem<'_>,
 ) -> Result<(), SerializeError>
-    ensures { OnOk result (HasMoreParts W.Sink list.old list.new (lead (has_no_part list.old) (codes ", ")
-        ++ inner_list_text (record { items = []; parameters = (key_text key.entry, ref_value param.entry) ∷ [] }))
+    ensures { OnOk result (HasNextPart W.Sink (codes ", ") list.old list.new
+        (inner_list_text (record { items = []; parameters = (key_text key.entry, ref_value param.entry) ∷ [] }))
         false) }
 {
     list.inner_list()?.finish()?.parameter(key, param)?.finish();
@@ -130,8 +130,8 @@ pub fn write_empty<W: Sink>(
 
 /// Writes the member `1;a;a=2`.
 fn write_one<W: Sink>(list: &mut ListSerializer<W>) -> Result<(), SerializeError>
-    ensures { OnOk result (HasMoreParts W.Sink list.old list.new
-        (lead (has_no_part list.old) (codes ", ") ++ codes "1;a;a=2") false) }
+    ensures { OnOk result (HasNextPart W.Sink (codes ", ") list.old list.new
+        (codes "1;a;a=2") false) }
 {
     let one: RefBareItem = GenericBareItem::Integer(integer(1));
     let two: RefBareItem = GenericBareItem::Integer(integer(2));
@@ -142,8 +142,8 @@ fn write_one<W: Sink>(list: &mut ListSerializer<W>) -> Result<(), SerializeError
 
 /// Writes the member `();b=?0`.
 fn write_none<W: Sink>(list: &mut ListSerializer<W>) -> Result<(), SerializeError>
-    ensures { OnOk result (HasMoreParts W.Sink list.old list.new
-        (lead (has_no_part list.old) (codes ", ") ++ codes "();b=?0") false) }
+    ensures { OnOk result (HasNextPart W.Sink (codes ", ") list.old list.new
+        (codes "();b=?0") false) }
 {
     let no: RefBareItem = GenericBareItem::Boolean(false);
     write_empty(list, key_ref("b"), no)?;
@@ -152,8 +152,8 @@ fn write_none<W: Sink>(list: &mut ListSerializer<W>) -> Result<(), SerializeErro
 
 /// Writes both, with an inner list in between that is abandoned.
 fn write_members<W: Sink>(list: &mut ListSerializer<W>) -> Result<(), SerializeError>
-    ensures { OnOk result (HasMoreParts W.Sink list.old list.new
-        (lead (has_no_part list.old) (codes ", ") ++ codes "1;a;a=2, ();b=?0") false) }
+    ensures { OnOk result (HasNextPart W.Sink (codes ", ") list.old list.new
+        (codes "1;a;a=2, ();b=?0") false) }
 {
     let word: RefBareItem = GenericBareItem::Token(token_ref("x"));
     write_one(list)?;
@@ -228,8 +228,8 @@ pub fn write_named<W: Sink>(
     key: KeyRef<'_>,
     param: RefBareItem<'_>,
 ) -> Result<(), SerializeError>
-    ensures { OnOk result (HasMoreParts W.Sink dictionary.old dictionary.new
-        (lead (has_no_part dictionary.old) (codes ", ") ++ dictionary_member_text (
+    ensures { OnOk result (HasNextPart W.Sink (codes ", ") dictionary.old dictionary.new
+        (dictionary_member_text (
           key_text name.entry,
           item (item_of_one (ref_value value.entry) (key_text key.entry) (ref_value param.entry)),
         )) false) }
@@ -249,9 +249,8 @@ pub fn write_bare<W: Sink>(
     name: KeyRef<'_>,
     value: RefBareItem<'_>,
 ) -> Result<(), SerializeError>
-    ensures { OnOk result (HasMoreParts W.Sink dictionary.old dictionary.new
-        (lead (has_no_part dictionary.old) (codes ", ")
-        ++ (key_text name.entry ++ value_text (ref_value value.entry)))
+    ensures { OnOk result (HasNextPart W.Sink (codes ", ") dictionary.old dictionary.new
+        (keyed_text (key_text name.entry) (ref_value value.entry))
         false) }
 {
     dictionary.bare_item(name, value)?.finish();
@@ -283,8 +282,8 @@ fn write_named_pair<W: Sink>(
     second: RefBareItem<'_>,
     ending: (KeyRef<'_>, RefBareItem<'_>),
 ) -> Result<(), SerializeError>
-    ensures { OnOk result (HasMoreParts W.Sink dictionary.old dictionary.new
-        (lead (has_no_part dictionary.old) (codes ", ") ++ dictionary_member_text (
+    ensures { OnOk result (HasNextPart W.Sink (codes ", ") dictionary.old dictionary.new
+        (dictionary_member_text (
           key_text name.entry,
           inner_list (record {
             items = pair_of (ref_value first.entry) (key_text param.entry.0) (ref_value param.entry.1)
@@ -305,8 +304,8 @@ fn write_named_pair<W: Sink>(
 
 /// Writes the member `member1=11;foo`.
 fn write_first<W: Sink>(dictionary: &mut DictSerializer<W>) -> Result<(), SerializeError>
-    ensures { OnOk result (HasMoreParts W.Sink dictionary.old dictionary.new
-        (lead (has_no_part dictionary.old) (codes ", ") ++ codes "member1=11;foo") false) }
+    ensures { OnOk result (HasNextPart W.Sink (codes ", ") dictionary.old dictionary.new
+        (codes "member1=11;foo") false) }
 {
     let eleven: RefBareItem = GenericBareItem::Integer(integer(11));
     let yes: RefBareItem = GenericBareItem::Boolean(true);
@@ -316,9 +315,8 @@ fn write_first<W: Sink>(dictionary: &mut DictSerializer<W>) -> Result<(), Serial
 
 /// Writes the member `member2=(abc;abc_param=?0 def);bar="val"`.
 fn write_second<W: Sink>(dictionary: &mut DictSerializer<W>) -> Result<(), SerializeError>
-    ensures { OnOk result (HasMoreParts W.Sink dictionary.old dictionary.new
-        (lead (has_no_part dictionary.old) (codes ", ")
-        ++ codes "member2=(abc;abc_param=?0 def);bar=\"val\"") false) }
+    ensures { OnOk result (HasNextPart W.Sink (codes ", ") dictionary.old dictionary.new
+        (codes "member2=(abc;abc_param=?0 def);bar=\"val\"") false) }
 {
     let no: RefBareItem = GenericBareItem::Boolean(false);
     let abc: RefBareItem = GenericBareItem::Token(token_ref("abc"));
@@ -331,8 +329,8 @@ fn write_second<W: Sink>(dictionary: &mut DictSerializer<W>) -> Result<(), Seria
 
 /// Writes the member `member3=12.346`.
 fn write_third<W: Sink>(dictionary: &mut DictSerializer<W>) -> Result<(), SerializeError>
-    ensures { OnOk result (HasMoreParts W.Sink dictionary.old dictionary.new
-        (lead (has_no_part dictionary.old) (codes ", ") ++ codes "member3=12.346") false) }
+    ensures { OnOk result (HasNextPart W.Sink (codes ", ") dictionary.old dictionary.new
+        (codes "member3=12.346") false) }
 {
     let thousandths = integer(12346);
     let part: RefBareItem = GenericBareItem::Decimal(Decimal::from_integer_scaled_1000(
@@ -344,9 +342,8 @@ fn write_third<W: Sink>(dictionary: &mut DictSerializer<W>) -> Result<(), Serial
 
 /// Writes the three members.
 fn write_three<W: Sink>(dictionary: &mut DictSerializer<W>) -> Result<(), SerializeError>
-    ensures { OnOk result (HasMoreParts W.Sink dictionary.old dictionary.new
-        (lead (has_no_part dictionary.old) (codes ", ")
-        ++ codes "member1=11;foo, member2=(abc;abc_param=?0 def);bar=\"val\", member3=12.346") false) }
+    ensures { OnOk result (HasNextPart W.Sink (codes ", ") dictionary.old dictionary.new
+        example_dictionary false) }
 {
     write_first(dictionary)?;
     write_second(dictionary)?;
@@ -360,8 +357,7 @@ fn write_three<W: Sink>(dictionary: &mut DictSerializer<W>) -> Result<(), Serial
 ///
 /// Those of the serializer.
 pub fn write_dictionary(text: &mut String) -> Result<bool, SerializeError>
-    ensures text { OnOk result (string_bytes text.new ≡ string_bytes text.old
-        ++ codes "member1=11;foo, member2=(abc;abc_param=?0 def);bar=\"val\", member3=12.346") }
+    ensures text { OnOk result (Adds text.old text.new example_dictionary) }
     ensures stands { IfOk result (λ stands. stands ≡ true) }
 {
     let mut dictionary = DictSerializer::with_buffer(text);

@@ -1,17 +1,16 @@
 //! Writing that is bound to a version, and reading under that same version.
 
-ghost use Rattle.std.specs.Prelude.{◌≡◌, ◌++◌, ◌∷◌, [], false, OnOk, IfOk, codes};
+ghost use Rattle.std.specs.Prelude.{◌≡◌, ◌∷◌, [], false, OnOk, IfOk, IfErr, codes};
 ghost use Rattle.sfv.specs.Values.{list_field};
 ghost use Rattle.sfv.specs.Ordered.{ordered};
-ghost use Rattle.sfv.specs.Canonical.{bare_text};
 ghost use Rattle.sfv.specs.Events.{bare_values};
 ghost use Rattle.sfv.specs.Calls.{AllFit};
 ghost use Rattle.sfv.specs.BareItems.{ref_value, edition_of};
 ghost use Rattle.sfv.specs.Trees.{list_tree};
 ghost use Rattle.sfv.specs.Scripts.{described_list, handed_list};
-ghost use Rattle.sfv.specs.Written.{lead};
-ghost use Rattle.sfv.specs.Serializers.{HasMoreParts, has_no_part, parts_edition};
+ghost use Rattle.sfv.specs.Serializers.{HasNextPart, parts_edition};
 ghost use Rattle.sfv.specs.Versions.{LooksFirst};
+ghost use Rattle.sfv_uses.specs.Uses.{two_members, Adds, IsPairError};
 
 use sfv::script::{MemberCalls, run_list_for};
 use sfv::{List, ListSerializer, Parser, RefBareItem, SerializeError, Sink, Version};
@@ -27,15 +26,35 @@ pub fn write_both<W: Sink>(
     first: RefBareItem<'_>,
     second: RefBareItem<'_>,
 ) -> Result<(), SerializeError>
-    ensures text { OnOk result (HasMoreParts W.Sink list.old list.new
-        (lead (has_no_part list.old) (codes ", ") ++ bare_text (ref_value first.entry)
-        ++ codes ", " ++ bare_text (ref_value second.entry)) false) }
+    ensures text { OnOk result
+        (HasNextPart W.Sink (codes ", ") list.old list.new (two_members first.entry second.entry) false) }
     ensures fit { OnOk result
         (AllFit (parts_edition list.old) (ref_value first.entry ∷ ref_value second.entry ∷ [])) }
+    ensures failed { IfErr result
+        (IsPairError (parts_edition list.old) (ref_value first.entry) (ref_value second.entry)) }
 {
     list.bare_item(first)?.finish();
     list.bare_item(second)?.finish();
     Ok(())
+}
+
+/// Writes a list of two members at the end of a text, for a version: both are values of this version then.
+///
+/// # Errors
+///
+/// Those of the serializer.
+pub fn write_both_for(
+    text: &mut String,
+    version: Version,
+    first: RefBareItem<'_>,
+    second: RefBareItem<'_>,
+) -> Result<(), SerializeError>
+    ensures text { OnOk result (Adds text.old text.new (two_members first.entry second.entry)) }
+    ensures fit { OnOk result (AllFit (edition_of version) (ref_value first.entry ∷ ref_value second.entry ∷ [])) }
+    ensures failed { IfErr result (IsPairError (edition_of version) (ref_value first.entry) (ref_value second.entry)) }
+{
+    let mut list = ListSerializer::with_buffer_for(text, version);
+    write_both(&mut list, first, second)
 }
 
 /// Performs the calls of a list for a version, and reads the text under that same version: the list that they describe.
@@ -56,7 +75,8 @@ pub fn performed_and_read_for(
     let parser = Parser::new(text.as_bytes()).with_version(version);
     match parser.parse::<List>(alloc) {
         Ok(list) => Ok(list),
-        // What is written for a version is read under it, unless memory runs out.
-        Err(_) => Err(SerializeError::OutOfMemory),
+        Err(error) if error.is_out_of_memory() => Err(SerializeError::OutOfMemory),
+        // What is written for a version is read under it.
+        Err(_) => unreachable!(),
     }
 }

@@ -1,13 +1,12 @@
 //! Writing an item part by part, and reading it back.
 
-ghost use Rattle.std.specs.Prelude.{◌≡◌, ◌++◌, ◌⊎◌, IfOk, OnOk, OnErr, string_bytes};
-ghost use Rattle.sfv.specs.Values.{rfc9651, item_field};
+ghost use Rattle.std.specs.Prelude.{◌≡◌, ◌++◌, IfOk, IfErr, OnOk, OnErr, string_bytes};
 ghost use Rattle.sfv.specs.Canonical.{bare_text, item_text};
-ghost use Rattle.sfv.specs.Statements.{IsParsedAs};
 ghost use Rattle.sfv.specs.BareItems.{ref_value};
-ghost use Rattle.sfv.specs.KeyText.{key_text};
+ghost use Rattle.sfv.specs.Errors.{out_of_memory};
 ghost use Rattle.sfv.specs.Trees.{item_tree};
-ghost use Rattle.sfv_uses.specs.Uses.{item_of_one};
+ghost use Rattle.sfv.specs.Types.serialize_errors as errors;
+ghost use Rattle.sfv_uses.specs.Uses.{one_item, Adds, AddsAtMost, IsReadAsItself};
 
 use sfv::{Error, Item, ItemSerializer, KeyRef, OutOfMemory, Parser, RefBareItem, SerializeError};
 use std::alloc::Global;
@@ -23,13 +22,10 @@ pub fn write_item(
     key: KeyRef<'_>,
     param: RefBareItem<'_>,
 ) -> Result<(), SerializeError>
-    ensures written { OnOk result (string_bytes text.new ≡ string_bytes text.old
-        ++ item_text (item_of_one (ref_value value.entry) (key_text key.entry) (ref_value param.entry))) }
-    ensures read_back { OnOk result (IsParsedAs rfc9651 item_field
-        (item_text (item_of_one (ref_value value.entry) (key_text key.entry) (ref_value param.entry)))
-        (item_of_one (ref_value value.entry) (key_text key.entry) (ref_value param.entry))) }
-    ensures out_of_memory { OnErr result ((string_bytes text.new ≡ string_bytes text.old)
-        ⊎ (string_bytes text.new ≡ string_bytes text.old ++ bare_text (ref_value value.entry))) }
+    ensures written { OnOk result (Adds text.old text.new (item_text (one_item value.entry key.entry param.entry))) }
+    ensures read_back { OnOk result (IsReadAsItself (one_item value.entry key.entry param.entry)) }
+    ensures out_of_memory { OnErr result (AddsAtMost text.old text.new (bare_text (ref_value value.entry))) }
+    ensures failed { IfErr result (λ error. error ≡ errors.OutOfMemory) }
 {
     let params = ItemSerializer::with_buffer(text).bare_item(value)?;
     params.parameter(key, param)?.finish();
@@ -47,15 +43,16 @@ pub fn written_and_read(
     key: KeyRef<'_>,
     param: RefBareItem<'_>,
 ) -> Result<Item, Error>
-    ensures { IfOk result (λ item. item_tree item
-        ≡ item_of_one (ref_value value.entry) (key_text key.entry) (ref_value param.entry)) }
+    ensures read { IfOk result (λ item. item_tree item ≡ one_item value.entry key.entry param.entry) }
+    ensures out_of_memory { IfErr result (λ error. error ≡ out_of_memory) }
 {
     let mut text = String::new(alloc);
-    // Under RFC 9651 every value is written, unless memory runs out.
-    if let Err(_) = write_item(&mut text, value, key, param) {
-        return Err(Error::from(OutOfMemory));
+    match write_item(&mut text, value, key, param) {
+        Ok(()) => Parser::new(text.as_bytes()).parse::<Item>(alloc),
+        Err(SerializeError::OutOfMemory) => Err(Error::from(OutOfMemory)),
+        // RFC 9651 has every value.
+        Err(SerializeError::Unsupported(_)) => unreachable!(),
     }
-    Parser::new(text.as_bytes()).parse::<Item>(alloc)
 }
 
 /// Writes the parts of an item at the end of a text: its canonical text.
@@ -64,7 +61,8 @@ pub fn written_and_read(
 ///
 /// `OutOfMemory` when out of memory.
 pub fn write_parts(text: &mut String, item: &Item) -> Result<(), SerializeError>
-    ensures { OnOk result (string_bytes text.new ≡ string_bytes text.old ++ item_text (item_tree item.now)) }
+    ensures text { OnOk result (string_bytes text.new ≡ string_bytes text.old ++ item_text (item_tree item.now)) }
+    ensures failed { IfErr result (λ error. error ≡ errors.OutOfMemory) }
 {
     let value = item.bare_item.as_ref_item();
     let params = ItemSerializer::with_buffer(text).bare_item(value)?;

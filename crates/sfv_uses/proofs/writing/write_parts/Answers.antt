@@ -6,8 +6,8 @@ use Rattle.sfv.specs.Written.{lent_pairs}
 use Rattle.sfv.proofs.Callers.{lent_all}
 use Rattle.sfv_uses.proofs.writing.write_parts.Goals as goal
 
-pub returns : goal.returns
-returns c =
+pub returns-clause-text : goal.returns-clause-text
+returns-clause-text c =
     let item = c.args.item.now in
     let old = string_bytes c.args.text.now in
     let written = c.in_ok-text.ensures.text in
