@@ -312,11 +312,11 @@ pub fn run_item(text: &mut StdString, calls: &ItemCalls<'_>) -> Result<(), OutOf
     ensures value { OnOk result (IsFieldValue item_field (called_item calls.now)) }
 {
     let len = text.len();
-    if let Err(error) = write_item(text, calls) {
+    let written = write_item(text, calls);
+    if written.is_err() {
         cut_back(len, text);
-        return Err(error);
     }
-    Ok(())
+    written
 }
 
 /// Writes a list at the end of a text (RFC 9651, section 4.1.1), by the calls of `ListSerializer`. Returns whether a
