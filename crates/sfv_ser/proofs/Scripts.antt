@@ -173,10 +173,13 @@ module _ {W K : Type 0} (w : Sink W) (again : (r s t : W) → w.same r s → w.s
       )
 
   -- and nothing is left of it
-  pub away_grown : (s v : Parts W K) (b : W) (k : K) → ((s : W) → w.same s s) → KeepsParts w s v → b ≡ v.sink
-      → k ≡ v.kind
+  pub away_grown : (s v : Parts W K) (t u : Parts (MutBor (Parts W K)) InnerListItems) (more : List ℕ) (b : W) (k : K)
+      → ((s : W) → w.same s s) → HasMoreParts w s (parts_sink t).now more (has_no_part s)
+      → length_before t ≡ string_len (w.text (parts_sink s)) → GrowsParts (lent_parts w) t u
+      → AreCutBack w (length_before u) (parts_sink u).now v → b ≡ v.sink → k ≡ v.kind
       → w.same s.sink b × Extends (string_bytes (w.text s.sink)) (string_bytes (w.text b)) × (k ≡ s.kind)
-  away_grown s v b k itself h e q = kept_grown s s v b k (itself s.sink, ([], sym (append-nil _)), refl) h e q
+  away_grown s v t u more b k itself begun long grown cut e q =
+      kept_grown s s v b k (itself s.sink, ([], sym (append-nil _)), refl) (taken_away s v t u more begun long grown cut) e q
 
 -- a piece is written behind another
 pub written_behind : (before now new front piece more : List ℕ) → now ≡ before ++ (front ++ piece) → new ≡ now ++ more
@@ -186,7 +189,7 @@ written_behind before now new front piece more e n = n ∙ ap (λ (t : List ℕ)
     ∙ ap (λ (t : List ℕ). before ++ t) (append_assoc front piece more)
 
 -- an inner list that was begun, written and ended
-pub inner_list_ended : (before t1 t2 t3 t4 front opening : List ℕ) (none : Bool) (items : List RawItem)
+inner_list_ended : (before t1 t2 t3 t4 front opening : List ℕ) (none : Bool) (items : List RawItem)
     (params : RawParameters)
     → t1 ≡ before ++ (front ++ opening) → t2 ≡ t1 ++ led none (codes " ") (map item_text items) → none ≡ true
     → t3 ≡ t2 ++ codes ")" → t4 ≡ t3 ++ parameters_text params
@@ -199,19 +202,28 @@ inner_list_ended before t1 t2 t3 t4 front opening none items params e1 e2 n e3 e
     let closed = written_behind before t2 t3 front (opening ++ inside) (codes ")") begun e3 in
     written_behind before t3 t4 front ((opening ++ inside) ++ codes ")") (parameters_text params) closed e4
 
+module _ {W K : Type 0} (w : Sink W) (again : (r s t : W) → w.same r s → w.same s t → w.same r t) where
+  -- the same, of serializers
+  pub inner_ended : (s e v : Parts W K) (t u : Parts (MutBor (Parts W K)) InnerListItems) (front opening : List ℕ)
+      (items : List RawItem) (params : RawParameters) (was_first none : Bool)
+      → HasMoreParts w s (parts_sink t).now (front ++ opening) was_first → has_no_part t ≡ true
+      → HasMoreParts (lent_parts w) t u (led (has_no_part t) (codes " ") (map item_text items)) none
+      → HasMoreParts w (parts_sink u).now e (codes ")") false → HasMoreParts w e v (parameters_text params) false
+      → HasMoreParts w s v (front ++ ended_text opening items params) false
+  inner_ended s e v t u front opening items params was_first none begun n row ended behind = (
+    again _ _ _ begun.0 (again _ _ _ row.0.1 (again _ _ _ ended.0 behind.0)),
+    inner_list_ended _ _ _ _ _ front opening _ items params begun.1 row.1 n ended.1 behind.1,
+    behind.2,
+    behind.3 ∙ ended.3 ∙ row.0.3 ∙ begun.3,
+    behind.4 ∙ ended.4 ∙ row.0.4 ∙ begun.4,
+  )
+
 -- an inner list that begins with a key and an equals sign
 named_inner : (key : List ℕ) (items : List RawItem) (params : RawParameters)
     → ended_text (key ++ codes "=(") items params
     ≡ dictionary_member_text (key, inner_list (record { items = items; parameters = params }))
-named_inner key items params =
-    let inside : List ℕ = joined (codes " ") (map item_text items) in
-    let begun : List ℕ = codes "(" ++ inside in
-    ap (λ (t : List ℕ). ((t ++ inside) ++ codes ")") ++ parameters_text params)
-    (sym (append_assoc key (codes "=") (codes "(")))
-    ∙ ap (λ (t : List ℕ). (t ++ codes ")") ++ parameters_text params)
-    (append_assoc (key ++ codes "=") (codes "(") inside)
-    ∙ ap (λ (t : List ℕ). t ++ parameters_text params) (append_assoc (key ++ codes "=") begun (codes ")"))
-    ∙ append_assoc (key ++ codes "=") (begun ++ codes ")") (parameters_text params)
+named_inner key items params = simp append_assoc (ap (λ (t : List ℕ). key ++ (codes "=(" ++ t))
+    (sym (append_assoc (joined (codes " ") (map item_text items)) (codes ")") (parameters_text params))))
 
 -- an inner list that was begun behind a key, written and ended
 pub named_list_ended : (before t1 t2 t3 t4 front key : List ℕ) (none : Bool) (items : List RawItem)
