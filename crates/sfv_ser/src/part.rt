@@ -77,6 +77,7 @@ pub(crate) fn serialize_separator<A: Allocator>(
             output.push(',')?;
             output.push(' ')?;
         }
+        " " => output.push(' ')?,
         _ => output.push_str(separator)?,
     }
     Ok(())
