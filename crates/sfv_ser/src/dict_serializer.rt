@@ -44,6 +44,7 @@ impl<W: Sink> Parts<W, DictMembers> {
     ///
     /// `Unsupported` if the version doesn't have the value, else `OutOfMemory`; the text, and whether a member stands, are
     /// then as they were.
+    #[inline(always)]
     pub fn bare_item(
         &mut self,
         name: KeyRef<'_>,

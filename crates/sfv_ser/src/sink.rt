@@ -41,6 +41,7 @@ impl<'a> Sink for &'a mut StdString {
 
     ghost same = { λ s t. t.ghost_name ≡ s.ghost_name };
 
+    #[inline(always)]
     fn text_mut(&mut self) -> &mut StdString {
         *self
     }
