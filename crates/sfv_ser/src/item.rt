@@ -13,7 +13,7 @@ ghost use Rattle.sfv_bare.specs.BareItems.{ref_value, bare_value, edition_of};
 ghost use Rattle.sfv_text.specs.KeyText.{key_text};
 ghost use Rattle.sfv_text.specs.TokenText.{token_text};
 ghost use Rattle.sfv_tree.specs.Trees.{pairs_tree, item_tree};
-ghost use Rattle.sfv_ser.specs.Written.{Appends, Extends, lent_pairs};
+ghost use Rattle.sfv_ser.specs.Written.{Appends, Extends, param_text, lent_pairs};
 ghost use Rattle.sfv_ser.specs.Versions.{FailsAmong, values_of_pairs};
 
 use crate::byte_sequence::serialize_byte_sequence;
@@ -121,8 +121,7 @@ fn serialize_parameter<A: Allocator>(
     value: &BareItem,
     output: &mut StdString<A>,
 ) -> Result<(), OutOfMemory>
-    ensures text { Appends output.old output.new
-        (codes ";" ++ key.now ++ value_text (bare_value value.now)) result }
+    ensures text { Appends output.old output.new (param_text key.now (bare_value value.now)) result }
     ensures key { OnOk result (IsTrue (is_key key.now)) }
     ensures value { OnOk result (IsBareValue (bare_value value.now)) }
 {

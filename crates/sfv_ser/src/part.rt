@@ -4,11 +4,11 @@
 ghost use Rattle.std.specs.Prelude.{◌++◌, ⊤, ℕ, List, OnOk, IsTrue, codes, string_bytes};
 ghost use Rattle.sfv_spec.specs.Classes.{is_key, is_token};
 ghost use Rattle.sfv_spec.specs.Values.{IsBareValue};
-ghost use Rattle.sfv_spec.specs.Canonical.{bare_text, value_text};
+ghost use Rattle.sfv_spec.specs.Canonical.{bare_text};
 ghost use Rattle.sfv_bare.specs.BareItems.{ref_value};
 ghost use Rattle.sfv_text.specs.KeyText.{key_text};
 ghost use Rattle.sfv_text.specs.TokenText.{token_text};
-ghost use Rattle.sfv_ser.specs.Written.{Appends, AppendsOrKeeps, IsCutBack, lead};
+ghost use Rattle.sfv_ser.specs.Written.{Appends, AppendsOrKeeps, IsCutBack, keyed_text, param_text, lead};
 
 use crate::item::{serialize_bare_item, serialize_key, serialize_token, serialize_value};
 use sfv_bare::bare::RefBareItem;
@@ -145,7 +145,7 @@ pub(crate) struct Named<'a> {
 }
 
 impl<'a> Part for Named<'a> {
-    ghost text = { λ p. key_text p.name ++ value_text (ref_value p.value) };
+    ghost text = { λ p. keyed_text (key_text p.name) (ref_value p.value) };
 
     ghost is_valid = { λ p. IsTrue (is_key (key_text p.name)) × IsBareValue (ref_value p.value) };
 
@@ -163,7 +163,7 @@ pub(crate) struct Parameter<'a> {
 }
 
 impl<'a> Part for Parameter<'a> {
-    ghost text = { λ p. codes ";" ++ key_text p.named.name ++ value_text (ref_value p.named.value) };
+    ghost text = { λ p. param_text (key_text p.named.name) (ref_value p.named.value) };
 
     ghost is_valid = { λ p. IsTrue (is_key (key_text p.named.name)) × IsBareValue (ref_value p.named.value) };
 
