@@ -32,7 +32,9 @@ pub use sfv_text::string::String;
 pub use sfv_text::string_ref::StringRef;
 pub use sfv_text::token::Token;
 pub use sfv_text::token_ref::TokenRef;
+pub use sfv_tree::hash_seed::HashSeed;
 pub use sfv_tree::parsed::{
     Dictionary, InnerList, Item, List, ListEntry, Parameters, find_entry, find_param, insert_entry,
     insert_param,
 };
+pub use sfv_tree::shorthand::{dictionary, parameters};
