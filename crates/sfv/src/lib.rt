@@ -22,8 +22,9 @@ pub use sfv_base::error::{Error, ErrorKind, OutOfMemory, ParseError};
 pub use sfv_base::integer::Integer;
 pub use sfv_base::shorthand::integer;
 pub use sfv_ser::{
-    DictMembers, DictSerializer, InnerListItems, InnerListSerializer, ItemSerializer, Kind, ListMembers,
-    ListSerializer, Members, ParameterSerializer, Parts, SerializeError, Sink, Unnamed,
+    DictMembers, DictSerializer, InnerListItems, InnerListSerializer, ItemSerializer, Kind,
+    ListMembers, ListSerializer, Members, ParameterSerializer, Parts, SerializeError, Sink,
+    Unnamed,
 };
 pub use sfv_text::key::Key;
 pub use sfv_text::key_ref::KeyRef;
