@@ -15,8 +15,8 @@ ghost use Rattle.sfv_uses.specs.Uses.{IsListOfBoth, IsDictionaryOfBoth};
 
 use sfv::visitor::{DictionaryBuilder, ListBuilder};
 use sfv::{
-    BareItem, Dictionary, Error, HashSeed, Integer, Item, KeyRef, List, ListEntry, OutOfMemory, Parameters,
-    ParseError, Parser, Version, find_entry, find_param,
+    BareItem, Dictionary, Error, HashSeed, Integer, Item, KeyRef, List, ListEntry, OutOfMemory,
+    Parameters, ParseError, Parser, Version, find_entry, find_param,
 };
 use std::alloc::Global;
 

@@ -18,8 +18,8 @@ use crate::writing::write_item;
 use sfv::script::{MemberCalls, run_list};
 use sfv::{
     Decimal, DictSerializer, Error, GenericBareItem, InnerListSerializer, KeyRef, List,
-    ListSerializer, Parser, Parts, RefBareItem, SerializeError, Sink, integer, key_ref,
-    string_ref, token_ref,
+    ListSerializer, Parser, Parts, RefBareItem, SerializeError, Sink, integer, key_ref, string_ref,
+    token_ref,
 };
 use std::alloc::Global;
 

@@ -22,6 +22,10 @@ returns g c =
     ((key_text a.ending.0, ref_value a.ending.1) ∷ []) begun.text.1 pair.1 begun.begins.0 closed.1
     (ended.1 ∙ ap (λ t. string_bytes (s.text c.in_ok-finish.field-0.sink.now.sink) ++ t) (sym (append-nil _))) in
     let same = again _ _ _ begun.text.0 (again _ _ _ pair.0.1 (again _ _ _ closed.0 ended.0)) in
-    more_as s a.dictionary.now c.in_ok-dictionary.field-0.sink.now _ _ _ _ _ _
-    (same, text, ended.2 ∙ closed.2, ended.3 ∙ closed.3 ∙ pair.0.3 ∙ begun.text.3,
-    ended.4 ∙ closed.4 ∙ pair.0.4 ∙ begun.text.4) (search rules) (search rules) (search rules) (search rules)
+    more_as s a.dictionary.now c.in_ok-dictionary.field-0.sink.now _ _ _ _ _ _ (
+      same,
+      text,
+      ended.2 ∙ closed.2,
+      ended.3 ∙ closed.3 ∙ pair.0.3 ∙ begun.text.3,
+      ended.4 ∙ closed.4 ∙ pair.0.4 ∙ begun.text.4,
+    ) (search rules) (search rules) (search rules) (search rules)
