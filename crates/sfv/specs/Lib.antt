@@ -43,6 +43,7 @@ pub use Rattle.sfv_bare.specs.BareItems
 pub use Rattle.sfv_bare.specs.Kinds
 pub use Rattle.sfv_tree.specs.Builders
 pub use Rattle.sfv_tree.specs.Events as EventValues
+pub use Rattle.sfv_tree.specs.HashSeeds
 pub use Rattle.sfv_tree.specs.ItemFaults
 pub use Rattle.sfv_tree.specs.Trees
 pub use Rattle.sfv_visit.specs.Given

@@ -13,12 +13,13 @@ use Rattle.sfv_base.specs.declared.error.ParseError.TheVariants as parse_errors
 use Rattle.sfv_base.specs.Errors.{error_of, error_kind, out_of_memory}
 use Rattle.sfv_bare.specs.BareItems.{edition_of}
 use Rattle.sfv_bare.specs.declared.bare.Version.{Version}
+use Rattle.sfv_tree.specs.declared.hash_seed.HashSeed.{HashSeed}
 use Rattle.sfv_tree.specs.declared.visitor.Visitor.{Ghosts as Visitor}
 use Rattle.sfv.specs.declared.parser.Parser.{Parser}
 
--- the parser of this input under this version
-abbrev pub parser_of : Bor (List ℕ) → Version → Parser
-parser_of input version = record { input = input; version = version }
+-- the parser of this input under this version, which builds maps under this seed
+abbrev pub parser_of : Bor (List ℕ) → Version → HashSeed → Parser
+parser_of input version seed = record { input = input; version = version; seed = seed }
 
 -- the input of a parser, and the edition of its version
 abbrev pub input_of : Parser → List ℕ

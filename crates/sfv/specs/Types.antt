@@ -15,6 +15,7 @@ pub use Rattle.sfv_bare.specs.declared.bare.GenericBareItem.TheVariants as bare_
 pub use Rattle.sfv_bare.specs.declared.bare.StringFromInput.{StringFromInput}
 pub use Rattle.sfv_bare.specs.declared.bare.Version.{Version}
 pub use Rattle.sfv_bare.specs.declared.bare.Version.TheVariants as versions
+pub use Rattle.sfv_tree.specs.declared.hash_seed.HashSeed.{HashSeed}
 pub use Rattle.sfv_tree.specs.declared.parsed.Item.{Item}
 pub use Rattle.sfv_tree.specs.declared.parsed.InnerList.{InnerList}
 pub use Rattle.sfv_tree.specs.declared.parsed.ListEntry.{ListEntry}

@@ -92,7 +92,8 @@ impl FieldType for Item {
     ghost written = { λ text. Some (string_bytes text) };
 
     fn parse(alloc: Global, parser: Parser<'_>) -> Result<Item, Error> {
-        match parser.parse_item_with_visitor(alloc, ItemBuilder::new(alloc)) {
+        let builder = ItemBuilder::new(alloc, parser.hash_seed());
+        match parser.parse_item_with_visitor(alloc, builder) {
             Ok(item) => Ok(item),
             Err(ParseError::Syntax(error)) => Err(error),
             // The builder fails for memory alone, since an item that was read is whole.
@@ -123,7 +124,7 @@ impl FieldType for List {
     ghost written = { option_map string_bytes };
 
     fn parse(alloc: Global, parser: Parser<'_>) -> Result<List, Error> {
-        let builder = ListBuilder::new(List::new(alloc));
+        let builder = ListBuilder::new(List::new(alloc), parser.hash_seed());
         match parser.parse_list_with_visitor(alloc, builder) {
             Ok(list) => Ok(list),
             Err(ParseError::Syntax(error)) => Err(error),
@@ -156,7 +157,8 @@ impl FieldType for Dictionary {
     ghost written = { option_map string_bytes };
 
     fn parse(alloc: Global, parser: Parser<'_>) -> Result<Dictionary, Error> {
-        let builder = DictionaryBuilder::new(Dictionary::new(alloc));
+        let dictionary = Dictionary::with_hasher(alloc, parser.hash_seed());
+        let builder = DictionaryBuilder::new(dictionary);
         match parser.parse_dictionary_with_visitor(alloc, builder) {
             Ok(dictionary) => Ok(dictionary),
             Err(ParseError::Syntax(error)) => Err(error),

@@ -22,8 +22,9 @@ pub use sfv_base::error::{Error, ErrorKind, OutOfMemory, ParseError};
 pub use sfv_base::integer::Integer;
 pub use sfv_base::shorthand::integer;
 pub use sfv_ser::{
-    DictMembers, DictSerializer, InnerListItems, InnerListSerializer, ItemSerializer, Kind, ListMembers,
-    ListSerializer, Members, ParameterSerializer, Parts, SerializeError, Sink, Unnamed,
+    DictMembers, DictSerializer, InnerListItems, InnerListSerializer, ItemSerializer, Kind,
+    ListMembers, ListSerializer, Members, ParameterSerializer, Parts, SerializeError, Sink,
+    Unnamed,
 };
 pub use sfv_text::key::Key;
 pub use sfv_text::key_ref::KeyRef;
@@ -32,7 +33,9 @@ pub use sfv_text::string::String;
 pub use sfv_text::string_ref::StringRef;
 pub use sfv_text::token::Token;
 pub use sfv_text::token_ref::TokenRef;
+pub use sfv_tree::hash_seed::HashSeed;
 pub use sfv_tree::parsed::{
     Dictionary, InnerList, Item, List, ListEntry, Parameters, find_entry, find_param, insert_entry,
     insert_param,
 };
+pub use sfv_tree::shorthand::{dictionary, parameters};

@@ -4,10 +4,12 @@ ghost use Rattle.std.specs.Prelude.{◌≡◌, IfOk, IfErr};
 ghost use Rattle.sfv_spec.specs.Values.{item_field, list_field, dictionary_field};
 ghost use Rattle.sfv_spec.specs.Statements.{IsParsedAs};
 ghost use Rattle.sfv_bare.specs.declared.bare.Version.TheVariants as versions;
+ghost use Rattle.sfv_tree.specs.HashSeeds.{library_seed};
 
 use crate::field_type::FieldType;
 use sfv_bare::bare::Version;
 use sfv_base::error::{Error, ParseError};
+use sfv_tree::hash_seed::HashSeed;
 use sfv_tree::visitor::Visitor;
 use sfv_visit::make::{MakeDictionaryVisitor, MakeItemVisitor, MakeListVisitor};
 use std::alloc::Global;
@@ -35,28 +37,45 @@ use member::{Entry, KeyedEntry};
 pub struct Parser<'de> {
     input: &'de [u8],
     version: Version,
+    seed: HashSeed,
 }
 
 impl<'de> Parser<'de> {
     ghost use Rattle.sfv.specs.Parsers.{parser_of, input_of, parser_edition, IsParseError, IsAnswerBy, IsSyntaxBy};
     ghost use Rattle.sfv.specs.Parsers.{IsVisitorErrorBy, VisitsAcceptedBy, VisitsFirstBy, OfMade};
 
-    /// Reads this input, under RFC 9651.
+    /// Reads this input, under RFC 9651 and the library's seed.
     pub fn new(input: &'de [u8]) -> Parser<'de>
-        ensures { result ≡ parser_of input.entry versions.Rfc9651 }
+        ensures { result ≡ parser_of input.entry versions.Rfc9651 library_seed }
     {
         Parser {
             input,
             version: Version::Rfc9651,
+            seed: HashSeed::default(),
         }
     }
 
     /// Reads the same input under this version.
     pub fn with_version(mut self, version: Version) -> Parser<'de>
-        ensures { result ≡ parser_of self.entry.input version }
+        ensures { result ≡ parser_of self.entry.input version self.entry.seed }
     {
         self.version = version;
         self
+    }
+
+    /// Reads the same input under the same version, and builds dictionaries and parameters under this seed.
+    pub fn with_hash_seed(mut self, seed: HashSeed) -> Parser<'de>
+        ensures { result ≡ parser_of self.entry.input self.entry.version seed }
+    {
+        self.seed = seed;
+        self
+    }
+
+    /// Returns the seed under which dictionaries and parameters are built.
+    pub fn hash_seed(&self) -> HashSeed
+        ensures { result ≡ self.now.seed }
+    {
+        self.seed
     }
 
     /// Reads the input as a field of this type (RFC 9651, section 4.2), with memory from `alloc`.
@@ -64,9 +83,10 @@ impl<'de> Parser<'de> {
     /// Returns the value exactly if the input is such a field, or fails as out of memory: of a repeated key
     /// the last value stands, at the place of the first.
     ///
-    /// The keys of a dictionary and of parameters stand in a map whose hash has no secret. Whoever chooses the
-    /// keys can search for some that make it slow, so bound the length of a field that others send, to 64 KB say,
-    /// or read it with a visitor, which has no map.
+    /// As measured, the time of a reading grows with the length of the input under a seed that was drawn
+    /// (`with_hash_seed`). Under the library's one can search for keys of a dictionary or of parameters that fall
+    /// together: 64 KB of them take a hundred times as long, and the factor grows with the length. So draw a seed, once
+    /// for each run of a program, where others send the field, or read it with a visitor, which has no map.
     ///
     /// # Errors
     ///
@@ -93,14 +113,17 @@ impl<'de> Parser<'de> {
         self,
         alloc: Global,
     ) -> Result<T, ParseError<<T::Visitor as Visitor<'de>>::Error>>
-        ensures visited { IfOk result (OfMade T.is_made (IsAnswerBy T.Visitor.Visitor self.entry item_field)) }
-        ensures syntax { IfErr result (OfMade T.is_made (IsSyntaxBy T.Visitor.Visitor self.entry item_field)) }
+        ensures visited { IfOk result
+            (OfMade (T.is_made self.entry.seed) (IsAnswerBy T.Visitor.Visitor self.entry item_field)) }
+        ensures syntax { IfErr result
+            (OfMade (T.is_made self.entry.seed) (IsSyntaxBy T.Visitor.Visitor self.entry item_field)) }
         ensures visitor { IfErr result
-            (OfMade T.is_made (IsVisitorErrorBy T.Visitor.Visitor self.entry item_field)) }
-        ensures accepted { OfMade T.is_made (VisitsAcceptedBy T.Visitor.Visitor self.entry item_field) result }
-        ensures first { IfErr result (OfMade T.is_made (VisitsFirstBy T.Visitor.Visitor self.entry)) }
+            (OfMade (T.is_made self.entry.seed) (IsVisitorErrorBy T.Visitor.Visitor self.entry item_field)) }
+        ensures accepted { OfMade (T.is_made self.entry.seed)
+            (VisitsAcceptedBy T.Visitor.Visitor self.entry item_field) result }
+        ensures first { IfErr result (OfMade (T.is_made self.entry.seed) (VisitsFirstBy T.Visitor.Visitor self.entry)) }
     {
-        let visitor = T::make_item_visitor(alloc);
+        let visitor = T::make_item_visitor(alloc, self.seed);
         self.parse_item_with_visitor(alloc, visitor)
     }
 
@@ -116,13 +139,16 @@ impl<'de> Parser<'de> {
         self,
         alloc: Global,
     ) -> Result<T, ParseError<<T::Visitor as Visitor<'de>>::Error>>
-        ensures visited { IfOk result (OfMade T.is_made (IsAnswerBy T.Visitor.Visitor self.entry list_field)) }
-        ensures syntax { IfErr result (OfMade T.is_made (IsSyntaxBy T.Visitor.Visitor self.entry list_field)) }
+        ensures visited { IfOk result
+            (OfMade (T.is_made self.entry.seed) (IsAnswerBy T.Visitor.Visitor self.entry list_field)) }
+        ensures syntax { IfErr result
+            (OfMade (T.is_made self.entry.seed) (IsSyntaxBy T.Visitor.Visitor self.entry list_field)) }
         ensures visitor { IfErr result
-            (OfMade T.is_made (IsVisitorErrorBy T.Visitor.Visitor self.entry list_field)) }
-        ensures accepted { OfMade T.is_made (VisitsAcceptedBy T.Visitor.Visitor self.entry list_field) result }
+            (OfMade (T.is_made self.entry.seed) (IsVisitorErrorBy T.Visitor.Visitor self.entry list_field)) }
+        ensures accepted { OfMade (T.is_made self.entry.seed)
+            (VisitsAcceptedBy T.Visitor.Visitor self.entry list_field) result }
     {
-        let visitor = T::make_list_visitor(alloc);
+        let visitor = T::make_list_visitor(alloc, self.seed);
         self.parse_list_with_visitor(alloc, visitor)
     }
 
@@ -138,13 +164,16 @@ impl<'de> Parser<'de> {
         self,
         alloc: Global,
     ) -> Result<T, ParseError<<T::Visitor as Visitor<'de>>::Error>>
-        ensures visited { IfOk result (OfMade T.is_made (IsAnswerBy T.Visitor.Visitor self.entry dictionary_field)) }
-        ensures syntax { IfErr result (OfMade T.is_made (IsSyntaxBy T.Visitor.Visitor self.entry dictionary_field)) }
+        ensures visited { IfOk result
+            (OfMade (T.is_made self.entry.seed) (IsAnswerBy T.Visitor.Visitor self.entry dictionary_field)) }
+        ensures syntax { IfErr result
+            (OfMade (T.is_made self.entry.seed) (IsSyntaxBy T.Visitor.Visitor self.entry dictionary_field)) }
         ensures visitor { IfErr result
-            (OfMade T.is_made (IsVisitorErrorBy T.Visitor.Visitor self.entry dictionary_field)) }
-        ensures accepted { OfMade T.is_made (VisitsAcceptedBy T.Visitor.Visitor self.entry dictionary_field) result }
+            (OfMade (T.is_made self.entry.seed) (IsVisitorErrorBy T.Visitor.Visitor self.entry dictionary_field)) }
+        ensures accepted { OfMade (T.is_made self.entry.seed)
+            (VisitsAcceptedBy T.Visitor.Visitor self.entry dictionary_field) result }
     {
-        let visitor = T::make_dictionary_visitor(alloc);
+        let visitor = T::make_dictionary_visitor(alloc, self.seed);
         self.parse_dictionary_with_visitor(alloc, visitor)
     }
 

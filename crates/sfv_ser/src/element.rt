@@ -160,7 +160,8 @@ mod tests {
     use linked_list_allocator::LocalHeap;
     use sfv_bare::bare::BareItem;
     use sfv_text::shorthand::key_ref;
-    use sfv_tree::parsed::{Dictionary, InnerList, Parameters};
+    use sfv_tree::parsed::{Dictionary, InnerList};
+    use sfv_tree::shorthand::{self, parameters};
     use std::alloc::{AllocError, Global};
     use std::test::Fail;
 
@@ -169,7 +170,7 @@ mod tests {
 
     /// The members `1` and `(2 3;a);b`.
     fn members(alloc: Global) -> Result<Vec<ListEntry>, Fail> {
-        let (mut inner, mut outer) = (Parameters::new(alloc), Parameters::new(alloc));
+        let (mut inner, mut outer) = (parameters(alloc), parameters(alloc));
         inner.insert(key_ref("a").to_owned(alloc)?, BareItem::from(true))?;
         outer.insert(key_ref("b").to_owned(alloc)?, BareItem::from(true))?;
         let items = vec![in alloc;
@@ -184,7 +185,7 @@ mod tests {
 
     /// The same members with the keys `c` and `d`.
     fn dictionary(alloc: Global) -> Result<Dictionary, Fail> {
-        let mut dictionary = Dictionary::new(alloc);
+        let mut dictionary = shorthand::dictionary(alloc);
         for member in members(alloc)? {
             let is_first = dictionary.is_empty();
             let key = key_ref(if is_first { "c" } else { "d" }).to_owned(alloc)?;

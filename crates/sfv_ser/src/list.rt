@@ -52,13 +52,14 @@ mod tests {
     use super::*;
     use sfv_bare::bare::BareItem;
     use sfv_text::shorthand::key_ref;
-    use sfv_tree::parsed::{InnerList, Item, ListEntry, Parameters};
+    use sfv_tree::parsed::{InnerList, Item, ListEntry};
+    use sfv_tree::shorthand::parameters;
     use std::test::Fail;
 
     #[test]
     fn lists_are_written(rt: HostRuntime) -> Result<(), Fail> {
         let alloc = rt.alloc();
-        let mut params = Parameters::new(alloc);
+        let mut params = parameters(alloc);
         params.insert(key_ref("a").to_owned(alloc)?, BareItem::from(true))?;
         params.insert(key_ref("b").to_owned(alloc)?, BareItem::from(false))?;
         let items = vec![in alloc;

@@ -219,7 +219,7 @@ mod tests {
     use sfv_base::decimal::Decimal;
     use sfv_base::shorthand::integer;
     use sfv_text::shorthand::{key_ref, string_ref, token_ref};
-    use sfv_tree::parsed::Parameters;
+    use sfv_tree::shorthand::parameters;
     use std::alloc::Global;
     use std::process::Abort;
     use std::test::Fail;
@@ -327,7 +327,7 @@ mod tests {
     #[test]
     fn parameters_are_written_or_left_out_at_once(rt: HostRuntime) -> Result<(), Fail> {
         let alloc = rt.alloc();
-        let mut params = Parameters::new(alloc);
+        let mut params = parameters(alloc);
         for key in ["first", "second", "third"] {
             let value = GenericBareItem::Integer(integer(1_234_567));
             params.insert(key_ref(key).to_owned(alloc)?, value)?;

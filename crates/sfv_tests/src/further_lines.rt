@@ -1,6 +1,6 @@
 //! Further lines of a field, read into what the lines before gave.
 
-use sfv::{FieldType, OutOfMemory, ParseError};
+use sfv::{FieldType, HashSeed, OutOfMemory, ParseError};
 use sfv_uses::reading::{dictionary_of_lines, list_of_lines};
 use std::alloc::Global;
 use std::test::Fail;
@@ -30,7 +30,7 @@ fn lines_of_lists(rt: HostRuntime) -> Result<(), Fail> {
         (b"1", b"2,", "trailing comma at index 1"),
     ];
     for (held, line, text) in rows {
-        let list = list_of_lines(rt.alloc(), held, line);
+        let list = list_of_lines(rt.alloc(), HashSeed::new(1), held, line);
         assert_eq!(rt; told(rt.alloc(), list)?.as_str(), text);
     }
     Ok(())
@@ -46,7 +46,7 @@ fn lines_of_dictionaries(rt: HostRuntime) -> Result<(), Fail> {
         (b"", b"a", "a"),
     ];
     for (held, line, text) in rows {
-        let dictionary = dictionary_of_lines(rt.alloc(), held, line);
+        let dictionary = dictionary_of_lines(rt.alloc(), HashSeed::new(1), held, line);
         assert_eq!(rt; told(rt.alloc(), dictionary)?.as_str(), text);
     }
     Ok(())

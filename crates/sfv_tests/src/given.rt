@@ -5,7 +5,7 @@ use sfv::visitor::{
     parameter_visitor_with,
 };
 use sfv::{
-    BareItem, BareItemFromInput, Date, Decimal, FieldType, Integer, ParseError, Parser,
+    BareItem, BareItemFromInput, Date, Decimal, FieldType, HashSeed, Integer, ParseError, Parser,
     StringFromInput, TokenRef, integer, token_ref,
 };
 use sfv_uses::expecting::{dictionary, expect, item, list, token};
@@ -111,7 +111,7 @@ fn fields_are_made_visitors(rt: HostRuntime) -> Result<(), Fail> {
 #[test]
 fn a_visitor_may_be_left_out(rt: HostRuntime) {
     let alloc = rt.alloc();
-    let some = Some(Integer::make_item_visitor(alloc));
+    let some = Some(Integer::make_item_visitor(alloc, HashSeed::default()));
     let answer = Parser::new(b"5").parse_item_with_visitor(alloc, some);
     assert!(rt; answer.ok() == Some(Some(integer(5))));
     let none: Option<ExpectItem<Integer>> = None;

@@ -23,6 +23,8 @@ mod rows;
 #[cfg(test)]
 mod scripts;
 #[cfg(test)]
+mod seeds;
+#[cfg(test)]
 mod uses;
 #[cfg(test)]
 mod versions;

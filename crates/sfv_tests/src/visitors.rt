@@ -3,8 +3,8 @@
 use linked_list_allocator::LocalHeap;
 use sfv::visitor::{BareItemType, Event, ItemBuilder, ItemFault, Visitor};
 use sfv::{
-    BareItemFromInput, Error, ErrorKind, GenericBareItem, ParseError, Parser, StringFromInput,
-    Version, integer,
+    BareItemFromInput, Error, ErrorKind, GenericBareItem, HashSeed, ParseError, Parser,
+    StringFromInput, Version, integer,
 };
 use std::alloc::{AllocError, Allocator};
 use std::borrow::CowStr;
@@ -396,7 +396,7 @@ fn want_of_memory_is_the_visitors_answer(rt: HostRuntime) -> Result<(), Fail> {
 
 #[test]
 fn items_are_built(rt: HostRuntime) -> Result<(), Fail> {
-    let builder = ItemBuilder::new(rt.alloc());
+    let builder = ItemBuilder::new(rt.alloc(), HashSeed::default());
     let answer = Parser::new(b"1;a;b=2;a=3").parse_item_with_visitor(rt.alloc(), builder);
     let Ok(item) = answer else {
         return Err(Fail::from("rejected"));
@@ -408,7 +408,7 @@ fn items_are_built(rt: HostRuntime) -> Result<(), Fail> {
 
 #[test]
 fn out_of_place_events_change_nothing(rt: HostRuntime) -> Result<(), Fail> {
-    let mut builder = ItemBuilder::new(rt.alloc());
+    let mut builder = ItemBuilder::new(rt.alloc(), HashSeed::default());
     assert!(rt; builder.event(Event::ParametersEnd).is_ok());
     assert!(rt; builder.event(Event::Entry).is_ok());
     assert!(rt;
@@ -432,7 +432,7 @@ fn out_of_place_events_change_nothing(rt: HostRuntime) -> Result<(), Fail> {
         return Err(Fail::from("rejected"));
     };
     assert_eq!(rt; item.bare_item.as_boolean(), Some(true));
-    let answer = ItemBuilder::new(rt.alloc()).finish();
+    let answer = ItemBuilder::new(rt.alloc(), HashSeed::default()).finish();
     assert!(rt; matches!(answer, Err(ItemFault::NoItem)));
     Ok(())
 }

@@ -8,7 +8,7 @@ ghost use Rattle.sfv_tool.specs.Answers.{IsAnswer, IsToolFault, IsAnswerTo, IsFa
 ghost use Rattle.sfv.specs.Types.serialize_errors as serialize_errors;
 ghost use Rattle.sfv_tool.specs.declared.answer.ToolFault.TheVariants as faults;
 
-use sfv::{Dictionary, Error, FieldType, Item, List, Parser, SerializeError, Version};
+use sfv::{Dictionary, Error, FieldType, HashSeed, Item, List, Parser, SerializeError, Version};
 use std::alloc::Global;
 use std::fmt;
 
@@ -89,6 +89,7 @@ fn line(alloc: Global, text: Option<String>) -> Result<String, SerializeError>
 /// Reads the input as an item under the one version, and returns its canonical text for the other, and a newline.
 fn answer_item(
     alloc: Global,
+    seed: HashSeed,
     reading: Version,
     writing: Version,
     input: &[u8],
@@ -97,7 +98,9 @@ fn answer_item(
         IsAnswer (edition_of reading) (edition_of writing) item_field input.now (string_bytes text)) }
     ensures failed { IfErr result (IsToolFault (edition_of reading) (edition_of writing) item_field input.now) }
 {
-    let parser = Parser::new(input).with_version(reading);
+    let parser = Parser::new(input)
+        .with_version(reading)
+        .with_hash_seed(seed);
     let item = parser.parse::<Item>(alloc)?;
     let text = item.serialize_for(alloc, writing)?;
     Ok(line(alloc, Some(text))?)
@@ -106,6 +109,7 @@ fn answer_item(
 /// Reads the input as a list under the one version, and returns its canonical text for the other, and a newline.
 fn answer_list(
     alloc: Global,
+    seed: HashSeed,
     reading: Version,
     writing: Version,
     input: &[u8],
@@ -114,7 +118,9 @@ fn answer_list(
         IsAnswer (edition_of reading) (edition_of writing) list_field input.now (string_bytes text)) }
     ensures failed { IfErr result (IsToolFault (edition_of reading) (edition_of writing) list_field input.now) }
 {
-    let parser = Parser::new(input).with_version(reading);
+    let parser = Parser::new(input)
+        .with_version(reading)
+        .with_hash_seed(seed);
     let list = parser.parse::<List>(alloc)?;
     let text = list.serialize_for(alloc, writing)?;
     Ok(line(alloc, text)?)
@@ -123,6 +129,7 @@ fn answer_list(
 /// Reads the input as a dictionary under the one version, and returns its canonical text for the other, and a newline.
 fn answer_dictionary(
     alloc: Global,
+    seed: HashSeed,
     reading: Version,
     writing: Version,
     input: &[u8],
@@ -131,20 +138,24 @@ fn answer_dictionary(
         IsAnswer (edition_of reading) (edition_of writing) dictionary_field input.now (string_bytes text)) }
     ensures failed { IfErr result (IsToolFault (edition_of reading) (edition_of writing) dictionary_field input.now) }
 {
-    let parser = Parser::new(input).with_version(reading);
+    let parser = Parser::new(input)
+        .with_version(reading)
+        .with_hash_seed(seed);
     let dictionary = parser.parse::<Dictionary>(alloc)?;
     let text = dictionary.serialize_for(alloc, writing)?;
     Ok(line(alloc, text)?)
 }
 
 /// Reads the input, without one closing newline byte, as a field of this type under the one version, and returns its
-/// canonical text for the other and a newline, for a list or a dictionary without members the newline alone.
+/// canonical text for the other and a newline, for a list or a dictionary without members the newline alone. Maps are
+/// built under `seed`.
 ///
 /// # Errors
 ///
 /// `Read` with the error of `Parser::parse`, and `Write` with that of `FieldType::serialize_for`.
 pub fn answer(
     alloc: Global,
+    seed: HashSeed,
     field: Field,
     reading: Version,
     writing: Version,
@@ -155,8 +166,8 @@ pub fn answer(
 {
     let input = without_newline(input);
     match field {
-        Field::Item => answer_item(alloc, reading, writing, input),
-        Field::List => answer_list(alloc, reading, writing, input),
-        Field::Dict => answer_dictionary(alloc, reading, writing, input),
+        Field::Item => answer_item(alloc, seed, reading, writing, input),
+        Field::List => answer_list(alloc, seed, reading, writing, input),
+        Field::Dict => answer_dictionary(alloc, seed, reading, writing, input),
     }
 }

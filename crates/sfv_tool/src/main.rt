@@ -10,9 +10,12 @@ mod run;
 mod tests;
 
 use crate::run::run;
+use sfv::HashSeed;
 use std::alloc::AllocGlobal;
 use std::env::Env;
+use std::io::Write;
 use std::process::ExitCode;
+use std::random::RandomSource;
 use std::{env, io};
 
 /// The arguments after the name of the program.
@@ -24,11 +27,23 @@ fn arguments<R: Env + AllocGlobal>(rt: &R) -> io::Result<Vec<String>> {
     Ok(args)
 }
 
+/// A seed of the hash of keys that nobody knows.
+fn drawn_seed(rt: &impl RandomSource) -> io::Result<HashSeed> {
+    let mut bytes = [0; 8];
+    rt.fill_bytes(&mut bytes)?;
+    Ok(HashSeed::new(u64::from_le_bytes(bytes)))
+}
+
 fn main(rt: HostRuntime) -> ExitCode {
+    let Ok(seed) = drawn_seed(&rt) else {
+        let _ = rt.stderr().write_all(b"error: cannot draw a seed\n");
+        return ExitCode::FAILURE;
+    };
     // Arguments that can't be had, since they aren't UTF-8 or for want of memory, are wrong arguments.
     let args = arguments(&rt).unwrap_or(Vec::new(rt.alloc()));
     let status = run(
         rt.alloc(),
+        seed,
         args.as_slice(),
         &mut rt.stdin(),
         &mut rt.stdout(),

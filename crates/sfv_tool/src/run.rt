@@ -5,7 +5,7 @@ ghost use Rattle.std.specs.Io.KnownBytes.{Appends};
 ghost use Rattle.sfv_tool.specs.Runs.{Names, NamesNothing, Requests, IsAnswered, IsFailed, field_word, version_word};
 
 use crate::answer::{Field, answer};
-use sfv::Version;
+use sfv::{HashSeed, Version};
 use std::alloc::Global;
 use std::io;
 use std::io::{Read, Write};
@@ -77,6 +77,7 @@ fn print<W: Write>(text: &str, output: &mut W) -> io::Result<()>
 /// Reads all of the input, and writes the answer to `output`, or what is wrong to `errors`. Returns the exit status.
 fn convert<R: Read, W: Write, E: Write>(
     alloc: Global,
+    seed: HashSeed,
     request: Request,
     input: &mut R,
     output: &mut W,
@@ -95,6 +96,7 @@ fn convert<R: Read, W: Write, E: Write>(
     }
     match answer(
         alloc,
+        seed,
         request.field,
         request.reading,
         request.writing,
@@ -116,9 +118,10 @@ fn convert<R: Read, W: Write, E: Write>(
 
 /// Looks at the arguments, reads all of the input, and writes the answer to `output`, or what is wrong
 /// to `errors`. Returns the exit status: 0, 1 where something is wrong, 2 for other arguments. If
-/// `errors` can't be written the status stays.
+/// `errors` can't be written the status stays. Maps are built under `seed`.
 pub fn run<R: Read, W: Write, E: Write>(
     alloc: Global,
+    seed: HashSeed,
     args: &[String],
     input: &mut R,
     output: &mut W,
@@ -134,7 +137,7 @@ pub fn run<R: Read, W: Write, E: Write>(
     ensures status { result ≤ WRONG_ARGUMENTS }
 {
     match requested(args) {
-        Some(request) => convert(alloc, request, input, output, errors),
+        Some(request) => convert(alloc, seed, request, input, output, errors),
         None => {
             let _ = errors.write_all(b"usage: sfv_tool item|list|dict 8941|9651 [8941|9651]\n");
             WRONG_ARGUMENTS

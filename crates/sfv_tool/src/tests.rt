@@ -1,6 +1,7 @@
 //! Runs of the program over memory.
 
 use crate::run::run;
+use sfv::HashSeed;
 use std::alloc::Global;
 use std::io;
 use std::io::{Read, Write};
@@ -71,7 +72,14 @@ fn run_over(alloc: Global, args: &[&str], input: &[u8]) -> Result<Ended, Fail> {
     let mut output = Vec::new(alloc);
     let mut errors = Vec::new(alloc);
     let mut input = input;
-    let status = run(alloc, args.as_slice(), &mut input, &mut output, &mut errors);
+    let status = run(
+        alloc,
+        HashSeed::new(1),
+        args.as_slice(),
+        &mut input,
+        &mut output,
+        &mut errors,
+    );
     Ok(Ended {
         output,
         errors,
@@ -256,6 +264,7 @@ fn unreadable_input(rt: HostRuntime) -> Result<(), Fail> {
     let mut input = Broken { left: b"1;a" };
     let status = run(
         rt.alloc(),
+        HashSeed::default(),
         args.as_slice(),
         &mut input,
         &mut output,
@@ -272,7 +281,15 @@ fn is_unwritable<W: Write>(alloc: Global, output: &mut W) -> Result<bool, Fail> 
     let args = words(alloc, &["item", "9651"])?;
     let mut errors = Vec::new(alloc);
     let mut input = b"1\n".as_slice();
-    let status = run(alloc, args.as_slice(), &mut input, output, &mut errors);
+    let seed = HashSeed::default();
+    let status = run(
+        alloc,
+        seed,
+        args.as_slice(),
+        &mut input,
+        output,
+        &mut errors,
+    );
     Ok(status == 1 && errors.as_slice() == b"error: cannot write output\n".as_slice())
 }
 
@@ -291,6 +308,7 @@ fn unwritable_errors(rt: HostRuntime) -> Result<(), Fail> {
     let mut input = b"1,\n".as_slice();
     let status = run(
         rt.alloc(),
+        HashSeed::default(),
         args.as_slice(),
         &mut input,
         &mut output,
@@ -298,7 +316,8 @@ fn unwritable_errors(rt: HostRuntime) -> Result<(), Fail> {
     );
     assert_eq!(rt; output.len(), 0);
     assert_eq!(rt; status, 1);
-    let status = run(rt.alloc(), &[], &mut input, &mut output, &mut Full);
+    let seed = HashSeed::default();
+    let status = run(rt.alloc(), seed, &[], &mut input, &mut output, &mut Full);
     assert_eq!(rt; status, 2);
     Ok(())
 }

@@ -2,12 +2,13 @@
 use Rattle.std.specs.Prelude.{ℕ, List, [], ◌∷◌, ◌++◌, Bool, true, false, ◌&&◌, ◌||◌, Option, Some, None, is_none, option_map}
 use Rattle.std.specs.Prelude.{bytes_eq}
 use Rattle.std.specs.Map.{lookup}
-use Rattle.indexmap.specs.IndexMap.{insert_entry}
+use Rattle.indexmap.specs.IndexMap.{insert_entry, hasher_of}
 use Rattle.sfv_spec.specs.Values.{BareValue, RawItem, RawInnerList, RawMember, item, inner_list}
 use Rattle.sfv_spec.specs.Events.{TreeEvent, entry, keyed_entry, begins_item, begins_inner_list}
 use Rattle.sfv_spec.specs.Events.{bare_item, parameter, parameters_end, inner_list_end}
 use Rattle.sfv_bare.specs.BareItems.{is_text}
 use Rattle.sfv_tree.specs.Trees.{item_with, item_tree, inner_list_tree, list_tree, dictionary_tree}
+use Rattle.sfv_tree.specs.declared.hash_seed.HashSeed.{HashSeed}
 use Rattle.sfv_tree.specs.declared.parsed.Item.{Item}
 use Rattle.sfv_tree.specs.declared.parsed.InnerList.{InnerList}
 use Rattle.sfv_tree.specs.declared.visitor.item_builder.ItemBuilder.{ItemBuilder}
@@ -93,6 +94,10 @@ shown p None None = begun
 abbrev pub member_place : PartialMember → MemberPlace
 member_place m = shown m.place (item_of m) m.inner
 
+-- the seed of the parameters that are made next
+abbrev pub member_seed : PartialMember → HashSeed
+member_seed m = hasher_of m.params
+
 -- the member that is read, once it is whole
 abbrev pub whole_member : Option RawItem → Option InnerList → Option RawMember
 whole_member i (Some l) = Some (inner_list (inner_list_tree l))
@@ -141,6 +146,10 @@ item_so_far true (Some i) = at_end (item_tree i)
 abbrev pub item_place : ItemBuilder → ItemPlace
 item_place b = item_so_far b.is_whole b.item
 
+-- the seed under which a builder builds
+abbrev pub item_seed : ItemBuilder → HashSeed
+item_seed b = b.seed
+
 -- the place of a list's builder, with the members that are whole: between two members, or within one
 pub data ListPlace : Type 0 where
   between : List RawMember → ListPlace
@@ -175,6 +184,9 @@ place_among ms true m = within ms (member_place m)
 -- the place of a builder, with the list so far
 abbrev pub list_place : ListBuilder → ListPlace
 list_place b = place_among (list_tree b.list.items) b.is_within b.member
+
+abbrev pub list_seed : ListBuilder → HashSeed
+list_seed b = member_seed b.member
 
 -- the place of a dictionary's builder, with the pairs that are whole: between two of them, or within the member of a
 -- key
@@ -217,3 +229,7 @@ place_among_pairs ms (Some key) m = within_pair ms key (member_place m)
 -- the place of a builder, with the dictionary so far
 abbrev pub dictionary_place : DictionaryBuilder → DictionaryPlace
 dictionary_place b = place_among_pairs (dictionary_tree b.dictionary.entries) b.key b.member
+
+-- the seed of a builder is that of its dictionary, which its parameters have too
+abbrev pub dictionary_seed : DictionaryBuilder → HashSeed
+dictionary_seed b = member_seed b.member

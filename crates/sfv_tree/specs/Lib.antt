@@ -2,3 +2,4 @@ pub mod Trees
 pub mod ItemFaults
 pub mod Events
 pub mod Builders
+pub mod HashSeeds

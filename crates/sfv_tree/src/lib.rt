@@ -1,7 +1,9 @@
 //! The values of structured fields (RFC 9651) as trees that own their parts.
 #![tactic(auto)]
 
+pub mod hash_seed;
 pub mod parsed;
+pub mod shorthand;
 #[cfg(test)]
 mod tests;
 pub mod visitor;

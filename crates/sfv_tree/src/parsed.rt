@@ -2,14 +2,17 @@
 
 ghost use Rattle.std.specs.Prelude.{◌≡◌, ◌+◌, ◌<◌, ◌≤◌, [], IsOk, IfOk, OnOk, OnErr, IsTrue, None, map, bytes_eq};
 ghost use Rattle.std.specs.Prelude.{option_copied, option_map};
-ghost use Rattle.indexmap.specs.IndexMap.{get, insert_entry, spare};
+ghost use Rattle.indexmap.specs.IndexMap.{get, hasher_of, insert_entry, spare};
 ghost use Rattle.sfv_spec.specs.Ordered.{keys, last_of, no_repeats};
 ghost use Rattle.sfv_bare.specs.BareItems.{bare_value};
 ghost use Rattle.sfv_text.specs.KeyText.{key_text};
+ghost use Rattle.sfv_tree.specs.HashSeeds.{library_seed};
 ghost use Rattle.sfv_tree.specs.Trees.{item_with, item_tree, pairs_tree, inner_list_with, inner_list_tree};
 ghost use Rattle.sfv_tree.specs.Trees.{member_tree, dictionary_tree, found_member, found_value, with_member, with_value};
 ghost use Rattle.sfv_tree.specs.declared.parsed.ListEntry.TheVariants as entries;
 
+use crate::hash_seed::HashSeed;
+use crate::shorthand::parameters;
 use indexmap::IndexMap;
 use sfv_bare::bare::BareItem;
 use sfv_text::key::Key;
@@ -17,7 +20,7 @@ use sfv_text::key_ref::KeyRef;
 use std::alloc::{AllocError, Global};
 
 /// The parameters of an item or an inner list (RFC 9651, section 3.1.2): each key once, in order.
-pub type Parameters = IndexMap<Key, BareItem>;
+pub type Parameters = IndexMap<Key, BareItem, HashSeed>;
 
 /// An item (RFC 9651, section 3.3): a bare item with its parameters.
 ///
@@ -36,11 +39,12 @@ impl Item {
     pub fn new(alloc: Global, bare_item: BareItem) -> Item
         ensures value { result.bare_item ≡ bare_item }
         ensures params { result.params.entries ≡ [] }
+        ensures seed { hasher_of result.params ≡ library_seed }
         ensures tree { item_tree result ≡ item_with bare_item [] }
     {
         Item {
             bare_item,
-            params: Parameters::new(alloc),
+            params: parameters(alloc),
         }
     }
 
@@ -86,9 +90,10 @@ impl InnerList {
     pub fn new(alloc: Global, items: Vec<Item>) -> InnerList
         ensures items { result.items ≡ items }
         ensures params { result.params.entries ≡ [] }
+        ensures seed { hasher_of result.params ≡ library_seed }
         ensures tree { inner_list_tree result ≡ inner_list_with items.items [] }
     {
-        InnerList::with_params(items, Parameters::new(alloc))
+        InnerList::with_params(items, parameters(alloc))
     }
 
     /// Returns the inner list of these items, with these parameters.
@@ -104,6 +109,7 @@ impl InnerList {
     pub fn empty(alloc: Global) -> InnerList
         ensures items { result.items.items ≡ [] }
         ensures params { result.params.entries ≡ [] }
+        ensures seed { hasher_of result.params ≡ library_seed }
         ensures tree { inner_list_tree result ≡ inner_list_with [] [] }
     {
         InnerList::new(alloc, Vec::new(alloc))
@@ -140,7 +146,7 @@ pub enum ListEntry {
 pub type List = Vec<ListEntry>;
 
 /// A dictionary (RFC 9651, section 3.2): each key once, in order, with its member.
-pub type Dictionary = IndexMap<Key, ListEntry>;
+pub type Dictionary = IndexMap<Key, ListEntry, HashSeed>;
 
 impl From<Item> for ListEntry {
     ghost from_gives = { λ item member. member ≡ entries.Item item };
@@ -219,6 +225,7 @@ pub fn insert_entry(
         ≡ last_of key (dictionary_tree dictionary.old.entries)) }
     ensures entries { OnOk result (dictionary.new.entries ≡ insert_entry bytes_eq dictionary.old.entries key member) }
     ensures tree { OnOk result (dictionary_tree dictionary.new.entries ≡ with_member dictionary.old.entries key member) }
+    ensures seed { hasher_of dictionary.new ≡ hasher_of dictionary.old }
     ensures unchanged { OnErr result (dictionary.new.entries ≡ dictionary.old.entries) }
     ensures absent { OnErr result (last_of key (dictionary_tree dictionary.old.entries) ≡ None) }
     ensures succeeds { 0 < spare dictionary.old → IsOk result }
@@ -245,6 +252,7 @@ pub fn insert_param(
     ensures last { IfOk result (λ old. option_map bare_value old ≡ last_of key (pairs_tree params.old.entries)) }
     ensures entries { OnOk result (params.new.entries ≡ insert_entry bytes_eq params.old.entries key value) }
     ensures tree { OnOk result (pairs_tree params.new.entries ≡ with_value params.old.entries key value) }
+    ensures seed { hasher_of params.new ≡ hasher_of params.old }
     ensures unchanged { OnErr result (params.new.entries ≡ params.old.entries) }
     ensures absent { OnErr result (last_of key (pairs_tree params.old.entries) ≡ None) }
     ensures succeeds { 0 < spare params.old → IsOk result }

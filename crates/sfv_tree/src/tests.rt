@@ -1,7 +1,9 @@
+use crate::hash_seed::HashSeed;
 use crate::parsed::{
     Dictionary, InnerList, Item, List, ListEntry, Parameters, find_entry, find_param, insert_entry,
     insert_param,
 };
+use crate::shorthand::{dictionary, parameters};
 use crate::visitor::{
     BareItemType, DictionaryBuilder, Event, ItemBuilder, ItemFault, ListBuilder, Visitor,
 };
@@ -35,7 +37,7 @@ fn kinds_print(rt: HostRuntime) -> Result<(), Fail> {
 #[test]
 fn items_are_copied_and_compared(rt: HostRuntime) -> Result<(), Fail> {
     let alloc = rt.alloc();
-    let mut params = Parameters::new(alloc);
+    let mut params = parameters(alloc);
     params.insert(key_ref("b").to_owned(alloc)?, BareItem::from(1u8))?;
     params.insert(key_ref("a").to_owned(alloc)?, BareItem::from(true))?;
     let item = Item::with_params(BareItem::from(2u8), params);
@@ -48,7 +50,7 @@ fn items_are_copied_and_compared(rt: HostRuntime) -> Result<(), Fail> {
 
 // The item of the number, with one parameter.
 fn item_of(alloc: Global, value: u8, key: KeyRef<'_>, param: u8) -> Result<Item, OutOfMemory> {
-    let mut params = Parameters::new(alloc);
+    let mut params = parameters(alloc);
     params.insert(key.to_owned(alloc)?, BareItem::from(param))?;
     Ok(Item::with_params(BareItem::from(value), params))
 }
@@ -107,7 +109,7 @@ fn event(letter: char) -> Event<'static> {
 
 // What is built of the events after a list.
 fn build(list: List, letters: &str) -> Result<List, OutOfMemory> {
-    let mut builder = ListBuilder::new(list);
+    let mut builder = ListBuilder::new(list, HashSeed::default());
     for letter in letters.chars() {
         builder.event(event(letter))?;
     }
@@ -179,7 +181,7 @@ fn build_dictionary(dictionary: Dictionary, letters: &str) -> Result<Dictionary,
 #[test]
 fn keys_are_found(rt: HostRuntime) -> Result<(), Fail> {
     let alloc = rt.alloc();
-    let dictionary = build_dictionary(Dictionary::new(alloc), "ki5;li6ab;")?;
+    let dictionary = build_dictionary(dictionary(alloc), "ki5;li6ab;")?;
     let six = find_entry(&dictionary, key_ref("b"));
     assert!(rt;
         matches!(six, Some(ListEntry::Item(item)) if item.bare_item == BareItem::from(6u8))
@@ -209,7 +211,7 @@ fn is_number(member: Option<&ListEntry>, value: u8) -> bool {
 
 #[test]
 fn members_are_entered(rt: HostRuntime) -> Result<(), Fail> {
-    let mut dictionary = build_dictionary(Dictionary::new(rt.alloc()), "li5;ki6;")?;
+    let mut dictionary = build_dictionary(dictionary(rt.alloc()), "li5;ki6;")?;
     let old = enter_number(&mut dictionary, key_ref("b"), 7)?;
     assert!(rt; is_number(old.as_ref(), 5));
     let old = enter_number(&mut dictionary, key_ref("c"), 8)?;
@@ -225,7 +227,7 @@ fn members_are_entered(rt: HostRuntime) -> Result<(), Fail> {
 #[test]
 fn parameters_are_entered(rt: HostRuntime) -> Result<(), Fail> {
     let alloc = rt.alloc();
-    let mut params = Parameters::new(alloc);
+    let mut params = parameters(alloc);
     for key in ["b", "a"] {
         let old = insert_param(
             &mut params,
@@ -248,7 +250,7 @@ fn parameters_are_entered(rt: HostRuntime) -> Result<(), Fail> {
 #[test]
 fn dictionary_is_built_event_by_event(rt: HostRuntime) -> Result<(), Fail> {
     let alloc = rt.alloc();
-    let held = build_dictionary(Dictionary::new(alloc), "li5ab;k(i5a;i6;)aA;")?;
+    let held = build_dictionary(dictionary(alloc), "li5ab;k(i5a;i6;)aA;")?;
     assert_eq!(rt; held.len(), 2);
     let items = vec![in alloc;
         item_of(alloc, 5, key_ref("a"), 1)?,
@@ -272,7 +274,7 @@ fn dictionary_is_built_event_by_event(rt: HostRuntime) -> Result<(), Fail> {
 #[test]
 fn event_out_of_its_place_changes_no_dictionary(rt: HostRuntime) -> Result<(), Fail> {
     let alloc = rt.alloc();
-    let held = build_dictionary(Dictionary::new(alloc), "mi6;")?;
+    let held = build_dictionary(dictionary(alloc), "mi6;")?;
     let want = build_dictionary(held.clone()?, "k(i5b;)a;li5;")?;
     assert_eq!(rt; want.len(), 3);
     let cases = [
@@ -314,11 +316,11 @@ fn build_if_any(
 fn optional_visitor_visits_where_there_is_one(rt: HostRuntime) -> Result<(), Fail> {
     let alloc = rt.alloc();
     let want = item_of(alloc, 5, key_ref("a"), 2)?;
-    let built = build_if_any(Some(ItemBuilder::new(alloc)), "5aA;")?;
+    let built = build_if_any(Some(ItemBuilder::new(alloc, HashSeed::default())), "5aA;")?;
     assert!(rt; built == Some(want));
     assert!(rt; build_if_any(None, "5aA;")?.is_none());
     assert!(rt; build_if_any(None, "")?.is_none());
-    let answer = build_if_any(Some(ItemBuilder::new(alloc)), "5a");
+    let answer = build_if_any(Some(ItemBuilder::new(alloc, HashSeed::default())), "5a");
     assert!(rt; matches!(answer, Err(ItemFault::NoItem)));
     Ok(())
 }

@@ -148,7 +148,7 @@ fn dictionary_of(alloc: Global, digest: &ContentDigest) -> Result<Dictionary, Ou
         dictionary_tree dictionary.entries ≡ digest_members (digests_in digest.now)) }
     ensures out_of_memory { IfErr result (λ _. digests_in digest.now ≢ no_digests) }
 {
-    let mut dictionary = Dictionary::new(alloc);
+    let mut dictionary = sfv::dictionary(alloc);
     put(alloc, &mut dictionary, key_ref("sha-256"), &digest.sha_256)?;
     put(alloc, &mut dictionary, key_ref("sha-512"), &digest.sha_512)?;
     Ok(dictionary)

@@ -15,8 +15,8 @@ ghost use Rattle.sfv_uses.specs.Uses.{IsListOfBoth, IsDictionaryOfBoth};
 
 use sfv::visitor::{DictionaryBuilder, ListBuilder};
 use sfv::{
-    BareItem, Dictionary, Error, Integer, Item, KeyRef, List, ListEntry, OutOfMemory, Parameters,
-    ParseError, Parser, Version, find_entry, find_param,
+    BareItem, Dictionary, Error, HashSeed, Integer, Item, KeyRef, List, ListEntry, OutOfMemory,
+    Parameters, ParseError, Parser, Version, find_entry, find_param,
 };
 use std::alloc::Global;
 
@@ -116,37 +116,42 @@ pub fn param_of_member(
     Ok(Some(copy))
 }
 
-/// Reads a list that comes in two lines: the members of the second stand behind those of the first.
+/// Reads a list that comes in two lines: the members of the second stand behind those of the first. The parameters of
+/// both have this seed.
 ///
 /// # Errors
 ///
 /// That of `Parser::parse` for the line that isn't a list.
 pub fn list_of_lines(
     alloc: Global,
+    seed: HashSeed,
     first: &[u8],
     second: &[u8],
 ) -> Result<List, ParseError<OutOfMemory>>
     ensures { IfOk result (λ list. IsListOfBoth first.now second.now (list_tree list.items)) }
 {
-    let held = Parser::new(first).parse::<List>(alloc)?;
-    let builder = ListBuilder::new(held);
+    let parser = Parser::new(first).with_hash_seed(seed);
+    let held = parser.parse::<List>(alloc)?;
+    let builder = ListBuilder::new(held, parser.hash_seed());
     Parser::new(second).parse_list_with_visitor(alloc, builder)
 }
 
 /// Reads a dictionary that comes in two lines, as if its members stood in one: each key is there once, at its first
-/// place, with the whole member of its last occurrence.
+/// place, with the whole member of its last occurrence. The dictionary and all parameters have this seed.
 ///
 /// # Errors
 ///
 /// That of `Parser::parse` for the line that isn't a dictionary.
 pub fn dictionary_of_lines(
     alloc: Global,
+    seed: HashSeed,
     first: &[u8],
     second: &[u8],
 ) -> Result<Dictionary, ParseError<OutOfMemory>>
     ensures { IfOk result (λ dictionary. IsDictionaryOfBoth first.now second.now (dictionary_tree dictionary.entries)) }
 {
-    let held = Parser::new(first).parse::<Dictionary>(alloc)?;
+    let parser = Parser::new(first).with_hash_seed(seed);
+    let held = parser.parse::<Dictionary>(alloc)?;
     let builder = DictionaryBuilder::new(held);
     Parser::new(second).parse_dictionary_with_visitor(alloc, builder)
 }

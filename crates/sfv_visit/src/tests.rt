@@ -11,6 +11,7 @@ use sfv_base::decimal::Decimal;
 use sfv_base::integer::Integer;
 use sfv_text::shorthand::{key_ref, string_ref, token_ref};
 use sfv_text::token_ref::TokenRef;
+use sfv_tree::hash_seed::HashSeed;
 use sfv_tree::parsed::{Dictionary, Item, List, ListEntry};
 use sfv_tree::visitor::{BareItemType, Event, ItemFault, Visitor};
 use std::alloc::{AllocError, Global};
@@ -269,7 +270,7 @@ fn read_item<'de, T: MakeItemVisitor<'de>>(
     alloc: Global,
     item: BareItemFromInput<'de>,
 ) -> Option<T> {
-    let mut visitor = T::make_item_visitor(alloc);
+    let mut visitor = T::make_item_visitor(alloc, HashSeed::default());
     visitor.event(Event::BareItem(item)).ok()?;
     visitor
         .event(Event::Parameter(key_ref("a"), number(1)))
@@ -331,7 +332,7 @@ fn plain_item(value: u8) -> [Event<'static>; 3] {
 fn list_and_dictionary_make_their_visitors(rt: HostRuntime) -> Result<(), Fail> {
     let alloc = rt.alloc();
     let want = ListEntry::from(Item::new(alloc, BareItem::from(5u8)));
-    let mut visitor = List::make_list_visitor(alloc);
+    let mut visitor = List::make_list_visitor(alloc, HashSeed::default());
     visitor.event(Event::Entry)?;
     for event in plain_item(5) {
         visitor.event(event)?;
@@ -339,7 +340,7 @@ fn list_and_dictionary_make_their_visitors(rt: HostRuntime) -> Result<(), Fail> 
     let list = visitor.finish()?;
     assert!(rt; list.len() == 1 && list.first() == Some(&want));
 
-    let mut visitor = Dictionary::make_dictionary_visitor(alloc);
+    let mut visitor = Dictionary::make_dictionary_visitor(alloc, HashSeed::default());
     visitor.event(Event::KeyedEntry(key_ref("a")))?;
     for event in plain_item(5) {
         visitor.event(event)?;

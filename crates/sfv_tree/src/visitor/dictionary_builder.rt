@@ -1,12 +1,13 @@
 //! The visitor that builds a dictionary.
 
 ghost use Rattle.std.specs.Prelude.{◌≡◌, ⊤, ℕ, List, Some, OnOk, OnErr, IsTrue};
+ghost use Rattle.indexmap.specs.IndexMap.{hasher_of};
 ghost use Rattle.sfv_text.specs.KeyText.{key_text};
 ghost use Rattle.sfv_tree.specs.Trees.{dictionary_tree};
 ghost use Rattle.sfv_tree.specs.Events.{event_of};
 ghost use Rattle.sfv_tree.specs.Builders.{dictionary_step, dictionary_place, dictionary_members, begun, within_pair};
 ghost use Rattle.sfv_tree.specs.Builders.{between_pairs, settle_pair, settle_takes_memory, dictionary_takes_memory};
-ghost use Rattle.sfv_tree.specs.Builders.{ended_member};
+ghost use Rattle.sfv_tree.specs.Builders.{ended_member, dictionary_seed};
 
 use crate::parsed::Dictionary;
 use crate::visitor::partial_member::PartialMember;
@@ -31,15 +32,18 @@ pub struct DictionaryBuilder {
 
 impl DictionaryBuilder {
     /// Returns the builder before any event, with the members of `dictionary`, which builds with memory from the
-    /// dictionary's allocator. A further line of the same field is read into the dictionary of the lines before it.
+    /// dictionary's allocator and under its seed. A further line of the same field is read into the dictionary of the
+    /// lines before it.
     pub fn new(dictionary: Dictionary) -> DictionaryBuilder
-        ensures { dictionary_place result ≡ between_pairs (dictionary_tree dictionary.entries) }
+        ensures place { dictionary_place result ≡ between_pairs (dictionary_tree dictionary.entries) }
+        ensures seed { dictionary_seed result ≡ hasher_of dictionary }
     {
         let alloc = *dictionary.allocator();
+        let seed = *dictionary.hasher();
         DictionaryBuilder {
             dictionary,
             key: None,
-            member: PartialMember::new(alloc),
+            member: PartialMember::new(alloc, seed),
         }
     }
 

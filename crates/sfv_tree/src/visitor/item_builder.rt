@@ -4,10 +4,11 @@ ghost use Rattle.std.specs.Prelude.{◌≡◌, OnOk, OnErr, IsTrue};
 ghost use Rattle.sfv_spec.specs.Values.{RawItem};
 ghost use Rattle.sfv_tree.specs.Trees.{item_tree};
 ghost use Rattle.sfv_tree.specs.Events.{event_of};
-ghost use Rattle.sfv_tree.specs.Builders.{at_head, at_end, item_step, item_place, takes_memory};
+ghost use Rattle.sfv_tree.specs.Builders.{at_head, at_end, item_step, item_place, item_seed, takes_memory};
 ghost use Rattle.sfv_tree.specs.declared.visitor.ItemFault.TheVariants as faults;
 
-use crate::parsed::Item;
+use crate::hash_seed::HashSeed;
+use crate::parsed::{Item, Parameters};
 use crate::visitor::parameters::enter;
 use crate::visitor::{Event, ItemFault, Visitor};
 use sfv_base::error::OutOfMemory;
@@ -20,18 +21,21 @@ use std::alloc::Global;
 #[derive(Drop)]
 pub struct ItemBuilder {
     alloc: Global,
+    seed: HashSeed,
     item: Option<Item>,
     // Whether the item's parameters have ended.
     is_whole: bool,
 }
 
 impl ItemBuilder {
-    /// Returns the builder before any event, which builds with memory from `alloc`.
-    pub fn new(alloc: Global) -> ItemBuilder
-        ensures { item_place result ≡ at_head }
+    /// Returns the builder before any event, which builds with memory from `alloc` and parameters under `seed`.
+    pub fn new(alloc: Global, seed: HashSeed) -> ItemBuilder
+        ensures place { item_place result ≡ at_head }
+        ensures seed { item_seed result ≡ seed }
     {
         ItemBuilder {
             alloc,
+            seed,
             item: None,
             is_whole: false,
         }
@@ -45,7 +49,8 @@ impl ItemBuilder {
         match (&mut self.item, event) {
             (None, Event::BareItem(bare_item)) => {
                 let bare_item = bare_item.try_into_owned(self.alloc)?;
-                self.item = Some(Item::new(self.alloc, bare_item));
+                let params = Parameters::with_hasher(self.alloc, self.seed);
+                self.item = Some(Item::with_params(bare_item, params));
                 self.is_whole = false;
             }
             (Some(item), Event::Parameter(key, value)) if !self.is_whole => {

@@ -3,9 +3,10 @@
 ghost use Rattle.std.specs.Prelude.{◌≡◌, ⊤, IsSome, OnOk, OnErr, IsTrue};
 ghost use Rattle.sfv_tree.specs.Trees.{list_tree};
 ghost use Rattle.sfv_tree.specs.Events.{event_of};
-ghost use Rattle.sfv_tree.specs.Builders.{between, settle, list_step, list_place, list_members};
+ghost use Rattle.sfv_tree.specs.Builders.{between, settle, list_step, list_place, list_seed, list_members};
 ghost use Rattle.sfv_tree.specs.Builders.{has_ended, list_takes_memory, ended_member};
 
+use crate::hash_seed::HashSeed;
 use crate::parsed::{List, ListEntry};
 use crate::visitor::partial_member::PartialMember;
 use crate::visitor::{Event, Visitor};
@@ -27,15 +28,17 @@ pub struct ListBuilder {
 
 impl ListBuilder {
     /// Returns the builder before any event, with the members of `list`, which builds with memory from the list's
-    /// allocator. A further line of the same field is read into the list of the lines before it.
-    pub fn new(list: List) -> ListBuilder
-        ensures { list_place result ≡ between (list_tree list.items) }
+    /// allocator and the parameters of new members under `seed`. A further line of the same field is read into the list
+    /// of the lines before it.
+    pub fn new(list: List, seed: HashSeed) -> ListBuilder
+        ensures place { list_place result ≡ between (list_tree list.items) }
+        ensures seed { list_seed result ≡ seed }
     {
         let alloc = *list.allocator();
         ListBuilder {
             list,
             is_within: false,
-            member: PartialMember::new(alloc),
+            member: PartialMember::new(alloc, seed),
         }
     }
 

@@ -7,8 +7,9 @@ ghost use Rattle.sfv_text.specs.KeyText.{key_text};
 ghost use Rattle.sfv_tree.specs.Trees.{item_tree, member_tree};
 ghost use Rattle.sfv_tree.specs.Events.{event_of};
 ghost use Rattle.sfv_tree.specs.Builders.{begun, member_step, member_place, takes_memory, item_of};
-ghost use Rattle.sfv_tree.specs.Builders.{whole_of, place_after};
+ghost use Rattle.sfv_tree.specs.Builders.{whole_of, place_after, member_seed};
 
+use crate::hash_seed::HashSeed;
 use crate::parsed::{InnerList, Item, ListEntry, Parameters};
 use crate::visitor::Event;
 use crate::visitor::parameters::enter;
@@ -35,19 +36,20 @@ pub(crate) struct PartialMember {
     place: Place,
     // The value of the item that is being read: of the member, or of one of the inner list.
     bare_item: Option<BareItem>,
-    // The parameters of that item.
+    // The parameters of that item, with the seed of all that are made.
     params: Parameters,
     inner: Option<InnerList>,
 }
 
 impl PartialMember {
-    pub(crate) fn new(alloc: Global) -> PartialMember
-        ensures { member_place result ≡ begun }
+    pub(crate) fn new(alloc: Global, seed: HashSeed) -> PartialMember
+        ensures place { member_place result ≡ begun }
+        ensures seed { member_seed result ≡ seed }
     {
         PartialMember {
             place: Place::Begun,
             bare_item: None,
-            params: Parameters::new(alloc),
+            params: Parameters::with_hasher(alloc, seed),
             inner: None,
         }
     }
@@ -87,7 +89,8 @@ impl PartialMember {
         ensures { member_place self.new ≡ member_step (member_place self.old) tree.begins_inner_list }
     {
         if self.bare_item.is_none() && self.inner.is_none() && self.place != Place::Head {
-            self.inner = Some(InnerList::empty(alloc));
+            let params = Parameters::with_hasher(alloc, *self.params.hasher());
+            self.inner = Some(InnerList::with_params(Vec::new(alloc), params));
             self.place = Place::Begun;
         }
     }
@@ -153,7 +156,8 @@ impl PartialMember {
     {
         match self.bare_item.take() {
             Some(bare_item) => {
-                let params = replace(&mut self.params, Parameters::new(alloc));
+                let empty = Parameters::with_hasher(alloc, *self.params.hasher());
+                let params = replace(&mut self.params, empty);
                 Some(Item::with_params(bare_item, params))
             }
             None => None,

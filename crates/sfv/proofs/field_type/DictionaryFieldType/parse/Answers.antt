@@ -9,5 +9,5 @@ use Rattle.sfv.proofs.field_type.DictionaryFieldType.parse.Goals as goal
 pub returns-in-Ok-clause-read : goal.returns-in-Ok-clause-read
 returns-in-Ok-clause-read c =
     built_dictionary (parser_edition c.args.parser) (input_of c.args.parser) c.new-builder.result c.in-Ok.dictionary
-    (c.new-builder.ensures ∙ ap (λ (entries : List (List ℕ × ListEntry)). between_pairs (dictionary_tree entries))
-    c.new.ensures.empty) c.in-Ok.ensures.visited
+    (c.new-builder.ensures.place ∙ ap (λ (entries : List (List ℕ × ListEntry)). between_pairs (dictionary_tree entries))
+    c.with_hasher-dictionary.ensures.empty) c.in-Ok.ensures.visited

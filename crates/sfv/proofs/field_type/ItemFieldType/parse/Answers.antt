@@ -3,5 +3,5 @@ use Rattle.sfv.proofs.built.Items.{built}
 use Rattle.sfv.proofs.field_type.ItemFieldType.parse.Goals as goal
 
 pub returns-in-Ok-clause-read : goal.returns-in-Ok-clause-read
-returns-in-Ok-clause-read c = built (parser_edition c.args.parser) (input_of c.args.parser) c.new.result c.in-Ok.item
-    c.new.ensures c.in-Ok.ensures.visited
+returns-in-Ok-clause-read c = built (parser_edition c.args.parser) (input_of c.args.parser) c.new-builder.result c.in-Ok.item
+    c.new-builder.ensures.place c.in-Ok.ensures.visited

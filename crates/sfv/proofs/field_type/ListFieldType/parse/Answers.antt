@@ -9,5 +9,5 @@ use Rattle.sfv.proofs.field_type.ListFieldType.parse.Goals as goal
 pub returns-in-Ok-clause-read : goal.returns-in-Ok-clause-read
 returns-in-Ok-clause-read c =
     built_list (parser_edition c.args.parser) (input_of c.args.parser) c.new-builder.result c.in-Ok.list
-    (c.new-builder.ensures ∙ ap (λ (members : List ListEntry). between (list_tree members)) c.new.ensures.items)
+    (c.new-builder.ensures.place ∙ ap (λ (members : List ListEntry). between (list_tree members)) c.new.ensures.items)
     c.in-Ok.ensures.visited
