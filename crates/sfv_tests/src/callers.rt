@@ -1,34 +1,20 @@
 //! Callers of the library in another crate: what their contracts promise follows from its contracts alone.
 
-ghost use Rattle.std.specs.Prelude.{◌≡◌, ◌↔◌, pos, neg_ℤ, OnOk, IfOk, IsTrue};
+ghost use Rattle.std.specs.Prelude.{◌≡◌, ◌↔◌, pos, neg_ℤ, IfOk, IsTrue};
 ghost use Rattle.std.specs.Cmp.Lexicographic.{slice_cmp};
 ghost use Rattle.std.specs.Ordering.{nat_cmp, int_cmp};
-ghost use Rattle.sfv.specs.Canonical.{item_text};
 ghost use Rattle.sfv.specs.NumberValues.{integer_of, thousandths_of, seconds_of};
 ghost use Rattle.sfv.specs.BareItems.{bare_value, ref_value, input_value, read_text};
 ghost use Rattle.sfv.specs.KeyText.{key_text};
 ghost use Rattle.sfv.specs.Trees.{item_tree};
 ghost use Rattle.sfv.specs.Values.{integer};
-ghost use Rattle.sfv_uses.specs.Uses.{one_item, Adds};
 
 use sfv::{
     BareItem, BareItemFromInput, Date, Decimal, Error, Integer, Item, KeyRef, RefBareItem,
-    SerializeError, StringFromInput,
+    StringFromInput,
 };
-use sfv_uses::writing::write_item;
 use std::alloc::AllocError;
 use std::cmp::Ordering;
-
-/// Writes an item whose parameter has the same value: a value that borrows its text is copied.
-pub fn write_twice(
-    text: &mut String,
-    value: RefBareItem<'_>,
-    key: KeyRef<'_>,
-) -> Result<(), SerializeError>
-    ensures { OnOk result (Adds text.old text.new (item_text (one_item value.entry key.entry value.entry))) }
-{
-    write_item(text, value, key, value)
-}
 
 /// The least and the greatest integer are of fifteen digits.
 pub fn integers() -> (Integer, Integer)

@@ -9,7 +9,9 @@ use std::hash::BuildHasher;
 use std::test::Fail;
 
 const ITEM: &[u8] = b"1;x";
+
 const LIST: &[u8] = b"1;x, (2;y 3);z, 4, ()";
+
 const DICTIONARY: &[u8] = b"a=1;x, b=(2;y 3);z, c;w, d=4, a=(5;x)";
 
 /// A seed that isn't the library's.
@@ -54,8 +56,7 @@ fn list_has(list: &List, seed: HashSeed) -> bool {
 
 /// Whether a dictionary has it, and all maps of its members.
 fn dictionary_has(dictionary: &Dictionary, seed: HashSeed) -> bool {
-    is_seed(dictionary.hasher(), seed)
-        && dictionary.values().all(|member| member_has(member, seed))
+    is_seed(dictionary.hasher(), seed) && dictionary.values().all(|member| member_has(member, seed))
 }
 
 #[test]

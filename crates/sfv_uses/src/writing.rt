@@ -32,6 +32,17 @@ pub fn write_item(
     Ok(())
 }
 
+/// Writes an item whose parameter has the same value: a value that borrows its text is copied.
+pub fn write_twice(
+    text: &mut String,
+    value: RefBareItem<'_>,
+    key: KeyRef<'_>,
+) -> Result<(), SerializeError>
+    ensures { OnOk result (Adds text.old text.new (item_text (one_item value.entry key.entry value.entry))) }
+{
+    write_item(text, value, key, value)
+}
+
 /// Writes an item of one parameter and reads the text: the same item.
 ///
 /// # Errors
