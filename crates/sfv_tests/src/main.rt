@@ -29,6 +29,8 @@ mod uses;
 #[cfg(test)]
 mod versions;
 #[cfg(test)]
+mod versions_everywhere;
+#[cfg(test)]
 mod visitors;
 #[cfg(test)]
 mod written;

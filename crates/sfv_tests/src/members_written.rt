@@ -172,3 +172,29 @@ fn serializers_of_members_may_be_let_go(rt: HostRuntime) -> Result<(), Fail> {
     assert_eq!(rt; text.as_str(), "1");
     Ok(())
 }
+
+// Where the second allocation fails (`rt try --test --fail-alloc 2`), it is that of the closing parenthesis: the list is
+// then as it was before the inner list began, and goes on.
+#[test]
+fn an_inner_list_is_ended_or_taken_away(rt: HostRuntime) -> Result<(), Fail> {
+    let one: RefBareItem = GenericBareItem::Integer(integer(1));
+    let two: RefBareItem = GenericBareItem::Integer(integer(2));
+    let three: RefBareItem = GenericBareItem::Integer(integer(3));
+    let mut text = String::with_capacity(rt.alloc(), "1, (2".len())?;
+    let mut list = ListSerializer::with_buffer(&mut text);
+    list.bare_item(one)?.finish();
+    let mut inner = list.inner_list()?;
+    let written = put(&mut inner, two);
+    let is_ended = match inner.finish() {
+        Ok(params) => {
+            params.finish();
+            true
+        }
+        Err(_) => false,
+    };
+    list.bare_item(three)?.finish();
+    assert!(rt; written.is_ok());
+    let want = if is_ended { "1, (2), 3" } else { "1, 3" };
+    assert_eq!(rt; list.finish(), Some(want));
+    Ok(())
+}

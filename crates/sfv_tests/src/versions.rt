@@ -6,6 +6,7 @@ use sfv::{
     Date, DictSerializer, Dictionary, FieldType, GenericBareItem, Item, ItemSerializer, List,
     ListSerializer, Parser, RefBareItem, SerializeError, Version, integer, key_ref,
 };
+use sfv_uses::versions::{performed_and_read_for, write_both_for};
 use std::alloc::Global;
 use std::test::Fail;
 
@@ -217,5 +218,30 @@ fn scripts_for_a_version(rt: HostRuntime) -> Result<(), Fail> {
     );
     run_item_for(older, &mut text, &calls(alloc, number(1)))?;
     assert_eq!(rt; text.as_str(), "1");
+    Ok(())
+}
+
+#[test]
+fn callers_write_for_a_version(rt: HostRuntime) -> Result<(), Fail> {
+    let alloc = rt.alloc();
+    let mut text = String::from_str(alloc, "X: ")?;
+    write_both_for(&mut text, Version::Rfc8941, number(1), number(2))?;
+    assert_eq!(rt; text.as_str(), "X: 1, 2");
+    let mut text = String::new(alloc);
+    let refused = write_both_for(&mut text, Version::Rfc8941, number(1), date(2));
+    assert_eq!(rt; refused.err(), Some(DATE));
+    let mut text = String::new(alloc);
+    write_both_for(&mut text, Version::Rfc9651, number(1), date(2))?;
+    assert_eq!(rt; text.as_str(), "1, @2");
+
+    let one = MemberCalls::Item(calls(alloc, number(1)));
+    let two = MemberCalls::Item(calls(alloc, date(2)));
+    let both = vec![in alloc; one, two]?;
+    let refused = performed_and_read_for(alloc, Version::Rfc8941, &both[..]);
+    assert_eq!(rt; refused.err(), Some(DATE));
+    let list = performed_and_read_for(alloc, Version::Rfc8941, &both[..1])?;
+    assert_eq!(rt; list.len(), 1);
+    let list = performed_and_read_for(alloc, Version::Rfc9651, &both[..])?;
+    assert_eq!(rt; list.len(), 2);
     Ok(())
 }
