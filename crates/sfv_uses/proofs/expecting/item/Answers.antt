@@ -7,10 +7,10 @@ use Rattle.sfv_uses.proofs.expecting.item.Goals as goal
 
 pub returns-clause-read : goal.returns-clause-read
 returns-clause-read c = IfOk-weaker c.parse_item.result _ _
-    (λ value h. item_built rfc9651 c.args.input.now h.0 value h.1 h.2)
+    (λ value h. item_built rfc9651 c.args.input.now h.0 value h.1.0 h.2)
     (rw c.new.ensures at c.parse_item.ensures.visited)
 
 pub returns-clause-rejected : goal.returns-clause-rejected
 returns-clause-rejected c = read_failed _ _ _ item_field c.args.input.now (λ e h. h.2.0)
-    (λ f h. item_built_fails h.0 f h.1 (h.2.1 (inl refl))) c.parse_item.result
+    (λ f h. item_built_fails h.0 f h.1.0 (h.2.1 (inl refl))) c.parse_item.result
     (rw c.new.ensures at c.parse_item.ensures.syntax) (rw c.new.ensures at c.parse_item.ensures.visitor)

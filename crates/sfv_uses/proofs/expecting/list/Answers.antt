@@ -6,7 +6,7 @@ use Rattle.sfv_uses.proofs.expecting.list.Goals as goal
 
 pub returns-clause-read : goal.returns-clause-read
 returns-clause-read c = IfOk-weaker c.parse_list.result _ _
-    (λ value h. list_built rfc9651 c.args.input.now h.0 value h.1 h.2)
+    (λ value h. list_built rfc9651 c.args.input.now h.0 value h.1.0 h.2)
     (rw c.new.ensures at c.parse_list.ensures.visited)
 
 pub returns-clause-rejected : goal.returns-clause-rejected
