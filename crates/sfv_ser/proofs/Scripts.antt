@@ -189,7 +189,7 @@ written_behind before now new front piece more e n = n ∙ ap (λ (t : List ℕ)
     ∙ ap (λ (t : List ℕ). before ++ t) (append_assoc front piece more)
 
 -- an inner list that was begun, written and ended
-inner_list_ended : (before t1 t2 t3 t4 front opening : List ℕ) (none : Bool) (items : List RawItem)
+pub inner_list_ended : (before t1 t2 t3 t4 front opening : List ℕ) (none : Bool) (items : List RawItem)
     (params : RawParameters)
     → t1 ≡ before ++ (front ++ opening) → t2 ≡ t1 ++ led none (codes " ") (map item_text items) → none ≡ true
     → t3 ≡ t2 ++ codes ")" → t4 ≡ t3 ++ parameters_text params
