@@ -16,7 +16,7 @@ use Rattle.sfv_spec.specs.Values.{Edition, rfc9651, FieldKind, item_field, list_
 use Rattle.sfv_spec.specs.Values.{RawParameters, RawItem, RawMember, item, inner_list, RawField, HasMember}
 use Rattle.sfv_spec.specs.Events.{TreeEvent, value_in, parameters_events, item_events, inner_item_events, inner_list_end}
 use Rattle.sfv_spec.specs.Events.{member_events, entry_events, keyed_events, bare_values}
-use Rattle.sfv_spec.specs.Calls.{fits_bare, AllFit, IsFirstUnfit, handed_member}
+use Rattle.sfv_spec.specs.Calls.{fits_bare, AllFit, handed_member}
 use Rattle.sfv_ser.specs.declared.script.ParamCall.{ParamCall}
 use Rattle.sfv_ser.specs.declared.script.ItemCalls.{ItemCalls}
 use Rattle.sfv_ser.specs.declared.script.MemberCalls.{MemberCalls}
