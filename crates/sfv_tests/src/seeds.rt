@@ -119,12 +119,6 @@ fn copies_have_the_seed_of_what_is_copied(rt: HostRuntime) -> Result<(), Fail> {
     assert!(rt; list_has(&list.clone()?, seed()));
     let dictionary = parser(DICTIONARY).parse::<Dictionary>(alloc)?;
     assert!(rt; dictionary_has(&dictionary.clone()?, seed()));
-    for member in dictionary.values() {
-        assert!(rt; member_has(&member.clone()?, seed()));
-        if let ListEntry::InnerList(list) = member {
-            assert!(rt; inner_list_has(&list.clone()?, seed()));
-        }
-    }
     Ok(())
 }
 
