@@ -2,8 +2,8 @@
 
 use sfv::visitor::{DictionaryBuilder, ItemBuilder, ListBuilder};
 use sfv::{
-    BareItem, Dictionary, HashSeed, InnerList, Item, KeyRef, List, ListEntry, Parameters, Parser,
-    Version, dictionary, insert_entry, insert_param, parameters,
+    Dictionary, HashSeed, InnerList, Item, KeyRef, List, ListEntry, Parameters, Parser, Version,
+    parameters,
 };
 use std::hash::BuildHasher;
 use std::test::Fail;
@@ -119,38 +119,6 @@ fn copies_have_the_seed_of_what_is_copied(rt: HostRuntime) -> Result<(), Fail> {
     assert!(rt; list_has(&list.clone()?, seed()));
     let dictionary = parser(DICTIONARY).parse::<Dictionary>(alloc)?;
     assert!(rt; dictionary_has(&dictionary.clone()?, seed()));
-    Ok(())
-}
-
-#[test]
-fn maps_keep_their_seed_as_they_grow(rt: HostRuntime) -> Result<(), Fail> {
-    let alloc = rt.alloc();
-    let mut item = parser(ITEM).parse::<Item>(alloc)?;
-    let mut dictionary = parser(DICTIONARY).parse::<Dictionary>(alloc)?;
-    for n in 0..100u8 {
-        let text = format!(in alloc; "k{n}")?;
-        let key = KeyRef::from_str(text.as_str())?;
-        insert_param(&mut item.params, key.to_owned(alloc)?, BareItem::from(n))?;
-        let member = ListEntry::from(item.clone()?);
-        insert_entry(&mut dictionary, key.to_owned(alloc)?, member)?;
-    }
-    assert_eq!(rt; item.params.len(), 101);
-    assert!(rt; item_has(&item, seed()));
-    assert_eq!(rt; dictionary.len(), 104);
-    assert!(rt; dictionary_has(&dictionary, seed()));
-    Ok(())
-}
-
-#[test]
-fn values_that_are_made_have_the_seed_of_the_library(rt: HostRuntime) -> Result<(), Fail> {
-    let alloc = rt.alloc();
-    let known = HashSeed::default();
-    assert!(rt; item_has(&Item::new(alloc, BareItem::from(1u8)), known));
-    assert!(rt; inner_list_has(&InnerList::new(alloc, Vec::new(alloc)), known));
-    assert!(rt; inner_list_has(&InnerList::empty(alloc), known));
-    assert!(rt; dictionary_has(&dictionary(alloc), known));
-    assert!(rt; is_seed(parameters(alloc).hasher(), known));
-    assert!(rt; list_has(&Parser::new(LIST).parse::<List>(alloc)?, known));
     Ok(())
 }
 
