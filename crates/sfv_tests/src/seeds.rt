@@ -5,6 +5,7 @@ use sfv::{
     Dictionary, HashSeed, InnerList, Item, KeyRef, List, ListEntry, Parameters, Parser, Version,
     parameters,
 };
+use std::alloc::AllocError;
 use std::hash::BuildHasher;
 use std::test::Fail;
 
@@ -110,15 +111,38 @@ fn what_is_built_has_the_seed_of_its_builder(rt: HostRuntime) -> Result<(), Fail
     Ok(())
 }
 
+/// Whether the maps of a copy of an item have this seed.
+fn copy_of_item_has(item: &Item, seed: HashSeed) -> Result<bool, AllocError> {
+    let copy = item.clone()?;
+    Ok(item_has(&copy, seed))
+}
+
+/// Whether the maps of a copy of a list have it.
+fn copy_of_list_has(list: &List, seed: HashSeed) -> Result<bool, AllocError> {
+    let copy = list.clone()?;
+    Ok(list_has(&copy, seed))
+}
+
+/// Whether the maps of a copy of a dictionary have it.
+fn copy_of_dictionary_has(dictionary: &Dictionary, seed: HashSeed) -> Result<bool, AllocError> {
+    let copy = dictionary.clone()?;
+    Ok(dictionary_has(&copy, seed))
+}
+
 #[test]
-fn copies_have_the_seed_of_what_is_copied(rt: HostRuntime) -> Result<(), Fail> {
+fn copies_of_items_and_lists_have_their_seed(rt: HostRuntime) -> Result<(), Fail> {
     let alloc = rt.alloc();
     let item = parser(ITEM).parse::<Item>(alloc)?;
-    assert!(rt; item_has(&item.clone()?, seed()));
+    assert!(rt; copy_of_item_has(&item, seed())?);
     let list = parser(LIST).parse::<List>(alloc)?;
-    assert!(rt; list_has(&list.clone()?, seed()));
-    let dictionary = parser(DICTIONARY).parse::<Dictionary>(alloc)?;
-    assert!(rt; dictionary_has(&dictionary.clone()?, seed()));
+    assert!(rt; copy_of_list_has(&list, seed())?);
+    Ok(())
+}
+
+#[test]
+fn copies_of_dictionaries_have_their_seed(rt: HostRuntime) -> Result<(), Fail> {
+    let dictionary = parser(DICTIONARY).parse::<Dictionary>(rt.alloc())?;
+    assert!(rt; copy_of_dictionary_has(&dictionary, seed())?);
     Ok(())
 }
 
