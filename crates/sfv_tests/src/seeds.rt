@@ -178,9 +178,9 @@ fn keys_that_fall_together_are_ordinary_under_another_seed(rt: HostRuntime) -> R
             key[at + 1] = b'a' + letter as u8;
         }
         if place(known, &key)? == first {
-            found += 1;
+            found = found.saturating_add(1);
             if place(seed(), &key)? == other {
-                together += 1;
+                together = together.saturating_add(1);
             }
         }
     }
