@@ -312,7 +312,7 @@ mod tests {
                 let Ok(mut text) = StdString::from_str(&heap, "X: ") else {
                     continue;
                 };
-                let written = append(parameter("a-key", *value), &mut text);
+                let written = append(parameter(key_ref("a-key"), *value), &mut text);
                 if out_of_memory(&rt, written, text.as_str(), behind.as_str()) {
                     was_out_of_memory = true;
                 } else {
@@ -350,8 +350,7 @@ mod tests {
         Ok(())
     }
 
-    fn parameter<'a>(name: &'static str, value: RefBareItem<'a>) -> Parameter<'a> {
-        let name = key_ref(name);
+    fn parameter<'a>(name: KeyRef<'a>, value: RefBareItem<'a>) -> Parameter<'a> {
         Parameter {
             named: Named { name, value },
         }
@@ -469,7 +468,7 @@ mod tests {
 
         let mut text = StdString::from_str(&heap, "X: a")?;
         let fillers = fill(rt.alloc(), &heap)?;
-        assert!(rt; append(parameter("b", two), &mut text).is_err());
+        assert!(rt; append(parameter(key_ref("b"), two), &mut text).is_err());
         assert_eq!(rt; text.as_str(), "X: a");
         drop(fillers);
         append(
