@@ -153,8 +153,8 @@ pub item_fails : {S O E : Type 0} (takes : S → TreeEvent → S → Type 0) (fa
     → VisitsAnswer takes fails item_events k after from to (Err error) (item_at edition r)
     → VisitsField takes fails finishes finish_fails edition item_field (kept_input k) from (Err error)
 item_fails takes fails finishes finish_fails edition k s r from to after (Syntax e) skipped h = (
-  field_error edition (kept_input k) s r (kept_input k) e skipped h,
-  λ raw q whole. no_item takes finishes edition (kept_input k) s r q from (kept_input k) e raw skipped h whole,
+  field_error edition (kept_input k) s r (kept_input k) e skipped h.0,
+  λ raw q whole. no_item takes finishes edition (kept_input k) s r q from (kept_input k) e raw skipped h.0 whole,
 )
 item_fails takes fails finishes finish_fails edition k s r from to after (Visitor f) skipped h =
     inl (whole_failed takes fails edition (kept_input k) s r from f skipped h)
@@ -183,7 +183,7 @@ pub field_fails : {S O E : Type 0} (takes : S → TreeEvent → S → Type 0) (f
     → VisitsField takes fails finishes finish_fails edition kind (kept_input k) from (Err error)
 field_fails {S} {O} takes fails finishes finish_fails edition kind k from to after (Visitor f) h = inl h
 field_fails {S} {O} takes fails finishes finish_fails edition kind k from to after (Syntax e) h =
-    (on (index_of e) h, λ raw q whole. never raw q whole (index_of e) h)
+    (on (index_of e) h.0, λ raw q whole. never raw q whole (index_of e) h.0)
   where
     t : List ℕ
     t = kept_input k
