@@ -1,6 +1,6 @@
 -- Values that are looked at one after another.
 use Rattle.std.proofs.Common.{Bool, true, ◌≡◌, ℕ, zero, suc, ◌+◌, ◌<◌, List, [], ◌∷◌, ◌++◌, length, get_or, map, take, refl, sym, ap}
-use Rattle.std.proofs.Common.{false, subst, ◌∙◌, append_assoc, Result, Ok, Err, inl, inr, arith}
+use Rattle.std.proofs.Common.{false, subst, ◌∙◌, append_assoc, length-append, Result, Ok, Err, inl, inr, arith}
 use Rattle.std.specs.Prelude.{⊤, Option, Some, None, flat_map, filter_map, MatchResult, IsErrAnd}
 use Rattle.std.specs.Borrow.{Bor}
 use Rattle.std.specs.Iterator.{Yields}
@@ -84,8 +84,10 @@ at_exit r e P Q exit h = let p = err_from_is_err_and r exit in rw (p.1, p.2) h
 -- RFC 9651 has every value
 pub newer_fails : {S A : Type 0} (steps : S → Option A → S → Type 0) (s : S) (values : List A → List BareValue)
     (e : SerializeError) → FailsAmong steps s values rfc9651 e → e ≡ errors.OutOfMemory
-newer_fails steps s values e (inl is) = is
-newer_fails steps s values e (inr h) = absurd (newer_has_all (values h.0) h.3.0 h.3.1)
+newer_fails steps s values e h = elim h.4 [
+  | inl k ↦ k.0
+  | inr k ↦ absurd (newer_has_all (values h.0) k.0 k.1)
+]
 
 -- ---- each of a list
 
@@ -105,6 +107,10 @@ module _ {A : Type 0} (edition : Edition) (values : A → List BareValue) where
       (names_behind edition (flat_map values front) (values x ++ flat_map values rest) e h
       (names_front edition (values x) (flat_map values rest) e k))
 
+-- with one more there is one
+not_none : {A : Type 0} (xs : List A) (x : A) → 0 < length (xs ++ x ∷ [])
+not_none xs x = omega (arith, length-append xs (x ∷ []))
+
 -- what an iterator gave, and then a value that doesn't fit
 pub fails_among : {S A T : Type 0} (steps : S → Option A → S → Type 0) (edition : Edition) (values : A → List BareValue)
     (all : List A → List BareValue) → ((xs : List A) → flat_map values xs ≡ all xs) → (s t u : S) (xs : List A) (x : A)
@@ -113,12 +119,29 @@ pub fails_among : {S A T : Type 0} (steps : S → Option A → S → Type 0) (ed
     → MatchResult r (λ _. ⊤) (FailsAmong steps s all edition)
 fails_among steps edition values all same s t u xs x r e exit ran step fit names =
     let fit' : AllFit edition (flat_map values xs) = subst (AllFit edition) (sym (same xs)) fit in
-    at_exit r e _ _ exit (inr (
+    at_exit r e _ _ exit (
       xs ++ x ∷ [],
       u,
       Yields-more steps s xs t x u ran step,
-      subst (λ bs. NamesFirst edition bs e) (same (xs ++ x ∷ [])) (each_stops edition values xs x [] e fit' names),
-    ))
+      not_none xs x,
+      inr (subst (λ bs. NamesFirst edition bs e) (same (xs ++ x ∷ [])) (each_stops edition values xs x [] e fit' names)),
+    )
+
+-- what an iterator gave, of which all values fit, and then no memory for the last
+pub memory_among : {S A T : Type 0} (steps : S → Option A → S → Type 0) (edition : Edition) (values : A → List BareValue)
+    (all : List A → List BareValue) → ((xs : List A) → flat_map values xs ≡ all xs) → (s t u : S) (xs : List A) (x : A)
+    (r : Result T SerializeError) → IsErrAnd r (λ y. y ≡ errors.OutOfMemory) → Yields steps s xs t
+    → steps t (Some x) u → AllFit edition (all xs) → AllFit edition (values x)
+    → MatchResult r (λ _. ⊤) (FailsAmong steps s all edition)
+memory_among steps edition values all same s t u xs x r exit ran step fit last =
+    let fit' : AllFit edition (flat_map values xs) = subst (AllFit edition) (sym (same xs)) fit in
+    at_exit r errors.OutOfMemory _ _ exit (
+      xs ++ x ∷ [],
+      u,
+      Yields-more steps s xs t x u ran step,
+      not_none xs x,
+      inl (refl, subst (AllFit edition) (same (xs ++ x ∷ [])) (each_more edition values xs x fit' last)),
+    )
 
 -- a list at one of its places
 split_at : {A : Type 0} (xs : List A) (n : ℕ) (x : A) → n < length xs → x ≡ get_or xs n x
@@ -225,6 +248,17 @@ memory_fails edition values r exit h = at_exit r errors.OutOfMemory _ _ exit (in
 not_of_none : {A : Type 0} (xs : List A) (y : A) (ys : List A) → ¬ ([] ≡ xs ++ y ∷ ys)
 not_of_none [] y ys = λ e. cc
 not_of_none (x ∷ xs) y ys = λ e. cc
+
+-- calls of which a value doesn't fit are not none
+pub named_list : (edition : Edition) (calls : List MemberCalls) (e : SerializeError)
+    → NamesFirst edition (bare_values list_field (handed_list calls)) e → 0 < length calls
+named_list edition [] e h = absurd (not_of_none h.1.before h.0 h.1.after h.1.split)
+named_list edition (c ∷ cs) e h = omega arith
+
+pub named_dictionary : (edition : Edition) (calls : List (KeyRef × MemberCalls)) (e : SerializeError)
+    → NamesFirst edition (bare_values dictionary_field (handed_dictionary calls)) e → 0 < length calls
+named_dictionary edition [] e h = absurd (not_of_none h.1.before h.0 h.1.after h.1.split)
+named_dictionary edition (c ∷ cs) e h = omega arith
 
 -- what has a value that doesn't fit has a member
 pub named_has_member : (edition : Edition) (kind : FieldKind) (raw : RawField kind) (e : SerializeError)
