@@ -44,6 +44,12 @@ FailsAmong {S} {A} steps from values edition error =
     (taken : List A) × (rest : S) × Yields steps from taken rest × (0 < length taken)
     × IsSerializeError edition (values taken) error
 
+-- the same, where values stand in front of what the iterator gives, which may be nothing
+abbrev pub FailsBehind : {S A : Type 0} → (S → Option A → S → Type 0) → S → (List A → List BareValue) → Edition
+    → SerializeError → Type 0
+FailsBehind {S} {A} steps from values edition error =
+    (taken : List A) × (rest : S) × Yields steps from taken rest × IsSerializeError edition (values taken) error
+
 -- the values of parameters, of an item and of a member, in the order of a text
 abbrev pub values_of_parameters : RawParameters → List BareValue
 values_of_parameters parameters = map (λ p. p.1) parameters
