@@ -6,7 +6,6 @@ use Rattle.sfv_spec.specs.Values.{Edition, FieldKind, item_field, list_field, di
 use Rattle.sfv_spec.specs.Events.{TreeEvent, bare_item, events}
 use Rattle.sfv_spec.specs.Visiting.{RunsTo, IsVisited}
 use Rattle.sfv_base.specs.declared.error.Error.{Error}
-use Rattle.sfv_base.specs.declared.error.ErrorKind.TheVariants.{OutOfMemory}
 use Rattle.sfv_base.specs.declared.error.ParseError.{ParseError}
 use Rattle.sfv_base.specs.declared.error.ParseError.TheVariants.{Syntax, Visitor}
 use Rattle.sfv_base.specs.Errors.{kind_of, index_of}
@@ -18,6 +17,7 @@ use Rattle.sfv.specs.declared.parser.Parser.{Parser}
 use Rattle.sfv.specs.declared.parser.cursor.Cursor.{Cursor}
 use Rattle.sfv.specs.Cursor.{kept, kept_input, edition, rest, IsErrorOf}
 use Rattle.sfv.specs.Fields.{located_whole}
+use Rattle.sfv.specs.Memory.{IsRefusal}
 
 -- An error with an index comes after the visitor has taken all events that the reader gives.
 abbrev pub TookAll : {A S : Type 0} → (S → TreeEvent → S → Type 0) → (A → List TreeEvent) → Error → Answer A → S → S
@@ -76,7 +76,7 @@ abbrev pub VisitsField : {S O E : Type 0} → (S → TreeEvent → S → Type 0)
 VisitsField takes fails finishes finish_fails edition kind t from (Ok out) = (raw : RawField kind)
     × (read_field edition kind t ≡ Ok raw) × IsVisited takes finishes from (events kind raw) out
 VisitsField takes fails finishes finish_fails edition kind t from (Err (Syntax e)) =
-    MatchOption (index_of e) (kind_of e ≡ OutOfMemory)
+    MatchOption (index_of e) (IsRefusal t e)
     (λ index. (located_whole (read_field edition kind t) ≡ Err (kind_of e, drop index t)) × (index ≤ length t))
     × IsFinishedAt takes finishes edition kind t from e
 VisitsField {S} takes fails finishes finish_fails edition kind t from (Err (Visitor f)) =

@@ -10,7 +10,7 @@ use Rattle.sfv_spec.specs.Visiting.{RunsTo}
 use Rattle.sfv_spec.specs.Faults.{trailing_comma, unterminated_inner_list}
 use Rattle.sfv_base.specs.declared.error.Error.{Error}
 use Rattle.sfv_base.specs.declared.error.ErrorKind.{ErrorKind}
-use Rattle.sfv_base.specs.declared.error.ErrorKind.TheVariants.{OutOfMemory, UnterminatedInnerList}
+use Rattle.sfv_base.specs.declared.error.ErrorKind.TheVariants.{UnterminatedInnerList}
 use Rattle.sfv_base.specs.Errors.{kind_of, index_of, error_of}
 use Rattle.sfv_reading.specs.Judgements.{Reached, Sound, Mute, Quiet}
 use Rattle.sfv_reading.specs.Reader.{Answer, Reader, Fault, behind_events, visited, and_then, bind, ◌>>=◌}
@@ -30,6 +30,7 @@ use Rattle.sfv.specs.Members.{item_delimiter_at, member_delimiter_at}
 use Rattle.sfv.specs.Visits.{TookAll}
 use Rattle.sfv.proofs.reads.Errors.{ErrorOf-here}
 use Rattle.sfv.proofs.reads.Delimiters.{items_none}
+use Rattle.sfv.specs.Memory.{IsRefusal}
 
 -- one run after another
 pub runs_on : {S : Type 0} (takes : S → TreeEvent → S → Type 0) (es fs : List TreeEvent) (from middle to : S)
@@ -45,9 +46,9 @@ pub took_behind : {A B S : Type 0} (takes : S → TreeEvent → S → Type 0) (p
 took_behind {A} {B} takes parts whole i e a b front from middle to step run h = on (index_of e) a step h
   where
     on : (o : Option ℕ) (a : Answer A) → ((f : Fault) → a ≡ Err f → b ≡ Err (behind_events front f))
-        → MatchOption o (kind_of e ≡ OutOfMemory) (λ index. (located a ≡ Err (kind_of e, drop index i))
+        → MatchOption o (IsRefusal i e) (λ index. (located a ≡ Err (kind_of e, drop index i))
         × (index ≤ length i)) × MatchOption o ⊤ (λ index. Visited takes parts a middle to)
-        → MatchOption o (kind_of e ≡ OutOfMemory) (λ index. (located b ≡ Err (kind_of e, drop index i))
+        → MatchOption o (IsRefusal i e) (λ index. (located b ≡ Err (kind_of e, drop index i))
         × (index ≤ length i)) × MatchOption o ⊤ (λ index. Visited takes whole b from to)
     on None a step h = h
     on (Some n) (Ok x) step h = let w = h.0.0 in absurd cc
@@ -86,9 +87,9 @@ pub took_none : {A S : Type 0} (takes : S → TreeEvent → S → Type 0) (parts
 took_none {A} takes parts i e a from quiet h = on (index_of e) a quiet h
   where
     on : (o : Option ℕ) (a : Answer A) → IsQuiet a
-        → MatchOption o (kind_of e ≡ OutOfMemory) (λ index. (located a ≡ Err (kind_of e, drop index i))
+        → MatchOption o (IsRefusal i e) (λ index. (located a ≡ Err (kind_of e, drop index i))
         × (index ≤ length i))
-        → MatchOption o (kind_of e ≡ OutOfMemory) (λ index. (located a ≡ Err (kind_of e, drop index i))
+        → MatchOption o (IsRefusal i e) (λ index. (located a ≡ Err (kind_of e, drop index i))
         × (index ≤ length i)) × MatchOption o ⊤ (λ index. Visited takes parts a from from)
     on None a quiet h = (h, tt)
     on (Some n) (Ok x) quiet h = let w = h.0 in absurd cc
