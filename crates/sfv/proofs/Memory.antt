@@ -25,7 +25,7 @@ use Rattle.sfv_tree.specs.declared.visitor.ItemFault.TheVariants as faults
 use Rattle.sfv_tree.specs.declared.visitor.item_builder.ItemBuilder.{ItemBuilder}
 use Rattle.sfv_tree.specs.declared.visitor.list_builder.ListBuilder.{ListBuilder}
 use Rattle.sfv_tree.specs.declared.visitor.dictionary_builder.DictionaryBuilder.{DictionaryBuilder}
-use Rattle.sfv.specs.Memory.{HoldsMore, NeedsMark}
+use Rattle.sfv.specs.Memory.{HasMoreThanSpaces, NeedsMark}
 use Rattle.sfv.specs.Parsers.{IsVisitorErrorOf, VisitsFirst}
 use Rattle.sfv.specs.Visits.{VisitsField}
 
@@ -39,7 +39,7 @@ first_in c t = Contains-get_or (c ∷ t) 0 0 (omega arith)
 other_than_space : (c : ℕ) → is_space c ≡ false → ¬ (c ≡ space)
 other_than_space c h same = true≢false (subst (λ (x : ℕ). is_space x ≡ false) same h)
 
-more_or_spaces : (t : List ℕ) → HoldsMore t ⊎ RunOf is_space t
+more_or_spaces : (t : List ℕ) → HasMoreThanSpaces t ⊎ RunOf is_space t
 more_or_spaces [] = inr refl
 more_or_spaces (c ∷ t) = elim (cases_Bool (is_space c)) [
   | inl e ↦ elim (more_or_spaces t) [
@@ -58,7 +58,7 @@ pub failed_more : {S E : Type 0} (takes : S → TreeEvent → S → Type 0) (fai
     (finish_fails : S → E → Type 0) (edition : Edition) (kind : FieldKind) (t : List ℕ) (from : S) (fault : E)
     (raw : RawField kind) → (RunOf is_space t → IsFieldText edition kind raw t) → events kind raw ≡ []
     → ((s : S) → finish_fails s fault → ⊥)
-    → IsVisitorErrorOf takes fails finish_fails edition kind t from (Visitor fault) → HoldsMore t
+    → IsVisitorErrorOf takes fails finish_fails edition kind t from (Visitor fault) → HasMoreThanSpaces t
 failed_more {S} {E} takes fails finish_fails edition kind t from fault raw empty none never h =
     elim (more_or_spaces t) [
       | inl more ↦ more
@@ -70,10 +70,10 @@ failed_more {S} {E} takes fails finish_fails edition kind t from fault raw empty
     on (inl x) = no_parts x.0 x.1 x.2 x.4
     on (inr x) = never x.0 x.2
 
-front_more : (front : List ℕ) (v : BareValue) (edition : Edition) → IsBareText edition v front → HoldsMore front
+front_more : (front : List ℕ) (v : BareValue) (edition : Edition) → IsBareText edition v front → HasMoreThanSpaces front
 front_more front v edition h = on front (bare_begins edition v front h)
   where
-    on : (front : List ℕ) → begins is_bare_start front ≡ true → HoldsMore front
+    on : (front : List ℕ) → begins is_bare_start front ≡ true → HasMoreThanSpaces front
     on [] h = absurd (true≢false (sym h))
     on (c ∷ a) h = (
       c,
@@ -84,7 +84,7 @@ front_more front v edition h = on front (bare_begins edition v front h)
 -- a bare item stands first
 pub first_more : {S E : Type 0} (takes : S → TreeEvent → S → Type 0) (fails : S → TreeEvent → E → Type 0)
     (finish_fails : S → E → Type 0) (edition : Edition) (t : List ℕ) (from : S) (fault : E)
-    → VisitsFirst takes fails finish_fails edition t from (Visitor fault) → HoldsMore t
+    → VisitsFirst takes fails finish_fails edition t from (Visitor fault) → HasMoreThanSpaces t
 first_more takes fails finish_fails edition t from fault h =
     let bare = h.1.first in
     let more = front_more bare.front h.0.bare edition bare.means in (
@@ -107,7 +107,7 @@ abbrev ItemEndFails : ItemBuilder → ItemFault → Type 0
 ItemEndFails s fault = (fault ≡ faults.NoItem) × ((i : RawItem) → ¬ (item_place s ≡ at_end i))
 
 pub item_more : (edition : Edition) (t : List ℕ) (from : ItemBuilder) (fault : ItemFault)
-    → VisitsFirst ItemSteps ItemFails ItemEndFails edition t from (Visitor fault) → HoldsMore t
+    → VisitsFirst ItemSteps ItemFails ItemEndFails edition t from (Visitor fault) → HasMoreThanSpaces t
 item_more edition t from fault h = first_more ItemSteps ItemFails ItemEndFails edition t from fault h
 
 abbrev ListSteps : ListBuilder → TreeEvent → ListBuilder → Type 0
@@ -117,7 +117,7 @@ abbrev ListFails : ListBuilder → TreeEvent → OutOfMemory → Type 0
 ListFails s e fault = IsTrue (list_takes_memory (list_place s) e)
 
 pub list_more : (edition : Edition) (t : List ℕ) (from : ListBuilder) (fault : OutOfMemory)
-    → IsVisitorErrorOf ListSteps ListFails (λ _ _. ⊥) edition list_field t from (Visitor fault) → HoldsMore t
+    → IsVisitorErrorOf ListSteps ListFails (λ _ _. ⊥) edition list_field t from (Visitor fault) → HasMoreThanSpaces t
 list_more edition t from fault h = failed_more ListSteps ListFails (λ _ _. ⊥) edition list_field t from fault []
     (λ blank. blank) refl (λ s never. never) h
 
@@ -129,7 +129,7 @@ DictionaryFails s e fault = IsTrue (dictionary_takes_memory (dictionary_place s)
 
 pub dictionary_more : (edition : Edition) (t : List ℕ) (from : DictionaryBuilder) (fault : OutOfMemory)
     → IsVisitorErrorOf DictionarySteps DictionaryFails (λ _ _. ⊥) edition dictionary_field t from (Visitor fault)
-    → HoldsMore t
+    → HasMoreThanSpaces t
 dictionary_more edition t from fault h = failed_more DictionarySteps DictionaryFails (λ _ _. ⊥) edition dictionary_field
     t from fault [] (λ blank. blank) refl (λ s never. never) h
 

@@ -13,8 +13,8 @@ abbrev pub HoldsMark : List ℕ → Type 0
 HoldsMark t = Contains t backslash ⊎ (Contains t percent_sign ⊎ Contains t colon)
 
 -- a byte that isn't a space stands in the text
-abbrev pub HoldsMore : List ℕ → Type 0
-HoldsMore t = (c : ℕ) × Contains t c × ¬ (c ≡ space)
+abbrev pub HasMoreThanSpaces : List ℕ → Type 0
+HasMoreThanSpaces t = (c : ℕ) × Contains t c × ¬ (c ≡ space)
 
 -- the error is want of memory only of a text with such a mark
 abbrev pub NeedsMark : {E : Type 0} → List ℕ → ParseError E → Type 0
@@ -22,8 +22,8 @@ NeedsMark t (parse_errors.Syntax e) = e ≡ out_of_memory → HoldsMark t
 NeedsMark t (parse_errors.Visitor fault) = ⊤
 
 -- the error is want of memory only of a text with more than spaces
-abbrev pub NeedsMore : List ℕ → Error → Type 0
-NeedsMore t e = e ≡ out_of_memory → HoldsMore t
+abbrev pub NeedsMoreThanSpaces : List ℕ → Error → Type 0
+NeedsMoreThanSpaces t e = e ≡ out_of_memory → HasMoreThanSpaces t
 
 -- memory was refused, of a text with such a mark
 abbrev pub IsRefusal : List ℕ → Error → Type 0

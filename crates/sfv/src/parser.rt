@@ -44,7 +44,7 @@ impl<'de> Parser<'de> {
     ghost use Rattle.sfv.specs.Parsers.{parser_of, input_of, parser_edition, IsParseError, IsAnswerBy, IsSyntaxBy};
     ghost use Rattle.sfv.specs.Parsers.{IsVisitorErrorBy, VisitsAcceptedBy, VisitsFirstBy, OfMade};
     ghost use Rattle.sfv.specs.Parsers.{ReadsBy, ReadsItemBy};
-    ghost use Rattle.sfv.specs.Memory.{NeedsMark, NeedsMore};
+    ghost use Rattle.sfv.specs.Memory.{NeedsMark, NeedsMoreThanSpaces};
 
     /// Reads this input, under RFC 9651 and the library's seed.
     pub fn new(input: &'de [u8]) -> Parser<'de>
@@ -98,7 +98,7 @@ impl<'de> Parser<'de> {
         ensures read { IfOk result
             (λ value. IsParsedAs (parser_edition self.entry) T.kind (input_of self.entry) (T.tree value)) }
         ensures rejected { IfErr result (IsParseError (parser_edition self.entry) T.kind (input_of self.entry)) }
-        ensures memory { IfErr result (NeedsMore (input_of self.entry)) }
+        ensures memory { IfErr result (NeedsMoreThanSpaces (input_of self.entry)) }
     {
         T::parse(alloc, self)
     }
