@@ -15,6 +15,8 @@ mod further_lines;
 #[cfg(test)]
 mod given;
 #[cfg(test)]
+mod long;
+#[cfg(test)]
 mod members_written;
 mod positions;
 mod replay;
