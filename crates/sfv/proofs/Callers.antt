@@ -50,7 +50,7 @@ pub use Rattle.sfv_spec.proofs.Runs.{runs_fold, entry_in, keys_in_events, entrie
 pub use Rattle.sfv_spec.proofs.Kept.{last_kept, fold_members, fold_parameters, idle_within}
 pub use Rattle.sfv_spec.proofs.Runs.{IsInside, member_inside}
 -- what a visitor that expects one bare item says of the field
-pub use Rattle.sfv.proofs.Expected.{expect_answers, expect_fails, expect_first, expect_only}
+pub use Rattle.sfv.proofs.Expected.{expect_answers, expect_fails, expect_first, expect_only, expect_read}
 -- an accepted item has the bare item that stands first in its text
 pub use Rattle.sfv.proofs.visits.First.{begins_with_its}
 -- what the builders answer is the value of the text

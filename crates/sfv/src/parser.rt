@@ -42,7 +42,7 @@ pub struct Parser<'de> {
 
 impl<'de> Parser<'de> {
     ghost use Rattle.sfv.specs.Parsers.{parser_of, input_of, parser_edition, IsParseError, IsAnswerBy, IsSyntaxBy};
-    ghost use Rattle.sfv.specs.Parsers.{IsVisitorErrorBy, VisitsAcceptedBy, VisitsFirstBy, OfMade};
+    ghost use Rattle.sfv.specs.Parsers.{IsVisitorErrorBy, VisitsAcceptedBy, VisitsFirstBy, AnswersAsReadBy, OfMade};
 
     /// Reads this input, under RFC 9651 and the library's seed.
     pub fn new(input: &'de [u8]) -> Parser<'de>
@@ -122,6 +122,8 @@ impl<'de> Parser<'de> {
         ensures accepted { OfMade (T.is_made self.entry.seed)
             (VisitsAcceptedBy T.Visitor.Visitor self.entry item_field) result }
         ensures first { IfErr result (OfMade (T.is_made self.entry.seed) (VisitsFirstBy T.Visitor.Visitor self.entry)) }
+        ensures lent { IfOk result
+            (OfMade (T.is_made self.entry.seed) (AnswersAsReadBy T.Visitor.Visitor self.entry)) }
     {
         let visitor = T::make_item_visitor(alloc, self.seed);
         self.parse_item_with_visitor(alloc, visitor)
@@ -199,6 +201,7 @@ impl<'de> Parser<'de> {
         ensures visitor { IfErr result (IsVisitorErrorBy V.Visitor self.entry item_field visitor) }
         ensures accepted { VisitsAcceptedBy V.Visitor self.entry item_field visitor result }
         ensures first { IfErr result (VisitsFirstBy V.Visitor self.entry visitor) }
+        ensures lent { IfOk result (AnswersAsReadBy V.Visitor self.entry visitor) }
     {
         parse_item_field(self, alloc, visitor)
     }
