@@ -43,6 +43,8 @@ pub struct Parser<'de> {
 impl<'de> Parser<'de> {
     ghost use Rattle.sfv.specs.Parsers.{parser_of, input_of, parser_edition, IsParseError, IsAnswerBy, IsSyntaxBy};
     ghost use Rattle.sfv.specs.Parsers.{IsVisitorErrorBy, VisitsAcceptedBy, VisitsFirstBy, AnswersAsReadBy, OfMade};
+    ghost use Rattle.sfv.specs.Parsers.{ReadsBy, ReadsItemBy};
+    ghost use Rattle.sfv.specs.Memory.{NeedsMark, NeedsMore};
 
     /// Reads this input, under RFC 9651 and the library's seed.
     pub fn new(input: &'de [u8]) -> Parser<'de>
@@ -96,6 +98,7 @@ impl<'de> Parser<'de> {
         ensures read { IfOk result
             (λ value. IsParsedAs (parser_edition self.entry) T.kind (input_of self.entry) (T.tree value)) }
         ensures rejected { IfErr result (IsParseError (parser_edition self.entry) T.kind (input_of self.entry)) }
+        ensures memory { IfErr result (NeedsMore (input_of self.entry)) }
     {
         T::parse(alloc, self)
     }
@@ -113,17 +116,7 @@ impl<'de> Parser<'de> {
         self,
         alloc: Global,
     ) -> Result<T, ParseError<<T::Visitor as Visitor<'de>>::Error>>
-        ensures visited { IfOk result
-            (OfMade (T.is_made self.entry.seed) (IsAnswerBy T.Visitor.Visitor self.entry item_field)) }
-        ensures syntax { IfErr result
-            (OfMade (T.is_made self.entry.seed) (IsSyntaxBy T.Visitor.Visitor self.entry item_field)) }
-        ensures visitor { IfErr result
-            (OfMade (T.is_made self.entry.seed) (IsVisitorErrorBy T.Visitor.Visitor self.entry item_field)) }
-        ensures accepted { OfMade (T.is_made self.entry.seed)
-            (VisitsAcceptedBy T.Visitor.Visitor self.entry item_field) result }
-        ensures first { IfErr result (OfMade (T.is_made self.entry.seed) (VisitsFirstBy T.Visitor.Visitor self.entry)) }
-        ensures lent { IfOk result
-            (OfMade (T.is_made self.entry.seed) (AnswersAsReadBy T.Visitor.Visitor self.entry)) }
+        ensures { OfMade (T.is_made self.entry.seed) (ReadsItemBy T.Visitor.Visitor self.entry) result }
     {
         let visitor = T::make_item_visitor(alloc, self.seed);
         self.parse_item_with_visitor(alloc, visitor)
@@ -141,14 +134,7 @@ impl<'de> Parser<'de> {
         self,
         alloc: Global,
     ) -> Result<T, ParseError<<T::Visitor as Visitor<'de>>::Error>>
-        ensures visited { IfOk result
-            (OfMade (T.is_made self.entry.seed) (IsAnswerBy T.Visitor.Visitor self.entry list_field)) }
-        ensures syntax { IfErr result
-            (OfMade (T.is_made self.entry.seed) (IsSyntaxBy T.Visitor.Visitor self.entry list_field)) }
-        ensures visitor { IfErr result
-            (OfMade (T.is_made self.entry.seed) (IsVisitorErrorBy T.Visitor.Visitor self.entry list_field)) }
-        ensures accepted { OfMade (T.is_made self.entry.seed)
-            (VisitsAcceptedBy T.Visitor.Visitor self.entry list_field) result }
+        ensures { OfMade (T.is_made self.entry.seed) (ReadsBy T.Visitor.Visitor self.entry list_field) result }
     {
         let visitor = T::make_list_visitor(alloc, self.seed);
         self.parse_list_with_visitor(alloc, visitor)
@@ -166,14 +152,7 @@ impl<'de> Parser<'de> {
         self,
         alloc: Global,
     ) -> Result<T, ParseError<<T::Visitor as Visitor<'de>>::Error>>
-        ensures visited { IfOk result
-            (OfMade (T.is_made self.entry.seed) (IsAnswerBy T.Visitor.Visitor self.entry dictionary_field)) }
-        ensures syntax { IfErr result
-            (OfMade (T.is_made self.entry.seed) (IsSyntaxBy T.Visitor.Visitor self.entry dictionary_field)) }
-        ensures visitor { IfErr result
-            (OfMade (T.is_made self.entry.seed) (IsVisitorErrorBy T.Visitor.Visitor self.entry dictionary_field)) }
-        ensures accepted { OfMade (T.is_made self.entry.seed)
-            (VisitsAcceptedBy T.Visitor.Visitor self.entry dictionary_field) result }
+        ensures { OfMade (T.is_made self.entry.seed) (ReadsBy T.Visitor.Visitor self.entry dictionary_field) result }
     {
         let visitor = T::make_dictionary_visitor(alloc, self.seed);
         self.parse_dictionary_with_visitor(alloc, visitor)
@@ -200,6 +179,7 @@ impl<'de> Parser<'de> {
         ensures syntax { IfErr result (IsSyntaxBy V.Visitor self.entry item_field visitor) }
         ensures visitor { IfErr result (IsVisitorErrorBy V.Visitor self.entry item_field visitor) }
         ensures accepted { VisitsAcceptedBy V.Visitor self.entry item_field visitor result }
+        ensures memory { IfErr result (NeedsMark (input_of self.entry)) }
         ensures first { IfErr result (VisitsFirstBy V.Visitor self.entry visitor) }
         ensures lent { IfOk result (AnswersAsReadBy V.Visitor self.entry visitor) }
     {
@@ -228,6 +208,7 @@ impl<'de> Parser<'de> {
         ensures syntax { IfErr result (IsSyntaxBy V.Visitor self.entry list_field visitor) }
         ensures visitor { IfErr result (IsVisitorErrorBy V.Visitor self.entry list_field visitor) }
         ensures accepted { VisitsAcceptedBy V.Visitor self.entry list_field visitor result }
+        ensures memory { IfErr result (NeedsMark (input_of self.entry)) }
     {
         parse_members_field::<Entry, V>(self, alloc, visitor)
     }
@@ -254,6 +235,7 @@ impl<'de> Parser<'de> {
         ensures syntax { IfErr result (IsSyntaxBy V.Visitor self.entry dictionary_field visitor) }
         ensures visitor { IfErr result (IsVisitorErrorBy V.Visitor self.entry dictionary_field visitor) }
         ensures accepted { VisitsAcceptedBy V.Visitor self.entry dictionary_field visitor result }
+        ensures memory { IfErr result (NeedsMark (input_of self.entry)) }
     {
         parse_members_field::<KeyedEntry, V>(self, alloc, visitor)
     }

@@ -2,5 +2,3 @@
 #![tactic(auto)]
 
 pub mod bare;
-#[cfg(test)]
-mod tests;

@@ -30,8 +30,7 @@ use Rattle.sfv_tree.specs.declared.parsed.ListEntry.{ListEntry}
 use Rattle.std.specs.Map.{values_of}
 use Rattle.sfv_spec.proofs.Given.{fit_append, newer_has_all}
 use Rattle.sfv_ser.proofs.Rows.{mapped_more}
-use Rattle.sfv_ser.specs.Versions.{NamesFirst, LooksAt, LooksFirst, IsSerializeError, FailsAmong, FailsBehind}
-use Rattle.sfv_ser.specs.Versions.{values_of_parameters, values_of_item, values_of_member}
+use Rattle.sfv_ser.specs.Versions.{NamesFirst, LooksAt, LooksFirst, IsSerializeError, FailsAmong, FailsFrom, values_of_parameters, values_of_item, values_of_member}
 use Rattle.sfv_ser.specs.declared.serialize_error.SerializeError.{SerializeError}
 use Rattle.sfv_ser.specs.declared.serialize_error.SerializeError.TheVariants as errors
 
@@ -82,34 +81,28 @@ pub at_exit : {T E : Type 0} (r : Result T E) (e : E) (P : T → Type 0) (Q : E 
     → MatchResult r P Q
 at_exit r e P Q exit h = let p = err_from_is_err_and r exit in rw (p.1, p.2) h
 
--- the first that doesn't fit, behind one that was taken and fits
-pub fails_behind : {S A T : Type 0} (steps : S → Option A → S → Type 0) (s : S) (values : List A → List BareValue)
+-- such an error behind values that fit
+error_behind : (edition : Edition) (bs cs : List BareValue) (e : SerializeError) → AllFit edition bs
+    → IsSerializeError edition cs e → IsSerializeError edition (bs ++ cs) e
+error_behind edition bs cs e f (inl h) = inl (h.0, fit_append edition bs cs f h.1)
+error_behind edition bs cs e f (inr h) = inr (names_behind edition bs cs e f h)
+
+-- the error of what is given behind a first value that fits
+pub fails_behind : {S A T : Type 0} (steps : S → Option A → S → Type 0) (rest : S) (values : List A → List BareValue)
     (edition : Edition) (b : BareValue) (r : Result T SerializeError) → AllFit edition (b ∷ [])
-    → IfErr r (FailsAmong steps s values edition) → IfErr r (FailsBehind steps s (λ taken. b ∷ values taken) edition)
-fails_behind steps s values edition b (Ok x) f h = tt
-fails_behind steps s values edition b (Err e) f h = (
-  h.0,
-  h.1,
-  h.2,
-  elim h.4 [
-    | inl k ↦ inl (k.0, fit_append edition (b ∷ []) (values h.0) f k.1)
-    | inr k ↦ inr (names_behind edition (b ∷ []) (values h.0) e f k)
-  ],
-)
+    → IfErr r (FailsAmong steps rest values edition) → IfErr r (FailsFrom steps rest (λ taken. b ∷ values taken) edition)
+fails_behind steps rest values edition b (Ok x) f h = tt
+fails_behind steps rest values edition b (Err e) f h =
+    (h.0, h.1, h.2, error_behind edition (b ∷ []) (values h.0) e f h.4)
 
--- nothing was asked of the iterator yet
-pub fails_first : {S A T : Type 0} (steps : S → Option A → S → Type 0) (s : S) (values : List A → List BareValue)
-    (edition : Edition) (r : Result T SerializeError) (e : SerializeError) → IsErrAnd r (λ y. y ≡ e)
-    → IsSerializeError edition (values []) e → MatchResult r (λ _. ⊤) (FailsBehind steps s values edition)
-fails_first steps s values edition r e exit h = at_exit r e _ _ exit ([], s, refl, h)
-
--- what is said of the rest says it of all
+-- what the iterator gave first, and the rest, are what it gave
 pub fails_from_first : {S A T : Type 0} (steps : S → Option A → S → Type 0) (s : S) (x : A) (rest : S)
     (values : List A → List BareValue) (edition : Edition) (r : Result T SerializeError) → steps s (Some x) rest
-    → IfErr r (FailsBehind steps rest (λ taken. values (x ∷ taken)) edition)
+    → IfErr r (FailsFrom steps rest (λ taken. values (x ∷ taken)) edition)
     → IfErr r (FailsAmong steps s values edition)
 fails_from_first steps s x rest values edition (Ok y) step h = tt
-fails_from_first steps s x rest values edition (Err e) step h = (x ∷ h.0, h.1, (rest, step, h.2), omega arith, h.3)
+fails_from_first steps s x rest values edition (Err e) step h =
+    (x ∷ h.0, h.1, (rest, step, h.2), omega arith, h.3)
 
 pub drains_from_first : {S A : Type 0} (steps : S → Option A → S → Type 0) (s : S) (x : A) (rest : S)
     (xs : List A) → steps s (Some x) rest → Drains steps rest xs → Drains steps s (x ∷ xs)

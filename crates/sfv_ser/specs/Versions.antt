@@ -44,10 +44,10 @@ FailsAmong {S} {A} steps from values edition error =
     (taken : List A) × (rest : S) × Yields steps from taken rest × (0 < length taken)
     × IsSerializeError edition (values taken) error
 
--- the same, where values stand in front of what the iterator gives, which may be nothing
-abbrev pub FailsBehind : {S A : Type 0} → (S → Option A → S → Type 0) → S → (List A → List BareValue) → Edition
+-- the same, where the values begin with others that were given before
+abbrev pub FailsFrom : {S A : Type 0} → (S → Option A → S → Type 0) → S → (List A → List BareValue) → Edition
     → SerializeError → Type 0
-FailsBehind {S} {A} steps from values edition error =
+FailsFrom {S} {A} steps from values edition error =
     (taken : List A) × (rest : S) × Yields steps from taken rest × IsSerializeError edition (values taken) error
 
 -- the values of parameters, of an item and of a member, in the order of a text

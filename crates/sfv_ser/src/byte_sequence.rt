@@ -25,17 +25,3 @@ pub(crate) fn serialize_byte_sequence<A: Allocator>(
     output.push(':')?;
     Ok(())
 }
-
-#[cfg(test)]
-mod tests {
-    use super::*;
-    use std::test::Fail;
-
-    #[test]
-    fn text(rt: HostRuntime) -> Result<(), Fail> {
-        let mut output = String::from_str(rt.alloc(), "a=")?;
-        serialize_byte_sequence(b"hello", &mut output)?;
-        assert_eq!(rt; output.as_str(), "a=:aGVsbG8=:");
-        Ok(())
-    }
-}

@@ -51,39 +51,3 @@ pub fn dictionary_text(
     serialize_dictionary(dictionary, &mut text)?;
     Ok(Some(text))
 }
-
-#[cfg(test)]
-mod tests {
-    use super::*;
-    use sfv_bare::bare::BareItem;
-    use sfv_text::shorthand::key_ref;
-    use sfv_tree::parsed::{InnerList, Item, ListEntry};
-    use sfv_tree::shorthand::{self, parameters};
-    use std::test::Fail;
-
-    #[test]
-    fn dictionaries_are_written(rt: HostRuntime) -> Result<(), Fail> {
-        let alloc = rt.alloc();
-        let mut params = parameters(alloc);
-        params.insert(key_ref("x").to_owned(alloc)?, BareItem::from(false))?;
-        let items = vec![in alloc; Item::new(alloc, BareItem::from(true))]?;
-        let members = [
-            (
-                "a",
-                ListEntry::from(Item::with_params(BareItem::from(true), params.clone()?)),
-            ),
-            ("b", ListEntry::from(Item::new(alloc, BareItem::from(20u8)))),
-            ("c", ListEntry::from(InnerList::with_params(items, params))),
-            ("d", ListEntry::from(Item::new(alloc, BareItem::from(true)))),
-        ];
-        let mut dictionary = shorthand::dictionary(alloc);
-        for (key, member) in members[..].iter() {
-            dictionary.insert(key_ref(key).to_owned(alloc)?, member.clone()?)?;
-        }
-        let text = dictionary_text(&dictionary, alloc)?;
-        let want = "a;x=?0, b=20, c=(?1);x=?0, d";
-        assert_eq!(rt; text.as_ref().map(|text| text.as_str()), Some(want));
-        assert!(rt; dictionary_text(&shorthand::dictionary(alloc), alloc)?.is_none());
-        Ok(())
-    }
-}

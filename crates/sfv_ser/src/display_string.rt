@@ -61,15 +61,3 @@ pub(crate) fn serialize_display_string<A: Allocator>(
     output.push('"')?;
     Ok(())
 }
-
-#[cfg(test)]
-mod tests {
-    use super::serialize_display_string;
-
-    #[test]
-    fn written(rt: HostRuntime) {
-        let mut output = String::from_str(rt.alloc(), "=").expect(&rt, "memory");
-        serialize_display_string("50% \"\u{fc}\u{7f}\\", &mut output).expect(&rt, "memory");
-        assert!(rt; output.as_str() == "=%\"50%25 %22%c3%bc%7f\\\"");
-    }
-}

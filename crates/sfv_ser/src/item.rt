@@ -14,7 +14,7 @@ ghost use Rattle.sfv_text.specs.KeyText.{key_text};
 ghost use Rattle.sfv_text.specs.TokenText.{token_text};
 ghost use Rattle.sfv_tree.specs.Trees.{pairs_tree, item_tree};
 ghost use Rattle.sfv_ser.specs.Written.{Appends, Extends, param_text, lent_pairs};
-ghost use Rattle.sfv_ser.specs.Versions.{FailsAmong, FailsBehind, values_of_pairs};
+ghost use Rattle.sfv_ser.specs.Versions.{FailsAmong, FailsFrom, values_of_pairs};
 
 use crate::byte_sequence::serialize_byte_sequence;
 use crate::display_string::serialize_display_string;
@@ -166,7 +166,7 @@ fn serialize_first_and_rest<'k, A: Allocator, I: Iterator<Item = (&'k Key, &'k B
         × (string_bytes output.new ≡ string_bytes output.old ++ parameters_text (lent_pairs (first.entry ∷ pairs)))
         × AreParameters (lent_pairs (first.entry ∷ pairs)) × AllFit (edition_of version) (values_of_pairs (first.entry ∷ pairs))) }
     ensures failed { IfErr result
-        (FailsBehind I.next_gives rest (λ taken. values_of_pairs (first.entry ∷ taken)) (edition_of version)) }
+        (FailsFrom I.next_gives rest (λ taken. values_of_pairs (first.entry ∷ taken)) (edition_of version)) }
     ensures grows { OnErr result (Extends (string_bytes output.old) (string_bytes output.new)) }
 {
     let (key, value) = first;
@@ -190,7 +190,7 @@ fn append_first_and_rest<'k, A: Allocator, I: Iterator<Item = (&'k Key, &'k Bare
         × (string_bytes output.new ≡ string_bytes output.old ++ parameters_text (lent_pairs (first.entry ∷ pairs)))
         × AreParameters (lent_pairs (first.entry ∷ pairs)) × AllFit (edition_of version) (values_of_pairs (first.entry ∷ pairs))) }
     ensures failed { IfErr result
-        (FailsBehind I.next_gives rest (λ taken. values_of_pairs (first.entry ∷ taken)) (edition_of version)) }
+        (FailsFrom I.next_gives rest (λ taken. values_of_pairs (first.entry ∷ taken)) (edition_of version)) }
     ensures kept { OnErr result (string_bytes output.new ≡ string_bytes output.old) }
 {
     let len = output.len();

@@ -46,36 +46,3 @@ pub fn list_text(list: &List, alloc: Global) -> Result<Option<StdString>, OutOfM
     serialize_list(list, &mut text)?;
     Ok(Some(text))
 }
-
-#[cfg(test)]
-mod tests {
-    use super::*;
-    use sfv_bare::bare::BareItem;
-    use sfv_text::shorthand::key_ref;
-    use sfv_tree::parsed::{InnerList, Item, ListEntry};
-    use sfv_tree::shorthand::parameters;
-    use std::test::Fail;
-
-    #[test]
-    fn lists_are_written(rt: HostRuntime) -> Result<(), Fail> {
-        let alloc = rt.alloc();
-        let mut params = parameters(alloc);
-        params.insert(key_ref("a").to_owned(alloc)?, BareItem::from(true))?;
-        params.insert(key_ref("b").to_owned(alloc)?, BareItem::from(false))?;
-        let items = vec![in alloc;
-            Item::new(alloc, BareItem::from(true)),
-            Item::with_params(BareItem::from(2u8), params.clone()?),
-        ]?;
-        let list: List = vec![in alloc;
-            ListEntry::from(Item::new(alloc, BareItem::from(false))),
-            ListEntry::from(InnerList::with_params(items, params)),
-            ListEntry::from(InnerList::empty(alloc)),
-            ListEntry::from(Item::new(alloc, BareItem::from(30u8))),
-        ]?;
-        let text = list_text(&list, alloc)?;
-        let want = "?0, (?1 2;a;b=?0);a;b=?0, (), 30";
-        assert_eq!(rt; text.as_ref().map(|text| text.as_str()), Some(want));
-        assert!(rt; list_text(&Vec::new(alloc), alloc)?.is_none());
-        Ok(())
-    }
-}

@@ -49,16 +49,3 @@ pub(crate) fn serialize_string<A: Allocator>(
     output.push('"')?;
     Ok(())
 }
-
-#[cfg(test)]
-mod tests {
-    use super::serialize_string;
-    use sfv_text::string_ref::StringRef;
-
-    #[test]
-    fn written(rt: HostRuntime) {
-        let mut output = String::from_str(rt.alloc(), "=").expect(&rt, "memory");
-        serialize_string(StringRef::constant("a\"b\\"), &mut output).expect(&rt, "memory");
-        assert!(rt; output.as_str() == "=\"a\\\"b\\\\\"");
-    }
-}

@@ -8,8 +8,6 @@ pub mod key_ref;
 pub mod shorthand;
 pub mod string;
 pub mod string_ref;
-#[cfg(test)]
-mod tests;
 pub mod text_class;
 pub mod token;
 pub mod token_ref;

@@ -4,6 +4,4 @@
 pub mod hash_seed;
 pub mod parsed;
 pub mod shorthand;
-#[cfg(test)]
-mod tests;
 pub mod visitor;

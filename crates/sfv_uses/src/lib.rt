@@ -5,6 +5,7 @@ pub mod content_digest;
 pub mod expecting;
 pub mod reading;
 pub mod serializing;
+pub mod values;
 pub mod versions;
 pub mod visiting;
 pub mod writing;

@@ -11,7 +11,7 @@ pub returns-in_err-key-clause-visited : goal.returns-in_err-key-clause-visited
 returns-in_err-key-clause-visited g c =
     let p = err_from_is_err_and c.from_residual.result c.from_residual.ensures.1 in
     rw (p.1, p.2) (key_fails g.V.Visitor.takes g.V.Visitor.fails (edition c.args.cursor.now) _ (kept c.args.cursor.now)
-    _ (ErrorOf-fault _ _ _ c.in_err-key.ensures))
+    _ c.args.visitor.now (ErrorOf-fault _ _ _ c.in_err-key.ensures))
 
 pub returns-in_err-visit-clause-visited : goal.returns-in_err-visit-clause-visited
 returns-in_err-visit-clause-visited g c =

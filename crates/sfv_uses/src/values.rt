@@ -1,0 +1,187 @@
+//! Values: the ends of their ranges, what they are made of, their copies, and how they compare.
+
+ghost use Rattle.std.specs.Prelude.{◌≡◌, ◌↔◌, pos, neg_ℤ, IfOk, IsTrue};
+ghost use Rattle.std.specs.Cmp.Lexicographic.{slice_cmp};
+ghost use Rattle.std.specs.Ordering.{nat_cmp, int_cmp};
+ghost use Rattle.sfv.specs.NumberValues.{integer_of, thousandths_of, seconds_of};
+ghost use Rattle.sfv.specs.BareItems.{bare_value, ref_value, input_value, read_text};
+ghost use Rattle.sfv.specs.KeyText.{key_text};
+ghost use Rattle.sfv.specs.Trees.{item_tree};
+ghost use Rattle.sfv.specs.Values.{integer};
+
+use sfv::{
+    BareItem, BareItemFromInput, Date, Decimal, Error, Integer, Item, KeyRef, RefBareItem,
+    StringFromInput,
+};
+use std::alloc::AllocError;
+use std::cmp::Ordering;
+
+/// The least and the greatest integer are of fifteen digits.
+pub fn integers() -> (Integer, Integer)
+    ensures least { integer_of result.0 ≡ neg_ℤ (pos 999999999999999) }
+    ensures greatest { integer_of result.1 ≡ pos 999999999999999 }
+{
+    (Integer::MIN, Integer::MAX)
+}
+
+/// The least and the greatest decimal are of fifteen digits, three of them after the point.
+pub fn decimals() -> (Decimal, Decimal)
+    ensures least { thousandths_of result.0 ≡ neg_ℤ (pos 999999999999999) }
+    ensures greatest { thousandths_of result.1 ≡ pos 999999999999999 }
+{
+    (Decimal::MIN, Decimal::MAX)
+}
+
+/// The first and the last date are of fifteen digits.
+pub fn dates() -> (Date, Date)
+    ensures first { seconds_of result.0 ≡ neg_ℤ (pos 999999999999999) }
+    ensures last { seconds_of result.1 ≡ pos 999999999999999 }
+{
+    (Date::MIN, Date::MAX)
+}
+
+/// The bare item of a number has its value.
+pub fn item_of_byte(v: u8) -> RefBareItem<'static>
+    ensures { ref_value result ≡ integer (pos v) }
+{
+    RefBareItem::from(v)
+}
+
+/// The bare item of a number has its value, if it has one.
+///
+/// # Errors
+///
+/// The number is out of range.
+pub fn item_of_number(v: i64) -> Result<RefBareItem<'static>, Error>
+    ensures { IfOk result (λ item. ref_value item ≡ integer v) }
+{
+    RefBareItem::try_from(v)
+}
+
+/// A copy has the same value.
+///
+/// # Errors
+///
+/// Out of memory.
+pub fn copy_of(item: &BareItem) -> Result<BareItem, AllocError>
+    ensures { IfOk result (λ copy. bare_value copy ≡ bare_value item.now) }
+{
+    item.clone()
+}
+
+/// A copy of an item that was read has the same value.
+///
+/// # Errors
+///
+/// Out of memory.
+pub fn copy_of_read<'a>(item: &BareItemFromInput<'a>) -> Result<BareItemFromInput<'a>, AllocError>
+    ensures { IfOk result (λ copy. input_value copy ≡ input_value item.now) }
+{
+    item.clone()
+}
+
+/// What is borrowed stays borrowed.
+///
+/// # Errors
+///
+/// Out of memory.
+pub fn copy_of_string<'a>(text: &StringFromInput<'a>) -> Result<StringFromInput<'a>, AllocError>
+    ensures { IfOk result (λ copy. copy ≡ text.now) }
+{
+    text.clone()
+}
+
+/// A copy of an item has the same value.
+///
+/// # Errors
+///
+/// Out of memory.
+pub fn copy_of_item(item: &Item) -> Result<Item, AllocError>
+    ensures { IfOk result (λ copy. item_tree copy ≡ item_tree item.now) }
+{
+    item.clone()
+}
+
+/// Bare items compare by value.
+pub fn same(a: &BareItem, b: &BareItem) -> bool
+    ensures { IsTrue result ↔ (bare_value a.now ≡ bare_value b.now) }
+{
+    *a == *b
+}
+
+/// Borrowed bare items compare by value.
+pub fn same_borrowed(a: RefBareItem<'_>, b: RefBareItem<'_>) -> bool
+    ensures { IsTrue result ↔ (ref_value a.entry ≡ ref_value b.entry) }
+{
+    a == b
+}
+
+/// Bare items that were read compare by value, whether a text in them is borrowed or owned.
+pub fn same_read(a: &BareItemFromInput<'_>, b: &BareItemFromInput<'_>) -> bool
+    ensures { IsTrue result ↔ (input_value a.now ≡ input_value b.now) }
+{
+    *a == *b
+}
+
+/// Strings that were read compare by their text.
+pub fn same_string(a: &StringFromInput<'_>, b: &StringFromInput<'_>) -> bool
+    ensures { IsTrue result ↔ (read_text a.now ≡ read_text b.now) }
+{
+    *a == *b
+}
+
+/// Borrowed keys compare by their bytes.
+pub fn same_key(a: KeyRef<'_>, b: KeyRef<'_>) -> bool
+    ensures { IsTrue result ↔ (key_text a.entry ≡ key_text b.entry) }
+{
+    a == b
+}
+
+/// Borrowed keys are ordered by their bytes.
+pub fn order_of_keys(a: KeyRef<'_>, b: KeyRef<'_>) -> Ordering
+    ensures { result ≡ slice_cmp nat_cmp (key_text a.entry) (key_text b.entry) }
+{
+    a.cmp(&b)
+}
+
+/// Numbers compare by their value.
+pub fn same_number(a: Integer, b: Integer) -> bool
+    ensures { IsTrue result ↔ (integer_of a ≡ integer_of b) }
+{
+    a == b
+}
+
+/// Decimals compare by their thousandths.
+pub fn same_decimal(a: Decimal, b: Decimal) -> bool
+    ensures { IsTrue result ↔ (thousandths_of a ≡ thousandths_of b) }
+{
+    a == b
+}
+
+/// Dates compare by their seconds.
+pub fn same_date(a: Date, b: Date) -> bool
+    ensures { IsTrue result ↔ (seconds_of a ≡ seconds_of b) }
+{
+    a == b
+}
+
+/// Numbers are ordered by their value.
+pub fn order_of_numbers(a: Integer, b: Integer) -> Ordering
+    ensures { result ≡ int_cmp (integer_of a) (integer_of b) }
+{
+    a.cmp(&b)
+}
+
+/// Decimals are ordered by their thousandths.
+pub fn order_of_decimals(a: Decimal, b: Decimal) -> Ordering
+    ensures { result ≡ int_cmp (thousandths_of a) (thousandths_of b) }
+{
+    a.cmp(&b)
+}
+
+/// Dates are ordered by their seconds.
+pub fn order_of_dates(a: Date, b: Date) -> Ordering
+    ensures { result ≡ int_cmp (seconds_of a) (seconds_of b) }
+{
+    a.cmp(&b)
+}

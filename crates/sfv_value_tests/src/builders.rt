@@ -1,0 +1,132 @@
+//! The visitors that build trees, told of events one by one: each event in its place, and out of it.
+
+use sfv::visitor::{DictionaryBuilder, Event, ItemBuilder, ItemFault, ListBuilder, Visitor};
+use sfv::{
+    BareItemFromInput, Dictionary, FieldType, HashSeed, Item, KeyRef, List, Parser, key_ref,
+};
+use std::alloc::Global;
+use std::test::Fail;
+
+fn param(key: KeyRef<'static>, value: u8) -> Event<'static> {
+    Event::Parameter(key, BareItemFromInput::from(value))
+}
+
+/// The event of a letter.
+fn event(letter: char) -> Event<'static> {
+    match letter {
+        ',' => Event::Entry,
+        'k' => Event::KeyedEntry(key_ref("a")),
+        'l' => Event::KeyedEntry(key_ref("b")),
+        'm' => Event::KeyedEntry(key_ref("c")),
+        'i' => Event::Item,
+        '(' => Event::InnerList,
+        'a' => param(key_ref("a"), 1),
+        'A' => param(key_ref("a"), 2),
+        'b' => param(key_ref("b"), 1),
+        ';' => Event::ParametersEnd,
+        ')' => Event::InnerListEnd,
+        '5' => Event::BareItem(BareItemFromInput::from(5u8)),
+        _ => Event::BareItem(BareItemFromInput::from(6u8)),
+    }
+}
+
+/// The text of what is built of the events after a list of this text.
+fn list_of(alloc: Global, held: &str, letters: &str) -> Result<Option<String>, Fail> {
+    let list = Parser::new(held.as_bytes()).parse::<List>(alloc)?;
+    let mut builder = ListBuilder::new(list, HashSeed::default());
+    for letter in letters.chars() {
+        builder.event(event(letter))?;
+    }
+    Ok(builder.finish()?.serialize(alloc)?)
+}
+
+#[test]
+fn lists_are_built_of_the_events_in_their_place(rt: HostRuntime) -> Result<(), Fail> {
+    let three = "6, (5;b=1);a=1, 5";
+    let rows = [
+        ("", ",i5abA;,(i5a;i6;)aA;", "5;a=2;b=1, (5;a=1 6);a=2"),
+        ("6", ",(i5b;)a;,i5;", three),
+        // An event that is out of its place: between the members,
+        ("6", "i5a;()k,(i5b;)a;,i5;", three),
+        // before what says what the member is,
+        ("6", ",,k5a;)(i5b;)a;,5;i5;", three),
+        // among the items of an inner list,
+        ("6", ",(,k(5a;i5b;)a;,i5;", three),
+        // before the bare items,
+        ("6", ",(i,ki(a;)5b;)a;,i,ki(a;)5;", three),
+        // among the parameters,
+        ("6", ",(i5,ki(6b);)a,ki(6);,i5,ki(6);", three),
+        // and in a member that has not ended.
+        ("6", ",(i5b;)a;,i5;,i6a", three),
+        ("6", ",(i5b;)a;,i5;,(i6;i5", three),
+    ];
+    for (row, (held, letters, text)) in rows.into_iter().enumerate() {
+        let built = list_of(rt.alloc(), held, letters)?.ok_or("no member")?;
+        assert!(rt; built.as_str() == text, "row {row}: {built}");
+    }
+    Ok(())
+}
+
+/// The text of what is built of the events after a dictionary of this text.
+fn dictionary_of(alloc: Global, held: &str, letters: &str) -> Result<Option<String>, Fail> {
+    let dictionary = Parser::new(held.as_bytes()).parse::<Dictionary>(alloc)?;
+    let mut builder = DictionaryBuilder::new(dictionary);
+    for letter in letters.chars() {
+        builder.event(event(letter))?;
+    }
+    Ok(builder.finish()?.serialize(alloc)?)
+}
+
+#[test]
+fn dictionaries_are_built_of_the_events_in_their_place(rt: HostRuntime) -> Result<(), Fail> {
+    let two = "b=5;a=1;b=1, a=(5;a=1 6);a=2";
+    let three = "c=6, a=(5;b=1);a=1, b=5";
+    let rows = [
+        ("", "li5ab;k(i5a;i6;)aA;", two),
+        // A key that is there keeps its place, and takes the new member with its parameters.
+        (two, "mi5;li6A;li6;", "b=6, a=(5;a=1 6);a=2, c=5"),
+        ("c=6", "k(i5b;)a;li5;", three),
+        // An event that is out of its place: between the members,
+        ("c=6", "i5a;(),k(i5b;)a;li5;", three),
+        // before what says what the member is,
+        ("c=6", "k,l5a;)(i5b;)a;l5;i5;", three),
+        // among the items of an inner list,
+        ("c=6", "k(,l(5a;i5b;)a;li5;", three),
+        // before the bare items,
+        ("c=6", "k(i,li(a;)5b;)a;li,ki(a;)5;", three),
+        // among the parameters,
+        ("c=6", "k(i5,li(6b);)a,li(6);li5,ki(6);", three),
+        // and in a member that has not ended.
+        ("c=6", "k(i5b;)a;li5;mi5a", three),
+        ("c=6", "k(i5b;)a;li5;m(i6;i5", three),
+    ];
+    for (row, (held, letters, text)) in rows.into_iter().enumerate() {
+        let built = dictionary_of(rt.alloc(), held, letters)?.ok_or("no member")?;
+        assert!(rt; built.as_str() == text, "row {row}: {built}");
+    }
+    Ok(())
+}
+
+/// What an optional builder of an item answers after the events.
+fn build_if_any(
+    mut builder: Option<ItemBuilder>,
+    letters: &str,
+) -> Result<Option<Item>, ItemFault> {
+    for letter in letters.chars() {
+        builder.event(event(letter))?;
+    }
+    builder.finish()
+}
+
+#[test]
+fn optional_visitors_visit_where_there_is_one(rt: HostRuntime) -> Result<(), Fail> {
+    let alloc = rt.alloc();
+    let built = build_if_any(Some(ItemBuilder::new(alloc, HashSeed::default())), "5aA;")?;
+    let text = built.ok_or("no item")?.serialize(alloc)?;
+    assert!(rt; text.as_str() == "5;a=2");
+    assert!(rt; build_if_any(None, "5aA;")?.is_none());
+    assert!(rt; build_if_any(None, "")?.is_none());
+    let answer = build_if_any(Some(ItemBuilder::new(alloc, HashSeed::default())), "5a");
+    assert!(rt; matches!(answer, Err(ItemFault::NoItem)));
+    Ok(())
+}

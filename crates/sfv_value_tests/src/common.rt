@@ -1,0 +1,28 @@
+//! What tests ask of values of any type.
+
+use std::alloc::Global;
+use std::fmt::{Debug, Display};
+use std::hash::{DefaultHasher, Hash, Hasher};
+
+/// Whether the value prints as this text.
+pub fn prints<T: Display>(alloc: Global, value: &T, text: &str) -> bool {
+    match value.to_string(alloc) {
+        Ok(printed) => printed.as_str() == text,
+        Err(_) => false,
+    }
+}
+
+/// Whether the value is shown so to a programmer.
+pub fn is_shown<T: Debug>(alloc: Global, value: &T, text: &str) -> bool {
+    match format!(in alloc; "{value:?}") {
+        Ok(printed) => printed.as_str() == text,
+        Err(_) => false,
+    }
+}
+
+/// What a value gives to a hasher.
+pub fn hash_of<T: Hash>(value: &T) -> u64 {
+    let mut hasher = DefaultHasher::new();
+    value.hash(&mut hasher);
+    hasher.finish()
+}

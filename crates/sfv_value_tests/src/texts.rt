@@ -1,0 +1,220 @@
+//! Keys, tokens and strings: which texts are some, their order, hashes, copies and prints.
+
+use crate::common::{hash_of, is_shown, prints};
+use sfv::{Error, ErrorKind, OutOfMemory, String, StringRef, key_ref, string_ref, token_ref};
+use sfv_text::checked_text::CheckedText;
+use sfv_text::checked_text_ref::CheckedTextRef;
+use sfv_text::key::KeyClass;
+use sfv_text::string::StringClass;
+use sfv_text::text_class::TextClass;
+use sfv_text::token::TokenClass;
+use std::alloc::Global;
+use std::cmp::Ordering;
+use std::string::String as StdString;
+use std::test::Fail;
+
+/// Whether the answer is this text, or this fault where there is one.
+fn is_answer<C: TextClass>(
+    answer: Result<CheckedTextRef<'_, C>, Error>,
+    text: &str,
+    fault: Option<Error>,
+) -> bool {
+    match (answer, fault) {
+        (Ok(checked), None) => checked.as_str() == text,
+        (Err(error), Some(fault)) => error == fault,
+        _ => false,
+    }
+}
+
+/// Whether all calls that check a text give this answer.
+fn is_checked<C: TextClass>(text: &str, fault: Option<Error>) -> bool {
+    let bytes = text.as_bytes();
+    is_answer(CheckedTextRef::<C>::from_str(text), text, fault)
+        && is_answer(CheckedTextRef::<C>::from_bytes(bytes), text, fault)
+        && is_answer(CheckedTextRef::<C>::try_from(text), text, fault)
+        && is_answer(CheckedTextRef::<C>::try_from(bytes), text, fault)
+}
+
+/// What a text is refused for that has a wrong byte there, if it has one.
+fn wrong_at(index: Option<usize>) -> Option<Error> {
+    match index {
+        Some(_) => Some(Error::with_kind(ErrorKind::InvalidCharacter, index)),
+        None => None,
+    }
+}
+
+#[test]
+fn texts_are_refused_at_their_first_wrong_byte(rt: HostRuntime) {
+    // Where a text is no key, no token and no string.
+    let rows = [
+        ("*", None, None, None),
+        ("a1_-.*", None, None, None),
+        ("aB", Some(1), None, None),
+        ("1a", Some(0), Some(0), None),
+        ("a:/~", Some(1), None, None),
+        ("A1!#$%&'*+-.^_`|", Some(0), None, None),
+        ("a b", Some(1), Some(1), None),
+        (" \"\\~", Some(0), Some(0), None),
+        ("a\tb", Some(1), Some(1), Some(1)),
+        ("ab\u{7f}", Some(2), Some(2), Some(2)),
+        ("\u{e9}", Some(0), Some(0), Some(0)),
+        ("a\u{e9}", Some(1), Some(1), Some(1)),
+        ("a;\u{e9}", Some(1), Some(1), Some(2)),
+    ];
+    for (row, (text, key, token, string)) in rows.into_iter().enumerate() {
+        let holds = is_checked::<KeyClass>(text, wrong_at(key))
+            && is_checked::<TokenClass>(text, wrong_at(token))
+            && is_checked::<StringClass>(text, wrong_at(string));
+        assert!(rt; holds, "row {row}");
+    }
+}
+
+#[test]
+fn no_text_is_a_string_and_no_key_or_token(rt: HostRuntime) {
+    let empty = Some(Error::with_kind(ErrorKind::Empty, None));
+    assert!(rt; is_checked::<KeyClass>("", empty));
+    assert!(rt; is_checked::<TokenClass>("", empty));
+    assert!(rt; is_checked::<StringClass>("", None));
+    let alloc = rt.alloc();
+    assert!(rt; String::empty(alloc).as_str() == "" && StringRef::EMPTY.as_str() == "");
+    assert!(rt; StringRef::default().as_str() == "");
+}
+
+/// Whether a byte may begin a text of the class, and whether it may stand in one that the other byte begins.
+fn places_of<C: TextClass>(byte: u8, first: u8) -> (bool, bool) {
+    let begins = CheckedTextRef::<C>::from_bytes(&[byte]).is_ok();
+    let follows = CheckedTextRef::<C>::from_bytes(&[first, byte]).is_ok();
+    (begins, follows)
+}
+
+// The ABNF of RFC 9651 lists these bytes.
+#[test]
+fn texts_hold_the_bytes_of_their_class(rt: HostRuntime) {
+    let first_of_key = "*abcdefghijklmnopqrstuvwxyz";
+    let key = "*-.0123456789_abcdefghijklmnopqrstuvwxyz";
+    let first_of_token = "*ABCDEFGHIJKLMNOPQRSTUVWXYZabcdefghijklmnopqrstuvwxyz";
+    let token = "!#$%&'*+-./0123456789:ABCDEFGHIJKLMNOPQRSTUVWXYZ^_`abcdefghijklmnopqrstuvwxyz|~";
+    for byte in 0..=255u8 {
+        let of_key = (
+            first_of_key.as_bytes().contains(&byte),
+            key.as_bytes().contains(&byte),
+        );
+        let of_token = (
+            first_of_token.as_bytes().contains(&byte),
+            token.as_bytes().contains(&byte),
+        );
+        let printable = byte >= 0x20 && byte < 0x7f;
+        let holds = places_of::<KeyClass>(byte, b'a') == of_key
+            && places_of::<TokenClass>(byte, b'a') == of_token
+            && places_of::<StringClass>(byte, b'a') == (printable, printable);
+        assert!(rt; holds, "{byte}");
+    }
+}
+
+#[test]
+fn borrowed_texts_are_owned_and_lent(rt: HostRuntime) -> Result<(), Fail> {
+    let alloc = rt.alloc();
+    let key = key_ref("key").to_owned(alloc)?;
+    assert!(rt; key.as_str() == "key" && key.as_key_ref() == key_ref("key"));
+    let token = token_ref("token").to_owned(alloc)?;
+    assert!(rt; token.as_str() == "token" && token.as_token_ref() == token_ref("token"));
+    let string = string_ref("a string").to_owned(alloc)?;
+    assert!(rt; string.as_str() == "a string");
+    assert!(rt; string.as_string_ref() == string_ref("a string"));
+    Ok(())
+}
+
+/// Whether a text of the class is taken by both calls, is equal to its copy, and is given back.
+fn is_taken_and_given<C: TextClass>(text: &StdString) -> Result<bool, Fail> {
+    let Ok(taken) = CheckedText::<C>::from_string(text.clone()?) else {
+        return Ok(false);
+    };
+    let same = taken.clone()? == CheckedText::<C>::try_from(text.clone()?)?;
+    Ok(same && StdString::from(taken) == *text)
+}
+
+#[test]
+fn texts_become_owned_and_are_given_back(rt: HostRuntime) -> Result<(), Fail> {
+    let text = StdString::from_str(rt.alloc(), "a")?;
+    assert!(rt; is_taken_and_given::<KeyClass>(&text)?);
+    assert!(rt; is_taken_and_given::<TokenClass>(&text)?);
+    assert!(rt; is_taken_and_given::<StringClass>(&text)?);
+    Ok(())
+}
+
+/// Whether a text comes back with its fault.
+fn comes_back<C: TextClass>(alloc: Global, text: &str, index: usize) -> Result<bool, OutOfMemory> {
+    let fault = Error::with_kind(ErrorKind::InvalidCharacter, Some(index));
+    match CheckedText::<C>::from_string(StdString::from_str(alloc, text)?) {
+        Ok(_) => Ok(false),
+        Err((error, back)) => Ok(error == fault && back.as_str() == text),
+    }
+}
+
+#[test]
+fn refused_texts_come_back(rt: HostRuntime) -> Result<(), Fail> {
+    let alloc = rt.alloc();
+    assert!(rt; comes_back::<KeyClass>(alloc, "key!", 3)?);
+    assert!(rt; comes_back::<TokenClass>(alloc, "1a", 0)?);
+    assert!(rt; comes_back::<StringClass>(alloc, "a\n", 1)?);
+    Ok(())
+}
+
+#[test]
+fn texts_print_as_they_are_and_show_their_type(rt: HostRuntime) -> Result<(), Fail> {
+    let alloc = rt.alloc();
+    let (key, token, string) = (key_ref("a"), token_ref("B"), string_ref("c\"d"));
+    assert!(rt; prints(alloc, &key, "a") && is_shown(alloc, &key, "KeyRef(\"a\")"));
+    assert!(rt; prints(alloc, &token, "B") && is_shown(alloc, &token, "TokenRef(\"B\")"));
+    assert!(rt; prints(alloc, &string, "c\"d"));
+    assert!(rt; is_shown(alloc, &string, r#"StringRef("c\"d")"#));
+    let (key, token) = (key.to_owned(alloc)?, token.to_owned(alloc)?);
+    let string = string.to_owned(alloc)?;
+    assert!(rt; prints(alloc, &key, "a") && is_shown(alloc, &key, "Key(\"a\")"));
+    assert!(rt; prints(alloc, &token, "B") && is_shown(alloc, &token, "Token(\"B\")"));
+    assert!(rt; prints(alloc, &string, "c\"d"));
+    assert!(rt; is_shown(alloc, &string, r#"String("c\"d")"#));
+    Ok(())
+}
+
+/// Whether two texts of the class, borrowed and owned, are ordered so, and are equal and hash alike just if they stand
+/// together.
+fn is_ordered<C: TextClass>(
+    alloc: Global,
+    a: &str,
+    b: &str,
+    order: Ordering,
+) -> Result<bool, Fail> {
+    let equal = order == Ordering::Equal;
+    let (a, b) = (
+        CheckedTextRef::<C>::from_str(a)?,
+        CheckedTextRef::<C>::from_str(b)?,
+    );
+    let (c, d) = (a.to_owned(alloc)?, b.to_owned(alloc)?);
+    let borrowed = a.cmp(&b) == order && (a == b) == equal;
+    let owned = c.cmp(&d) == order && (c == d) == equal && (c < d) == (order == Ordering::Less);
+    let hashed = (hash_of(&a) == hash_of(&b)) == equal && (hash_of(&c) == hash_of(&d)) == equal;
+    Ok(borrowed && owned && hashed && hash_of(&a) == hash_of(&c))
+}
+
+// The order is that of the bytes and not of the lengths.
+#[test]
+fn texts_are_ordered_by_their_bytes_and_hash_by_them(rt: HostRuntime) -> Result<(), Fail> {
+    let alloc = rt.alloc();
+    let rows = [
+        ("ab", "b", Ordering::Less),
+        ("b", "ab", Ordering::Greater),
+        ("a", "a", Ordering::Equal),
+        ("ab", "ba", Ordering::Less),
+        ("a", "aa", Ordering::Less),
+        ("abcdefghi", "abcdefghi", Ordering::Equal),
+        ("abcdefghi", "abcdefghj", Ordering::Less),
+    ];
+    for (row, (a, b, order)) in rows.into_iter().enumerate() {
+        let holds = is_ordered::<KeyClass>(alloc, a, b, order)?
+            && is_ordered::<TokenClass>(alloc, a, b, order)?
+            && is_ordered::<StringClass>(alloc, a, b, order)?;
+        assert!(rt; holds, "row {row}");
+    }
+    Ok(())
+}
