@@ -11,6 +11,8 @@ mod callers;
 #[cfg(test)]
 mod content_digest;
 #[cfg(test)]
+mod failures;
+#[cfg(test)]
 mod further_lines;
 #[cfg(test)]
 mod given;
