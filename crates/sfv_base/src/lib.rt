@@ -9,6 +9,4 @@ pub mod integer;
 mod lanes;
 pub mod runs;
 pub mod shorthand;
-#[cfg(test)]
-mod tests;
 pub mod utils;

@@ -7,37 +7,26 @@
 //! accepted one just up to there (`positions`).
 #![tactic(auto)]
 
-mod callers;
 #[cfg(test)]
 mod content_digest;
 #[cfg(test)]
 mod failures;
 #[cfg(test)]
-mod further_lines;
+mod fields;
 #[cfg(test)]
 mod given;
 #[cfg(test)]
 mod long;
-#[cfg(test)]
-mod members_written;
 mod positions;
 mod replay;
 #[cfg(test)]
-mod rows;
-#[cfg(test)]
-mod scripts;
+mod runs;
 #[cfg(test)]
 mod seeds;
 #[cfg(test)]
 mod uses;
 #[cfg(test)]
-mod versions;
-#[cfg(test)]
-mod versions_everywhere;
-#[cfg(test)]
 mod visitors;
-#[cfg(test)]
-mod written;
 
 use crate::positions::{is_reach, stands_at_reach};
 use crate::replay::{Field, answer_of, canonical_text, input_of, parse_line};

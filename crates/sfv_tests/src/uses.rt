@@ -1,8 +1,19 @@
-//! The uses of the library that its page for callers shows.
+//! The callers of the library that are proved, the ones that its page for callers shows too.
 
-use sfv::{FieldType, KeyRef, ParseError, integer, key_ref};
+use sfv::script::{ItemCalls, MemberCalls};
+use sfv::visitor::BareItemType;
+use sfv::{
+    Date, FieldType, GenericBareItem, Item, KeyRef, ParseError, Parser, RefBareItem,
+    SerializeError, Version, integer, key_ref, token_ref,
+};
 use sfv_uses::reading::{explain, integer_with_default, param_of_member, read_older_list};
+use sfv_uses::serializing::{
+    performed_and_read, write_dictionary, write_item_of_no_bytes, write_list, write_nothing,
+};
+use sfv_uses::versions::{performed_and_read_for, write_both_for};
 use sfv_uses::visiting::{TooMany, count_members, each_key};
+use sfv_uses::writing::{write_item, write_parts, written_and_read};
+use std::alloc::Global;
 use std::test::Fail;
 
 #[test]
@@ -10,9 +21,9 @@ fn lists_are_checked(rt: HostRuntime) -> Result<(), Fail> {
     let alloc = rt.alloc();
     assert!(rt; explain(alloc, b"a, (b c);d")?.is_none());
     let line = explain(alloc, b"a, (b c;d")?.ok_or("accepted")?;
-    assert_eq!(rt; line.as_str(), "         ^ unterminated inner list");
+    assert!(rt; line.as_str() == "         ^ unterminated inner list");
     let line = explain(alloc, b"a,,b")?.ok_or("accepted")?;
-    assert_eq!(rt; line.as_str(), "  ^ expected start of bare item");
+    assert!(rt; line.as_str() == "  ^ expected start of bare item");
     Ok(())
 }
 
@@ -47,7 +58,7 @@ fn parameters_are_looked_up(rt: HostRuntime) -> Result<(), Fail> {
 fn older_lists_have_no_dates(rt: HostRuntime) -> Result<(), Fail> {
     let list = read_older_list(rt.alloc(), b"1, a")?;
     let text = list.serialize(rt.alloc())?.ok_or("empty")?;
-    assert_eq!(rt; text.as_str(), "1, a");
+    assert!(rt; text.as_str() == "1, a");
     assert!(rt; read_older_list(rt.alloc(), b"@1").is_err());
     Ok(())
 }
@@ -58,9 +69,88 @@ fn members_are_visited(rt: HostRuntime) -> Result<(), Fail> {
     let mut length = 0usize;
     let visit = |key: &str| length = length.saturating_add(key.len());
     assert!(rt; each_key(alloc, b"a=1, bc, a=(x y)", visit).is_ok());
-    assert_eq!(rt; length, 4);
+    assert!(rt; length == 4);
     assert!(rt; matches!(count_members(alloc, b"a=1, b, a=(x y)", 3), Ok(3)));
     let many = count_members(alloc, b"a=1, b, a=2", 2);
     assert!(rt; matches!(many, Err(ParseError::Visitor(TooMany))));
+    Ok(())
+}
+
+const NO: RefBareItem<'static> = GenericBareItem::Boolean(false);
+
+fn word<'a>() -> RefBareItem<'a> {
+    GenericBareItem::Token(token_ref("w"))
+}
+
+#[test]
+fn items_are_written_and_read_again(rt: HostRuntime) -> Result<(), Fail> {
+    let mut text = String::from_str(rt.alloc(), "X: ")?;
+    write_item(&mut text, word(), key_ref("k"), NO)?;
+    assert!(rt; text.as_str() == "X: w;k=?0");
+    let item = Parser::new(b"1.50;a;b=%\"%c3%bc\"").parse::<Item>(rt.alloc())?;
+    write_parts(&mut text, &item)?;
+    assert!(rt; text.as_str() == "X: w;k=?01.5;a;b=%\"%c3%bc\"");
+    let again = written_and_read(rt.alloc(), word(), key_ref("k"), NO)?;
+    assert!(rt; again.serialize(rt.alloc())?.as_str() == "w;k=?0");
+    Ok(())
+}
+
+#[test]
+fn texts_that_are_known_are_written(rt: HostRuntime) -> Result<(), Fail> {
+    let mut text = String::from_str(rt.alloc(), "P=")?;
+    assert!(rt; write_list(&mut text)?);
+    assert!(rt; text.as_str() == "P=1;a;a=2, ();b=?0");
+    assert!(rt; !write_nothing(&mut text)?);
+    let mut text = String::new(rt.alloc());
+    assert!(rt; write_dictionary(&mut text)?);
+    let want = "member1=11;foo, member2=(abc;abc_param=?0 def);bar=\"val\", member3=12.346";
+    assert!(rt; text.as_str() == want);
+    let mut text = String::new(rt.alloc());
+    write_item_of_no_bytes(&mut text)?;
+    assert!(rt; text.as_str() == "?1;x=::");
+    Ok(())
+}
+
+fn number<'a>() -> RefBareItem<'a> {
+    GenericBareItem::Integer(integer(1))
+}
+
+fn date<'a>() -> RefBareItem<'a> {
+    GenericBareItem::Date(Date::from_unix_seconds(integer(2)))
+}
+
+#[test]
+fn values_are_written_for_a_version(rt: HostRuntime) -> Result<(), Fail> {
+    let mut text = String::from_str(rt.alloc(), "X: ")?;
+    write_both_for(&mut text, Version::Rfc8941, number(), NO)?;
+    assert!(rt; text.as_str() == "X: 1, ?0");
+    let refused = write_both_for(&mut text, Version::Rfc8941, number(), date());
+    assert!(rt; refused.err() == Some(SerializeError::Unsupported(BareItemType::Date)));
+    let mut text = String::new(rt.alloc());
+    write_both_for(&mut text, Version::Rfc9651, number(), date())?;
+    assert!(rt; text.as_str() == "1, @2");
+    Ok(())
+}
+
+/// The calls that write an item without parameters.
+fn calls<'a>(alloc: Global, value: RefBareItem<'a>) -> MemberCalls<'a> {
+    MemberCalls::Item(ItemCalls {
+        value,
+        params: Vec::new(alloc),
+    })
+}
+
+#[test]
+fn scripts_are_performed_and_read_again(rt: HostRuntime) -> Result<(), Fail> {
+    let alloc = rt.alloc();
+    let both = vec![in alloc; calls(alloc, number()), calls(alloc, date())]?;
+    let list = performed_and_read(alloc, &both[..])?;
+    assert!(rt; list.len() == 2);
+    let refused = performed_and_read_for(alloc, Version::Rfc8941, &both[..]);
+    assert!(rt; refused.err() == Some(SerializeError::Unsupported(BareItemType::Date)));
+    let list = performed_and_read_for(alloc, Version::Rfc8941, &both[..1])?;
+    assert!(rt; list.len() == 1);
+    let list = performed_and_read_for(alloc, Version::Rfc9651, &both[..])?;
+    assert!(rt; list.len() == 2);
     Ok(())
 }

@@ -20,14 +20,6 @@ fn first_second() -> Date {
     Date::from_unix_seconds(integer(1))
 }
 
-/// Whether the item is the integer of this number.
-fn is_integer(item: &BareItem, number: i64) -> bool {
-    match item {
-        GenericBareItem::Integer(integer) => i64::from(*integer) == number,
-        _ => false,
-    }
-}
-
 #[test]
 fn versions_print_their_names(rt: HostRuntime) {
     assert!(rt; prints(rt.alloc(), &Version::Rfc8941, "RFC 8941"));
@@ -35,28 +27,35 @@ fn versions_print_their_names(rt: HostRuntime) {
 }
 
 #[test]
-fn values_of_other_types_become_bare_items(rt: HostRuntime) {
+fn numbers_of_other_types_become_bare_items(rt: HostRuntime) {
     let rows = [
-        (BareItem::from(integer(7)), 7),
-        (BareItem::from(-128i8), -128),
-        (BareItem::from(-32_768i16), -32_768),
-        (BareItem::from(-2_147_483_648i32), -2_147_483_648),
-        (BareItem::from(255u8), 255),
-        (BareItem::from(65_535u16), 65_535),
-        (BareItem::from(4_294_967_295u32), 4_294_967_295),
+        (RefBareItem::from(integer(7)), 7i64),
+        (RefBareItem::from(-128i8), -128),
+        (RefBareItem::from(-32_768i16), -32_768),
+        (RefBareItem::from(-2_147_483_648i32), -2_147_483_648),
+        (RefBareItem::from(255u8), 255),
+        (RefBareItem::from(65_535u16), 65_535),
+        (RefBareItem::from(4_294_967_295u32), 4_294_967_295),
     ];
     for (item, number) in rows {
-        assert!(rt; is_integer(&item, number), "{number}");
+        assert!(rt;
+            item.as_integer().map(i64::from) == Some(number),
+            "{number}"
+        );
     }
-    assert!(rt; BareItem::from(true) == GenericBareItem::Boolean(true));
-    assert!(rt; BareItem::from(half()) == GenericBareItem::Decimal(half()));
-    assert!(rt; BareItem::from(first_second()) == GenericBareItem::Date(first_second()));
-    assert!(rt; RefBareItem::from(7u8) == GenericBareItem::Integer(integer(7)));
+}
+
+#[test]
+fn values_become_bare_items_that_own_borrow_or_were_read(rt: HostRuntime) {
+    assert!(rt; RefBareItem::from(half()) == GenericBareItem::Decimal(half()));
+    assert!(rt; RefBareItem::from(first_second()) == GenericBareItem::Date(first_second()));
+    assert!(rt; RefBareItem::from(true) == GenericBareItem::Boolean(true));
+    assert!(rt; BareItem::from(7u8) == GenericBareItem::Integer(integer(7)));
     assert!(rt; BareItemFromInput::from(false) == GenericBareItem::Boolean(false));
 }
 
 /// Whether the item is the integer of this number, or there is none since the number is out of range.
-fn is_made(made: Result<BareItem, Error>, number: Option<Integer>) -> bool {
+fn is_made(made: Result<RefBareItem<'_>, Error>, number: Option<Integer>) -> bool {
     match (made, number) {
         (Ok(item), Some(number)) => item == GenericBareItem::Integer(number),
         (Err(error), None) => error == Error::with_kind(ErrorKind::OutOfRange, None),
@@ -67,38 +66,38 @@ fn is_made(made: Result<BareItem, Error>, number: Option<Integer>) -> bool {
 #[test]
 fn numbers_in_range_become_bare_items(rt: HostRuntime) {
     let rows = [
-        (BareItem::try_from(1 - BEYOND), Some(Integer::MIN)),
-        (BareItem::try_from(-BEYOND), None),
+        (RefBareItem::try_from(1 - BEYOND), Some(Integer::MIN)),
+        (RefBareItem::try_from(-BEYOND), None),
         (
-            BareItem::try_from(i128::from(1 - BEYOND)),
+            RefBareItem::try_from(-999_999_999_999_999i128),
             Some(Integer::MIN),
         ),
-        (BareItem::try_from(i128::from(-BEYOND)), None),
+        (RefBareItem::try_from(-1_000_000_000_000_000i128), None),
         (
-            BareItem::try_from(-999_999_999_999_999isize),
+            RefBareItem::try_from(-999_999_999_999_999isize),
             Some(Integer::MIN),
         ),
-        (BareItem::try_from(-1_000_000_000_000_000isize), None),
+        (RefBareItem::try_from(-1_000_000_000_000_000isize), None),
         (
-            BareItem::try_from(999_999_999_999_999u64),
+            RefBareItem::try_from(999_999_999_999_999u64),
             Some(Integer::MAX),
         ),
-        (BareItem::try_from(1_000_000_000_000_000u64), None),
+        (RefBareItem::try_from(1_000_000_000_000_000u64), None),
         (
-            BareItem::try_from(999_999_999_999_999u128),
+            RefBareItem::try_from(999_999_999_999_999u128),
             Some(Integer::MAX),
         ),
-        (BareItem::try_from(1_000_000_000_000_000u128), None),
+        (RefBareItem::try_from(1_000_000_000_000_000u128), None),
         (
-            BareItem::try_from(999_999_999_999_999usize),
+            RefBareItem::try_from(999_999_999_999_999usize),
             Some(Integer::MAX),
         ),
-        (BareItem::try_from(1_000_000_000_000_000usize), None),
+        (RefBareItem::try_from(1_000_000_000_000_000usize), None),
     ];
     for (row, (made, number)) in rows.into_iter().enumerate() {
         assert!(rt; is_made(made, number), "row {row}");
     }
-    assert!(rt; RefBareItem::try_from(1_000_000_000_000_000u64).is_err());
+    assert!(rt; BareItem::try_from(1_000_000_000_000_000u64).is_err());
     assert!(rt; BareItemFromInput::try_from(1_000_000_000_000_000u128).is_err());
 }
 

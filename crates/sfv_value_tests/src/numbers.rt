@@ -77,23 +77,21 @@ fn is_ordered<T: Ord + Hash>(a: &T, b: &T, order: Ordering) -> bool {
     a.cmp(b) == order && (a == b) == equal && (hash_of(a) == hash_of(b)) == equal
 }
 
+/// Whether the integers, the decimals of so many thousandths and the dates of so many seconds are ordered so.
+fn are_ordered(a: Integer, b: Integer, order: Ordering) -> bool {
+    let (c, d) = (
+        Decimal::from_integer_scaled_1000(a),
+        Decimal::from_integer_scaled_1000(b),
+    );
+    let (e, f) = (Date::from_unix_seconds(a), Date::from_unix_seconds(b));
+    is_ordered(&a, &b, order) && is_ordered(&c, &d, order) && is_ordered(&e, &f, order)
+}
+
 #[test]
 fn numbers_are_ordered_by_their_value_and_hash_by_it(rt: HostRuntime) {
-    let rows = [
-        (integer(-1), integer(1), Ordering::Less),
-        (integer(1), integer(1), Ordering::Equal),
-        (integer(10), integer(9), Ordering::Greater),
-    ];
-    for (a, b, order) in rows {
-        let (c, d) = (
-            Decimal::from_integer_scaled_1000(a),
-            Decimal::from_integer_scaled_1000(b),
-        );
-        let (e, f) = (Date::from_unix_seconds(a), Date::from_unix_seconds(b));
-        assert!(rt; is_ordered(&a, &b, order));
-        assert!(rt; is_ordered(&c, &d, order));
-        assert!(rt; is_ordered(&e, &f, order));
-    }
+    assert!(rt; are_ordered(integer(-1), integer(1), Ordering::Less));
+    assert!(rt; are_ordered(integer(1), integer(1), Ordering::Equal));
+    assert!(rt; are_ordered(integer(10), integer(9), Ordering::Greater));
 }
 
 #[test]

@@ -3,18 +3,14 @@
 use sfv::{
     BareItem, Decimal, DictSerializer, Dictionary, FieldType, GenericBareItem, InnerList,
     InnerListSerializer, Item, ItemSerializer, KeyRef, List, ListEntry, ListSerializer, Parameters,
-    Parser, RefBareItem, SerializeError, Sink, dictionary, integer, key_ref, parameters,
-    string_ref, token_ref,
+    Parser, RefBareItem, SerializeError, Sink, dictionary, integer, key_ref, string_ref, token_ref,
 };
 use std::alloc::Global;
 use std::test::Fail;
 
-/// The parameters with two keys, of which the first is true and the second false.
+/// The parameters `;a;b=?0`.
 fn yes_and_no(alloc: Global) -> Result<Parameters, Fail> {
-    let mut params = parameters(alloc);
-    params.insert(key_ref("a").to_owned(alloc)?, BareItem::from(true))?;
-    params.insert(key_ref("b").to_owned(alloc)?, BareItem::from(false))?;
-    Ok(params)
+    Ok(Parser::new(b"1;a;b=?0").parse::<Item>(alloc)?.params)
 }
 
 /// The members `?0`, `(?1 2;a;b=?0);a;b=?0`, `()` and `?1;a;b=?0`.

@@ -8,5 +8,3 @@ pub mod ignored;
 pub mod item_visitor;
 pub mod make;
 pub mod parameter_visitor;
-#[cfg(test)]
-mod tests;
