@@ -1,8 +1,8 @@
 //! The given visitors, and reading a field into the type that is expected.
 
 use sfv::visitor::{
-    BareItemType, ExpectItem, Ignored, ItemFault, MakeItemVisitor, item_visitor_with,
-    parameter_visitor_with,
+    BareItemType, ExpectItem, Ignored, ItemFault, MakeItemVisitor, NoMemoryError,
+    item_visitor_with, parameter_visitor_with,
 };
 use sfv::{
     BareItem, BareItemFromInput, Date, Decimal, FieldType, HashSeed, Integer, ParseError, Parser,
@@ -138,6 +138,9 @@ fn functions_are_called(rt: HostRuntime) {
     let visitor = item_visitor_with(integer_of);
     let answer = Parser::new(b"(1 2), 3").parse_list_with_visitor(alloc, visitor);
     assert!(rt; answer.ok() == Some(Some(integer(1))));
+    let visitor = item_visitor_with(integer_of).with_memory_errors::<NoMemoryError>();
+    let answer = Parser::new(b"4").parse_item_with_visitor(alloc, visitor);
+    assert!(rt; answer.ok() == Some(Some(integer(4))));
     let visitor = item_visitor_with(integer_of);
     let answer = Parser::new(b"").parse_list_with_visitor(alloc, visitor);
     assert!(rt; answer.ok() == Some(None));
