@@ -2,13 +2,13 @@
 -- field, and from what was written to what is read.
 use Rattle.std.proofs.Common.{◌≡◌, ℕ, List, [], ◌∷◌, ◌++◌, true, cond, Result, Ok, Err, refl, sym, ◌∙◌, ap, subst}
 use Rattle.std.proofs.Common.{inl, inr}
-use Rattle.std.specs.Prelude.{bytes_eq, option_map, Some, None, IfOk, ◌⊎◌}
+use Rattle.std.specs.Prelude.{bytes_eq, option_map, Some, None, IfOk, IfErr, ◌⊎◌}
 use Rattle.std.specs.declared.alloc.Global.{Global}
 use Rattle.std.specs.declared.vec.Vec.{Vec}
 use Rattle.std.proofs.lemmas.Option.{same_Some}
-use Rattle.std.proofs.lemmas.Result.{IfOk-weaker}
+use Rattle.std.proofs.lemmas.Result.{IfOk-weaker, IfErr-weaker}
 use Rattle.indexmap.specs.IndexMap.{IndexMap, insert_entry}
-use Rattle.sfv_spec.specs.Values.{Edition, FieldKind, list_field, dictionary_field, RawMember, RawField}
+use Rattle.sfv_spec.specs.Values.{Edition, FieldKind, item_field, list_field, dictionary_field, RawMember, RawField}
 use Rattle.sfv_spec.specs.Grammar.{IsFieldText, IsAccepted}
 use Rattle.sfv_spec.specs.Ordered.{keys, last_of, ordered, ordered_member, no_repeats, IsOrdered}
 use Rattle.sfv_spec.specs.Statements.{IsParsedAs, IsValue}
@@ -27,7 +27,11 @@ use Rattle.sfv_tree.specs.declared.visitor.dictionary_builder.DictionaryBuilder.
 use Rattle.sfv_reading.specs.Reader.{Fault}
 use Rattle.sfv_reading.specs.Fields.{read_field}
 use Rattle.sfv_reading.proofs.Theorems.{read_is_accepted}
-use Rattle.sfv.specs.Parsers.{IsParseError, IsAnswerOf}
+use Rattle.sfv_base.specs.declared.error.ParseError.{ParseError}
+use Rattle.sfv_tree.specs.declared.visitor.Visitor.{Ghosts as Visitor}
+use Rattle.sfv.specs.declared.parser.Parser.{Parser}
+use Rattle.sfv.specs.Parsers.{IsParseError, IsAnswerOf, IsAnswerBy, IsSyntaxBy, IsVisitorErrorBy, VisitsFirstBy}
+use Rattle.sfv.specs.Parsers.{ReadsBy, ReadsItemBy, OfMade}
 use Rattle.sfv.proofs.built.Items.{insert_entry-entered}
 use Rattle.sfv.proofs.built.Lists.{built_list_behind}
 use Rattle.sfv.proofs.built.Dictionaries.{built_dictionary_behind}
@@ -104,6 +108,26 @@ read_is_value edition kind t value h = subst (IsValue kind) (sym h.ordered_value
 pub one_value : (edition : Edition) (kind : FieldKind) (t : List ℕ) (a b : RawField kind) → IsParsedAs edition kind t a
     → IsParsedAs edition kind t b → a ≡ b
 one_value edition kind t a b h k = h.ordered_value ∙ ap (ordered kind) (k.only h.raw h.accepted) ∙ sym k.ordered_value
+
+-- what a reading with a visitor that a type makes returns, one fact at a time
+module _ {S O E : Type 0} {v : Visitor S O E} {p : Parser} {kind : FieldKind} {Made : S → Type 0}
+    (r : Result O (ParseError E)) where
+  pub made_visited : OfMade Made (ReadsBy v p kind) r → IfOk r (OfMade Made (IsAnswerBy v p kind))
+  made_visited h = IfOk-weaker r _ _ (λ out k. (h.0, h.1, k)) h.2.visited
+
+  pub made_syntax : OfMade Made (ReadsBy v p kind) r → IfErr r (OfMade Made (IsSyntaxBy v p kind))
+  made_syntax h = IfErr-weaker r _ _ (λ e k. (h.0, h.1, k)) h.2.syntax
+
+  pub made_visitor : OfMade Made (ReadsBy v p kind) r → IfErr r (OfMade Made (IsVisitorErrorBy v p kind))
+  made_visitor h = IfErr-weaker r _ _ (λ e k. (h.0, h.1, k)) h.2.visitor
+
+-- and of an item
+module _ {S O E : Type 0} {v : Visitor S O E} {p : Parser} {Made : S → Type 0} (r : Result O (ParseError E)) where
+  pub made_item : OfMade Made (ReadsItemBy v p) r → OfMade Made (ReadsBy v p item_field) r
+  made_item h = (h.0, h.1, h.2.all)
+
+  pub made_first : OfMade Made (ReadsItemBy v p) r → IfErr r (OfMade Made (VisitsFirstBy v p))
+  made_first h = IfErr-weaker r _ _ (λ e k. (h.0, h.1, k)) h.2.first
 
 -- of an accepted text an error is want of memory
 pub accepted_error : (edition : Edition) (kind : FieldKind) (t : List ℕ) (raw : RawField kind) (e : Error)

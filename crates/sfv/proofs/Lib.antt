@@ -2,5 +2,6 @@ pub mod built
 pub mod visits
 pub mod reads
 pub mod Parsed
+pub mod Memory
 pub mod Expected
 pub mod Callers

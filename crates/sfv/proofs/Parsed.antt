@@ -19,6 +19,7 @@ use Rattle.sfv_reading.proofs.Theorems.{read_is_accepted}
 use Rattle.sfv_reading.proofs.Faults.{fault_is_at, fault_rejects}
 use Rattle.sfv.specs.Fields.{located_whole}
 use Rattle.sfv.specs.Parsers.{IsParseError}
+use Rattle.sfv.specs.Memory.{IsRefusal}
 
 -- a field that was read is the one that the grammar gives
 pub parsed : (edition : Edition) (kind : FieldKind) (t : List ℕ) (raw value : RawField kind)
@@ -57,14 +58,13 @@ located_fault (Err f) k r h =
 
 -- an error of the reading is out of memory, or the fault of the text
 pub parse_error : (edition : Edition) (kind : FieldKind) (t : List ℕ) (e : Error)
-    → MatchOption e.index (e.kind ≡ OutOfMemory) (λ index. (located_whole (read_field edition kind t)
+    → MatchOption e.index (IsRefusal t e) (λ index. (located_whole (read_field edition kind t)
     ≡ Err (e.kind, drop index t)) × (index ≤ length t)) → IsParseError edition kind t e
 parse_error edition kind t e = on e.index refl
   where
-    on : (o : Option ℕ) → e.index ≡ o → MatchOption o (e.kind
-        ≡ OutOfMemory) (λ index. (located_whole (read_field edition kind t) ≡ Err (e.kind, drop index t))
+    on : (o : Option ℕ) → e.index ≡ o → MatchOption o (IsRefusal t e) (λ index. (located_whole (read_field edition kind t) ≡ Err (e.kind, drop index t))
         × (index ≤ length t)) → IsParseError edition kind t e
-    on None i h = inl (unnamed e i h)
+    on None i h = inl (unnamed e i h.0)
     on (Some index) i h =
         let f = located_fault (read_field edition kind t) e.kind (drop index t) h.0 in
         let same : e ≡ error_of (error_kind f.0.kind) (Some index) = ap (λ (o : Option ℕ). error_of e.kind o) i

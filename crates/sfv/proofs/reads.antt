@@ -6,3 +6,4 @@ pub mod Coded
 pub mod Escapes
 pub mod Errors
 pub mod Delimiters
+pub mod Borrowed

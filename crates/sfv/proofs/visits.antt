@@ -1,4 +1,5 @@
 -- What a visitor is given by each reading.
+pub mod Taken
 pub mod Parts
 pub mod Loops
 pub mod InnerLists

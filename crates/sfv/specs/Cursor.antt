@@ -4,12 +4,12 @@ use Rattle.std.specs.declared.alloc.Global.{Global}
 use Rattle.sfv_spec.specs.Values.{Edition}
 use Rattle.sfv_base.specs.declared.error.Error.{Error}
 use Rattle.sfv_base.specs.declared.error.ErrorKind.{ErrorKind}
-use Rattle.sfv_base.specs.declared.error.ErrorKind.TheVariants.{OutOfMemory}
 use Rattle.sfv_base.specs.Errors.{error_kind, kind_of, index_of}
 use Rattle.sfv_bare.specs.BareItems.{edition_of}
 use Rattle.sfv_reading.specs.Reader.{Answer, Reader, Apart}
 use Rattle.sfv.specs.declared.parser.Parser.{Parser}
 use Rattle.sfv.specs.declared.parser.cursor.Cursor.{Cursor}
+use Rattle.sfv.specs.Memory.{IsRefusal}
 
 -- what no reading changes: the parser and the allocator
 abbrev pub kept : Cursor → Parser × Global
@@ -45,7 +45,7 @@ IsFaultOf input e answer =
 -- the same, or want of memory
 abbrev pub IsErrorOf : {A : Type 0} → List ℕ → Error → Answer A → Type 0
 IsErrorOf input e answer =
-    MatchOption (index_of e) (kind_of e ≡ OutOfMemory) (λ index. (located answer ≡ Err (kind_of e, drop index input))
+    MatchOption (index_of e) (IsRefusal input e) (λ index. (located answer ≡ Err (kind_of e, drop index input))
     × (index ≤ length input))
 
 -- What a reading returned, seen by view, is what the reader gives, and the cursor stands after it.

@@ -10,6 +10,7 @@ pub mod Parsers
 pub mod Quoted
 pub mod Visits
 pub mod Members
+pub mod Memory
 pub mod Types
 -- The words of lower crates, and of the map, that public clauses use: a caller's clauses need no crate but this one.
 pub use Rattle.sfv_spec.specs.Ascii

@@ -1,5 +1,5 @@
 -- What a parser reads, and what it answers with an error.
-use Rattle.std.specs.Prelude.{◌≡◌, ◌≤◌, ⊤, ℕ, List, length, take, Some, Result, ◌⊎◌, MatchResult}
+use Rattle.std.specs.Prelude.{◌≡◌, ◌≤◌, ⊤, ℕ, List, length, take, Some, Result, ◌⊎◌, MatchResult, IfOk, IfErr}
 use Rattle.std.specs.Borrow.{Bor}
 use Rattle.sfv_spec.specs.Values.{Edition, FieldKind, item_field, list_field, dictionary_field, RawField}
 use Rattle.sfv_spec.specs.Values.{BareValue, RawItem}
@@ -16,6 +16,7 @@ use Rattle.sfv_bare.specs.declared.bare.Version.{Version}
 use Rattle.sfv_tree.specs.declared.hash_seed.HashSeed.{HashSeed}
 use Rattle.sfv_tree.specs.declared.visitor.Visitor.{Ghosts as Visitor}
 use Rattle.sfv.specs.declared.parser.Parser.{Parser}
+use Rattle.sfv.specs.Memory.{NeedsMark}
 
 -- the parser of this input under this version, which builds maps under this seed
 abbrev pub parser_of : Bor (List ℕ) → Version → HashSeed → Parser
@@ -125,6 +126,22 @@ module _ {S O E : Type 0} (v : Visitor S O E) (p : Parser) where
 
   abbrev pub VisitsFirstBy : S → ParseError E → Type 0
   VisitsFirstBy from error = VisitsFirst v.takes v.fails v.finish_fails (parser_edition p) (input_of p) from error
+
+-- what a reading of a field of this type returns, all of it with one visitor: its answer, an error of the text, its own
+-- error, that it answers on an accepted text if it never fails, and that memory is refused only where it is asked for
+pub record ReadsBy {S O E : Type 0} (v : Visitor S O E) (p : Parser) (kind : FieldKind) (from : S)
+    (result : Result O (ParseError E)) : Type 0 where
+  pub visited : IfOk result (IsAnswerBy v p kind from)
+  pub syntax : IfErr result (IsSyntaxBy v p kind from)
+  pub visitor : IfErr result (IsVisitorErrorBy v p kind from)
+  pub accepted : VisitsAcceptedBy v p kind from result
+  pub memory : IfErr result (NeedsMark (input_of p))
+
+-- the same of an item, whose bare item is visited first
+pub record ReadsItemBy {S O E : Type 0} (v : Visitor S O E) (p : Parser) (from : S) (result : Result O (ParseError E))
+    : Type 0 where
+  pub all : ReadsBy v p item_field from result
+  pub first : IfErr result (VisitsFirstBy v p from)
 
 -- it is so of some visitor that is as it was made
 abbrev pub OfMade : {S X : Type 0} → (S → Type 0) → (S → X → Type 0) → X → Type 0

@@ -6,7 +6,7 @@ use Rattle.std.specs.declared.alloc.Global.{Global}
 use Rattle.std.specs.declared.vec.Vec.{Vec}
 use Rattle.std.specs.declared.string.String as std_string
 use Rattle.std.specs.declared.borrow.CowStr.{CowStr}
-use Rattle.sfv_spec.specs.Ascii.{percent_sign, backslash, double_quote}
+use Rattle.sfv_spec.specs.Ascii.{percent_sign, backslash, double_quote, equals_sign}
 use Rattle.sfv_spec.specs.Texts.{RunOf}
 use Rattle.sfv_spec.specs.Classes.{is_lower_hexadecimal}
 use Rattle.sfv_spec.specs.Strings.{is_plain_in_string, is_plain_in_display}
@@ -71,19 +71,32 @@ abbrev pub opening : Bool → List ℕ
 opening true = percent_sign ∷ double_quote ∷ []
 opening false = double_quote ∷ []
 
+-- no escape stands between the opening and what is left
+abbrev pub HasNoMarkUpTo : Bool → List ℕ → List ℕ → Type 0
+HasNoMarkUpTo display t left =
+    (s : List ℕ) × (t ≡ opening display ++ (s ++ left)) × RunOf (λ c. not (c == mark_of display)) s
+
 -- no escape stands in what was taken after the opening
 abbrev pub HasNoMarkInside : Bool → Cursor → Cursor → Type 0
-HasNoMarkInside display before after =
-    (s : List ℕ) × (rest before ≡ opening display ++ (s ++ rest after)) × RunOf (λ c. not (c == mark_of display)) s
+HasNoMarkInside display before after = HasNoMarkUpTo display (rest before) (rest after)
 
--- A string or a display string that was read is borrowed from the input exactly if it was written without an escape.
+-- A string or a display string that was read is borrowed from the input exactly if it was written without an escape,
+-- from the beginning of a text up to what is left of it.
+abbrev pub IsBorrowedUpTo : GenericBareItem StringFromInput (Vec ℕ Global) TokenRef (CowStr Global) → List ℕ → List ℕ
+    → Type 0
+IsBorrowedUpTo (bare.String text) t left = IsTrue (is_borrowed_string text) ↔ HasNoMarkUpTo false t left
+IsBorrowedUpTo (bare.DisplayString text) t left = IsTrue (is_borrowed_text text) ↔ HasNoMarkUpTo true t left
+IsBorrowedUpTo item t left = ⊤
+
+-- the same of one that was taken
 abbrev pub IsBorrowedUnlessEscaped : GenericBareItem StringFromInput (Vec ℕ Global) TokenRef (CowStr Global) → Cursor
     → Cursor → Type 0
-IsBorrowedUnlessEscaped (bare.String text) before after =
-    IsTrue (is_borrowed_string text) ↔ HasNoMarkInside false before after
-IsBorrowedUnlessEscaped (bare.DisplayString text) before after =
-    IsTrue (is_borrowed_text text) ↔ HasNoMarkInside true before after
-IsBorrowedUnlessEscaped item before after = ⊤
+IsBorrowedUnlessEscaped item before after = IsBorrowedUpTo item (rest before) (rest after)
+
+-- the same of one that stands after an equals sign, if one stands first
+abbrev pub IsBorrowedValue : GenericBareItem StringFromInput (Vec ℕ Global) TokenRef (CowStr Global) → List ℕ → List ℕ
+    → Type 0
+IsBorrowedValue item t left = (q : List ℕ) → t ≡ equals_sign ∷ q → IsBorrowedUpTo item q left
 
 -- the byte was taken that an escape stands for, after its mark
 abbrev pub ReadsEscape : Bool → Cursor → Cursor → Result ℕ Error → Type 0

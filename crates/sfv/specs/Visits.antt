@@ -6,26 +6,32 @@ use Rattle.sfv_spec.specs.Values.{Edition, FieldKind, item_field, list_field, di
 use Rattle.sfv_spec.specs.Events.{TreeEvent, bare_item, events}
 use Rattle.sfv_spec.specs.Visiting.{RunsTo, IsVisited}
 use Rattle.sfv_base.specs.declared.error.Error.{Error}
-use Rattle.sfv_base.specs.declared.error.ErrorKind.TheVariants.{OutOfMemory}
 use Rattle.sfv_base.specs.declared.error.ParseError.{ParseError}
 use Rattle.sfv_base.specs.declared.error.ParseError.TheVariants.{Syntax, Visitor}
 use Rattle.sfv_base.specs.Errors.{kind_of, index_of}
 use Rattle.sfv_reading.specs.Reader.{Answer, Reader, span}
 use Rattle.sfv_reading.specs.Bare.{bare_at}
 use Rattle.sfv_reading.specs.Fields.{whole_field_at, read_field}
-use Rattle.sfv_reading.specs.Visits.{VisitorFails}
+use Rattle.sfv_reading.specs.Visits.{Visited, VisitorFails}
 use Rattle.sfv.specs.declared.parser.Parser.{Parser}
 use Rattle.sfv.specs.declared.parser.cursor.Cursor.{Cursor}
 use Rattle.sfv.specs.Cursor.{kept, kept_input, edition, rest, IsErrorOf}
 use Rattle.sfv.specs.Fields.{located_whole}
+use Rattle.sfv.specs.Memory.{IsRefusal}
 
--- A value was read, and the visitor took its events; or the reader's fault is met, or out of memory; or
--- the visitor fails at one of the events that the reader gives.
+-- An error with an index comes after the visitor has taken all events that the reader gives.
+abbrev pub TookAll : {A S : Type 0} → (S → TreeEvent → S → Type 0) → (A → List TreeEvent) → Error → Answer A → S → S
+    → Type 0
+TookAll takes parts e answer from to = MatchOption (index_of e) ⊤ (λ index. Visited takes parts answer from to)
+
+-- A value was read, and the visitor took its events; or the reader's fault is met, after the visitor took the events
+-- before it, or out of memory; or the visitor fails at one of the events that the reader gives.
 abbrev pub VisitsAnswer : {A S E : Type 0} → (S → TreeEvent → S → Type 0) → (S → TreeEvent → E → Type 0)
     → (A → List TreeEvent) → Parser × Global → Cursor → S → S → Result (Unit {0}) (ParseError E) → Answer A → Type 0
 VisitsAnswer {A} takes fails parts k after from to (Ok u) answer = (v : A) × (answer ≡ Ok (v, rest after))
     × RunsTo takes from (parts v) to × (kept after ≡ k)
 VisitsAnswer takes fails parts k after from to (Err (Syntax e)) answer = IsErrorOf (kept_input k) e answer
+    × TookAll takes parts e answer from to
 VisitsAnswer takes fails parts k after from to (Err (Visitor f)) answer = VisitorFails takes fails parts answer from f
 
 -- The same of what the cursor's edition reads from the next byte on.
@@ -70,7 +76,7 @@ abbrev pub VisitsField : {S O E : Type 0} → (S → TreeEvent → S → Type 0)
 VisitsField takes fails finishes finish_fails edition kind t from (Ok out) = (raw : RawField kind)
     × (read_field edition kind t ≡ Ok raw) × IsVisited takes finishes from (events kind raw) out
 VisitsField takes fails finishes finish_fails edition kind t from (Err (Syntax e)) =
-    MatchOption (index_of e) (kind_of e ≡ OutOfMemory)
+    MatchOption (index_of e) (IsRefusal t e)
     (λ index. (located_whole (read_field edition kind t) ≡ Err (kind_of e, drop index t)) × (index ≤ length t))
     × IsFinishedAt takes finishes edition kind t from e
 VisitsField {S} takes fails finishes finish_fails edition kind t from (Err (Visitor f)) =

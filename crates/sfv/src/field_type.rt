@@ -8,6 +8,7 @@ ghost use Rattle.sfv_bare.specs.BareItems.{edition_of};
 ghost use Rattle.sfv_tree.specs.Trees.{item_tree, list_tree, dictionary_tree};
 ghost use Rattle.sfv_ser.specs.Versions.{LooksFirst};
 ghost use Rattle.sfv.specs.Parsers.{input_of, parser_edition, IsParseError};
+ghost use Rattle.sfv.specs.Memory.{NeedsMoreThanSpaces};
 
 use crate::parser::Parser;
 use sfv_bare::bare::Version;
@@ -52,7 +53,8 @@ pub trait FieldType: sealed::Sealed + Drop {
     fn parse(alloc: Global, parser: Parser<'_>) -> Result<Self, Error>
         ensures read { IfOk result (λ value.
             IsParsedAs (parser_edition parser.entry) kind (input_of parser.entry) (tree value)) }
-        ensures rejected { IfErr result (IsParseError (parser_edition parser.entry) kind (input_of parser.entry)) };
+        ensures rejected { IfErr result (IsParseError (parser_edition parser.entry) kind (input_of parser.entry)) }
+        ensures memory { IfErr result (NeedsMoreThanSpaces (input_of parser.entry)) };
 
     /// Returns the canonical text (RFC 9651, section 4.1), with memory from `alloc`, which RFC 9651 reads back. For a list
     /// or a dictionary without members it returns `None`, and asks for no memory.

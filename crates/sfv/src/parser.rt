@@ -43,6 +43,8 @@ pub struct Parser<'de> {
 impl<'de> Parser<'de> {
     ghost use Rattle.sfv.specs.Parsers.{parser_of, input_of, parser_edition, IsParseError, IsAnswerBy, IsSyntaxBy};
     ghost use Rattle.sfv.specs.Parsers.{IsVisitorErrorBy, VisitsAcceptedBy, VisitsFirstBy, OfMade};
+    ghost use Rattle.sfv.specs.Parsers.{ReadsBy, ReadsItemBy};
+    ghost use Rattle.sfv.specs.Memory.{NeedsMark, NeedsMoreThanSpaces};
 
     /// Reads this input, under RFC 9651 and the library's seed.
     pub fn new(input: &'de [u8]) -> Parser<'de>
@@ -96,6 +98,7 @@ impl<'de> Parser<'de> {
         ensures read { IfOk result
             (λ value. IsParsedAs (parser_edition self.entry) T.kind (input_of self.entry) (T.tree value)) }
         ensures rejected { IfErr result (IsParseError (parser_edition self.entry) T.kind (input_of self.entry)) }
+        ensures memory { IfErr result (NeedsMoreThanSpaces (input_of self.entry)) }
     {
         T::parse(alloc, self)
     }
@@ -113,15 +116,7 @@ impl<'de> Parser<'de> {
         self,
         alloc: Global,
     ) -> Result<T, ParseError<<T::Visitor as Visitor<'de>>::Error>>
-        ensures visited { IfOk result
-            (OfMade (T.is_made self.entry.seed) (IsAnswerBy T.Visitor.Visitor self.entry item_field)) }
-        ensures syntax { IfErr result
-            (OfMade (T.is_made self.entry.seed) (IsSyntaxBy T.Visitor.Visitor self.entry item_field)) }
-        ensures visitor { IfErr result
-            (OfMade (T.is_made self.entry.seed) (IsVisitorErrorBy T.Visitor.Visitor self.entry item_field)) }
-        ensures accepted { OfMade (T.is_made self.entry.seed)
-            (VisitsAcceptedBy T.Visitor.Visitor self.entry item_field) result }
-        ensures first { IfErr result (OfMade (T.is_made self.entry.seed) (VisitsFirstBy T.Visitor.Visitor self.entry)) }
+        ensures { OfMade (T.is_made self.entry.seed) (ReadsItemBy T.Visitor.Visitor self.entry) result }
     {
         let visitor = T::make_item_visitor(alloc, self.seed);
         self.parse_item_with_visitor(alloc, visitor)
@@ -139,14 +134,7 @@ impl<'de> Parser<'de> {
         self,
         alloc: Global,
     ) -> Result<T, ParseError<<T::Visitor as Visitor<'de>>::Error>>
-        ensures visited { IfOk result
-            (OfMade (T.is_made self.entry.seed) (IsAnswerBy T.Visitor.Visitor self.entry list_field)) }
-        ensures syntax { IfErr result
-            (OfMade (T.is_made self.entry.seed) (IsSyntaxBy T.Visitor.Visitor self.entry list_field)) }
-        ensures visitor { IfErr result
-            (OfMade (T.is_made self.entry.seed) (IsVisitorErrorBy T.Visitor.Visitor self.entry list_field)) }
-        ensures accepted { OfMade (T.is_made self.entry.seed)
-            (VisitsAcceptedBy T.Visitor.Visitor self.entry list_field) result }
+        ensures { OfMade (T.is_made self.entry.seed) (ReadsBy T.Visitor.Visitor self.entry list_field) result }
     {
         let visitor = T::make_list_visitor(alloc, self.seed);
         self.parse_list_with_visitor(alloc, visitor)
@@ -164,14 +152,7 @@ impl<'de> Parser<'de> {
         self,
         alloc: Global,
     ) -> Result<T, ParseError<<T::Visitor as Visitor<'de>>::Error>>
-        ensures visited { IfOk result
-            (OfMade (T.is_made self.entry.seed) (IsAnswerBy T.Visitor.Visitor self.entry dictionary_field)) }
-        ensures syntax { IfErr result
-            (OfMade (T.is_made self.entry.seed) (IsSyntaxBy T.Visitor.Visitor self.entry dictionary_field)) }
-        ensures visitor { IfErr result
-            (OfMade (T.is_made self.entry.seed) (IsVisitorErrorBy T.Visitor.Visitor self.entry dictionary_field)) }
-        ensures accepted { OfMade (T.is_made self.entry.seed)
-            (VisitsAcceptedBy T.Visitor.Visitor self.entry dictionary_field) result }
+        ensures { OfMade (T.is_made self.entry.seed) (ReadsBy T.Visitor.Visitor self.entry dictionary_field) result }
     {
         let visitor = T::make_dictionary_visitor(alloc, self.seed);
         self.parse_dictionary_with_visitor(alloc, visitor)
@@ -198,6 +179,7 @@ impl<'de> Parser<'de> {
         ensures syntax { IfErr result (IsSyntaxBy V.Visitor self.entry item_field visitor) }
         ensures visitor { IfErr result (IsVisitorErrorBy V.Visitor self.entry item_field visitor) }
         ensures accepted { VisitsAcceptedBy V.Visitor self.entry item_field visitor result }
+        ensures memory { IfErr result (NeedsMark (input_of self.entry)) }
         ensures first { IfErr result (VisitsFirstBy V.Visitor self.entry visitor) }
     {
         parse_item_field(self, alloc, visitor)
@@ -225,6 +207,7 @@ impl<'de> Parser<'de> {
         ensures syntax { IfErr result (IsSyntaxBy V.Visitor self.entry list_field visitor) }
         ensures visitor { IfErr result (IsVisitorErrorBy V.Visitor self.entry list_field visitor) }
         ensures accepted { VisitsAcceptedBy V.Visitor self.entry list_field visitor result }
+        ensures memory { IfErr result (NeedsMark (input_of self.entry)) }
     {
         parse_members_field::<Entry, V>(self, alloc, visitor)
     }
@@ -251,6 +234,7 @@ impl<'de> Parser<'de> {
         ensures syntax { IfErr result (IsSyntaxBy V.Visitor self.entry dictionary_field visitor) }
         ensures visitor { IfErr result (IsVisitorErrorBy V.Visitor self.entry dictionary_field visitor) }
         ensures accepted { VisitsAcceptedBy V.Visitor self.entry dictionary_field visitor result }
+        ensures memory { IfErr result (NeedsMark (input_of self.entry)) }
     {
         parse_members_field::<KeyedEntry, V>(self, alloc, visitor)
     }

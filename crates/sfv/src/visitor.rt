@@ -9,6 +9,8 @@ pub use sfv_tree::visitor::{
 };
 pub use sfv_visit::expect_item::{ExpectItem, ExpectedItem};
 pub use sfv_visit::ignored::Ignored;
-pub use sfv_visit::item_visitor::{ItemVisitorWith, item_visitor_with};
+pub use sfv_visit::item_visitor::{
+    ItemVisitorWith, MemoryErrors, NoMemoryError, item_visitor_with,
+};
 pub use sfv_visit::make::{MakeDictionaryVisitor, MakeItemVisitor, MakeListVisitor};
 pub use sfv_visit::parameter_visitor::{ParameterVisitorWith, parameter_visitor_with};

@@ -1,5 +1,5 @@
 -- What the readers of fields have to do with the grammar.
-use Rattle.std.specs.Prelude.{◌≡◌, ◌↔◌, ℕ, ◌+◌, ◌≤◌, ◌%◌, Bool, List, [], ◌∷◌, ◌++◌, length, drop, true, false}
+use Rattle.std.specs.Prelude.{◌≡◌, ◌↔◌, ℕ, ◌+◌, ◌≤◌, ◌%◌, Bool, List, [], ◌∷◌, ◌++◌, length, take, drop, true, false}
 use Rattle.std.specs.Prelude.{Some, None, Ok, Err, ◌⊎◌, codes}
 use Rattle.sfv_spec.specs.Ascii.{colon, question_mark}
 use Rattle.sfv_spec.specs.Texts.{RunOf}
@@ -44,6 +44,19 @@ FaultIsPlaced = (edition : Edition) (kind : FieldKind) (t : List ℕ) (e : Fault
 abbrev pub VisitedBegins : Type 0
 VisitedBegins = (edition : Edition) (kind : FieldKind) (t : List ℕ)
     → BeginsEvents kind (visited (events kind) (whole_field_at edition kind t))
+
+-- es begins the events of a field of this type, whose text begins so
+pub record BeginsEventsAfter (edition : Edition) (kind : FieldKind) (u : List ℕ) (es : List TreeEvent) : Type 0 where
+  pub raw : RawField kind
+  pub more : List ℕ
+  pub accepted : IsFieldText edition kind raw (u ++ more)
+  pub others : List TreeEvent
+  pub all : events kind raw ≡ es ++ others
+
+-- what was visited before a fault begins the events of a field whose text begins with all bytes up to the reach
+abbrev pub EventsReach : Type 0
+EventsReach = (edition : Edition) (kind : FieldKind) (t : List ℕ) (e : Fault) → read_field edition kind t ≡ Err e
+    → (n : ℕ) → IsReach edition kind t n → BeginsEventsAfter edition kind (take n t) e.events
 
 -- so does what a visitor took before it rejected, with what it rejected
 abbrev pub FailedBegins : Type 0

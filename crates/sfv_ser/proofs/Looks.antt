@@ -1,9 +1,9 @@
 -- Values that are looked at one after another.
 use Rattle.std.proofs.Common.{Bool, true, ◌≡◌, ℕ, zero, suc, ◌+◌, ◌<◌, List, [], ◌∷◌, ◌++◌, length, get_or, map, take, refl, sym, ap}
-use Rattle.std.proofs.Common.{false, subst, ◌∙◌, append_assoc, Result, Ok, Err, inl, inr, arith}
-use Rattle.std.specs.Prelude.{⊤, Option, Some, None, flat_map, filter_map, MatchResult, IsErrAnd}
+use Rattle.std.proofs.Common.{false, subst, ◌∙◌, append_assoc, length-append, Result, Ok, Err, inl, inr, arith}
+use Rattle.std.specs.Prelude.{⊤, Option, Some, None, flat_map, filter_map, MatchResult, IfErr, IsErrAnd}
 use Rattle.std.specs.Borrow.{Bor}
-use Rattle.std.specs.Iterator.{Yields}
+use Rattle.std.specs.Iterator.{Yields, Drains}
 use Rattle.std.specs.Map.Iter.{TakesFirst, deref}
 use Rattle.std.proofs.lemmas.Result.{err_from_is_err_and}
 use Rattle.std.proofs.lemmas.List.Concat.{flat_map-append}
@@ -30,7 +30,7 @@ use Rattle.sfv_tree.specs.declared.parsed.ListEntry.{ListEntry}
 use Rattle.std.specs.Map.{values_of}
 use Rattle.sfv_spec.proofs.Given.{fit_append, newer_has_all}
 use Rattle.sfv_ser.proofs.Rows.{mapped_more}
-use Rattle.sfv_ser.specs.Versions.{NamesFirst, LooksAt, LooksFirst, FailsAmong, values_of_parameters, values_of_item, values_of_member}
+use Rattle.sfv_ser.specs.Versions.{NamesFirst, LooksAt, LooksFirst, IsSerializeError, FailsAmong, FailsFrom, values_of_parameters, values_of_item, values_of_member}
 use Rattle.sfv_ser.specs.declared.serialize_error.SerializeError.{SerializeError}
 use Rattle.sfv_ser.specs.declared.serialize_error.SerializeError.TheVariants as errors
 
@@ -81,11 +81,40 @@ pub at_exit : {T E : Type 0} (r : Result T E) (e : E) (P : T → Type 0) (Q : E 
     → MatchResult r P Q
 at_exit r e P Q exit h = let p = err_from_is_err_and r exit in rw (p.1, p.2) h
 
+-- such an error behind values that fit
+error_behind : (edition : Edition) (bs cs : List BareValue) (e : SerializeError) → AllFit edition bs
+    → IsSerializeError edition cs e → IsSerializeError edition (bs ++ cs) e
+error_behind edition bs cs e f (inl h) = inl (h.0, fit_append edition bs cs f h.1)
+error_behind edition bs cs e f (inr h) = inr (names_behind edition bs cs e f h)
+
+-- the error of what is given behind a first value that fits
+pub fails_behind : {S A T : Type 0} (steps : S → Option A → S → Type 0) (rest : S) (values : List A → List BareValue)
+    (edition : Edition) (b : BareValue) (r : Result T SerializeError) → AllFit edition (b ∷ [])
+    → IfErr r (FailsAmong steps rest values edition) → IfErr r (FailsFrom steps rest (λ taken. b ∷ values taken) edition)
+fails_behind steps rest values edition b (Ok x) f h = tt
+fails_behind steps rest values edition b (Err e) f h =
+    (h.0, h.1, h.2, error_behind edition (b ∷ []) (values h.0) e f h.4)
+
+-- what the iterator gave first, and the rest, are what it gave
+pub fails_from_first : {S A T : Type 0} (steps : S → Option A → S → Type 0) (s : S) (x : A) (rest : S)
+    (values : List A → List BareValue) (edition : Edition) (r : Result T SerializeError) → steps s (Some x) rest
+    → IfErr r (FailsFrom steps rest (λ taken. values (x ∷ taken)) edition)
+    → IfErr r (FailsAmong steps s values edition)
+fails_from_first steps s x rest values edition (Ok y) step h = tt
+fails_from_first steps s x rest values edition (Err e) step h =
+    (x ∷ h.0, h.1, (rest, step, h.2), omega arith, h.3)
+
+pub drains_from_first : {S A : Type 0} (steps : S → Option A → S → Type 0) (s : S) (x : A) (rest : S)
+    (xs : List A) → steps s (Some x) rest → Drains steps rest xs → Drains steps s (x ∷ xs)
+drains_from_first steps s x rest xs step h = (h.0, (h.1.0, (rest, step, h.1.1), h.1.2))
+
 -- RFC 9651 has every value
 pub newer_fails : {S A : Type 0} (steps : S → Option A → S → Type 0) (s : S) (values : List A → List BareValue)
     (e : SerializeError) → FailsAmong steps s values rfc9651 e → e ≡ errors.OutOfMemory
-newer_fails steps s values e (inl is) = is
-newer_fails steps s values e (inr h) = absurd (newer_has_all (values h.0) h.3.0 h.3.1)
+newer_fails steps s values e h = elim h.4 [
+  | inl k ↦ k.0
+  | inr k ↦ absurd (newer_has_all (values h.0) k.0 k.1)
+]
 
 -- ---- each of a list
 
@@ -105,6 +134,10 @@ module _ {A : Type 0} (edition : Edition) (values : A → List BareValue) where
       (names_behind edition (flat_map values front) (values x ++ flat_map values rest) e h
       (names_front edition (values x) (flat_map values rest) e k))
 
+-- with one more there is one
+not_none : {A : Type 0} (xs : List A) (x : A) → 0 < length (xs ++ x ∷ [])
+not_none xs x = omega (arith, length-append xs (x ∷ []))
+
 -- what an iterator gave, and then a value that doesn't fit
 pub fails_among : {S A T : Type 0} (steps : S → Option A → S → Type 0) (edition : Edition) (values : A → List BareValue)
     (all : List A → List BareValue) → ((xs : List A) → flat_map values xs ≡ all xs) → (s t u : S) (xs : List A) (x : A)
@@ -113,12 +146,29 @@ pub fails_among : {S A T : Type 0} (steps : S → Option A → S → Type 0) (ed
     → MatchResult r (λ _. ⊤) (FailsAmong steps s all edition)
 fails_among steps edition values all same s t u xs x r e exit ran step fit names =
     let fit' : AllFit edition (flat_map values xs) = subst (AllFit edition) (sym (same xs)) fit in
-    at_exit r e _ _ exit (inr (
+    at_exit r e _ _ exit (
       xs ++ x ∷ [],
       u,
       Yields-more steps s xs t x u ran step,
-      subst (λ bs. NamesFirst edition bs e) (same (xs ++ x ∷ [])) (each_stops edition values xs x [] e fit' names),
-    ))
+      not_none xs x,
+      inr (subst (λ bs. NamesFirst edition bs e) (same (xs ++ x ∷ [])) (each_stops edition values xs x [] e fit' names)),
+    )
+
+-- what an iterator gave, of which all values fit, and then no memory for the last
+pub memory_among : {S A T : Type 0} (steps : S → Option A → S → Type 0) (edition : Edition) (values : A → List BareValue)
+    (all : List A → List BareValue) → ((xs : List A) → flat_map values xs ≡ all xs) → (s t u : S) (xs : List A) (x : A)
+    (r : Result T SerializeError) → IsErrAnd r (λ y. y ≡ errors.OutOfMemory) → Yields steps s xs t
+    → steps t (Some x) u → AllFit edition (all xs) → AllFit edition (values x)
+    → MatchResult r (λ _. ⊤) (FailsAmong steps s all edition)
+memory_among steps edition values all same s t u xs x r exit ran step fit last =
+    let fit' : AllFit edition (flat_map values xs) = subst (AllFit edition) (sym (same xs)) fit in
+    at_exit r errors.OutOfMemory _ _ exit (
+      xs ++ x ∷ [],
+      u,
+      Yields-more steps s xs t x u ran step,
+      not_none xs x,
+      inl (refl, subst (AllFit edition) (same (xs ++ x ∷ [])) (each_more edition values xs x fit' last)),
+    )
 
 -- a list at one of its places
 split_at : {A : Type 0} (xs : List A) (n : ℕ) (x : A) → n < length xs → x ≡ get_or xs n x
@@ -225,6 +275,17 @@ memory_fails edition values r exit h = at_exit r errors.OutOfMemory _ _ exit (in
 not_of_none : {A : Type 0} (xs : List A) (y : A) (ys : List A) → ¬ ([] ≡ xs ++ y ∷ ys)
 not_of_none [] y ys = λ e. cc
 not_of_none (x ∷ xs) y ys = λ e. cc
+
+-- calls of which a value doesn't fit are not none
+pub named_list : (edition : Edition) (calls : List MemberCalls) (e : SerializeError)
+    → NamesFirst edition (bare_values list_field (handed_list calls)) e → 0 < length calls
+named_list edition [] e h = absurd (not_of_none h.1.before h.0 h.1.after h.1.split)
+named_list edition (c ∷ cs) e h = omega arith
+
+pub named_dictionary : (edition : Edition) (calls : List (KeyRef × MemberCalls)) (e : SerializeError)
+    → NamesFirst edition (bare_values dictionary_field (handed_dictionary calls)) e → 0 < length calls
+named_dictionary edition [] e h = absurd (not_of_none h.1.before h.0 h.1.after h.1.split)
+named_dictionary edition (c ∷ cs) e h = omega arith
 
 -- what has a value that doesn't fit has a member
 pub named_has_member : (edition : Edition) (kind : FieldKind) (raw : RawField kind) (e : SerializeError)

@@ -1,5 +1,5 @@
 -- Writing that is bound to a version: which values are looked at, and what an error says of them.
-use Rattle.std.specs.Prelude.{◌≡◌, ◌⊎◌, ◌++◌, ◌∷◌, ℕ, List, map, flat_map, codes, Option, Result, MatchResult}
+use Rattle.std.specs.Prelude.{◌≡◌, ◌<◌, ◌⊎◌, ◌++◌, ◌∷◌, ℕ, List, length, map, flat_map, codes, Option, Result, MatchResult}
 use Rattle.std.specs.Iterator.{Yields}
 use Rattle.std.specs.Borrow.{Bor}
 use Rattle.sfv_spec.specs.Values.{Edition, BareValue, RawParameters, RawItem, RawMember, item, inner_list}
@@ -36,13 +36,19 @@ IsSerializeError edition values error =
 abbrev pub LooksFirst : {T : Type 0} → Edition → List BareValue → Result T SerializeError → Type 0
 LooksFirst edition values result = MatchResult result (λ _. AllFit edition values) (IsSerializeError edition values)
 
--- the error of a call that looks at what an iterator gives in turn: out of memory, or it names the first value that
--- doesn't fit, after which the iterator isn't asked again
+-- the error of a call that looks at what an iterator gives in turn, at each before it asks for memory: the iterator gave
+-- something, and the error is that of its values so far, after which it isn't asked again
 abbrev pub FailsAmong : {S A : Type 0} → (S → Option A → S → Type 0) → S → (List A → List BareValue) → Edition
     → SerializeError → Type 0
 FailsAmong {S} {A} steps from values edition error =
-    (error ≡ errors.OutOfMemory)
-    ⊎ ((taken : List A) × (rest : S) × Yields steps from taken rest × NamesFirst edition (values taken) error)
+    (taken : List A) × (rest : S) × Yields steps from taken rest × (0 < length taken)
+    × IsSerializeError edition (values taken) error
+
+-- the same, where the values begin with others that were given before
+abbrev pub FailsFrom : {S A : Type 0} → (S → Option A → S → Type 0) → S → (List A → List BareValue) → Edition
+    → SerializeError → Type 0
+FailsFrom {S} {A} steps from values edition error =
+    (taken : List A) × (rest : S) × Yields steps from taken rest × IsSerializeError edition (values taken) error
 
 -- the values of parameters, of an item and of a member, in the order of a text
 abbrev pub values_of_parameters : RawParameters → List BareValue

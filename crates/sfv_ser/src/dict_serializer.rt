@@ -18,6 +18,7 @@ ghost use Rattle.sfv_ser.specs.contracts.kind.DictMembers.{the_row as dict_membe
 
 use crate::inner_list_serializer::InnerListSerializer;
 use crate::kind::DictMembers;
+use crate::known::{is_a_key, is_a_value};
 use crate::look::look_at_bare_item;
 use crate::parameter_serializer::ParameterSerializer;
 use crate::part::{Named, NamedOpening};
@@ -56,9 +57,11 @@ impl<W: Sink> Parts<W, DictMembers> {
         ensures looks { LooksFirst (parts_edition self.old) (ref_value value.entry ∷ []) result }
         ensures text { IfOk result (λ p. HasNextPart W.Sink (codes ", ") self.old (params_sink p).now
             (keyed_text (key_text name.entry) (ref_value value.entry)) false) }
-        ensures is_key { OnOk result (IsTrue (is_key (key_text name.entry))) }
-        ensures is_value { OnOk result (IsBareValue (ref_value value.entry)) }
+        ensures is_key { IsTrue (is_key (key_text name.entry)) }
+        ensures is_value { IsBareValue (ref_value value.entry) }
     {
+        is_a_key(name);
+        is_a_value(value);
         look_at_bare_item(self.version, value)?;
         self.append(Named { name, value })?;
         self.is_first = false;
@@ -84,8 +87,9 @@ impl<W: Sink> Parts<W, DictMembers> {
             (key_text name.entry ++ codes "=(") (has_no_part self.old)) }
         ensures begins { IfOk result (λ s. (has_no_part s ≡ true)
             × (length_before s ≡ string_len (W.text (parts_sink self.old)))) }
-        ensures is_key { OnOk result (IsTrue (is_key (key_text name.entry))) }
+        ensures is_key { IsTrue (is_key (key_text name.entry)) }
     {
+        is_a_key(name);
         self.begin(NamedOpening { name })
     }
 
@@ -93,8 +97,8 @@ impl<W: Sink> Parts<W, DictMembers> {
     ///
     /// # Errors
     ///
-    /// `Unsupported` at the first value that the version doesn't have, or `OutOfMemory`; the text, and whether a member
-    /// stands, are then as they were.
+    /// `Unsupported` at the first value that the version doesn't have, or `OutOfMemory`, and neither where no member is
+    /// given; the text, and whether a member stands, are then as they were.
     pub fn members<'m, I: Iterator<Item = (&'m Key, &'m ListEntry)> + Drop>(
         &mut self,
         members: I,

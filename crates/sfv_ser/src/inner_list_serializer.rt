@@ -28,7 +28,8 @@ impl<X: Sink> Parts<X, InnerListItems> {
     ///
     /// # Errors
     ///
-    /// `Unsupported` at the first value that the version doesn't have, or `OutOfMemory`; the text is then as it was.
+    /// `Unsupported` at the first value that the version doesn't have, or `OutOfMemory`, and neither where no item is
+    /// given; the text is then as it was.
     pub fn items<'m, I: Iterator<Item = &'m Item> + Drop>(
         &mut self,
         items: I,

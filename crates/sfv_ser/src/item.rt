@@ -1,6 +1,6 @@
 //! Writing bare items, parameters and items (RFC 9651, sections 4.1.1.2, 4.1.3 and 4.1.3.1).
 
-ghost use Rattle.std.specs.Prelude.{◌≡◌, ◌++◌, List, true, IfErr, OnOk, OnErr, MatchBool, IsTrue, codes, string_bytes};
+ghost use Rattle.std.specs.Prelude.{◌≡◌, ◌∷◌, ◌++◌, List, true, IfErr, OnOk, OnErr, MatchBool, IsTrue, codes, string_bytes};
 ghost use Rattle.std.specs.Iterator.{IsFinite, Drains};
 ghost use Rattle.sfv_spec.specs.Classes.{is_key, is_token};
 ghost use Rattle.sfv_spec.specs.Values.{IsBareValue, AreParameters, boolean, item_field};
@@ -14,7 +14,7 @@ ghost use Rattle.sfv_text.specs.KeyText.{key_text};
 ghost use Rattle.sfv_text.specs.TokenText.{token_text};
 ghost use Rattle.sfv_tree.specs.Trees.{pairs_tree, item_tree};
 ghost use Rattle.sfv_ser.specs.Written.{Appends, Extends, param_text, lent_pairs};
-ghost use Rattle.sfv_ser.specs.Versions.{FailsAmong, values_of_pairs};
+ghost use Rattle.sfv_ser.specs.Versions.{FailsAmong, FailsFrom, values_of_pairs};
 
 use crate::byte_sequence::serialize_byte_sequence;
 use crate::display_string::serialize_display_string;
@@ -152,14 +152,63 @@ pub(crate) fn serialize_parameters<
     Ok(())
 }
 
-/// Appends parameters that this version has; after an error, the output keeps its text.
+/// Appends a parameter, and those that an iterator gives after it, all of which this version has.
+#[inline(never)]
+fn serialize_first_and_rest<'k, A: Allocator, I: Iterator<Item = (&'k Key, &'k BareItem)> + Drop>(
+    version: Version,
+    first: (&'k Key, &'k BareItem),
+    rest: I,
+    output: &mut StdString<A>,
+) -> Result<(), SerializeError>
+    requires can { I.can_next rest }
+    requires ends { IsFinite (I.remaining rest) }
+    ensures text { OnOk result ((pairs : List _) × Drains I.next_gives rest pairs
+        × (string_bytes output.new ≡ string_bytes output.old ++ parameters_text (lent_pairs (first.entry ∷ pairs)))
+        × AreParameters (lent_pairs (first.entry ∷ pairs)) × AllFit (edition_of version) (values_of_pairs (first.entry ∷ pairs))) }
+    ensures failed { IfErr result
+        (FailsFrom I.next_gives rest (λ taken. values_of_pairs (first.entry ∷ taken)) (edition_of version)) }
+    ensures grows { OnErr result (Extends (string_bytes output.old) (string_bytes output.new)) }
+{
+    let (key, value) = first;
+    look_at_bare_item(version, value.as_ref_item())?;
+    serialize_parameter(key, value, output)?;
+    serialize_parameters(version, rest, output)
+}
+
+/// Appends them; after an error, the output keeps its text.
 #[tactic(auto, using(crate::proofs::Written::cut_to))]
+#[inline(always)]
+fn append_first_and_rest<'k, A: Allocator, I: Iterator<Item = (&'k Key, &'k BareItem)> + Drop>(
+    version: Version,
+    first: (&'k Key, &'k BareItem),
+    rest: I,
+    output: &mut StdString<A>,
+) -> Result<(), SerializeError>
+    requires can { I.can_next rest }
+    requires ends { IsFinite (I.remaining rest) }
+    ensures text { OnOk result ((pairs : List _) × Drains I.next_gives rest pairs
+        × (string_bytes output.new ≡ string_bytes output.old ++ parameters_text (lent_pairs (first.entry ∷ pairs)))
+        × AreParameters (lent_pairs (first.entry ∷ pairs)) × AllFit (edition_of version) (values_of_pairs (first.entry ∷ pairs))) }
+    ensures failed { IfErr result
+        (FailsFrom I.next_gives rest (λ taken. values_of_pairs (first.entry ∷ taken)) (edition_of version)) }
+    ensures kept { OnErr result (string_bytes output.new ≡ string_bytes output.old) }
+{
+    let len = output.len();
+    if let Err(error) = serialize_first_and_rest(version, first, rest, output) {
+        cut_back(len, output);
+        return Err(error);
+    }
+    Ok(())
+}
+
+/// Appends parameters that this version has; after an error, the output keeps its text.
+// Most items have none, and then don't pay for a call.
 #[inline(always)]
 pub(crate) fn append_parameters<
     'k,
     A: Allocator,
     I: Iterator<Item = (&'k Key, &'k BareItem)> + Drop,
->(version: Version, params: I, output: &mut StdString<A>) -> Result<(), SerializeError>
+>(version: Version, mut params: I, output: &mut StdString<A>) -> Result<(), SerializeError>
     requires can { I.can_next params }
     requires ends { IsFinite (I.remaining params) }
     ensures text { OnOk result ((pairs : List _) × Drains I.next_gives params pairs
@@ -168,12 +217,10 @@ pub(crate) fn append_parameters<
     ensures failed { IfErr result (FailsAmong I.next_gives params values_of_pairs (edition_of version)) }
     ensures kept { OnErr result (string_bytes output.new ≡ string_bytes output.old) }
 {
-    let len = output.len();
-    if let Err(error) = serialize_parameters(version, params, output) {
-        cut_back(len, output);
-        return Err(error);
-    }
-    Ok(())
+    let Some(first) = params.next() else {
+        return Ok(());
+    };
+    append_first_and_rest(version, first, params, output)
 }
 
 /// Appends the parameters of an item or an inner list.

@@ -8,6 +8,7 @@ ghost use Rattle.sfv_bare.specs.BareItems.{ref_value, edition_of};
 ghost use Rattle.sfv_ser.specs.Versions.{LooksFirst};
 ghost use Rattle.sfv_ser.specs.Serializers.{TextRests, HoldsMore, item_buffer, params_sink, item_edition, params_edition};
 
+use crate::known::is_a_value;
 use crate::look::look_at_bare_item;
 use crate::parameter_serializer::ParameterSerializer;
 use crate::part::{Bare, append};
@@ -64,8 +65,7 @@ impl<'a> ItemSerializer<'a> {
         ensures is_value { IsBareValue (ref_value bare_item.entry) }
     {
         let ItemSerializer { buffer, version } = self;
-        // That it is a value is known of what it holds, whether it is written or not.
-        let bare_item = bare_item.as_ref_item();
+        is_a_value(bare_item);
         look_at_bare_item(version, bare_item)?;
         append(Bare { value: bare_item }, buffer)?;
         Ok(ParameterSerializer::new(buffer, version))

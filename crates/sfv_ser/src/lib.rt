@@ -10,6 +10,7 @@ mod inner_list_serializer;
 mod item;
 mod item_serializer;
 mod kind;
+mod known;
 mod list;
 mod list_serializer;
 mod look;

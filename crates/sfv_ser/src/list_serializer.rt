@@ -48,8 +48,8 @@ impl<W: Sink> Parts<W, ListMembers> {
     ///
     /// # Errors
     ///
-    /// `Unsupported` at the first value that the version doesn't have, or `OutOfMemory`; the text, and whether a member
-    /// stands, are then as they were.
+    /// `Unsupported` at the first value that the version doesn't have, or `OutOfMemory`, and neither where no member is
+    /// given; the text, and whether a member stands, are then as they were.
     pub fn members<'m, I: Iterator<Item = &'m ListEntry> + Drop>(
         &mut self,
         members: I,

@@ -1,6 +1,6 @@
 //! Writing parameters one by one (RFC 9651, section 4.1.1.2).
 
-ghost use Rattle.std.specs.Prelude.{◌≡◌, ◌∷◌, ◌++◌, [], List, IfOk, IfErr, OnOk, IsTrue, string_bytes};
+ghost use Rattle.std.specs.Prelude.{◌≡◌, ◌∷◌, ◌++◌, [], List, IfOk, IfErr, IsTrue, string_bytes};
 ghost use Rattle.std.specs.Borrow.{sem};
 ghost use Rattle.std.specs.Iterator.{IsFinite, Drains};
 ghost use Rattle.sfv_spec.specs.Classes.{is_key};
@@ -15,6 +15,7 @@ ghost use Rattle.sfv_ser.specs.Serializers.{TextRests, HoldsMore, params_sink, p
 ghost use Rattle.sfv_ser.specs.Serializers.{PartsRest, KeepsParts, HasMoreParts, has_no_part};
 
 use crate::item::append_parameters;
+use crate::known::{is_a_key, is_a_value};
 use crate::look::look_at_bare_item;
 use crate::part::{Named, Parameter, append};
 use crate::parts::Parts;
@@ -79,12 +80,12 @@ impl<'s> ParameterSerializer<'s, StdString> {
             (param_text (key_text name.entry) (ref_value value.entry)) result }
         ensures looks { LooksFirst (params_edition self.entry) (ref_value value.entry ∷ []) result }
         ensures is_key { IsTrue (is_key (key_text name.entry)) }
-        ensures is_value { OnOk result (IsBareValue (ref_value value.entry)) }
+        ensures is_value { IsBareValue (ref_value value.entry) }
     {
         let ParameterSerializer { sink, version } = self;
+        is_a_key(name);
+        is_a_value(value);
         look_at_bare_item(version, value)?;
-        // That it is a key is known of what it holds, whether it is written or not.
-        let _key = name.as_str();
         let named = Named { name, value };
         append(Parameter { named }, sink)?;
         Ok(ParameterSerializer { sink, version })
@@ -94,8 +95,8 @@ impl<'s> ParameterSerializer<'s, StdString> {
     ///
     /// # Errors
     ///
-    /// `Unsupported` at the first value that the version doesn't have, or `OutOfMemory`; the text is then as it was
-    /// before this call.
+    /// `Unsupported` at the first value that the version doesn't have, or `OutOfMemory`, and neither where no parameter
+    /// is given; the text is then as it was before this call.
     #[inline(always)]
     pub fn parameters<'k, I: Iterator<Item = (&'k Key, &'k BareItem)> + Drop>(
         self,
@@ -139,12 +140,12 @@ impl<'s, W: Sink, K> ParameterSerializer<'s, Parts<W, K>> {
             (param_text (key_text name.entry) (ref_value value.entry)) (has_no_part (params_sink self.entry).now)) }
         ensures looks { LooksFirst (params_edition self.entry) (ref_value value.entry ∷ []) result }
         ensures is_key { IsTrue (is_key (key_text name.entry)) }
-        ensures is_value { OnOk result (IsBareValue (ref_value value.entry)) }
+        ensures is_value { IsBareValue (ref_value value.entry) }
     {
         let ParameterSerializer { sink, version } = self;
+        is_a_key(name);
+        is_a_value(value);
         look_at_bare_item(version, value)?;
-        // That it is a key is known of what it holds, whether it is written or not.
-        let _key = name.as_str();
         let named = Named { name, value };
         append(Parameter { named }, sink.sink.text_mut())?;
         Ok(ParameterSerializer { sink, version })
@@ -154,8 +155,8 @@ impl<'s, W: Sink, K> ParameterSerializer<'s, Parts<W, K>> {
     ///
     /// # Errors
     ///
-    /// `Unsupported` at the first value that the version doesn't have, or `OutOfMemory`; the text is then as it was
-    /// before this call.
+    /// `Unsupported` at the first value that the version doesn't have, or `OutOfMemory`, and neither where no parameter
+    /// is given; the text is then as it was before this call.
     #[inline(always)]
     pub fn parameters<'k, I: Iterator<Item = (&'k Key, &'k BareItem)> + Drop>(
         self,

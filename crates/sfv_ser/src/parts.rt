@@ -20,6 +20,7 @@ ghost use Rattle.sfv_ser.specs.Serializers.{inner_list_name, length_before};
 use crate::element::{Element, append_each};
 use crate::inner_list_serializer::InnerListSerializer;
 use crate::kind::{InnerListItems, Kind, Members, Unnamed};
+use crate::known::is_a_value;
 use crate::look::look_at_bare_item;
 use crate::parameter_serializer::ParameterSerializer;
 use crate::part::{Bare, Part, Separated, Word, append};
@@ -190,8 +191,9 @@ impl<W: Sink, K: Unnamed> Parts<W, K> {
         ensures looks { LooksFirst (parts_edition self.old) (ref_value bare_item.entry ∷ []) result }
         ensures text { IfOk result (λ p. HasNextPart W.Sink K.separator self.old (params_sink p).now
             (bare_text (ref_value bare_item.entry)) false) }
-        ensures is_value { OnOk result (IsBareValue (ref_value bare_item.entry)) }
+        ensures is_value { IsBareValue (ref_value bare_item.entry) }
     {
+        is_a_value(bare_item);
         look_at_bare_item(self.version, bare_item)?;
         // A token has a part of its own, so that its kind is asked for once.
         match bare_item {

@@ -1,6 +1,6 @@
 //! Lists of calls of the serializers, which are performed in order (RFC 9651, section 4.1).
 
-ghost use Rattle.std.specs.Prelude.{◌≡◌, ◌↔◌, ◌∷◌, [], false, ⊤, IfOk, OnOk, OnErr, IsTrue, MatchBool, map, codes};
+ghost use Rattle.std.specs.Prelude.{◌≡◌, ◌<◌, ◌↔◌, ◌∷◌, [], false, length, ⊤, IfOk, OnOk, OnErr, IsTrue, MatchBool, map, codes};
 ghost use Rattle.std.specs.List.{AllByRecursion};
 ghost use Rattle.sfv_spec.specs.Classes.{is_key};
 ghost use Rattle.sfv_spec.specs.Values.{item, item_field, list_field, dictionary_field};
@@ -246,6 +246,7 @@ fn write_list_members<W: Sink>(
         (list_calls calls.now)) }
     ensures value { OnOk result (IsFieldValue list_field (described_list calls.now)) }
     ensures out_of_memory { OnErr result (GrowsParts W.Sink list.old list.new) }
+    ensures some { OnErr result (0 < length calls.now) }
 {
     for member in calls {
         write_list_member(list, member)?;
@@ -259,6 +260,7 @@ fn write_list(text: &mut StdString, calls: &[MemberCalls<'_>]) -> Result<bool, O
     ensures text { Appends text.old text.new (canonical list_field (described_list calls.now)) result }
     ensures member { IfOk result (λ stands. IsTrue stands ↔ HasMember list_field (described_list calls.now)) }
     ensures value { OnOk result (IsFieldValue list_field (described_list calls.now)) }
+    ensures some { OnErr result (0 < length calls.now) }
 {
     let mut list = ListSerializer::with_buffer(text);
     write_list_members(&mut list, calls)?;
@@ -275,6 +277,7 @@ fn write_dictionary_members<W: Sink>(
         (dictionary_calls calls.now)) }
     ensures value { OnOk result (IsFieldValue dictionary_field (described_dictionary calls.now)) }
     ensures out_of_memory { OnErr result (GrowsParts W.Sink dictionary.old dictionary.new) }
+    ensures some { OnErr result (0 < length calls.now) }
 {
     for (name, member) in calls {
         write_dictionary_member(dictionary, *name, member)?;
@@ -292,6 +295,7 @@ fn write_dictionary(
     ensures member { IfOk result (λ stands. IsTrue stands
         ↔ HasMember dictionary_field (described_dictionary calls.now)) }
     ensures value { OnOk result (IsFieldValue dictionary_field (described_dictionary calls.now)) }
+    ensures some { OnErr result (0 < length calls.now) }
 {
     let mut dictionary = DictSerializer::with_buffer(text);
     write_dictionary_members(&mut dictionary, calls)?;
@@ -321,12 +325,13 @@ pub fn run_item(text: &mut StdString, calls: &ItemCalls<'_>) -> Result<(), OutOf
 ///
 /// # Errors
 ///
-/// `OutOfMemory`; the text is then as it was.
+/// `OutOfMemory`, and only where there is a call; the text is then as it was.
 #[tactic(auto, using(crate::proofs::Written::cut_to))]
 pub fn run_list(text: &mut StdString, calls: &[MemberCalls<'_>]) -> Result<bool, OutOfMemory>
     ensures text { AppendsOrKeeps text.old text.new (canonical list_field (described_list calls.now)) result }
     ensures member { IfOk result (λ stands. IsTrue stands ↔ HasMember list_field (described_list calls.now)) }
     ensures value { OnOk result (IsFieldValue list_field (described_list calls.now)) }
+    ensures some { OnErr result (0 < length calls.now) }
 {
     let len = text.len();
     let written = write_list(text, calls);
@@ -341,7 +346,7 @@ pub fn run_list(text: &mut StdString, calls: &[MemberCalls<'_>]) -> Result<bool,
 ///
 /// # Errors
 ///
-/// `OutOfMemory`; the text is then as it was.
+/// `OutOfMemory`, and only where there is a call; the text is then as it was.
 #[tactic(auto, using(crate::proofs::Written::cut_to))]
 pub fn run_dict(
     text: &mut StdString,
@@ -352,6 +357,7 @@ pub fn run_dict(
     ensures member { IfOk result (λ stands. IsTrue stands
         ↔ HasMember dictionary_field (described_dictionary calls.now)) }
     ensures value { OnOk result (IsFieldValue dictionary_field (described_dictionary calls.now)) }
+    ensures some { OnErr result (0 < length calls.now) }
 {
     let len = text.len();
     let written = write_dictionary(text, calls);
@@ -387,8 +393,8 @@ pub fn run_item_for(
 ///
 /// # Errors
 ///
-/// `Unsupported` with the kind of the first value that the version doesn't have, else `OutOfMemory`; the text is then as
-/// it was.
+/// `Unsupported` with the kind of the first value that the version doesn't have, else `OutOfMemory`, and only where there
+/// is a call; the text is then as it was.
 pub fn run_list_for(
     version: Version,
     text: &mut StdString,
@@ -399,6 +405,7 @@ pub fn run_list_for(
     ensures value { OnOk result (IsFieldValue list_field (described_list calls.now)) }
     ensures looks { LooksFirst (edition_of version) (bare_values list_field (handed_list calls.now)) result }
     ensures read_back { OnOk result (IsReadBack (edition_of version) list_field (described_list calls.now)) }
+    ensures some { OnErr result (0 < length calls.now) }
 {
     look_at_list_calls(version, calls)?;
     let stands = run_list(text, calls)?;
@@ -410,8 +417,8 @@ pub fn run_list_for(
 ///
 /// # Errors
 ///
-/// `Unsupported` with the kind of the first value that the version doesn't have, else `OutOfMemory`; the text is then as
-/// it was.
+/// `Unsupported` with the kind of the first value that the version doesn't have, else `OutOfMemory`, and only where there
+/// is a call; the text is then as it was.
 pub fn run_dict_for(
     version: Version,
     text: &mut StdString,
@@ -424,6 +431,7 @@ pub fn run_dict_for(
     ensures value { OnOk result (IsFieldValue dictionary_field (described_dictionary calls.now)) }
     ensures looks { LooksFirst (edition_of version) (bare_values dictionary_field (handed_dictionary calls.now)) result }
     ensures read_back { OnOk result (IsReadBack (edition_of version) dictionary_field (described_dictionary calls.now)) }
+    ensures some { OnErr result (0 < length calls.now) }
 {
     look_at_dictionary_calls(version, calls)?;
     let stands = run_dict(text, calls)?;

@@ -13,6 +13,8 @@ mod content_digest;
 mod fields;
 #[cfg(test)]
 mod given;
+#[cfg(test)]
+mod long;
 mod positions;
 mod replay;
 #[cfg(test)]

@@ -189,6 +189,20 @@ fn lists_and_dictionaries(rt: HostRuntime) -> Result<(), Fail> {
 }
 
 /// The version of writing is the third argument.
+// An answer of more than 64 KB, which no one call of the system writes as a whole.
+#[test]
+fn long_answers_are_written_whole(rt: HostRuntime) -> Result<(), Fail> {
+    let alloc = rt.alloc();
+    let mut text = String::from_str(alloc, "1")?;
+    for _ in 0..30_000 {
+        text.push_str(", 1")?;
+    }
+    let ended = run_over(alloc, &["list", "9651"], text.as_bytes())?;
+    text.push('\n')?;
+    assert!(rt; ended.status == 0 && ended.output.as_slice() == text.as_bytes());
+    Ok(())
+}
+
 #[test]
 fn versions_of_writing(rt: HostRuntime) -> Result<(), Fail> {
     let dates = "error: RFC 8941 does not support dates\n";

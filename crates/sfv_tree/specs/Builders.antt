@@ -63,7 +63,8 @@ member_step (list_parameters l) parameters_end = ended (inner_list l)
 member_step p e = p
 
 -- an event takes memory here: a text, which is copied where it is borrowed; a parameter, with its key; and the end of
--- an inner list's item, which goes into the list. A byte sequence is moved, and an event out of its place takes none
+-- an inner list's item, which goes into the list. A byte sequence is moved, and so is a text that is owned (`is_moved`);
+-- an event out of its place takes none
 abbrev pub takes_memory : MemberPlace → TreeEvent → Bool
 takes_memory item_head (bare_item value) = is_text value
 takes_memory (item_parameters i) (parameter key value) = true

@@ -8,6 +8,7 @@ ghost use Rattle.std.specs.Prelude.{◌≡◌, ⊤, Some, OnOk, IfOk, IfErr};
 ghost use Rattle.sfv_spec.specs.Events.{TreeEvent};
 ghost use Rattle.sfv_tree.specs.ItemFaults.{fault_text};
 ghost use Rattle.sfv_tree.specs.Events.{event_of};
+ghost use Rattle.sfv_tree.specs.declared.visitor.Event.{Event};
 
 mod dictionary_builder;
 mod item_builder;
@@ -54,8 +55,8 @@ pub enum Event<'de> {
 ///
 /// A visitor may fail at a part or at its answer, and that ends the reading. It visits each value of a repeated key, of
 /// which only the last counts, and so mustn't fail for one that another may follow (the module's head says what to do).
-/// A contract gives a visitor by what it may do in each state, and sees an event as its value, whether a text in it is
-/// borrowed or owned.
+/// A contract gives a visitor by what it may do in each state. `takes` and `fails` see an event as its value, whether a
+/// text in it is borrowed or owned; `takes_read` and `fails_read` say what depends on that.
 ///
 /// `Some` of a visitor visits as that one does and answers `Some` of its answer; `None` takes every event and answers
 /// `None`.
@@ -75,6 +76,14 @@ pub trait Visitor<'de>: Drop {
     /// In this state it may fail at the event, with this error.
     ghost fails: { Self → TreeEvent → Self.Error → Type 0 };
 
+    /// In this state it may take the event as it was read, a text in it borrowed or owned, and is in that state after
+    /// it. It says no more than `takes`, where nothing else is said.
+    ghost takes_read: { Self → Event → Self → Type 0 } = { λ _ _ _. ⊤ };
+
+    /// In this state it may fail at the event as it was read, with this error. It says no more than `fails`, where
+    /// nothing else is said.
+    ghost fails_read: { Self → Event → Self.Error → Type 0 } = { λ _ _ _. ⊤ };
+
     /// In this state it may give this answer.
     ghost finishes: { Self → Self.Out → Type 0 };
 
@@ -93,7 +102,9 @@ pub trait Visitor<'de>: Drop {
         requires { is_ready self.old }
         ensures ready { OnOk result (is_ready self.new) }
         ensures taken { OnOk result (takes self.old (event_of event.entry) self.new) }
-        ensures failed { IfErr result (λ error. fails self.old (event_of event.entry) error) };
+        ensures taken_read { OnOk result (takes_read self.old event.entry self.new) }
+        ensures failed { IfErr result (λ error. fails self.old (event_of event.entry) error) }
+        ensures failed_read { IfErr result (λ error. fails_read self.old event.entry error) };
 
     /// Answers after the last event.
     ///

@@ -9,12 +9,12 @@ use Rattle.std.specs.List.{cons_option}
 use Rattle.std.proofs.lemmas.List.{length-append, length-map}
 use Rattle.std.proofs.lemmas.Result.{err_from_is_err_and}
 use Rattle.std.proofs.lemmas.List.Elements.{filter_map-append}
-use Rattle.sfv.specs.Values.{Edition, rfc9651, FieldKind, item_field, dictionary_field, RawItem, BareValue, integer, decimal}
+use Rattle.sfv.specs.Values.{Edition, rfc9651, FieldKind, item_field, list_field, dictionary_field, RawItem, BareValue, integer, decimal}
 use Rattle.sfv.specs.Values.{string, token, byte_sequence}
 use Rattle.sfv.specs.Values.{boolean, date, display_string, RawMember, item, inner_list}
 use Rattle.sfv.specs.Events.{TreeEvent, entry, keyed_entry, begins_item, begins_inner_list, bare_item, parameter}
 use Rattle.sfv.specs.Events.{parameters_end, inner_list_end, events, key_in}
-use Rattle.sfv.specs.Grammar.{IsFieldText, BeginsWithBareItem}
+use Rattle.sfv.specs.Grammar.{IsFieldText, IsAccepted, BeginsWithBareItem}
 use Rattle.sfv.specs.Ordered.{last_of, ordered_member}
 use Rattle.sfv.specs.Statements.{IsParsedAs}
 use Rattle.sfv.specs.Visiting.{RunsTo, IsVisitorError}
@@ -22,13 +22,13 @@ use Rattle.sfv.specs.Parsers.{IsParseError, IsAnswerOf, IsSyntaxOf, IsVisitorErr
 use Rattle.sfv.specs.Given.{item_kept, KeepTakes, KeepFails}
 use Rattle.sfv.specs.Calls.{AllFit}
 use Rattle.sfv.specs.Versions.{IsSerializeError}
-use Rattle.sfv.specs.Types.{Error, SerializeError, ParseError, ItemFault, ExpectItem}
+use Rattle.sfv.specs.Types.{Error, SerializeError, ParseError, OutOfMemory, ItemFault, ExpectItem}
 use Rattle.sfv.specs.Types.item_faults as item_faults
 use Rattle.sfv.specs.Types.parse_errors.{Syntax, Visitor}
 use Rattle.sfv.proofs.Callers.{runs_fold, keys_in_events, member_read, last_of-collapse, expect_answers}
 use Rattle.sfv.proofs.Callers.{expect_fails, expect_first, begins_with_its, accepted_error}
 use Rattle.sfv_uses.specs.Uses.{integer_or, param_in, counts, HasMembers, IsCountError, IsExpectError, IsReadError}
-use Rattle.sfv_uses.specs.Uses.{IsPairError}
+use Rattle.sfv_uses.specs.Uses.{IsPairError, IsErrorOfLines}
 use Rattle.sfv_uses.specs.declared.visiting.MemberCounter.{MemberCounter}
 use Rattle.sfv_uses.specs.declared.visiting.TooMany.{TooMany}
 
@@ -59,6 +59,15 @@ param_read t value key param h =
     go None = refl
     go (Some (item i)) = last_of-collapse param i.parameters
     go (Some (inner_list l)) = last_of-collapse param l.parameters
+
+-- the second of two lines fails as `parse` does, or for memory
+pub second_fails : {S O T : Type 0} (takes : S → TreeEvent → S → Type 0) (finishes : S → O → Type 0)
+    (first second : List ℕ) (from : S) (r : Result T (ParseError OutOfMemory)) → IsAccepted rfc9651 list_field first
+    → IfErr r (IsSyntaxOf takes finishes rfc9651 list_field second from)
+    → IfErr r (IsErrorOfLines list_field first second)
+second_fails takes finishes first second from (Ok x) a h = tt
+second_fails takes finishes first second from (Err (Syntax e)) a h = inr (a, h.0)
+second_fails takes finishes first second from (Err (Visitor fault)) a h = a
 
 -- the keys among some events
 abbrev keys_among : List TreeEvent → ℕ

@@ -9,7 +9,7 @@ use Rattle.sfv.specs.Values.{Edition, rfc9651, FieldKind, item_field, list_field
 use Rattle.sfv.specs.Values.{token}
 use Rattle.sfv.specs.Values.{RawParameters, RawItem, RawMember}
 use Rattle.sfv.specs.Values.{item, inner_list}
-use Rattle.sfv.specs.Grammar.{IsFieldText, StandsFirst}
+use Rattle.sfv.specs.Grammar.{IsFieldText, IsAccepted, StandsFirst}
 use Rattle.sfv.specs.Ordered.{ordered, last_of}
 use Rattle.sfv.specs.Statements.{IsParsedAs}
 use Rattle.sfv.specs.KeyText.{KeyRef, key_text}
@@ -19,7 +19,7 @@ use Rattle.sfv.specs.Canonical.{bare_text, item_text}
 use Rattle.sfv.specs.BareItems.{bare_value, ref_value}
 use Rattle.sfv.specs.Trees.{OwnedBareItem}
 use Rattle.sfv.specs.Events.{TreeEvent, keyed_entry}
-use Rattle.sfv.specs.Types.{ParseError}
+use Rattle.sfv.specs.Types.{ParseError, OutOfMemory}
 use Rattle.sfv.specs.Types.parse_errors.{Syntax, Visitor}
 use Rattle.sfv.specs.Parsers.{IsParseError}
 use Rattle.sfv_uses.specs.declared.visiting.TooMany.{TooMany}
@@ -40,6 +40,12 @@ pub record IsExplained (t text : List ℕ) : Type 0 where
   pub index : ℕ
   pub located : IsFaultAt rfc9651 list_field t fault index
   pub text_is : text ≡ repeat index (codes " ") ++ codes "^ " ++ message_of (error_kind fault)
+
+-- the error of `parse` for the first of two lines that isn't accepted, or out of memory
+abbrev pub IsErrorOfLines : FieldKind → List ℕ → List ℕ → ParseError OutOfMemory → Type 0
+IsErrorOfLines kind first second (Syntax e) = IsParseError rfc9651 kind first e
+    ⊎ (IsAccepted rfc9651 kind first × IsParseError rfc9651 kind second e)
+IsErrorOfLines kind first second (Visitor fault) = IsAccepted rfc9651 kind first
 
 -- an integer, or else the default
 abbrev pub integer_or : ℤ → BareValue → ℤ

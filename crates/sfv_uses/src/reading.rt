@@ -1,7 +1,7 @@
 //! Reading a field into a value.
 
 ghost use Rattle.std.specs.Prelude.{◌≡◌, IsNone, IfOk, IfErr, IfSome, option_copied, option_map, string_bytes};
-ghost use Rattle.sfv.specs.Values.{rfc9651, rfc8941, list_field};
+ghost use Rattle.sfv.specs.Values.{rfc9651, rfc8941, item_field, list_field, dictionary_field};
 ghost use Rattle.sfv.specs.Grammar.{IsAccepted};
 ghost use Rattle.sfv.specs.Ordered.{last_of};
 ghost use Rattle.sfv.specs.Statements.{IsParsedAs};
@@ -11,7 +11,7 @@ ghost use Rattle.sfv.specs.KeyText.{key_text};
 ghost use Rattle.sfv.specs.Parsers.{IsParseError};
 ghost use Rattle.sfv.specs.NumberValues.{integer_of};
 ghost use Rattle.sfv_uses.specs.Uses.{IsExplained, HasIntegerOr, parameters_of, param_in, HasParam};
-ghost use Rattle.sfv_uses.specs.Uses.{IsListOfBoth, IsDictionaryOfBoth};
+ghost use Rattle.sfv_uses.specs.Uses.{IsListOfBoth, IsDictionaryOfBoth, IsErrorOfLines};
 
 use sfv::visitor::{DictionaryBuilder, ListBuilder};
 use sfv::{
@@ -62,7 +62,8 @@ pub fn explain(alloc: Global, input: &[u8]) -> Result<Option<String>, OutOfMemor
 ///
 /// That of `Parser::parse`.
 pub fn integer_with_default(alloc: Global, input: &[u8], default: Integer) -> Result<Integer, Error>
-    ensures { IfOk result (λ z. HasIntegerOr (integer_of default) input.now (integer_of z)) }
+    ensures integer { IfOk result (λ z. HasIntegerOr (integer_of default) input.now (integer_of z)) }
+    ensures rejected { IfErr result (IsParseError rfc9651 item_field input.now) }
 {
     let item = Parser::new(input).parse::<Item>(alloc)?;
     let Some(integer) = item.bare_item.as_integer() else {
@@ -106,7 +107,8 @@ pub fn param_of_member(
     member: KeyRef<'_>,
     param: KeyRef<'_>,
 ) -> Result<Option<BareItem>, Error>
-    ensures { IfOk result (HasParam input.now member.entry param.entry) }
+    ensures param { IfOk result (HasParam input.now member.entry param.entry) }
+    ensures rejected { IfErr result (IsParseError rfc9651 dictionary_field input.now) }
 {
     let dictionary = Parser::new(input).parse::<Dictionary>(alloc)?;
     let Some(value) = param_of(&dictionary, member, param) else {
@@ -121,14 +123,15 @@ pub fn param_of_member(
 ///
 /// # Errors
 ///
-/// That of `Parser::parse` for the line that isn't a list.
+/// That of `Parser::parse` for the first line that isn't a list.
 pub fn list_of_lines(
     alloc: Global,
     seed: HashSeed,
     first: &[u8],
     second: &[u8],
 ) -> Result<List, ParseError<OutOfMemory>>
-    ensures { IfOk result (λ list. IsListOfBoth first.now second.now (list_tree list.items)) }
+    ensures joined { IfOk result (λ list. IsListOfBoth first.now second.now (list_tree list.items)) }
+    ensures rejected { IfErr result (IsErrorOfLines list_field first.now second.now) }
 {
     let parser = Parser::new(first).with_hash_seed(seed);
     let held = parser.parse::<List>(alloc)?;
@@ -141,14 +144,16 @@ pub fn list_of_lines(
 ///
 /// # Errors
 ///
-/// That of `Parser::parse` for the line that isn't a dictionary.
+/// That of `Parser::parse` for the first line that isn't a dictionary.
 pub fn dictionary_of_lines(
     alloc: Global,
     seed: HashSeed,
     first: &[u8],
     second: &[u8],
 ) -> Result<Dictionary, ParseError<OutOfMemory>>
-    ensures { IfOk result (λ dictionary. IsDictionaryOfBoth first.now second.now (dictionary_tree dictionary.entries)) }
+    ensures joined { IfOk result
+        (λ dictionary. IsDictionaryOfBoth first.now second.now (dictionary_tree dictionary.entries)) }
+    ensures rejected { IfErr result (IsErrorOfLines dictionary_field first.now second.now) }
 {
     let parser = Parser::new(first).with_hash_seed(seed);
     let held = parser.parse::<Dictionary>(alloc)?;

@@ -1,43 +1,54 @@
 //! Values: the ends of their ranges, what they are made of, their copies, and how they compare.
 
-ghost use Rattle.std.specs.Prelude.{◌≡◌, ◌↔◌, pos, neg_ℤ, IfOk, IsTrue};
+ghost use Rattle.std.specs.Prelude.{◌≡◌, ◌↔◌, [], pos, neg_ℤ, IfOk, IsTrue};
 ghost use Rattle.std.specs.Cmp.Lexicographic.{slice_cmp};
 ghost use Rattle.std.specs.Ordering.{nat_cmp, int_cmp};
 ghost use Rattle.sfv.specs.NumberValues.{integer_of, thousandths_of, seconds_of};
 ghost use Rattle.sfv.specs.BareItems.{bare_value, ref_value, input_value, read_text};
 ghost use Rattle.sfv.specs.KeyText.{key_text};
+ghost use Rattle.sfv.specs.StringText.{string_text};
 ghost use Rattle.sfv.specs.Trees.{item_tree};
 ghost use Rattle.sfv.specs.Values.{integer};
 
 use sfv::{
     BareItem, BareItemFromInput, Date, Decimal, Error, Integer, Item, KeyRef, RefBareItem,
-    StringFromInput,
+    StringFromInput, StringRef,
 };
 use std::alloc::AllocError;
 use std::cmp::Ordering;
 
-/// The least and the greatest integer are of fifteen digits.
-pub fn integers() -> (Integer, Integer)
+/// The least and the greatest integer are of fifteen digits, and zero is zero.
+pub fn integers() -> (Integer, Integer, Integer)
     ensures least { integer_of result.0 ≡ neg_ℤ (pos 999999999999999) }
     ensures greatest { integer_of result.1 ≡ pos 999999999999999 }
+    ensures zero { integer_of result.2 ≡ pos 0 }
 {
-    (Integer::MIN, Integer::MAX)
+    (Integer::MIN, Integer::MAX, Integer::ZERO)
 }
 
-/// The least and the greatest decimal are of fifteen digits, three of them after the point.
-pub fn decimals() -> (Decimal, Decimal)
+/// The least and the greatest decimal are of fifteen digits, three of them after the point, and zero is zero.
+pub fn decimals() -> (Decimal, Decimal, Decimal)
     ensures least { thousandths_of result.0 ≡ neg_ℤ (pos 999999999999999) }
     ensures greatest { thousandths_of result.1 ≡ pos 999999999999999 }
+    ensures zero { thousandths_of result.2 ≡ pos 0 }
 {
-    (Decimal::MIN, Decimal::MAX)
+    (Decimal::MIN, Decimal::MAX, Decimal::ZERO)
 }
 
-/// The first and the last date are of fifteen digits.
-pub fn dates() -> (Date, Date)
+/// The first and the last date are of fifteen digits, and the epoch is at second zero.
+pub fn dates() -> (Date, Date, Date)
     ensures first { seconds_of result.0 ≡ neg_ℤ (pos 999999999999999) }
     ensures last { seconds_of result.1 ≡ pos 999999999999999 }
+    ensures epoch { seconds_of result.2 ≡ pos 0 }
 {
-    (Date::MIN, Date::MAX)
+    (Date::MIN, Date::MAX, Date::UNIX_EPOCH)
+}
+
+/// The empty string has no text.
+pub fn empty_string() -> StringRef<'static>
+    ensures { string_text result ≡ [] }
+{
+    StringRef::EMPTY
 }
 
 /// The bare item of a number has its value.

@@ -1,16 +1,18 @@
 //! A visitor that keeps a bare item of one type.
 
-ghost use Rattle.std.specs.Prelude.{◌≡◌, Some, None, IfOk, IfErr};
+ghost use Rattle.std.specs.Prelude.{◌≡◌, ⊤, Some, None, IfOk, IfErr, IsTrue};
 ghost use Rattle.sfv_spec.specs.Values as values;
 ghost use Rattle.sfv_spec.specs.Values.{BareValue};
 ghost use Rattle.sfv_base.specs.Numbers.{integer_of, thousandths_of, seconds_of};
 ghost use Rattle.sfv_text.specs.TokenText.{token_text};
-ghost use Rattle.sfv_bare.specs.BareItems.{read_text, bare_value, input_value};
+ghost use Rattle.sfv_bare.specs.BareItems.{read_text, bare_value, input_value, is_borrowed};
+ghost use Rattle.sfv_bare.specs.declared.bare.GenericBareItem.TheVariants as bare;
 ghost use Rattle.sfv_bare.specs.declared.bare.BareItemType.TheVariants as kinds;
 ghost use Rattle.sfv_tree.specs.declared.visitor.ItemFault.{ItemFault};
 ghost use Rattle.sfv_tree.specs.declared.visitor.ItemFault.TheVariants as faults;
 ghost use Rattle.sfv_bare.specs.Kinds.{kind_of_value};
 ghost use Rattle.sfv_visit.specs.Given.{IsWrongType, LacksMemory, item_kept, KeepTakes, KeepFails};
+ghost use Rattle.sfv_visit.specs.Given.{ReadBareItem, KeepTakesRead, KeepFailsRead};
 
 use sfv_bare::bare::{BareItem, BareItemFromInput, GenericBareItem, StringFromInput};
 use sfv_base::date::Date;
@@ -29,6 +31,12 @@ pub trait ExpectedItem<'de>: Drop {
     /// It may fail at a bare item of this value, with this fault.
     ghost fails: { BareValue → ItemFault → Type 0 };
 
+    /// It is what is made of this bare item, of which a text may be borrowed or owned.
+    ghost is_of: { Self → ReadBareItem → Type 0 };
+
+    /// It may fail at this bare item, with this fault. It says no more than `fails`, where nothing else is said.
+    ghost fails_read: { ReadBareItem → ItemFault → Type 0 } = { λ _ _. ⊤ };
+
     /// Returns the type's value that holds the bare item. What is copied of it takes memory from `alloc`.
     ///
     /// # Errors
@@ -36,7 +44,9 @@ pub trait ExpectedItem<'de>: Drop {
     /// `ItemFault::WrongType` if the type is for another kind, and `ItemFault::OutOfMemory` when out of memory.
     fn from_bare_item(item: BareItemFromInput<'de>, alloc: Global) -> Result<Self, ItemFault>
         ensures held { IfOk result (λ kept. holds kept ≡ input_value item.entry) }
-        ensures failed { IfErr result (λ fault. fails (input_value item.entry) fault) };
+        ensures same { IfOk result (λ kept. is_of kept item.entry) }
+        ensures failed { IfErr result (λ fault. fails (input_value item.entry) fault) }
+        ensures failed_read { IfErr result (λ fault. fails_read item.entry fault) };
 }
 
 // Returns the kind of the bare item.
@@ -70,6 +80,8 @@ impl<'de> ExpectedItem<'de> for Decimal {
 
     ghost fails = { IsWrongType kinds.Decimal };
 
+    ghost is_of = { λ value item. item ≡ bare.Decimal value };
+
     fn from_bare_item(item: BareItemFromInput<'de>, _alloc: Global) -> Result<Decimal, ItemFault> {
         match item {
             GenericBareItem::Decimal(value) => Ok(value),
@@ -83,6 +95,8 @@ impl<'de> ExpectedItem<'de> for Integer {
 
     ghost fails = { IsWrongType kinds.Integer };
 
+    ghost is_of = { λ value item. item ≡ bare.Integer value };
+
     fn from_bare_item(item: BareItemFromInput<'de>, _alloc: Global) -> Result<Integer, ItemFault> {
         match item {
             GenericBareItem::Integer(value) => Ok(value),
@@ -95,6 +109,8 @@ impl<'de> ExpectedItem<'de> for StringFromInput<'de> {
     ghost holds = { λ text. values.string (read_text text) };
 
     ghost fails = { IsWrongType kinds.String };
+
+    ghost is_of = { λ text item. item ≡ bare.String text };
 
     fn from_bare_item(
         item: BareItemFromInput<'de>,
@@ -112,6 +128,8 @@ impl<'de> ExpectedItem<'de> for Vec<u8> {
 
     ghost fails = { IsWrongType kinds.ByteSequence };
 
+    ghost is_of = { λ bytes item. item ≡ bare.ByteSequence bytes };
+
     fn from_bare_item(item: BareItemFromInput<'de>, _alloc: Global) -> Result<Vec<u8>, ItemFault> {
         match item {
             GenericBareItem::ByteSequence(bytes) => Ok(bytes),
@@ -125,6 +143,8 @@ impl<'de> ExpectedItem<'de> for bool {
 
     ghost fails = { IsWrongType kinds.Boolean };
 
+    ghost is_of = { λ value item. item ≡ bare.Boolean value };
+
     fn from_bare_item(item: BareItemFromInput<'de>, _alloc: Global) -> Result<bool, ItemFault> {
         match item {
             GenericBareItem::Boolean(value) => Ok(value),
@@ -137,6 +157,8 @@ impl<'de> ExpectedItem<'de> for TokenRef<'de> {
     ghost holds = { λ token. values.token (token_text token) };
 
     ghost fails = { IsWrongType kinds.Token };
+
+    ghost is_of = { λ token item. item ≡ bare.Token token };
 
     fn from_bare_item(
         item: BareItemFromInput<'de>,
@@ -154,6 +176,8 @@ impl<'de> ExpectedItem<'de> for Date {
 
     ghost fails = { IsWrongType kinds.Date };
 
+    ghost is_of = { λ value item. item ≡ bare.Date value };
+
     fn from_bare_item(item: BareItemFromInput<'de>, _alloc: Global) -> Result<Date, ItemFault> {
         match item {
             GenericBareItem::Date(value) => Ok(value),
@@ -166,6 +190,8 @@ impl<'de> ExpectedItem<'de> for BareItemFromInput<'de> {
     ghost holds = { λ item. input_value item };
 
     ghost fails = { λ _ _. ⊥ };
+
+    ghost is_of = { λ kept item. kept ≡ item };
 
     fn from_bare_item(
         item: BareItemFromInput<'de>,
@@ -180,6 +206,10 @@ impl<'de> ExpectedItem<'de> for BareItem {
 
     ghost fails = { LacksMemory };
 
+    ghost is_of = { λ kept item. bare_value kept ≡ input_value item };
+
+    ghost fails_read = { λ item _. IsTrue (is_borrowed item) };
+
     fn from_bare_item(item: BareItemFromInput<'de>, alloc: Global) -> Result<BareItem, ItemFault> {
         match item.try_into_owned(alloc) {
             Ok(owned) => Ok(owned),
@@ -191,8 +221,8 @@ impl<'de> ExpectedItem<'de> for BareItem {
 /// Keeps the first bare item, and answers it.
 ///
 /// It fails at the first bare item with `ItemFault::WrongType` if that is of another kind than `T`'s, and with
-/// `ItemFault::OutOfMemory` where a `BareItem` copies a text and is out of memory. It fails at the end with
-/// `ItemFault::NoItem` if no bare item came. Every other event changes nothing.
+/// `ItemFault::OutOfMemory` where a `BareItem` copies a text that is borrowed and is out of memory. It fails at the end
+/// with `ItemFault::NoItem` if no bare item came. Every other event changes nothing.
 ///
 /// It is for one item. Of a repeated key of a dictionary it would be told of each member, and keep the first bare item
 /// of all, where the last member counts.
@@ -219,6 +249,10 @@ impl<'de, T: ExpectedItem<'de>> Visitor<'de> for ExpectItem<T> {
     ghost takes = { KeepTakes T.holds };
 
     ghost fails = { KeepFails T.fails };
+
+    ghost takes_read = { KeepTakesRead T.is_of };
+
+    ghost fails_read = { KeepFailsRead T.fails_read };
 
     ghost finishes = { λ s item. item_kept s ≡ Some item };
 

@@ -1,7 +1,8 @@
 //! A visitor whose answer goes through a function.
 
 ghost use Rattle.std.specs.Prelude.{◌≡◌, ◌⊎◌, Ok, Err};
-ghost use Rattle.sfv_visit.specs.Given.{visitor_within, function_after, ForwardTakes, GivesAfter};
+ghost use Rattle.sfv_visit.specs.Given.{visitor_within, function_after, ForwardTakes, ForwardTakesRead};
+ghost use Rattle.sfv_visit.specs.Given.{GivesAfter};
 
 use sfv_tree::visitor::{Event, Visitor};
 use std::marker::PhantomData;
@@ -55,6 +56,10 @@ impl<
     ghost takes = { ForwardTakes V.takes };
 
     ghost fails = { λ s e fault. V.fails (visitor_within s) e fault };
+
+    ghost takes_read = { ForwardTakesRead V.takes_read };
+
+    ghost fails_read = { λ s e fault. V.fails_read (visitor_within s) e fault };
 
     ghost finishes = { λ s out. GivesAfter V.finishes F.post s (Ok out) };
 

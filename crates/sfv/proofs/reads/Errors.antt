@@ -5,7 +5,6 @@ use Rattle.std.specs.declared.alloc.Global.{Global}
 use Rattle.sfv_spec.specs.Values.{Edition, rfc9651, display_string}
 use Rattle.sfv_base.specs.declared.error.Error.{Error}
 use Rattle.sfv_base.specs.declared.error.ErrorKind.{ErrorKind}
-use Rattle.sfv_base.specs.declared.error.ErrorKind.TheVariants.{OutOfMemory}
 use Rattle.sfv_base.specs.Errors.{error_of}
 use Rattle.sfv_reading.specs.Reader.{Answer, Reader, and_then, bind, give, ◌>>=◌}
 use Rattle.sfv_reading.specs.Bare.{quoted_at}
@@ -18,6 +17,7 @@ use Rattle.sfv.specs.declared.parser.cursor.Cursor.{Cursor}
 use Rattle.sfv.specs.Cursor.{kept, kept_input, kept_edition, rest, located, IsFaultOf, IsErrorOf, Reads}
 use Rattle.sfv.specs.Cursor.{ReadsOrOutOfMemory}
 use Rattle.sfv.specs.ReadTexts.{display_value_of}
+use Rattle.sfv.specs.Memory.{IsRefusal}
 
 pub fault_bind : {A B : Type 0} (f : Reader A) (g : A → Reader B) (t : List ℕ) (k : ErrorKind) (r : List ℕ)
     → located (f t) ≡ Err (k, r) → located ((f >>= g) t) ≡ Err (k, r)
@@ -56,8 +56,7 @@ pub ErrorOf-fault : {A : Type 0} (input : List ℕ) (e : Error) (a : Answer A) �
 ErrorOf-fault input e a = on e.index
   where
     on : (o : Option ℕ) → MatchOption o ⊥ (λ index. (located a ≡ Err (e.kind, drop index input))
-        × (index ≤ length input)) → MatchOption o (e.kind
-        ≡ OutOfMemory) (λ index. (located a ≡ Err (e.kind, drop index input)) × (index ≤ length input))
+        × (index ≤ length input)) → MatchOption o (IsRefusal input e) (λ index. (located a ≡ Err (e.kind, drop index input)) × (index ≤ length input))
     on None h = absurd h
     on (Some i) h = h
 
@@ -75,10 +74,10 @@ pub ErrorOf-part : {A B : Type 0} (i j : Parser × Global) (e : Error) (f : Edit
 ErrorOf-part i j e f g t a same eq h = rw eq (on e.index
     (subst (λ (k : Parser × Global). IsErrorOf (kept_input k) e (f (kept_edition k) t)) same h))
   where
-    on : (o : Option ℕ) → MatchOption o (e.kind ≡ OutOfMemory)
+    on : (o : Option ℕ) → MatchOption o (IsRefusal (kept_input j) e)
         (λ index. (located (f (kept_edition j) t) ≡ Err (e.kind, drop index (kept_input j)))
         × (index ≤ length (kept_input j)))
-        → MatchOption o (e.kind ≡ OutOfMemory) (λ index. (located ((f (kept_edition j) >>= g) t)
+        → MatchOption o (IsRefusal (kept_input j) e) (λ index. (located ((f (kept_edition j) >>= g) t)
         ≡ Err (e.kind, drop index (kept_input j))) × (index ≤ length (kept_input j)))
     on None h = h
     on (Some n) h = (fault_bind (f (kept_edition j)) g t _ _ h.0, h.1)
@@ -88,8 +87,8 @@ pub ErrorOf-located : {A : Type 0} (i : List ℕ) (e : Error) (a b : Answer A) �
     → IsErrorOf i e a
 ErrorOf-located i e a b eq = on e.index
   where
-    on : (o : Option ℕ) → MatchOption o (e.kind ≡ OutOfMemory) (λ index. (located b ≡ Err (e.kind, drop index i))
-        × (index ≤ length i)) → MatchOption o (e.kind ≡ OutOfMemory) (λ index. (located a ≡ Err (e.kind, drop index i))
+    on : (o : Option ℕ) → MatchOption o (IsRefusal i e) (λ index. (located b ≡ Err (e.kind, drop index i))
+        × (index ≤ length i)) → MatchOption o (IsRefusal i e) (λ index. (located a ≡ Err (e.kind, drop index i))
         × (index ≤ length i))
     on None h = h
     on (Some n) h = (eq ∙ h.0, h.1)

@@ -15,7 +15,7 @@ use Rattle.sfv_spec.specs.Classes.{is_string_byte, is_lower_hexadecimal}
 use Rattle.sfv_spec.specs.Strings.{is_escaped_in_string, hexadecimal_value, IsStringPiece, IsDisplayPiece}
 use Rattle.sfv_base.specs.declared.error.Error.{Error}
 use Rattle.sfv_base.specs.declared.error.ErrorKind.{ErrorKind}
-use Rattle.sfv_base.specs.declared.error.ErrorKind.TheVariants.{OutOfMemory, UnterminatedEscapeSequence}
+use Rattle.sfv_base.specs.declared.error.ErrorKind.TheVariants.{UnterminatedEscapeSequence}
 use Rattle.sfv_base.specs.declared.error.ErrorKind.TheVariants.{InvalidEscapeSequence}
 use Rattle.sfv_base.specs.Errors.{kind_of, index_of}
 use Rattle.sfv_reading.specs.Reader.{Answer, first, byte, Apart}
@@ -31,6 +31,7 @@ use Rattle.sfv.specs.declared.parser.cursor.Cursor.{Cursor}
 use Rattle.sfv.specs.Cursor.{kept_input, rest, located, IsFaultOf, IsErrorOf, NextIs, TakesIf, Skips}
 use Rattle.sfv.specs.Quoted.{plain_of, mark_of, stop_of, inside, behind_mark, opening, HasNoMark, HasNoMarkInside}
 use Rattle.sfv.specs.ReadTexts.{is_borrowed_text}
+use Rattle.sfv.specs.Memory.{IsRefusal}
 
 -- ---- one byte of a quoted text
 
@@ -141,8 +142,7 @@ behind_fault i j e bytes a whole same eq h = rw (← eq)
     (on (index_of e) (subst (λ (k : Parser × Global). IsFaultOf (kept_input k) e a) same h))
   where
     on : (o : Option ℕ) → MatchOption o ⊥ (λ n. (located a ≡ Err (kind_of e, drop n (kept_input j)))
-        × (n ≤ length (kept_input j))) → MatchOption o (kind_of e
-        ≡ OutOfMemory) (λ n. (located (behind_bytes bytes a) ≡ Err (kind_of e, drop n (kept_input j)))
+        × (n ≤ length (kept_input j))) → MatchOption o (IsRefusal (kept_input j) e) (λ n. (located (behind_bytes bytes a) ≡ Err (kind_of e, drop n (kept_input j)))
         × (n ≤ length (kept_input j)))
     on None h = absurd h
     on (Some n) h = (behind_located bytes a _ h.0, h.1)
@@ -166,9 +166,8 @@ pub display_error : (input : List ℕ) (e : Error) (t : List ℕ) → IsErrorOf 
 unfolding display_at
 display_error input e t h = on (index_of e) h
   where
-    on : (o : Option ℕ) → MatchOption o (kind_of e
-        ≡ OutOfMemory) (λ n. (located (pieces_from outside t) ≡ Err (kind_of e, drop n input)) × (n ≤ length input))
-        → MatchOption o (kind_of e ≡ OutOfMemory) (λ n. (located (checked t (pieces_from outside t))
+    on : (o : Option ℕ) → MatchOption o (IsRefusal input e) (λ n. (located (pieces_from outside t) ≡ Err (kind_of e, drop n input)) × (n ≤ length input))
+        → MatchOption o (IsRefusal input e) (λ n. (located (checked t (pieces_from outside t))
         ≡ Err (kind_of e, drop n input)) × (n ≤ length input))
     on None h = h
     on (Some n) h = (checked_located t (pieces_from outside t) _ h.0, h.1)

@@ -16,7 +16,7 @@ use Rattle.sfv_spec.proofs.Structure.{one_field_lem}
 use Rattle.sfv_spec.proofs.Visits.{fails_for_memory}
 use Rattle.sfv_base.specs.declared.error.Error.{Error}
 use Rattle.sfv_base.specs.declared.error.ErrorKind.{ErrorKind}
-use Rattle.sfv_base.specs.declared.error.ErrorKind.TheVariants.{OutOfMemory, TrailingCharactersAfterParsedValue}
+use Rattle.sfv_base.specs.declared.error.ErrorKind.TheVariants.{TrailingCharactersAfterParsedValue}
 use Rattle.sfv_base.specs.Errors.{kind_of, index_of, error_kind, out_of_memory}
 use Rattle.sfv_base.specs.declared.error.ParseError.{ParseError}
 use Rattle.sfv_base.specs.declared.error.ParseError.TheVariants.{Syntax, Visitor}
@@ -42,6 +42,7 @@ use Rattle.sfv.specs.Parsers.{trailing_error}
 use Rattle.sfv.proofs.visits.Whole.{spaced, field_error, ending_located}
 use Rattle.sfv.proofs.Parsed.{located_fault, parse_error}
 use Rattle.sfv.proofs.reads.Delimiters.{span_total}
+use Rattle.sfv.specs.Memory.{IsRefusal}
 
 whole_is : (edition : Edition) (t s r : List ℕ) → span is_space t ≡ Ok (s, r)
     → whole_field_at edition item_field t ≡ spaced edition r
@@ -121,8 +122,7 @@ no_item {S} {O} takes finishes edition t s r q from i e raw skipped error whole 
     never (Ok x) k rest h n = absurd cc
     never (Err f) k rest h n = let w = sym (whole_fault edition t s r f skipped h) ∙ whole in absurd cc
 
-    on : (o : Option ℕ) → MatchOption o (kind_of e
-        ≡ OutOfMemory) (λ index. (located (item_at edition r) ≡ Err (kind_of e, drop index i)) × (index ≤ length i))
+    on : (o : Option ℕ) → MatchOption o (IsRefusal i e) (λ index. (located (item_at edition r) ≡ Err (kind_of e, drop index i)) × (index ≤ length i))
         → MatchOption o ⊤ (λ index. (item_field ≡ item_field) × (out : O)
         × IsVisited takes finishes from (item_events raw) out)
     on None h = tt
@@ -153,8 +153,8 @@ pub item_fails : {S O E : Type 0} (takes : S → TreeEvent → S → Type 0) (fa
     → VisitsAnswer takes fails item_events k after from to (Err error) (item_at edition r)
     → VisitsField takes fails finishes finish_fails edition item_field (kept_input k) from (Err error)
 item_fails takes fails finishes finish_fails edition k s r from to after (Syntax e) skipped h = (
-  field_error edition (kept_input k) s r (kept_input k) e skipped h,
-  λ raw q whole. no_item takes finishes edition (kept_input k) s r q from (kept_input k) e raw skipped h whole,
+  field_error edition (kept_input k) s r (kept_input k) e skipped h.0,
+  λ raw q whole. no_item takes finishes edition (kept_input k) s r q from (kept_input k) e raw skipped h.0 whole,
 )
 item_fails takes fails finishes finish_fails edition k s r from to after (Visitor f) skipped h =
     inl (whole_failed takes fails edition (kept_input k) s r from f skipped h)
@@ -183,21 +183,19 @@ pub field_fails : {S O E : Type 0} (takes : S → TreeEvent → S → Type 0) (f
     → VisitsField takes fails finishes finish_fails edition kind (kept_input k) from (Err error)
 field_fails {S} {O} takes fails finishes finish_fails edition kind k from to after (Visitor f) h = inl h
 field_fails {S} {O} takes fails finishes finish_fails edition kind k from to after (Syntax e) h =
-    (on (index_of e) h, λ raw q whole. never raw q whole (index_of e) h)
+    (on (index_of e) h.0, λ raw q whole. never raw q whole (index_of e) h.0)
   where
     t : List ℕ
     t = kept_input k
 
-    on : (o : Option ℕ) → MatchOption o (kind_of e
-        ≡ OutOfMemory) (λ index. (located (whole_field_at edition kind t) ≡ Err (kind_of e, drop index t))
-        × (index ≤ length t)) → MatchOption o (kind_of e
-        ≡ OutOfMemory) (λ index. (located_whole (read_field edition kind t) ≡ Err (kind_of e, drop index t))
+    on : (o : Option ℕ) → MatchOption o (IsRefusal t e) (λ index. (located (whole_field_at edition kind t) ≡ Err (kind_of e, drop index t))
+        × (index ≤ length t)) → MatchOption o (IsRefusal t e) (λ index. (located_whole (read_field edition kind t) ≡ Err (kind_of e, drop index t))
         × (index ≤ length t))
     on None m = m
     on (Some n) m = (fault_of_whole edition kind t _ _ m.0, m.1)
 
     never : (raw : RawField kind) (q : List ℕ) → whole_field_at edition kind t ≡ Ok (raw, q) → (o : Option ℕ)
-        → MatchOption o (kind_of e ≡ OutOfMemory) (λ index. (located (whole_field_at edition kind t)
+        → MatchOption o (IsRefusal t e) (λ index. (located (whole_field_at edition kind t)
         ≡ Err (kind_of e, drop index t)) × (index ≤ length t))
         → MatchOption o ⊤ (λ index. (kind ≡ item_field) × (out : O)
         × IsVisited takes finishes from (events kind raw) out)

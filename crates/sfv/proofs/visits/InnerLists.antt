@@ -16,12 +16,12 @@ use Rattle.sfv_reading.specs.Members.{inner_items_at, inner_of, closed_events, i
 use Rattle.sfv_reading.specs.Visits.{VisitorFails}
 use Rattle.sfv.specs.declared.parser.Parser.{Parser}
 use Rattle.sfv.specs.declared.parser.cursor.Cursor.{Cursor}
-use Rattle.sfv.specs.Cursor.{TakesIf}
+use Rattle.sfv.specs.Cursor.{TakesIf, kept_input}
 use Rattle.sfv.specs.Members.{behind_begin}
 use Rattle.sfv.specs.Visits.{VisitsAnswer, IsOfVisitor}
-use Rattle.sfv.proofs.reads.Errors.{ErrorOf-part}
 use Rattle.sfv.proofs.reads.Steps.{branch_true, branch_false}
-use Rattle.sfv.proofs.visits.Parameters.{runs_on, of_visitor}
+use Rattle.sfv.proofs.visits.Taken.{runs_on, took_part}
+use Rattle.sfv.proofs.visits.Parameters.{of_visitor}
 use Rattle.sfv.proofs.visits.Parts.{visits_as, map_visits, then_visits, first_failed, failed_longer, failed_behind}
 use Rattle.sfv.proofs.visits.Parts.{led_visits, led_fails}
 
@@ -65,8 +65,8 @@ module _ {S E : Type 0} (takes : S → TreeEvent → S → Type 0) (fails : S �
       (inner_items_at edition t) → VisitsAnswer takes fails behind_begin k after from to (Err error)
       (inner_at edition t)
   unfolding inner_at
-  items_fail t from to k after (Syntax e) h = ErrorOf-part k k e (λ _. inner_items_at edition)
-      (λ is. led (closed_events is) (closing edition is)) t _ refl refl h
+  items_fail t from to k after (Syntax e) h = took_part takes (λ is. flat_map inner_item_events is) behind_begin
+      (kept_input k) e (inner_items_at edition) (λ is. led (closed_events is) (closing edition is)) t _ from to refl h
   items_fail t from to k after (Visitor fault) h =
       whole_failed t from fault (failed_longer takes fails (λ is. flat_map inner_item_events is) closed_events
       (inner_items_at edition t) from fault (λ is. (inner_list_end ∷ [], refl)) h)

@@ -16,9 +16,9 @@ use Rattle.sfv_reading.proofs.visits.Parts.{visited_then}
 use Rattle.sfv.specs.declared.parser.Parser.{Parser}
 use Rattle.sfv.specs.declared.parser.cursor.Cursor.{Cursor}
 use Rattle.sfv.specs.Cursor.{TakesIf, kept_input, IsErrorOf}
-use Rattle.sfv.specs.Visits.{VisitsAnswer, IsOfVisitor}
-use Rattle.sfv.proofs.reads.Errors.{ErrorOf-part}
+use Rattle.sfv.specs.Visits.{VisitsAnswer, TookAll, IsOfVisitor}
 use Rattle.sfv.proofs.reads.Steps.{branch_true, branch_false}
+use Rattle.sfv.proofs.visits.Taken.{took_part, took_none, key_quiet}
 use Rattle.sfv.proofs.visits.Parameters.{of_visitor}
 use Rattle.sfv.proofs.visits.Parts.{visits_as, map_visits, then_visits, led_visits, led_fails}
 
@@ -119,11 +119,12 @@ module _ {S E : Type 0} (takes : S → TreeEvent → S → Type 0) (fails : S �
 
   -- ---- the key
 
-  pub key_fails : (t : List ℕ) (k : Parser × Global) (e : Error) → IsErrorOf (kept_input k) e (key_at t)
-      → IsErrorOf (kept_input k) e (keyed_at edition t)
+  pub key_fails : (t : List ℕ) (k : Parser × Global) (e : Error) (from : S) → IsErrorOf (kept_input k) e (key_at t)
+      → IsErrorOf (kept_input k) e (keyed_at edition t) × TookAll takes keyed_events e (keyed_at edition t) from from
   unfolding keyed_at
-  key_fails t k e h = ErrorOf-part k k e (λ _. key_at) (λ key. led (keyed_entry key ∷ []) (pair_at edition key)) t _
-      refl refl h
+  key_fails t k e from h = took_part takes (λ _. []) keyed_events (kept_input k) e key_at
+      (λ key. led (keyed_entry key ∷ []) (pair_at edition key)) t _ from from refl
+      (took_none takes (λ _. []) (kept_input k) e (key_at t) from (key_quiet t) h)
 
   pub keyed_fails : (t q key : List ℕ) (from to : S) (k : Parser × Global) (after : Cursor) (error : ParseError E)
       → key_at t ≡ Ok (key, q) → IsOfVisitor (fails from (keyed_entry key)) error

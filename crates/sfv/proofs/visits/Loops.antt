@@ -1,7 +1,7 @@
 -- Readings one by one, each after a delimiter: the loops of inner lists and of members.
-use Rattle.std.proofs.Common.{◌≡◌, ℕ, ◌<◌, ◌≤◌, Bool, true, false, List, [], ◌∷◌, ◌++◌, length, drop, Option, Some}
+use Rattle.std.proofs.Common.{◌≡◌, ℕ, ◌<◌, Bool, true, false, List, [], ◌∷◌, ◌++◌, length, Option, Some}
 use Rattle.std.proofs.Common.{None, Ok, Err, refl, sym, ap, subst, ◌∙◌}
-use Rattle.std.specs.Prelude.{MatchOption, flat_map}
+use Rattle.std.specs.Prelude.{flat_map}
 use Rattle.std.specs.declared.alloc.Global.{Global}
 use Rattle.std.proofs.lemmas.List.{append-nil}
 use Rattle.std.proofs.lemmas.List.Concat.{flat_map-append}
@@ -10,9 +10,7 @@ use Rattle.sfv_spec.specs.Grammar.{IsMemberText, IsDictionaryMemberText}
 use Rattle.sfv_spec.specs.Events.{TreeEvent, inner_item_events, entry_events, keyed_events}
 use Rattle.sfv_spec.specs.Visiting.{RunsTo}
 use Rattle.sfv_base.specs.declared.error.Error.{Error}
-use Rattle.sfv_base.specs.declared.error.ErrorKind.{ErrorKind}
-use Rattle.sfv_base.specs.declared.error.ErrorKind.TheVariants.{OutOfMemory}
-use Rattle.sfv_reading.specs.Reader.{Answer, Reader, visited, and_then, bind, give, led, many, ◌>>=◌}
+use Rattle.sfv_reading.specs.Reader.{Answer, Reader, Fault, behind_events, visited, and_then, bind, give, led, many, ◌>>=◌}
 use Rattle.sfv_reading.specs.Members.{inner_item_at, next_item_at, entry_at, keyed_at}
 use Rattle.sfv_reading.specs.Fields.{next_at}
 use Rattle.sfv_reading.specs.Visits.{VisitorFails}
@@ -26,11 +24,12 @@ use Rattle.sfv_base.specs.declared.error.ParseError.{ParseError}
 use Rattle.sfv_base.specs.declared.error.ParseError.TheVariants.{Syntax, Visitor}
 use Rattle.sfv.specs.declared.parser.Parser.{Parser}
 use Rattle.sfv.specs.declared.parser.cursor.Cursor.{Cursor}
-use Rattle.sfv.specs.Cursor.{kept, kept_input, edition, input, rest, located, IsFaultOf, IsErrorOf}
+use Rattle.sfv.specs.Cursor.{kept, kept_input, edition, input, rest, IsFaultOf, IsErrorOf}
 use Rattle.sfv.specs.Members.{item_delimiter_at, member_delimiter_at, MemberValue, member_parts, one_member_at}
-use Rattle.sfv.specs.Visits.{VisitsAnswer, Visits}
-use Rattle.sfv.proofs.reads.Errors.{ErrorOf-fault, ErrorOf-same, ErrorOf-part}
-use Rattle.sfv.proofs.visits.Parameters.{runs_on}
+use Rattle.sfv.specs.Visits.{VisitsAnswer, Visits, TookAll}
+use Rattle.sfv.proofs.reads.Errors.{ErrorOf-fault}
+use Rattle.sfv.proofs.visits.Taken.{runs_on, took_behind, took_part, took_none, IsQuiet, item_delimiter_quiet}
+use Rattle.sfv.proofs.visits.Taken.{member_delimiter_quiet}
 use Rattle.sfv.proofs.reads.Delimiters.{one_if, first_of, next_item_is, next_member_is}
 use Rattle.sfv.proofs.visits.Parts.{kept_visits, first_failed}
 
@@ -58,6 +57,7 @@ pub record Loop (A : Type 0) : Type 0 where
   pub next : Edition → Reader (Option A)
   pub consumes : (edition : Edition) → Consumes (next edition)
   pub is_next : (edition : Edition) (t : List ℕ) → next edition t ≡ (delimiter >>= one_if (one edition)) t
+  pub quiet : (t : List ℕ) → IsQuiet (delimiter t)
 
 -- what was read so far of a whole, and what the visitor has taken
 pub record SoFar {A S : Type 0} (takes : S → TreeEvent
@@ -84,30 +84,11 @@ module _ {A : Type 0} (l : Loop A) (edition : Edition) where
       → length q < length t
   shorter_at t r q v e k = (l.consumes edition).consumes t q v (next_some t r q v e k)
 
-  -- a fault of one reading is the fault of the whole
-  faulty : (front : List A) (t : List ℕ) (total : Answer (List A)) (k : ErrorKind) (r : List ℕ)
-      → in_front l.parts front (many l.parts (l.next edition) t) ≡ total → located ((l.next edition) t) ≡ Err (k, r)
-      → located total ≡ Err (k, r)
-  faulty front t total k r so_far = on ((l.next edition) t) refl
-    where
-      on : (a : Answer (Option A)) → (l.next edition) t ≡ a → located a ≡ Err (k, r) → located total ≡ Err (k, r)
-      on (Ok x) e q = absurd cc
-      on (Err f) e q = ap located (is_faulty l.parts (l.next edition) (l.consumes edition) front t f total e so_far)
-          ∙ ap (λ (p : ErrorKind × List ℕ). Err p) cc
-
-  error_of_total : {S : Type 0} (takes : S → TreeEvent
-      → S → Type 0) (t : List ℕ) (total : Answer (List A)) (from to : S) (i : Parser × Global) (e : Error)
-      → SoFar takes l edition total t from to → IsErrorOf (kept_input i) e ((l.next edition) t)
-      → IsErrorOf (kept_input i) e total
-  error_of_total takes t total from to i e h error = on e.index error
-    where
-      on : (o : Option ℕ) → MatchOption o (e.kind ≡ OutOfMemory)
-          (λ index. (located ((l.next edition) t) ≡ Err (e.kind, drop index (kept_input i)))
-          × (index ≤ length (kept_input i))) → MatchOption o (e.kind
-          ≡ OutOfMemory) (λ index. (located total ≡ Err (e.kind, drop index (kept_input i)))
-          × (index ≤ length (kept_input i)))
-      on None q = q
-      on (Some n) q = (faulty h.front t total _ _ h.so_far q.0, q.1)
+  -- a fault of the next one is the fault of the whole
+  faulty : (front : List A) (t : List ℕ) (total : Answer (List A)) (f : Fault)
+      → in_front l.parts front (many l.parts (l.next edition) t) ≡ total → (l.next edition) t ≡ Err f
+      → total ≡ Err (behind_events (all_events l.parts front) f)
+  faulty front t total f so_far e = is_faulty l.parts (l.next edition) (l.consumes edition) front t f total e so_far
 
   module _ {S E : Type 0} (takes : S → TreeEvent → S → Type 0) (fails : S → TreeEvent → E → Type 0) where
     -- after the first
@@ -121,12 +102,6 @@ module _ {A : Type 0} (l : Loop A) (edition : Edition) where
           ∙ sym (ap (λ a. and_then a (λ v. led (l.parts v) (many l.parts (l.next edition) >>= λ vs. give (v ∷ vs)))) e);
       taken = subst (λ es. RunsTo takes from es to) (sym (append-nil (l.parts v))) run;
     }
-
-    first_error : (t : List ℕ) (i : Parser × Global) (e : Error) → IsErrorOf (kept_input i) e ((l.one edition) t)
-        → IsErrorOf (kept_input i) e (first_of l.parts (l.one edition) (l.next edition) t)
-    unfolding first_of
-    first_error t i e h = ErrorOf-part i i e (λ _. (l.one edition))
-        (λ v. led (l.parts v) (many l.parts (l.next edition) >>= λ vs. give (v ∷ vs))) t _ refl refl h
 
     -- what the first of several hands out stands in front
     first_parts : (t : List ℕ) (v : A) (q : List ℕ) (w : List A) (r : List ℕ) → (l.one edition) t ≡ Ok (v, q)
@@ -158,9 +133,10 @@ module _ {A : Type 0} (l : Loop A) (edition : Edition) where
         × Global) (after : Cursor) (error : ParseError E) → total ≡ first_of l.parts (l.one edition) (l.next edition) t
         → VisitsAnswer takes fails l.parts i after from to (Err error) ((l.one edition) t)
         → VisitsAnswer takes fails (all_events l.parts) i after from to (Err error) total
+    unfolding first_of
     first_fails_at t total from to i after (Syntax e) whole h =
-        ErrorOf-same i i e (λ _. first_of l.parts (l.one edition) (l.next edition)) t total refl whole
-        (first_error t i e h)
+        took_part takes l.parts (all_events l.parts) (kept_input i) e (l.one edition)
+        (λ v. led (l.parts v) (many l.parts (l.next edition) >>= λ vs. give (v ∷ vs))) t total from to whole h
     first_fails_at t total from to i after (Visitor fault) whole h =
         subst (λ total. VisitorFails takes fails (all_events l.parts) total from fault) (sym whole)
         (first_failure t from fault h)
@@ -185,17 +161,25 @@ module _ {A : Type 0} (l : Loop A) (edition : Edition) where
 
     delimiter_error : (t : List ℕ) (total : Answer (List A)) (from to : S) (i : Parser × Global) (e : Error)
         → SoFar takes l edition total t from to → IsErrorOf (kept_input i) e (l.delimiter t)
-        → IsErrorOf (kept_input i) e total
-    delimiter_error t total from to i e h error = error_of_total takes t total from to i e h
-        (ErrorOf-part i i e (λ _. l.delimiter) (one_if (l.one edition)) t ((l.next edition) t) refl
-        (l.is_next edition t) error)
+        → IsErrorOf (kept_input i) e total × TookAll takes (all_events l.parts) e total from to
+    unfolding bind
+    delimiter_error t total from to i e h error =
+        took_behind takes (λ _. []) (all_events l.parts) (kept_input i) e (l.delimiter t) total
+        (all_events l.parts h.front) from to to
+        (λ f k. faulty h.front t total f h.so_far (l.is_next edition t
+        ∙ ap (λ a. and_then a (one_if (l.one edition))) k)) h.taken
+        (took_none takes (λ _. []) (kept_input i) e (l.delimiter t) to (l.quiet t) error)
 
-    one_error : (t r : List ℕ) (total : Answer (List A)) (from to : S) (i : Parser × Global) (e : Error)
-        → SoFar takes l edition total t from to → l.delimiter t ≡ Ok (true, r)
-        → IsErrorOf (kept_input i) e ((l.one edition) r) → IsErrorOf (kept_input i) e total
-    one_error t r total from to i e h k error = error_of_total takes t total from to i e h
-        (ErrorOf-part i i e (λ _. (l.one edition)) (λ v. give (Some v)) r ((l.next edition) t) refl (next_one t r k)
-        error)
+    one_error : (t r : List ℕ) (total : Answer (List A)) (from middle to : S) (i : Parser × Global) (e : Error)
+        → SoFar takes l edition total t from middle → l.delimiter t ≡ Ok (true, r)
+        → IsErrorOf (kept_input i) e ((l.one edition) r) × TookAll takes l.parts e ((l.one edition) r) middle to
+        → IsErrorOf (kept_input i) e total × TookAll takes (all_events l.parts) e total from to
+    unfolding bind
+    one_error t r total from middle to i e h k error =
+        took_behind takes l.parts (all_events l.parts) (kept_input i) e ((l.one edition) r) total
+        (all_events l.parts h.front) from middle to
+        (λ f m. faulty h.front t total f h.so_far (next_one t r k
+        ∙ ap (λ a. and_then a (λ v. give (Some v))) m)) h.taken error
 
     -- what is visited after a delimiter
     behind_visited : (t r : List ℕ) → l.delimiter t ≡ Ok (true, r)
@@ -241,7 +225,8 @@ module _ {A : Type 0} (l : Loop A) (edition : Edition) where
         → l.delimiter t ≡ Ok (true, r)
         → VisitsAnswer takes fails l.parts i after middle to (Err error) ((l.one edition) r)
         → VisitsAnswer takes fails (all_events l.parts) i after from to (Err error) total
-    one_fails_at t r total from middle to i after (Syntax e) h k error = one_error t r total from middle i e h k error
+    one_fails_at t r total from middle to i after (Syntax e) h k error =
+        one_error t r total from middle to i e h k error
     one_fails_at t r total from middle to i after (Visitor fault) h k failed =
         one_failure t r total from middle fault h k failed
 
@@ -288,10 +273,10 @@ module _ {A S E : Type 0} (takes : S → TreeEvent → S → Type 0) (fails : S 
       (kept_visits takes fails l.parts l.one middle after from to (kept start) (Err error) first.1 h)
 
   -- what stands between two is faulty
-  pub delimiter_fails : (now after : Cursor) (from to last : S) (e : Error)
+  pub delimiter_fails : (now after : Cursor) (from to : S) (e : Error)
       → VisitedSoFar takes l start total now from to → IsFaultOf (input now) e (l.delimiter (rest now))
-      → VisitsAnswer takes fails (all_events l.parts) (kept start) after from last (Err (Syntax e)) total
-  delimiter_fails now after from to last e h fault =
+      → VisitsAnswer takes fails (all_events l.parts) (kept start) after from to (Err (Syntax e)) total
+  delimiter_fails now after from to e h fault =
       delimiter_error l (edition start) takes fails (rest now) total from to (kept start) e h.read
       (subst (λ (k : Parser × Global). IsErrorOf (kept_input k) e (l.delimiter (rest now))) h.same
       (ErrorOf-fault (input now) e (l.delimiter (rest now)) fault))
@@ -339,6 +324,7 @@ items_loop = record {
   next = next_item_at;
   consumes = Consumes-next_item;
   is_next = next_item_is;
+  quiet = item_delimiter_quiet;
 }
 
 pub consumes_member : (keyed : Bool) (edition : Edition) → Consumes (next_at (one_member_at keyed edition))
@@ -355,4 +341,5 @@ members_loop keyed = record {
   next = λ edition. next_at (one_member_at keyed edition);
   consumes = consumes_member keyed;
   is_next = λ edition. next_member_is (one_member_at keyed edition);
+  quiet = member_delimiter_quiet;
 }

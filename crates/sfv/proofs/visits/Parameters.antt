@@ -1,16 +1,15 @@
 -- The loop over parameters: the visitor has taken those that were read.
-use Rattle.std.proofs.Common.{◌≡◌, ℕ, ◌≤◌, List, [], ◌∷◌, ◌++◌, length, Option, Some, None, Result, Ok, Err, refl, sym}
-use Rattle.std.proofs.Common.{ap, subst, ◌∙◌, drop, append_assoc}
-use Rattle.std.specs.Prelude.{MatchOption, OnOk, IfErr, map, flat_map}
+use Rattle.std.proofs.Common.{◌≡◌, ℕ, List, [], ◌∷◌, ◌++◌, Some, None, Result, Ok, Err, refl, sym}
+use Rattle.std.proofs.Common.{ap, subst, ◌∙◌, append_assoc}
+use Rattle.std.specs.Prelude.{OnOk, IfErr, map, flat_map}
 use Rattle.std.specs.declared.alloc.Global.{Global}
 use Rattle.std.proofs.lemmas.List.{map-append}
 use Rattle.sfv_spec.specs.Values.{Edition, BareValue, RawParameters, RawItem}
 use Rattle.sfv_spec.specs.Events.{TreeEvent, parameter, parameters_end, parameters_events, bare_item, item_events}
 use Rattle.sfv_spec.specs.Visiting.{RunsTo}
 use Rattle.sfv_base.specs.declared.error.Error.{Error}
-use Rattle.sfv_base.specs.declared.error.ErrorKind.{ErrorKind}
-use Rattle.sfv_base.specs.declared.error.ErrorKind.TheVariants.{OutOfMemory}
-use Rattle.sfv_reading.specs.Reader.{Answer, visited, and_then, bind, give, ◌>>=◌}
+use Rattle.sfv_reading.specs.Reader.{Answer, Fault, behind_events, visited, and_then, bind, give, led, led_answer, ◌>>=◌}
+use Rattle.sfv_reading.proofs.complete.Combinators.{bind_complete}
 use Rattle.sfv_reading.specs.Bare.{bare_at}
 use Rattle.sfv_reading.specs.Items.{parameter_event, parameter_at, parameters_at, item_at, item_of}
 use Rattle.sfv_reading.specs.Visits.{VisitorFails}
@@ -21,16 +20,10 @@ use Rattle.sfv_base.specs.declared.error.ParseError.{ParseError}
 use Rattle.sfv_base.specs.declared.error.ParseError.TheVariants.{Syntax, Visitor}
 use Rattle.sfv.specs.declared.parser.Parser.{Parser}
 use Rattle.sfv.specs.declared.parser.cursor.Cursor.{Cursor}
-use Rattle.sfv.specs.Cursor.{kept, kept_input, kept_edition, rest, located, IsErrorOf}
-use Rattle.sfv.specs.Visits.{VisitsAnswer, IsOfVisitor}
-use Rattle.sfv.proofs.reads.Errors.{ErrorOf-part, ErrorOf-located}
-use Rattle.sfv.proofs.reads.Steps.{item_located, item_some}
-
--- one run after another
-pub runs_on : {S : Type 0} (takes : S → TreeEvent → S → Type 0) (es fs : List TreeEvent) (from middle to : S)
-    → RunsTo takes from es middle → RunsTo takes middle fs to → RunsTo takes from (es ++ fs) to
-runs_on takes [] fs from middle to h k = subst (λ s. RunsTo takes s fs to) (sym h) k
-runs_on takes (e ∷ es) fs from middle to h k = (h.0, h.1, runs_on takes es fs h.0 middle to h.2 k)
+use Rattle.sfv.specs.Cursor.{kept, kept_input, kept_edition, rest, IsErrorOf}
+use Rattle.sfv.specs.Visits.{VisitsAnswer, TookAll, IsOfVisitor}
+use Rattle.sfv.proofs.visits.Taken.{runs_on, took_behind, took_part, took_none, bare_quiet, parameter_quiet}
+use Rattle.sfv.proofs.reads.Steps.{item_some}
 
 -- an error of the visitor, which fails at one of the events
 pub of_visitor : {A S E : Type 0} (takes : S → TreeEvent → S → Type 0) (fails : S → TreeEvent → E → Type 0) (parts : A
@@ -163,35 +156,23 @@ end_visits takes fails edition start now from middle to k after (Err e) h read s
     (parameters_at edition start) failed (λ fault failed.
     end_failed takes fails edition start now (rest after) from middle fault h read failed)
 
-faulty_located : (edition : Edition) (start now : List ℕ) (raw : RawParameters) (k : ErrorKind) (r : List ℕ)
-    → in_front parameter_event raw (parameters_at edition now) ≡ parameters_at edition start
-    → located (parameter_at edition now) ≡ Err (k, r) → located (parameters_at edition start) ≡ Err (k, r)
-unfolding parameters_at
-faulty_located edition start now raw k r so_far = on (parameter_at edition now) refl
-  where
-    on : (a : Answer (Option (List ℕ × BareValue))) → parameter_at edition now ≡ a → located a ≡ Err (k, r)
-        → located (parameters_at edition start) ≡ Err (k, r)
-    on (Ok x) e q = absurd cc
-    on (Err f) e q = ap located (is_faulty parameter_event (parameter_at edition) (Consumes-parameter edition) raw now f
-        (parameters_at edition start) e so_far) ∙ ap (λ (p : ErrorKind × List ℕ). Err p) cc
-
 -- a fault of one parameter is the fault of the loop
 pub visited_error : {S : Type 0} (takes : S → TreeEvent
     → S → Type 0) (start now : List ℕ) (from middle : S) (i j : Parser × Global) (e : Error) → i ≡ j
     → VisitedParameters takes (kept_edition j) start now from middle
     → IsErrorOf (kept_input i) e (parameter_at (kept_edition i) now)
     → IsErrorOf (kept_input j) e (parameters_at (kept_edition j) start)
+    × TookAll takes parameters_events e (parameters_at (kept_edition j) start) from middle
+unfolding parameters_at
 visited_error takes start now from middle i j e same h error =
-    on e.index (subst (λ (k : Parser × Global). IsErrorOf (kept_input k) e (parameter_at (kept_edition k) now)) same
-    error)
-  where
-    on : (o : Option ℕ) → MatchOption o (e.kind ≡ OutOfMemory)
-        (λ index. (located (parameter_at (kept_edition j) now) ≡ Err (e.kind, drop index (kept_input j)))
-        × (index ≤ length (kept_input j)))
-        → MatchOption o (e.kind ≡ OutOfMemory) (λ index. (located (parameters_at (kept_edition j) start)
-        ≡ Err (e.kind, drop index (kept_input j))) × (index ≤ length (kept_input j)))
-    on None q = q
-    on (Some n) q = (faulty_located (kept_edition j) start now h.raw _ _ h.so_far q.0, q.1)
+    let edition = kept_edition j in
+    took_behind takes (λ _. []) parameters_events (kept_input j) e (parameter_at edition now) (parameters_at edition start)
+    (flat_map parameter_event h.raw) from middle middle
+    (λ f k. is_faulty parameter_event (parameter_at edition) (Consumes-parameter edition) h.raw now f
+    (parameters_at edition start) k h.so_far)
+    (subst (λ (es : List TreeEvent). RunsTo takes from es middle) (sym (front_events h.raw)) h.taken)
+    (took_none takes (λ _. []) (kept_input j) e (parameter_at edition now) middle (parameter_quiet edition now)
+    (subst (λ (k : Parser × Global). IsErrorOf (kept_input k) e (parameter_at (kept_edition k) now)) same error))
 
 -- ---- items
 
@@ -253,6 +234,23 @@ parameters_failed takes fails edition t q b from middle fault e taken r = record
   failed = r.failed;
 }
 
+item_fault : (edition : Edition) (t q : List ℕ) (b : BareValue) (x : Fault) → bare_at edition t ≡ Ok (b, q)
+    → parameters_at edition q ≡ Err x → item_at edition t ≡ Err (behind_events (bare_item b ∷ []) x)
+unfolding item_at bind led
+item_fault edition t q b x e m =
+    bind_complete (bare_at edition) (λ b. led (bare_item b ∷ []) (parameters_at edition >>= λ ps. give (item_of b ps))) t
+    q b e ∙ ap (λ a. led_answer (bare_item b ∷ []) (and_then a (λ ps. give (item_of b ps)))) m
+
+-- the bare item is faulty
+pub bare_faulty : {S : Type 0} (takes : S → TreeEvent → S → Type 0) (edition : Edition) (t i : List ℕ) (e : Error)
+    (from : S) → IsErrorOf i e (bare_at edition t)
+    → IsErrorOf i e (item_at edition t) × TookAll takes item_events e (item_at edition t) from from
+unfolding item_at
+bare_faulty takes edition t i e from h =
+    took_part takes (λ _. []) item_events i e (bare_at edition)
+    (λ b. led (bare_item b ∷ []) (parameters_at edition >>= λ ps. give (item_of b ps))) t _ from from refl
+    (took_none takes (λ _. []) i e (bare_at edition t) from (bare_quiet edition t) h)
+
 -- an item, by its bare item and the parameters after it
 pub item_visits : {S E : Type 0} (takes : S → TreeEvent → S → Type 0) (fails : S → TreeEvent
     → E → Type 0) (edition : Edition) (t q : List ℕ) (b : BareValue) (from middle to : S) (k : Parser
@@ -263,7 +261,7 @@ pub item_visits : {S E : Type 0} (takes : S → TreeEvent → S → Type 0) (fai
 item_visits takes fails edition t q b from middle to k after (Ok u) e taken h =
     (item_of b h.0, item_some edition t q (rest after) b h.0 e h.1, (middle, taken, h.2), h.3)
 item_visits takes fails edition t q b from middle to k after (Err (Syntax error)) e taken h =
-    ErrorOf-located (kept_input k) error _ _ (item_located edition t q b e)
-    (ErrorOf-part k k error (λ _. parameters_at edition) (λ ps. give (item_of b ps)) q _ refl refl h)
+    took_behind takes parameters_events item_events (kept_input k) error (parameters_at edition q) (item_at edition t)
+    (bare_item b ∷ []) from middle to (λ x m. item_fault edition t q b x e m) (middle, taken, refl) h
 item_visits takes fails edition t q b from middle to k after (Err (Visitor fault)) e taken h =
     parameters_failed takes fails edition t q b from middle fault e taken h

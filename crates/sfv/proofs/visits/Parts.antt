@@ -14,10 +14,10 @@ use Rattle.sfv_reading.proofs.visits.Parts.{visited_then, visited_first, failed_
 use Rattle.sfv_reading.proofs.complete.Combinators.{bind_complete, led_complete}
 use Rattle.sfv.specs.declared.parser.Parser.{Parser}
 use Rattle.sfv.specs.declared.parser.cursor.Cursor.{Cursor}
-use Rattle.sfv.specs.Cursor.{kept, kept_input, kept_edition, rest, located}
+use Rattle.sfv.specs.Cursor.{kept, kept_input, kept_edition, rest}
 use Rattle.sfv.specs.Visits.{Visits, VisitsAnswer, IsOfVisitor}
-use Rattle.sfv.proofs.reads.Errors.{ErrorOf-part, ErrorOf-located}
-use Rattle.sfv.proofs.visits.Parameters.{runs_on, of_visitor}
+use Rattle.sfv.proofs.visits.Taken.{runs_on, took_behind, took_part, took_same}
+use Rattle.sfv.proofs.visits.Parameters.{of_visitor}
 
 visited_as : {A : Type 0} (parts parts' : A → List TreeEvent) (a : Answer A)
     → ((v : A) (s : List ℕ) → a ≡ Ok (v, s) → parts' v ≡ parts v) → visited parts' a ≡ visited parts a
@@ -53,7 +53,7 @@ module _ {S E : Type 0} (takes : S → TreeEvent → S → Type 0) (fails : S �
   visits_as parts parts' a b from to k after (Ok u) eq each h =
       (h.0, eq ∙ h.1, subst (λ es. RunsTo takes from es to) (sym (each h.0 (rest after) h.1)) h.2, h.3)
   visits_as parts parts' a b from to k after (Err (Syntax e)) eq each h =
-      ErrorOf-located (kept_input k) e b a (ap located eq) h
+      took_same takes parts parts' (kept_input k) e a b from to eq h
   visits_as parts parts' a b from to k after (Err (Visitor f)) eq each h =
       record {
         before = h.before;
@@ -94,14 +94,6 @@ module _ {S E : Type 0} (takes : S → TreeEvent → S → Type 0) (fails : S �
   led_fails e parts f t from to k after error h = of_visitor takes fails (λ v. e ∷ parts v) k after from to
       (fails from e) error (led (e ∷ []) f t) h (led_failed e parts f t from)
 
-  led_located : {A : Type 0} (e : TreeEvent) (f : Reader A) (t : List ℕ) → located (led (e ∷ []) f t) ≡ located (f t)
-  unfolding led
-  led_located {A} e f t = on (f t)
-    where
-      on : (a : Answer A) → located (led_answer (e ∷ []) a) ≡ located a
-      on (Ok x) = refl
-      on (Err x) = refl
-
   pub led_visits : {A : Type 0} (e : TreeEvent) (parts : A
       → List TreeEvent) (f : Reader A) (t : List ℕ) (from middle to : S) (k : Parser
       × Global) (after : Cursor) (r : Result (Unit {0}) (ParseError E)) → takes from e middle
@@ -111,7 +103,8 @@ module _ {S E : Type 0} (takes : S → TreeEvent → S → Type 0) (fails : S �
   led_visits e parts f t from middle to k after (Ok u) taken h =
       (h.0, led_complete (e ∷ []) f t (rest after) h.0 h.1, (middle, taken, h.2), h.3)
   led_visits e parts f t from middle to k after (Err (Syntax error)) taken h =
-      ErrorOf-located (kept_input k) error (led (e ∷ []) f t) (f t) (led_located e f t) h
+      took_behind takes parts (λ v. e ∷ parts v) (kept_input k) error (f t) (led_answer (e ∷ []) (f t)) (e ∷ []) from middle
+      to (λ x m. ap (led_answer (e ∷ [])) m) (middle, taken, refl) h
   led_visits e parts f t from middle to k after (Err (Visitor fault)) taken h = record {
     before = e ∷ h.before;
     e = h.e;
@@ -136,7 +129,7 @@ module _ {S E : Type 0} (takes : S → TreeEvent → S → Type 0) (fails : S �
     h.3,
   )
   map_visits g parts parts' f t from to k after (Err (Syntax e)) each h =
-      ErrorOf-part k k e (λ _. f) (λ v. give (g v)) t _ refl refl h
+      took_part takes parts parts' (kept_input k) e f (λ v. give (g v)) t _ from to refl h
   map_visits {A} {B} g parts parts' f t from to k after (Err (Visitor fault)) each h =
       record {
         before = h.before;
@@ -172,15 +165,8 @@ module _ {S E : Type 0} (takes : S → TreeEvent → S → Type 0) (fails : S �
     h.3,
   )
   then_visits {A} {B} f g first parts more t q v from middle to k after (Err (Syntax error)) e run each h =
-      ErrorOf-located (kept_input k) error ((f >>= λ v. led (first v) (g v)) t) (g v q)
-      (ap located (bind_complete f (λ v. led (first v) (g v)) t q v e) ∙ located_as) h
-    where
-      on : (a : Answer B) → located (led_answer (first v) a) ≡ located a
-      on (Ok x) = refl
-      on (Err x) = refl
-
-      located_as : located (led (first v) (g v) q) ≡ located (g v q)
-      located_as = on (g v q)
+      took_behind takes more parts (kept_input k) error (g v q) ((f >>= λ v. led (first v) (g v)) t) (first v) from middle
+      to (λ x m. bind_complete f (λ v. led (first v) (g v)) t q v e ∙ ap (led_answer (first v)) m) run h
   then_visits f g first parts more t q v from middle to k after (Err (Visitor fault)) e run each h = record {
     before = first v ++ h.before;
     e = h.e;

@@ -8,7 +8,7 @@ use Rattle.sfv_spec.specs.Values.{Edition, item_field, RawItem}
 use Rattle.sfv_spec.specs.Events.{TreeEvent, events}
 use Rattle.sfv_base.specs.declared.error.Error.{Error}
 use Rattle.sfv_base.specs.declared.error.ErrorKind.{ErrorKind}
-use Rattle.sfv_base.specs.declared.error.ErrorKind.TheVariants.{OutOfMemory, TrailingCharactersAfterParsedValue}
+use Rattle.sfv_base.specs.declared.error.ErrorKind.TheVariants.{TrailingCharactersAfterParsedValue}
 use Rattle.sfv_reading.specs.Reader.{Answer, Reader, first, give, ◌>>=◌, span}
 use Rattle.sfv_reading.specs.Items.{item_at}
 use Rattle.sfv_reading.specs.Fields.{whole_field_at, ending, read_field}
@@ -18,6 +18,7 @@ use Rattle.sfv.specs.declared.parser.cursor.Cursor.{Cursor}
 use Rattle.sfv.specs.Cursor.{kept, kept_input, rest, located, IsErrorOf}
 use Rattle.sfv.specs.Fields.{located_whole}
 use Rattle.sfv.proofs.reads.Errors.{fault_bind}
+use Rattle.sfv.specs.Memory.{IsRefusal}
 
 -- an item and the spaces after it
 unfoldable pub spaced : Edition → Reader RawItem
@@ -42,13 +43,13 @@ field_faulty edition t s r k q e h = ap located_whole (field_is edition t s r e)
 -- the error is the fault that a whole field is answered with, or out of memory
 pub field_error : (edition : Edition) (t s r : List ℕ) (i : List ℕ) (e : Error) → span is_space t ≡ Ok (s, r)
     → IsErrorOf i e (item_at edition r)
-    → MatchOption e.index (e.kind ≡ OutOfMemory) (λ index. (located_whole (read_field edition item_field t)
+    → MatchOption e.index (IsRefusal i e) (λ index. (located_whole (read_field edition item_field t)
     ≡ Err (e.kind, drop index i)) × (index ≤ length i))
 field_error edition t s r i e skipped error = on e.index error
   where
-    on : (o : Option ℕ) → MatchOption o (e.kind ≡ OutOfMemory)
+    on : (o : Option ℕ) → MatchOption o (IsRefusal i e)
         (λ index. (located (item_at edition r) ≡ Err (e.kind, drop index i)) × (index ≤ length i))
-        → MatchOption o (e.kind ≡ OutOfMemory) (λ index. (located_whole (read_field edition item_field t)
+        → MatchOption o (IsRefusal i e) (λ index. (located_whole (read_field edition item_field t)
         ≡ Err (e.kind, drop index i)) × (index ≤ length i))
     on None h = h
     on (Some n) h = (field_faulty edition t s r _ _ skipped h.0, h.1)

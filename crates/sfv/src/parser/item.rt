@@ -1,6 +1,6 @@
 //! Reading parameters and items (RFC 9651, sections 4.2.3 and 4.2.3.2).
 
-ghost use Rattle.std.specs.Prelude.{option_map, OnOk, IfOk, IfErr};
+ghost use Rattle.std.specs.Prelude.{option_map, OnOk, IfOk, IfErr, IfSome};
 ghost use Rattle.sfv_spec.specs.Events.{parameters_events, item_events};
 ghost use Rattle.sfv_bare.specs.BareItems.{input_value};
 ghost use Rattle.sfv_tree.specs.Events.{event_of};
@@ -46,12 +46,14 @@ pub(crate) fn finish<'de, V: Visitor<'de>>(visitor: V) -> Result<V::Out, ParseEr
 }
 
 impl<'de> Cursor<'de> {
-    ghost use Rattle.sfv.specs.Items.{read_pair};
+    ghost use Rattle.sfv.specs.Items.{read_pair, IsBorrowedParameter};
+    ghost use Rattle.sfv.specs.Quoted.{IsBorrowedValue};
 
     /// Takes the value of a parameter after its key: without `=` it is true.
     #[tactic(auto, using(crate::proofs::reads::Steps::value_steps))]
     fn parameter_value(&mut self) -> Result<BareItemFromInput<'de>, Error>
-        ensures { ReadsOrOutOfMemory input_value self.old self.new result (value_at (edition self.old)) }
+        ensures read { ReadsOrOutOfMemory input_value self.old self.new result (value_at (edition self.old)) }
+        ensures borrowed { IfOk result (λ item. IsBorrowedValue item (rest self.old) (rest self.new)) }
     {
         if self.take_if(b'=') {
             self.bare_item()
@@ -63,7 +65,10 @@ impl<'de> Cursor<'de> {
     /// Takes a parameter, if a semicolon stands next.
     #[tactic(auto, using(crate::proofs::reads::Steps::parameter_steps))]
     fn parameter(&mut self) -> Result<Option<ReadParameter<'de>>, Error>
-        ensures { ReadsOrOutOfMemory (option_map read_pair) self.old self.new result (parameter_at (edition self.old)) }
+        ensures read { ReadsOrOutOfMemory (option_map read_pair) self.old self.new result
+            (parameter_at (edition self.old)) }
+        ensures borrowed { IfOk result (λ parameter.
+            IfSome parameter (λ p. IsBorrowedParameter p (rest self.old) (rest self.new))) }
     {
         if !self.take_if(b';') {
             return Ok(None);

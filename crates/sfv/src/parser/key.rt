@@ -1,5 +1,6 @@
 //! Reading keys (RFC 9651, section 4.2.3.3).
 
+ghost use Rattle.std.specs.Prelude.{◌≡◌, ◌++◌, IfOk};
 ghost use Rattle.sfv_spec.specs.Classes.{is_key_start};
 ghost use Rattle.sfv_text.specs.KeyText.{key_text};
 ghost use Rattle.sfv_reading.specs.Items.{key_at};
@@ -22,7 +23,8 @@ impl<'de> Cursor<'de> {
     /// Takes a key.
     #[tactic(auto, using(crate::proofs::reads::Steps::key_steps))]
     pub(crate) fn key(&mut self) -> Result<KeyRef<'de>, Error>
-        ensures { Reads key_text self.old self.new result key_at }
+        ensures read { Reads key_text self.old self.new result key_at }
+        ensures taken { IfOk result (λ key. rest self.old ≡ key_text key ++ rest self.new) }
     {
         if !self.next_is_key_start() {
             return Err(self.error(ErrorKind::ExpectedStartOfKey));

@@ -8,6 +8,7 @@ ghost use Rattle.sfv_reading.specs.Quoted.{behind_bytes};
 ghost use Rattle.sfv.specs.Cursor.{input, kept, rest, IsFaultOf, ReadsOrOutOfMemory};
 ghost use Rattle.sfv.specs.Quoted.{plain_of, mark_of, stop_of, inside, quoted_bytes, is_plain, HasNoMark, ReadsEscape};
 ghost use Rattle.sfv.specs.ReadTexts.{vec_bytes};
+ghost use Rattle.sfv.specs.Memory.{HoldsMark};
 
 use crate::parser::cursor::Cursor;
 use sfv_base::error::{Error, ErrorKind};
@@ -57,6 +58,7 @@ impl<'de> Cursor<'de> {
 
     /// Takes the rest of a quoted text after the bytes `plain`, with its closing quote. Returns the bytes of both.
     fn unescaped<Q: QuotedText>(&mut self, plain: &[u8]) -> Result<Vec<u8>, Error>
+        requires { HoldsMark (input self.old) }
         ensures { ReadsOrOutOfMemory vec_bytes self.old self.new result
             (λ t. behind_bytes plain.now (inside Q.display t)) }
     {

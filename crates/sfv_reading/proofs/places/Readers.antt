@@ -95,7 +95,7 @@ comma_at_start t e (Err x) h i = elim (cases_Bool x.exact) [
   | inr n ↦ absurd ((h.1 n).0)
 ]
 
-abbrev comma_and_more : Reader (Unit {0})
+abbrev pub comma_and_more : Reader (Unit {0})
 comma_and_more = back trailing_comma comma_at
 
 comma_again : (behind : List ℕ) → RunOf is_space_or_tab behind → (c : ℕ) (q : List ℕ) → is_space_or_tab c ≡ false
@@ -136,42 +136,42 @@ comma_some r v i =
       ap (length {A = ℕ}) (m.2.text ∙ ap (λ (l : List ℕ). l ++ m.2.back) m.2.first),
     )
 
-Local-comma : Local comma_and_more
+pub Local-comma : Local comma_and_more
 unfolding comma_at
 Local-comma = search local_rules depth 40
 
 -- ---- nothing reads the byte 0
 
-stuck_give : {A : Type 0} (v : A) → Stuck (give v (0 ∷ []))
+pub stuck_give : {A : Type 0} (v : A) → Stuck (give v (0 ∷ []))
 unfolding give
 stuck_give v = refl
 
-stuck_then : {A B : Type 0} (f : Reader A) (g : A → Reader B) → Stuck (f (0 ∷ [])) → ((v : A) → Stuck (g v (0 ∷ [])))
+pub stuck_then : {A B : Type 0} (f : Reader A) (g : A → Reader B) → Stuck (f (0 ∷ [])) → ((v : A) → Stuck (g v (0 ∷ [])))
     → Stuck ((f >>= g) (0 ∷ []))
 unfolding bind
 stuck_then f g h k = stuck_bind g (f (0 ∷ [])) k h
 
-stuck_behind : {A : Type 0} (es : List TreeEvent) (f : Reader A) → Stuck (f (0 ∷ [])) → Stuck (led es f (0 ∷ []))
+pub stuck_behind : {A : Type 0} (es : List TreeEvent) (f : Reader A) → Stuck (f (0 ∷ [])) → Stuck (led es f (0 ∷ []))
 unfolding led
 stuck_behind es f h = stuck_led es (f (0 ∷ [])) h
 
-stuck_value : (edition : Edition) → Stuck (value_at edition (0 ∷ []))
+pub stuck_value : (edition : Edition) → Stuck (value_at edition (0 ∷ []))
 unfolding value_at branch give
 stuck_value edition = refl
 
-stuck_parameters : (edition : Edition) → Stuck (many parameter_event (parameter_at edition) (0 ∷ []))
+pub stuck_parameters : (edition : Edition) → Stuck (many parameter_event (parameter_at edition) (0 ∷ []))
 unfolding many many_within parameter_at branch give bind
 stuck_parameters edition = refl
 
-stuck_next_items : (edition : Edition) → Stuck (many inner_item_events (next_item_at edition) (0 ∷ []))
+pub stuck_next_items : (edition : Edition) → Stuck (many inner_item_events (next_item_at edition) (0 ∷ []))
 unfolding many many_within next_item_at branch ahead fail give bind
 stuck_next_items edition = (refl, refl)
 
-stuck_next : {A : Type 0} (parts : A → List TreeEvent) (one : Reader A) → Stuck (many parts (next_at one) (0 ∷ []))
+pub stuck_next : {A : Type 0} (parts : A → List TreeEvent) (one : Reader A) → Stuck (many parts (next_at one) (0 ∷ []))
 unfolding many many_within next_at branch ahead fail give bind span
 stuck_next parts one = (refl, refl)
 
-stuck_space : Stuck (span is_space (0 ∷ []))
+pub stuck_space : Stuck (span is_space (0 ∷ []))
 unfolding span
 stuck_space = refl
 
@@ -212,7 +212,7 @@ module _ (edition : Edition) (mark : Mark) where
   walk-last make = Walk-bind edition mark (parameters_at edition) _ _ walk-parameters (Local-parameters edition)
       (λ ps. Walk-give edition mark _ _) (λ ps. stuck_give _)
 
-  stuck_last : {A : Type 0} (make : RawParameters → A)
+  pub stuck_last : {A : Type 0} (make : RawParameters → A)
       → Stuck ((parameters_at edition >>= λ ps. give (make ps)) (0 ∷ []))
   unfolding parameters_at
   stuck_last make = stuck_then _ _ (stuck_parameters edition) (λ ps. stuck_give _)
@@ -314,7 +314,7 @@ module _ (edition : Edition) (mark : Mark) where
   walk-member_value = Walk-branch_never edition mark _ _ _ _ (refl, refl) (λ _ _. walk-member)
       (Walk-led edition mark _ _ _ (walk-last true_with))
 
-  stuck-member_value : Stuck (member_value_at edition (0 ∷ []))
+  pub stuck-member_value : Stuck (member_value_at edition (0 ∷ []))
   unfolding member_value_at branch
   stuck-member_value = stuck_behind _ _ (stuck_last true_with)
 

@@ -1,10 +1,10 @@
 //! The visitor that builds a dictionary.
 
-ghost use Rattle.std.specs.Prelude.{◌≡◌, ⊤, ℕ, List, Some, OnOk, OnErr, IsTrue};
+ghost use Rattle.std.specs.Prelude.{◌≡◌, ⊤, false, ℕ, List, Some, OnOk, OnErr, IsTrue};
 ghost use Rattle.indexmap.specs.IndexMap.{hasher_of};
 ghost use Rattle.sfv_text.specs.KeyText.{key_text};
 ghost use Rattle.sfv_tree.specs.Trees.{dictionary_tree};
-ghost use Rattle.sfv_tree.specs.Events.{event_of};
+ghost use Rattle.sfv_tree.specs.Events.{event_of, is_moved};
 ghost use Rattle.sfv_tree.specs.Builders.{dictionary_step, dictionary_place, dictionary_members, begun, within_pair};
 ghost use Rattle.sfv_tree.specs.Builders.{between_pairs, settle_pair, settle_takes_memory, dictionary_takes_memory};
 ghost use Rattle.sfv_tree.specs.Builders.{ended_member, dictionary_seed};
@@ -20,8 +20,8 @@ use sfv_text::key_ref::KeyRef;
 /// whole, at the place of the first (RFC 9651, section 4.2.2); so does the last value of a repeated parameter.
 ///
 /// It takes every event, and an event out of its place changes nothing. It fails only when out of memory, at a key, a
-/// text, a parameter or the end of an item or a member that it takes, and never at the end. Its answer is the
-/// dictionary of the members that are whole.
+/// text that is borrowed, a parameter or the end of an item or a member that it takes, and never at the end. Its answer
+/// is the dictionary of the members that are whole.
 #[derive(Drop)]
 pub struct DictionaryBuilder {
     dictionary: Dictionary,
@@ -80,6 +80,7 @@ impl DictionaryBuilder {
             (dictionary_place self.new ≡ dictionary_step (dictionary_place self.old) (event_of event.entry)) }
         ensures out_of_memory { OnErr result
             (IsTrue (dictionary_takes_memory (dictionary_place self.old) (event_of event.entry))) }
+        ensures copied { OnErr result (is_moved event.entry ≡ false) }
     {
         if self.key.is_none() {
             if let Event::KeyedEntry(key) = event {
@@ -102,6 +103,8 @@ impl<'de> Visitor<'de> for DictionaryBuilder {
     ghost takes = { λ s event after. dictionary_place after ≡ dictionary_step (dictionary_place s) event };
 
     ghost fails = { λ s event fault. IsTrue (dictionary_takes_memory (dictionary_place s) event) };
+
+    ghost fails_read = { λ _ event _. is_moved event ≡ false };
 
     ghost finishes = { λ s dictionary. dictionary_tree dictionary.entries ≡ dictionary_members (dictionary_place s) };
 

@@ -1,9 +1,9 @@
 //! The visitor that builds an item.
 
-ghost use Rattle.std.specs.Prelude.{◌≡◌, OnOk, OnErr, IsTrue};
+ghost use Rattle.std.specs.Prelude.{◌≡◌, false, OnOk, OnErr, IsTrue};
 ghost use Rattle.sfv_spec.specs.Values.{RawItem};
 ghost use Rattle.sfv_tree.specs.Trees.{item_tree};
-ghost use Rattle.sfv_tree.specs.Events.{event_of};
+ghost use Rattle.sfv_tree.specs.Events.{event_of, is_moved};
 ghost use Rattle.sfv_tree.specs.Builders.{at_head, at_end, item_step, item_place, item_seed, takes_memory};
 ghost use Rattle.sfv_tree.specs.declared.visitor.ItemFault.TheVariants as faults;
 
@@ -16,8 +16,8 @@ use std::alloc::Global;
 
 /// Builds an item of its events. Of a repeated key the last value stands, at the place of the first.
 ///
-/// It takes every event, and an event out of its place changes nothing. It fails only when out of memory, at a text or
-/// a parameter that it takes, and at the end with `ItemFault::NoItem` only where it visited no whole item.
+/// It takes every event, and an event out of its place changes nothing. It fails only when out of memory, at a text that
+/// is borrowed or a parameter that it takes, and at the end with `ItemFault::NoItem` only where it visited no whole item.
 #[derive(Drop)]
 pub struct ItemBuilder {
     alloc: Global,
@@ -45,6 +45,7 @@ impl ItemBuilder {
     fn step(&mut self, event: Event<'_>) -> Result<(), OutOfMemory>
         ensures place { OnOk result (item_place self.new ≡ item_step (item_place self.old) (event_of event.entry)) }
         ensures out_of_memory { OnErr result (IsTrue (takes_memory (item_place self.old) (event_of event.entry))) }
+        ensures copied { OnErr result (is_moved event.entry ≡ false) }
     {
         match (&mut self.item, event) {
             (None, Event::BareItem(bare_item)) => {
@@ -71,6 +72,8 @@ impl<'de> Visitor<'de> for ItemBuilder {
     ghost takes = { λ s event after. item_place after ≡ item_step (item_place s) event };
 
     ghost fails = { λ s event fault. (fault ≡ faults.OutOfMemory) × IsTrue (takes_memory (item_place s) event) };
+
+    ghost fails_read = { λ _ event _. is_moved event ≡ false };
 
     ghost finishes = { λ s item. item_place s ≡ at_end (item_tree item) };
 

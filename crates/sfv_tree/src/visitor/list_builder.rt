@@ -1,8 +1,8 @@
 //! The visitor that builds a list.
 
-ghost use Rattle.std.specs.Prelude.{◌≡◌, ⊤, IsSome, OnOk, OnErr, IsTrue};
+ghost use Rattle.std.specs.Prelude.{◌≡◌, ⊤, false, IsSome, OnOk, OnErr, IsTrue};
 ghost use Rattle.sfv_tree.specs.Trees.{list_tree};
-ghost use Rattle.sfv_tree.specs.Events.{event_of};
+ghost use Rattle.sfv_tree.specs.Events.{event_of, is_moved};
 ghost use Rattle.sfv_tree.specs.Builders.{between, settle, list_step, list_place, list_seed, list_members};
 ghost use Rattle.sfv_tree.specs.Builders.{has_ended, list_takes_memory, ended_member};
 
@@ -15,9 +15,9 @@ use sfv_base::error::OutOfMemory;
 /// Builds a list of its events, after the members of a list that it begins with. Of a repeated key the last value
 /// stands, at the place of the first.
 ///
-/// It takes every event, and an event out of its place changes nothing. It fails only when out of memory, at a text, a
-/// parameter or the end of an item or a member that it takes, and never at the end. Its answer is the list of the
-/// members that are whole.
+/// It takes every event, and an event out of its place changes nothing. It fails only when out of memory, at a text that
+/// is borrowed, a parameter or the end of an item or a member that it takes, and never at the end. Its answer is the list
+/// of the members that are whole.
 #[derive(Drop)]
 pub struct ListBuilder {
     list: List,
@@ -83,6 +83,7 @@ impl ListBuilder {
     fn step(&mut self, event: Event<'_>) -> Result<(), OutOfMemory>
         ensures place { OnOk result (list_place self.new ≡ list_step (list_place self.old) (event_of event.entry)) }
         ensures out_of_memory { OnErr result (IsTrue (list_takes_memory (list_place self.old) (event_of event.entry))) }
+        ensures copied { OnErr result (is_moved event.entry ≡ false) }
     {
         if !self.is_within {
             if let Event::Entry = event {
@@ -106,6 +107,8 @@ impl<'de> Visitor<'de> for ListBuilder {
     ghost takes = { λ s event after. list_place after ≡ list_step (list_place s) event };
 
     ghost fails = { λ s event fault. IsTrue (list_takes_memory (list_place s) event) };
+
+    ghost fails_read = { λ _ event _. is_moved event ≡ false };
 
     ghost finishes = { λ s list. list_tree list.items ≡ list_members (list_place s) };
 

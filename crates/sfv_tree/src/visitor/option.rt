@@ -16,6 +16,11 @@ impl<'de, V: Visitor<'de>> Visitor<'de> for Option<V> {
 
     ghost fails = { λ s event fault. MatchOption s ⊥ (λ visitor. V.fails visitor event fault) };
 
+    ghost takes_read = { λ s event after. MatchOption s ⊤ (λ visitor.
+        (next : V) × (after ≡ Some next) × V.takes_read visitor event next) };
+
+    ghost fails_read = { λ s event fault. MatchOption s ⊥ (λ visitor. V.fails_read visitor event fault) };
+
     ghost finishes = { λ s out. MatchOption s (out ≡ None) (λ visitor.
         (answer : V.Out) × (out ≡ Some answer) × V.finishes visitor answer) };
 

@@ -1,11 +1,11 @@
 //! A member of a list or a dictionary while it is read.
 
-ghost use Rattle.std.specs.Prelude.{◌≡◌, None, is_some, IsSome, IfOk, IfNone, OnOk, OnErr, IsTrue, option_map};
+ghost use Rattle.std.specs.Prelude.{◌≡◌, false, None, is_some, IsSome, IfOk, IfNone, OnOk, OnErr, IsTrue, option_map};
 ghost use Rattle.sfv_spec.specs.Events as tree;
-ghost use Rattle.sfv_bare.specs.BareItems.{input_value};
+ghost use Rattle.sfv_bare.specs.BareItems.{input_value, is_borrowed};
 ghost use Rattle.sfv_text.specs.KeyText.{key_text};
 ghost use Rattle.sfv_tree.specs.Trees.{item_tree, member_tree};
-ghost use Rattle.sfv_tree.specs.Events.{event_of};
+ghost use Rattle.sfv_tree.specs.Events.{event_of, is_moved};
 ghost use Rattle.sfv_tree.specs.Builders.{begun, member_step, member_place, takes_memory, item_of};
 ghost use Rattle.sfv_tree.specs.Builders.{whole_of, place_after, member_seed};
 
@@ -114,6 +114,7 @@ impl PartialMember {
             ≡ member_step (member_place self.old) (tree.bare_item (input_value bare_item.entry))) }
         ensures out_of_memory { OnErr result
             (IsTrue (takes_memory (member_place self.old) (tree.bare_item (input_value bare_item.entry)))) }
+        ensures copied { OnErr result (IsTrue (is_borrowed bare_item.entry)) }
     {
         if self.bare_item.is_none() && self.place == Place::Head {
             self.bare_item = Some(bare_item.try_into_owned(alloc)?);
@@ -204,6 +205,8 @@ impl PartialMember {
         ensures place { IfOk result (λ is_whole. place_after is_whole self.new
             ≡ member_step (member_place self.old) (event_of event.entry)) }
         ensures out_of_memory { OnErr result (IsTrue (takes_memory (member_place self.old) (event_of event.entry))) }
+        ensures copied { OnErr result (is_moved event.entry ≡ false) }
+        ensures ends { IfOk result (λ is_whole. IsTrue is_whole → is_moved event.entry ≡ false) }
     {
         match event {
             Event::Item => self.begin_item(),

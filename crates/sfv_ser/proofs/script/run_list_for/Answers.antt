@@ -2,6 +2,7 @@ use Rattle.sfv_spec.specs.Values.{list_field}
 use Rattle.sfv_spec.proofs.Given.{described_fit}
 use Rattle.sfv_bare.specs.BareItems.{edition_of}
 use Rattle.sfv_ser.specs.Scripts.{list_calls, described_list}
+use Rattle.sfv_ser.proofs.Looks.{at_exit, named_list}
 use Rattle.sfv_ser.proofs.ReadBack.{read_back}
 use Rattle.sfv_ser.proofs.script.run_list_for.Goals as goal
 
@@ -11,3 +12,8 @@ returns-clause-read_back c =
     let calls = c.args.calls.now in
     read_back edition list_field (described_list calls) c.in_ok-stands.ensures.value
     (described_fit edition list_field (list_calls calls) c.in_ok-look_at_list_calls.ensures)
+
+pub returns-in_err-look_at_list_calls-clause-some : goal.returns-in_err-look_at_list_calls-clause-some
+returns-in_err-look_at_list_calls-clause-some c =
+    at_exit c.from_residual.result _ _ _ c.from_residual.ensures.1
+    (named_list (edition_of c.args.version) c.args.calls.now _ c.in_err-look_at_list_calls.ensures)

@@ -1,15 +1,15 @@
 use Rattle.std.proofs.lemmas.Result.{IfOk-weaker}
 use Rattle.sfv.specs.Values.{rfc9651, dictionary_field}
-use Rattle.sfv.proofs.Callers.{dictionary_built}
+use Rattle.sfv.proofs.Callers.{made_visited, made_syntax, made_visitor, dictionary_built}
 use Rattle.sfv_uses.proofs.Uses.{read_failed}
 use Rattle.sfv_uses.proofs.expecting.dictionary.Goals as goal
 
 pub returns-clause-read : goal.returns-clause-read
 returns-clause-read c = IfOk-weaker c.parse_dictionary.result _ _
     (λ value h. dictionary_built rfc9651 c.args.input.now h.0 value h.1.0 h.2)
-    (rw c.new.ensures at c.parse_dictionary.ensures.visited)
+    (made_visited _ (rw c.new.ensures at c.parse_dictionary.ensures))
 
 pub returns-clause-rejected : goal.returns-clause-rejected
 returns-clause-rejected c = read_failed _ _ _ dictionary_field c.args.input.now (λ e h. h.2.0) (λ f h. tt)
-    c.parse_dictionary.result (rw c.new.ensures at c.parse_dictionary.ensures.syntax)
-    (rw c.new.ensures at c.parse_dictionary.ensures.visitor)
+    c.parse_dictionary.result (made_syntax _ (rw c.new.ensures at c.parse_dictionary.ensures))
+    (made_visitor _ (rw c.new.ensures at c.parse_dictionary.ensures))

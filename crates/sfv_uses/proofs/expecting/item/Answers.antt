@@ -1,16 +1,16 @@
 use Rattle.std.proofs.Common.{refl, inl}
 use Rattle.std.proofs.lemmas.Result.{IfOk-weaker}
 use Rattle.sfv.specs.Values.{rfc9651, item_field}
-use Rattle.sfv.proofs.Callers.{item_built, item_built_fails}
+use Rattle.sfv.proofs.Callers.{made_item, made_visited, made_syntax, made_visitor, item_built, item_built_fails}
 use Rattle.sfv_uses.proofs.Uses.{read_failed}
 use Rattle.sfv_uses.proofs.expecting.item.Goals as goal
 
 pub returns-clause-read : goal.returns-clause-read
 returns-clause-read c = IfOk-weaker c.parse_item.result _ _
     (λ value h. item_built rfc9651 c.args.input.now h.0 value h.1.0 h.2)
-    (rw c.new.ensures at c.parse_item.ensures.visited)
+    (made_visited _ (made_item _ (rw c.new.ensures at c.parse_item.ensures)))
 
 pub returns-clause-rejected : goal.returns-clause-rejected
 returns-clause-rejected c = read_failed _ _ _ item_field c.args.input.now (λ e h. h.2.0)
     (λ f h. item_built_fails h.0 f h.1.0 (h.2.1 (inl refl))) c.parse_item.result
-    (rw c.new.ensures at c.parse_item.ensures.syntax) (rw c.new.ensures at c.parse_item.ensures.visitor)
+    (made_syntax _ (made_item _ (rw c.new.ensures at c.parse_item.ensures))) (made_visitor _ (made_item _ (rw c.new.ensures at c.parse_item.ensures)))

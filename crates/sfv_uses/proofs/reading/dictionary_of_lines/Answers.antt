@@ -5,8 +5,8 @@ use Rattle.sfv.specs.Trees.{dictionary_tree}
 use Rattle.sfv.proofs.Callers.{dictionary_behind, read_is_value}
 use Rattle.sfv_uses.proofs.reading.dictionary_of_lines.Goals as goal
 
-pub returns : goal.returns
-returns c =
+pub returns-clause-joined : goal.returns-clause-joined
+returns-clause-joined c =
     let held = dictionary_tree c.in_ok-held.held.entries in
     let first : IsParsedAs rfc9651 dictionary_field c.args.first.now held =
     rw (c.with_hash_seed-parser.ensures, c.new.ensures) at c.in_ok-held.ensures.read in

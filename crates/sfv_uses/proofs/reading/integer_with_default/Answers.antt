@@ -7,15 +7,15 @@ use Rattle.sfv_uses.specs.Uses.{integer_or}
 use Rattle.sfv_uses.proofs.Uses.{integer_or-other}
 use Rattle.sfv_uses.proofs.reading.integer_with_default.Goals as goal
 
-pub returns-in_default : goal.returns-in_default
-returns-in_default c =
+pub returns-in_default-clause-integer : goal.returns-in_default-clause-integer
+returns-in_default-clause-integer c =
     let read : IsParsedAs rfc9651 item_field c.args.input.now (item_tree c.in_ok-item.item) =
     rw c.new.ensures at c.in_ok-item.ensures.read in
     let other = c.in_default.ensures.value (λ s. s) (λ b. b.items) (λ t. t) string_bytes in
     (item_tree c.in_ok-item.item, read, sym (integer_or-other (integer_of c.args.default) _ other))
 
-pub returns : goal.returns
-returns c =
+pub returns-clause-integer : goal.returns-clause-integer
+returns-clause-integer c =
     let read : IsParsedAs rfc9651 item_field c.args.input.now (item_tree c.in_ok-item.item) =
     rw c.new.ensures at c.in_ok-item.ensures.read in
     let there = c.in-Some.ensures.value (λ s. s) (λ b. b.items) (λ t. t) string_bytes in

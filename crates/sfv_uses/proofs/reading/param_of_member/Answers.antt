@@ -8,16 +8,16 @@ use Rattle.sfv.specs.KeyText.{key_text}
 use Rattle.sfv_uses.proofs.Uses.{param_read}
 use Rattle.sfv_uses.proofs.reading.param_of_member.Goals as goal
 
-pub returns-in_default : goal.returns-in_default
-returns-in_default c =
+pub returns-in_default-clause-param : goal.returns-in_default-clause-param
+returns-in_default-clause-param c =
     let value = dictionary_tree c.in_ok-dictionary.dictionary.entries in
     let read : IsParsedAs rfc9651 dictionary_field c.args.input.now value =
     rw c.new.ensures at c.in_ok-dictionary.ensures.read in
     let there = param_read c.args.input.now value (key_text c.args.member) (key_text c.args.param) read in
     (read.raw, read.accepted, c.in_default.ensures ∙ there)
 
-pub returns : goal.returns
-returns c =
+pub returns-clause-param : goal.returns-clause-param
+returns-clause-param c =
     let value = dictionary_tree c.in_ok-dictionary.dictionary.entries in
     let read : IsParsedAs rfc9651 dictionary_field c.args.input.now value =
     rw c.new.ensures at c.in_ok-dictionary.ensures.read in

@@ -4,6 +4,7 @@ use Rattle.sfv_tree.specs.Builders.{between_pairs}
 use Rattle.sfv_tree.specs.declared.parsed.ListEntry.{ListEntry}
 use Rattle.sfv.specs.Parsers.{input_of, parser_edition}
 use Rattle.sfv.proofs.built.Dictionaries.{built_dictionary}
+use Rattle.sfv.proofs.Memory.{dictionary_more}
 use Rattle.sfv.proofs.field_type.DictionaryFieldType.parse.Goals as goal
 
 pub returns-in-Ok-clause-read : goal.returns-in-Ok-clause-read
@@ -11,3 +12,7 @@ returns-in-Ok-clause-read c =
     built_dictionary (parser_edition c.args.parser) (input_of c.args.parser) c.new-builder.result c.in-Ok.dictionary
     (c.new-builder.ensures.place ∙ ap (λ (entries : List (List ℕ × ListEntry)). between_pairs (dictionary_tree entries))
     c.with_hasher-dictionary.ensures.empty) c.in-Ok.ensures.visited
+
+pub returns-in-Err-Visitor-clause-memory : goal.returns-in-Err-Visitor-clause-memory
+returns-in-Err-Visitor-clause-memory c _ = dictionary_more (parser_edition c.args.parser) (input_of c.args.parser)
+    c.new-builder.result c.in-Err-Visitor.error (rw c.in-Err-Visitor.field-0-is at c.in-Err-Visitor.ensures.visitor)

@@ -4,6 +4,7 @@ use Rattle.sfv_tree.specs.Builders.{between}
 use Rattle.sfv_tree.specs.declared.parsed.ListEntry.{ListEntry}
 use Rattle.sfv.specs.Parsers.{input_of, parser_edition}
 use Rattle.sfv.proofs.built.Lists.{built_list}
+use Rattle.sfv.proofs.Memory.{list_more}
 use Rattle.sfv.proofs.field_type.ListFieldType.parse.Goals as goal
 
 pub returns-in-Ok-clause-read : goal.returns-in-Ok-clause-read
@@ -11,3 +12,7 @@ returns-in-Ok-clause-read c =
     built_list (parser_edition c.args.parser) (input_of c.args.parser) c.new-builder.result c.in-Ok.list
     (c.new-builder.ensures.place ∙ ap (λ (members : List ListEntry). between (list_tree members)) c.new.ensures.items)
     c.in-Ok.ensures.visited
+
+pub returns-in-Err-Visitor-clause-memory : goal.returns-in-Err-Visitor-clause-memory
+returns-in-Err-Visitor-clause-memory c _ = list_more (parser_edition c.args.parser) (input_of c.args.parser)
+    c.new-builder.result c.in-Err-Visitor.error (rw c.in-Err-Visitor.field-0-is at c.in-Err-Visitor.ensures.visitor)

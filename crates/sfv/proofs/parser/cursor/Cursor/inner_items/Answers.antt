@@ -1,8 +1,10 @@
-use Rattle.std.proofs.Common.{◌∙◌, ap, not, refl, []}
+use Rattle.std.proofs.Common.{◌≡◌, ◌∙◌, false, ap, not, refl, []}
+use Rattle.std.specs.Prelude.{is_some}
 use Rattle.std.proofs.lemmas.Result.{err_from_is_err_and}
-use Rattle.sfv.specs.Cursor.{kept}
-use Rattle.sfv.proofs.reads.Errors.{ErrorOf-here}
-use Rattle.sfv.proofs.reads.Delimiters.{items_none, items_closed, items_first}
+use Rattle.sfv_reading.specs.Reader.{first}
+use Rattle.sfv.specs.Cursor.{rest}
+use Rattle.sfv.proofs.visits.Taken.{no_items_visited}
+use Rattle.sfv.proofs.reads.Delimiters.{items_closed, items_first}
 use Rattle.sfv.proofs.visits.Loops.{begun, shorter, first_fails, more, ended, delimiter_fails, one_fails, items_loop}
 use Rattle.sfv.proofs.parser.cursor.Cursor.inner_items.Goals as goal
 
@@ -34,7 +36,7 @@ returns-in_err-consume_item_delimiter-clause-visited g c =
     let p = err_from_is_err_and c.from_residual-in_err-consume_item_delimiter.result
     c.from_residual-in_err-consume_item_delimiter.ensures.1 in
     rw (p.1, p.2) (delimiter_fails g.V.Visitor.takes g.V.Visitor.fails items_loop c.args.self.now _ c.loop-self.self
-    c.consume_item_delimiter.new.self _ _ c.loop-self.visitor _ c.loop-self.invariant.visited
+    c.consume_item_delimiter.new.self _ c.loop-self.visitor _ c.loop-self.invariant.visited
     c.in_err-consume_item_delimiter.ensures)
 
 pub loop-self-smaller : goal.loop-self-smaller
@@ -69,9 +71,10 @@ returns-clause-visited g c =
     c.consume_item_delimiter.new.self _ _ c.loop-self.invariant.visited wanted
 
 pub returns-then-is_none-clause-visited : goal.returns-then-is_none-clause-visited
-returns-then-is_none-clause-visited g c = rw c.error-error.ensures
-    (ErrorOf-here _ c.args.self.now (kept c.args.self.now) _ refl
-    (items_none _ _ (rw (← c.peek.ensures) (c.is_none.ensures ∙ ap not c.if-is_none.true))))
+returns-then-is_none-clause-visited g c =
+    let none : is_some (first (rest c.args.self.now)) ≡ false =
+    rw (← c.peek.ensures) (c.is_none.ensures ∙ ap not c.if-is_none.true) in
+    rw c.error-error.ensures (no_items_visited g.V.Visitor.takes c.args.self.now c.args.visitor.now none)
 
 pub returns-then-take_if-clause-visited : goal.returns-then-take_if-clause-visited
 returns-then-take_if-clause-visited g c = (

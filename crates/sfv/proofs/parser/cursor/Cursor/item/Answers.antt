@@ -1,20 +1,16 @@
-use Rattle.std.proofs.Common.{refl}
 use Rattle.std.proofs.lemmas.Result.{err_from_is_err_and}
 use Rattle.sfv_spec.specs.Events.{parameters_events, item_events}
-use Rattle.sfv_reading.specs.Bare.{bare_at}
 use Rattle.sfv_reading.specs.Items.{parameters_at}
-use Rattle.sfv.specs.Cursor.{kept}
-use Rattle.sfv.proofs.reads.Errors.{ErrorOf-part}
-use Rattle.sfv.proofs.reads.Steps.{item_is}
-use Rattle.sfv.proofs.visits.Parameters.{of_visitor, bare_failed, item_visits}
+use Rattle.sfv.specs.Cursor.{kept, edition, rest, input}
+use Rattle.sfv.proofs.visits.Parameters.{of_visitor, bare_failed, bare_faulty, item_visits}
 use Rattle.sfv.proofs.visits.Parts.{kept_visits}
 use Rattle.sfv.proofs.parser.cursor.Cursor.item.Goals as goal
 
 pub returns-in_err-bare_item-clause-visited : goal.returns-in_err-bare_item-clause-visited
 returns-in_err-bare_item-clause-visited g c =
     let p = err_from_is_err_and c.from_residual.result c.from_residual.ensures.1 in
-    rw (p.1, p.2) (ErrorOf-part (kept c.args.self.now) (kept c.args.self.now) _ bare_at _ _ _ refl (item_is _ _)
-    c.in_err-bare_item.ensures.read)
+    rw (p.1, p.2) (bare_faulty g.V.Visitor.takes (edition c.args.self.now) (rest c.args.self.now) (input c.args.self.now)
+    _ c.args.visitor.now c.in_err-bare_item.ensures.read)
 
 pub returns-in_err-visit-clause-visited : goal.returns-in_err-visit-clause-visited
 returns-in_err-visit-clause-visited g c =

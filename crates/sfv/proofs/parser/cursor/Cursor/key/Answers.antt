@@ -18,8 +18,8 @@ constant-requires c = rw c.from_utf8_unchecked-text.ensures (key_class _ _ _ (re
   ends = c.byte_and_run-bytes.ensures.ends;
 }))
 
-pub returns : goal.returns
-returns c = (
+pub returns-clause-read : goal.returns-clause-read
+returns-clause-read c = (
   rw (c.constant.ensures, c.from_utf8_unchecked-text.ensures) (key_some _ _ _ (record {
     head = c.if-not-next_is_key_start.ensures;
     each = c.byte_and_run-bytes.ensures.each;

@@ -33,7 +33,7 @@ returns-in_err-consume_comma-clause-visited g c =
     let p = err_from_is_err_and c.from_residual-in_err-consume_comma.result
     c.from_residual-in_err-consume_comma.ensures.1 in
     rw (p.1, p.2) (delimiter_fails g.V.Visitor.takes g.V.Visitor.fails (members_loop g.M.Member.keyed) c.args.self.now _
-    c.loop-self.self c.consume_comma.new.self _ _ c.loop-self.visitor _ c.loop-self.invariant.visited
+    c.loop-self.self c.consume_comma.new.self _ c.loop-self.visitor _ c.loop-self.invariant.visited
     c.in_err-consume_comma.ensures)
 
 pub loop-self-smaller : goal.loop-self-smaller

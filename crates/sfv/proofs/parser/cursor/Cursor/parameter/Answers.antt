@@ -3,28 +3,33 @@ use Rattle.std.proofs.lemmas.Result.{err_from_is_err_and}
 use Rattle.sfv_reading.specs.Items.{key_at, value_at}
 use Rattle.sfv.proofs.reads.Errors.{kept_reads, ErrorOf-fault, ErrorOf-part}
 use Rattle.sfv.proofs.reads.Steps.{parameter_is, parameter_keyed, parameter_some}
+use Rattle.sfv.proofs.reads.Borrowed.{borrowed_parameter}
 use Rattle.sfv.proofs.parser.cursor.Cursor.parameter.Goals as goal
 
-pub returns-in_err-key : goal.returns-in_err-key
-returns-in_err-key c =
+pub returns-in_err-key-clause-read : goal.returns-in_err-key-clause-read
+returns-in_err-key-clause-read c =
     let p = err_from_is_err_and c.from_residual.result c.from_residual.ensures.1 in
     rw (p.1, p.2)
     (ErrorOf-part _ _ _ (λ _. key_at) _ _ _ (c.skip_sp.ensures.kept
     ∙ c.take_if.ensures.kept) (parameter_is _ _ _ _ _ c.if-not-take_if.ensures.takes c.skip_sp.ensures.skipped.1)
-    (ErrorOf-fault _ _ _ c.in_err-key.ensures))
+    (ErrorOf-fault _ _ _ c.in_err-key.ensures.read))
 
-pub returns-in_err-value : goal.returns-in_err-value
-returns-in_err-value c =
+pub returns-in_err-value-clause-read : goal.returns-in_err-value-clause-read
+returns-in_err-value-clause-read c =
     let p = err_from_is_err_and c.from_residual-in_err-value.result c.from_residual-in_err-value.ensures.1 in
     rw (p.1, p.2)
-    (ErrorOf-part _ _ _ value_at _ _ _ (c.in_ok-key.ensures.1 ∙ c.skip_sp.ensures.kept
+    (ErrorOf-part _ _ _ value_at _ _ _ (c.in_ok-key.ensures.read.1 ∙ c.skip_sp.ensures.kept
     ∙ c.take_if.ensures.kept) (parameter_keyed _ _ _ _ _ _ _ c.if-not-take_if.ensures.takes
-    c.skip_sp.ensures.skipped.1 c.in_ok-key.ensures.0) c.in_err-value.ensures)
+    c.skip_sp.ensures.skipped.1 c.in_ok-key.ensures.read.0) c.in_err-value.ensures.read)
 
-pub returns : goal.returns
-returns c =
-    let same = c.in_ok-key.ensures.1 ∙ c.skip_sp.ensures.kept ∙ c.take_if.ensures.kept in (
-      parameter_some _ _ _ _ _ _ _ _ _ c.if-not-take_if.ensures.takes c.skip_sp.ensures.skipped.1 c.in_ok-key.ensures.0
-          (kept_reads value_at _ _ _ same ∙ c.in_ok-value.ensures.0),
-      c.in_ok-value.ensures.1 ∙ same,
+pub returns-clause-read : goal.returns-clause-read
+returns-clause-read c =
+    let same = c.in_ok-key.ensures.read.1 ∙ c.skip_sp.ensures.kept ∙ c.take_if.ensures.kept in (
+      parameter_some _ _ _ _ _ _ _ _ _ c.if-not-take_if.ensures.takes c.skip_sp.ensures.skipped.1 c.in_ok-key.ensures.read.0
+          (kept_reads value_at _ _ _ same ∙ c.in_ok-value.ensures.read.0),
+      c.in_ok-value.ensures.read.1 ∙ same,
     )
+
+pub returns-clause-borrowed : goal.returns-clause-borrowed
+returns-clause-borrowed c = borrowed_parameter (record { key = c.in_ok-key.key; value = c.in_ok-value.value }) _ _ _ _ _ _ c.if-not-take_if.ensures.takes c.skip_sp.ensures.skipped.1
+    c.in_ok-key.ensures.taken c.in_ok-value.ensures.borrowed

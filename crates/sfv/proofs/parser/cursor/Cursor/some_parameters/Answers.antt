@@ -20,12 +20,12 @@ pub returns-in_err-parameter-clause-visited : goal.returns-in_err-parameter-clau
 returns-in_err-parameter-clause-visited g c =
     let p = err_from_is_err_and c.from_residual.result c.from_residual.ensures.1 in
     rw (p.1, p.2) (visited_error g.V.Visitor.takes _ _ _ _ _ _ _ c.loop-parameter.invariant.kept
-    c.loop-parameter.invariant.visited c.in_err-parameter.ensures)
+    c.loop-parameter.invariant.visited c.in_err-parameter.ensures.read)
 
 pub returns-in_err-visit-clause-visited : goal.returns-in_err-visit-clause-visited
 returns-in_err-visit-clause-visited g c =
     let p = err_from_is_err_and c.from_residual-in_err-visit.result c.from_residual-in_err-visit.ensures.1 in
-    let e = rw c.in-Some.is at c.in_ok-parameter.ensures in
+    let e = rw c.in-Some.is at c.in_ok-parameter.ensures.read in
     let read = kept_reads parameter_at _ _ _ c.loop-parameter.invariant.kept ∙ e.0 in
     rw (p.1, p.2) (of_visitor g.V.Visitor.takes g.V.Visitor.fails parameters_events (kept c.args.self.now)
     c.parameter.new.self _ c.visit.new.visitor _ _ _ c.in_err-visit.ensures.failed
@@ -34,12 +34,12 @@ returns-in_err-visit-clause-visited g c =
 
 pub loop-parameter-smaller : goal.loop-parameter-smaller
 loop-parameter-smaller g c =
-    let e = rw c.in-Some.is at c.in_ok-parameter.ensures in
+    let e = rw c.in-Some.is at c.in_ok-parameter.ensures.read in
     (Consumes-parameter (edition c.loop-parameter.self)).consumes _ _ _ e.0
 
 pub loop-parameter-preserved : goal.loop-parameter-preserved
 loop-parameter-preserved g c =
-    let e = rw c.in-Some.is at c.in_ok-parameter.ensures in
+    let e = rw c.in-Some.is at c.in_ok-parameter.ensures.read in
     let read = kept_reads parameter_at _ _ _ c.loop-parameter.invariant.kept ∙ e.0 in
     record {
       ready = c.in_ok-visit.ensures.ready;
@@ -50,7 +50,7 @@ loop-parameter-preserved g c =
 
 pub returns-clause-visited : goal.returns-clause-visited
 returns-clause-visited g c =
-    let e = rw c.in_default.is at c.in_ok-parameter.ensures in
+    let e = rw c.in_default.is at c.in_ok-parameter.ensures.read in
     let read = kept_reads parameter_at _ _ _ c.loop-parameter.invariant.kept ∙ e.0 in
     end_visits g.V.Visitor.takes g.V.Visitor.fails (edition c.args.self.now) (rest c.args.self.now)
     (rest c.loop-parameter.self) c.args.visitor.now c.loop-parameter.visitor c.visit-2.new.visitor

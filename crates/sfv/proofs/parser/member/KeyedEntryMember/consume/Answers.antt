@@ -11,19 +11,19 @@ pub returns-in_err-key-clause-visited : goal.returns-in_err-key-clause-visited
 returns-in_err-key-clause-visited g c =
     let p = err_from_is_err_and c.from_residual.result c.from_residual.ensures.1 in
     rw (p.1, p.2) (key_fails g.V.Visitor.takes g.V.Visitor.fails (edition c.args.cursor.now) _ (kept c.args.cursor.now)
-    _ (ErrorOf-fault _ _ _ c.in_err-key.ensures))
+    _ c.args.visitor.now (ErrorOf-fault _ _ _ c.in_err-key.ensures.read))
 
 pub returns-in_err-visit-clause-visited : goal.returns-in_err-visit-clause-visited
 returns-in_err-visit-clause-visited g c =
     let p = err_from_is_err_and c.from_residual-in_err-visit.result c.from_residual-in_err-visit.ensures.1 in
     rw (p.1, p.2) (keyed_fails g.V.Visitor.takes g.V.Visitor.fails (edition c.args.cursor.now) _ _ _ _
-    c.visit.new.visitor (kept c.args.cursor.now) c.key.new.self _ c.in_ok-key.ensures.0
+    c.visit.new.visitor (kept c.args.cursor.now) c.key.new.self _ c.in_ok-key.ensures.read.0
     c.in_err-visit.ensures.failed)
 
 pub returns-clause-visited : goal.returns-clause-visited
 returns-clause-visited g c =
     keyed_visits g.V.Visitor.takes g.V.Visitor.fails (edition c.args.cursor.now) _ _ _ _ _ c.member_value.new.visitor _
-    c.member_value.new.self c.member_value.result c.in_ok-key.ensures.0 c.in_ok-visit.ensures.taken
+    c.member_value.new.self c.member_value.result c.in_ok-key.ensures.read.0 c.in_ok-visit.ensures.taken
     (kept_visits g.V.Visitor.takes g.V.Visitor.fails member_events member_value_at c.key.new.self
-    c.member_value.new.self c.visit.new.visitor c.member_value.new.visitor _ _ c.in_ok-key.ensures.1
+    c.member_value.new.self c.visit.new.visitor c.member_value.new.visitor _ _ c.in_ok-key.ensures.read.1
     c.member_value.ensures.visited)

@@ -1,0 +1,30 @@
+-- The texts for which a reading asks for memory.
+use Rattle.std.specs.Prelude.{◌≡◌, ⊤, ℕ, List, ◌⊎◌}
+use Rattle.std.specs.List.{Contains}
+use Rattle.sfv_spec.specs.Ascii.{backslash, percent_sign, colon, space}
+use Rattle.sfv_base.specs.declared.error.Error.{Error}
+use Rattle.sfv_base.specs.declared.error.ErrorKind.TheVariants.{OutOfMemory}
+use Rattle.sfv_base.specs.declared.error.ParseError.{ParseError}
+use Rattle.sfv_base.specs.declared.error.ParseError.TheVariants as parse_errors
+use Rattle.sfv_base.specs.Errors.{kind_of, out_of_memory}
+
+-- a backslash, a percent sign or a colon stands in the text
+abbrev pub HoldsMark : List ℕ → Type 0
+HoldsMark t = Contains t backslash ⊎ (Contains t percent_sign ⊎ Contains t colon)
+
+-- a byte that isn't a space stands in the text
+abbrev pub HasMoreThanSpaces : List ℕ → Type 0
+HasMoreThanSpaces t = (c : ℕ) × Contains t c × ¬ (c ≡ space)
+
+-- the error is want of memory only of a text with such a mark
+abbrev pub NeedsMark : {E : Type 0} → List ℕ → ParseError E → Type 0
+NeedsMark t (parse_errors.Syntax e) = e ≡ out_of_memory → HoldsMark t
+NeedsMark t (parse_errors.Visitor fault) = ⊤
+
+-- the error is want of memory only of a text with more than spaces
+abbrev pub NeedsMoreThanSpaces : List ℕ → Error → Type 0
+NeedsMoreThanSpaces t e = e ≡ out_of_memory → HasMoreThanSpaces t
+
+-- memory was refused, of a text with such a mark
+abbrev pub IsRefusal : List ℕ → Error → Type 0
+IsRefusal t e = (kind_of e ≡ OutOfMemory) × HoldsMark t

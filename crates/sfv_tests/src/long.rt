@@ -1,0 +1,150 @@
+//! Long fields, and long texts that a serializer is lent.
+
+use sfv::{BareItem, Dictionary, FieldType, Item, List, ListSerializer, Parser, RefBareItem};
+use std::alloc::{AllocError, Global};
+use std::fmt::Write;
+use std::test::Fail;
+
+/// The canonical text of an item, a list or a dictionary, if the input is one.
+fn written(alloc: Global, field: &str, input: &str) -> Option<String> {
+    let parser = Parser::new(input.as_bytes());
+    match field {
+        "item" => parser.parse::<Item>(alloc).ok()?.serialize(alloc).ok(),
+        "list" => parser.parse::<List>(alloc).ok()?.serialize(alloc).ok()?,
+        _ => parser
+            .parse::<Dictionary>(alloc)
+            .ok()?
+            .serialize(alloc)
+            .ok()?,
+    }
+}
+
+/// Whether the field is written as it was read.
+fn gives_itself(alloc: Global, field: &str, input: &str) -> bool {
+    match written(alloc, field, input) {
+        Some(text) => text.as_str() == input,
+        None => false,
+    }
+}
+
+/// A text between two others, so many times.
+fn repeated(
+    alloc: Global,
+    front: &str,
+    text: &str,
+    times: usize,
+    end: &str,
+) -> Result<String, AllocError> {
+    let mut all = String::from_str(alloc, front)?;
+    for _ in 0..times {
+        all.push_str(text)?;
+    }
+    all.push_str(end)?;
+    Ok(all)
+}
+
+/// Parts that count, each after a front, with a separator between two.
+fn counted(
+    alloc: Global,
+    begin: &str,
+    front: &str,
+    separator: &str,
+    end: &str,
+) -> Result<String, Fail> {
+    let mut all = String::from_str(alloc, begin)?;
+    for number in 0..=100u32 {
+        if number > 0 {
+            all.push_str(separator)?;
+        }
+        write!(all, "{front}{number}")?;
+    }
+    all.push_str(end)?;
+    Ok(all)
+}
+
+// 33,333 times `a\"`, and then `a`, between quotes: 100,002 bytes.
+#[test]
+fn long_strings_with_escapes_give_themselves(rt: HostRuntime) -> Result<(), Fail> {
+    let text = repeated(rt.alloc(), "\"", "a\\\"", 33_333, "a\"")?;
+    assert!(rt; text.len() == 100_002 && gives_itself(rt.alloc(), "item", text.as_str()));
+    Ok(())
+}
+
+/// Kinds of bare items: what stands in front, a letter, and what stands behind.
+const TEXTS: [(&str, &str, &str); 5] = [
+    ("\"", "a", "\""),
+    ("\"", "\\\\", "\""),
+    ("%\"", "a", "\""),
+    ("%\"", "%c3%bc", "\""),
+    ("a", "b", ""),
+];
+
+#[test]
+fn texts_of_any_length_give_themselves(rt: HostRuntime) -> Result<(), Fail> {
+    let alloc = rt.alloc();
+    for times in [31, 32, 33, 63, 64, 65, 1_001] {
+        for (front, text, end) in TEXTS {
+            let item = repeated(alloc, front, text, times, end)?;
+            let parameter = format!(in alloc; "1;a={item};b")?;
+            assert!(rt;
+                gives_itself(alloc, "item", item.as_str())
+                    && gives_itself(alloc, "item", parameter.as_str())
+            );
+        }
+    }
+    Ok(())
+}
+
+#[test]
+fn a_hundred_and_one_parts_give_themselves(rt: HostRuntime) -> Result<(), Fail> {
+    let alloc = rt.alloc();
+    let rows = [
+        ("list", "", "", ", ", ""),
+        ("list", "(", "", " ", ")"),
+        ("dict", "", "a", ", ", ""),
+        ("item", "1;", "a", ";", ""),
+    ];
+    for (field, begin, front, separator, end) in rows {
+        let text = counted(alloc, begin, front, separator, end)?;
+        assert!(rt; gives_itself(alloc, field, text.as_str()));
+    }
+    Ok(())
+}
+
+#[test]
+fn every_kind_is_read_as_a_bare_item(rt: HostRuntime) -> Result<(), Fail> {
+    let alloc = rt.alloc();
+    let rows = [
+        "1",
+        "1.5",
+        "\"a\\\"b\"",
+        "tok",
+        ":aGk=:",
+        "?1",
+        "@12",
+        "%\"f%c3%bcr\"",
+    ];
+    for row in rows {
+        let bare_item = Parser::new(row.as_bytes())
+            .parse_item::<BareItem>(alloc)
+            .ok();
+        let text = match bare_item {
+            Some(bare_item) => Item::new(alloc, bare_item).serialize(alloc).ok(),
+            None => None,
+        };
+        assert!(rt; text.as_ref().map(|text| text.as_str()) == Some(row));
+    }
+    Ok(())
+}
+
+#[test]
+fn finish_leaves_a_long_text_as_it_is(rt: HostRuntime) -> Result<(), Fail> {
+    let alloc = rt.alloc();
+    let mut text = repeated(alloc, "Example: ", "abc, ", 100, "")?;
+    let wanted = format!(in alloc; "{text}?1")?;
+    let mut list = ListSerializer::with_buffer(&mut text);
+    list.bare_item(RefBareItem::from(true))?.finish();
+    assert!(rt; list.finish() == Some(wanted.as_str()));
+    assert!(rt; text.as_str() == wanted.as_str());
+    Ok(())
+}
