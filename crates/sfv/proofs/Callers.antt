@@ -30,7 +30,7 @@ use Rattle.sfv_reading.proofs.Theorems.{read_is_accepted}
 use Rattle.sfv_base.specs.declared.error.ParseError.{ParseError}
 use Rattle.sfv_tree.specs.declared.visitor.Visitor.{Ghosts as Visitor}
 use Rattle.sfv.specs.declared.parser.Parser.{Parser}
-use Rattle.sfv.specs.Parsers.{IsParseError, IsAnswerOf, IsAnswerBy, IsSyntaxBy, IsVisitorErrorBy, VisitsFirstBy}
+use Rattle.sfv.specs.Parsers.{IsParseError, IsAnswerOf, IsAnswerBy, IsSyntaxBy, IsVisitorErrorBy, VisitsFirstBy, AnswersAsReadBy}
 use Rattle.sfv.specs.Parsers.{ReadsBy, ReadsItemBy, OfMade}
 use Rattle.sfv.proofs.built.Items.{insert_entry-entered}
 use Rattle.sfv.proofs.built.Lists.{built_list_behind}
@@ -54,7 +54,7 @@ pub use Rattle.sfv_spec.proofs.Runs.{runs_fold, entry_in, keys_in_events, entrie
 pub use Rattle.sfv_spec.proofs.Kept.{last_kept, fold_members, fold_parameters, idle_within}
 pub use Rattle.sfv_spec.proofs.Runs.{IsInside, member_inside}
 -- what a visitor that expects one bare item says of the field
-pub use Rattle.sfv.proofs.Expected.{expect_answers, expect_fails, expect_first, expect_only}
+pub use Rattle.sfv.proofs.Expected.{expect_answers, expect_fails, expect_first, expect_only, expect_read}
 -- an accepted item has the bare item that stands first in its text
 pub use Rattle.sfv.proofs.visits.First.{begins_with_its}
 -- what the builders answer is the value of the text
@@ -128,6 +128,9 @@ module _ {S O E : Type 0} {v : Visitor S O E} {p : Parser} {Made : S → Type 0}
 
   pub made_first : OfMade Made (ReadsItemBy v p) r → IfErr r (OfMade Made (VisitsFirstBy v p))
   made_first h = IfErr-weaker r _ _ (λ e k. (h.0, h.1, k)) h.2.first
+
+  pub made_lent : OfMade Made (ReadsItemBy v p) r → IfOk r (OfMade Made (AnswersAsReadBy v p))
+  made_lent h = IfOk-weaker r _ _ (λ out k. (h.0, h.1, k)) h.2.lent
 
 -- of an accepted text an error is want of memory
 pub accepted_error : (edition : Edition) (kind : FieldKind) (t : List ℕ) (raw : RawField kind) (e : Error)

@@ -11,11 +11,12 @@ use Rattle.sfv_base.specs.declared.error.Error.{Error}
 use Rattle.sfv_base.specs.declared.error.ParseError.{ParseError}
 use Rattle.sfv_base.specs.declared.error.ParseError.TheVariants.{Syntax, Visitor}
 use Rattle.sfv_base.specs.Errors.{out_of_memory}
+use Rattle.sfv_bare.specs.BareItems.{input_value}
 use Rattle.sfv_tree.specs.declared.visitor.ItemFault.{ItemFault}
 use Rattle.sfv_tree.specs.declared.visitor.ItemFault.TheVariants as faults
-use Rattle.sfv_visit.specs.Given.{item_kept, first_value, KeepTakes, KeepFails}
+use Rattle.sfv_visit.specs.Given.{ReadBareItem, item_kept, first_value, KeepTakes, KeepFails, KeepTakesRead}
 use Rattle.sfv_visit.specs.declared.expect_item.ExpectItem.{ExpectItem}
-use Rattle.sfv.specs.Parsers.{IsAnswerOf, IsVisitorErrorOf, VisitsFirst, OfMade}
+use Rattle.sfv.specs.Parsers.{IsAnswerOf, IsVisitorErrorOf, VisitsFirst, IsLent, AnswersAsRead, OfMade}
 
 module _ {T : Type 0} (holds : T → BareValue) (fails : BareValue → ItemFault → Type 0) where
   abbrev Takes : ExpectItem T → TreeEvent → ExpectItem T → Type 0
@@ -116,3 +117,18 @@ module _ {T : Type 0} (holds : T → BareValue) (fails : BareValue → ItemFault
       → OfMade Made (VisitsFirst Takes Fails FinishFails edition t) (Visitor fault)
       → (value : BareValue) × StandsFirst edition value t × fails value fault
   expect_only edition t fault h = let k = h.2 in (k.0.bare, k.1, failure_is k.0 h.0 fault h.1 k.3)
+
+-- what is kept is made of the bare item as it was read
+pub expect_read : {T : Type 0} (holds : T → BareValue) (is_of : T → ReadBareItem → Type 0) (edition : Edition) (t : List ℕ)
+    (r : Result T (ParseError ItemFault))
+    → IfOk r (OfMade (λ (s : ExpectItem T). item_kept s ≡ None)
+    (AnswersAsRead (KeepTakes holds) (KeepTakesRead is_of) (λ s item. item_kept s ≡ Some item) edition t))
+    → IfOk r (λ item. (read : ReadBareItem) × is_of item read × (stands : StandsFirst edition (input_value read) t)
+    × IsLent read stands.first.front)
+expect_read {T} holds is_of edition t (Ok out) h =
+    let a = h.2 in
+    let first : (item : T) × is_of item a.read × (item_kept a.middle ≡ Some item) = rw h.1 at a.taken in
+    let last = stays holds (λ _ _. ⊥) (parameters_events a.parameters) first.0 a.middle a.last first.2 a.ran in
+    let same : first.0 ≡ out = same_Some first.0 out (sym last ∙ a.answered) in
+    (a.read, subst (λ (item : T). is_of item a.read) same first.1, a.stands, a.lent)
+expect_read holds is_of edition t (Err e) h = tt

@@ -8,3 +8,4 @@ pub mod Parameters
 pub mod Fields
 pub mod First
 pub mod Whole
+pub mod Lent

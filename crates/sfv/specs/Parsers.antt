@@ -1,20 +1,27 @@
 -- What a parser reads, and what it answers with an error.
-use Rattle.std.specs.Prelude.{◌≡◌, ◌≤◌, ⊤, ℕ, List, length, take, Some, Result, ◌⊎◌, MatchResult, IfOk, IfErr}
+use Rattle.std.specs.Prelude.{◌≡◌, ◌≤◌, ⊤, ℕ, List, ◌∷◌, length, take, Some, Result, ◌⊎◌, MatchResult, IfOk, IfErr}
+use Rattle.std.specs.Prelude.{◌↔◌, ◌==◌, IsTrue, not}
 use Rattle.std.specs.Borrow.{Bor}
 use Rattle.sfv_spec.specs.Values.{Edition, FieldKind, item_field, list_field, dictionary_field, RawField}
-use Rattle.sfv_spec.specs.Values.{BareValue, RawItem}
+use Rattle.sfv_spec.specs.Values.{BareValue, RawParameters, RawItem}
+use Rattle.sfv_spec.specs.Ascii.{double_quote, percent_sign, backslash}
+use Rattle.sfv_spec.specs.Texts.{RunOf}
 use Rattle.sfv_spec.specs.Grammar.{IsFieldText, IsAccepted, StandsFirst, BeginsWithBareItem}
-use Rattle.sfv_spec.specs.Events.{TreeEvent, bare_item, item_events, events}
-use Rattle.sfv_spec.specs.Visiting.{NeverFails, IsVisited, IsVisitorError, IsEarlyVisitorError}
+use Rattle.sfv_spec.specs.Events.{TreeEvent, bare_item, parameters_events, item_events, events}
+use Rattle.sfv_spec.specs.Visiting.{NeverFails, RunsTo, IsVisited, IsVisitorError, IsEarlyVisitorError}
 use Rattle.sfv_spec.specs.Faults.{SyntaxFault, trailing_characters_after_parsed_value, IsFaultAt}
 use Rattle.sfv_base.specs.declared.error.Error.{Error}
 use Rattle.sfv_base.specs.declared.error.ParseError.{ParseError}
 use Rattle.sfv_base.specs.declared.error.ParseError.TheVariants as parse_errors
 use Rattle.sfv_base.specs.Errors.{error_of, error_kind, out_of_memory}
-use Rattle.sfv_bare.specs.BareItems.{edition_of}
+use Rattle.sfv_bare.specs.BareItems.{edition_of, input_value, is_borrowed_string, is_borrowed_text}
+use Rattle.sfv_bare.specs.declared.bare.GenericBareItem.TheVariants as bare
 use Rattle.sfv_bare.specs.declared.bare.Version.{Version}
 use Rattle.sfv_tree.specs.declared.hash_seed.HashSeed.{HashSeed}
+use Rattle.sfv_tree.specs.declared.visitor.Event.{Event}
+use Rattle.sfv_tree.specs.declared.visitor.Event.TheVariants as event
 use Rattle.sfv_tree.specs.declared.visitor.Visitor.{Ghosts as Visitor}
+use Rattle.sfv_visit.specs.Given.{ReadBareItem}
 use Rattle.sfv.specs.declared.parser.Parser.{Parser}
 use Rattle.sfv.specs.Memory.{NeedsMark}
 
@@ -49,6 +56,34 @@ pub record IsAnswerOf {S O : Type 0} (takes : S → TreeEvent → S → Type 0) 
   pub accepted : IsFieldText edition kind raw t
   pub only : (other : RawField kind) → IsFieldText edition kind other t → other ≡ raw
   pub visited : IsVisited takes finishes from (events kind raw) out
+
+-- a string stands there without an escape, and a display string
+abbrev pub IsPlainString : List ℕ → Type 0
+IsPlainString t = (s : List ℕ) × (t ≡ double_quote ∷ s) × RunOf (λ c. not (c == backslash)) s
+
+abbrev pub IsPlainDisplay : List ℕ → Type 0
+IsPlainDisplay t = (s : List ℕ) × (t ≡ percent_sign ∷ double_quote ∷ s) × RunOf (λ c. not (c == percent_sign)) s
+
+-- a string or a display string that was read of this text is borrowed from it exactly if it has no escape there
+abbrev pub IsLent : ReadBareItem → List ℕ → Type 0
+IsLent (bare.String text) t = IsTrue (is_borrowed_string text) ↔ IsPlainString t
+IsLent (bare.DisplayString text) t = IsTrue (is_borrowed_text text) ↔ IsPlainDisplay t
+IsLent item t = ⊤
+
+-- the text is accepted as an item, whose bare item the visitor took as it was read, borrowed unless it is escaped; and
+-- the answer is the visitor's after the parameters
+pub record AnswersAsRead {S O : Type 0} (takes : S → TreeEvent → S → Type 0) (takes_read : S → Event → S → Type 0)
+    (finishes : S → O → Type 0) (edition : Edition) (t : List ℕ) (from : S) (out : O) : Type 0 where
+  pub read : ReadBareItem
+  pub parameters : RawParameters
+  pub accepted : IsFieldText edition item_field (record { bare = input_value read; parameters = parameters }) t
+  pub stands : StandsFirst edition (input_value read) t
+  pub lent : IsLent read stands.first.front
+  pub middle : S
+  pub taken : takes_read from (event.BareItem read) middle
+  pub last : S
+  pub ran : RunsTo takes middle (parameters_events parameters) last
+  pub answered : finishes last out
 
 -- out of memory, as the parser's error or as the visitor's
 abbrev pub IsMemoryError : {E : Type 0} → (E → Type 0) → ParseError E → Type 0
@@ -113,6 +148,9 @@ module _ {S O E : Type 0} (v : Visitor S O E) (p : Parser) where
   abbrev pub IsAnswerBy : FieldKind → S → O → Type 0
   IsAnswerBy kind from out = IsAnswerOf v.takes v.finishes (parser_edition p) kind (input_of p) from out
 
+  abbrev pub AnswersAsReadBy : S → O → Type 0
+  AnswersAsReadBy from out = AnswersAsRead v.takes v.takes_read v.finishes (parser_edition p) (input_of p) from out
+
   abbrev pub IsSyntaxBy : FieldKind → S → ParseError E → Type 0
   IsSyntaxBy kind from error = IsSyntaxOf v.takes v.finishes (parser_edition p) kind (input_of p) from error
 
@@ -137,11 +175,12 @@ pub record ReadsBy {S O E : Type 0} (v : Visitor S O E) (p : Parser) (kind : Fie
   pub accepted : VisitsAcceptedBy v p kind from result
   pub memory : IfErr result (NeedsMark (input_of p))
 
--- the same of an item, whose bare item is visited first
+-- the same of an item, whose bare item is visited first, and as it was read
 pub record ReadsItemBy {S O E : Type 0} (v : Visitor S O E) (p : Parser) (from : S) (result : Result O (ParseError E))
     : Type 0 where
   pub all : ReadsBy v p item_field from result
   pub first : IfErr result (VisitsFirstBy v p from)
+  pub lent : IfOk result (AnswersAsReadBy v p from)
 
 -- it is so of some visitor that is as it was made
 abbrev pub OfMade : {S X : Type 0} → (S → Type 0) → (S → X → Type 0) → X → Type 0

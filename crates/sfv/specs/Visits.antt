@@ -3,7 +3,8 @@ use Rattle.std.specs.Prelude.{◌≡◌, ⊤, ℕ, List, [], Some, Result, Ok, E
 use Rattle.std.specs.declared.alloc.Global.{Global}
 use Rattle.sfv_spec.specs.Classes.{is_space}
 use Rattle.sfv_spec.specs.Values.{Edition, FieldKind, item_field, list_field, dictionary_field, RawField, BareValue}
-use Rattle.sfv_spec.specs.Events.{TreeEvent, bare_item, events}
+use Rattle.sfv_spec.specs.Values.{RawParameters}
+use Rattle.sfv_spec.specs.Events.{TreeEvent, bare_item, parameters_events, events}
 use Rattle.sfv_spec.specs.Visiting.{RunsTo, IsVisited}
 use Rattle.sfv_base.specs.declared.error.Error.{Error}
 use Rattle.sfv_base.specs.declared.error.ParseError.{ParseError}
@@ -17,6 +18,12 @@ use Rattle.sfv.specs.declared.parser.Parser.{Parser}
 use Rattle.sfv.specs.declared.parser.cursor.Cursor.{Cursor}
 use Rattle.sfv.specs.Cursor.{kept, kept_input, edition, rest, IsErrorOf}
 use Rattle.sfv.specs.Fields.{located_whole}
+use Rattle.sfv.specs.Quoted.{IsBorrowedUnlessEscaped}
+use Rattle.sfv_reading.specs.Items.{item_of, item_at}
+use Rattle.sfv_bare.specs.BareItems.{input_value}
+use Rattle.sfv_tree.specs.declared.visitor.Event.{Event}
+use Rattle.sfv_tree.specs.declared.visitor.Event.TheVariants as event
+use Rattle.sfv_visit.specs.Given.{ReadBareItem}
 use Rattle.sfv.specs.Memory.{IsRefusal}
 
 -- An error with an index comes after the visitor has taken all events that the reader gives.
@@ -39,6 +46,17 @@ abbrev pub Visits : {A S E : Type 0} → (S → TreeEvent → S → Type 0) → 
     → (A → List TreeEvent) → Cursor → Cursor → S → S → Result (Unit {0}) (ParseError E) → (Edition → Reader A) → Type 0
 Visits takes fails parts before after from to result reader =
     VisitsAnswer takes fails parts (kept before) after from to result (reader (edition before) (rest before))
+
+-- An item was read, of which the visitor took the bare item as it was read, and then the parameters.
+abbrev pub TakesAsRead : {S : Type 0} → (S → TreeEvent → S → Type 0) → (S → Event → S → Type 0) → Cursor → Cursor → S → S
+    → Type 0
+TakesAsRead {S} takes takes_read before after from to =
+    (item : ReadBareItem) × (between : Cursor) × (parameters : RawParameters) × (middle : S)
+    × (bare_at (edition before) (rest before) ≡ Ok (input_value item, rest between))
+    × IsBorrowedUnlessEscaped item before between
+    × (item_at (edition before) (rest before) ≡ Ok (item_of (input_value item) parameters, rest after))
+    × takes_read from (event.BareItem item) middle
+    × RunsTo takes middle (parameters_events parameters) to
 
 -- it is such an error of the visitor
 abbrev pub IsOfVisitor : {E : Type 0} → (E → Type 0) → ParseError E → Type 0

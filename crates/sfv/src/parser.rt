@@ -42,7 +42,7 @@ pub struct Parser<'de> {
 
 impl<'de> Parser<'de> {
     ghost use Rattle.sfv.specs.Parsers.{parser_of, input_of, parser_edition, IsParseError, IsAnswerBy, IsSyntaxBy};
-    ghost use Rattle.sfv.specs.Parsers.{IsVisitorErrorBy, VisitsAcceptedBy, VisitsFirstBy, OfMade};
+    ghost use Rattle.sfv.specs.Parsers.{IsVisitorErrorBy, VisitsAcceptedBy, VisitsFirstBy, AnswersAsReadBy, OfMade};
     ghost use Rattle.sfv.specs.Parsers.{ReadsBy, ReadsItemBy};
     ghost use Rattle.sfv.specs.Memory.{NeedsMark, NeedsMoreThanSpaces};
 
@@ -181,6 +181,7 @@ impl<'de> Parser<'de> {
         ensures accepted { VisitsAcceptedBy V.Visitor self.entry item_field visitor result }
         ensures memory { IfErr result (NeedsMark (input_of self.entry)) }
         ensures first { IfErr result (VisitsFirstBy V.Visitor self.entry visitor) }
+        ensures lent { IfOk result (AnswersAsReadBy V.Visitor self.entry visitor) }
     {
         parse_item_field(self, alloc, visitor)
     }

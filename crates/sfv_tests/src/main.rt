@@ -10,6 +10,8 @@
 #[cfg(test)]
 mod content_digest;
 #[cfg(test)]
+mod failures;
+#[cfg(test)]
 mod fields;
 #[cfg(test)]
 mod given;

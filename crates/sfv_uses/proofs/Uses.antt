@@ -1,6 +1,6 @@
 -- What the uses rest on.
 use Rattle.std.proofs.Common.{◌≡◌, ℕ, ℤ, ◌+◌, ◌<◌, ◌≤◌, List, [], ◌∷◌, ◌++◌, length, refl, sym, ap, ◌∙◌, arith}
-use Rattle.std.proofs.Common.{append_assoc, inl, inr}
+use Rattle.std.proofs.Common.{append_assoc, inl, inr, subst}
 use Rattle.std.specs.Prelude.{Option, Some, None, Result, Ok, Err, OnOk, IsSome, IfOk, IfErr, MatchResult, fold}
 use Rattle.std.specs.Prelude.{IsErrAnd}
 use Rattle.std.specs.Prelude.{filter_map}
@@ -14,21 +14,24 @@ use Rattle.sfv.specs.Values.{string, token, byte_sequence}
 use Rattle.sfv.specs.Values.{boolean, date, display_string, RawMember, item, inner_list}
 use Rattle.sfv.specs.Events.{TreeEvent, entry, keyed_entry, begins_item, begins_inner_list, bare_item, parameter}
 use Rattle.sfv.specs.Events.{parameters_end, inner_list_end, events, key_in}
-use Rattle.sfv.specs.Grammar.{IsFieldText, IsAccepted, BeginsWithBareItem}
+use Rattle.sfv.specs.Grammar.{IsFieldText, IsAccepted, StandsFirst, BeginsWithBareItem}
 use Rattle.sfv.specs.Ordered.{last_of, ordered_member}
 use Rattle.sfv.specs.Statements.{IsParsedAs}
 use Rattle.sfv.specs.Visiting.{RunsTo, IsVisitorError}
-use Rattle.sfv.specs.Parsers.{IsParseError, IsAnswerOf, IsSyntaxOf, IsVisitorErrorOf, VisitsFirst, OfMade}
-use Rattle.sfv.specs.Given.{item_kept, KeepTakes, KeepFails}
+use Rattle.sfv.specs.Parsers.{IsParseError, IsAnswerOf, IsSyntaxOf, IsVisitorErrorOf, VisitsFirst, IsLent, OfMade}
+use Rattle.sfv.specs.Given.{ReadBareItem, item_kept, KeepTakes, KeepFails}
 use Rattle.sfv.specs.Calls.{AllFit}
 use Rattle.sfv.specs.Versions.{IsSerializeError}
 use Rattle.sfv.specs.Types.{Error, SerializeError, ParseError, OutOfMemory, ItemFault, ExpectItem}
+use Rattle.sfv.specs.BareItems.{input_value}
+use Rattle.sfv.specs.Types.{StringFromInput}
+use Rattle.sfv.specs.Types.bare_items as bare_items
 use Rattle.sfv.specs.Types.item_faults as item_faults
 use Rattle.sfv.specs.Types.parse_errors.{Syntax, Visitor}
 use Rattle.sfv.proofs.Callers.{runs_fold, keys_in_events, member_read, last_of-collapse, expect_answers}
 use Rattle.sfv.proofs.Callers.{expect_fails, expect_first, begins_with_its, accepted_error}
 use Rattle.sfv_uses.specs.Uses.{integer_or, param_in, counts, HasMembers, IsCountError, IsExpectError, IsReadError}
-use Rattle.sfv_uses.specs.Uses.{IsPairError, IsErrorOfLines}
+use Rattle.sfv_uses.specs.Uses.{IsPairError, IsErrorOfLines, IsLentString}
 use Rattle.sfv_uses.specs.declared.visiting.MemberCounter.{MemberCounter}
 use Rattle.sfv_uses.specs.declared.visiting.TooMany.{TooMany}
 
@@ -187,6 +190,19 @@ module _ {T : Type 0} (holds : T → BareValue) (fails : BareValue → ItemFault
   expected_first t (Err (Syntax e)) h k value begins none = (expect_first holds fails rfc9651 t value begins none).0 e k
   expected_first t (Err (Visitor fault)) h k value begins none =
       (expect_first holds fails rfc9651 t value begins none).1 fault k
+
+-- a string that was kept is the one that was read
+pub lent_string : {E : Type 0} (t : List ℕ) (r : Result StringFromInput E)
+    → IfOk r (λ text. (read : ReadBareItem) × (read ≡ bare_items.String text)
+    × (stands : StandsFirst rfc9651 (input_value read) t) × IsLent read stands.first.front)
+    → IfOk r (λ text. IsLentString text t)
+lent_string t (Ok text) h =
+    let k : (stands : StandsFirst rfc9651 (input_value (bare_items.String text)) t)
+    × IsLent (bare_items.String text) stands.first.front =
+    subst (λ (read : ReadBareItem). (stands : StandsFirst rfc9651 (input_value read) t)
+    × IsLent read stands.first.front) h.1 (h.2, h.3) in
+    (k.0, k.1)
+lent_string t (Err e) h = tt
 
 -- what holds of the error alone
 pub of_error_alone : {A E : Type 0} (P : A → Type 0) (Q : E → Type 0) (r : Result A E) → MatchResult r P Q → IfErr r Q

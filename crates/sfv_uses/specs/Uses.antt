@@ -1,12 +1,12 @@
 -- What the uses answer.
 use Rattle.std.specs.Prelude.{◌≡◌, ◌⊎◌, ℕ, ℤ, ◌+◌, ◌<◌, ◌≤◌, List, [], ◌∷◌, ◌++◌, length, Option, Some, None, codes}
-use Rattle.std.specs.Prelude.{Result, MatchResult, option_map, string_bytes}
+use Rattle.std.specs.Prelude.{Result, MatchResult, IsTrue, ◌↔◌, option_map, string_bytes}
 use Rattle.std.specs.Borrow.{Bor}
 use Rattle.std.specs.declared.alloc.Global.{Global}
 use Rattle.std.specs.declared.string.String.{String}
 use Rattle.std.specs.List.{repeat}
 use Rattle.sfv.specs.Values.{Edition, rfc9651, FieldKind, item_field, list_field, dictionary_field, BareValue, integer}
-use Rattle.sfv.specs.Values.{token}
+use Rattle.sfv.specs.Values.{string, token}
 use Rattle.sfv.specs.Values.{RawParameters, RawItem, RawMember}
 use Rattle.sfv.specs.Values.{item, inner_list}
 use Rattle.sfv.specs.Grammar.{IsFieldText, IsAccepted, StandsFirst}
@@ -16,19 +16,19 @@ use Rattle.sfv.specs.KeyText.{KeyRef, key_text}
 use Rattle.sfv.specs.TokenText.{TokenRef, token_text}
 use Rattle.sfv.specs.StringText.{StringRef}
 use Rattle.sfv.specs.Canonical.{bare_text, item_text}
-use Rattle.sfv.specs.BareItems.{bare_value, ref_value}
+use Rattle.sfv.specs.BareItems.{bare_value, ref_value, read_text, is_borrowed_string}
 use Rattle.sfv.specs.Trees.{OwnedBareItem}
 use Rattle.sfv.specs.Events.{TreeEvent, keyed_entry}
 use Rattle.sfv.specs.Types.{ParseError, OutOfMemory}
 use Rattle.sfv.specs.Types.parse_errors.{Syntax, Visitor}
-use Rattle.sfv.specs.Parsers.{IsParseError}
+use Rattle.sfv.specs.Parsers.{IsParseError, IsPlainString}
 use Rattle.sfv_uses.specs.declared.visiting.TooMany.{TooMany}
 use Rattle.sfv.specs.Faults.{SyntaxFault, IsFaultAt}
 use Rattle.sfv.specs.Errors.{error_kind, out_of_memory}
 use Rattle.sfv.specs.Given.{IsWrongType}
 use Rattle.sfv.specs.Types.{ItemFault}
 use Rattle.sfv.specs.Types.bare_item_types as kinds
-use Rattle.sfv.specs.Types.{SerializeError, GenericBareItem}
+use Rattle.sfv.specs.Types.{SerializeError, GenericBareItem, StringFromInput}
 use Rattle.sfv.specs.Types.serialize_errors as serialize_errors
 use Rattle.sfv.specs.Calls.{AllFit}
 use Rattle.sfv.specs.Versions.{NamesFirst}
@@ -149,6 +149,11 @@ GivesToken value result = MatchResult result (λ name. token (token_text name) �
 abbrev pub RefusesOther : BareValue → Result TokenRef (ParseError ItemFault) → Type 0
 RefusesOther value result =
     ((name : List ℕ) → ¬ (token name ≡ value)) → MatchResult result (λ _. ⊥) (IsTokenError value)
+
+-- the string stands first in the text, and is borrowed from it exactly if it is written there without an escape
+abbrev pub IsLentString : StringFromInput → List ℕ → Type 0
+IsLentString text t = (stands : StandsFirst rfc9651 (string (read_text text)) t)
+    × (IsTrue (is_borrowed_string text) ↔ IsPlainString stands.first.front)
 
 -- the text is read as an item: the integer that it is, or else the default
 abbrev pub HasIntegerOr : ℤ → List ℕ → ℤ → Type 0

@@ -7,9 +7,10 @@ ghost use Rattle.sfv.specs.Statements.{IsParsedAs};
 ghost use Rattle.sfv.specs.Trees.{item_tree, list_tree, dictionary_tree};
 ghost use Rattle.sfv.specs.Types.item_faults as item_faults;
 ghost use Rattle.sfv_uses.specs.Uses.{HasBareItem, FailsAtFirst, IsReadError, IsExpectError, GivesToken, RefusesOther};
+ghost use Rattle.sfv_uses.specs.Uses.{IsLentString};
 
 use sfv::visitor::{ExpectedItem, ItemFault};
-use sfv::{Dictionary, Item, List, OutOfMemory, ParseError, Parser, TokenRef};
+use sfv::{Dictionary, Item, List, OutOfMemory, ParseError, Parser, StringFromInput, TokenRef};
 use std::alloc::Global;
 
 /// Reads an item as a type that holds bare items, whatever its parameters: of one kind, or of every kind.
@@ -43,6 +44,21 @@ pub fn token<'de>(alloc: Global, input: &'de [u8]) -> Result<TokenRef<'de>, Pars
     ensures of_another_kind { (value : BareValue) → BeginsWithBareItem rfc9651 value input.now → RefusesOther value result }
 {
     expect::<TokenRef>(alloc, input)
+}
+
+/// Reads an item that is a string, whatever its parameters. The string is borrowed from the input exactly if it is written
+/// there without an escape.
+///
+/// # Errors
+///
+/// As those of `expect`.
+pub fn string<'de>(
+    alloc: Global,
+    input: &'de [u8],
+) -> Result<StringFromInput<'de>, ParseError<ItemFault>>
+    ensures { IfOk result (λ text. IsLentString text input.now) }
+{
+    Parser::new(input).parse_item::<StringFromInput>(alloc)
 }
 
 /// Reads an item, as `Parser::parse` does.

@@ -1,14 +1,14 @@
 //! Reading a field by a visitor, which builds no value.
 
 ghost use Rattle.std.specs.Prelude.{◌≡◌, ⊤, ◌≤◌, IsSome, IfOk, IfErr, OnOk};
-ghost use Rattle.sfv.specs.Values.{rfc9651, dictionary_field};
+ghost use Rattle.sfv.specs.Values.{rfc9651, item_field, dictionary_field};
 ghost use Rattle.sfv.specs.Grammar.{IsAccepted};
 ghost use Rattle.sfv.specs.Events.{key_in};
 ghost use Rattle.sfv.specs.Parsers.{IsMemoryError};
 ghost use Rattle.sfv_uses.specs.Uses.{counts, HasMembers, IsCountError};
 
-use sfv::visitor::{Event, Visitor};
-use sfv::{ParseError, Parser};
+use sfv::visitor::{Event, MemoryErrors, Visitor, item_visitor_with};
+use sfv::{BareItemFromInput, OutOfMemory, ParseError, Parser};
 use std::alloc::Global;
 use std::convert::Infallible;
 
@@ -60,6 +60,32 @@ pub fn each_key<F: FnMut(&str) + Drop>(
     ensures accepted { IsAccepted rfc9651 dictionary_field input.now → IfErr result (IsMemoryError (λ _. ⊥)) }
 {
     Parser::new(input).parse_dictionary_with_visitor(alloc, EachKey { visit })
+}
+
+/// The error says only that memory was refused.
+#[derive(Drop)]
+struct OnlyMemory;
+
+impl MemoryErrors<OutOfMemory> for OnlyMemory {
+    ghost is_memory = { λ _. ⊤ };
+}
+
+/// Calls a function, which fails only when out of memory, on the bare item of an item.
+///
+/// # Errors
+///
+/// That of `Parser::parse_item_with_visitor`; of an item only out of memory.
+pub fn with_bare_item<
+    'de,
+    T: Drop,
+    F: FnOnce(BareItemFromInput<'de>) -> Result<T, OutOfMemory> + Drop,
+>(alloc: Global, input: &'de [u8], f: F) -> Result<Option<T>, ParseError<OutOfMemory>>
+    requires { F.IsAlwaysCallable f }
+    ensures read { OnOk result (IsAccepted rfc9651 item_field input.now) }
+    ensures accepted { IsAccepted rfc9651 item_field input.now → IfErr result (IsMemoryError (λ _. ⊤)) }
+{
+    let visitor = item_visitor_with(f).with_memory_errors::<OnlyMemory>();
+    Parser::new(input).parse_item_with_visitor(alloc, visitor)
 }
 
 /// A dictionary has more members than are wanted.

@@ -39,7 +39,7 @@ visitor_failed takes edition t from is (Visitor f) h = tt
 
 -- ---- in a whole text
 
-same_rest : {A : Type 0} (a : Answer A) (v w : A) (q r : List ℕ) → a ≡ Ok (v, q) → a ≡ Ok (w, r) → q ≡ r
+pub same_rest : {A : Type 0} (a : Answer A) (v w : A) (q r : List ℕ) → a ≡ Ok (v, q) → a ≡ Ok (w, r) → q ≡ r
 same_rest {A} a v w q r e h =
     let here : A × List ℕ = (v, q) in
     let there : A × List ℕ = (w, r) in

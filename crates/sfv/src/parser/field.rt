@@ -1,9 +1,9 @@
 //! Reading whole fields (RFC 9651, section 4.2).
 
-ghost use Rattle.std.specs.Prelude.{IfErr};
+ghost use Rattle.std.specs.Prelude.{IfOk, IfErr};
 ghost use Rattle.sfv_spec.specs.Values.{item_field};
 ghost use Rattle.sfv.specs.Members.{field_of};
-ghost use Rattle.sfv.specs.Parsers.{input_of, parser_edition};
+ghost use Rattle.sfv.specs.Parsers.{input_of, parser_edition, AnswersAsRead};
 ghost use Rattle.sfv.specs.Visits.{VisitsField, TookFirst};
 
 use crate::parser::Parser;
@@ -25,6 +25,8 @@ pub(crate) fn parse_item_field<'de, V: Visitor<'de>>(
     ensures visited { VisitsField V.takes V.fails V.finishes V.finish_fails
         (parser_edition parser.entry) item_field (input_of parser.entry) visitor result }
     ensures told { IfErr result (TookFirst V.takes (parser_edition parser.entry) (input_of parser.entry) visitor) }
+    ensures lent { IfOk result (AnswersAsRead V.takes V.takes_read V.finishes
+        (parser_edition parser.entry) (input_of parser.entry) visitor) }
 {
     let mut cursor = Cursor::new(parser, alloc);
     cursor.skip_sp();

@@ -6,7 +6,7 @@ ghost use Rattle.sfv_bare.specs.BareItems.{input_value};
 ghost use Rattle.sfv_tree.specs.Events.{event_of};
 ghost use Rattle.sfv_reading.specs.Items.{value_at, parameter_at, parameters_at, item_at};
 ghost use Rattle.sfv.specs.Cursor.{edition, rest, ReadsOrOutOfMemory};
-ghost use Rattle.sfv.specs.Visits.{Visits, IsOfVisitor, TookBare};
+ghost use Rattle.sfv.specs.Visits.{Visits, TakesAsRead, IsOfVisitor, TookBare};
 
 use crate::parser::cursor::Cursor;
 use sfv_bare::bare::{BareItemFromInput, GenericBareItem};
@@ -30,6 +30,7 @@ pub(crate) fn visit<'de, V: Visitor<'de>>(
     requires { V.is_ready visitor.old }
     ensures ready { OnOk result (V.is_ready visitor.new) }
     ensures taken { OnOk result (V.takes visitor.old (event_of event.entry) visitor.new) }
+    ensures taken_read { OnOk result (V.takes_read visitor.old event.entry visitor.new) }
     ensures failed { IfErr result (IsOfVisitor (V.fails visitor.old (event_of event.entry))) }
 {
     visitor.event(event).map_err(ParseError::Visitor)
@@ -124,6 +125,7 @@ impl<'de> Cursor<'de> {
         ensures ready { OnOk result (V.is_ready visitor.new) }
         ensures visited { Visits V.takes V.fails item_events self.old self.new visitor.old visitor.new result item_at }
         ensures told { IfErr result (TookBare V.takes (edition self.old) (rest self.old) visitor.old) }
+        ensures lent { OnOk result (TakesAsRead V.takes V.takes_read self.old self.new visitor.old visitor.new) }
     {
         let bare_item = self.bare_item()?;
         visit(visitor, Event::BareItem(bare_item))?;

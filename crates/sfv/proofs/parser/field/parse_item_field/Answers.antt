@@ -1,13 +1,16 @@
-use Rattle.std.proofs.Common.{◌≡◌, ◌∙◌, Ok, Err, sym, ap}
+use Rattle.std.proofs.Common.{◌≡◌, ◌∙◌, Ok, Err, sym, ap, subst}
 use Rattle.std.proofs.lemmas.Result.{err_from_is_err_and}
 use Rattle.sfv_spec.specs.Classes.{is_space}
 use Rattle.sfv_spec.specs.Events.{item_events}
 use Rattle.sfv_reading.specs.Reader.{span}
-use Rattle.sfv_reading.specs.Items.{item_at}
+use Rattle.sfv_bare.specs.BareItems.{input_value}
+use Rattle.sfv_reading.specs.Bare.{bare_at}
+use Rattle.sfv_reading.specs.Items.{item_of, item_at}
 use Rattle.sfv.specs.Cursor.{rest, edition, kept_edition}
 use Rattle.sfv.specs.Parsers.{input_of, parser_edition}
 use Rattle.sfv.proofs.visits.Whole.{field_trailing_error, field_done}
 use Rattle.sfv.proofs.visits.Parts.{kept_visits}
+use Rattle.sfv.proofs.visits.Lent.{lent_front, answered_as_read}
 use Rattle.sfv.proofs.visits.First.{visitor_failed, after_spaces, item_taken}
 use Rattle.sfv.proofs.visits.Fields.{item_fails, finish_failed, finished_at}
 use Rattle.sfv.proofs.parser.field.parse_item_field.Goals as goal
@@ -94,3 +97,20 @@ returns-then-is_some-clause-told g c =
     ∙ c.new-cursor.ensures.kept) c.in_ok-item.ensures.visited in
     item_taken g.V.Visitor.takes g.V.Visitor.fails (parser_edition c.args.parser) (input_of c.args.parser) _ _ _
     c.args.visitor c.item.new.visitor read.0 c.error-error.result skipped read.1 read.2
+
+pub returns-clause-lent : goal.returns-clause-lent
+returns-clause-lent g c =
+    let here = rest c.skip_sp.new.self in
+    let skipped : span is_space (input_of c.args.parser) ≡ Ok (c.skip_sp.ensures.skipped.0, here) =
+    rw (← c.new-cursor.ensures.rest) c.skip_sp.ensures.skipped.1 in
+    let h = c.in_ok-item.ensures.lent in
+    let same : edition c.skip_sp.new.self ≡ parser_edition c.args.parser =
+    ap kept_edition (c.skip_sp.ensures.kept ∙ c.new-cursor.ensures.kept) in
+    let bare = subst (λ e. bare_at e here ≡ Ok (input_value h.0, rest h.1)) same h.4 in
+    let whole = subst (λ e. item_at e here ≡ Ok (item_of (input_value h.0) h.2, rest c.item.new.self)) same h.6 in
+    answered_as_read g.V.Visitor.takes g.V.Visitor.takes_read g.V.Visitor.finishes (parser_edition c.args.parser)
+    (input_of c.args.parser) c.skip_sp.ensures.skipped.0 here (rest h.1) h.0 h.2 c.args.visitor h.3 c.item.new.visitor
+    c.in_ok-out.out skipped bare (λ front split. lent_front h.0 c.skip_sp.new.self h.1 front split h.5)
+    (field_done _ _ _ _ _ _ _ _ skipped whole c.skip_sp-2.ensures.skipped.1
+    (rw (← c.peek.ensures) (sym c.is_some.ensures ∙ c.if-is_some.false)))
+    h.7 h.8 c.in_ok-out.ensures.answered

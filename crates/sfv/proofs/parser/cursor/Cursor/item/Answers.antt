@@ -4,6 +4,7 @@ use Rattle.sfv_reading.specs.Items.{parameters_at}
 use Rattle.sfv.specs.Cursor.{kept, edition, rest, input}
 use Rattle.sfv.proofs.visits.Parameters.{of_visitor, bare_failed, bare_faulty, item_visits}
 use Rattle.sfv.proofs.visits.Parts.{kept_visits}
+use Rattle.sfv.proofs.visits.Lent.{item_as_read}
 use Rattle.sfv.proofs.parser.cursor.Cursor.item.Goals as goal
 
 pub returns-in_err-bare_item-clause-visited : goal.returns-in_err-bare_item-clause-visited
@@ -27,3 +28,10 @@ returns-clause-visited g c =
     (kept_visits g.V.Visitor.takes g.V.Visitor.fails parameters_events parameters_at c.bare_item.new.self
     c.parameters.new.self c.visit.new.visitor c.parameters.new.visitor _ _ c.in_ok-bare_item.ensures.read.1
     c.parameters.ensures.visited)
+
+pub returns-clause-lent : goal.returns-clause-lent
+returns-clause-lent g c =
+    item_as_read g.V.Visitor.takes g.V.Visitor.fails g.V.Visitor.takes_read c.args.self.now c.bare_item.new.self
+    c.parameters.new.self c.in_ok-bare_item.bare_item c.args.visitor.now c.visit.new.visitor c.parameters.new.visitor
+    c.parameters.result c.in_ok-bare_item.ensures.read.1 c.in_ok-bare_item.ensures.read.0
+    c.in_ok-bare_item.ensures.borrowed c.in_ok-visit.ensures.taken_read c.parameters.ensures.visited
