@@ -3,7 +3,11 @@
 ghost use Rattle.std.specs.Prelude.{⊤};
 
 use sfv::visitor::{
+<<<<<<< HEAD
     BareItemType, Event, ExpectItem, ExpectedItem, Ignored, ItemFault, MakeItemVisitor, Visitor,
+=======
+    BareItemType, ExpectItem, Ignored, ItemFault, MakeItemVisitor, NoMemoryError,
+>>>>>>> wb
     item_visitor_with, parameter_visitor_with,
 };
 use sfv::{
@@ -207,6 +211,9 @@ fn functions_are_called_on_the_first_item(rt: HostRuntime) {
     let visitor = item_visitor_with(integer_of);
     let answer = Parser::new(b"(1 2), 3, a").parse_list_with_visitor(alloc, visitor);
     assert!(rt; answer.ok() == Some(Some(integer(1))));
+    let visitor = item_visitor_with(integer_of).with_memory_errors::<NoMemoryError>();
+    let answer = Parser::new(b"4").parse_item_with_visitor(alloc, visitor);
+    assert!(rt; answer.ok() == Some(Some(integer(4))));
     let visitor = item_visitor_with(integer_of);
     let answer = Parser::new(b"").parse_list_with_visitor(alloc, visitor);
     assert!(rt; answer.ok() == Some(None));
