@@ -3,12 +3,8 @@
 ghost use Rattle.std.specs.Prelude.{⊤};
 
 use sfv::visitor::{
-<<<<<<< HEAD
-    BareItemType, Event, ExpectItem, ExpectedItem, Ignored, ItemFault, MakeItemVisitor, Visitor,
-=======
-    BareItemType, ExpectItem, Ignored, ItemFault, MakeItemVisitor, NoMemoryError,
->>>>>>> wb
-    item_visitor_with, parameter_visitor_with,
+    BareItemType, Event, ExpectItem, ExpectedItem, Ignored, ItemFault, MakeItemVisitor,
+    NoMemoryError, Visitor, item_visitor_with, parameter_visitor_with,
 };
 use sfv::{
     BareItem, BareItemFromInput, Date, Decimal, ErrorKind, FieldType, HashSeed, Integer,
