@@ -22,8 +22,6 @@ mod replay;
 #[cfg(test)]
 mod runs;
 #[cfg(test)]
-mod seeds;
-#[cfg(test)]
 mod uses;
 #[cfg(test)]
 mod visitors;

@@ -57,7 +57,7 @@ fn values_become_bare_items_that_own_borrow_or_were_read(rt: HostRuntime) {
 /// Whether the item is the integer of this number, or there is none since the number is out of range.
 fn is_made(made: Result<RefBareItem<'_>, Error>, number: Option<Integer>) -> bool {
     match (made, number) {
-        (Ok(item), Some(number)) => item == GenericBareItem::Integer(number),
+        (Ok(item), Some(number)) => item.as_integer() == Some(number),
         (Err(error), None) => error == Error::with_kind(ErrorKind::OutOfRange, None),
         _ => false,
     }

@@ -1,4 +1,4 @@
-//! Tests of the values of structured fields, and of what is made of them: trees and texts. There is no code.
+//! Tests of the values of structured fields, and of the trees that are made of them. There is no code.
 #![tactic(auto)]
 
 #[cfg(test)]
@@ -12,18 +12,10 @@ mod conversions;
 #[cfg(test)]
 mod errors;
 #[cfg(test)]
-mod memory;
-#[cfg(test)]
 mod numbers;
 #[cfg(test)]
-mod places;
-#[cfg(test)]
-mod scripts;
-#[cfg(test)]
-mod serializers;
+mod seeds;
 #[cfg(test)]
 mod texts;
 #[cfg(test)]
 mod trees;
-#[cfg(test)]
-mod versions;
