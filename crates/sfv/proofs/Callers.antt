@@ -19,16 +19,16 @@ use Rattle.sfv_spec.specs.Faults.{SyntaxFault, IsFaultAt}
 use Rattle.sfv_base.specs.declared.error.Error.{Error}
 use Rattle.sfv_base.specs.Errors.{index_of, kind_of, error_kind, out_of_memory}
 use Rattle.sfv_tree.specs.Trees.{list_tree, dictionary_tree}
-use Rattle.sfv_tree.specs.Builders.{between, between_pairs, list_place, list_step, list_members, dictionary_place}
-use Rattle.sfv_tree.specs.Builders.{dictionary_step, dictionary_members}
+use Rattle.sfv_visitor.specs.Builders.{between, between_pairs, list_place, list_step, list_members, dictionary_place}
+use Rattle.sfv_visitor.specs.Builders.{dictionary_step, dictionary_members}
 use Rattle.sfv_tree.specs.declared.parsed.ListEntry.{ListEntry}
-use Rattle.sfv_tree.specs.declared.visitor.list_builder.ListBuilder.{ListBuilder}
-use Rattle.sfv_tree.specs.declared.visitor.dictionary_builder.DictionaryBuilder.{DictionaryBuilder}
+use Rattle.sfv_visitor.specs.declared.visitor.list_builder.ListBuilder.{ListBuilder}
+use Rattle.sfv_visitor.specs.declared.visitor.dictionary_builder.DictionaryBuilder.{DictionaryBuilder}
 use Rattle.sfv_reading.specs.Reader.{Fault}
 use Rattle.sfv_reading.specs.Fields.{read_field}
 use Rattle.sfv_reading.proofs.Theorems.{read_is_accepted}
 use Rattle.sfv_base.specs.declared.error.ParseError.{ParseError}
-use Rattle.sfv_tree.specs.declared.visitor.Visitor.{Ghosts as Visitor}
+use Rattle.sfv_visitor.specs.declared.visitor.Visitor.{Ghosts as Visitor}
 use Rattle.sfv.specs.declared.parser.Parser.{Parser}
 use Rattle.sfv.specs.Parsers.{IsParseError, IsAnswerOf, IsAnswerBy, IsSyntaxBy, IsVisitorErrorBy, VisitsFirstBy, AnswersAsReadBy}
 use Rattle.sfv.specs.Parsers.{ReadsBy, ReadsItemBy, OfMade}
@@ -40,14 +40,14 @@ pub use Rattle.sfv_spec.proofs.Last.{IsLast, last_of-split, split-last_of, none-
 pub use Rattle.sfv_spec.proofs.Last.{last_of-ordered}
 pub use Rattle.sfv_spec.proofs.Collapse.{last_of-collapse, last_of-absent}
 -- the pairs that an iterator over a map lends
-pub use Rattle.sfv_ser.proofs.Lent.{lent_all}
+pub use Rattle.sfv_serializer.proofs.Lent.{lent_all}
 -- what is written of a field is read as its ordered value, repeated keys too, and what is written of a value as itself,
 -- by each edition that has all that it holds: RFC 9651 has all
-pub use Rattle.sfv_ser.proofs.ReadBack.{read_back, value_read_back}
+pub use Rattle.sfv_serializer.proofs.ReadBack.{read_back, value_read_back}
 pub use Rattle.sfv_spec.proofs.Fields.{all_fit_newer}
 -- an inner list that is taken away again, and what a text holds behind what was written to it
-pub use Rattle.sfv_ser.proofs.Scripts.{taken_away, kept_as, more_as, written_behind}
-pub use Rattle.sfv_ser.proofs.Scripts.{inner_list_ended, named_list_ended}
+pub use Rattle.sfv_serializer.proofs.Scripts.{taken_away, kept_as, more_as, written_behind}
+pub use Rattle.sfv_serializer.proofs.Scripts.{inner_list_ended, named_list_ended}
 -- what a visitor did with the events of a field
 pub use Rattle.sfv_spec.proofs.Runs.{runs_fold, entry_in, keys_in_events, entries_in_events, fails_somewhere}
 -- what is kept of a field by the last of each key

@@ -12,10 +12,10 @@ use Rattle.sfv_base.specs.declared.error.ParseError.{ParseError}
 use Rattle.sfv_base.specs.declared.error.ParseError.TheVariants.{Syntax, Visitor}
 use Rattle.sfv_base.specs.Errors.{out_of_memory}
 use Rattle.sfv_bare.specs.BareItems.{input_value}
-use Rattle.sfv_tree.specs.declared.visitor.ItemFault.{ItemFault}
-use Rattle.sfv_tree.specs.declared.visitor.ItemFault.TheVariants as faults
-use Rattle.sfv_visit.specs.Given.{ReadBareItem, item_kept, first_value, KeepTakes, KeepFails, KeepTakesRead}
-use Rattle.sfv_visit.specs.declared.expect_item.ExpectItem.{ExpectItem}
+use Rattle.sfv_visitor.specs.declared.visitor.ItemFault.{ItemFault}
+use Rattle.sfv_visitor.specs.declared.visitor.ItemFault.TheVariants as faults
+use Rattle.sfv_visitor.specs.Given.{ReadBareItem, item_kept, first_value, KeepTakes, KeepFails, KeepTakesRead}
+use Rattle.sfv_visitor.specs.declared.expect_item.ExpectItem.{ExpectItem}
 use Rattle.sfv.specs.Parsers.{IsAnswerOf, IsVisitorErrorOf, VisitsFirst, IsLent, AnswersAsRead, OfMade}
 
 module _ {T : Type 0} (holds : T → BareValue) (fails : BareValue → ItemFault → Type 0) where

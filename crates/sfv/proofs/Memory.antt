@@ -18,13 +18,13 @@ use Rattle.sfv_base.specs.declared.error.Error.{Error}
 use Rattle.sfv_base.specs.declared.error.ParseError.{ParseError}
 use Rattle.sfv_base.specs.declared.error.ParseError.TheVariants.{Syntax, Visitor}
 use Rattle.sfv_base.specs.declared.error.OutOfMemory.{OutOfMemory}
-use Rattle.sfv_tree.specs.Builders.{item_place, item_step, at_end, takes_memory, list_place, list_step}
-use Rattle.sfv_tree.specs.Builders.{list_takes_memory, dictionary_place, dictionary_step, dictionary_takes_memory}
-use Rattle.sfv_tree.specs.declared.visitor.ItemFault.{ItemFault}
-use Rattle.sfv_tree.specs.declared.visitor.ItemFault.TheVariants as faults
-use Rattle.sfv_tree.specs.declared.visitor.item_builder.ItemBuilder.{ItemBuilder}
-use Rattle.sfv_tree.specs.declared.visitor.list_builder.ListBuilder.{ListBuilder}
-use Rattle.sfv_tree.specs.declared.visitor.dictionary_builder.DictionaryBuilder.{DictionaryBuilder}
+use Rattle.sfv_visitor.specs.Builders.{item_place, item_step, at_end, takes_memory, list_place, list_step}
+use Rattle.sfv_visitor.specs.Builders.{list_takes_memory, dictionary_place, dictionary_step, dictionary_takes_memory}
+use Rattle.sfv_visitor.specs.declared.visitor.ItemFault.{ItemFault}
+use Rattle.sfv_visitor.specs.declared.visitor.ItemFault.TheVariants as faults
+use Rattle.sfv_visitor.specs.declared.visitor.item_builder.ItemBuilder.{ItemBuilder}
+use Rattle.sfv_visitor.specs.declared.visitor.list_builder.ListBuilder.{ListBuilder}
+use Rattle.sfv_visitor.specs.declared.visitor.dictionary_builder.DictionaryBuilder.{DictionaryBuilder}
 use Rattle.sfv.specs.Memory.{HasMoreThanSpaces, NeedsMark}
 use Rattle.sfv.specs.Parsers.{IsVisitorErrorOf, VisitsFirst}
 use Rattle.sfv.specs.Visits.{VisitsField}

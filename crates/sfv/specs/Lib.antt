@@ -42,15 +42,15 @@ pub use Rattle.sfv_text.specs.StringText
 pub use Rattle.sfv_text.specs.TokenText
 pub use Rattle.sfv_bare.specs.BareItems
 pub use Rattle.sfv_bare.specs.Kinds
-pub use Rattle.sfv_tree.specs.Builders
-pub use Rattle.sfv_tree.specs.Events as EventValues
+pub use Rattle.sfv_visitor.specs.Builders
+pub use Rattle.sfv_visitor.specs.Events as EventValues
 pub use Rattle.sfv_tree.specs.HashSeeds
-pub use Rattle.sfv_tree.specs.ItemFaults
+pub use Rattle.sfv_visitor.specs.ItemFaults
 pub use Rattle.sfv_tree.specs.Trees
-pub use Rattle.sfv_visit.specs.Given
-pub use Rattle.sfv_ser.specs.Scripts
-pub use Rattle.sfv_ser.specs.Serializers
-pub use Rattle.sfv_ser.specs.Texts as LentTexts
-pub use Rattle.sfv_ser.specs.Versions
-pub use Rattle.sfv_ser.specs.Written
+pub use Rattle.sfv_visitor.specs.Given
+pub use Rattle.sfv_serializer.specs.Scripts
+pub use Rattle.sfv_serializer.specs.Serializers
+pub use Rattle.sfv_serializer.specs.Texts as LentTexts
+pub use Rattle.sfv_serializer.specs.Versions
+pub use Rattle.sfv_serializer.specs.Written
 pub use Rattle.indexmap.specs.IndexMap as Maps

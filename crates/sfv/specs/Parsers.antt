@@ -18,10 +18,10 @@ use Rattle.sfv_bare.specs.BareItems.{edition_of, input_value, is_borrowed_string
 use Rattle.sfv_bare.specs.declared.bare.GenericBareItem.TheVariants as bare
 use Rattle.sfv_bare.specs.declared.bare.Version.{Version}
 use Rattle.sfv_tree.specs.declared.hash_seed.HashSeed.{HashSeed}
-use Rattle.sfv_tree.specs.declared.visitor.Event.{Event}
-use Rattle.sfv_tree.specs.declared.visitor.Event.TheVariants as event
-use Rattle.sfv_tree.specs.declared.visitor.Visitor.{Ghosts as Visitor}
-use Rattle.sfv_visit.specs.Given.{ReadBareItem}
+use Rattle.sfv_visitor.specs.declared.visitor.Event.{Event}
+use Rattle.sfv_visitor.specs.declared.visitor.Event.TheVariants as event
+use Rattle.sfv_visitor.specs.declared.visitor.Visitor.{Ghosts as Visitor}
+use Rattle.sfv_visitor.specs.Given.{ReadBareItem}
 use Rattle.sfv.specs.declared.parser.Parser.{Parser}
 use Rattle.sfv.specs.Memory.{NeedsMark}
 

@@ -20,17 +20,17 @@ pub use Rattle.sfv_tree.specs.declared.parsed.Item.{Item}
 pub use Rattle.sfv_tree.specs.declared.parsed.InnerList.{InnerList}
 pub use Rattle.sfv_tree.specs.declared.parsed.ListEntry.{ListEntry}
 pub use Rattle.sfv_tree.specs.declared.parsed.ListEntry.TheVariants as list_entries
-pub use Rattle.sfv_tree.specs.declared.visitor.ItemFault.{ItemFault}
-pub use Rattle.sfv_tree.specs.declared.visitor.ItemFault.TheVariants as item_faults
-pub use Rattle.sfv_tree.specs.declared.visitor.item_builder.ItemBuilder.{ItemBuilder}
-pub use Rattle.sfv_tree.specs.declared.visitor.list_builder.ListBuilder.{ListBuilder}
-pub use Rattle.sfv_tree.specs.declared.visitor.dictionary_builder.DictionaryBuilder.{DictionaryBuilder}
-pub use Rattle.sfv_visit.specs.declared.expect_item.ExpectItem.{ExpectItem}
-pub use Rattle.sfv_visit.specs.declared.item_visitor.ItemVisitorWith.{ItemVisitorWith}
-pub use Rattle.sfv_visit.specs.declared.parameter_visitor.ParameterVisitorWith.{ParameterVisitorWith}
-pub use Rattle.sfv_ser.specs.declared.script.ParamCall.{ParamCall}
-pub use Rattle.sfv_ser.specs.declared.script.ItemCalls.{ItemCalls}
-pub use Rattle.sfv_ser.specs.declared.script.MemberCalls.{MemberCalls}
-pub use Rattle.sfv_ser.specs.declared.script.MemberCalls.TheVariants as script_members
-pub use Rattle.sfv_ser.specs.declared.serialize_error.SerializeError.{SerializeError}
-pub use Rattle.sfv_ser.specs.declared.serialize_error.SerializeError.TheVariants as serialize_errors
+pub use Rattle.sfv_visitor.specs.declared.visitor.ItemFault.{ItemFault}
+pub use Rattle.sfv_visitor.specs.declared.visitor.ItemFault.TheVariants as item_faults
+pub use Rattle.sfv_visitor.specs.declared.visitor.item_builder.ItemBuilder.{ItemBuilder}
+pub use Rattle.sfv_visitor.specs.declared.visitor.list_builder.ListBuilder.{ListBuilder}
+pub use Rattle.sfv_visitor.specs.declared.visitor.dictionary_builder.DictionaryBuilder.{DictionaryBuilder}
+pub use Rattle.sfv_visitor.specs.declared.expect_item.ExpectItem.{ExpectItem}
+pub use Rattle.sfv_visitor.specs.declared.item_visitor.ItemVisitorWith.{ItemVisitorWith}
+pub use Rattle.sfv_visitor.specs.declared.parameter_visitor.ParameterVisitorWith.{ParameterVisitorWith}
+pub use Rattle.sfv_serializer.specs.declared.script.ParamCall.{ParamCall}
+pub use Rattle.sfv_serializer.specs.declared.script.ItemCalls.{ItemCalls}
+pub use Rattle.sfv_serializer.specs.declared.script.MemberCalls.{MemberCalls}
+pub use Rattle.sfv_serializer.specs.declared.script.MemberCalls.TheVariants as script_members
+pub use Rattle.sfv_serializer.specs.declared.serialize_error.SerializeError.{SerializeError}
+pub use Rattle.sfv_serializer.specs.declared.serialize_error.SerializeError.TheVariants as serialize_errors

@@ -21,9 +21,9 @@ use Rattle.sfv.specs.Fields.{located_whole}
 use Rattle.sfv.specs.Quoted.{IsBorrowedUnlessEscaped}
 use Rattle.sfv_reading.specs.Items.{item_of, item_at}
 use Rattle.sfv_bare.specs.BareItems.{input_value}
-use Rattle.sfv_tree.specs.declared.visitor.Event.{Event}
-use Rattle.sfv_tree.specs.declared.visitor.Event.TheVariants as event
-use Rattle.sfv_visit.specs.Given.{ReadBareItem}
+use Rattle.sfv_visitor.specs.declared.visitor.Event.{Event}
+use Rattle.sfv_visitor.specs.declared.visitor.Event.TheVariants as event
+use Rattle.sfv_visitor.specs.Given.{ReadBareItem}
 use Rattle.sfv.specs.Memory.{IsRefusal}
 
 -- An error with an index comes after the visitor has taken all events that the reader gives.

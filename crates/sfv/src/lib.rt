@@ -21,7 +21,7 @@ pub use sfv_base::decimal::Decimal;
 pub use sfv_base::error::{Error, ErrorKind, OutOfMemory, ParseError};
 pub use sfv_base::integer::Integer;
 pub use sfv_base::shorthand::integer;
-pub use sfv_ser::{
+pub use sfv_serializer::{
     DictMembers, DictSerializer, InnerListItems, InnerListSerializer, ItemSerializer, Kind,
     ListMembers, ListSerializer, Members, ParameterSerializer, Parts, SerializeError, Sink,
     Unnamed,

@@ -10,8 +10,8 @@ use crate::field_type::FieldType;
 use sfv_bare::bare::Version;
 use sfv_base::error::{Error, ParseError};
 use sfv_tree::hash_seed::HashSeed;
-use sfv_tree::visitor::Visitor;
-use sfv_visit::make::{MakeDictionaryVisitor, MakeItemVisitor, MakeListVisitor};
+use sfv_visitor::make::{MakeDictionaryVisitor, MakeItemVisitor, MakeListVisitor};
+use sfv_visitor::visitor::Visitor;
 use std::alloc::Global;
 
 mod bare_item;

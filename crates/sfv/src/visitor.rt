@@ -4,13 +4,13 @@
 //! and 3.2), and a visitor is told of each. So it mustn't fail for what stands under a key before it knows that the key
 //! doesn't come again: keep the value, let a later one take its place, and judge it in `finish`.
 
-pub use sfv_tree::visitor::{
-    BareItemType, DictionaryBuilder, Event, ItemBuilder, ItemFault, ListBuilder, Visitor,
-};
-pub use sfv_visit::expect_item::{ExpectItem, ExpectedItem};
-pub use sfv_visit::ignored::Ignored;
-pub use sfv_visit::item_visitor::{
+pub use sfv_visitor::expect_item::{ExpectItem, ExpectedItem};
+pub use sfv_visitor::ignored::Ignored;
+pub use sfv_visitor::item_visitor::{
     ItemVisitorWith, MemoryErrors, NoMemoryError, item_visitor_with,
 };
-pub use sfv_visit::make::{MakeDictionaryVisitor, MakeItemVisitor, MakeListVisitor};
-pub use sfv_visit::parameter_visitor::{ParameterVisitorWith, parameter_visitor_with};
+pub use sfv_visitor::make::{MakeDictionaryVisitor, MakeItemVisitor, MakeListVisitor};
+pub use sfv_visitor::parameter_visitor::{ParameterVisitorWith, parameter_visitor_with};
+pub use sfv_visitor::visitor::{
+    BareItemType, DictionaryBuilder, Event, ItemBuilder, ItemFault, ListBuilder, Visitor,
+};

@@ -4,4 +4,3 @@
 pub mod hash_seed;
 pub mod parsed;
 pub mod shorthand;
-pub mod visitor;

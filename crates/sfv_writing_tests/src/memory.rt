@@ -5,7 +5,7 @@ use sfv::{
     Date, Decimal, GenericBareItem, InnerListSerializer, Item, ListSerializer, OutOfMemory,
     RefBareItem, SerializeError, Sink, integer, key_ref, parameters, string_ref, token_ref,
 };
-use sfv_ser::serialize_item;
+use sfv_serializer::serialize_item;
 use std::alloc::Global;
 use std::test::Fail;
 

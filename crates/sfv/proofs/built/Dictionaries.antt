@@ -17,12 +17,12 @@ use Rattle.sfv_spec.proofs.Last.{over, last_of-over}
 use Rattle.sfv_spec.proofs.Laws.{ordered_same}
 use Rattle.sfv_spec.proofs.Runs.{runs_fold}
 use Rattle.sfv_tree.specs.Trees.{dictionary_tree}
-use Rattle.sfv_tree.specs.Builders.{MemberPlace, begun, item_head, item_parameters, inner_items, inner_head}
-use Rattle.sfv_tree.specs.Builders.{inner_parameters, list_parameters, ended, member_step, DictionaryPlace}
-use Rattle.sfv_tree.specs.Builders.{between_pairs, within_pair, settle_pair, dictionary_step, dictionary_members}
-use Rattle.sfv_tree.specs.Builders.{dictionary_place}
+use Rattle.sfv_visitor.specs.Builders.{MemberPlace, begun, item_head, item_parameters, inner_items, inner_head}
+use Rattle.sfv_visitor.specs.Builders.{inner_parameters, list_parameters, ended, member_step, DictionaryPlace}
+use Rattle.sfv_visitor.specs.Builders.{between_pairs, within_pair, settle_pair, dictionary_step, dictionary_members}
+use Rattle.sfv_visitor.specs.Builders.{dictionary_place}
 use Rattle.sfv_tree.specs.declared.parsed.ListEntry.{ListEntry}
-use Rattle.sfv_tree.specs.declared.visitor.dictionary_builder.DictionaryBuilder.{DictionaryBuilder}
+use Rattle.sfv_visitor.specs.declared.visitor.dictionary_builder.DictionaryBuilder.{DictionaryBuilder}
 use Rattle.sfv.specs.Parsers.{IsAnswerOf}
 use Rattle.sfv.proofs.built.Items.{insert_entry-entered}
 use Rattle.sfv.proofs.built.Members.{IsOpen, member_built}

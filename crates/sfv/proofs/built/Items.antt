@@ -10,11 +10,11 @@ use Rattle.sfv_spec.specs.Statements.{IsParsedAs}
 use Rattle.sfv_spec.specs.Visiting.{RunsTo, IsEarlyVisitorError}
 use Rattle.sfv_spec.proofs.Collapse.{entered, collapse-push}
 use Rattle.sfv_tree.specs.Trees.{item_tree}
-use Rattle.sfv_tree.specs.Builders.{ItemPlace, at_head, at_parameters, at_end, item_step, item_place, takes_memory}
-use Rattle.sfv_tree.specs.declared.visitor.ItemFault.{ItemFault}
-use Rattle.sfv_tree.specs.declared.visitor.ItemFault.TheVariants as faults
+use Rattle.sfv_visitor.specs.Builders.{ItemPlace, at_head, at_parameters, at_end, item_step, item_place, takes_memory}
+use Rattle.sfv_visitor.specs.declared.visitor.ItemFault.{ItemFault}
+use Rattle.sfv_visitor.specs.declared.visitor.ItemFault.TheVariants as faults
 use Rattle.sfv_tree.specs.declared.parsed.Item.{Item}
-use Rattle.sfv_tree.specs.declared.visitor.item_builder.ItemBuilder.{ItemBuilder}
+use Rattle.sfv_visitor.specs.declared.visitor.item_builder.ItemBuilder.{ItemBuilder}
 use Rattle.sfv.specs.Parsers.{IsAnswerOf}
 
 -- what the builder does with an event, and with the end

@@ -13,11 +13,11 @@ use Rattle.sfv_spec.specs.Statements.{IsParsedAs}
 use Rattle.sfv_spec.specs.Visiting.{RunsTo}
 use Rattle.sfv_spec.proofs.Runs.{runs_fold}
 use Rattle.sfv_tree.specs.Trees.{list_tree}
-use Rattle.sfv_tree.specs.Builders.{MemberPlace, begun, item_head, item_parameters, inner_items, inner_head}
-use Rattle.sfv_tree.specs.Builders.{inner_parameters, list_parameters, ended, member_step, ListPlace, between, within}
-use Rattle.sfv_tree.specs.Builders.{settle, list_step, list_members, list_place}
+use Rattle.sfv_visitor.specs.Builders.{MemberPlace, begun, item_head, item_parameters, inner_items, inner_head}
+use Rattle.sfv_visitor.specs.Builders.{inner_parameters, list_parameters, ended, member_step, ListPlace, between, within}
+use Rattle.sfv_visitor.specs.Builders.{settle, list_step, list_members, list_place}
 use Rattle.sfv_tree.specs.declared.parsed.ListEntry.{ListEntry}
-use Rattle.sfv_tree.specs.declared.visitor.list_builder.ListBuilder.{ListBuilder}
+use Rattle.sfv_visitor.specs.declared.visitor.list_builder.ListBuilder.{ListBuilder}
 use Rattle.sfv.specs.Parsers.{IsAnswerOf}
 use Rattle.sfv.proofs.built.Members.{IsOpen, member_built}
 

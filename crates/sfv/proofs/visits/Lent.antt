@@ -11,9 +11,9 @@ use Rattle.sfv_spec.specs.Visiting.{RunsTo}
 use Rattle.sfv_base.specs.declared.error.ParseError.{ParseError}
 use Rattle.sfv_bare.specs.BareItems.{input_value}
 use Rattle.sfv_bare.specs.declared.bare.GenericBareItem.TheVariants as bare
-use Rattle.sfv_tree.specs.declared.visitor.Event.{Event}
-use Rattle.sfv_tree.specs.declared.visitor.Event.TheVariants as event
-use Rattle.sfv_visit.specs.Given.{ReadBareItem}
+use Rattle.sfv_visitor.specs.declared.visitor.Event.{Event}
+use Rattle.sfv_visitor.specs.declared.visitor.Event.TheVariants as event
+use Rattle.sfv_visitor.specs.Given.{ReadBareItem}
 use Rattle.sfv_reading.specs.Reader.{span}
 use Rattle.sfv_reading.specs.Bare.{bare_at}
 use Rattle.sfv_reading.specs.Items.{item_of, parameters_at}

@@ -11,7 +11,7 @@ use crate::parser::cursor::Cursor;
 use crate::parser::item::finish;
 use crate::parser::member::Member;
 use sfv_base::error::{ErrorKind, ParseError};
-use sfv_tree::visitor::Visitor;
+use sfv_visitor::visitor::Visitor;
 use std::alloc::Global;
 
 /// Reads the input as an item, and visits its parts. The visitor is finished before it is known whether anything

@@ -3,7 +3,7 @@
 ghost use Rattle.std.specs.Prelude.{option_map, OnOk, IfOk, IfErr, IfSome};
 ghost use Rattle.sfv_spec.specs.Events.{parameters_events, item_events};
 ghost use Rattle.sfv_bare.specs.BareItems.{input_value};
-ghost use Rattle.sfv_tree.specs.Events.{event_of};
+ghost use Rattle.sfv_visitor.specs.Events.{event_of};
 ghost use Rattle.sfv_reading.specs.Items.{value_at, parameter_at, parameters_at, item_at};
 ghost use Rattle.sfv.specs.Cursor.{edition, rest, ReadsOrOutOfMemory};
 ghost use Rattle.sfv.specs.Visits.{Visits, TakesAsRead, IsOfVisitor, TookBare};
@@ -12,7 +12,7 @@ use crate::parser::cursor::Cursor;
 use sfv_bare::bare::{BareItemFromInput, GenericBareItem};
 use sfv_base::error::{Error, ParseError};
 use sfv_text::key_ref::KeyRef;
-use sfv_tree::visitor::{Event, Visitor};
+use sfv_visitor::visitor::{Event, Visitor};
 
 /// A parameter with its key as it stands in the input.
 #[derive(Drop)]

@@ -12,7 +12,7 @@ use crate::parser::cursor::Cursor;
 use crate::parser::item::visit;
 use sfv_bare::bare::GenericBareItem;
 use sfv_base::error::{Error, ErrorKind, ParseError};
-use sfv_tree::visitor::{Event, Visitor};
+use sfv_visitor::visitor::{Event, Visitor};
 
 impl<'de> Cursor<'de> {
     /// Takes an item of an inner list, and visits its parts.

@@ -1,6 +1,6 @@
 use Rattle.std.proofs.Common.{ℕ, List, ap, ◌∙◌}
 use Rattle.sfv_tree.specs.Trees.{dictionary_tree}
-use Rattle.sfv_tree.specs.Builders.{between_pairs}
+use Rattle.sfv_visitor.specs.Builders.{between_pairs}
 use Rattle.sfv_tree.specs.declared.parsed.ListEntry.{ListEntry}
 use Rattle.sfv.specs.Parsers.{input_of, parser_edition}
 use Rattle.sfv.proofs.built.Dictionaries.{built_dictionary}

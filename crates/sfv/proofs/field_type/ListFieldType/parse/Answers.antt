@@ -1,6 +1,6 @@
 use Rattle.std.proofs.Common.{List, ap, ◌∙◌}
 use Rattle.sfv_tree.specs.Trees.{list_tree}
-use Rattle.sfv_tree.specs.Builders.{between}
+use Rattle.sfv_visitor.specs.Builders.{between}
 use Rattle.sfv_tree.specs.declared.parsed.ListEntry.{ListEntry}
 use Rattle.sfv.specs.Parsers.{input_of, parser_edition}
 use Rattle.sfv.proofs.built.Lists.{built_list}

@@ -1,0 +1,33 @@
+use Rattle.std.proofs.Common.{◌<◌, length, map, subst, rules}
+use Rattle.std.specs.Prelude.{flat_map}
+use Rattle.std.proofs.lemmas.List.{take_all}
+use Rattle.sfv_spec.specs.Calls.{AllFit}
+use Rattle.sfv_bare.specs.BareItems.{edition_of}
+use Rattle.sfv_serializer.specs.Scripts.{called_param}
+use Rattle.sfv_serializer.specs.Versions.{NamesFirst}
+use Rattle.sfv_serializer.proofs.Looks.{at_exit, slice_more, slice_stops, values_of_param, params_values}
+use Rattle.sfv_serializer.proofs.look_at_calls.look_at_param_calls.Goals as goal
+
+pub loop-call-preserved : goal.loop-call-preserved
+loop-call-preserved c =
+    let calls = c.args.calls.now in
+    let within : c.loop-call.call-index < length calls = search rules in
+    slice_more (edition_of c.args.version) called_param values_of_param calls c.loop-call.call-index c.call-item.result
+    within c.call-item.is c.loop-call.invariant c.in_ok-look_at_bare_item.ensures
+
+pub returns-in_err-look_at_bare_item : goal.returns-in_err-look_at_bare_item
+returns-in_err-look_at_bare_item c =
+    let calls = c.args.calls.now in
+    let within : c.loop-call.call-index < length calls = search rules in
+    at_exit c.from_residual.result _ _ _ c.from_residual.ensures.1
+    (subst (λ bs. NamesFirst (edition_of c.args.version) bs c.in_err-look_at_bare_item.field-0.0)
+    (params_values (map called_param calls))
+    (slice_stops (edition_of c.args.version) called_param values_of_param calls c.loop-call.call-index
+    c.call-item.result _ within c.call-item.is c.loop-call.invariant c.in_err-look_at_bare_item.ensures))
+
+pub returns : goal.returns
+returns c =
+    let calls = c.args.calls.now in
+    subst (AllFit (edition_of c.args.version)) (params_values (map called_param calls))
+    (subst (λ cs. AllFit (edition_of c.args.version) (flat_map values_of_param (map called_param cs)))
+    (take_all c.loop-call.call-index calls (search rules)) c.loop-call.invariant)

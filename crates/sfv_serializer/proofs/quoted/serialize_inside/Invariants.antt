@@ -1,0 +1,11 @@
+use Rattle.std.proofs.Common.{length, string_bytes}
+use Rattle.sfv_serializer.specs.Quoted.{piece_of}
+use Rattle.sfv_serializer.proofs.Written.{IsWrittenUpTo}
+use Rattle.sfv_serializer.proofs.quoted.serialize_inside.Given as goal
+
+abbrev pub invariant-loop-byte : goal.invariant-loop-byte
+invariant-loop-byte g l = IsWrittenUpTo (piece_of g.Q.QuotedText.display) (string_bytes l.fn.output) l.bytes l.rest
+    (string_bytes l.output)
+
+abbrev pub decreases-loop-byte : goal.decreases-loop-byte
+decreases-loop-byte g l = length l.rest

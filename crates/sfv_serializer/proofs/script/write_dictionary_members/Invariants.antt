@@ -1,0 +1,19 @@
+use Rattle.std.proofs.Common.{◌≡◌, take, codes, string_bytes}
+use Rattle.std.specs.Prelude.{IsTrue}
+use Rattle.sfv_spec.specs.Classes.{is_key}
+use Rattle.sfv_spec.specs.Values.{IsMember, dictionary_field}
+use Rattle.sfv_spec.specs.Canonical.{dictionary_member_text}
+use Rattle.sfv_spec.specs.Calls.{described}
+use Rattle.sfv_serializer.specs.Serializers.{has_no_part}
+use Rattle.sfv_serializer.specs.Scripts.{dictionary_calls}
+use Rattle.sfv_serializer.proofs.Rows.{IsLed}
+use Rattle.sfv_serializer.proofs.script.write_dictionary_members.Given as goal
+
+abbrev pub invariant-loop-name : goal.invariant-loop-name
+invariant-loop-name g l =
+    g.W.Sink.same l.fn.dictionary.sink l.dictionary.sink
+    × IsLed dictionary_member_text (λ m. IsTrue (is_key m.0) × IsMember m.1) (codes ", ")
+    (described dictionary_field (dictionary_calls (take l.name-index l.calls)))
+    (has_no_part l.fn.dictionary) (has_no_part l.dictionary)
+    (string_bytes (g.W.Sink.text l.fn.dictionary.sink)) (string_bytes (g.W.Sink.text l.dictionary.sink))
+    × (l.dictionary.version ≡ l.fn.dictionary.version) × (l.dictionary.kind ≡ l.fn.dictionary.kind)

@@ -1,0 +1,65 @@
+use Rattle.std.proofs.Common.{map, rules}
+use Rattle.std.proofs.lemmas.List.{take_all}
+use Rattle.sfv_serializer.specs.Written.{lead}
+use Rattle.sfv_serializer.specs.Serializers.{has_no_part}
+use Rattle.sfv_serializer.specs.Scripts.{called_param, called_item}
+use Rattle.sfv_serializer.proofs.Rows.{anyway}
+use Rattle.sfv_serializer.proofs.Scripts.{begun_grown, more_grown, kept_grown, taken_away, away_grown, kept_as, more_as, of_error}
+use Rattle.sfv_serializer.proofs.Scripts.{inner_ended}
+use Rattle.sfv_serializer.proofs.script.write_inner.Goals as goal
+
+pub returns-in-Err-clause-out_of_memory : goal.returns-in-Err-clause-out_of_memory
+returns-in-Err-clause-out_of_memory g c =
+    let begun = c.in_ok-inner.ensures in
+    away_grown g.W.Sink g.met.W.Sink.same_again c.args.parts.now c.abandon.new.self.0 c.in_ok-inner.inner
+    c.write_inner_items.new.inner _ _ _ g.met.W.Sink.same_itself begun.text begun.begins.1
+    c.write_inner_items.ensures.grows c.abandon.ensures (search rules) (search rules)
+
+pub returns-then-abandon-clause-text : goal.returns-then-abandon-clause-text
+returns-then-abandon-clause-text g c =
+    let s = g.W.Sink in
+    let begun = c.in_ok-inner.ensures in
+    let kept = taken_away s g.met.W.Sink.same_again c.args.parts.now c.abandon-then-abandon.new.self.0
+    c.in_ok-inner.inner c.write_inner_items.new.inner _ begun.text begun.begins.1
+    c.write_inner_items.ensures.grows c.abandon-then-abandon.ensures in
+    rw c.if-abandon.true (kept_as s c.args.parts.now c.abandon-then-abandon.new.self.0 _ _ _ _ kept (search rules)
+    (search rules) (search rules) (search rules))
+
+pub returns-in_err-ending-clause-out_of_memory : goal.returns-in_err-ending-clause-out_of_memory
+returns-in_err-ending-clause-out_of_memory g c =
+    let begun = c.in_ok-inner.ensures in
+    let rests = of_error _ _ _ c.in_err-ending.was c.finish.follows.holds-at-none in
+    anyway _ _ (away_grown g.W.Sink g.met.W.Sink.same_again c.args.parts.now c.finish.follows.lender-at-none
+    c.in_ok-inner.inner c.write_inner_items.new.inner _ _ _ g.met.W.Sink.same_itself begun.text begun.begins.1
+    c.write_inner_items.ensures.grows rests (search rules) (search rules))
+
+pub returns-in-Err-parameter-clause-out_of_memory : goal.returns-in-Err-parameter-clause-out_of_memory
+returns-in-Err-parameter-clause-out_of_memory g c =
+    let s = g.W.Sink in
+    let again = g.met.W.Sink.same_again in
+    let parts = c.args.parts.now in
+    let grown = begun_grown s again parts c.in_ok-inner.inner c.write_inner_items.new.inner _ _
+    c.in_ok-inner.ensures.text c.write_inner_items.ensures.grows in
+    let ended = more_grown s again parts c.write_inner_items.new.inner.sink.now
+    c.in_ok-ending.ending.sink.now _ _ grown c.in_ok-ending.ensures.text in
+    let so_far = more_grown s again parts c.in_ok-ending.ending.sink.now c.loop-call.ending.sink.now _ _
+    ended c.loop-call.invariant.1 in
+    let kept = of_error _ _ _ c.in-Err-parameter.is c.parameter.follows.holds-at-none in
+    kept_grown s again parts c.loop-call.ending.sink.now c.parameter.follows.lender-at-none _ _ so_far kept
+    (search rules) (search rules)
+
+pub returns-clause-text : goal.returns-clause-text
+returns-clause-text g c =
+    let s = g.W.Sink in
+    let parts = c.args.parts.now in
+    let params = c.args.params.now in
+    let begun = c.in_ok-inner.ensures in
+    let ending = c.in_ok-ending.ending.sink.now in
+    let last = c.loop-call.ending.sink.now in
+    let behind = rw (take_all c.loop-call.call-index params (search rules)) at c.loop-call.invariant.1 in
+    let whole = inner_ended s g.met.W.Sink.same_again parts ending last c.in_ok-inner.inner
+    c.write_inner_items.new.inner (lead (has_no_part parts) g.K.Kind.separator) (g.P.Part.text c.args.opening)
+    (map called_item c.args.items.now) (map called_param params) _ _ begun.text begun.begins.0 c.in_default.ensures.text
+    c.in_ok-ending.ensures.text behind in
+    rw c.if-abandon.false (more_as s parts last _ _ _ _ _ _ whole (search rules) (search rules) (search rules)
+    (search rules))

@@ -1,0 +1,12 @@
+use Rattle.std.proofs.Common.{◌≡◌, ◌++◌, string_bytes}
+use Rattle.sfv_spec.specs.Values.{IsItem, rfc9651}
+use Rattle.sfv_spec.specs.Canonical.{item_text}
+use Rattle.sfv_serializer.proofs.Scripts.{item_so_far}
+use Rattle.sfv_serializer.specs.Serializers.{params_sink, params_edition}
+use Rattle.sfv_serializer.proofs.script.write_item.Given as goal
+
+abbrev pub invariant-loop-call : goal.invariant-loop-call
+invariant-loop-call l =
+    ((params_sink l.params).ghost_name ≡ (params_sink l.initial.params).ghost_name)
+    × (string_bytes (params_sink l.params).now ≡ string_bytes l.fn.text ++ item_text (item_so_far l.calls l.call-index))
+    × IsItem (item_so_far l.calls l.call-index) × (params_edition l.params ≡ rfc9651)

@@ -1,0 +1,11 @@
+use Rattle.std.proofs.Common.{◌≡◌, rules}
+use Rattle.sfv_serializer.specs.Scripts.{member_calls, inner_list_calls}
+use Rattle.sfv_serializer.proofs.Scripts.{list_inner_written}
+use Rattle.sfv_serializer.proofs.script.write_list_member.Goals as goal
+
+pub returns-in-InnerList-clause-text : goal.returns-in-InnerList-clause-text
+returns-in-InnerList-clause-text g c =
+    let is : member_calls c.args.member.now
+    ≡ inner_list_calls c.deref.result.now c.deref-in-InnerList.result.now c.in-InnerList.abandon = search rules in
+    list_inner_written g.W.Sink c.args.list.now c.write_inner.new.parts c.write_inner.result c.args.member.now _ _ _ is
+    c.write_inner.ensures.text

@@ -1,0 +1,16 @@
+use Rattle.std.proofs.Common.{◌≡◌, take, codes, string_bytes}
+use Rattle.sfv_spec.specs.Values.{IsMember, list_field}
+use Rattle.sfv_spec.specs.Canonical.{member_text}
+use Rattle.sfv_spec.specs.Calls.{described}
+use Rattle.sfv_serializer.specs.Serializers.{has_no_part}
+use Rattle.sfv_serializer.specs.Scripts.{list_calls}
+use Rattle.sfv_serializer.proofs.Rows.{IsLed}
+use Rattle.sfv_serializer.proofs.script.write_list_members.Given as goal
+
+abbrev pub invariant-loop-member : goal.invariant-loop-member
+invariant-loop-member g l =
+    g.W.Sink.same l.fn.list.sink l.list.sink
+    × IsLed member_text IsMember (codes ", ") (described list_field (list_calls (take l.member-index l.calls)))
+    (has_no_part l.fn.list) (has_no_part l.list)
+    (string_bytes (g.W.Sink.text l.fn.list.sink)) (string_bytes (g.W.Sink.text l.list.sink))
+    × (l.list.version ≡ l.fn.list.version) × (l.list.kind ≡ l.fn.list.kind)

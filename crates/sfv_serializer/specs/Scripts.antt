@@ -1,0 +1,87 @@
+-- What lists of calls describe.
+use Rattle.std.specs.Prelude.{◌++◌, ℕ, Bool, false, List, map, codes, if◌then◌else◌, MatchBool}
+use Rattle.sfv_spec.specs.Texts.{joined}
+use Rattle.sfv_spec.specs.Values.{BareValue, RawParameters, RawItem, RawField, list_field, dictionary_field, item, inner_list}
+use Rattle.sfv_spec.specs.Canonical.{item_text, parameters_text, member_text, dictionary_member_text}
+use Rattle.sfv_spec.specs.Calls.{Calls, described, handed, written, abandoned}
+use Rattle.sfv_spec.specs.Calls as spec
+use Rattle.sfv_text.specs.KeyText.{KeyRef, key_text}
+use Rattle.sfv_bare.specs.BareItems.{ref_value}
+use Rattle.sfv_serializer.specs.declared.parts.Parts.{Parts}
+use Rattle.sfv_serializer.specs.declared.sink.Sink.{Ghosts as Sink}
+use Rattle.sfv_serializer.specs.Written.{led, still_first}
+use Rattle.sfv_serializer.specs.Serializers.{KeepsParts, HasMoreParts, HasNextPart}
+use Rattle.sfv_serializer.specs.declared.script.ParamCall.{ParamCall}
+use Rattle.sfv_serializer.specs.declared.script.ItemCalls.{ItemCalls}
+use Rattle.sfv_serializer.specs.declared.script.MemberCalls.{MemberCalls}
+use Rattle.sfv_serializer.specs.declared.script.MemberCalls.TheVariants as calls
+
+-- the key and the value that a call hands over
+abbrev pub called_param : ParamCall → List ℕ × BareValue
+called_param c = (key_text c.key, ref_value c.value)
+
+-- the item that these calls write
+abbrev pub called_item : ItemCalls → RawItem
+called_item c = record { bare = ref_value c.value; parameters = map called_param c.params.items }
+
+-- an inner list that was begun like this, with its items and its parameters
+abbrev pub ended_text : List ℕ → List RawItem → RawParameters → List ℕ
+ended_text opening items parameters =
+    opening ++ joined (codes " ") (map item_text items) ++ codes ")" ++ parameters_text parameters
+
+-- the calls of an inner list, which is abandoned behind its items, or ended with its parameters
+abbrev pub inner_list_calls : List ItemCalls → List ParamCall → Bool → spec.MemberCalls
+inner_list_calls items params abandon =
+    if abandon then abandoned (map called_item items)
+    else written (inner_list (record { items = map called_item items; parameters = map called_param params }))
+
+-- the calls of a member
+abbrev pub member_calls : MemberCalls → spec.MemberCalls
+member_calls (calls.Item i) = written (item (called_item i))
+member_calls (calls.InnerList items params abandon) = inner_list_calls items.items params.items abandon
+
+-- the calls of the members of a list, in order
+abbrev pub list_calls : List MemberCalls → Calls list_field
+list_calls members = map member_calls members
+
+-- the calls of the members of a dictionary, each with its key
+abbrev pub dictionary_calls : List (KeyRef × MemberCalls) → Calls dictionary_field
+dictionary_calls members = map (λ m. (key_text m.0, member_calls m.1)) members
+
+-- what the calls describe
+abbrev pub described_list : List MemberCalls → RawField list_field
+described_list members = described list_field (list_calls members)
+
+abbrev pub described_dictionary : List (KeyRef × MemberCalls) → RawField dictionary_field
+described_dictionary members = described dictionary_field (dictionary_calls members)
+
+-- what they hand over, abandoned inner lists too
+abbrev pub handed_list : List MemberCalls → RawField list_field
+handed_list members = handed list_field (list_calls members)
+
+abbrev pub handed_dictionary : List (KeyRef × MemberCalls) → RawField dictionary_field
+handed_dictionary members = handed dictionary_field (dictionary_calls members)
+
+-- what calls write, behind members or as the first of a list or a dictionary
+abbrev pub list_text : Bool → Calls list_field → List ℕ
+list_text is_first calls = led is_first (codes ", ") (map member_text (described list_field calls))
+
+abbrev pub dictionary_text : Bool → Calls dictionary_field → List ℕ
+dictionary_text is_first calls =
+    led is_first (codes ", ") (map dictionary_member_text (described dictionary_field calls))
+
+module _ {W : Type 0} (w : Sink W) where
+  -- an inner list was written behind its opening, or abandoned
+  abbrev pub WritesInner : {K : Type 0} → Parts W K → Parts W K → List ℕ → List ℕ → List RawItem → RawParameters → Bool
+      → Type 0
+  WritesInner s t separator opening items parameters abandon = MatchBool abandon (KeepsParts w s t)
+      (HasNextPart w separator s t (ended_text opening items parameters) false)
+
+  -- the calls were performed
+  abbrev pub WritesList : {K : Type 0} → Parts W K → Parts W K → Calls list_field → Type 0
+  WritesList s t calls = HasMoreParts w s t (list_text s.is_first calls)
+      (still_first s.is_first (described list_field calls))
+
+  abbrev pub WritesDictionary : {K : Type 0} → Parts W K → Parts W K → Calls dictionary_field → Type 0
+  WritesDictionary s t calls = HasMoreParts w s t (dictionary_text s.is_first calls)
+      (still_first s.is_first (described dictionary_field calls))

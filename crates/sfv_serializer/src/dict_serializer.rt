@@ -1,0 +1,117 @@
+//! Writing a dictionary member by member (RFC 9651, section 4.1.2).
+
+ghost use Rattle.std.specs.Prelude.{◌≡◌, ◌∷◌, ◌++◌, [], true, false, IfOk, IfErr, OnOk, OnErr, List, IsTrue, codes};
+ghost use Rattle.std.specs.Prelude.{string_len};
+ghost use Rattle.std.specs.Borrow.{sem};
+ghost use Rattle.std.specs.Iterator.{IsFinite, Drains};
+ghost use Rattle.sfv_spec.specs.Classes.{is_key};
+ghost use Rattle.sfv_spec.specs.Values.{IsBareValue};
+ghost use Rattle.sfv_spec.specs.Calls.{AllFit};
+ghost use Rattle.sfv_bare.specs.BareItems.{ref_value};
+ghost use Rattle.sfv_text.specs.KeyText.{key_text};
+ghost use Rattle.sfv_serializer.specs.Written.{keyed_text, still_first, members_text, AreMembers};
+ghost use Rattle.sfv_serializer.specs.Serializers.{PartsRest, HasMoreParts, HasNextPart, KeepsParts, parts_sink};
+ghost use Rattle.sfv_serializer.specs.Serializers.{parts_edition, has_no_part, params_sink, params_name, params_edition};
+ghost use Rattle.sfv_serializer.specs.Serializers.{inner_list_name, length_before};
+ghost use Rattle.sfv_serializer.specs.Versions.{LooksFirst, FailsAmong, values_of_members};
+ghost use Rattle.sfv_serializer.specs.contracts.kind.DictMembers.{the_row as dict_members};
+
+use crate::inner_list_serializer::InnerListSerializer;
+use crate::kind::DictMembers;
+use crate::known::{is_a_key, is_a_value};
+use crate::look::look_at_bare_item;
+use crate::parameter_serializer::ParameterSerializer;
+use crate::part::{Named, NamedOpening};
+use crate::parts::Parts;
+use crate::serialize_error::SerializeError;
+use crate::sink::Sink;
+use sfv_bare::bare::RefBareItem;
+use sfv_base::error::OutOfMemory;
+use sfv_text::key::Key;
+use sfv_text::key_ref::KeyRef;
+use sfv_tree::parsed::ListEntry;
+
+/// Writes a dictionary at the end of a lent text (RFC 9651, section 4.1.2), member by member.
+///
+/// A key that is given twice is written twice. While a serializer holds the text, nobody else can read it. A serializer
+/// that is dropped leaves what was written.
+pub type DictSerializer<W> = Parts<W, DictMembers>;
+
+impl<W: Sink> Parts<W, DictMembers> {
+    /// Writes a member that is an item: its key and, unless the value is true, an equals sign and the value, after the
+    /// separator unless it is the first (RFC 9651, section 4.1.2). Returns the serializer of its parameters.
+    ///
+    /// # Errors
+    ///
+    /// `Unsupported` if the version doesn't have the value, else `OutOfMemory`; the text, and whether a member stands, are
+    /// then as they were.
+    #[inline(always)]
+    pub fn bare_item(
+        &mut self,
+        name: KeyRef<'_>,
+        value: RefBareItem<'_>,
+    ) -> Result<ParameterSerializer<'_, DictSerializer<W>>, SerializeError>
+        ensures* kept { sem 𝓛 (PartsRest W.row dict_members (KeepsParts W.Sink) self.entry params_name result) }
+        ensures lent { IfOk result (λ p. params_name p ≡ self.entry.ghost_name) }
+        ensures version { IfOk result (λ p. params_edition p ≡ parts_edition self.old) }
+        ensures looks { LooksFirst (parts_edition self.old) (ref_value value.entry ∷ []) result }
+        ensures text { IfOk result (λ p. HasNextPart W.Sink (codes ", ") self.old (params_sink p).now
+            (keyed_text (key_text name.entry) (ref_value value.entry)) false) }
+        ensures is_key { IsTrue (is_key (key_text name.entry)) }
+        ensures is_value { IsBareValue (ref_value value.entry) }
+    {
+        is_a_key(name);
+        is_a_value(value);
+        look_at_bare_item(self.version, value)?;
+        self.append(Named { name, value })?;
+        self.is_first = false;
+        let version = self.version;
+        Ok(ParameterSerializer::new(self, version))
+    }
+
+    /// Begins a member that is an inner list: its key and an equals sign, after the separator unless it is the first
+    /// (RFC 9651, section 4.1.2). Returns the serializer of its items, which is ended by its `finish` or `abandon`.
+    ///
+    /// # Errors
+    ///
+    /// `OutOfMemory`; the text, and whether a member stands, are then as they were.
+    pub fn inner_list(
+        &mut self,
+        name: KeyRef<'_>,
+    ) -> Result<InnerListSerializer<&mut DictSerializer<W>>, OutOfMemory>
+        ensures* out_of_memory { sem 𝓛 (PartsRest W.row dict_members (KeepsParts W.Sink) self.entry
+            inner_list_name result) }
+        ensures lent { IfOk result (λ s. inner_list_name s ≡ self.entry.ghost_name) }
+        ensures version { IfOk result (λ s. parts_edition s ≡ parts_edition self.old) }
+        ensures text { IfOk result (λ s. HasNextPart W.Sink (codes ", ") self.old (parts_sink s).now
+            (key_text name.entry ++ codes "=(") (has_no_part self.old)) }
+        ensures begins { IfOk result (λ s. (has_no_part s ≡ true)
+            × (length_before s ≡ string_len (W.text (parts_sink self.old)))) }
+        ensures is_key { IsTrue (is_key (key_text name.entry)) }
+    {
+        is_a_key(name);
+        self.begin(NamedOpening { name })
+    }
+
+    /// Writes members with their keys, in their order, as `FieldType::serialize` writes them (RFC 9651, section 4.1.2).
+    ///
+    /// # Errors
+    ///
+    /// `Unsupported` at the first value that the version doesn't have, or `OutOfMemory`, and neither where no member is
+    /// given; the text, and whether a member stands, are then as they were.
+    pub fn members<'m, I: Iterator<Item = (&'m Key, &'m ListEntry)> + Drop>(
+        &mut self,
+        members: I,
+    ) -> Result<(), SerializeError>
+        requires can { I.can_next members }
+        requires ends { IsFinite (I.remaining members) }
+        ensures text { OnOk result ((taken : List _) × Drains I.next_gives members taken
+            × HasMoreParts W.Sink self.old self.new (members_text (has_no_part self.old) taken)
+            (still_first (has_no_part self.old) taken)
+            × AreMembers taken × AllFit (parts_edition self.old) (values_of_members taken)) }
+        ensures failed { IfErr result (FailsAmong I.next_gives members values_of_members (parts_edition self.old)) }
+        ensures kept { OnErr result (KeepsParts W.Sink self.old self.new) }
+    {
+        self.append_each(members)
+    }
+}

@@ -1,0 +1,68 @@
+//! Writing a list member by member (RFC 9651, section 4.1.1).
+
+ghost use Rattle.std.specs.Prelude.{◌≡◌, true, IfOk, IfErr, OnOk, OnErr, List, codes, string_len};
+ghost use Rattle.std.specs.Borrow.{sem};
+ghost use Rattle.std.specs.Iterator.{IsFinite, Drains};
+ghost use Rattle.sfv_spec.specs.Calls.{AllFit};
+ghost use Rattle.sfv_serializer.specs.Written.{still_first, entries_text, AreEntries};
+ghost use Rattle.sfv_serializer.specs.Serializers.{PartsRest, HasMoreParts, HasNextPart, KeepsParts, parts_sink};
+ghost use Rattle.sfv_serializer.specs.Serializers.{parts_edition, has_no_part, inner_list_name, length_before};
+ghost use Rattle.sfv_serializer.specs.Versions.{FailsAmong, values_of_entries};
+ghost use Rattle.sfv_serializer.specs.contracts.kind.ListMembers.{the_row as list_members};
+
+use crate::inner_list_serializer::InnerListSerializer;
+use crate::kind::ListMembers;
+use crate::part::Opening;
+use crate::parts::Parts;
+use crate::serialize_error::SerializeError;
+use crate::sink::Sink;
+use sfv_base::error::OutOfMemory;
+use sfv_tree::parsed::ListEntry;
+
+/// Writes a list at the end of a lent text (RFC 9651, section 4.1.1), member by member.
+///
+/// While a serializer holds the text, nobody else can read it. A serializer that is dropped leaves what was written.
+pub type ListSerializer<W> = Parts<W, ListMembers>;
+
+impl<W: Sink> Parts<W, ListMembers> {
+    /// Begins a member that is an inner list, after the separator unless it is the first (RFC 9651, section 4.1.1.1).
+    /// Returns the serializer of its items, which is ended by its `finish` or `abandon`.
+    ///
+    /// # Errors
+    ///
+    /// `OutOfMemory`; the text, and whether a member stands, are then as they were.
+    pub fn inner_list(&mut self) -> Result<InnerListSerializer<&mut ListSerializer<W>>, OutOfMemory>
+        ensures* out_of_memory { sem 𝓛 (PartsRest W.row list_members (KeepsParts W.Sink) self.entry
+            inner_list_name result) }
+        ensures lent { IfOk result (λ s. inner_list_name s ≡ self.entry.ghost_name) }
+        ensures version { IfOk result (λ s. parts_edition s ≡ parts_edition self.old) }
+        ensures text { IfOk result (λ s. HasNextPart W.Sink (codes ", ") self.old (parts_sink s).now
+            (codes "(") (has_no_part self.old)) }
+        ensures begins { IfOk result (λ s. (has_no_part s ≡ true)
+            × (length_before s ≡ string_len (W.text (parts_sink self.old)))) }
+    {
+        self.begin(Opening {})
+    }
+
+    /// Writes members, in their order, as `FieldType::serialize` writes them (RFC 9651, section 4.1.1).
+    ///
+    /// # Errors
+    ///
+    /// `Unsupported` at the first value that the version doesn't have, or `OutOfMemory`, and neither where no member is
+    /// given; the text, and whether a member stands, are then as they were.
+    pub fn members<'m, I: Iterator<Item = &'m ListEntry> + Drop>(
+        &mut self,
+        members: I,
+    ) -> Result<(), SerializeError>
+        requires can { I.can_next members }
+        requires ends { IsFinite (I.remaining members) }
+        ensures text { OnOk result ((taken : List _) × Drains I.next_gives members taken
+            × HasMoreParts W.Sink self.old self.new (entries_text (has_no_part self.old) taken)
+            (still_first (has_no_part self.old) taken)
+            × AreEntries taken × AllFit (parts_edition self.old) (values_of_entries taken)) }
+        ensures failed { IfErr result (FailsAmong I.next_gives members values_of_entries (parts_edition self.old)) }
+        ensures kept { OnErr result (KeepsParts W.Sink self.old self.new) }
+    {
+        self.append_each(members)
+    }
+}

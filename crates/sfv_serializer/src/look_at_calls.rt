@@ -1,0 +1,104 @@
+//! Looking at the values that calls of a script hand over, before the calls are performed.
+
+ghost use Rattle.std.specs.Prelude.{map, flat_map};
+ghost use Rattle.sfv_spec.specs.Values.{list_field, dictionary_field};
+ghost use Rattle.sfv_spec.specs.Events.{bare_values};
+ghost use Rattle.sfv_spec.specs.Calls.{handed_member};
+ghost use Rattle.sfv_bare.specs.BareItems.{edition_of};
+ghost use Rattle.sfv_serializer.specs.Scripts.{called_param, called_item, inner_list_calls, member_calls, handed_list};
+ghost use Rattle.sfv_serializer.specs.Scripts.{handed_dictionary};
+ghost use Rattle.sfv_serializer.specs.Versions.{LooksAt, values_of_parameters, values_of_item, values_of_member};
+
+use crate::look::look_at_bare_item;
+use crate::script::{ItemCalls, MemberCalls, ParamCall};
+use crate::serialize_error::SerializeError;
+use sfv_bare::bare::Version;
+use sfv_text::key_ref::KeyRef;
+
+/// Looks at parameters.
+fn look_at_param_calls(version: Version, calls: &[ParamCall<'_>]) -> Result<(), SerializeError>
+    ensures { LooksAt (edition_of version) (values_of_parameters (map called_param calls.now)) result }
+{
+    for call in calls {
+        look_at_bare_item(version, call.value)?;
+    }
+    Ok(())
+}
+
+/// Looks at an item, and then at its parameters.
+pub(crate) fn look_at_item_calls(
+    version: Version,
+    calls: &ItemCalls<'_>,
+) -> Result<(), SerializeError>
+    ensures { LooksAt (edition_of version) (values_of_item (called_item calls.now)) result }
+{
+    look_at_bare_item(version, calls.value)?;
+    look_at_param_calls(version, &calls.params)
+}
+
+/// Looks at the items of an inner list.
+fn look_at_items_calls(version: Version, items: &[ItemCalls<'_>]) -> Result<(), SerializeError>
+    ensures { LooksAt (edition_of version) (flat_map values_of_item (map called_item items.now)) result }
+{
+    for calls in items {
+        look_at_item_calls(version, calls)?;
+    }
+    Ok(())
+}
+
+/// Looks at an inner list: if it is abandoned, its parameters aren't handed over.
+fn look_at_inner_calls(
+    version: Version,
+    items: &[ItemCalls<'_>],
+    params: &[ParamCall<'_>],
+    abandon: bool,
+) -> Result<(), SerializeError>
+    ensures { LooksAt (edition_of version)
+        (values_of_member (handed_member (inner_list_calls items.now params.now abandon))) result }
+{
+    look_at_items_calls(version, items)?;
+    if abandon {
+        return Ok(());
+    }
+    look_at_param_calls(version, params)
+}
+
+/// Looks at a member.
+fn look_at_member_calls(version: Version, member: &MemberCalls<'_>) -> Result<(), SerializeError>
+    ensures { LooksAt (edition_of version) (values_of_member (handed_member (member_calls member.now))) result }
+{
+    match member {
+        MemberCalls::Item(item) => look_at_item_calls(version, item),
+        MemberCalls::InnerList {
+            items,
+            params,
+            abandon,
+        } => look_at_inner_calls(version, items, params, *abandon),
+    }
+}
+
+/// Looks at the members of a list.
+pub(crate) fn look_at_list_calls(
+    version: Version,
+    calls: &[MemberCalls<'_>],
+) -> Result<(), SerializeError>
+    ensures { LooksAt (edition_of version) (bare_values list_field (handed_list calls.now)) result }
+{
+    for member in calls {
+        look_at_member_calls(version, member)?;
+    }
+    Ok(())
+}
+
+/// Looks at the members of a dictionary.
+pub(crate) fn look_at_dictionary_calls(
+    version: Version,
+    calls: &[(KeyRef<'_>, MemberCalls<'_>)],
+) -> Result<(), SerializeError>
+    ensures { LooksAt (edition_of version) (bare_values dictionary_field (handed_dictionary calls.now)) result }
+{
+    for (_name, member) in calls {
+        look_at_member_calls(version, member)?;
+    }
+    Ok(())
+}

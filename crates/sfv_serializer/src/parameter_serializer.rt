@@ -1,0 +1,180 @@
+//! Writing parameters one by one (RFC 9651, section 4.1.1.2).
+
+ghost use Rattle.std.specs.Prelude.{◌≡◌, ◌∷◌, ◌++◌, [], List, IfOk, IfErr, IsTrue, string_bytes};
+ghost use Rattle.std.specs.Borrow.{sem};
+ghost use Rattle.std.specs.Iterator.{IsFinite, Drains};
+ghost use Rattle.sfv_spec.specs.Classes.{is_key};
+ghost use Rattle.sfv_spec.specs.Values.{IsBareValue, AreParameters};
+ghost use Rattle.sfv_spec.specs.Canonical.{parameters_text};
+ghost use Rattle.sfv_spec.specs.Calls.{AllFit};
+ghost use Rattle.sfv_bare.specs.BareItems.{ref_value, edition_of};
+ghost use Rattle.sfv_text.specs.KeyText.{key_text};
+ghost use Rattle.sfv_serializer.specs.Written.{param_text, lent_pairs};
+ghost use Rattle.sfv_serializer.specs.Versions.{LooksFirst, FailsAmong, values_of_pairs};
+ghost use Rattle.sfv_serializer.specs.Serializers.{TextRests, HoldsMore, params_sink, params_name, params_edition};
+ghost use Rattle.sfv_serializer.specs.Serializers.{PartsRest, KeepsParts, HasMoreParts, has_no_part};
+
+use crate::item::append_parameters;
+use crate::known::{is_a_key, is_a_value};
+use crate::look::look_at_bare_item;
+use crate::part::{Named, Parameter, append};
+use crate::parts::Parts;
+use crate::serialize_error::SerializeError;
+use crate::sink::Sink;
+use sfv_bare::bare::{BareItem, RefBareItem, Version};
+use sfv_text::key::Key;
+use sfv_text::key_ref::KeyRef;
+use std::string::String as StdString;
+
+/// Writes parameters after what they belong to (RFC 9651, section 4.1.1.2), into `X`: the text to which an item is
+/// written, or the serializer of which the item or the inner list is a part.
+///
+/// A key that is given twice is written twice. The serializer may be let go without `finish`.
+#[derive(Drop)]
+pub struct ParameterSerializer<'s, X> {
+    sink: &'s mut X,
+    version: Version,
+}
+
+impl<'s, X> ParameterSerializer<'s, X> {
+    /// Returns a serializer that writes after what stands there, and only values that this version has.
+    #[inline(always)]
+    pub(crate) fn new(sink: &'s mut X, version: Version) -> ParameterSerializer<'s, X>
+        ensures lent { (params_sink result).ghost_name ≡ sink.entry.ghost_name }
+        ensures text { (params_sink result).now ≡ sink.old }
+        ensures version { params_edition result ≡ edition_of version }
+    {
+        ParameterSerializer { sink, version }
+    }
+
+    /// Ends the writing: whoever lent the text has it back.
+    #[inline(always)]
+    pub fn finish(self)
+        ensures { self.exit.0.now ≡ (params_sink self.entry).now }
+    {
+        let ParameterSerializer {
+            sink: _,
+            version: _,
+        } = self;
+    }
+}
+
+impl<'s> ParameterSerializer<'s, StdString> {
+    /// Writes a parameter: a semicolon and the key, and unless the value is true an equals sign
+    /// and the value.
+    ///
+    /// # Errors
+    ///
+    /// `Unsupported` if the version doesn't have the value, else `OutOfMemory`; the text is then as it was before this
+    /// call.
+    #[inline(always)]
+    pub fn parameter(
+        self,
+        name: KeyRef<'_>,
+        value: RefBareItem<'_>,
+    ) -> Result<ParameterSerializer<'s, StdString>, SerializeError>
+        ensures* kept { sem 𝓛 (TextRests (params_sink self.entry) result) }
+        ensures lent { IfOk result (λ p. (params_sink p).ghost_name ≡ (params_sink self.entry).ghost_name) }
+        ensures version { IfOk result (λ p. params_edition p ≡ params_edition self.entry) }
+        ensures text { HoldsMore (params_sink self.entry)
+            (param_text (key_text name.entry) (ref_value value.entry)) result }
+        ensures looks { LooksFirst (params_edition self.entry) (ref_value value.entry ∷ []) result }
+        ensures is_key { IsTrue (is_key (key_text name.entry)) }
+        ensures is_value { IsBareValue (ref_value value.entry) }
+    {
+        let ParameterSerializer { sink, version } = self;
+        is_a_key(name);
+        is_a_value(value);
+        look_at_bare_item(version, value)?;
+        let named = Named { name, value };
+        append(Parameter { named }, sink)?;
+        Ok(ParameterSerializer { sink, version })
+    }
+
+    /// Writes parameters, in their order.
+    ///
+    /// # Errors
+    ///
+    /// `Unsupported` at the first value that the version doesn't have, or `OutOfMemory`, and neither where no parameter
+    /// is given; the text is then as it was before this call.
+    #[inline(always)]
+    pub fn parameters<'k, I: Iterator<Item = (&'k Key, &'k BareItem)> + Drop>(
+        self,
+        params: I,
+    ) -> Result<ParameterSerializer<'s, StdString>, SerializeError>
+        requires can { I.can_next params }
+        requires ends { IsFinite (I.remaining params) }
+        ensures* kept { sem 𝓛 (TextRests (params_sink self.entry) result) }
+        ensures lent { IfOk result (λ p. (params_sink p).ghost_name ≡ (params_sink self.entry).ghost_name) }
+        ensures version { IfOk result (λ p. params_edition p ≡ params_edition self.entry) }
+        ensures text { IfOk result (λ p. (pairs : List _) × Drains I.next_gives params pairs
+            × (string_bytes (params_sink p).now
+            ≡ string_bytes (params_sink self.entry).now ++ parameters_text (lent_pairs pairs))
+            × AreParameters (lent_pairs pairs) × AllFit (params_edition self.entry) (values_of_pairs pairs)) }
+        ensures failed { IfErr result (FailsAmong I.next_gives params values_of_pairs (params_edition self.entry)) }
+    {
+        let ParameterSerializer { sink, version } = self;
+        append_parameters(version, params, sink)?;
+        Ok(ParameterSerializer { sink, version })
+    }
+}
+
+impl<'s, W: Sink, K> ParameterSerializer<'s, Parts<W, K>> {
+    /// Writes a parameter: a semicolon and the key, and unless the value is true an equals sign
+    /// and the value.
+    ///
+    /// # Errors
+    ///
+    /// `Unsupported` if the version doesn't have the value, else `OutOfMemory`; the text is then as it was before this
+    /// call.
+    #[inline(always)]
+    pub fn parameter(
+        self,
+        name: KeyRef<'_>,
+        value: RefBareItem<'_>,
+    ) -> Result<ParameterSerializer<'s, Parts<W, K>>, SerializeError>
+        ensures* kept { sem 𝓛 (PartsRest W.row K.row (KeepsParts W.Sink) (params_sink self.entry) params_name result) }
+        ensures lent { IfOk result (λ p. params_name p ≡ params_name self.entry) }
+        ensures version { IfOk result (λ p. params_edition p ≡ params_edition self.entry) }
+        ensures text { IfOk result (λ p. HasMoreParts W.Sink (params_sink self.entry).now (params_sink p).now
+            (param_text (key_text name.entry) (ref_value value.entry)) (has_no_part (params_sink self.entry).now)) }
+        ensures looks { LooksFirst (params_edition self.entry) (ref_value value.entry ∷ []) result }
+        ensures is_key { IsTrue (is_key (key_text name.entry)) }
+        ensures is_value { IsBareValue (ref_value value.entry) }
+    {
+        let ParameterSerializer { sink, version } = self;
+        is_a_key(name);
+        is_a_value(value);
+        look_at_bare_item(version, value)?;
+        let named = Named { name, value };
+        append(Parameter { named }, sink.sink.text_mut())?;
+        Ok(ParameterSerializer { sink, version })
+    }
+
+    /// Writes parameters, in their order.
+    ///
+    /// # Errors
+    ///
+    /// `Unsupported` at the first value that the version doesn't have, or `OutOfMemory`, and neither where no parameter
+    /// is given; the text is then as it was before this call.
+    #[inline(always)]
+    pub fn parameters<'k, I: Iterator<Item = (&'k Key, &'k BareItem)> + Drop>(
+        self,
+        params: I,
+    ) -> Result<ParameterSerializer<'s, Parts<W, K>>, SerializeError>
+        requires can { I.can_next params }
+        requires ends { IsFinite (I.remaining params) }
+        ensures* kept { sem 𝓛 (PartsRest W.row K.row (KeepsParts W.Sink) (params_sink self.entry) params_name result) }
+        ensures lent { IfOk result (λ p. params_name p ≡ params_name self.entry) }
+        ensures version { IfOk result (λ p. params_edition p ≡ params_edition self.entry) }
+        ensures text { IfOk result (λ p. (pairs : List _) × Drains I.next_gives params pairs
+            × HasMoreParts W.Sink (params_sink self.entry).now (params_sink p).now (parameters_text (lent_pairs pairs))
+            (has_no_part (params_sink self.entry).now)
+            × AreParameters (lent_pairs pairs) × AllFit (params_edition self.entry) (values_of_pairs pairs)) }
+        ensures failed { IfErr result (FailsAmong I.next_gives params values_of_pairs (params_edition self.entry)) }
+    {
+        let ParameterSerializer { sink, version } = self;
+        append_parameters(version, params, sink.sink.text_mut())?;
+        Ok(ParameterSerializer { sink, version })
+    }
+}

@@ -1,0 +1,210 @@
+//! Parts of a field, and how one is appended whole, or not at all.
+#![tactic(auto, using(crate::proofs::Written::cut_to))]
+
+ghost use Rattle.std.specs.Prelude.{◌++◌, ⊤, ℕ, List, OnOk, IsTrue, codes, string_bytes};
+ghost use Rattle.sfv_spec.specs.Classes.{is_key, is_token};
+ghost use Rattle.sfv_spec.specs.Values.{IsBareValue};
+ghost use Rattle.sfv_spec.specs.Canonical.{bare_text};
+ghost use Rattle.sfv_bare.specs.BareItems.{ref_value};
+ghost use Rattle.sfv_text.specs.KeyText.{key_text};
+ghost use Rattle.sfv_text.specs.TokenText.{token_text};
+ghost use Rattle.sfv_serializer.specs.Written.{Appends, AppendsOrKeeps, IsCutBack, keyed_text, param_text, lead};
+
+use crate::item::{serialize_bare_item, serialize_key, serialize_token, serialize_value};
+use sfv_bare::bare::RefBareItem;
+use sfv_base::error::OutOfMemory;
+use sfv_text::key_ref::KeyRef;
+use sfv_text::token_ref::TokenRef;
+use std::alloc::Allocator;
+use std::string::String as StdString;
+
+/// What is appended at once.
+// All that appends a part is inlined, from the serializer's call to the text, but for the kinds of bare item that
+// `serialize_bare_item` calls: the part is then never put together in memory, and a member takes 40 instructions less.
+pub(crate) trait Part: Drop {
+    ghost text: { Self → List ℕ };
+
+    ghost is_valid: { Self → Type 0 };
+
+    /// Appends it.
+    fn serialize<A: Allocator>(self, output: &mut StdString<A>) -> Result<(), OutOfMemory>
+        ensures text { Appends output.old output.new (text self) result }
+        ensures valid { OnOk result (is_valid self) };
+}
+
+/// Takes away what stands after the first `len` bytes, which were the whole text once.
+pub(crate) fn cut_back<A: Allocator>(len: usize, output: &mut StdString<A>)
+    ensures { IsCutBack len (string_bytes output.old) (string_bytes output.new) }
+{
+    // What was a whole text ends between two characters; to ask is cheaper than to keep the proof.
+    if output.as_str().is_char_boundary(len) {
+        output.truncate(len);
+    }
+}
+
+/// Appends a part; out of memory, the output keeps its text.
+#[inline(always)]
+pub(crate) fn append<P: Part, A: Allocator>(
+    part: P,
+    output: &mut StdString<A>,
+) -> Result<(), OutOfMemory>
+    ensures text { AppendsOrKeeps output.old output.new (P.text part) result }
+    ensures valid { OnOk result (P.is_valid part) }
+{
+    let len = output.len();
+    if let Err(error) = part.serialize(output) {
+        cut_back(len, output);
+        return Err(error);
+    }
+    Ok(())
+}
+
+/// Appends the separator that stands in front of each part but the first.
+#[inline(always)]
+pub(crate) fn serialize_separator<A: Allocator>(
+    is_first: bool,
+    separator: &str,
+    output: &mut StdString<A>,
+) -> Result<(), OutOfMemory>
+    ensures { Appends output.old output.new (lead is_first separator.now) result }
+{
+    if is_first {
+        return Ok(());
+    }
+    // Two characters that are known when this is compiled take fewer instructions than the copy of a text.
+    match separator {
+        ", " => {
+            output.push(',')?;
+            output.push(' ')?;
+        }
+        " " => output.push(' ')?,
+        _ => output.push_str(separator)?,
+    }
+    Ok(())
+}
+
+/// A part, after the separator unless it is the first.
+#[derive(Drop)]
+pub(crate) struct Separated<P> {
+    pub(crate) is_first: bool,
+    pub(crate) separator: &'static str,
+    pub(crate) part: P,
+}
+
+impl<P: Part> Part for Separated<P> {
+    ghost text = { λ s. lead s.is_first s.separator.now ++ P.text s.part };
+
+    ghost is_valid = { λ s. P.is_valid s.part };
+
+    #[inline(always)]
+    fn serialize<A: Allocator>(self, output: &mut StdString<A>) -> Result<(), OutOfMemory> {
+        serialize_separator(self.is_first, self.separator, output)?;
+        self.part.serialize(output)
+    }
+}
+
+/// A bare item.
+#[derive(Drop)]
+pub(crate) struct Bare<'a> {
+    pub(crate) value: RefBareItem<'a>,
+}
+
+impl<'a> Part for Bare<'a> {
+    ghost text = { λ p. bare_text (ref_value p.value) };
+
+    ghost is_valid = { λ p. IsBareValue (ref_value p.value) };
+
+    #[inline(always)]
+    fn serialize<A: Allocator>(self, output: &mut StdString<A>) -> Result<(), OutOfMemory> {
+        serialize_bare_item(self.value, output)
+    }
+}
+
+/// A bare item that is a token.
+#[derive(Drop)]
+pub(crate) struct Word<'a> {
+    pub(crate) token: TokenRef<'a>,
+}
+
+impl<'a> Part for Word<'a> {
+    ghost text = { λ p. token_text p.token };
+
+    ghost is_valid = { λ p. IsTrue (is_token (token_text p.token)) };
+
+    #[inline(always)]
+    fn serialize<A: Allocator>(self, output: &mut StdString<A>) -> Result<(), OutOfMemory> {
+        serialize_token(self.token, output)
+    }
+}
+
+/// A member of a dictionary that is an item, without its parameters.
+#[derive(Drop)]
+pub(crate) struct Named<'a> {
+    pub(crate) name: KeyRef<'a>,
+    pub(crate) value: RefBareItem<'a>,
+}
+
+impl<'a> Part for Named<'a> {
+    ghost text = { λ p. keyed_text (key_text p.name) (ref_value p.value) };
+
+    ghost is_valid = { λ p. IsTrue (is_key (key_text p.name)) × IsBareValue (ref_value p.value) };
+
+    #[inline(always)]
+    fn serialize<A: Allocator>(self, output: &mut StdString<A>) -> Result<(), OutOfMemory> {
+        serialize_key(self.name, output)?;
+        serialize_value(self.value, output)
+    }
+}
+
+/// A parameter.
+#[derive(Drop)]
+pub(crate) struct Parameter<'a> {
+    pub(crate) named: Named<'a>,
+}
+
+impl<'a> Part for Parameter<'a> {
+    ghost text = { λ p. param_text (key_text p.named.name) (ref_value p.named.value) };
+
+    ghost is_valid = { λ p. IsTrue (is_key (key_text p.named.name)) × IsBareValue (ref_value p.named.value) };
+
+    #[inline(always)]
+    fn serialize<A: Allocator>(self, output: &mut StdString<A>) -> Result<(), OutOfMemory> {
+        output.push(';')?;
+        self.named.serialize(output)
+    }
+}
+
+/// The beginning of an inner list in a list.
+#[derive(Drop)]
+pub(crate) struct Opening {}
+
+impl Part for Opening {
+    ghost text = { λ _. codes "(" };
+
+    ghost is_valid = { λ _. ⊤ };
+
+    #[inline(always)]
+    fn serialize<A: Allocator>(self, output: &mut StdString<A>) -> Result<(), OutOfMemory> {
+        output.push('(')?;
+        Ok(())
+    }
+}
+
+/// The beginning of an inner list in a dictionary.
+#[derive(Drop)]
+pub(crate) struct NamedOpening<'a> {
+    pub(crate) name: KeyRef<'a>,
+}
+
+impl<'a> Part for NamedOpening<'a> {
+    ghost text = { λ p. key_text p.name ++ codes "=(" };
+
+    ghost is_valid = { λ p. IsTrue (is_key (key_text p.name)) };
+
+    #[inline(always)]
+    fn serialize<A: Allocator>(self, output: &mut StdString<A>) -> Result<(), OutOfMemory> {
+        serialize_key(self.name, output)?;
+        output.push_str("=(")?;
+        Ok(())
+    }
+}

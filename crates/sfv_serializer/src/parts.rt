@@ -1,0 +1,229 @@
+//! Writing parts one by one: the members of a list or a dictionary, or the items of an inner list (RFC 9651, sections
+//! 4.1.1, 4.1.1.1 and 4.1.2).
+
+ghost use Rattle.std.specs.Prelude.{◌≡◌, ◌∷◌, ◌↔◌, [], true, false, not, IsTrue, IsNone, IfSome, IfOk, IfErr, OnOk};
+ghost use Rattle.std.specs.Prelude.{OnErr, List, map, flat_map, string_bytes, string_len};
+ghost use Rattle.std.specs.List.{AllByRecursion};
+ghost use Rattle.std.specs.Borrow.{sem};
+ghost use Rattle.std.specs.Iterator.{IsFinite, Drains};
+ghost use Rattle.std.proofs.Common.{◌∙◌, refl};
+ghost use Rattle.sfv_spec.specs.Values.{rfc9651, IsBareValue};
+ghost use Rattle.sfv_spec.specs.Canonical.{bare_text};
+ghost use Rattle.sfv_spec.specs.Calls.{AllFit};
+ghost use Rattle.sfv_bare.specs.BareItems.{ref_value, edition_of};
+ghost use Rattle.sfv_serializer.specs.Written.{led, still_first};
+ghost use Rattle.sfv_serializer.specs.Versions.{LooksFirst, FailsAmong};
+ghost use Rattle.sfv_serializer.specs.Serializers.{SameParts, KeepsParts, HasMoreParts, HasNextPart, PartsRest, parts_sink};
+ghost use Rattle.sfv_serializer.specs.Serializers.{parts_edition, has_no_part, params_sink, params_name, params_edition};
+ghost use Rattle.sfv_serializer.specs.Serializers.{inner_list_name, length_before};
+
+use crate::element::{Element, append_each};
+use crate::inner_list_serializer::InnerListSerializer;
+use crate::kind::{InnerListItems, Kind, Members, Unnamed};
+use crate::known::is_a_value;
+use crate::look::look_at_bare_item;
+use crate::parameter_serializer::ParameterSerializer;
+use crate::part::{Bare, Part, Separated, Word, append};
+use crate::serialize_error::SerializeError;
+use crate::sink::Sink;
+use sfv_bare::bare::{GenericBareItem, RefBareItem, Version};
+use sfv_base::error::OutOfMemory;
+use std::string::String as StdString;
+
+/// Writes parts of the kind `K` one by one, at the end of what `W` is: `ListSerializer`, `DictSerializer` and
+/// `InnerListSerializer` are its names.
+///
+/// While a serializer holds a text, nobody else can read it. A serializer of a list or a dictionary that is dropped
+/// leaves what was written; that of an inner list can't be dropped.
+#[derive(Drop)]
+pub struct Parts<W, K> {
+    pub(crate) sink: W,
+    pub(crate) is_first: bool,
+    pub(crate) version: Version,
+    pub(crate) kind: K,
+}
+
+impl<'a, K: Members> Parts<&'a mut StdString, K> {
+    /// Returns a serializer that writes after what stands in the text, under RFC 9651.
+    pub fn with_buffer(buffer: &'a mut StdString) -> Parts<&'a mut StdString, K>
+        ensures lent { (parts_sink result).ghost_name ≡ buffer.entry.ghost_name }
+        ensures text { string_bytes (parts_sink result).now ≡ string_bytes buffer.old }
+        ensures none { has_no_part result ≡ true }
+        ensures version { parts_edition result ≡ rfc9651 }
+    {
+        Parts::with_buffer_for(buffer, Version::Rfc9651)
+    }
+
+    /// Returns a serializer that writes after what stands in the text, and only values that this version has.
+    pub fn with_buffer_for(
+        buffer: &'a mut StdString,
+        version: Version,
+    ) -> Parts<&'a mut StdString, K>
+        ensures lent { (parts_sink result).ghost_name ≡ buffer.entry.ghost_name }
+        ensures text { string_bytes (parts_sink result).now ≡ string_bytes buffer.old }
+        ensures none { has_no_part result ≡ true }
+        ensures version { parts_edition result ≡ edition_of version }
+    {
+        Parts {
+            sink: buffer,
+            is_first: true,
+            version,
+            kind: K::kind(),
+        }
+    }
+
+    /// Ends the writing, and returns the whole text that was lent, or `None` if no member stands: nothing is then to be
+    /// sent (RFC 9651, section 4.1).
+    ///
+    /// The text is left as it is. No clause says so, since none can be stated of a text that is returned as long as it
+    /// was lent: where a proof goes on with the text, it asks `has_member`, and lets the serializer go.
+    pub fn finish(self) -> Option<&'a str>
+        ensures none { IsNone result ↔ IsTrue (has_no_part self.entry) }
+        ensures text { IfSome result (λ text. text.now ≡ string_bytes (parts_sink self.entry).now) }
+    {
+        let Parts {
+            sink,
+            is_first,
+            version: _,
+            kind: _,
+        } = self;
+        if is_first {
+            return None;
+        }
+        Some(sink.as_str())
+    }
+}
+
+impl<W, K: Members> Parts<W, K> {
+    /// Returns whether a member stands, written by this serializer.
+    pub fn has_member(&self) -> bool
+        ensures { result ≡ not (has_no_part self.now) }
+    {
+        !self.is_first
+    }
+}
+
+impl<W: Sink, K: Kind> Parts<W, K> {
+    /// Appends a part, after the separator unless it is the first; out of memory, all is as it was.
+    #[inline(always)]
+    pub(crate) fn append<P: Part>(&mut self, part: P) -> Result<(), OutOfMemory>
+        ensures text { OnOk result
+            (HasNextPart W.Sink K.separator self.old self.new (P.text part) (has_no_part self.old)) }
+        ensures valid { OnOk result (P.is_valid part) }
+        ensures kept { OnErr result (KeepsParts W.Sink self.old self.new) }
+    {
+        let part = Separated {
+            is_first: self.is_first,
+            separator: K::separator(),
+            part,
+        };
+        append(part, self.sink.text_mut())
+    }
+
+    /// Appends the elements that an iterator gives and the version has; after an error, all is as it was.
+    pub(crate) fn append_each<E: Element, I: Iterator<Item = E> + Drop>(
+        &mut self,
+        elements: I,
+    ) -> Result<(), SerializeError>
+        requires can { I.can_next elements }
+        requires ends { IsFinite (I.remaining elements) }
+        ensures text { OnOk result ((taken : List _) × Drains I.next_gives elements taken
+            × HasMoreParts W.Sink self.old self.new (led (has_no_part self.old) K.separator (map E.text taken))
+            (still_first (has_no_part self.old) taken)
+            × AllByRecursion E.is_valid taken × AllFit (parts_edition self.old) (flat_map E.values taken)) }
+        ensures failed { IfErr result (FailsAmong I.next_gives elements (flat_map E.values) (parts_edition self.old)) }
+        ensures kept { OnErr result (KeepsParts W.Sink self.old self.new) }
+    {
+        let separator = K::separator();
+        let none = append_each(
+            self.version,
+            self.is_first,
+            separator,
+            elements,
+            self.sink.text_mut(),
+        )?;
+        self.is_first = none;
+        Ok(())
+    }
+
+    /// Begins an inner list.
+    pub(crate) fn begin<P: Part>(
+        &mut self,
+        opening: P,
+    ) -> Result<InnerListSerializer<&mut Parts<W, K>>, OutOfMemory>
+        ensures* out_of_memory { sem 𝓛 (PartsRest W.row K.row (KeepsParts W.Sink) self.entry inner_list_name result) }
+        ensures lent { IfOk result (λ s. inner_list_name s ≡ self.entry.ghost_name) }
+        ensures version { IfOk result (λ s. parts_edition s ≡ parts_edition self.old) }
+        ensures text { IfOk result (λ s. HasNextPart W.Sink K.separator self.old (parts_sink s).now
+            (P.text opening) (has_no_part self.old)) }
+        ensures begins { IfOk result (λ s. (has_no_part s ≡ true)
+            × (length_before s ≡ string_len (W.text (parts_sink self.old)))) }
+        ensures valid { OnOk result (P.is_valid opening) }
+    {
+        let len_before = self.sink.text_mut().len();
+        self.append(opening)?;
+        let version = self.version;
+        Ok(Parts {
+            sink: self,
+            is_first: true,
+            version,
+            kind: InnerListItems { len_before },
+        })
+    }
+}
+
+impl<W: Sink, K: Unnamed> Parts<W, K> {
+    /// Writes a member or an item of an inner list that is an item: its bare item, after the separator unless it is the
+    /// first (RFC 9651, section 4.1.3). Returns the serializer of its parameters.
+    ///
+    /// # Errors
+    ///
+    /// `Unsupported` if the version doesn't have the value, else `OutOfMemory`; the text, and whether a part stands, are
+    /// then as they were.
+    #[inline(always)]
+    pub fn bare_item(
+        &mut self,
+        bare_item: RefBareItem<'_>,
+    ) -> Result<ParameterSerializer<'_, Parts<W, K>>, SerializeError>
+        ensures* kept { sem 𝓛 (PartsRest W.row K.row (KeepsParts W.Sink) self.entry params_name result) }
+        ensures lent { IfOk result (λ p. params_name p ≡ self.entry.ghost_name) }
+        ensures version { IfOk result (λ p. params_edition p ≡ parts_edition self.old) }
+        ensures looks { LooksFirst (parts_edition self.old) (ref_value bare_item.entry ∷ []) result }
+        ensures text { IfOk result (λ p. HasNextPart W.Sink K.separator self.old (params_sink p).now
+            (bare_text (ref_value bare_item.entry)) false) }
+        ensures is_value { IsBareValue (ref_value bare_item.entry) }
+    {
+        is_a_value(bare_item);
+        look_at_bare_item(self.version, bare_item)?;
+        // A token has a part of its own, so that its kind is asked for once.
+        match bare_item {
+            GenericBareItem::Token(token) => self.append(Word { token })?,
+            _ => self.append(Bare { value: bare_item })?,
+        }
+        self.is_first = false;
+        let version = self.version;
+        Ok(ParameterSerializer::new(self, version))
+    }
+}
+
+impl<'s, W: Sink, K> Sink for &'s mut Parts<W, K> {
+    ghost text = { λ s. W.text s.now.sink };
+
+    ghost with_text = { λ s t. record s { now = record s.now { sink = W.with_text s.now.sink t } } };
+
+    ghost same = { SameParts W.Sink };
+
+    #[inline(always)]
+    fn text_mut(&mut self) -> &mut StdString {
+        self.sink.text_mut()
+    }
+
+    ghost text_of_with = { λ s t. W.text_of_with s.now.sink t };
+
+    ghost same_itself = { λ s. (refl, W.same_itself s.now.sink, refl, refl, refl) };
+
+    ghost same_with = { λ s t. (refl, W.same_with s.now.sink t, refl, refl, refl) };
+
+    ghost same_again = { λ r s t p q.
+        (q.0 ∙ p.0, W.same_again r.now.sink s.now.sink t.now.sink p.1 q.1, q.2 ∙ p.2, q.3 ∙ p.3, q.4 ∙ p.4) };
+}

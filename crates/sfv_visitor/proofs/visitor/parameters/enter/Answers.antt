@@ -1,0 +1,11 @@
+use Rattle.std.proofs.Common.{refl}
+use Rattle.sfv_tree.proofs.Entered.{pairs_tree-insert}
+use Rattle.sfv_visitor.proofs.visitor.parameters.enter.Goals as goal
+
+pub returns : goal.returns
+returns c = rw (
+  c.in_ok-insert.ensures.entries,
+  pairs_tree-insert,
+  c.in_ok-value.ensures.value,
+  c.in_ok-key.ensures,
+) refl

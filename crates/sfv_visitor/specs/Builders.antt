@@ -1,0 +1,236 @@
+-- What the builders of owned trees do with the events of a field.
+use Rattle.std.specs.Prelude.{ℕ, List, [], ◌∷◌, ◌++◌, Bool, true, false, ◌&&◌, ◌||◌, Option, Some, None, is_none, option_map}
+use Rattle.std.specs.Prelude.{bytes_eq}
+use Rattle.std.specs.Map.{lookup}
+use Rattle.indexmap.specs.IndexMap.{insert_entry, hasher_of}
+use Rattle.sfv_spec.specs.Values.{BareValue, RawItem, RawInnerList, RawMember, item, inner_list}
+use Rattle.sfv_spec.specs.Events.{TreeEvent, entry, keyed_entry, begins_item, begins_inner_list}
+use Rattle.sfv_spec.specs.Events.{bare_item, parameter, parameters_end, inner_list_end}
+use Rattle.sfv_bare.specs.BareItems.{is_text}
+use Rattle.sfv_tree.specs.Trees.{item_with, item_tree, inner_list_tree, list_tree, dictionary_tree}
+use Rattle.sfv_tree.specs.declared.hash_seed.HashSeed.{HashSeed}
+use Rattle.sfv_tree.specs.declared.parsed.Item.{Item}
+use Rattle.sfv_tree.specs.declared.parsed.InnerList.{InnerList}
+use Rattle.sfv_visitor.specs.declared.visitor.item_builder.ItemBuilder.{ItemBuilder}
+use Rattle.sfv_visitor.specs.declared.visitor.partial_member.PartialMember.{PartialMember}
+use Rattle.sfv_visitor.specs.declared.visitor.partial_member.Place.{Place}
+use Rattle.sfv_visitor.specs.declared.visitor.partial_member.Place.TheVariants as places
+use Rattle.sfv_visitor.specs.declared.visitor.list_builder.ListBuilder.{ListBuilder}
+use Rattle.sfv_visitor.specs.declared.visitor.dictionary_builder.DictionaryBuilder.{DictionaryBuilder}
+
+-- a key that is there keeps its place and takes the new value, and a new key goes last
+abbrev pub enters : RawItem → List ℕ → BareValue → RawItem
+enters i key value = record { bare = i.bare; parameters = insert_entry bytes_eq i.parameters key value }
+
+-- the place of a member's reading, with what is read of it: an item alone, or the items of an inner list so far and the
+-- item that is being read, or the whole inner list
+pub data MemberPlace : Type 0 where
+  begun : MemberPlace
+  item_head : MemberPlace
+  item_parameters : RawItem → MemberPlace
+  inner_items : RawInnerList → MemberPlace
+  inner_head : RawInnerList → MemberPlace
+  inner_parameters : RawInnerList → RawItem → MemberPlace
+  list_parameters : RawInnerList → MemberPlace
+  ended : RawMember → MemberPlace
+
+-- an item without parameters
+abbrev pub plain_item : BareValue → RawItem
+plain_item value = record { bare = value; parameters = [] }
+
+-- the inner list with this item last
+abbrev pub adds : RawInnerList → RawItem → RawInnerList
+adds l i = record { items = l.items ++ i ∷ []; parameters = l.parameters }
+
+-- the inner list with this parameter entered
+abbrev pub enters_list : RawInnerList → List ℕ → BareValue → RawInnerList
+enters_list l key value = record { items = l.items; parameters = insert_entry bytes_eq l.parameters key value }
+
+-- the place after an event; every other event changes nothing
+abbrev pub member_step : MemberPlace → TreeEvent → MemberPlace
+member_step begun begins_item = item_head
+member_step begun begins_inner_list = inner_items (record { items = []; parameters = [] })
+member_step item_head (bare_item value) = item_parameters (plain_item value)
+member_step (item_parameters i) (parameter key value) = item_parameters (enters i key value)
+member_step (item_parameters i) parameters_end = ended (item i)
+member_step (inner_items l) begins_item = inner_head l
+member_step (inner_items l) inner_list_end = list_parameters l
+member_step (inner_head l) (bare_item value) = inner_parameters l (plain_item value)
+member_step (inner_parameters l i) (parameter key value) = inner_parameters l (enters i key value)
+member_step (inner_parameters l i) parameters_end = inner_items (adds l i)
+member_step (list_parameters l) (parameter key value) = list_parameters (enters_list l key value)
+member_step (list_parameters l) parameters_end = ended (inner_list l)
+member_step p e = p
+
+-- an event takes memory here: a text, which is copied where it is borrowed; a parameter, with its key; and the end of
+-- an inner list's item, which goes into the list. A byte sequence is moved, and so is a text that is owned (`is_moved`);
+-- an event out of its place takes none
+abbrev pub takes_memory : MemberPlace → TreeEvent → Bool
+takes_memory item_head (bare_item value) = is_text value
+takes_memory (item_parameters i) (parameter key value) = true
+takes_memory (inner_head l) (bare_item value) = is_text value
+takes_memory (inner_parameters l i) (parameter key value) = true
+takes_memory (inner_parameters l i) parameters_end = true
+takes_memory (list_parameters l) (parameter key value) = true
+takes_memory p e = false
+
+abbrev pub has_ended : MemberPlace → Bool
+has_ended (ended m) = true
+has_ended p = false
+
+-- the item that is being read of a member: its own, or one of its inner list
+abbrev pub item_of : PartialMember → Option RawItem
+item_of m = option_map (λ value. item_with value m.params.entries) m.bare_item
+
+-- the place of what is read of a member: of an item of its own, or of one of an inner list, or between the items of one
+abbrev pub shown : Place → Option RawItem → Option InnerList → MemberPlace
+shown p (Some i) None = item_parameters i
+shown p (Some i) (Some l) = inner_parameters (inner_list_tree l) i
+shown places.Begun None (Some l) = inner_items (inner_list_tree l)
+shown places.Head None (Some l) = inner_head (inner_list_tree l)
+shown places.Params None (Some l) = list_parameters (inner_list_tree l)
+shown places.Head None None = item_head
+shown p None None = begun
+
+abbrev pub member_place : PartialMember → MemberPlace
+member_place m = shown m.place (item_of m) m.inner
+
+-- the seed of the parameters that are made next
+abbrev pub member_seed : PartialMember → HashSeed
+member_seed m = hasher_of m.params
+
+-- the member that is read, once it is whole
+abbrev pub whole_member : Option RawItem → Option InnerList → Option RawMember
+whole_member i (Some l) = Some (inner_list (inner_list_tree l))
+whole_member i None = option_map item i
+
+abbrev pub whole_of : PartialMember → Option RawMember
+whole_of m = whole_member (item_of m) m.inner
+
+abbrev pub ended_with : Option RawMember → MemberPlace
+ended_with (Some m) = ended m
+ended_with None = begun
+
+-- the place of a member that is whole
+abbrev pub ended_member : PartialMember → MemberPlace
+ended_member m = ended_with (whole_of m)
+
+-- the place after a step that tells whether the member is whole
+abbrev pub place_after : Bool → PartialMember → MemberPlace
+place_after true m = ended_member m
+place_after false m = member_place m
+
+-- the place of an item's builder, which reads the item as a member is read: before its bare item, among its
+-- parameters, or after them; an event out of its place changes nothing
+abbrev pub ItemPlace : Type 0
+ItemPlace = MemberPlace
+
+abbrev pub at_head : ItemPlace
+at_head = item_head
+
+abbrev pub at_parameters : RawItem → ItemPlace
+at_parameters i = item_parameters i
+
+abbrev pub at_end : RawItem → ItemPlace
+at_end i = ended (item i)
+
+-- the place after an event
+abbrev pub item_step : ItemPlace → TreeEvent → ItemPlace
+item_step p e = member_step p e
+
+abbrev pub item_so_far : Bool → Option Item → ItemPlace
+item_so_far is_whole None = at_head
+item_so_far false (Some i) = at_parameters (item_tree i)
+item_so_far true (Some i) = at_end (item_tree i)
+
+-- the place of a builder, with the item so far
+abbrev pub item_place : ItemBuilder → ItemPlace
+item_place b = item_so_far b.is_whole b.item
+
+-- the seed under which a builder builds
+abbrev pub item_seed : ItemBuilder → HashSeed
+item_seed b = b.seed
+
+-- the place of a list's builder, with the members that are whole: between two members, or within one
+pub data ListPlace : Type 0 where
+  between : List RawMember → ListPlace
+  within : List RawMember → MemberPlace → ListPlace
+
+-- a member that has ended goes last into the list
+abbrev pub settle : List RawMember → MemberPlace → ListPlace
+settle ms (ended m) = between (ms ++ m ∷ [])
+settle ms p = within ms p
+
+-- the place after an event; every other event changes nothing
+abbrev pub list_step : ListPlace → TreeEvent → ListPlace
+list_step (between ms) entry = within ms begun
+list_step (between ms) e = between ms
+list_step (within ms p) e = settle ms (member_step p e)
+
+-- an event takes memory here: where it does within the member, and where the member ends and goes into the list; no
+-- builder stands within a member that has ended
+abbrev pub list_takes_memory : ListPlace → TreeEvent → Bool
+list_takes_memory (between ms) e = false
+list_takes_memory (within ms p) e = takes_memory p e || has_ended (member_step p e)
+
+-- the members that are whole
+abbrev pub list_members : ListPlace → List RawMember
+list_members (between ms) = ms
+list_members (within ms p) = ms
+
+abbrev pub place_among : List RawMember → Bool → PartialMember → ListPlace
+place_among ms false m = between ms
+place_among ms true m = within ms (member_place m)
+
+-- the place of a builder, with the list so far
+abbrev pub list_place : ListBuilder → ListPlace
+list_place b = place_among (list_tree b.list.items) b.is_within b.member
+
+abbrev pub list_seed : ListBuilder → HashSeed
+list_seed b = member_seed b.member
+
+-- the place of a dictionary's builder, with the pairs that are whole: between two of them, or within the member of a
+-- key
+pub data DictionaryPlace : Type 0 where
+  between_pairs : List (List ℕ × RawMember) → DictionaryPlace
+  within_pair : List (List ℕ × RawMember) → List ℕ → MemberPlace → DictionaryPlace
+
+-- a member that has ended is entered: a key that is there keeps its place and takes the new member whole, and a new key
+-- goes last
+abbrev pub settle_pair : List (List ℕ × RawMember) → List ℕ → MemberPlace → DictionaryPlace
+settle_pair ms key (ended m) = between_pairs (insert_entry bytes_eq ms key m)
+settle_pair ms key p = within_pair ms key p
+
+-- the place after an event; every other event changes nothing
+abbrev pub dictionary_step : DictionaryPlace → TreeEvent → DictionaryPlace
+dictionary_step (between_pairs ms) (keyed_entry key) = within_pair ms key begun
+dictionary_step (between_pairs ms) e = between_pairs ms
+dictionary_step (within_pair ms key p) e = settle_pair ms key (member_step p e)
+
+-- a member that has ended takes memory where its key is new: a key that is there has its room
+abbrev pub settle_takes_memory : List (List ℕ × RawMember) → List ℕ → MemberPlace → Bool
+settle_takes_memory ms key p = has_ended p && is_none (lookup (bytes_eq key) ms)
+
+-- an event takes memory here: a key, which is copied; and within the member of a key, where it does there, and where
+-- the member ends and is entered
+abbrev pub dictionary_takes_memory : DictionaryPlace → TreeEvent → Bool
+dictionary_takes_memory (between_pairs ms) (keyed_entry key) = true
+dictionary_takes_memory (between_pairs ms) e = false
+dictionary_takes_memory (within_pair ms key p) e = takes_memory p e || settle_takes_memory ms key (member_step p e)
+
+-- the pairs that are whole
+abbrev pub dictionary_members : DictionaryPlace → List (List ℕ × RawMember)
+dictionary_members (between_pairs ms) = ms
+dictionary_members (within_pair ms key p) = ms
+
+abbrev pub place_among_pairs : List (List ℕ × RawMember) → Option (List ℕ) → PartialMember → DictionaryPlace
+place_among_pairs ms None m = between_pairs ms
+place_among_pairs ms (Some key) m = within_pair ms key (member_place m)
+
+-- the place of a builder, with the dictionary so far
+abbrev pub dictionary_place : DictionaryBuilder → DictionaryPlace
+dictionary_place b = place_among_pairs (dictionary_tree b.dictionary.entries) b.key b.member
+
+-- the seed of a builder is that of its dictionary, which its parameters have too
+abbrev pub dictionary_seed : DictionaryBuilder → HashSeed
+dictionary_seed b = member_seed b.member

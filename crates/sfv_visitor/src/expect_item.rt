@@ -1,0 +1,276 @@
+//! A visitor that keeps a bare item of one type.
+
+ghost use Rattle.std.specs.Prelude.{◌≡◌, ⊤, Some, None, IfOk, IfErr, IsTrue};
+ghost use Rattle.sfv_spec.specs.Values as values;
+ghost use Rattle.sfv_spec.specs.Values.{BareValue};
+ghost use Rattle.sfv_base.specs.Numbers.{integer_of, thousandths_of, seconds_of};
+ghost use Rattle.sfv_text.specs.TokenText.{token_text};
+ghost use Rattle.sfv_bare.specs.BareItems.{read_text, bare_value, input_value, is_borrowed};
+ghost use Rattle.sfv_bare.specs.declared.bare.GenericBareItem.TheVariants as bare;
+ghost use Rattle.sfv_bare.specs.declared.bare.BareItemType.TheVariants as kinds;
+ghost use Rattle.sfv_visitor.specs.declared.visitor.ItemFault.{ItemFault};
+ghost use Rattle.sfv_visitor.specs.declared.visitor.ItemFault.TheVariants as faults;
+ghost use Rattle.sfv_bare.specs.Kinds.{kind_of_value};
+ghost use Rattle.sfv_visitor.specs.Given.{IsWrongType, LacksMemory, item_kept, KeepTakes, KeepFails};
+ghost use Rattle.sfv_visitor.specs.Given.{ReadBareItem, KeepTakesRead, KeepFailsRead};
+
+use crate::visitor::{BareItemType, Event, ItemFault, Visitor};
+use sfv_bare::bare::{BareItem, BareItemFromInput, GenericBareItem, StringFromInput};
+use sfv_base::date::Date;
+use sfv_base::decimal::Decimal;
+use sfv_base::error::OutOfMemory;
+use sfv_base::integer::Integer;
+use sfv_text::token_ref::TokenRef;
+use std::alloc::Global;
+
+/// A type that holds a bare item, of one kind or of every kind.
+pub trait ExpectedItem<'de>: Drop {
+    /// The bare value that it holds.
+    ghost holds: { Self → BareValue };
+
+    /// It may fail at a bare item of this value, with this fault.
+    ghost fails: { BareValue → ItemFault → Type 0 };
+
+    /// It is what is made of this bare item, of which a text may be borrowed or owned.
+    ghost is_of: { Self → ReadBareItem → Type 0 };
+
+    /// It may fail at this bare item, with this fault. It says no more than `fails`, where nothing else is said.
+    ghost fails_read: { ReadBareItem → ItemFault → Type 0 } = { λ _ _. ⊤ };
+
+    /// Returns the type's value that holds the bare item. What is copied of it takes memory from `alloc`.
+    ///
+    /// # Errors
+    ///
+    /// `ItemFault::WrongType` if the type is for another kind, and `ItemFault::OutOfMemory` when out of memory.
+    fn from_bare_item(item: BareItemFromInput<'de>, alloc: Global) -> Result<Self, ItemFault>
+        ensures held { IfOk result (λ kept. holds kept ≡ input_value item.entry) }
+        ensures same { IfOk result (λ kept. is_of kept item.entry) }
+        ensures failed { IfErr result (λ fault. fails (input_value item.entry) fault) }
+        ensures failed_read { IfErr result (λ fault. fails_read item.entry fault) };
+}
+
+// Returns the kind of the bare item.
+fn type_of(item: &BareItemFromInput<'_>) -> BareItemType
+    ensures { result ≡ kind_of_value (input_value item.now) }
+{
+    match item {
+        GenericBareItem::Decimal(_) => BareItemType::Decimal,
+        GenericBareItem::Integer(_) => BareItemType::Integer,
+        GenericBareItem::String(_) => BareItemType::String,
+        GenericBareItem::ByteSequence(_) => BareItemType::ByteSequence,
+        GenericBareItem::Boolean(_) => BareItemType::Boolean,
+        GenericBareItem::Token(_) => BareItemType::Token,
+        GenericBareItem::Date(_) => BareItemType::Date,
+        GenericBareItem::DisplayString(_) => BareItemType::DisplayString,
+    }
+}
+
+// Returns the fault of a bare item that is of another kind.
+fn wrong_type(expected: BareItemType, item: &BareItemFromInput<'_>) -> ItemFault
+    ensures { result ≡ faults.WrongType expected (kind_of_value (input_value item.now)) }
+{
+    ItemFault::WrongType {
+        expected,
+        got: type_of(item),
+    }
+}
+
+impl<'de> ExpectedItem<'de> for Decimal {
+    ghost holds = { λ value. values.decimal (thousandths_of value) };
+
+    ghost fails = { IsWrongType kinds.Decimal };
+
+    ghost is_of = { λ value item. item ≡ bare.Decimal value };
+
+    fn from_bare_item(item: BareItemFromInput<'de>, _alloc: Global) -> Result<Decimal, ItemFault> {
+        match item {
+            GenericBareItem::Decimal(value) => Ok(value),
+            other => Err(wrong_type(BareItemType::Decimal, &other)),
+        }
+    }
+}
+
+impl<'de> ExpectedItem<'de> for Integer {
+    ghost holds = { λ value. values.integer (integer_of value) };
+
+    ghost fails = { IsWrongType kinds.Integer };
+
+    ghost is_of = { λ value item. item ≡ bare.Integer value };
+
+    fn from_bare_item(item: BareItemFromInput<'de>, _alloc: Global) -> Result<Integer, ItemFault> {
+        match item {
+            GenericBareItem::Integer(value) => Ok(value),
+            other => Err(wrong_type(BareItemType::Integer, &other)),
+        }
+    }
+}
+
+impl<'de> ExpectedItem<'de> for StringFromInput<'de> {
+    ghost holds = { λ text. values.string (read_text text) };
+
+    ghost fails = { IsWrongType kinds.String };
+
+    ghost is_of = { λ text item. item ≡ bare.String text };
+
+    fn from_bare_item(
+        item: BareItemFromInput<'de>,
+        _alloc: Global,
+    ) -> Result<StringFromInput<'de>, ItemFault> {
+        match item {
+            GenericBareItem::String(text) => Ok(text),
+            other => Err(wrong_type(BareItemType::String, &other)),
+        }
+    }
+}
+
+impl<'de> ExpectedItem<'de> for Vec<u8> {
+    ghost holds = { λ bytes. values.byte_sequence bytes.items };
+
+    ghost fails = { IsWrongType kinds.ByteSequence };
+
+    ghost is_of = { λ bytes item. item ≡ bare.ByteSequence bytes };
+
+    fn from_bare_item(item: BareItemFromInput<'de>, _alloc: Global) -> Result<Vec<u8>, ItemFault> {
+        match item {
+            GenericBareItem::ByteSequence(bytes) => Ok(bytes),
+            other => Err(wrong_type(BareItemType::ByteSequence, &other)),
+        }
+    }
+}
+
+impl<'de> ExpectedItem<'de> for bool {
+    ghost holds = { λ value. values.boolean value };
+
+    ghost fails = { IsWrongType kinds.Boolean };
+
+    ghost is_of = { λ value item. item ≡ bare.Boolean value };
+
+    fn from_bare_item(item: BareItemFromInput<'de>, _alloc: Global) -> Result<bool, ItemFault> {
+        match item {
+            GenericBareItem::Boolean(value) => Ok(value),
+            other => Err(wrong_type(BareItemType::Boolean, &other)),
+        }
+    }
+}
+
+impl<'de> ExpectedItem<'de> for TokenRef<'de> {
+    ghost holds = { λ token. values.token (token_text token) };
+
+    ghost fails = { IsWrongType kinds.Token };
+
+    ghost is_of = { λ token item. item ≡ bare.Token token };
+
+    fn from_bare_item(
+        item: BareItemFromInput<'de>,
+        _alloc: Global,
+    ) -> Result<TokenRef<'de>, ItemFault> {
+        match item {
+            GenericBareItem::Token(token) => Ok(token),
+            other => Err(wrong_type(BareItemType::Token, &other)),
+        }
+    }
+}
+
+impl<'de> ExpectedItem<'de> for Date {
+    ghost holds = { λ value. values.date (seconds_of value) };
+
+    ghost fails = { IsWrongType kinds.Date };
+
+    ghost is_of = { λ value item. item ≡ bare.Date value };
+
+    fn from_bare_item(item: BareItemFromInput<'de>, _alloc: Global) -> Result<Date, ItemFault> {
+        match item {
+            GenericBareItem::Date(value) => Ok(value),
+            other => Err(wrong_type(BareItemType::Date, &other)),
+        }
+    }
+}
+
+impl<'de> ExpectedItem<'de> for BareItemFromInput<'de> {
+    ghost holds = { λ item. input_value item };
+
+    ghost fails = { λ _ _. ⊥ };
+
+    ghost is_of = { λ kept item. kept ≡ item };
+
+    fn from_bare_item(
+        item: BareItemFromInput<'de>,
+        _alloc: Global,
+    ) -> Result<BareItemFromInput<'de>, ItemFault> {
+        Ok(item)
+    }
+}
+
+impl<'de> ExpectedItem<'de> for BareItem {
+    ghost holds = { λ item. bare_value item };
+
+    ghost fails = { LacksMemory };
+
+    ghost is_of = { λ kept item. bare_value kept ≡ input_value item };
+
+    ghost fails_read = { λ item _. IsTrue (is_borrowed item) };
+
+    fn from_bare_item(item: BareItemFromInput<'de>, alloc: Global) -> Result<BareItem, ItemFault> {
+        match item.try_into_owned(alloc) {
+            Ok(owned) => Ok(owned),
+            Err(OutOfMemory) => Err(ItemFault::OutOfMemory),
+        }
+    }
+}
+
+/// Keeps the first bare item, and answers it.
+///
+/// It fails at the first bare item with `ItemFault::WrongType` if that is of another kind than `T`'s, and with
+/// `ItemFault::OutOfMemory` where a `BareItem` copies a text that is borrowed and is out of memory. It fails at the end
+/// with `ItemFault::NoItem` if no bare item came. Every other event changes nothing.
+///
+/// It is for one item. Of a repeated key of a dictionary it would be told of each member, and keep the first bare item
+/// of all, where the last member counts.
+#[derive(Drop)]
+pub struct ExpectItem<T> {
+    alloc: Global,
+    kept: Option<T>,
+}
+
+impl<T> ExpectItem<T> {
+    /// Returns the visitor before any event. What it copies takes memory from `alloc`.
+    pub fn new(alloc: Global) -> ExpectItem<T>
+        ensures { item_kept result ≡ None }
+    {
+        ExpectItem { alloc, kept: None }
+    }
+}
+
+impl<'de, T: ExpectedItem<'de>> Visitor<'de> for ExpectItem<T> {
+    type Out = T;
+
+    type Error = ItemFault;
+
+    ghost takes = { KeepTakes T.holds };
+
+    ghost fails = { KeepFails T.fails };
+
+    ghost takes_read = { KeepTakesRead T.is_of };
+
+    ghost fails_read = { KeepFailsRead T.fails_read };
+
+    ghost finishes = { λ s item. item_kept s ≡ Some item };
+
+    ghost finish_fails = { λ s fault. (item_kept s ≡ None) × (fault ≡ faults.NoItem) };
+
+    ghost is_memory = { λ fault. fault ≡ faults.OutOfMemory };
+
+    fn event(&mut self, event: Event<'de>) -> Result<(), ItemFault> {
+        let Event::BareItem(item) = event else {
+            return Ok(());
+        };
+        if self.kept.is_none() {
+            self.kept = Some(T::from_bare_item(item, self.alloc)?);
+        }
+        Ok(())
+    }
+
+    fn finish(self) -> Result<T, ItemFault> {
+        self.kept.ok_or(ItemFault::NoItem)
+    }
+}

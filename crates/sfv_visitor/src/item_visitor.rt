@@ -1,0 +1,110 @@
+//! A visitor that calls a function on a bare item.
+
+ghost use Rattle.std.specs.Prelude.{◌≡◌, ⊤, Some, None, MatchOption};
+ghost use Rattle.sfv_visitor.specs.Given.{function_waiting, answer_kept, CallTakes, CallFails};
+ghost use Rattle.sfv_visitor.specs.Given.{CallTakesRead, CallFailsRead};
+
+use crate::visitor::{Event, Visitor};
+use sfv_bare::bare::BareItemFromInput;
+use std::marker::PhantomData;
+
+/// Says which errors of a function mean that it was out of memory.
+pub trait MemoryErrors<E>: Drop {
+    /// The error says that the function was out of memory.
+    ghost is_memory: { E → Type 0 };
+}
+
+/// No error means that a function was out of memory.
+#[derive(Drop)]
+pub struct NoMemoryError;
+
+impl<E> MemoryErrors<E> for NoMemoryError {
+    ghost is_memory = { λ _. ⊥ };
+}
+
+/// Calls a function once, on the first bare item, and answers what it gave, or `None` if no bare item came.
+///
+/// It fails where the function does, at that event. Every other event changes nothing. `M` says which errors of the
+/// function mean that it was out of memory.
+///
+/// It is for one item. Of a repeated key of a dictionary it would be told of each member, and call the function on the
+/// first bare item of all, where the last member counts.
+#[derive(Drop)]
+pub struct ItemVisitorWith<F, T, M = NoMemoryError> {
+    // The function, until it is called.
+    f: Option<F>,
+    kept: Option<T>,
+    memory: PhantomData<M>,
+}
+
+/// Returns the visitor that calls `f` on the first bare item. `f` may be called on every bare item.
+pub fn item_visitor_with<'de, T, E, F: FnOnce(BareItemFromInput<'de>) -> Result<T, E>>(
+    f: F,
+) -> ItemVisitorWith<F, T>
+    requires { F.IsAlwaysCallable f }
+    ensures waiting { function_waiting result ≡ Some f }
+    ensures kept { answer_kept result ≡ None }
+{
+    ItemVisitorWith {
+        f: Some(f),
+        kept: None,
+        memory: PhantomData,
+    }
+}
+
+impl<F, T, M> ItemVisitorWith<F, T, M> {
+    /// Returns the same visitor, with another word `N` on which errors of the function mean that it was out of memory.
+    pub fn with_memory_errors<N>(self) -> ItemVisitorWith<F, T, N>
+        ensures waiting { function_waiting result ≡ function_waiting self }
+        ensures kept { answer_kept result ≡ answer_kept self }
+    {
+        let ItemVisitorWith { f, kept, memory: _ } = self;
+        ItemVisitorWith {
+            f,
+            kept,
+            memory: PhantomData,
+        }
+    }
+}
+
+impl<
+    'de,
+    T: Drop,
+    E: Drop,
+    F: FnOnce(BareItemFromInput<'de>) -> Result<T, E> + Drop,
+    M: MemoryErrors<E>,
+> Visitor<'de> for ItemVisitorWith<F, T, M> {
+    type Out = Option<T>;
+
+    type Error = E;
+
+    ghost is_ready = { λ s. MatchOption (function_waiting s) ⊤ F.IsAlwaysCallable };
+
+    ghost takes = { CallTakes F.post };
+
+    ghost fails = { CallFails F.post };
+
+    ghost takes_read = { CallTakesRead F.post };
+
+    ghost fails_read = { CallFailsRead F.post };
+
+    ghost finishes = { λ s out. out ≡ answer_kept s };
+
+    ghost finish_fails = { λ _ _. ⊥ };
+
+    ghost is_memory = { M.is_memory };
+
+    fn event(&mut self, event: Event<'de>) -> Result<(), E> {
+        let Event::BareItem(item) = event else {
+            return Ok(());
+        };
+        if let Some(f) = self.f.take() {
+            self.kept = Some(f(item)?);
+        }
+        Ok(())
+    }
+
+    fn finish(self) -> Result<Option<T>, E> {
+        Ok(self.kept)
+    }
+}

@@ -1,0 +1,96 @@
+//! The visitor of a type: what reads a field into a value of that type.
+
+ghost use Rattle.std.specs.Prelude.{◌≡◌, [], None};
+ghost use Rattle.sfv_tree.specs.declared.hash_seed.HashSeed.{HashSeed};
+ghost use Rattle.sfv_visitor.specs.Builders.{item_place, item_seed, at_head, list_place, list_seed, between};
+ghost use Rattle.sfv_visitor.specs.Builders.{dictionary_place, dictionary_seed, between_pairs};
+ghost use Rattle.sfv_visitor.specs.Given.{item_kept};
+
+use crate::expect_item::{ExpectItem, ExpectedItem};
+use crate::visitor::{DictionaryBuilder, ItemBuilder, ListBuilder, Visitor};
+use sfv_tree::hash_seed::HashSeed;
+use sfv_tree::parsed::{Dictionary, Item, List};
+use std::alloc::Global;
+
+/// A type with a visitor that reads an item into it.
+pub trait MakeItemVisitor<'de>: Drop {
+    /// The visitor.
+    type Visitor: Visitor<'de, Out = Self>;
+
+    /// The visitor is as it is made under this seed, before any event.
+    ghost is_made: { HashSeed → Self.Visitor → Type 0 };
+
+    /// Returns the visitor before any event, which takes memory from `alloc`, and builds maps under `seed`.
+    fn make_item_visitor(alloc: Global, seed: HashSeed) -> Self::Visitor
+        ensures made { is_made seed result }
+        ensures ready { Self.Visitor.is_ready result };
+}
+
+/// A type with a visitor that reads a list into it.
+pub trait MakeListVisitor<'de>: Drop {
+    /// The visitor.
+    type Visitor: Visitor<'de, Out = Self>;
+
+    /// The visitor is as it is made under this seed, before any event.
+    ghost is_made: { HashSeed → Self.Visitor → Type 0 };
+
+    /// Returns the visitor before any event, which takes memory from `alloc`, and builds maps under `seed`.
+    fn make_list_visitor(alloc: Global, seed: HashSeed) -> Self::Visitor
+        ensures made { is_made seed result }
+        ensures ready { Self.Visitor.is_ready result };
+}
+
+/// A type with a visitor that reads a dictionary into it.
+pub trait MakeDictionaryVisitor<'de>: Drop {
+    /// The visitor.
+    type Visitor: Visitor<'de, Out = Self>;
+
+    /// The visitor is as it is made under this seed, before any event.
+    ghost is_made: { HashSeed → Self.Visitor → Type 0 };
+
+    /// Returns the visitor before any event, which takes memory from `alloc`, and builds maps under `seed`.
+    fn make_dictionary_visitor(alloc: Global, seed: HashSeed) -> Self::Visitor
+        ensures made { is_made seed result }
+        ensures ready { Self.Visitor.is_ready result };
+}
+
+impl<'de> MakeItemVisitor<'de> for Item {
+    type Visitor = ItemBuilder;
+
+    ghost is_made = { λ seed visitor. (item_place visitor ≡ at_head) × (item_seed visitor ≡ seed) };
+
+    fn make_item_visitor(alloc: Global, seed: HashSeed) -> ItemBuilder {
+        ItemBuilder::new(alloc, seed)
+    }
+}
+
+impl<'de, T: ExpectedItem<'de>> MakeItemVisitor<'de> for T {
+    type Visitor = ExpectItem<T>;
+
+    ghost is_made = { λ _ visitor. item_kept visitor ≡ None };
+
+    fn make_item_visitor(alloc: Global, _seed: HashSeed) -> ExpectItem<T> {
+        ExpectItem::new(alloc)
+    }
+}
+
+impl<'de> MakeListVisitor<'de> for List {
+    type Visitor = ListBuilder;
+
+    ghost is_made = { λ seed visitor. (list_place visitor ≡ between []) × (list_seed visitor ≡ seed) };
+
+    fn make_list_visitor(alloc: Global, seed: HashSeed) -> ListBuilder {
+        ListBuilder::new(List::new(alloc), seed)
+    }
+}
+
+impl<'de> MakeDictionaryVisitor<'de> for Dictionary {
+    type Visitor = DictionaryBuilder;
+
+    ghost is_made = { λ seed visitor.
+        (dictionary_place visitor ≡ between_pairs []) × (dictionary_seed visitor ≡ seed) };
+
+    fn make_dictionary_visitor(alloc: Global, seed: HashSeed) -> DictionaryBuilder {
+        DictionaryBuilder::new(Dictionary::with_hasher(alloc, seed))
+    }
+}

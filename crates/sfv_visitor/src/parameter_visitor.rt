@@ -1,0 +1,79 @@
+//! A visitor whose answer goes through a function.
+
+ghost use Rattle.std.specs.Prelude.{◌≡◌, ◌⊎◌, Ok, Err};
+ghost use Rattle.sfv_visitor.specs.Given.{visitor_within, function_after, ForwardTakes, ForwardTakesRead};
+ghost use Rattle.sfv_visitor.specs.Given.{GivesAfter};
+
+use crate::visitor::{Event, Visitor};
+use std::marker::PhantomData;
+
+/// Visits as another visitor does, and answers what a function makes of that visitor's answer.
+///
+/// The visitor is told of each value of a repeated key. The function is called once, after the visitor's `finish`.
+#[derive(Drop)]
+pub struct ParameterVisitorWith<V, F, A> {
+    visitor: V,
+    f: F,
+    // What the function is called on.
+    answer: PhantomData<A>,
+}
+
+/// Returns the visitor that visits as `visitor` does, and whose answer is `f` of that visitor's answer. It fails where
+/// that visitor does or `f` does. `f` may be called on every answer.
+pub fn parameter_visitor_with<
+    'de,
+    A,
+    T,
+    E,
+    V: Visitor<'de, Out = A, Error = E>,
+    F: FnOnce(A) -> Result<T, E>,
+>(visitor: V, f: F) -> ParameterVisitorWith<V, F, A>
+    requires { F.IsAlwaysCallable f }
+    ensures within { visitor_within result ≡ visitor }
+    ensures after { function_after result ≡ f }
+{
+    ParameterVisitorWith {
+        visitor,
+        f,
+        answer: PhantomData,
+    }
+}
+
+impl<
+    'de,
+    A: Drop,
+    T: Drop,
+    E: Drop,
+    V: Visitor<'de, Out = A, Error = E>,
+    F: FnOnce(A) -> Result<T, E> + Drop,
+> Visitor<'de> for ParameterVisitorWith<V, F, A> {
+    type Out = T;
+
+    type Error = E;
+
+    ghost is_ready = { λ s. V.is_ready (visitor_within s) × F.IsAlwaysCallable (function_after s) };
+
+    ghost takes = { ForwardTakes V.takes };
+
+    ghost fails = { λ s e fault. V.fails (visitor_within s) e fault };
+
+    ghost takes_read = { ForwardTakesRead V.takes_read };
+
+    ghost fails_read = { λ s e fault. V.fails_read (visitor_within s) e fault };
+
+    ghost finishes = { λ s out. GivesAfter V.finishes F.post s (Ok out) };
+
+    ghost finish_fails = { λ s fault.
+        V.finish_fails (visitor_within s) fault ⊎ GivesAfter V.finishes F.post s (Err fault) };
+
+    ghost is_memory = { V.is_memory };
+
+    fn event(&mut self, event: Event<'de>) -> Result<(), E> {
+        self.visitor.event(event)
+    }
+
+    fn finish(self) -> Result<T, E> {
+        let answer = self.visitor.finish()?;
+        (self.f)(answer)
+    }
+}

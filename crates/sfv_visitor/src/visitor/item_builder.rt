@@ -1,0 +1,98 @@
+//! The visitor that builds an item.
+
+ghost use Rattle.std.specs.Prelude.{◌≡◌, false, OnOk, OnErr, IsTrue};
+ghost use Rattle.sfv_spec.specs.Values.{RawItem};
+ghost use Rattle.sfv_tree.specs.Trees.{item_tree};
+ghost use Rattle.sfv_visitor.specs.Events.{event_of, is_moved};
+ghost use Rattle.sfv_visitor.specs.Builders.{at_head, at_end, item_step, item_place, item_seed, takes_memory};
+ghost use Rattle.sfv_visitor.specs.declared.visitor.ItemFault.TheVariants as faults;
+
+use crate::visitor::parameters::enter;
+use crate::visitor::{Event, ItemFault, Visitor};
+use sfv_base::error::OutOfMemory;
+use sfv_tree::hash_seed::HashSeed;
+use sfv_tree::parsed::{Item, Parameters};
+use std::alloc::Global;
+
+/// Builds an item of its events. Of a repeated key the last value stands, at the place of the first.
+///
+/// It takes every event, and an event out of its place changes nothing. It fails only when out of memory, at a text that
+/// is borrowed or a parameter that it takes, and at the end with `ItemFault::NoItem` only where it visited no whole item.
+#[derive(Drop)]
+pub struct ItemBuilder {
+    alloc: Global,
+    seed: HashSeed,
+    item: Option<Item>,
+    // Whether the item's parameters have ended.
+    is_whole: bool,
+}
+
+impl ItemBuilder {
+    /// Returns the builder before any event, which builds with memory from `alloc` and parameters under `seed`.
+    pub fn new(alloc: Global, seed: HashSeed) -> ItemBuilder
+        ensures place { item_place result ≡ at_head }
+        ensures seed { item_seed result ≡ seed }
+    {
+        ItemBuilder {
+            alloc,
+            seed,
+            item: None,
+            is_whole: false,
+        }
+    }
+
+    #[inline(always)]
+    fn step(&mut self, event: Event<'_>) -> Result<(), OutOfMemory>
+        ensures place { OnOk result (item_place self.new ≡ item_step (item_place self.old) (event_of event.entry)) }
+        ensures out_of_memory { OnErr result (IsTrue (takes_memory (item_place self.old) (event_of event.entry))) }
+        ensures copied { OnErr result (is_moved event.entry ≡ false) }
+    {
+        match (&mut self.item, event) {
+            (None, Event::BareItem(bare_item)) => {
+                let bare_item = bare_item.try_into_owned(self.alloc)?;
+                let params = Parameters::with_hasher(self.alloc, self.seed);
+                self.item = Some(Item::with_params(bare_item, params));
+                self.is_whole = false;
+            }
+            (Some(item), Event::Parameter(key, value)) if !self.is_whole => {
+                enter(self.alloc, &mut item.params, key, value)?;
+            }
+            (Some(_), Event::ParametersEnd) => self.is_whole = true,
+            _ => {}
+        }
+        Ok(())
+    }
+}
+
+impl<'de> Visitor<'de> for ItemBuilder {
+    type Out = Item;
+
+    type Error = ItemFault;
+
+    ghost takes = { λ s event after. item_place after ≡ item_step (item_place s) event };
+
+    ghost fails = { λ s event fault. (fault ≡ faults.OutOfMemory) × IsTrue (takes_memory (item_place s) event) };
+
+    ghost fails_read = { λ _ event _. is_moved event ≡ false };
+
+    ghost finishes = { λ s item. item_place s ≡ at_end (item_tree item) };
+
+    ghost finish_fails = { λ s fault. (fault ≡ faults.NoItem) × ((i : RawItem) → ¬ (item_place s ≡ at_end i)) };
+
+    ghost is_memory = { λ fault. fault ≡ faults.OutOfMemory };
+
+    #[inline(always)]
+    fn event(&mut self, event: Event<'de>) -> Result<(), ItemFault> {
+        match self.step(event) {
+            Ok(()) => Ok(()),
+            Err(OutOfMemory) => Err(ItemFault::OutOfMemory),
+        }
+    }
+
+    fn finish(self) -> Result<Item, ItemFault> {
+        match self.item {
+            Some(item) if self.is_whole => Ok(item),
+            _ => Err(ItemFault::NoItem),
+        }
+    }
+}

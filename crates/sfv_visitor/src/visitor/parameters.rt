@@ -1,0 +1,30 @@
+//! Parameters that are entered one by one.
+
+ghost use Rattle.std.specs.Prelude.{◌≡◌, OnOk, bytes_eq};
+ghost use Rattle.indexmap.specs.IndexMap.{insert_entry};
+ghost use Rattle.sfv_bare.specs.BareItems.{input_value};
+ghost use Rattle.sfv_text.specs.KeyText.{key_text};
+ghost use Rattle.sfv_tree.specs.Trees.{pairs_tree};
+
+use sfv_bare::bare::BareItemFromInput;
+use sfv_base::error::OutOfMemory;
+use sfv_text::key_ref::KeyRef;
+use sfv_tree::parsed::Parameters;
+use std::alloc::Global;
+
+// Enters a parameter: a key that is there keeps its place and takes the value, a new key goes last.
+#[inline(never)]
+pub(crate) fn enter(
+    alloc: Global,
+    params: &mut Parameters,
+    key: KeyRef<'_>,
+    value: BareItemFromInput<'_>,
+) -> Result<(), OutOfMemory>
+    ensures { OnOk result (pairs_tree params.new.entries
+        ≡ insert_entry bytes_eq (pairs_tree params.old.entries) (key_text key.entry) (input_value value.entry)) }
+{
+    let key = key.to_owned(alloc)?;
+    let value = value.try_into_owned(alloc)?;
+    params.insert(key, value)?;
+    Ok(())
+}
