@@ -1,6 +1,5 @@
 -- The pieces of Strings and Display Strings.
 pub mod Pieces
 pub mod Traces
-pub mod Exact
 pub mod StringSteps
 pub mod DisplaySteps

@@ -1,11 +1,11 @@
 -- What the readers of fields have to do with the grammar.
-use Rattle.std.specs.Prelude.{◌≡◌, ◌↔◌, ℕ, ◌+◌, ◌≤◌, ◌%◌, Bool, List, [], ◌∷◌, ◌++◌, length, take, drop, true, false}
+use Rattle.std.specs.Prelude.{◌≡◌, ◌↔◌, ℕ, ◌+◌, ◌≤◌, ◌%◌, List, [], ◌∷◌, ◌++◌, length, take, drop, true, false}
 use Rattle.std.specs.Prelude.{Some, None, Ok, Err, ◌⊎◌, codes}
-use Rattle.sfv_spec.specs.Ascii.{colon, question_mark}
+use Rattle.sfv_spec.specs.Ascii.{colon}
 use Rattle.sfv_spec.specs.Texts.{RunOf}
 use Rattle.sfv_spec.specs.Classes.{is_one_of}
-use Rattle.sfv_spec.specs.Values.{Edition, rfc9651, FieldKind, item_field, RawField, BareValue, RawItem, IsFieldValue}
-use Rattle.sfv_spec.specs.Grammar.{IsBareText, IsItemText, IsFieldText, IsEnded}
+use Rattle.sfv_spec.specs.Values.{Edition, rfc9651, FieldKind, RawField, BareValue}
+use Rattle.sfv_spec.specs.Grammar.{IsBareText, IsFieldText, IsEnded}
 use Rattle.sfv_spec.specs.Events.{TreeEvent, events}
 use Rattle.sfv_spec.specs.Reach.{IsReach}
 use Rattle.sfv_spec.specs.Visiting.{BeginsEvents}
@@ -15,12 +15,11 @@ use Rattle.sfv_spec.specs.Faults.{invalid_byte_sequence, unterminated_escape_seq
 use Rattle.sfv_spec.specs.Faults.{unterminated_display_string, invalid_display_string_character}
 use Rattle.sfv_spec.specs.Faults.{invalid_utf8_in_display_string, IsTrailingComma, WantsBetween}
 use Rattle.sfv_spec.specs.Faults.{IsUnterminatedByteSequence, IsLoneSymbol, IsUnterminatedDisplay, IsUnterminatedEscape}
-use Rattle.sfv_spec.specs.Faults.{IsInvalidEscape, IsInvalidDisplayByte, IsInvalidUtf8, IsBase64FaultPlace}
-use Rattle.sfv_reading.specs.Reader.{has_rule, Fault, Reader, by_rule, visited}
-use Rattle.sfv_reading.specs.Judgements.{Sound, Mute, Quiet, IsFault, Local, Complete, StaysButText}
-use Rattle.sfv_reading.specs.Content.{valid_from, bytes_of, fault_place, IsBytesEnd, HasNoColon, content_fault}
+use Rattle.sfv_spec.specs.Faults.{IsInvalidEscape, IsInvalidDisplayByte, IsInvalidUtf8}
+use Rattle.sfv_reading.specs.Reader.{has_rule, Fault, by_rule, visited}
+use Rattle.sfv_reading.specs.Content.{valid_from, bytes_of, fault_place, HasNoColon, content_fault}
 use Rattle.sfv_reading.specs.Content.{bytes_at}
-use Rattle.sfv_reading.specs.Quoted.{IsStringEnd, string_at, IsStringFault, IsDisplayEnd, display_at, IsDisplayFault}
+use Rattle.sfv_reading.specs.Quoted.{display_at}
 use Rattle.sfv_reading.specs.Bare.{bare_at}
 use Rattle.sfv_reading.specs.Fields.{whole_field_at, read_field}
 
@@ -63,10 +62,6 @@ abbrev pub FailedBegins : Type 0
 FailedBegins = (kind : FieldKind) (es before : List TreeEvent) (e : TreeEvent) (after : List TreeEvent)
     → BeginsEvents kind es → es ≡ before ++ e ∷ after → BeginsEvents kind (before ++ e ∷ [])
 
--- what is accepted as an item is a value
-abbrev pub ItemIsValue : Type 0
-ItemIsValue = (edition : Edition) (i : RawItem) (t : List ℕ) → IsItemText edition i t → IsFieldValue item_field i
-
 -- a comma and blanks at the end, after a field with a member
 abbrev pub CommaRow : Type 0
 CommaRow = (edition : Edition) (kind : FieldKind) (t : List ℕ) (index : ℕ) → IsTrailingComma edition kind t index
@@ -107,10 +102,6 @@ BareIsExact =
 abbrev pub GivesTheBytes : Type 0
 GivesTheBytes = (content bytes : List ℕ) → IsBase64Text bytes content ↔ (bytes_of content ≡ Some bytes)
 
--- a content that is no Base64 is at fault at `fault_place`
-abbrev pub GivesTheFault : Type 0
-GivesTheFault = (content : List ℕ) → bytes_of content ≡ None → IsBase64FaultPlace content (fault_place content)
-
 -- a content that is at fault at its end is symbols, of which one is left over
 abbrev pub LeavesOneOver : Type 0
 LeavesOneOver = (content : List ℕ) → bytes_of content ≡ None
@@ -122,11 +113,6 @@ IsBytesFault t e =
     (HasNoColon t × (e ≡ by_rule unterminated_byte_sequence []))
     ⊎ ((content : List ℕ) × (rest : List ℕ) × (t ≡ content ++ colon ∷ rest) × HasNoColon content
     × (bytes_of content ≡ None) × (e ≡ content_fault content (drop (fault_place content) t)))
-
--- a Byte Sequence is read exactly, and exactly these are its faults
-abbrev pub BytesRead : Type 0
-BytesRead = Sound bytes_at IsBytesEnd (Mute IsBytesEnd) Quiet × Complete bytes_at IsBytesEnd
-    × ((t : List ℕ) (e : Fault) → (bytes_at t ≡ Err e) ↔ IsBytesFault t e) × Local bytes_at
 
 -- In a text in which a bare item is wanted after before, and a Byte Sequence begins there, the reader gives
 -- this fault by its rule, where so much of the whole is left.
@@ -147,32 +133,6 @@ BytesRules =
     ↔ IsUnterminatedByteSequence edition kind whole index)
     × ((edition : Edition) (kind : FieldKind) (whole : List ℕ) (index : ℕ)
     → IsFaultOfBytes edition kind whole invalid_byte_sequence index ↔ IsLoneSymbol edition kind whole index)
-
--- where a question mark comes, the reader of Byte Sequences faults, or it was done before
-abbrev pub ShunsMark : List ℕ → Type 0
-ShunsMark u =
-    ((c : List ℕ) → IsFault (bytes_at (u ++ question_mark ∷ c)))
-    ⊎ ((rest : List ℕ) × (bytes : List ℕ)
-    × ((c : List ℕ) → bytes_at (u ++ question_mark ∷ c) ≡ Ok (bytes, rest ++ question_mark ∷ c)))
-
--- a question mark stands in no Byte Sequence
-abbrev pub ShunsMarks : Type 0
-ShunsMarks = (u : List ℕ) → ShunsMark u
-
--- exactly these faults are given, all of them exact or none, and nothing is visited
-abbrev pub Faults : Bool → Reader (List ℕ) → (List ℕ → SyntaxFault → List ℕ → Type 0) → Type 0
-Faults exact f P = (t : List ℕ) (e : Fault) → (f t ≡ Err e) ↔ (P t e.kind e.rest × (e.exact ≡ exact) × (e.events ≡ []))
-
--- a String is read exactly, and exactly these are its faults, each at the reach
-abbrev pub StringRead : Type 0
-StringRead = Sound string_at IsStringEnd (Mute IsStringEnd) Quiet × Complete string_at IsStringEnd
-    × Faults true string_at IsStringFault × Local string_at
-
--- a Display String is read exactly, and exactly these are its faults, each with a rule of its own
-abbrev pub DisplayRead : Type 0
-DisplayRead = Sound display_at IsDisplayEnd (Mute IsDisplayEnd) Quiet × Complete display_at IsDisplayEnd
-    × Faults false display_at IsDisplayFault × Local display_at
-    × ((t : List ℕ) → StaysButText display_at t (display_at t))
 
 -- In a text in which a bare item is wanted after before, and a Display String begins there, the reader gives
 -- this fault, where so much of the whole is left.

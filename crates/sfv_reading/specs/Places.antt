@@ -5,13 +5,11 @@ use Rattle.sfv_spec.specs.Texts.{begins_with}
 use Rattle.sfv_spec.specs.Classes.{is_space_or_tab}
 use Rattle.sfv_spec.specs.Values.{Edition, FieldKind}
 use Rattle.sfv_spec.specs.Grammar.{IsAccepted}
-use Rattle.sfv_spec.specs.Reach.{WantsKey}
 use Rattle.sfv_spec.specs.Faults.{trailing_comma, unterminated_inner_list}
 use Rattle.sfv_spec.specs.Faults.{expected_start_of_bare_item}
 use Rattle.sfv_spec.specs.Faults.{IsTrailingComma, WantsBetween, WantedFault}
 use Rattle.sfv_reading.specs.Reader.{Fault}
 use Rattle.sfv_reading.specs.Bare.{bare_at}
-use Rattle.sfv_reading.specs.Items.{key_at}
 use Rattle.sfv_reading.specs.Fields.{read_field}
 
 -- the same fault, whatever was visited before it
@@ -67,12 +65,6 @@ WantedBareIsRead = (edition : Edition) (kind : FieldKind) (t before s : List ℕ
     → WantsBetween edition kind t before s → bare_at edition s ≡ Err x
     → (¬ (x.kind ≡ expected_start_of_bare_item)) ⊎ IsTrue (begins_with is_beginning s)
     → (e : Fault) × (read_field edition kind t ≡ Err e) × IsLike x e
-
--- where a key is wanted, the fault of the one that stands there is the field's
-abbrev pub WantedKeyIsRead : Type 0
-WantedKeyIsRead = (edition : Edition) (kind : FieldKind) (u w : List ℕ) (x : Fault) → WantsKey edition kind u
-    → key_at w ≡ Err x → IsTrue (begins_with (λ c. not (is_space_or_tab c)) w)
-    → (e : Fault) × (read_field edition kind (u ++ w) ≡ Err e) × IsLike x e
 
 -- where but a parenthesis is missing, right after the opening one or after an item, that is the fault
 abbrev pub OpenListIsRead : Type 0

@@ -16,7 +16,7 @@ use Rattle.sfv_spec.proofs.Settled.{NotBegun}
 use Rattle.sfv_spec.proofs.Bytes.{bytes_settle}
 use Rattle.sfv_reading.specs.Content.{symbol_value, most_padding, valid_from, values_in, bytes_from, bytes_of}
 use Rattle.sfv_reading.specs.Content.{fault_place}
-use Rattle.sfv_reading.specs.Claims.{GivesTheBytes, GivesTheFault}
+use Rattle.sfv_reading.specs.Claims.{GivesTheBytes}
 use Rattle.sfv_reading.proofs.base64.Bits.{spare_of, same_bits, spare_length, bytes_within}
 use Rattle.sfv_reading.proofs.base64.Shape.{shape_of, shape_valid, are_symbols, are_values, symbols-values}
 use Rattle.sfv_reading.proofs.base64.Shape.{values-symbols, valid_local, valid_run, padding-padded, padding-nil}
@@ -216,10 +216,6 @@ longest_valid content =
           ∙ ap (λ n. n + length begun.0) (length-take-le m content le) in
           absurd (omega (arith, r.0, e, size, lt));
     }
-
-pub gives_the_fault : GivesTheFault
-unfolding fault_place
-gives_the_fault content h = record { valid = valid_from 0 content; longest = longest_valid content; here = refl }
 
 -- a content that is at fault before its end
 pub rejected_at : (content : List ℕ) (e : ℕ) → valid_from 0 content ≡ e → e < length content

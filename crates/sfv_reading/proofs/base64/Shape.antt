@@ -1,12 +1,12 @@
 -- A text is symbols, padding, and what no Base64 text goes on with.
 use Rattle.std.proofs.Common.{◌≡◌, ℕ, zero, suc, ◌<◌, ◌≤◌, ◌+◌, List, [], ◌∷◌, ◌++◌, length, map, take, replicate, refl}
-use Rattle.std.proofs.Common.{sym, ◌∙◌, ap, Bool, true, false, arith, ◌⊎◌, inl, inr}
+use Rattle.std.proofs.Common.{sym, ◌∙◌, ap, Bool, true, arith, ◌⊎◌, inl, inr}
 use Rattle.std.specs.Prelude.{◌==◌, ◌||◌}
 use Rattle.sfv_spec.specs.Ascii.{plus_sign, slash, digit_zero, digit_nine, equals_sign, upper_a, upper_z, lower_a}
 use Rattle.sfv_spec.specs.Ascii.{lower_z}
 use Rattle.sfv_spec.specs.Classes.{is_between}
 use Rattle.std.specs.List.{list_all}
-use Rattle.std.proofs.lemmas.Bool.{and_parts, eqb-true, ltb-true, cases_Bool, true≢false, or_cases}
+use Rattle.std.proofs.lemmas.Bool.{and_parts, eqb-true, ltb-true, cases_Bool, or_cases}
 use Rattle.sfv_spec.specs.Base64.{symbol, is_symbol}
 use Rattle.sfv_spec.proofs.Settled.{NotBegun}
 use Rattle.sfv_spec.proofs.Parts.{implied, between_below}
@@ -55,13 +55,6 @@ symbol-value c h = eqb-true (symbol (symbol_value c)) c
 pub value_within : (c : ℕ) → is_symbol c ≡ true → is_value (symbol_value c) ≡ true
 unfolding is_symbol symbol_value
 value_within c h = implied is_symbol (λ c. is_value (symbol_value c)) refl c (symbol_below c h) h
-
-pub equals_apart : (c : ℕ) → is_symbol c ≡ true → is_equals c ≡ false
-unfolding is_symbol
-equals_apart c h = elim (cases_Bool (is_equals c)) [
-  | inl p ↦ let e : c ≡ equals_sign = eqb-true c equals_sign p in absurd (true≢false (sym (rw e at h)))
-  | inr p ↦ p
-]
 
 -- the same along a list
 pub are_symbols : (vs : List ℕ) → list_all is_value vs ≡ true → list_all is_symbol (map symbol vs) ≡ true

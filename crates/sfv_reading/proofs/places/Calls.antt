@@ -52,9 +52,6 @@ pub record Calls {A : Type 0} (edition : Edition) (leaf : Leaf) (f : Reader A) (
 pub like_self : (e : Fault) → IsLike e e
 like_self e = record { kind = refl; rest = refl; exact = refl }
 
-pub like_trans : (d e f : Fault) → IsLike d e → IsLike e f → IsLike d f
-like_trans d e f h k = record { kind = h.kind ∙ k.kind; rest = h.rest ∙ k.rest; exact = h.exact ∙ k.exact }
-
 follows_self : {A : Type 0} (a : Answer A) → Follows a a
 follows_self (Ok x) = λ e. e
 follows_self (Err x) = (x, refl, like_self x)

@@ -21,7 +21,7 @@ use Rattle.sfv_reading.specs.Reader.{Fault, Answer, Reader, at_reach, fail, bran
 use Rattle.sfv_reading.specs.Bare.{token_at, bare_at}
 use Rattle.sfv_reading.specs.Items.{key_at}
 use Rattle.sfv_reading.specs.Fields.{whole_field_at, read_field}
-use Rattle.sfv_reading.specs.Places.{is_beginning, WantedBareIsRead, WantedKeyIsRead}
+use Rattle.sfv_reading.specs.Places.{is_beginning, WantedBareIsRead}
 use Rattle.sfv_reading.proofs.rules.Insides.{mark_inside, asterisk_inside}
 use Rattle.sfv_reading.proofs.sound.Combinators.{Somewhere, run_cons, run_head, run_tail}
 use Rattle.sfv_reading.proofs.sound.Bare.{BareGoes, Sound-bare}
@@ -280,11 +280,3 @@ wanted_bare_is_read edition kind t before s x place i side =
           ∙ ends_faulty edition kind (before ++ o.0 ∷ o.1) follows.0 follows.1,
       follows.2,
     )
-
-pub wanted_key_is_read : WantedKeyIsRead
-wanted_key_is_read edition kind u [] x wanted i begun = absurd (true≢false (sym begun))
-wanted_key_is_read edition kind u (c ∷ r) x wanted i begun =
-    let on = (calls_wanted_key edition kind u wanted).follows c r (not-true (is_space_or_tab c) begun) in
-    let follows : Follows {A = List ℕ} (Err x) (whole_field_at edition kind (u ++ c ∷ r)) =
-    subst (λ (a : Answer (List ℕ)). Follows a (whole_field_at edition kind (u ++ c ∷ r))) i on in
-    (follows.0, ends_faulty edition kind (u ++ c ∷ r) follows.0 follows.1, follows.2)

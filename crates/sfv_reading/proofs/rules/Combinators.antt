@@ -20,14 +20,6 @@ pub fault_at : {A : Type 0} (V : List ℕ → Fault → Type 0) (t : List ℕ) (
     → a ≡ Err e → V t e
 fault_at V t x e a i h j = let both = sym i ∙ j in let same : x ≡ e = cc in subst (V t) same h
 
-pub Rules-fail : {A : Type 0} (k : SyntaxFault) (V : List ℕ → Fault → Type 0) → ((t : List ℕ) → V t (at_reach k t))
-    → Rules {A = A} (fail k) V
-unfolding fail
-Rules-fail {A} k V h = record {
-  rules = λ t e i.
-      fault_at {A = A} V t (at_reach k t) e (Err (at_reach k t)) refl (h t) i;
-}
-
 pub Rules-steady : {A : Type 0} (f : Reader A) (P : A → List ℕ → Type 0) (V : List ℕ → Fault → Type 0) → Steady f P
     → Rules f V
 Rules-steady f P V s = record { rules = λ t e h. let m = s.steady t in let o = m.3 in absurd cc }

@@ -13,10 +13,9 @@ use Rattle.sfv_spec.specs.Faults.{SyntaxFault, invalid_utf8_in_display_string}
 use Rattle.sfv_reading.specs.Reader.{Fault, Answer, at_reach, by_rule}
 use Rattle.sfv_reading.specs.Quoted.{behind_bytes, string_at, outside, pieces_from, behind_pieces, checked, display_at}
 use Rattle.sfv_reading.specs.Quoted.{StringStops, DisplayStops, Traced, IsStringFault, IsDisplayFault}
-use Rattle.sfv_reading.specs.Claims.{Faults}
 use Rattle.sfv_reading.proofs.quoted.Traces.{Ends, trace_of_string, trace_of_display}
 use Rattle.sfv_reading.proofs.quoted.Pieces.{past_string, past_display, quote_display, string_stops, display_stops}
-use Rattle.sfv_reading.proofs.sound.Quoted.{stopped_at, placed_by, stopped}
+use Rattle.sfv_reading.proofs.sound.Quoted.{stopped_at, stopped}
 
 -- Exactly such a fault is given.
 pub string_faulty : (t there : List ℕ) (k : SyntaxFault) → IsStringFault t k there
@@ -29,12 +28,6 @@ pub string_fault : (t : List ℕ) (e : Fault) → string_at t ≡ Err e
 string_fault t e i =
     let h = subst (λ (a : Answer (List ℕ)). Traced IsStringPiece t (Ends true StringStops a)) i (trace_of_string t) in
     (stopped_at true IsStringPiece StringStops t e h, h.ends.0)
-
-pub string_faults : Faults true string_at IsStringFault
-string_faults t e = (
-  λ i. let h = string_fault t e i in (h.0, ap (λ (e : Fault). e.exact) h.1, ap (λ (e : Fault). e.events) h.1),
-  λ h. string_faulty t e.rest e.kind h.0 ∙ ap (λ (e : Fault). Err e) (placed_by true e h.1 h.2),
-)
 
 -- bytes that aren't UTF-8
 pub not_text : (s : List ℕ) → ¬ IsUtf8 s → is_utf8 s ≡ false
@@ -101,9 +94,3 @@ pub display_fault : (t : List ℕ) (e : Fault) → display_at t ≡ Err e
 unfolding display_at
 display_fault t e i = subst (λ (a : Answer (List ℕ)). FaultIs t a) i
     (fault_is t (pieces_from outside t) (trace_of_display t))
-
-pub display_faults : Faults false display_at IsDisplayFault
-display_faults t e = (
-  λ i. let h = display_fault t e i in (h.0, ap (λ (e : Fault). e.exact) h.1, ap (λ (e : Fault). e.events) h.1),
-  λ h. display_faulty t e.rest e.kind h.0 ∙ ap (λ (e : Fault). Err e) (placed_by false e h.1 h.2),
-)

@@ -11,7 +11,7 @@ use Rattle.sfv_spec.specs.Ascii.{double_quote, backslash}
 use Rattle.sfv_spec.specs.Strings.{IsStringPiece, IsDisplayPiece}
 use Rattle.sfv_spec.specs.Faults.{SyntaxFault, invalid_string_character, unterminated_string}
 use Rattle.sfv_spec.specs.Faults.{unterminated_escape_sequence, invalid_escape_sequence, invalid_utf8_in_display_string}
-use Rattle.sfv_reading.specs.Reader.{Fault, Answer, placed, at_reach, by_rule}
+use Rattle.sfv_reading.specs.Reader.{Fault, Answer, at_reach, by_rule}
 use Rattle.sfv_reading.specs.Judgements.{GoesOn, Reached, Sound, Mute, Quiet}
 use Rattle.sfv_reading.specs.Quoted.{IsStringEnd, IsDisplayEnd, string_at, outside, pieces_from, behind_pieces, checked}
 use Rattle.sfv_reading.specs.Quoted.{display_at, StringStops, DisplayStops, Traced, IsDisplayFault}
@@ -30,11 +30,6 @@ stopped_at exact P Stops t e h = record {
   content = h.content;
   ends = h.ends.1;
 }
-
--- a fault is placed so by its parts
-pub placed_by : (exact : Bool) (e : Fault) → e.exact ≡ exact → e.events ≡ [] → placed exact e.kind e.rest ≡ e
-placed_by exact e x n = ap (λ (b : Bool). placed b e.kind e.rest) (sym x)
-    ∙ ap (λ es. record { kind = e.kind; exact = e.exact; rest = e.rest; events = es }) (sym n)
 
 -- ---- strings
 

@@ -1,8 +1,8 @@
 -- What a visitor is visited.
-use Rattle.std.proofs.Common.{ℕ, List, [], ◌∷◌, ◌++◌, Ok, Err, refl, sym, ap, ◌∙◌, append_assoc, inl, inr}
+use Rattle.std.proofs.Common.{ℕ, List, [], ◌∷◌, ◌++◌, Ok, Err, sym, ap, ◌∙◌, append_assoc, inl, inr}
 use Rattle.std.proofs.lemmas.List.{append-nil}
 use Rattle.std.proofs.lemmas.Bool.{cases_Bool}
-use Rattle.sfv_spec.specs.Values.{Edition, FieldKind, item_field, RawField}
+use Rattle.sfv_spec.specs.Values.{Edition, FieldKind, RawField}
 use Rattle.sfv_spec.specs.Grammar.{IsFieldText}
 use Rattle.sfv_spec.specs.Events.{TreeEvent, events}
 use Rattle.sfv_spec.specs.Visiting.{BeginsEvents}
@@ -10,7 +10,7 @@ use Rattle.sfv_spec.proofs.Valid.{accepted_is_value_lem}
 use Rattle.sfv_reading.specs.Judgements.{Reached}
 use Rattle.sfv_reading.specs.Reader.{Answer, visited}
 use Rattle.sfv_reading.specs.Fields.{whole_field_at}
-use Rattle.sfv_reading.specs.Claims.{VisitedBegins, FailedBegins, ItemIsValue}
+use Rattle.sfv_reading.specs.Claims.{VisitedBegins, FailedBegins}
 use Rattle.sfv_reading.proofs.sound.Combinators.{Somewhere}
 use Rattle.sfv_reading.proofs.sound.Fields.{FieldGoes, Sound-field}
 
@@ -46,13 +46,3 @@ failed_begins kind es before e after h i = record {
   all = h.all ∙ ap (λ (l : List TreeEvent). l ++ h.more) i ∙ append_assoc before (e ∷ after) h.more
       ∙ sym (append_assoc before (e ∷ []) (after ++ h.more));
 }
-
--- an item that was read is a value, whatever follows: its visitor may be finished
-pub item_is_value : ItemIsValue
-item_is_value edition i t h = (accepted_is_value_lem edition item_field t i (record {
-  front = [];
-  back = t;
-  text = refl;
-  first = refl;
-  second = record { front = t; back = []; text = sym (append-nil t); first = h; second = refl };
-})).0

@@ -1,5 +1,0 @@
-use Rattle.sfv_reading.proofs.gives_the_fault.Goals as goal
-use Rattle.sfv_reading.proofs.base64.Contents.{gives_the_fault}
-
-pub returns : goal.returns
-returns c = gives_the_fault
