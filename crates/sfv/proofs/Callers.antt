@@ -45,6 +45,7 @@ pub use Rattle.sfv_serializer.proofs.Lent.{lent_all}
 -- by each edition that has all that it holds: RFC 9651 has all
 pub use Rattle.sfv_serializer.proofs.ReadBack.{read_back, value_read_back}
 pub use Rattle.sfv_spec.proofs.Fields.{all_fit_newer}
+pub use Rattle.sfv.proofs.LastRead.{read_back_either}
 -- an inner list that is taken away again, and what a text holds behind what was written to it
 pub use Rattle.sfv_serializer.proofs.Scripts.{taken_away, kept_as, more_as, written_behind}
 pub use Rattle.sfv_serializer.proofs.Scripts.{inner_list_ended, named_list_ended}
@@ -53,6 +54,7 @@ pub use Rattle.sfv_spec.proofs.Runs.{runs_fold, entry_in, keys_in_events, entrie
 -- what is kept of a field by the last of each key
 pub use Rattle.sfv_spec.proofs.Kept.{last_kept, fold_members, fold_parameters, idle_within}
 pub use Rattle.sfv_spec.proofs.Runs.{IsInside, member_inside}
+pub use Rattle.sfv.proofs.LastRead.{on_ok, fold_entries, IsIdle, member_passed, item_passed, inner_list_passed, last_read}
 -- what a visitor that expects one bare item says of the field
 pub use Rattle.sfv.proofs.Expected.{expect_answers, expect_fails, expect_first, expect_only, expect_read}
 -- an accepted item has the bare item that stands first in its text

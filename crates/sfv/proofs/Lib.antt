@@ -4,4 +4,5 @@ pub mod reads
 pub mod Parsed
 pub mod Memory
 pub mod Expected
+pub mod LastRead
 pub mod Callers

@@ -78,7 +78,7 @@ impl Decimal {
     fn magnitude(&self) -> u64
         ensures { result ≡ nat_abs (thousandths_of self.now) }
     {
-        i64::from(self.thousandths).unsigned_abs()
+        self.thousandths.to_i64().unsigned_abs()
     }
 }
 
@@ -226,7 +226,7 @@ impl TryFrom<Integer> for Decimal {
         thousandths_of d ≡ in_thousandths (integer_of n)) r };
 
     fn try_from(n: Integer) -> Result<Decimal, Error> {
-        let v = i64::from(n);
+        let v = n.to_i64();
         if v < -999_999_999_999 || v > 999_999_999_999 {
             return Err(Error::OUT_OF_RANGE);
         }

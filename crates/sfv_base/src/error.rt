@@ -288,6 +288,18 @@ impl<E> From<Error> for ParseError<E> {
     }
 }
 
+impl<E> From<OutOfMemory> for ParseError<E> {
+    ghost use Rattle.std.specs.Prelude.{◌≡◌};
+    ghost use Rattle.sfv_base.specs.Errors.{out_of_memory};
+    ghost use Rattle.sfv_base.specs.declared.error.ParseError.TheVariants as parse_errors;
+
+    ghost from_gives = { λ _ r. r ≡ parse_errors.Syntax out_of_memory };
+
+    fn from(error: OutOfMemory) -> ParseError<E> {
+        ParseError::Syntax(Error::from(error))
+    }
+}
+
 impl<E: fmt::Display> fmt::Display for ParseError<E> {
     ghost use Rattle.sfv_base.specs.ParseErrors.{parse_output};
 

@@ -10,7 +10,8 @@ use std::fmt;
 /// An integer of at most fifteen digits (RFC 9651, section 3.3.1).
 ///
 /// A conversion from or to another number gives the same number. One that may fail fails with
-/// `ErrorKind::OutOfRange`, exactly if the number isn't in the range of the type that it goes to.
+/// `ErrorKind::OutOfRange`, exactly if the number isn't in the range of the type that it goes to. Those to a type of
+/// `std` are in scope where this crate is listed; `to_i64` is everywhere.
 /// `Default` is zero, comparisons and `Hash` go by the number, and `Display` prints its canonical text.
 ///
 /// A contract speaks of its number as `integer_of`.
@@ -52,6 +53,14 @@ impl Integer {
         ensures { integer_of result ≡ v }
     {
         Integer::from_validated_i64(v)
+    }
+
+    /// Returns the number.
+    pub fn to_i64(self) -> i64
+        ensures number { result ≡ integer_of self }
+        ensures range { IsInRange result }
+    {
+        self.value
     }
 
     // Tests the range.

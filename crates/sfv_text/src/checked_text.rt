@@ -24,7 +24,8 @@ use std::string::String as StdString;
 /// A text of a class that owns its bytes: what `Key`, `Token` and `String` are.
 ///
 /// `TryFrom` of a text is `from_string` without the text in its error. Comparisons, `Hash` and `Display` go
-/// by the text, and it becomes its text by `From`. `clone` returns `AllocError` when out of memory.
+/// by the text. It becomes its text by `into_string`, and by `From` where this crate is listed. `clone` returns
+/// `AllocError` when out of memory.
 ///
 /// A contract sees it as its bytes.
 #[derive(Drop)]
@@ -79,6 +80,14 @@ impl<C: TextClass> CheckedText<C> {
         self.text.as_str()
     }
 
+    /// Takes the text out.
+    pub fn into_string(self) -> StdString
+        ensures text { string_bytes result ≡ self }
+        ensures valid { IsTrue (C.is_valid self) }
+    {
+        self.text
+    }
+
     /// Lends the text.
     pub(crate) fn lend(&self) -> CheckedTextRef<'_, C>
         ensures { text_of result ≡ self.now }
@@ -102,7 +111,7 @@ impl<C: TextClass> From<CheckedText<C>> for StdString {
     ghost from_gives = { λ t s. (string_bytes s ≡ t) × IsTrue (C.is_valid t) };
 
     fn from(t: CheckedText<C>) -> StdString {
-        t.text
+        t.into_string()
     }
 }
 

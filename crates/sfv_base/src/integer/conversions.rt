@@ -76,7 +76,7 @@ impl From<Integer> for i64 {
     ghost from_gives = { λ n r. (r ≡ integer_of n) × IsInRange (integer_of n) };
 
     fn from(n: Integer) -> i64 {
-        n.value
+        n.to_i64()
     }
 }
 
