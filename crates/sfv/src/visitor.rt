@@ -1,8 +1,5 @@
-//! Visitors of fields, which visit each part of a field while it is read, and those that are given.
-//!
-//! Of a key that is repeated, in a dictionary or among parameters, only the last value counts (RFC 9651, sections 3.1.2
-//! and 3.2), and a visitor is told of each. So it mustn't fail for what stands under a key before it knows that the key
-//! doesn't come again: keep the value, let a later one take its place, and judge it in `finish`.
+//! Visitors of fields, which visit each part of a field while it is read, and those that are given. `Visitor` says what
+//! one has to do about repeated keys.
 
 pub use sfv_visitor::expect_item::{ExpectItem, ExpectedItem};
 pub use sfv_visitor::ignored::Ignored;

@@ -35,7 +35,7 @@ abbrev pub comes_read : {W : Type 0} → Option W → Event → Option (W × Rea
 comes_read (Some w) (event.BareItem item) = Some (w, item)
 comes_read waiting e = None
 
--- `ParameterVisitorWith`: the visitor that is told of the events, and the function that is called after them
+-- `ParameterVisitorWith`: the visitor that visits the events, and the function that is called after them
 abbrev pub visitor_within : {V F A : Type 0} → ParameterVisitorWith V F A → V
 visitor_within s = s.visitor
 

@@ -224,8 +224,7 @@ impl<'de> ExpectedItem<'de> for BareItem {
 /// `ItemFault::OutOfMemory` where a `BareItem` copies a text that is borrowed and is out of memory. It fails at the end
 /// with `ItemFault::NoItem` if no bare item came. Every other event changes nothing.
 ///
-/// It is for one item. Of a repeated key of a dictionary it would be told of each member, and keep the first bare item
-/// of all, where the last member counts.
+/// It is for one item: of a list or a dictionary it keeps the first bare item of all.
 #[derive(Drop)]
 pub struct ExpectItem<T> {
     alloc: Global,

@@ -27,8 +27,7 @@ impl<E> MemoryErrors<E> for NoMemoryError {
 /// It fails where the function does, at that event. Every other event changes nothing. `M` says which errors of the
 /// function mean that it was out of memory.
 ///
-/// It is for one item. Of a repeated key of a dictionary it would be told of each member, and call the function on the
-/// first bare item of all, where the last member counts.
+/// It is for one item: of a list or a dictionary it calls the function on the first bare item of all.
 #[derive(Drop)]
 pub struct ItemVisitorWith<F, T, M = NoMemoryError> {
     // The function, until it is called.

@@ -9,7 +9,7 @@ use std::marker::PhantomData;
 
 /// Visits as another visitor does, and answers what a function makes of that visitor's answer.
 ///
-/// The visitor is told of each value of a repeated key. The function is called once, after the visitor's `finish`.
+/// The function is called once, after the visitor's `finish`.
 #[derive(Drop)]
 pub struct ParameterVisitorWith<V, F, A> {
     visitor: V,

@@ -1,8 +1,4 @@
-//! Visitors of fields, which visit each part of a field while it is read.
-//!
-//! Of a key that is repeated, in a dictionary or among parameters, only the last value counts (RFC 9651, sections 3.1.2
-//! and 3.2), and a visitor is told of each. So it mustn't fail for what stands under a key before it knows that the key
-//! doesn't come again: keep the value, let a later one take its place, and judge it in `finish`.
+//! Visitors of fields, which visit each part of a field while it is read, and those that build trees.
 
 ghost use Rattle.std.specs.Prelude.{◌≡◌, ⊤, Some, OnOk, IfOk, IfErr};
 ghost use Rattle.sfv_spec.specs.Events.{TreeEvent};
@@ -53,8 +49,12 @@ pub enum Event<'de> {
 
 /// Visits each part of a field while it is read, and answers at its end.
 ///
-/// A visitor may fail at a part or at its answer, and that ends the reading. It visits each value of a repeated key, of
-/// which only the last counts, and so mustn't fail for one that another may follow (the module's head says what to do).
+/// A visitor may fail at a part or at its answer, and that ends the reading: it isn't called again.
+///
+/// Of a key that is repeated, in a dictionary or among parameters, only the last value counts (RFC 9651, sections 3.1.2
+/// and 3.2), and a visitor visits each. So it mustn't fail for what stands under a key before it knows that the key
+/// doesn't come again: keep the value, let a later one take its place, and judge it in `finish`.
+///
 /// A contract gives a visitor by what it may do in each state. `takes` and `fails` see an event as its value, whether a
 /// text in it is borrowed or owned; `takes_read` and `fails_read` say what depends on that.
 ///
