@@ -1,5 +1,6 @@
 #!/bin/sh
-# Whether DEFINITIONS.md names every word that it claims to. Prints those that it doesn't name; then the status is 1.
+# Whether DEFINITIONS.md names every word that it claims to, and its last part is as `words.sh` makes it. Prints what isn't so;
+# then the status is 1.
 #
 # These words are the public definitions, records and data types of `sfv_spec`'s specs, all of them, and of the other
 # crates' specs those that a public contract uses. A public contract is what stands after `requires` or `ensures` at a
@@ -58,6 +59,9 @@ words_of crates/sfv_spec/specs/*.antt | sort -u - "$room/public" >"$room/claimed
 awk -F '`' '{ for (i = 2; i <= NF; i += 2) print $i }' "$page" | grep -oE '[A-Za-z0-9_]+' | sort -u >"$room/named"
 
 comm -23 "$room/claimed" "$room/named" >"$room/missing"
+# The part of the page that is made from the specs.
+sh docs/words.sh check || exit 1
+
 if [ -s "$room/missing" ] || ! [ -s "$room/public" ]; then
     echo "$page doesn't name these words:"
     cat "$room/missing"

@@ -6,6 +6,7 @@ use Rattle.std.specs.contracts.string.String as text
 use Rattle.std.specs.contracts.alloc.Global as heap
 use Rattle.std.specs.contracts.impls.GlobalAllocator.TheImpl.{ghosts}
 
+-- a text that can be lent
 abbrev pub Text : Type 0
 Text = String Global
 
