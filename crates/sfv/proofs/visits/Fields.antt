@@ -1,6 +1,6 @@
 -- What is visited of a whole field.
 use Rattle.std.proofs.Common.{◌≡◌, ℕ, ◌≤◌, List, [], ◌∷◌, ◌++◌, length, take, drop, Option, Some, None, Result, Ok, Err}
-use Rattle.std.proofs.Common.{refl, sym, ap, subst, ◌∙◌, inl, inr}
+use Rattle.std.proofs.Common.{refl, sym, ap, subst, ◌∙◌, append_assoc, inl, inr}
 use Rattle.std.proofs.lemmas.List.{append_cancel_right, take-append-drop}
 use Rattle.std.specs.Prelude.{⊤, Bool, true, false, MatchOption, IfOk, IfErr, flat_map, ◌⊎◌}
 use Rattle.std.specs.declared.alloc.Global.{Global}
@@ -8,11 +8,13 @@ use Rattle.sfv_spec.specs.Classes.{is_space}
 use Rattle.sfv_spec.specs.Values.{Edition, FieldKind, item_field, list_field, dictionary_field, RawField, RawItem}
 use Rattle.sfv_spec.specs.Values.{IsFieldValue}
 use Rattle.sfv_spec.specs.Faults.{SyntaxFault, trailing_characters_after_parsed_value}
-use Rattle.sfv_spec.specs.Grammar.{IsFieldText}
+use Rattle.sfv_spec.specs.Grammar.{IsFieldText, IsAccepted}
+use Rattle.sfv_spec.specs.Reach.{IsReach}
 use Rattle.sfv_spec.specs.Events.{TreeEvent, events, item_events}
 use Rattle.sfv_spec.specs.Visiting.{RunsTo, IsVisited, IsVisitorError, IsEarlyVisitorError}
 use Rattle.sfv_spec.proofs.Valid.{accepted_is_value_lem}
 use Rattle.sfv_spec.proofs.Structure.{one_field_lem}
+use Rattle.sfv_spec.proofs.Editions.{one_reach_lem}
 use Rattle.sfv_spec.proofs.Visits.{fails_for_memory}
 use Rattle.sfv_base.specs.declared.error.Error.{Error}
 use Rattle.sfv_base.specs.declared.error.ErrorKind.{ErrorKind}
@@ -28,9 +30,11 @@ use Rattle.sfv_reading.specs.Visits.{VisitorFails}
 use Rattle.sfv_reading.proofs.complete.Combinators.{bind_complete}
 use Rattle.sfv_reading.proofs.sound.Combinators.{Somewhere}
 use Rattle.sfv_reading.proofs.sound.Fields.{FieldGoes, Sound-field}
-use Rattle.sfv_reading.proofs.Theorems.{read_is_accepted}
+use Rattle.sfv_reading.specs.Claims.{BeginsEventsAfter as ReadBegins}
+use Rattle.sfv_reading.proofs.Theorems.{read_is_accepted, fault_is_placed}
 use Rattle.sfv_reading.proofs.Trailing.{read_before}
 use Rattle.sfv_reading.proofs.visits.Fields.{visited_begins, failed_begins}
+use Rattle.sfv_reading.proofs.visits.Reached.{visited_reach}
 use Rattle.sfv.specs.declared.parser.Parser.{Parser}
 use Rattle.sfv.specs.declared.parser.cursor.Cursor.{Cursor}
 use Rattle.sfv.specs.Cursor.{kept_input, located, IsErrorOf}
@@ -38,7 +42,7 @@ use Rattle.sfv.specs.Fields.{located_whole}
 use Rattle.sfv.specs.Members.{MemberValue, member_parts, one_member_at, field_of}
 use Rattle.sfv.specs.Visits.{VisitsAnswer, IsOfVisitor, VisitsField, IsFinishedAt, IsAskedThere}
 use Rattle.sfv.specs.Parsers.{IsAnswerOf, IsSyntaxOf, IsVisitorErrorOf, IsParseError, VisitsAccepted, IsFinishedFirst}
-use Rattle.sfv.specs.Parsers.{trailing_error}
+use Rattle.sfv.specs.Parsers.{trailing_error, BeginsEventsAfter, IsVisitorErrorFrom}
 use Rattle.sfv.proofs.visits.Whole.{spaced, field_error, ending_located}
 use Rattle.sfv.proofs.Parsed.{located_fault, parse_error}
 use Rattle.sfv.proofs.reads.Delimiters.{span_total}
@@ -289,6 +293,15 @@ an_item : {kind : FieldKind} {A : Type 0} → (kind ≡ item_field) ⊎ A → (A
 an_item (inl same) h = same
 an_item (inr a) h = h a
 
+-- the fault that more stands after a field
+abbrev after_field : (kind : FieldKind) → RawField kind → List ℕ → Fault
+after_field kind raw rest = record {
+  kind = trailing_characters_after_parsed_value;
+  exact = true;
+  rest = rest;
+  events = events kind raw;
+}
+
 trailing_kind : (k : SyntaxFault) → error_kind k ≡ TrailingCharactersAfterParsedValue
     → k ≡ trailing_characters_after_parsed_value
 trailing_kind trailing_characters_after_parsed_value e = refl
@@ -297,6 +310,35 @@ trailing_kind _ e = absurd cc
 front_is : (t front rest : List ℕ) (n : ℕ) → t ≡ front ++ rest → rest ≡ drop n t → front ≡ take n t
 front_is t front rest n e d = append_cancel_right front (take n t) rest (sym e ∙ sym (take-append-drop n t)
     ∙ ap (λ (l : List ℕ). take n t ++ l) (sym d))
+
+-- each beginning of events that begin a field's begins them too
+begins_to : (edition : Edition) (kind : FieldKind) (u : List ℕ) (es before : List TreeEvent) (e : TreeEvent)
+    (after : List TreeEvent) → ReadBegins edition kind u es → es ≡ before ++ e ∷ after
+    → BeginsEventsAfter edition kind u (before ++ e ∷ [])
+begins_to edition kind u es before e after h i = record {
+  raw = h.raw;
+  more = h.more;
+  accepted = h.accepted;
+  others = after ++ h.others;
+  all = h.all ∙ ap (λ (l : List TreeEvent). l ++ h.others) i ∙ append_assoc before (e ∷ after) h.others
+      ∙ sym (append_assoc before (e ∷ []) (after ++ h.others));
+}
+
+-- where more stands after a field, the field is the text up to the reach
+text_before : (edition : Edition) (kind : FieldKind) (t q : List ℕ) (raw : RawField kind)
+    → whole_field_at edition kind t ≡ Ok (raw, q) → ¬ (q ≡ []) → (n : ℕ) → IsReach edition kind t n
+    → IsFieldText edition kind raw (take n t)
+unfolding read_field
+text_before edition kind t [] raw e more n reach = absurd (more refl)
+text_before edition kind t (c ∷ q) raw e more n reach =
+    let fault : read_field edition kind t ≡ Err (after_field kind raw (c ∷ q)) = ap (ending (events kind)) e in
+    let before = read_before edition kind t (after_field kind raw (c ∷ q)) fault refl in
+    let place = (fault_is_placed edition kind t (after_field kind raw (c ∷ q)) fault).exact refl in
+    let here : c ∷ q ≡ drop n t =
+    sym place.1 ∙ ap (λ (n : ℕ). drop n t) (one_reach_lem edition kind t place.0 n place.2 reach) in
+    let same : before.raw ≡ raw = same_value (whole_field_at edition kind t) before.raw raw (c ∷ q) (c ∷ q) before.read e in
+    subst (λ (raw : RawField kind). IsFieldText edition kind raw (take n t)) same
+    (subst (IsFieldText edition kind before.raw) (front_is t before.front (c ∷ q) n before.text here) before.means)
 
 -- what stands after a whole field was looked at after the answer, and only after an item
 finished_first : {S O : Type 0} (takes : S → TreeEvent → S → Type 0) (finishes : S → O → Type 0) (edition : Edition)
@@ -342,6 +384,33 @@ module _ {S O E : Type 0} (takes : S → TreeEvent → S → Type 0) (fails : S 
         x.0,
         x.2,
         whole_value edition kind t x.1 x.0 x.3,
+        x.4,
+        x.5,
+      )
+
+  -- on a rejected text: the events begin those of a field that begins as the text does up to its reach
+  failed_from : (f : E) → VisitsField takes fails finishes finish_fails edition kind t from (Err (Visitor f))
+      → ¬ IsAccepted edition kind t → (n : ℕ) → IsReach edition kind t n
+      → IsVisitorErrorFrom takes fails finish_fails edition kind (take n t) from f
+  failed_from f (inl r) rejected n reach =
+      let all = visited_reach edition kind t rejected n reach in
+      inl (
+        r.before,
+        r.e,
+        r.s,
+        begins_to edition kind (take n t) (visited (events kind) (whole_field_at edition kind t)) r.before r.e r.after all
+            r.all,
+        r.taken,
+        r.failed,
+      )
+  failed_from f (inr x) rejected n reach =
+      let accepted : x.1 ≡ [] → IsFieldText edition kind x.0 t =
+      λ end. (read_is_accepted edition kind t x.0).0 (whole_read edition kind t x.1 x.0 x.3 end) in
+      inr (
+        asked_of_item kind x.1 x.6 (λ end. rejected (x.0, accepted end)),
+        x.0,
+        x.2,
+        text_before edition kind t x.1 x.0 x.3 (λ end. rejected (x.0, accepted end)) n reach,
         x.4,
         x.5,
       )
@@ -394,7 +463,7 @@ module _ {S O E : Type 0} (takes : S → TreeEvent → S → Type 0) (fails : S 
       → IfErr r (IsVisitorErrorOf takes fails finish_fails edition kind t from)
   visits_failure (Ok out) h = tt
   visits_failure (Err (Syntax e)) h = tt
-  visits_failure (Err (Visitor f)) h = (failed_on_accepted f h, failed_early f h)
+  visits_failure (Err (Visitor f)) h = (failed_on_accepted f h, failed_early f h, failed_from f h)
 
   pub visits_accepted : (is_memory : E → Type 0) (r : Result O (ParseError E))
       → VisitsField takes fails finishes finish_fails edition kind t from r
