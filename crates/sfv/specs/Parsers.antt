@@ -1,6 +1,6 @@
 -- What a parser reads, and what it answers with an error.
 use Rattle.std.specs.Prelude.{◌≡◌, ◌≤◌, ⊤, ℕ, List, ◌∷◌, length, take, Some, Result, ◌⊎◌, MatchResult, IfOk, IfErr}
-use Rattle.std.specs.Prelude.{◌↔◌, ◌==◌, IsTrue, not, [], ◌++◌}
+use Rattle.std.specs.Prelude.{◌↔◌, ◌==◌, IsTrue, not}
 use Rattle.std.specs.Borrow.{Bor}
 use Rattle.sfv_spec.specs.Values.{Edition, FieldKind, item_field, list_field, dictionary_field, RawField}
 use Rattle.sfv_spec.specs.Values.{BareValue, RawParameters, RawItem}
@@ -10,6 +10,7 @@ use Rattle.sfv_spec.specs.Grammar.{IsFieldText, IsAccepted, StandsFirst, BeginsW
 use Rattle.sfv_spec.specs.Reach.{IsReach}
 use Rattle.sfv_spec.specs.Events.{TreeEvent, bare_item, parameters_events, item_events, events}
 use Rattle.sfv_spec.specs.Visiting.{NeverFails, RunsTo, IsVisited, IsVisitorError, IsEarlyVisitorError}
+use Rattle.sfv_spec.specs.Visiting.{IsVisitorErrorFrom}
 use Rattle.sfv_spec.specs.Faults.{SyntaxFault, trailing_characters_after_parsed_value, IsFaultAt}
 use Rattle.sfv_base.specs.declared.error.Error.{Error}
 use Rattle.sfv_base.specs.declared.error.ParseError.{ParseError}
@@ -119,24 +120,6 @@ abbrev pub IsSyntaxOf : {S O E : Type 0} → (S → TreeEvent → S → Type 0) 
 IsSyntaxOf takes finishes edition kind t from (parse_errors.Syntax e) = IsParseError edition kind t e
     × IsFinishedFirst takes finishes edition kind t from e
 IsSyntaxOf takes finishes edition kind t from (parse_errors.Visitor fault) = ⊤
-
--- es begins the events of a field of this type, whose text begins with u
-pub record BeginsEventsAfter (edition : Edition) (kind : FieldKind) (u : List ℕ) (es : List TreeEvent) : Type 0 where
-  pub raw : RawField kind
-  pub more : List ℕ
-  pub accepted : IsFieldText edition kind raw (u ++ more)
-  pub others : List TreeEvent
-  pub all : events kind raw ≡ es ++ others
-
--- Of a rejected text u is what stands before its reach. The visitor's error comes at an event after events which begin,
--- with it, those of a field whose text begins with u; or in finish, for an item alone, after all events of u, an item.
-abbrev pub IsVisitorErrorFrom : {S E : Type 0} → (S → TreeEvent → S → Type 0) → (S → TreeEvent → E → Type 0)
-    → (S → E → Type 0) → Edition → FieldKind → List ℕ → S → E → Type 0
-IsVisitorErrorFrom {S} takes fails finish_fails edition kind u from fault =
-    ((es : List TreeEvent) × (e : TreeEvent) × (s : S) × BeginsEventsAfter edition kind u (es ++ e ∷ [])
-    × RunsTo takes from es s × fails s e fault)
-    ⊎ ((kind ≡ item_field) × (raw : RawField kind) × (s : S) × IsFieldText edition kind raw u
-    × RunsTo takes from (events kind raw) s × finish_fails s fault)
 
 -- The visitor's error comes on an accepted text after exactly the events before it; on a text that isn't accepted,
 -- and for an item on every text, after those of some field; and on one that isn't accepted, of a field that begins as

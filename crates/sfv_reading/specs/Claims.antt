@@ -8,7 +8,7 @@ use Rattle.sfv_spec.specs.Values.{Edition, rfc9651, FieldKind, RawField, BareVal
 use Rattle.sfv_spec.specs.Grammar.{IsBareText, IsFieldText, IsEnded}
 use Rattle.sfv_spec.specs.Events.{TreeEvent, events}
 use Rattle.sfv_spec.specs.Reach.{IsReach}
-use Rattle.sfv_spec.specs.Visiting.{BeginsEvents}
+use Rattle.sfv_spec.specs.Visiting.{BeginsEvents, BeginsEventsAfter}
 use Rattle.sfv_spec.specs.Base64.{IsBase64Text, symbols}
 use Rattle.sfv_spec.specs.Faults.{SyntaxFault, trailing_comma, unterminated_byte_sequence}
 use Rattle.sfv_spec.specs.Faults.{invalid_byte_sequence, unterminated_escape_sequence, invalid_escape_sequence}
@@ -43,14 +43,6 @@ FaultIsPlaced = (edition : Edition) (kind : FieldKind) (t : List ℕ) (e : Fault
 abbrev pub VisitedBegins : Type 0
 VisitedBegins = (edition : Edition) (kind : FieldKind) (t : List ℕ)
     → BeginsEvents kind (visited (events kind) (whole_field_at edition kind t))
-
--- es begins the events of a field of this type, whose text begins so
-pub record BeginsEventsAfter (edition : Edition) (kind : FieldKind) (u : List ℕ) (es : List TreeEvent) : Type 0 where
-  pub raw : RawField kind
-  pub more : List ℕ
-  pub accepted : IsFieldText edition kind raw (u ++ more)
-  pub others : List TreeEvent
-  pub all : events kind raw ≡ es ++ others
 
 -- what was visited before a fault begins the events of a field whose text begins with all bytes up to the reach
 abbrev pub EventsReach : Type 0

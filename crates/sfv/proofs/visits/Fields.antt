@@ -11,7 +11,8 @@ use Rattle.sfv_spec.specs.Faults.{SyntaxFault, trailing_characters_after_parsed_
 use Rattle.sfv_spec.specs.Grammar.{IsFieldText, IsAccepted}
 use Rattle.sfv_spec.specs.Reach.{IsReach}
 use Rattle.sfv_spec.specs.Events.{TreeEvent, events, item_events}
-use Rattle.sfv_spec.specs.Visiting.{RunsTo, IsVisited, IsVisitorError, IsEarlyVisitorError}
+use Rattle.sfv_spec.specs.Visiting.{RunsTo, IsVisited, IsVisitorError, IsEarlyVisitorError, BeginsEventsAfter}
+use Rattle.sfv_spec.specs.Visiting.{IsVisitorErrorFrom}
 use Rattle.sfv_spec.proofs.Valid.{accepted_is_value_lem}
 use Rattle.sfv_spec.proofs.Structure.{one_field_lem}
 use Rattle.sfv_spec.proofs.Editions.{one_reach_lem}
@@ -30,7 +31,6 @@ use Rattle.sfv_reading.specs.Visits.{VisitorFails}
 use Rattle.sfv_reading.proofs.complete.Combinators.{bind_complete}
 use Rattle.sfv_reading.proofs.sound.Combinators.{Somewhere}
 use Rattle.sfv_reading.proofs.sound.Fields.{FieldGoes, Sound-field}
-use Rattle.sfv_reading.specs.Claims.{BeginsEventsAfter as ReadBegins}
 use Rattle.sfv_reading.proofs.Theorems.{read_is_accepted, fault_is_placed}
 use Rattle.sfv_reading.proofs.Trailing.{read_before}
 use Rattle.sfv_reading.proofs.visits.Fields.{visited_begins, failed_begins}
@@ -42,7 +42,7 @@ use Rattle.sfv.specs.Fields.{located_whole}
 use Rattle.sfv.specs.Members.{MemberValue, member_parts, one_member_at, field_of}
 use Rattle.sfv.specs.Visits.{VisitsAnswer, IsOfVisitor, VisitsField, IsFinishedAt, IsAskedThere}
 use Rattle.sfv.specs.Parsers.{IsAnswerOf, IsSyntaxOf, IsVisitorErrorOf, IsParseError, VisitsAccepted, IsFinishedFirst}
-use Rattle.sfv.specs.Parsers.{trailing_error, BeginsEventsAfter, IsVisitorErrorFrom}
+use Rattle.sfv.specs.Parsers.{trailing_error}
 use Rattle.sfv.proofs.visits.Whole.{spaced, field_error, ending_located}
 use Rattle.sfv.proofs.Parsed.{located_fault, parse_error}
 use Rattle.sfv.proofs.reads.Delimiters.{span_total}
@@ -313,7 +313,7 @@ front_is t front rest n e d = append_cancel_right front (take n t) rest (sym e �
 
 -- each beginning of events that begin a field's begins them too
 begins_to : (edition : Edition) (kind : FieldKind) (u : List ℕ) (es before : List TreeEvent) (e : TreeEvent)
-    (after : List TreeEvent) → ReadBegins edition kind u es → es ≡ before ++ e ∷ after
+    (after : List TreeEvent) → BeginsEventsAfter edition kind u es → es ≡ before ++ e ∷ after
     → BeginsEventsAfter edition kind u (before ++ e ∷ [])
 begins_to edition kind u es before e after h i = record {
   raw = h.raw;

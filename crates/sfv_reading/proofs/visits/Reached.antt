@@ -10,7 +10,8 @@ use Rattle.sfv_spec.specs.Reach.{BeginsAccepted, IsReach}
 use Rattle.sfv_reading.specs.Reader.{Fault, Answer, visited}
 use Rattle.sfv_reading.specs.Fields.{whole_field_at, ending, read_field}
 use Rattle.sfv_reading.specs.Bare.{bare_at}
-use Rattle.sfv_reading.specs.Claims.{EventsReach, BeginsEventsAfter}
+use Rattle.sfv_reading.specs.Claims.{EventsReach}
+use Rattle.sfv_spec.specs.Visiting.{BeginsEventsAfter}
 use Rattle.sfv_reading.proofs.sound.Combinators.{Begins, Somewhere}
 use Rattle.sfv_reading.proofs.sound.Fields.{FieldGoes, Sound-field}
 use Rattle.sfv_reading.proofs.Theorems.{fault_is_placed, read_is_accepted}
