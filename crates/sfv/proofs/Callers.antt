@@ -50,7 +50,7 @@ pub use Rattle.sfv.proofs.LastRead.{read_back_either}
 pub use Rattle.sfv_serializer.proofs.Scripts.{taken_away, kept_as, more_as, written_behind}
 pub use Rattle.sfv_serializer.proofs.Scripts.{inner_list_ended, named_list_ended}
 -- what a visitor did with the events of a field
-pub use Rattle.sfv_spec.proofs.Runs.{runs_fold, entry_in, keys_in_events, entries_in_events, fails_somewhere}
+pub use Rattle.sfv_spec.proofs.Runs.{runs_fold, key_in, entry_in, keys_in_events, entries_in_events, fails_somewhere}
 -- what is kept of a field by the last of each key
 pub use Rattle.sfv_spec.proofs.Kept.{last_kept, fold_members, fold_parameters, idle_within}
 pub use Rattle.sfv_spec.proofs.Runs.{IsInside, member_inside}

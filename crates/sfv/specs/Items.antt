@@ -1,6 +1,6 @@
 -- What parameters that were read are.
 use Rattle.std.specs.Prelude.{◌≡◌, ℕ, List, ◌∷◌, ◌++◌}
-use Rattle.sfv_spec.specs.Ascii.{semicolon}
+use Rattle.sfv_spec.proofs.Marks.{semicolon}
 use Rattle.sfv_spec.specs.Grammar.{Spaces}
 use Rattle.sfv_spec.specs.Values.{BareValue}
 use Rattle.sfv_text.specs.KeyText.{key_text}

@@ -2,7 +2,7 @@
 use Rattle.std.specs.Prelude.{◌≡◌, ℕ, ◌≤◌, ◌⊎◌, List, length, take, drop, replicate}
 use Rattle.sfv_spec.specs.Ascii.{equals_sign}
 use Rattle.sfv_spec.specs.Texts.{RunOf}
-use Rattle.sfv_spec.specs.Base64.{is_symbol}
+use Rattle.sfv_spec.proofs.Marks.{is_symbol}
 use Rattle.sfv_reading.specs.Reader.{Apart, byte}
 
 -- the first n bytes, and no more, are symbols

@@ -6,7 +6,7 @@ ghost use Rattle.std.specs.List.{prefix_len};
 ghost use Rattle.sfv_spec.specs.Texts.{RunOf};
 ghost use Rattle.sfv_spec.specs.Classes.{is_token_inner, is_key_inner};
 ghost use Rattle.sfv_spec.specs.Strings.{is_plain_in_string, is_plain_in_display};
-ghost use Rattle.sfv_spec.specs.Base64.{is_symbol};
+ghost use Rattle.sfv_spec.proofs.Marks.{is_symbol};
 ghost use Rattle.sfv_base.specs.Lanes.{outside_mask, is_table_of};
 
 use crate::lanes::{LANES, is_marked, unmarked};
@@ -86,7 +86,7 @@ impl RunClass for Symbol {
     ghost class = { is_symbol };
 
     #[inline(always)]
-    #[tactic(auto, unfolding(sfv_spec::specs::Base64::is_symbol))]
+    #[tactic(auto, unfolding(sfv_spec::proofs::Marks::is_symbol))]
     fn table() -> &'static [u8; 16] {
         &[
             168, 248, 248, 248, 248, 248, 248, 248, 248, 248, 240, 84, 80, 80, 80, 84,

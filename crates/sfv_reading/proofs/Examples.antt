@@ -17,7 +17,7 @@ use Rattle.sfv_reading.specs.Reader.{Fault, at_reach, by_rule, give, fail, ruled
 use Rattle.sfv_reading.specs.Reader.{span, many, many_within, visited}
 use Rattle.std.specs.Str.{is_utf8, chars}
 use Rattle.std.specs.Str.Lossy.{utf8_valid_len}
-use Rattle.sfv_spec.specs.Base64.{is_symbol}
+use Rattle.sfv_spec.proofs.Marks.{is_symbol}
 use Rattle.sfv_reading.specs.Content.{symbol_value, padding_in, valid_from, values_in, bytes_from, bytes_of}
 use Rattle.sfv_reading.specs.Content.{fault_place, content_in, bytes_at}
 use Rattle.sfv_reading.specs.Quoted.{string_from, pieces_from, display_at}

@@ -1,8 +1,9 @@
 -- Reading bare items.
 use Rattle.std.specs.Prelude.{ℕ, ◌+◌, ◌-◌, ◌*◌, ◌^◌, Bool, true, false, ◌||◌, List, ◌∷◌, length, Option, Some, None}
 use Rattle.std.specs.Prelude.{nat_lt, ◌==◌, if◌then◌else◌}
-use Rattle.sfv_spec.specs.Ascii.{double_quote, percent_sign, minus_sign, dot, digit_zero, digit_one, colon}
-use Rattle.sfv_spec.specs.Ascii.{question_mark, at_sign}
+use Rattle.sfv_spec.specs.Ascii.{double_quote, percent_sign, digit_zero, colon}
+use Rattle.sfv_spec.proofs.Marks.{minus_sign, dot, digit_one}
+use Rattle.sfv_spec.proofs.Marks.{question_mark, at_sign}
 use Rattle.sfv_spec.specs.Classes.{is_digit, is_token_start, is_token_inner}
 use Rattle.sfv_spec.specs.Numbers.{place_value, signed}
 use Rattle.sfv_spec.specs.Values.{Edition, rfc8941, rfc9651, BareValue, integer, decimal, string, token, byte_sequence}

@@ -1,6 +1,7 @@
 -- The faults of a bare item, and the table of faults.
 use Rattle.std.specs.Prelude.{◌≡◌, ℕ, ◌+◌, ◌-◌, true, false, List, ◌∷◌, ◌++◌, length, Err, ◌⊎◌, codes}
-use Rattle.sfv_spec.specs.Ascii.{asterisk, question_mark}
+use Rattle.sfv_spec.specs.Ascii.{asterisk}
+use Rattle.sfv_spec.proofs.Marks.{question_mark}
 use Rattle.sfv_spec.specs.Values.{Edition, FieldKind, BareValue}
 use Rattle.sfv_spec.specs.Grammar.{IsBareText}
 use Rattle.sfv_spec.specs.Faults.{SyntaxFault, trailing_comma, expected_start_of_bare_item, IsTrailingComma}

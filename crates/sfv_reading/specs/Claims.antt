@@ -24,7 +24,7 @@ use Rattle.sfv_reading.specs.Bare.{bare_at}
 use Rattle.sfv_reading.specs.Fields.{whole_field_at, read_field}
 
 -- A fault stands at the reach, or its place has a rule; what was visited begins some field's events.
-pub record IsFaultOf (edition : Edition) (kind : FieldKind) (t : List ℕ) (e : Fault) : Type 0 where
+pub record IsPlacedFault (edition : Edition) (kind : FieldKind) (t : List ℕ) (e : Fault) : Type 0 where
   pub told : BeginsEvents kind e.events
   pub exact : e.exact ≡ true → (n : ℕ) × (drop n t ≡ e.rest) × IsReach edition kind t n
   pub ruled : e.exact ≡ false → has_rule e.kind ≡ true
@@ -37,7 +37,7 @@ ReadIsAccepted = (edition : Edition) (kind : FieldKind) (t : List ℕ) (raw : Ra
 -- each fault of a field stands where it should
 abbrev pub FaultIsPlaced : Type 0
 FaultIsPlaced = (edition : Edition) (kind : FieldKind) (t : List ℕ) (e : Fault) → read_field edition kind t ≡ Err e
-    → IsFaultOf edition kind t e
+    → IsPlacedFault edition kind t e
 
 -- what is visited by an answer, a success or a fault, begins some field's events
 abbrev pub VisitedBegins : Type 0

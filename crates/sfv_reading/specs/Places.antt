@@ -1,6 +1,6 @@
 -- What the faults of a field come from, and where in it a bare item or a key is read.
 use Rattle.std.specs.Prelude.{◌≡◌, ℕ, Bool, true, false, List, [], ◌++◌, drop, ◌⊎◌, ◌||◌, ◌==◌, not, IsTrue, Err, codes}
-use Rattle.sfv_spec.specs.Ascii.{left_parenthesis, right_parenthesis}
+use Rattle.sfv_spec.proofs.Marks.{left_parenthesis, right_parenthesis}
 use Rattle.sfv_spec.specs.Texts.{begins_with}
 use Rattle.sfv_spec.specs.Classes.{is_space_or_tab}
 use Rattle.sfv_spec.specs.Values.{Edition, FieldKind}

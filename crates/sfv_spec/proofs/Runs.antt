@@ -6,7 +6,7 @@ use Rattle.std.proofs.lemmas.List.Elements.{filter_map-append, Contains-append_r
 use Rattle.sfv_spec.specs.Values.{list_field, dictionary_field, RawParameters, RawItem, RawMember, item, inner_list}
 use Rattle.sfv_spec.specs.Events.{TreeEvent, entry, keyed_entry, begins_item, begins_inner_list, bare_item}
 use Rattle.sfv_spec.specs.Events.{parameter, parameters_end, inner_list_end, parameters_events, inner_item_events}
-use Rattle.sfv_spec.specs.Events.{member_events, events, key_in}
+use Rattle.sfv_spec.specs.Events.{member_events, events}
 use Rattle.sfv_spec.specs.Ordered.{keys}
 use Rattle.sfv_spec.specs.Visiting.{RunsTo, IsVisitorError}
 
@@ -22,6 +22,11 @@ abbrev pub IsInside : TreeEvent → Type 0
 IsInside entry = ⊥
 IsInside (keyed_entry key) = ⊥
 IsInside e = ⊤
+
+-- the key that leads a member
+abbrev pub key_in : TreeEvent → Option (List ℕ)
+key_in (keyed_entry key) = Some key
+key_in e = None
 
 -- the place that leads a member of a list
 abbrev pub entry_in : TreeEvent → Option (Unit {0})

@@ -13,7 +13,7 @@ use Rattle.sfv.specs.Values.{Edition, rfc9651, FieldKind, item_field, list_field
 use Rattle.sfv.specs.Values.{string, token, byte_sequence}
 use Rattle.sfv.specs.Values.{boolean, date, display_string, RawMember, item, inner_list}
 use Rattle.sfv.specs.Events.{TreeEvent, entry, keyed_entry, begins_item, begins_inner_list, bare_item, parameter}
-use Rattle.sfv.specs.Events.{parameters_end, inner_list_end, events, key_in}
+use Rattle.sfv.specs.Events.{parameters_end, inner_list_end, events}
 use Rattle.sfv.specs.Grammar.{IsFieldText, IsAccepted, StandsFirst, BeginsWithBareItem}
 use Rattle.sfv.specs.Ordered.{last_of, ordered_member}
 use Rattle.sfv.specs.Statements.{IsParsedAs}
@@ -28,7 +28,7 @@ use Rattle.sfv.specs.Types.{StringFromInput}
 use Rattle.sfv.specs.Types.bare_items as bare_items
 use Rattle.sfv.specs.Types.item_faults as item_faults
 use Rattle.sfv.specs.Types.parse_errors.{Syntax, Visitor}
-use Rattle.sfv.proofs.Callers.{runs_fold, keys_in_events, member_read, last_of-collapse, expect_answers}
+use Rattle.sfv.proofs.Callers.{runs_fold, key_in, keys_in_events, member_read, last_of-collapse, expect_answers}
 use Rattle.sfv.proofs.Callers.{expect_fails, expect_first, begins_with_its, accepted_error}
 use Rattle.sfv_uses.specs.Uses.{integer_or, param_in, counts, HasMembers, IsCountError, IsExpectError, IsReadError}
 use Rattle.sfv_uses.specs.Uses.{IsPairError, IsErrorOfLines, IsLentString}

@@ -6,7 +6,8 @@ use Rattle.std.specs.declared.vec.Vec.{Vec}
 use Rattle.std.specs.declared.borrow.CowStr.{CowStr}
 use Rattle.std.proofs.lemmas.Bool.{eqb-true}
 use Rattle.std.proofs.lemmas.Result.{IfOk-weaker}
-use Rattle.sfv_spec.specs.Ascii.{semicolon, equals_sign}
+use Rattle.sfv_spec.specs.Ascii.{equals_sign}
+use Rattle.sfv_spec.proofs.Marks.{semicolon}
 use Rattle.sfv_spec.specs.Classes.{is_space}
 use Rattle.sfv_spec.specs.Texts.{RunOf}
 use Rattle.sfv_base.specs.declared.error.Error.{Error}

@@ -12,7 +12,8 @@ use Rattle.base64.specs.Engines.{standard_no_pad}
 use Rattle.base64.specs.GeneralPurpose.{encode_of, decode_of, IsBytes}
 use Rattle.base64.proofs.EngineFacts.{decode_of-encode_of}
 use Rattle.sfv_spec.specs.Values.{is_byte}
-use Rattle.sfv_spec.specs.Base64.{symbols, symbol, is_symbol}
+use Rattle.sfv_spec.specs.Base64.{symbols, symbol}
+use Rattle.sfv_spec.proofs.Marks.{is_symbol}
 use Rattle.sfv_reading.specs.Content.{symbol_value, bytes_from}
 use Rattle.sfv.specs.Zeros.{HasZeros, decoded_symbols}
 use Rattle.sfv_reading.proofs.base64.Bits.{is_value, head_value, bytes_within}

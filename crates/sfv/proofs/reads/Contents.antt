@@ -12,7 +12,7 @@ use Rattle.sfv_spec.specs.Ascii.{colon, equals_sign}
 use Rattle.sfv_spec.proofs.Settled.{NotBegun}
 use Rattle.sfv_base.specs.declared.error.ErrorKind.TheVariants.{InvalidByteSequence, UnterminatedByteSequence}
 use Rattle.sfv_reading.specs.Reader.{Apart}
-use Rattle.sfv_spec.specs.Base64.{is_symbol}
+use Rattle.sfv_spec.proofs.Marks.{is_symbol}
 use Rattle.sfv_reading.specs.Content.{most_padding, valid_from, fault_place, HasNoColon, bytes_at}
 use Rattle.sfv_reading.proofs.base64.Shape.{Shape, is_equals, shape_valid, valid_local}
 use Rattle.sfv_reading.proofs.base64.Contents.{well_formed, gives_the_bytes, rejected_at, lone_symbol}

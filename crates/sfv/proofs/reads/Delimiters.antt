@@ -3,7 +3,7 @@ use Rattle.std.proofs.Common.{◌≡◌, ℕ, Bool, true, false, not, List, [], 
 use Rattle.std.proofs.Common.{◌∙◌}
 use Rattle.std.specs.Prelude.{is_some}
 use Rattle.std.proofs.lemmas.Bool.{true≢false}
-use Rattle.sfv_spec.specs.Ascii.{right_parenthesis, comma}
+use Rattle.sfv_spec.proofs.Marks.{right_parenthesis, comma}
 use Rattle.sfv_spec.specs.Classes.{is_space, is_space_or_tab}
 use Rattle.sfv_spec.specs.Values.{Edition, RawItem}
 use Rattle.sfv_spec.specs.Events.{TreeEvent, inner_item_events}

@@ -1,7 +1,8 @@
 //! Reading bare items (RFC 9651, sections 4.2.3.1 and 4.2.5 to 4.2.10).
 
 ghost use Rattle.std.specs.Prelude.{◌≡◌, ◌↔◌, Bool, true, IfOk, IsTrue};
-ghost use Rattle.sfv_spec.specs.Ascii.{double_quote, percent_sign, colon, question_mark, at_sign};
+ghost use Rattle.sfv_spec.specs.Ascii.{double_quote, percent_sign, colon};
+ghost use Rattle.sfv_spec.proofs.Marks.{question_mark, at_sign};
 ghost use Rattle.sfv_spec.specs.Values.{rfc9651, boolean, date};
 ghost use Rattle.sfv_base.specs.Numbers.{seconds_of};
 ghost use Rattle.sfv_bare.specs.BareItems.{input_value};

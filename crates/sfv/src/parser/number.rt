@@ -1,7 +1,7 @@
 //! Reading numbers (RFC 9651, section 4.2.4).
 
 ghost use Rattle.std.specs.Prelude.{◌≡◌, ◌≤◌, ◌<◌, ◌^◌, ℕ, Bool, true, List, Ok};
-ghost use Rattle.sfv_spec.specs.Ascii.{dot};
+ghost use Rattle.sfv_spec.proofs.Marks.{dot};
 ghost use Rattle.sfv_spec.specs.Numbers.{signed as with_sign};
 ghost use Rattle.sfv_base.specs.Numbers.{integer_of};
 ghost use Rattle.sfv_reading.specs.Reader.{byte};

@@ -1,7 +1,8 @@
 //! The symbols of Base64 (RFC 4648, section 4), and runs of them.
 
 ghost use Rattle.std.specs.Prelude.{◌≡◌, ◌*◌, ◌/◌, ◌<◌, IsTrue};
-ghost use Rattle.sfv_spec.specs.Base64.{symbol, is_symbol};
+ghost use Rattle.sfv_spec.specs.Base64.{symbol};
+ghost use Rattle.sfv_spec.proofs.Marks.{is_symbol};
 ghost use Rattle.sfv_reading.specs.Content.{symbol_value, most_padding};
 ghost use Rattle.sfv.specs.Runs.{IsSymbolRun, IsPaddingRun};
 
@@ -11,7 +12,7 @@ use sfv_base::runs::{Symbol, run_end};
 const SYMBOLS: [u8; 64] = *b"ABCDEFGHIJKLMNOPQRSTUVWXYZabcdefghijklmnopqrstuvwxyz0123456789+/";
 
 /// The value of a symbol.
-#[tactic(auto, unfolding(sfv_spec::specs::Base64::is_symbol, sfv_reading::specs::Content::symbol_value))]
+#[tactic(auto, unfolding(sfv_spec::proofs::Marks::is_symbol, sfv_reading::specs::Content::symbol_value))]
 pub(crate) fn value_of(byte: u8) -> u8
     requires { IsTrue (is_symbol byte) }
     ensures value { result ≡ symbol_value byte }

@@ -10,7 +10,8 @@ use Rattle.std.proofs.lemmas.List.{length-take-le}
 use Rattle.std.proofs.lemmas.List.Folds.{list_all-append}
 use Rattle.sfv_spec.specs.Ascii.{colon, equals_sign, upper_a}
 use Rattle.sfv_spec.specs.Texts.{IsLongestBeginning}
-use Rattle.sfv_spec.specs.Base64.{symbol, bits, IsBase64Text, is_symbol}
+use Rattle.sfv_spec.specs.Base64.{symbol, bits, IsBase64Text}
+use Rattle.sfv_spec.proofs.Marks.{is_symbol}
 use Rattle.sfv_spec.specs.Faults.{BeginsBase64}
 use Rattle.sfv_spec.proofs.Settled.{NotBegun}
 use Rattle.sfv_spec.proofs.Bytes.{bytes_settle}

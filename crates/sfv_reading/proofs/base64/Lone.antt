@@ -8,7 +8,8 @@ use Rattle.std.proofs.lemmas.List.{length-append, append-nil, length-replicate, 
 use Rattle.sfv_spec.specs.Ascii.{equals_sign}
 use Rattle.sfv_spec.specs.Texts.{RunOf}
 use Rattle.sfv_spec.specs.Classes.{is_one_of}
-use Rattle.sfv_spec.specs.Base64.{symbols, is_symbol}
+use Rattle.sfv_spec.specs.Base64.{symbols}
+use Rattle.sfv_spec.proofs.Marks.{is_symbol}
 use Rattle.sfv_spec.proofs.Parts.{implied}
 use Rattle.sfv_reading.specs.Content.{most_padding, valid_from, bytes_of, fault_place}
 use Rattle.sfv_reading.specs.Claims.{LeavesOneOver}

@@ -2,12 +2,14 @@
 use Rattle.std.proofs.Common.{◌≡◌, ℕ, zero, suc, ◌<◌, ◌≤◌, ◌+◌, List, [], ◌∷◌, ◌++◌, length, map, take, replicate, refl}
 use Rattle.std.proofs.Common.{sym, ◌∙◌, ap, Bool, true, arith, ◌⊎◌, inl, inr}
 use Rattle.std.specs.Prelude.{◌==◌, ◌||◌}
-use Rattle.sfv_spec.specs.Ascii.{plus_sign, slash, digit_zero, digit_nine, equals_sign, upper_a, upper_z, lower_a}
+use Rattle.sfv_spec.specs.Ascii.{digit_zero, digit_nine, equals_sign, upper_a, upper_z, lower_a}
+use Rattle.sfv_spec.proofs.Marks.{plus_sign, slash}
 use Rattle.sfv_spec.specs.Ascii.{lower_z}
 use Rattle.sfv_spec.specs.Classes.{is_between}
 use Rattle.std.specs.List.{list_all}
 use Rattle.std.proofs.lemmas.Bool.{and_parts, eqb-true, ltb-true, cases_Bool, or_cases}
-use Rattle.sfv_spec.specs.Base64.{symbol, is_symbol}
+use Rattle.sfv_spec.specs.Base64.{symbol}
+use Rattle.sfv_spec.proofs.Marks.{is_symbol}
 use Rattle.sfv_spec.proofs.Settled.{NotBegun}
 use Rattle.sfv_spec.proofs.Parts.{implied, between_below}
 use Rattle.sfv_reading.specs.Content.{symbol_value, most_padding, padding_in, valid_from, values_in}

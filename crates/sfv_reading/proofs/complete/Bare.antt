@@ -5,8 +5,9 @@ use Rattle.std.specs.Prelude.{◌⊎◌, IsTrue}
 use Rattle.std.specs.List.{list_all}
 use Rattle.std.proofs.lemmas.Bool.{eqb-true, or_left, or_from, ne_eqb, and_parts, true≢false, both_ways, cases_Bool}
 use Rattle.std.proofs.lemmas.Bool.{or_cases, not-true}
-use Rattle.sfv_spec.specs.Ascii.{double_quote, percent_sign, minus_sign, dot, digit_zero, digit_one, digit_nine, colon}
-use Rattle.sfv_spec.specs.Ascii.{question_mark, at_sign}
+use Rattle.sfv_spec.specs.Ascii.{double_quote, percent_sign, digit_zero, digit_nine, colon}
+use Rattle.sfv_spec.proofs.Marks.{minus_sign, dot, digit_one}
+use Rattle.sfv_spec.proofs.Marks.{question_mark, at_sign}
 use Rattle.sfv_spec.specs.Texts.{begins_with, RunOf}
 use Rattle.sfv_spec.specs.Classes.{is_digit, is_token, is_token_start, is_token_inner}
 use Rattle.sfv_spec.specs.Values.{Edition, rfc9651, BareValue, integer, decimal, string, token, byte_sequence, boolean}

@@ -2,7 +2,8 @@
 use Rattle.std.proofs.Common.{◌≡◌, ℕ, ◌<◌, ◌≤◌, Bool, true, false, eqb, leb, ◌||◌, ℤ, List, [], ◌∷◌, ◌++◌, length}
 use Rattle.std.proofs.Common.{Some, Ok, refl, sym, ap, ◌∙◌, append_assoc, arith}
 use Rattle.std.proofs.lemmas.Bool.{and_parts, or_parts, leb-true, ne_eqb, le-ltb}
-use Rattle.sfv_spec.specs.Ascii.{minus_sign, dot, digit_zero, digit_nine}
+use Rattle.sfv_spec.specs.Ascii.{digit_zero, digit_nine}
+use Rattle.sfv_spec.proofs.Marks.{minus_sign, dot}
 use Rattle.sfv_spec.specs.Texts.{RunOf}
 use Rattle.sfv_spec.specs.Classes.{is_digit}
 use Rattle.sfv_spec.specs.Values.{integer, decimal}

@@ -2,7 +2,7 @@
 use Rattle.std.proofs.Common.{◌≡◌, ℕ, Bool, true, false, eqb, ◌||◌, List, [], ◌∷◌, ◌++◌, Ok, Err, refl, sym, ap, subst}
 use Rattle.std.proofs.Common.{◌∙◌, append_assoc}
 use Rattle.std.proofs.lemmas.Bool.{or_parts}
-use Rattle.sfv_spec.specs.Ascii.{left_parenthesis, right_parenthesis}
+use Rattle.sfv_spec.proofs.Marks.{left_parenthesis, right_parenthesis}
 use Rattle.sfv_spec.specs.Classes.{is_space_or_tab}
 use Rattle.sfv_spec.specs.Values.{Edition, BareValue}
 use Rattle.sfv_spec.specs.Events.{TreeEvent}

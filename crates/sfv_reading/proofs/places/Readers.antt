@@ -3,7 +3,8 @@ use Rattle.std.proofs.Common.{◌≡◌, ℕ, Bool, true, false, eqb, ◌||◌, 
 use Rattle.std.proofs.Common.{refl, inl, inr}
 use Rattle.std.proofs.Common.{sym, ap, subst, ◌∙◌}
 use Rattle.std.proofs.lemmas.Bool.{true≢false, cases_Bool, or_left, or_parts}
-use Rattle.sfv_spec.specs.Ascii.{space, tab, comma, left_parenthesis, right_parenthesis}
+use Rattle.sfv_spec.specs.Ascii.{space, tab}
+use Rattle.sfv_spec.proofs.Marks.{comma, left_parenthesis, right_parenthesis}
 use Rattle.sfv_spec.specs.Texts.{RunOf}
 use Rattle.sfv_spec.specs.Classes.{is_space, is_space_or_tab}
 use Rattle.sfv_spec.specs.Values.{Edition, RawParameters}

@@ -6,7 +6,8 @@ use Rattle.std.proofs.Common.{◌⊎◌}
 use Rattle.std.specs.Prelude.{⊤}
 use Rattle.std.proofs.lemmas.Bool.{true≢false, cases_order}
 use Rattle.std.proofs.lemmas.List.{append_cancel_right, length-append}
-use Rattle.sfv_spec.specs.Ascii.{comma, left_parenthesis, question_mark, asterisk}
+use Rattle.sfv_spec.specs.Ascii.{asterisk}
+use Rattle.sfv_spec.proofs.Marks.{comma, left_parenthesis, question_mark}
 use Rattle.sfv_spec.specs.Texts.{RunOf}
 use Rattle.sfv_spec.specs.Classes.{is_space_or_tab}
 use Rattle.sfv_spec.specs.Values.{Edition}

@@ -3,7 +3,8 @@ use Rattle.std.proofs.Common.{◌≡◌, ℕ, Bool, true, false, List, [], ◌�
 use Rattle.std.proofs.Common.{subst, ◌∙◌, append_assoc, arith, inl, inr, ◌⊎◌, length-drop}
 use Rattle.std.specs.Prelude.{codes}
 use Rattle.std.proofs.lemmas.List.{append-nil, take_at, drop_at, length-append}
-use Rattle.sfv_spec.specs.Ascii.{space, comma, digit_one, question_mark, asterisk}
+use Rattle.sfv_spec.specs.Ascii.{space, asterisk}
+use Rattle.sfv_spec.proofs.Marks.{comma, digit_one, question_mark}
 use Rattle.sfv_spec.specs.Values.{Edition, FieldKind, item_field, list_field, dictionary_field, RawField, BareValue}
 use Rattle.sfv_spec.specs.Grammar.{IsFieldText, IsAccepted}
 use Rattle.sfv_spec.specs.Events.{events}
@@ -16,7 +17,7 @@ use Rattle.sfv_reading.specs.Reader.{Fault, Answer, fail, give, bind, branch, sp
 use Rattle.sfv_reading.specs.Bare.{boolean_at, bare_at}
 use Rattle.sfv_reading.specs.Items.{key_at}
 use Rattle.sfv_reading.specs.Fields.{whole_field_at, ending, read_field}
-use Rattle.sfv_reading.specs.Claims.{IsFaultOf}
+use Rattle.sfv_reading.specs.Claims.{IsPlacedFault}
 use Rattle.sfv_reading.specs.Places.{IsOfBare, IsOfComma, IsOfWanted, IsOfOpenList, BareIsWanted}
 use Rattle.sfv_reading.proofs.Theorems.{read_is_accepted, fault_is_placed}
 use Rattle.sfv_reading.proofs.Trailing.{key_fault, comes_from}
@@ -34,7 +35,7 @@ use Rattle.sfv_reading.proofs.places.Readers.{Ever}
 pub begins_to : (edition : Edition) (kind : FieldKind) (u r : List ℕ) (e : Fault)
     → read_field edition kind (u ++ r) ≡ Err e → e.exact ≡ true → e.rest ≡ r → BeginsAccepted edition kind u
 begins_to edition kind u r e i exact rest =
-    let p : IsFaultOf edition kind (u ++ r) e = fault_is_placed edition kind (u ++ r) e i in
+    let p : IsPlacedFault edition kind (u ++ r) e = fault_is_placed edition kind (u ++ r) e i in
     let h = p.exact exact in
     let size : length (drop h.0 (u ++ r)) ≡ length r = ap (length {A = ℕ}) (h.1 ∙ rest) in
     let n : h.0 ≡ length u = omega (

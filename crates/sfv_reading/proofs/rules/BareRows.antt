@@ -5,7 +5,8 @@ use Rattle.std.specs.Prelude.{◌==◌, codes}
 use Rattle.std.specs.List.{concat}
 use Rattle.std.proofs.lemmas.Bool.{true≢false, or_parts, not-true, not_from_false, ne_eqb}
 use Rattle.std.proofs.lemmas.List.{append-nil}
-use Rattle.sfv_spec.specs.Ascii.{double_quote, minus_sign, dot, colon, at_sign, backslash}
+use Rattle.sfv_spec.specs.Ascii.{double_quote, colon, backslash}
+use Rattle.sfv_spec.proofs.Marks.{minus_sign, dot, at_sign}
 use Rattle.sfv_spec.specs.Texts.{begins_with}
 use Rattle.sfv_spec.specs.Classes.{is_digit, is_one_of, is_string_byte}
 use Rattle.sfv_spec.specs.Values.{Edition, rfc8941, rfc9651, BareValue, string, byte_sequence}

@@ -3,7 +3,8 @@ use Rattle.std.proofs.Common.{◌≡◌, ℕ, ◌≤◌, Bool, true, eqb, List, 
 use Rattle.std.proofs.Common.{sym, ap, subst, ◌∙◌, append_assoc, arith, inl, inr, ◌⊎◌}
 use Rattle.std.proofs.lemmas.List.{append-nil, append_cancel_right, length-append}
 use Rattle.std.proofs.lemmas.Bool.{true≢false, eqb-true}
-use Rattle.sfv_spec.specs.Ascii.{space, left_parenthesis, right_parenthesis, equals_sign, comma}
+use Rattle.sfv_spec.specs.Ascii.{space, equals_sign}
+use Rattle.sfv_spec.proofs.Marks.{left_parenthesis, right_parenthesis, comma}
 use Rattle.sfv_spec.specs.Texts.{RunOf, IsJoining}
 use Rattle.sfv_spec.specs.Classes.{is_space, is_space_or_tab, is_key_inner}
 use Rattle.sfv_spec.specs.Values.{Edition, FieldKind, item_field, list_field, dictionary_field, RawField, RawItem}

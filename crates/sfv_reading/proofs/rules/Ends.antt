@@ -1,7 +1,7 @@
 -- Members are read up to the end of the text.
 use Rattle.std.proofs.Common.{◌≡◌, ℕ, zero, suc, ◌<◌, Bool, true, false, cond, List, [], ◌∷◌, length, Option, Some}
 use Rattle.std.proofs.Common.{None, Ok, Err, refl, sym, ap, ◌∙◌, arith}
-use Rattle.sfv_spec.specs.Ascii.{comma}
+use Rattle.sfv_spec.proofs.Marks.{comma}
 use Rattle.sfv_spec.specs.Events.{TreeEvent}
 use Rattle.sfv_spec.specs.Values.{Edition, FieldKind, item_field, list_field, dictionary_field, RawField}
 use Rattle.sfv_spec.specs.Events.{entry_events, keyed_events}

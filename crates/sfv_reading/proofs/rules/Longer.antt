@@ -4,7 +4,8 @@ use Rattle.std.proofs.Common.{◌∙◌, append_assoc, inl, inr}
 use Rattle.std.specs.Prelude.{codes}
 use Rattle.std.proofs.lemmas.List.{append-nil}
 use Rattle.std.proofs.lemmas.Bool.{or_left}
-use Rattle.sfv_spec.specs.Ascii.{tab, semicolon, left_parenthesis}
+use Rattle.sfv_spec.specs.Ascii.{tab}
+use Rattle.sfv_spec.proofs.Marks.{semicolon, left_parenthesis}
 use Rattle.sfv_spec.specs.Texts.{RunOf, IsJoining, ◌⨾◌}
 use Rattle.sfv_spec.specs.Classes.{is_space, is_space_or_tab}
 use Rattle.sfv_spec.specs.Values.{Edition, FieldKind, item_field, list_field, dictionary_field, RawField, RawMember}

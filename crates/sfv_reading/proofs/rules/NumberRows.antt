@@ -4,8 +4,8 @@ use Rattle.std.proofs.Common.{length, Err, refl, sym, ap, subst, ◌∙◌, appe
 use Rattle.std.specs.Prelude.{◌==◌, ◌⊎◌, codes}
 use Rattle.std.proofs.lemmas.Bool.{cases_Bool, eqb-true, true≢false, or_from, eq-eqb, both_ways}
 use Rattle.std.proofs.lemmas.List.{length-append}
-use Rattle.sfv_spec.specs.Ascii.{minus_sign, dot}
-use Rattle.sfv_spec.specs.Ascii.{at_sign}
+use Rattle.sfv_spec.proofs.Marks.{minus_sign, dot}
+use Rattle.sfv_spec.proofs.Marks.{at_sign}
 use Rattle.sfv_spec.specs.Texts.{begins_with}
 use Rattle.sfv_spec.specs.Classes.{is_digit, is_one_of}
 use Rattle.sfv_spec.specs.Values.{Edition, rfc8941, rfc9651, FieldKind, BareValue}

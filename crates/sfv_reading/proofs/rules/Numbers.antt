@@ -4,7 +4,7 @@ use Rattle.std.proofs.Common.{length, Ok, Err, refl, sym, ap, subst, ◌∙◌, 
 use Rattle.std.specs.Prelude.{◌==◌}
 use Rattle.std.proofs.lemmas.Bool.{cases_Bool, eqb-true, eqb-false, cases_lt, true≢false, or_from, le-ltb, lt-ltb}
 use Rattle.std.proofs.lemmas.List.{nil_from_length}
-use Rattle.sfv_spec.specs.Ascii.{minus_sign, dot}
+use Rattle.sfv_spec.proofs.Marks.{minus_sign, dot}
 use Rattle.sfv_spec.specs.Texts.{begins_with, RunOf}
 use Rattle.sfv_spec.specs.Classes.{is_digit}
 use Rattle.sfv_spec.specs.Values.{BareValue, integer, decimal}

@@ -4,7 +4,8 @@ use Rattle.std.proofs.Common.{append_assoc, arith, inl, inr}
 use Rattle.std.specs.Prelude.{codes}
 use Rattle.std.proofs.lemmas.Bool.{true≢false}
 use Rattle.std.proofs.lemmas.List.{length-append}
-use Rattle.sfv_spec.specs.Ascii.{double_quote, percent_sign, dot, colon, at_sign}
+use Rattle.sfv_spec.specs.Ascii.{double_quote, percent_sign, colon}
+use Rattle.sfv_spec.proofs.Marks.{dot, at_sign}
 use Rattle.sfv_spec.specs.Values.{Edition, rfc9651, FieldKind, display_string}
 use Rattle.sfv_spec.specs.Numbers.{minus_text}
 use Rattle.sfv_spec.specs.Faults.{SyntaxFault, trailing_decimal_point, non_integer_date, at_text, WantsBetween}

@@ -4,7 +4,8 @@ use Rattle.std.proofs.Common.{sym, ap, subst, ◌∙◌, append_assoc, arith}
 use Rattle.std.specs.Prelude.{⊤, codes}
 use Rattle.std.proofs.lemmas.List.{append-nil}
 use Rattle.std.proofs.lemmas.Bool.{eqb-true}
-use Rattle.sfv_spec.specs.Ascii.{space, left_parenthesis, right_parenthesis, comma, equals_sign}
+use Rattle.sfv_spec.specs.Ascii.{space, equals_sign}
+use Rattle.sfv_spec.proofs.Marks.{left_parenthesis, right_parenthesis, comma}
 use Rattle.sfv_spec.specs.Texts.{RunOf, IsJoining}
 use Rattle.sfv_spec.specs.Classes.{is_space, is_space_or_tab}
 use Rattle.sfv_spec.specs.Values.{Edition, boolean, RawItem}

@@ -6,7 +6,8 @@ use Rattle.std.specs.Prelude.{codes}
 use Rattle.std.specs.List.{list_all}
 use Rattle.std.proofs.lemmas.List.{append-nil, length-append}
 use Rattle.std.proofs.lemmas.Bool.{and_parts, both_ways, eq-eqb, true≢false}
-use Rattle.sfv_spec.specs.Ascii.{space, right_parenthesis, double_quote, colon, digit_zero, digit_one}
+use Rattle.sfv_spec.specs.Ascii.{space, double_quote, colon, digit_zero}
+use Rattle.sfv_spec.proofs.Marks.{right_parenthesis, digit_one}
 use Rattle.sfv_spec.specs.Texts.{RunOf, ◌⨾◌, Exactly}
 use Rattle.sfv_spec.specs.Classes.{is_digit, is_token_start, is_token_inner, is_key_start, is_key_inner}
 use Rattle.sfv_spec.specs.Values.{Edition, BareValue, integer, decimal, string, token, byte_sequence, boolean, date}

@@ -8,7 +8,8 @@ use Rattle.std.proofs.lemmas.Bool.{and_parts, eqb-true, eqb-false, cases_Bool, c
 use Rattle.std.proofs.lemmas.List.{take-append-le, drop_at, take-append-drop, drop-drop}
 use Rattle.std.proofs.lemmas.List.Folds.{list_all-append}
 use Rattle.sfv_spec.specs.Ascii.{colon, equals_sign}
-use Rattle.sfv_spec.specs.Base64.{IsBase64Text, symbol, is_symbol}
+use Rattle.sfv_spec.specs.Base64.{IsBase64Text, symbol}
+use Rattle.sfv_spec.proofs.Marks.{is_symbol}
 use Rattle.sfv_spec.specs.Faults.{unterminated_byte_sequence}
 use Rattle.sfv_reading.specs.Reader.{by_rule}
 use Rattle.sfv_reading.specs.Judgements.{Reached, Sound, Mute, Quiet}

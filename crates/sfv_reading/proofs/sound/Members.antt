@@ -2,7 +2,8 @@
 use Rattle.std.proofs.Common.{◌≡◌, ℕ, ◌≤◌, true, List, [], ◌∷◌, ◌++◌, length, Some, None, refl, sym, ap, subst, ◌∙◌}
 use Rattle.std.proofs.Common.{append_assoc, arith, inl, inr}
 use Rattle.std.specs.Prelude.{codes, flat_map}
-use Rattle.sfv_spec.specs.Ascii.{space, left_parenthesis, right_parenthesis, equals_sign}
+use Rattle.sfv_spec.specs.Ascii.{space, equals_sign}
+use Rattle.sfv_spec.proofs.Marks.{left_parenthesis, right_parenthesis}
 use Rattle.sfv_spec.specs.Texts.{Exactly, RunOf, ◌⨾◌}
 use Rattle.sfv_spec.specs.Classes.{is_space}
 use Rattle.sfv_spec.specs.Values.{Edition, boolean, RawParameters, RawItem, RawMember, item}

@@ -3,7 +3,7 @@ use Rattle.std.proofs.Common.{◌≡◌, ℕ, Bool, true, false, cond, List, [],
 use Rattle.std.proofs.Common.{ap, subst, ◌∙◌, append_assoc, flat_map, inl, inr}
 use Rattle.std.proofs.lemmas.List.{append-nil}
 use Rattle.std.proofs.lemmas.Bool.{true≢false, cases_Bool, eqb-true}
-use Rattle.sfv_spec.specs.Ascii.{comma}
+use Rattle.sfv_spec.proofs.Marks.{comma}
 use Rattle.sfv_spec.specs.Classes.{is_space}
 use Rattle.sfv_spec.specs.Values.{Edition, FieldKind, item_field, list_field, dictionary_field, boolean, RawParameters}
 use Rattle.sfv_spec.specs.Values.{RawItem, RawMember, item, inner_list}
