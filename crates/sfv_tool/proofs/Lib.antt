@@ -1,2 +1,5 @@
 pub mod Lines
 mod Foos
+mod Priorities
+mod PriorityTexts
+mod Requests

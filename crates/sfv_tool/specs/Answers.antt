@@ -13,6 +13,8 @@ use Rattle.sfv.specs.Calls.{Fits}
 use Rattle.sfv.specs.Errors.{error_text}
 use Rattle.sfv.specs.Parsers.{IsParseError}
 use Rattle.sfv.specs.Versions.{IsSerializeError, serialize_error_text}
+use Rattle.sfv.specs.Types.serialize_errors as serialize_errors
+use Rattle.sfv_tool.specs.Priority.{PriorityValue, priority_text, IsPriorityOf}
 use Rattle.sfv_tool.specs.declared.answer.ToolFault.{ToolFault}
 use Rattle.sfv_tool.specs.declared.answer.ToolFault.TheVariants as faults
 use Rattle.sfv_tool.specs.declared.answer.Field.{Field}
@@ -60,3 +62,15 @@ IsAnswerTo field reading writing input text =
 abbrev pub IsFaultFor : Field → Version → Version → List ℕ → ToolFault → Type 0
 IsFaultFor field reading writing input fault =
     IsToolFault (edition_of reading) (edition_of writing) (kind_of_field field) (without_newline input) fault
+
+-- the text of the priority that the input has, and a newline
+pub record IsPriorityAnswer (version : Version) (input text : List ℕ) : Type 0 where
+  pub value : PriorityValue
+  pub read : IsPriorityOf (edition_of version) (without_newline input) value
+  pub written : text ≡ priority_text value ++ codes "\n"
+
+-- the input isn't read, or memory ran out
+abbrev pub IsPriorityFault : Version → List ℕ → ToolFault → Type 0
+IsPriorityFault version input (faults.Read error) =
+    IsParseError (edition_of version) dictionary_field (without_newline input) error
+IsPriorityFault version input (faults.Write error) = error ≡ serialize_errors.OutOfMemory

@@ -1,3 +1,5 @@
+pub mod Priority
+pub mod PrioritySteps
 pub mod Answers
 pub mod Runs
 pub mod Foo

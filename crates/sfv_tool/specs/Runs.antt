@@ -6,7 +6,8 @@ use Rattle.sfv.specs.Types.versions as version
 use Rattle.sfv_tool.specs.declared.answer.Field.{Field}
 use Rattle.sfv_tool.specs.declared.answer.Field.TheVariants as field
 use Rattle.sfv_tool.specs.declared.run.Request.{Request}
-use Rattle.sfv_tool.specs.Answers.{IsAnswerTo}
+use Rattle.sfv_tool.specs.declared.run.Request.TheVariants as request
+use Rattle.sfv_tool.specs.Answers.{IsAnswerTo, IsPriorityAnswer}
 
 -- the word of a type of field
 abbrev pub field_word : Field → List ℕ
@@ -21,15 +22,32 @@ version_word version.Rfc9651 = codes "9651"
 
 -- the words are those of this type of field, of the version of reading and of that of writing, which is RFC 9651 where
 -- none stands
+abbrev pub NamesField : List (List ℕ) → Field → Version → Version → Type 0
+NamesField words field reading writing =
+    (words ≡ field_word field ∷ version_word reading ∷ version_word writing ∷ [])
+    ⊎ ((words ≡ field_word field ∷ version_word reading ∷ []) × (writing ≡ version.Rfc9651))
+
+-- the word of the Priority field
+abbrev pub priority_word : List ℕ
+priority_word = codes "priority"
+
+-- the words are it and that of the version of reading
+abbrev pub NamesPriority : List (List ℕ) → Version → Type 0
+NamesPriority words version = words ≡ priority_word ∷ version_word version ∷ []
+
 abbrev pub Names : List (List ℕ) → Request → Type 0
-Names words request =
-    (words ≡ field_word request.field ∷ version_word request.reading ∷ version_word request.writing ∷ [])
-    ⊎ ((words ≡ field_word request.field ∷ version_word request.reading ∷ []) × (request.writing ≡ version.Rfc9651))
+Names words (request.Field field reading writing) = NamesField words field reading writing
+Names words (request.Priority version) = NamesPriority words version
+
+-- what is answered to the request for this input
+abbrev pub IsAnswerFor : Request → List ℕ → List ℕ → Type 0
+IsAnswerFor (request.Field field reading writing) input text = IsAnswerTo field reading writing input text
+IsAnswerFor (request.Priority version) input text = IsPriorityAnswer version input text
 
 -- A run to its end: the answer to the input stands after what the output held, and nothing was written to the errors.
 pub record IsAnswered (request : Request) (input output output' errors errors' : Option (List ℕ)) : Type 0 where
   pub answer : IfSome input (λ bytes. (text : List ℕ)
-      × IsAnswerTo request.field request.reading request.writing bytes text
+      × IsAnswerFor request bytes text
       × Appends output output' text)
   pub quiet : Keeps errors errors'
 
@@ -38,11 +56,19 @@ abbrev pub IsFailed : Request → Option (List ℕ) → Option (List ℕ) → Op
 IsFailed request input output output' =
     Keeps output output'
     ⊎ IfSome input (λ bytes. (text : List ℕ)
-    × IsAnswerTo request.field request.reading request.writing bytes text)
+    × IsAnswerFor request bytes text)
 
 -- the words name a request of which this holds
 abbrev pub Requests : List (List ℕ) → (Request → Type 0) → Type 0
 Requests words P = (request : Request) × Names words request × P request
+
+-- the words name no type of field with its versions
+abbrev pub NamesNoField : List (List ℕ) → Type 0
+NamesNoField words = (field : Field) (reading writing : Version) → ¬ NamesField words field reading writing
+
+-- the words aren't those of the Priority field with a version
+abbrev pub NamesNoPriority : List (List ℕ) → Type 0
+NamesNoPriority words = (version : Version) → ¬ NamesPriority words version
 
 -- the words name nothing
 abbrev pub NamesNothing : List (List ℕ) → Type 0

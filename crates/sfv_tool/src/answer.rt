@@ -4,11 +4,15 @@ ghost use Rattle.std.specs.Prelude.{◌≡◌, ◌++◌, Some, IfOk, IfErr, code
 ghost use Rattle.sfv.specs.Values.{item_field, list_field, dictionary_field};
 ghost use Rattle.sfv.specs.BareItems.{edition_of};
 ghost use Rattle.sfv_tool.specs.Answers.{without_newline, text_or_empty, tool_fault_text};
-ghost use Rattle.sfv_tool.specs.Answers.{IsAnswer, IsToolFault, IsAnswerTo, IsFaultFor};
+ghost use Rattle.sfv_tool.specs.Answers.{IsAnswer, IsToolFault, IsAnswerTo, IsFaultFor, IsPriorityAnswer, IsPriorityFault};
 ghost use Rattle.sfv.specs.Types.serialize_errors as serialize_errors;
 ghost use Rattle.sfv_tool.specs.declared.answer.ToolFault.TheVariants as faults;
 
-use sfv::{Dictionary, Error, FieldType, HashSeed, Item, List, Parser, SerializeError, Version};
+use crate::priority::{read_priority, write_priority};
+use sfv::{
+    Dictionary, Error, FieldType, HashSeed, Item, List, OutOfMemory, Parser, SerializeError,
+    Version,
+};
 use std::alloc::Global;
 use std::fmt;
 
@@ -58,6 +62,14 @@ impl From<SerializeError> for ToolFault {
 
     fn from(error: SerializeError) -> ToolFault {
         ToolFault::Write(error)
+    }
+}
+
+impl From<OutOfMemory> for ToolFault {
+    ghost from_gives = { λ _ fault. fault ≡ faults.Write serialize_errors.OutOfMemory };
+
+    fn from(_error: OutOfMemory) -> ToolFault {
+        ToolFault::Write(SerializeError::OutOfMemory)
     }
 }
 
@@ -170,4 +182,21 @@ pub fn answer(
         Field::List => answer_list(alloc, seed, reading, writing, input),
         Field::Dict => answer_dictionary(alloc, seed, reading, writing, input),
     }
+}
+
+/// Reads the input, without one closing newline byte, as a Priority field under this version, and returns the text of its
+/// priority and a newline, of the default the newline alone.
+///
+/// # Errors
+///
+/// `Read` with the error of `Parser::parse`, and `Write` with want of memory.
+pub fn answer_priority(alloc: Global, version: Version, input: &[u8]) -> Result<String, ToolFault>
+    ensures accepted { IfOk result (λ text. IsPriorityAnswer version input.now (string_bytes text)) }
+    ensures failed { IfErr result (IsPriorityFault version input.now) }
+{
+    let priority = read_priority(alloc, without_newline(input), version)?;
+    let mut text = String::new(alloc);
+    write_priority(&mut text, priority)?;
+    let text = line(alloc, Some(text))?;
+    Ok(text)
 }

@@ -1,10 +1,14 @@
-//! The program `sfv_tool`: reads a structured field, and prints its canonical text.
+//! The program `sfv_tool`: reads a structured field, and prints its canonical text; of the Priority field what isn't the
+//! default.
 #![tactic(auto)]
 
 mod answer;
 mod foo;
 #[cfg(test)]
 mod foo_tests;
+mod priority;
+#[cfg(test)]
+mod priority_tests;
 mod run;
 #[cfg(test)]
 mod tests;

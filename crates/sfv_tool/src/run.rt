@@ -1,10 +1,11 @@
 //! The run of the program.
 
-ghost use Rattle.std.specs.Prelude.{◌≡◌, ◌≤◌, ◌↔◌, IfSome, IfNone, OnOk, map, string_bytes};
+ghost use Rattle.std.specs.Prelude.{◌≡◌, ◌≤◌, ◌↔◌, IfSome, IfNone, IfOk, OnOk, IsTrue, map, string_bytes};
 ghost use Rattle.std.specs.Io.KnownBytes.{Appends};
 ghost use Rattle.sfv_tool.specs.Runs.{Names, NamesNothing, Requests, IsAnswered, IsFailed, field_word, version_word};
+ghost use Rattle.sfv_tool.specs.Runs.{IsAnswerFor, NamesPriority, NamesNoField, NamesNoPriority, priority_word};
 
-use crate::answer::{Field, answer};
+use crate::answer::{Field, ToolFault, answer, answer_priority};
 use sfv::{HashSeed, Version};
 use std::alloc::Global;
 use std::io;
@@ -18,10 +19,18 @@ const WRONG_ARGUMENTS: u8 = 2;
 
 /// What the program is asked for.
 #[derive(Clone, Copy)]
-pub struct Request {
-    field: Field,
-    reading: Version,
-    writing: Version,
+pub enum Request {
+    /// A field of this type.
+    Field {
+        /// The type.
+        field: Field,
+        /// The version of reading.
+        reading: Version,
+        /// The version of writing.
+        writing: Version,
+    },
+    /// The Priority field, read under this version.
+    Priority(Version),
 }
 
 /// Returns the field that the argument names.
@@ -49,21 +58,74 @@ fn version_of(arg: &str) -> Option<Version>
     }
 }
 
-/// Returns what the arguments ask for: without a version of writing, RFC 9651.
-fn requested(args: &[String]) -> Option<Request>
+/// Returns the type of field and the versions that the arguments name: without a version of writing, RFC 9651.
+fn field_requested(args: &[String]) -> Option<Request>
     ensures named { IfSome result (Names (map string_bytes args.now)) }
-    ensures none { IfNone result (NamesNothing (map string_bytes args.now)) }
+    ensures none { IfNone result (NamesNoField (map string_bytes args.now)) }
 {
     let (field, reading, writing) = match args {
         [field, reading] => (field, reading, Version::Rfc9651),
         [field, reading, writing] => (field, reading, version_of(writing.as_str())?),
         _ => return None,
     };
-    Some(Request {
+    Some(Request::Field {
         field: field_of(field.as_str())?,
         reading: version_of(reading.as_str())?,
         writing,
     })
+}
+
+/// Whether the argument is the word of the Priority field.
+fn is_priority(arg: &str) -> bool
+    ensures { IsTrue result ↔ (arg.now ≡ priority_word) }
+{
+    arg == "priority"
+}
+
+/// Returns the version under which the arguments ask for the Priority field.
+fn priority_requested(args: &[String]) -> Option<Version>
+    ensures named { IfSome result (NamesPriority (map string_bytes args.now)) }
+    ensures none { IfNone result (NamesNoPriority (map string_bytes args.now)) }
+{
+    let [word, version] = args else {
+        return None;
+    };
+    if !is_priority(word.as_str()) {
+        return None;
+    }
+    let version = version_of(version.as_str())?;
+    Some(version)
+}
+
+/// Returns what the arguments ask for.
+#[tactic(auto, using(crate::proofs::Requests::names_nothing))]
+fn requested(args: &[String]) -> Option<Request>
+    ensures named { IfSome result (Names (map string_bytes args.now)) }
+    ensures none { IfNone result (NamesNothing (map string_bytes args.now)) }
+{
+    if let Some(version) = priority_requested(args) {
+        return Some(Request::Priority(version));
+    }
+    field_requested(args)
+}
+
+/// Returns what is answered to the request for the input. Maps are built under `seed`.
+fn answer_to(
+    alloc: Global,
+    seed: HashSeed,
+    request: Request,
+    input: &[u8],
+) -> Result<String, ToolFault>
+    ensures { IfOk result (λ text. IsAnswerFor request input.now (string_bytes text)) }
+{
+    match request {
+        Request::Field {
+            field,
+            reading,
+            writing,
+        } => answer(alloc, seed, field, reading, writing, input),
+        Request::Priority(version) => answer_priority(alloc, version, input),
+    }
 }
 
 /// Writes all of the text, and flushes it.
@@ -94,14 +156,7 @@ fn convert<R: Read, W: Write, E: Write>(
         let _ = errors.write_all(b"error: cannot read input\n");
         return FAILED;
     }
-    match answer(
-        alloc,
-        seed,
-        request.field,
-        request.reading,
-        request.writing,
-        bytes.as_slice(),
-    ) {
+    match answer_to(alloc, seed, request, bytes.as_slice()) {
         Ok(text) => {
             if print(text.as_str(), output).is_err() {
                 let _ = errors.write_all(b"error: cannot write output\n");
@@ -139,7 +194,9 @@ pub fn run<R: Read, W: Write, E: Write>(
     match requested(args) {
         Some(request) => convert(alloc, seed, request, input, output, errors),
         None => {
-            let _ = errors.write_all(b"usage: sfv_tool item|list|dict 8941|9651 [8941|9651]\n");
+            let _ = errors.write_all(
+                b"usage: sfv_tool item|list|dict 8941|9651 [8941|9651] | priority 8941|9651\n",
+            );
             WRONG_ARGUMENTS
         }
     }

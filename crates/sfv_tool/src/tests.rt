@@ -247,8 +247,10 @@ fn versions_of_writing(rt: HostRuntime) -> Result<(), Fail> {
 
 #[test]
 fn usage(rt: HostRuntime) -> Result<(), Fail> {
-    let usage = "usage: sfv_tool item|list|dict 8941|9651 [8941|9651]\n";
-    let rows: [&[&str]; 11] = [
+    let usage = "usage: sfv_tool item|list|dict 8941|9651 [8941|9651] | priority 8941|9651\n";
+    let rows: [&[&str]; 13] = [
+        &["priority"],
+        &["priority", "9651", "9651"],
         &[],
         &["item"],
         &["item", "9652"],

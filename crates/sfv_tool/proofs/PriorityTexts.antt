@@ -1,0 +1,71 @@
+-- What is written of a priority is read as it, under both versions.
+use Rattle.std.proofs.Common.{◌≡◌, ℕ, ◌+◌, ◌≤◌, ◌<◌, List, [], ◌∷◌, ◌++◌, Bool, true, false, refl, subst}
+use Rattle.std.proofs.Common.{arith}
+use Rattle.std.specs.Prelude.{nat_le, ◌==◌, ◌^◌, codes, if◌then◌else◌}
+use Rattle.std.proofs.lemmas.Fmt.{decimal_digit}
+use Rattle.sfv.specs.Ascii.{digit_zero}
+use Rattle.sfv.specs.Texts.{joined}
+use Rattle.sfv.specs.Values.{Edition, rfc8941, dictionary_field}
+use Rattle.sfv.specs.Ordered.{last_of}
+use Rattle.sfv.specs.Canonical.{canonical}
+use Rattle.sfv.specs.Calls.{Fits}
+use Rattle.sfv.specs.Statements.{IsParsedAs, IsValue}
+use Rattle.sfv.proofs.Callers.{read_back_either}
+use Rattle.sfv_tool.specs.Priority.{PriorityValue, priority, priority_text, IsPriorityOf}
+use Rattle.sfv_tool.specs.PrioritySteps.{members_by, members_of}
+
+abbrev text_by : Bool → Bool → ℕ → List ℕ
+text_by d i n = joined (codes ", ")
+    ((if d then [] else (codes "u=" ++ (digit_zero + n) ∷ []) ∷ []) ++ (if i then codes "i" ∷ [] else []))
+
+same_text : (d i : Bool) (n : ℕ) → n ≤ 7 → canonical dictionary_field (members_by d i n) ≡ text_by d i n
+same_text true true n h = refl
+same_text true false n h = refl
+same_text false true n h = let small : n < 10 = omega (arith, h) in rw (decimal_digit n small) refl
+same_text false false n h = let small : n < 10 = omega (arith, h) in rw (decimal_digit n small) refl
+
+pub written_text : (p : PriorityValue) → p.urgency ≤ 7 → canonical dictionary_field (members_of p) ≡ priority_text p
+written_text p h = same_text (p.urgency == 3) p.incremental p.urgency h
+
+-- each is a value
+is_value : (d i : Bool) (n : ℕ) → n ≤ 7 → IsValue dictionary_field (members_by d i n)
+is_value true true n h = record { parts = ((refl, (tt, tt)), tt); distinct = (refl, (refl, tt)) }
+is_value true false n h = record { parts = tt; distinct = (refl, tt) }
+is_value false true n h =
+    let small : n < 10 ^ 15 = omega (arith, h) in
+    record { parts = ((refl, (small, tt)), ((refl, (tt, tt)), tt)); distinct = (refl, (refl, (refl, tt))) }
+is_value false false n h =
+    let small : n < 10 ^ 15 = omega (arith, h) in
+    record { parts = ((refl, (small, tt)), tt); distinct = (refl, (refl, tt)) }
+
+-- of which this is the priority
+within : (n : ℕ) → n ≤ 7 → nat_le n 7 ≡ true
+within n h = grind (arith, h)
+
+three : (n : ℕ) → (n == 3) ≡ true → n ≡ 3
+three n h = grind (arith, h)
+
+its_priority : (d i : Bool) (n : ℕ) → n ≤ 7 → (n == 3) ≡ d
+    → record { urgency = n; incremental = i } ≡ priority (members_by d i n)
+unfolding last_of
+its_priority true true n h k = rw (three n k) refl
+its_priority true false n h k = rw (three n k) refl
+its_priority false true n h k = rw (within n h) refl
+its_priority false false n h k = rw (within n h) refl
+
+-- under both versions, which have Integers and Booleans
+fits : (d i : Bool) (n : ℕ) → Fits rfc8941 dictionary_field (members_by d i n)
+fits true true n = (refl, tt)
+fits true false n = tt
+fits false true n = (refl, (refl, tt))
+fits false false n = (refl, tt)
+
+pub reads_back : (edition : Edition) (p : PriorityValue) → p.urgency ≤ 7
+    → IsPriorityOf edition (priority_text p) p
+reads_back edition p h = (
+  members_of p,
+  subst (λ (t : List ℕ). IsParsedAs edition dictionary_field t (members_of p)) (written_text p h)
+      (read_back_either edition dictionary_field (members_of p) (is_value (p.urgency == 3) p.incremental p.urgency h)
+      (fits (p.urgency == 3) p.incremental p.urgency)),
+  its_priority (p.urgency == 3) p.incremental p.urgency h refl,
+)

@@ -1,0 +1,15 @@
+use Rattle.std.proofs.Common.{◌≡◌, ℕ, List, ◌++◌, ap, ◌∙◌}
+use Rattle.std.specs.Prelude.{codes, string_bytes}
+use Rattle.sfv_tool.specs.Priority.{priority_text, value_of}
+use Rattle.sfv_tool.proofs.answer.answer_priority.Goals as goal
+
+pub returns-clause-accepted : goal.returns-clause-accepted
+returns-clause-accepted c =
+    let value = value_of c.in_ok-priority.priority in
+    let text : string_bytes c.write_priority.new.text ≡ priority_text value =
+    rw c.new-text.ensures.bytes at c.in_ok-write_priority.ensures.text in
+    record {
+      value = value;
+      read = rw c.without_newline.ensures at c.in_ok-priority.ensures.read;
+      written = c.in_ok-text.ensures.line ∙ ap (λ (t : List ℕ). t ++ codes "\n") text;
+    }
