@@ -22,6 +22,8 @@ use sfv_tree::parsed::Dictionary;
 /// It takes every event, and an event out of its place changes nothing. It fails only when out of memory, at a key, a
 /// text that is borrowed, a parameter or the end of an item or a member that it takes, and never at the end. Its answer
 /// is the dictionary of the members that are whole.
+///
+/// Out of memory, the reading that owns it is over, and what it held is given up with it.
 #[derive(Drop)]
 pub struct DictionaryBuilder {
     dictionary: Dictionary,

@@ -18,6 +18,8 @@ use sfv_tree::parsed::{List, ListEntry};
 /// It takes every event, and an event out of its place changes nothing. It fails only when out of memory, at a text that
 /// is borrowed, a parameter or the end of an item or a member that it takes, and never at the end. Its answer is the list
 /// of the members that are whole.
+///
+/// Out of memory, the reading that owns it is over, and what it held is given up with it.
 #[derive(Drop)]
 pub struct ListBuilder {
     list: List,
