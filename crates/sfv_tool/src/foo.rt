@@ -165,6 +165,7 @@ impl<'de> Visitor<'de> for FooVisitor {
 
     ghost finish_fails = { λ s fault. foo_found s ≡ Err fault };
 
+    #[inline(always)]
     fn event(&mut self, event: Event<'de>) -> Result<(), FooFault> {
         match event {
             Event::KeyedEntry(key) => self.begin(key.as_str() == "color"),

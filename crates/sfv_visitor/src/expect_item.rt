@@ -259,6 +259,7 @@ impl<'de, T: ExpectedItem<'de>> Visitor<'de> for ExpectItem<T> {
 
     ghost is_memory = { λ fault. fault ≡ faults.OutOfMemory };
 
+    #[inline(always)]
     fn event(&mut self, event: Event<'de>) -> Result<(), ItemFault> {
         let Event::BareItem(item) = event else {
             return Ok(());

@@ -22,6 +22,7 @@ impl<'de> Visitor<'de> for Ignored {
 
     ghost finish_fails = { λ _ _. ⊥ };
 
+    #[inline(always)]
     fn event(&mut self, _event: Event<'de>) -> Result<(), Infallible> {
         Ok(())
     }

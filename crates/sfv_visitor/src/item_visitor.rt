@@ -93,6 +93,7 @@ impl<
 
     ghost is_memory = { M.is_memory };
 
+    #[inline(always)]
     fn event(&mut self, event: Event<'de>) -> Result<(), E> {
         let Event::BareItem(item) = event else {
             return Ok(());

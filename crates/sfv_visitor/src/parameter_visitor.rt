@@ -68,6 +68,7 @@ impl<
 
     ghost is_memory = { V.is_memory };
 
+    #[inline(always)]
     fn event(&mut self, event: Event<'de>) -> Result<(), E> {
         self.visitor.event(event)
     }

@@ -28,6 +28,7 @@ impl<'de, V: Visitor<'de>> Visitor<'de> for Option<V> {
 
     ghost is_memory = { V.is_memory };
 
+    #[inline(always)]
     fn event(&mut self, event: Event<'de>) -> Result<(), V::Error> {
         match self {
             Some(visitor) => visitor.event(event),
