@@ -3,3 +3,4 @@ mod Foos
 mod Priorities
 mod PriorityTexts
 mod Requests
+mod PriorityExamples

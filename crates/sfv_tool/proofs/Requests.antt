@@ -1,6 +1,5 @@
 -- What words name nothing.
 use Rattle.std.proofs.Common.{ℕ, List}
-use Rattle.sfv_tool.specs.declared.run.Request.{Request}
 use Rattle.sfv_tool.specs.declared.run.Request.TheVariants as request
 use Rattle.sfv_tool.specs.Runs.{NamesNoField, NamesNoPriority, NamesNothing}
 

@@ -1,0 +1,2 @@
+pub mod CacheStatus
+pub mod CacheStatusSteps
