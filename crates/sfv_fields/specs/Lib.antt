@@ -1,2 +1,4 @@
 pub mod CacheStatus
 pub mod CacheStatusSteps
+pub mod ContentDigests
+pub mod DigestSteps

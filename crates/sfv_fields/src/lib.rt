@@ -2,3 +2,4 @@
 #![tactic(auto)]
 
 pub mod cache_status;
+pub mod content_digest;

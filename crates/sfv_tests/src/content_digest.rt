@@ -1,7 +1,7 @@
 //! The Content-Digest field, a field crate on the library.
 
 use sfv::ErrorKind;
-use sfv_uses::content_digest::{ContentDigest, DigestError, read, reread, write};
+use sfv_fields::content_digest::{ContentDigest, DigestError, read, reread, write};
 use std::test::Fail;
 
 // Both digests of a content (RFC 9530, section 2), behind an earlier one and another algorithm.

@@ -1,3 +1,1 @@
 pub mod Uses
-pub mod ContentDigests
-pub mod DigestSteps

@@ -11,7 +11,7 @@ use Rattle.sfv.specs.Values.{RawParameters, RawItem, RawMember}
 use Rattle.sfv.specs.Values.{item, inner_list}
 use Rattle.sfv.specs.Grammar.{IsFieldText, IsAccepted, StandsFirst}
 use Rattle.sfv.specs.Ordered.{ordered, last_of}
-use Rattle.sfv.specs.Statements.{IsParsedAs}
+use Rattle.sfv.specs.Statements.{IsParsedAs, IsSerializedAs}
 use Rattle.sfv.specs.KeyText.{KeyRef, key_text}
 use Rattle.sfv.specs.TokenText.{TokenRef, token_text}
 use Rattle.sfv.specs.StringText.{StringRef}
@@ -33,6 +33,11 @@ use Rattle.sfv.specs.Types.serialize_errors as serialize_errors
 use Rattle.sfv.specs.Calls.{AllFit}
 use Rattle.sfv.specs.Versions.{NamesFirst}
 use Rattle.sfv.specs.Messages.{message_of}
+
+-- the text is read as a dictionary, which is written so
+abbrev pub IsWrittenAgain : List ℕ → Option (String Global) → Type 0
+IsWrittenAgain t line = (value : List (List ℕ × RawMember)) × IsParsedAs rfc9651 dictionary_field t value
+    × IsSerializedAs rfc9651 dictionary_field value (option_map string_bytes line)
 
 -- a caret under the place of the first fault, and its message
 pub record IsExplained (t text : List ℕ) : Type 0 where

@@ -9,9 +9,9 @@ use Rattle.sfv.specs.Grammar.{IsFieldText}
 use Rattle.sfv.specs.Ordered.{last_of}
 use Rattle.sfv.specs.Errors.{out_of_memory}
 use Rattle.sfv.specs.Parsers.{IsParseError}
-use Rattle.sfv_uses.specs.declared.content_digest.ContentDigest.{ContentDigest}
-use Rattle.sfv_uses.specs.declared.content_digest.DigestError.{DigestError}
-use Rattle.sfv_uses.specs.declared.content_digest.DigestError.TheVariants as errors
+use Rattle.sfv_fields.specs.declared.content_digest.ContentDigest.{ContentDigest}
+use Rattle.sfv_fields.specs.declared.content_digest.DigestError.{DigestError}
+use Rattle.sfv_fields.specs.declared.content_digest.DigestError.TheVariants as errors
 
 -- the members of a dictionary's text, in order, a repeated key each time
 abbrev pub Members : Type 0

@@ -4,10 +4,10 @@ use Rattle.std.specs.declared.alloc.Global.{Global}
 use Rattle.std.specs.declared.vec.Vec.{Vec}
 use Rattle.sfv.specs.Maps.{insert_entry}
 use Rattle.sfv.specs.Errors.{out_of_memory}
-use Rattle.sfv_uses.specs.ContentDigests.{Members, digest_bytes, digests_in, AreDigests, HasWrongType, bytes_member}
-use Rattle.sfv_uses.specs.declared.content_digest.ContentDigest.{ContentDigest}
-use Rattle.sfv_uses.specs.declared.content_digest.DigestError.{DigestError}
-use Rattle.sfv_uses.specs.declared.content_digest.DigestError.TheVariants as errors
+use Rattle.sfv_fields.specs.ContentDigests.{Members, digest_bytes, digests_in, AreDigests, HasWrongType, bytes_member}
+use Rattle.sfv_fields.specs.declared.content_digest.ContentDigest.{ContentDigest}
+use Rattle.sfv_fields.specs.declared.content_digest.DigestError.{DigestError}
+use Rattle.sfv_fields.specs.declared.content_digest.DigestError.TheVariants as errors
 
 -- what a key's last member gives: its digest, or an error exactly for want of memory or of a byte sequence
 abbrev pub GivesDigest : Option (Option (List ℕ)) → Result (Option (Vec ℕ Global)) DigestError → Type 0

@@ -7,11 +7,11 @@ ghost use Rattle.sfv.specs.Written.{IsSerialized};
 ghost use Rattle.sfv.specs.Errors.{out_of_memory};
 ghost use Rattle.sfv.specs.KeyText.{key_text};
 ghost use Rattle.sfv.specs.Trees.{member_tree, dictionary_tree};
-ghost use Rattle.sfv_uses.specs.ContentDigests.{bytes_in, last_bytes, digest_bytes, digests_in, no_digests};
-ghost use Rattle.sfv_uses.specs.ContentDigests.{HasDigests, IsDigestError, ReturnsDigests, AreSameDigests};
-ghost use Rattle.sfv_uses.specs.ContentDigests.{bytes_member, digest_members};
-ghost use Rattle.sfv_uses.specs.DigestSteps.{GivesDigest, GivesDigests, entered};
-ghost use Rattle.sfv_uses.specs.declared.content_digest.DigestError.TheVariants as errors;
+ghost use Rattle.sfv_fields.specs.ContentDigests.{bytes_in, last_bytes, digest_bytes, digests_in, no_digests};
+ghost use Rattle.sfv_fields.specs.ContentDigests.{HasDigests, IsDigestError, ReturnsDigests, AreSameDigests};
+ghost use Rattle.sfv_fields.specs.ContentDigests.{bytes_member, digest_members};
+ghost use Rattle.sfv_fields.specs.DigestSteps.{GivesDigest, GivesDigests, entered};
+ghost use Rattle.sfv_fields.specs.declared.content_digest.DigestError.TheVariants as errors;
 
 use sfv::{
     BareItem, Dictionary, Error, FieldType, Item, KeyRef, ListEntry, OutOfMemory, Parser,

@@ -7,12 +7,12 @@ use Rattle.sfv.specs.Values.{rfc9651, dictionary_field, RawMember, item, inner_l
 use Rattle.sfv.specs.Ordered.{last_of, ordered, ordered_member}
 use Rattle.sfv.specs.Statements.{IsParsedAs, IsSerializedAs}
 use Rattle.sfv.proofs.Callers.{last_of-ordered}
-use Rattle.sfv_uses.specs.ContentDigests.{Members, sha_256_key, sha_512_key, bytes_in, last_bytes, Digests, digests_in}
-use Rattle.sfv_uses.specs.ContentDigests.{AreDigests, HasWrongType, IsDictionary, IsContentDigest, HasDigests}
-use Rattle.sfv_uses.specs.ContentDigests.{IsDigestError, ReturnsDigests, digest_members}
-use Rattle.sfv_uses.specs.DigestSteps.{GivesDigests}
-use Rattle.sfv_uses.specs.declared.content_digest.ContentDigest.{ContentDigest}
-use Rattle.sfv_uses.specs.declared.content_digest.DigestError.{DigestError}
+use Rattle.sfv_fields.specs.ContentDigests.{Members, sha_256_key, sha_512_key, bytes_in, last_bytes, Digests, digests_in}
+use Rattle.sfv_fields.specs.ContentDigests.{AreDigests, HasWrongType, IsDictionary, IsContentDigest, HasDigests}
+use Rattle.sfv_fields.specs.ContentDigests.{IsDigestError, ReturnsDigests, digest_members}
+use Rattle.sfv_fields.specs.DigestSteps.{GivesDigests}
+use Rattle.sfv_fields.specs.declared.content_digest.ContentDigest.{ContentDigest}
+use Rattle.sfv_fields.specs.declared.content_digest.DigestError.{DigestError}
 
 bytes_in-ordered : (o : Option RawMember) → option_map bytes_in (option_map ordered_member o) ≡ option_map bytes_in o
 bytes_in-ordered None = refl
