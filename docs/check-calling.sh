@@ -1,10 +1,10 @@
 #!/bin/sh
-# Whether CALLING.md shows the code as it stands. Before each block of its code stands the file that it is taken from,
+# Whether CALLING.md and the README show the code as it stands. Before each block of its code stands the file that it is taken from,
 # alone between backticks; prints each block that isn't in its file line by line, and then the status is 1.
 cd "$(dirname "$0")/.." || exit 2
-page=docs/CALLING.md
 
-awk '
+for page in docs/CALLING.md README.md; do
+    awk '
     function fails(what) { print "'$page':" NR ": " what; failed = 1 }
     function whole(file,    line, text) {
         while ((getline line <file) > 0) text = text line "\n"
@@ -20,4 +20,6 @@ awk '
     }
     inside { block = block $0 "\n" }
     END { if (!blocks) { print "'$page' has no block"; failed = 1 } exit failed }
-' "$page"
+' "$page" || failed=1
+done
+exit "${failed:-0}"

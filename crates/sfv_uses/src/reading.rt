@@ -118,7 +118,7 @@ pub fn param_of_member(
     Ok(Some(copy))
 }
 
-/// Reads a list that comes in two lines: the members of the second stand behind those of the first. The parameters of
+/// Reads a list that comes in two lines: the members of the second stand after those of the first. The parameters of
 /// both have this seed.
 ///
 /// # Errors
