@@ -46,7 +46,7 @@ pub use Rattle.sfv_serializer.proofs.Lent.{lent_all}
 pub use Rattle.sfv_serializer.proofs.ReadBack.{read_back, value_read_back}
 pub use Rattle.sfv_spec.proofs.Fields.{all_fit_newer}
 pub use Rattle.sfv.proofs.LastRead.{read_back_either}
--- an inner list that is taken away again, and what a text holds behind what was written to it
+-- an inner list that is taken away again, and what a text holds after what was written to it
 pub use Rattle.sfv_serializer.proofs.Scripts.{taken_away, kept_as, more_as, written_behind}
 pub use Rattle.sfv_serializer.proofs.Scripts.{inner_list_ended, named_list_ended}
 -- what a visitor did with the events of a field
@@ -150,7 +150,7 @@ located_error edition kind t e index (inr h) here =
     let place : h.index ≡ index = same_Some h.index index (sym (ap index_of h.error) ∙ here) in
     (h.fault, ap kind_of h.error, subst (IsFaultAt edition kind t h.fault) place h.located)
 
--- a further line of a list: its members stand behind those that the builder was given
+-- a further line of a list: its members stand after those that the builder was given
 pub list_behind : {E : Type 0} (edition : Edition) (t : List ℕ) (held : List RawMember) (from : ListBuilder)
     (r : Result (Vec ListEntry Global) E) → list_place from ≡ between held
     → IfOk r (IsAnswerOf (λ (s : ListBuilder) e after. list_place after ≡ list_step (list_place s) e)
@@ -160,7 +160,7 @@ pub list_behind : {E : Type 0} (edition : Edition) (t : List ℕ) (held : List R
 list_behind edition t held from r here = IfOk-weaker r _ _ (λ list h.
     let whole = built_list_behind edition t held from list here h in (whole.0, whole.1, whole.3))
 
--- a further line of a dictionary: as if its members stood behind those that the builder was given
+-- a further line of a dictionary: as if its members stood after those that the builder was given
 pub dictionary_behind : {S E : Type 0} (edition : Edition) (t : List ℕ) (held : List (List ℕ × RawMember))
     (from : DictionaryBuilder) (r : Result (IndexMap (List ℕ) ListEntry S) E) → IsOrdered dictionary_field held
     → dictionary_place from ≡ between_pairs held

@@ -39,7 +39,7 @@ pub lacks : (edition : Edition) (b : BareValue) → fits_bare edition b ≡ fals
     → NamesFirst edition (b ∷ []) (errors.Unsupported (kind_of_value b))
 lacks edition b h = (b, record { before = []; after = []; split = refl; fit = tt; unfit = h }, refl)
 
--- ---- in front of others and behind them
+-- ---- in front of others and after them
 
 -- the first that doesn't fit is that of more
 pub names_front : (edition : Edition) (bs cs : List BareValue) (e : SerializeError) → NamesFirst edition bs e
@@ -70,7 +70,7 @@ names_behind edition bs cs e f h = (
   h.2,
 )
 
--- others are looked at behind those that fit
+-- others are looked at after those that fit
 pub looks_behind : {T : Type 0} (edition : Edition) (bs cs : List BareValue) (r : Result T SerializeError)
     → AllFit edition bs → LooksAt edition cs r → LooksAt edition (bs ++ cs) r
 looks_behind edition bs cs (Ok x) f h = fit_append edition bs cs f h
@@ -81,13 +81,13 @@ pub at_exit : {T E : Type 0} (r : Result T E) (e : E) (P : T → Type 0) (Q : E 
     → MatchResult r P Q
 at_exit r e P Q exit h = let p = err_from_is_err_and r exit in rw (p.1, p.2) h
 
--- such an error behind values that fit
+-- such an error after values that fit
 error_behind : (edition : Edition) (bs cs : List BareValue) (e : SerializeError) → AllFit edition bs
     → IsSerializeError edition cs e → IsSerializeError edition (bs ++ cs) e
 error_behind edition bs cs e f (inl h) = inl (h.0, fit_append edition bs cs f h.1)
 error_behind edition bs cs e f (inr h) = inr (names_behind edition bs cs e f h)
 
--- the error of what is given behind a first value that fits
+-- the error of what is given after a first value that fits
 pub fails_behind : {S A T : Type 0} (steps : S → Option A → S → Type 0) (rest : S) (values : List A → List BareValue)
     (edition : Edition) (b : BareValue) (r : Result T SerializeError) → AllFit edition (b ∷ [])
     → IfErr r (FailsAmong steps rest values edition) → IfErr r (FailsFrom steps rest (λ taken. b ∷ values taken) edition)
@@ -335,7 +335,7 @@ module _ (edition : Edition) (items : List ItemCalls) (params : List ParamCall) 
       → AllFit edition (values_of_member (handed_member (inner_list_calls items params true)))
   abandoned_fit h = fit_append edition (flat_map values_of_item (map called_item items)) [] h tt
 
-  -- and else its parameters stand behind them
+  -- and else its parameters stand after them
   pub ended_looks : {T : Type 0} (r : Result T SerializeError)
       → AllFit edition (flat_map values_of_item (map called_item items))
       → LooksAt edition (values_of_parameters (map called_param params)) r

@@ -35,7 +35,7 @@ still_first-map : {A B : Type 0} (f : A → B) (b : Bool) (xs : List A) → stil
 still_first-map f b [] = refl
 still_first-map f b (x ∷ xs) = refl
 
--- parts in a row behind others
+-- parts in a row after others
 led_append : (s : List ℕ) (b : Bool) (xs ys : List (List ℕ))
     → led b s (xs ++ ys) ≡ led b s xs ++ led (still_first b xs) s ys
 led_append s b [] ys = refl
@@ -115,7 +115,7 @@ calls_more {D = D} {M} given f text_of IsGood s calls n x was_first is_first is_
     subst (λ (ms : List M). IsLed text_of IsGood s ms was_first is_next before new) (sym more)
     (led_parts text_of IsGood s _ _ was_first is_first is_next before output new row e t good)
 
--- what is written behind other text
+-- what is written after other text
 extends_again : (a b c : List ℕ) → Extends a b → Extends b c → Extends a c
 extends_again a b c e f = (e.0 ++ f.0, f.1 ∙ ap (λ (l : List ℕ). l ++ f.0) e.1 ∙ append_assoc a e.0 f.0)
 
@@ -138,7 +138,7 @@ module _ {W K : Type 0} (w : Sink W) where
   more_as s v b f r k more is_first h e i l q = (rw e h.0, rw e h.1, i ∙ h.2, l ∙ h.3, q ∙ h.4)
 
 module _ {W K : Type 0} (w : Sink W) (again : (r s t : W) → w.same r s → w.same s t → w.same r t) where
-  -- more is written behind it
+  -- more is written after it
   pub more_grown : (s t u : Parts W K) (more : List ℕ) (is_first : Bool) → GrowsParts w s t
       → HasMoreParts w t u more is_first → GrowsParts w s u
   more_grown s t u more is_first g h = (again _ _ _ g.0 h.0, extends_again _ _ _ g.1 (more, h.1), h.4 ∙ g.2)
@@ -181,7 +181,7 @@ module _ {W K : Type 0} (w : Sink W) (again : (r s t : W) → w.same r s → w.s
   away_grown s v t u more b k itself begun long grown cut e q =
       kept_grown s s v b k (itself s.sink, ([], sym (append-nil _)), refl) (taken_away s v t u more begun long grown cut) e q
 
--- a piece is written behind another
+-- a piece is written after another
 pub written_behind : (before now new front piece more : List ℕ) → now ≡ before ++ (front ++ piece) → new ≡ now ++ more
     → new ≡ before ++ (front ++ (piece ++ more))
 written_behind before now new front piece more e n = n ∙ ap (λ (t : List ℕ). t ++ more) e
@@ -225,7 +225,7 @@ named_inner : (key : List ℕ) (items : List RawItem) (params : RawParameters)
 named_inner key items params = simp append_assoc (ap (λ (t : List ℕ). key ++ (codes "=(" ++ t))
     (sym (append_assoc (joined (codes " ") (map item_text items)) (codes ")") (parameters_text params))))
 
--- an inner list that was begun behind a key, written and ended
+-- an inner list that was begun after a key, written and ended
 pub named_list_ended : (before t1 t2 t3 t4 front key : List ℕ) (none : Bool) (items : List RawItem)
     (params : RawParameters)
     → t1 ≡ before ++ (front ++ (key ++ codes "=(")) → t2 ≡ t1 ++ led none (codes " ") (map item_text items) → none ≡ true

@@ -29,7 +29,7 @@ abbrev pub ended_text : List ℕ → List RawItem → RawParameters → List ℕ
 ended_text opening items parameters =
     opening ++ joined (codes " ") (map item_text items) ++ codes ")" ++ parameters_text parameters
 
--- the calls of an inner list, which is abandoned behind its items, or ended with its parameters
+-- the calls of an inner list, which is abandoned after its items, or ended with its parameters
 abbrev pub inner_list_calls : List ItemCalls → List ParamCall → Bool → spec.MemberCalls
 inner_list_calls items params abandon =
     if abandon then abandoned (map called_item items)
@@ -62,7 +62,7 @@ handed_list members = handed list_field (list_calls members)
 abbrev pub handed_dictionary : List (KeyRef × MemberCalls) → RawField dictionary_field
 handed_dictionary members = handed dictionary_field (dictionary_calls members)
 
--- what calls write, behind members or as the first of a list or a dictionary
+-- what calls write, after members or as the first of a list or a dictionary
 abbrev pub list_text : Bool → Calls list_field → List ℕ
 list_text is_first calls = led is_first (codes ", ") (map member_text (described list_field calls))
 
@@ -71,7 +71,7 @@ dictionary_text is_first calls =
     led is_first (codes ", ") (map dictionary_member_text (described dictionary_field calls))
 
 module _ {W : Type 0} (w : Sink W) where
-  -- an inner list was written behind its opening, or abandoned
+  -- an inner list was written after its opening, or abandoned
   abbrev pub WritesInner : {K : Type 0} → Parts W K → Parts W K → List ℕ → List ℕ → List RawItem → RawParameters → Bool
       → Type 0
   WritesInner s t separator opening items parameters abandon = MatchBool abandon (KeepsParts w s t)

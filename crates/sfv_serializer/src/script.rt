@@ -62,7 +62,7 @@ pub enum MemberCalls<'a> {
         items: Vec<ItemCalls<'a>>,
         /// The inner list's parameters, which aren't written if it is abandoned.
         params: Vec<ParamCall<'a>>,
-        /// Whether the inner list is abandoned behind its items, and not finished.
+        /// Whether the inner list is abandoned after its items, and not finished.
         abandon: bool,
     },
 }
@@ -157,7 +157,7 @@ fn write_inner_items<W: Sink, K>(
     Ok(())
 }
 
-/// Writes a member that is an inner list, behind its opening, or abandons it.
+/// Writes a member that is an inner list, after its opening, or abandons it.
 fn write_inner<W: Sink, K: Kind, P: Part>(
     parts: &mut Parts<W, K>,
     opening: P,

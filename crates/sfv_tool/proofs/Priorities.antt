@@ -17,7 +17,7 @@ use Rattle.sfv_tool.specs.Priority.{urgency_of, incremental_of, priority, value_
 use Rattle.sfv_tool.specs.PrioritySteps.{VisitState, state_of, at, unread, passed, begun, priority_step}
 use Rattle.sfv.proofs.Callers.{IsIdle, member_passed, item_passed, inner_list_passed, last_read}
 
--- once its bare item is behind no part of a member is looked at
+-- once its bare item is past, no part of a member is looked at
 idle : (u : ℕ) (i : Bool) → IsIdle priority_step (at places.Other u i)
 idle u i entry h = absurd h
 idle u i (keyed_entry key) h = absurd h

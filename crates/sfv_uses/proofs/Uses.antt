@@ -98,7 +98,7 @@ all_counted raw = ap (length {A = List ℕ}) (keys_in_events raw)
 abbrev Takes : MemberCounter → TreeEvent → MemberCounter → Type 0
 Takes s e after = (after.members, after.limit) ≡ counts (s.members, s.limit) e
 
--- what it has counted behind some events
+-- what it has counted after some events
 run_counted : (es : List TreeEvent) (from s : MemberCounter) → from.members ≡ 0 → RunsTo Takes from es s
     → (s.members ≡ keys_among es) × (s.limit ≡ from.limit)
 run_counted es from s start run =

@@ -7,7 +7,7 @@ use std::hash::Hash;
 use std::test::Fail;
 
 #[test]
-fn integers_print_as_digits_behind_a_minus(rt: HostRuntime) {
+fn integers_print_as_digits_after_a_minus(rt: HostRuntime) {
     let rows = [
         (Integer::MIN, "-999999999999999"),
         (Integer::MAX, "999999999999999"),
@@ -43,7 +43,7 @@ fn decimals_print_as_few_places_as_they_need_and_one_at_least(rt: HostRuntime) -
 }
 
 #[test]
-fn dates_print_their_seconds_behind_an_at_sign(rt: HostRuntime) -> Result<(), Fail> {
+fn dates_print_their_seconds_after_an_at_sign(rt: HostRuntime) -> Result<(), Fail> {
     let rows = [(-1i64, "@-1"), (0, "@0"), (1_659_578_233, "@1659578233")];
     for (seconds, text) in rows {
         let seconds = Integer::try_from(seconds)?;

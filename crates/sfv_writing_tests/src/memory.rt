@@ -58,7 +58,7 @@ fn item_of(alloc: Global, value: RefBareItem<'_>) -> Result<Item, OutOfMemory> {
     Ok(Item::with_params(value.try_to_owned(alloc)?, params))
 }
 
-/// Whether a heap of this size holds the item's text behind another, if it holds that one; no answer, where what stands
+/// Whether a heap of this size holds the item's text after another, if it holds that one; no answer, where what stands
 /// there is neither the whole text nor one that the other begins.
 fn holds(alloc: Global, size: usize, item: &Item, want: &str) -> Result<Option<bool>, Fail> {
     let heap = LocalHeap::new(alloc, size)?;

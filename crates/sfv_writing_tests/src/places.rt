@@ -332,7 +332,7 @@ fn is_written_alike(
         && is_answer(by_script(alloc, case), text, refused)
 }
 
-/// The text of a place with this text of a value: behind a key, one that is true is left out.
+/// The text of a place with this text of a value: after a key, one that is true is left out.
 fn text_in(alloc: Global, place: &str, value: &str) -> Result<String, Fail> {
     let (before, after) = match place.split_once("=V") {
         Some((before, after)) if value == "?1" => return Ok(format!(in alloc; "{before}{after}")?),

@@ -37,7 +37,7 @@ fn lists_are_written_member_after_member_or_not_at_all(rt: HostRuntime) -> Resul
 }
 
 #[test]
-fn dictionaries_leave_out_what_is_true_behind_a_key(rt: HostRuntime) -> Result<(), Fail> {
+fn dictionaries_leave_out_what_is_true_after_a_key(rt: HostRuntime) -> Result<(), Fail> {
     let alloc = rt.alloc();
     let mut named = dictionary(alloc);
     for (key, member) in ["p", "q", "r", "s"].into_iter().zip(members(alloc)?) {
@@ -106,7 +106,7 @@ fn put_with<X: Sink>(
 }
 
 #[test]
-fn members_go_behind_what_stands(rt: HostRuntime) -> Result<(), Fail> {
+fn members_go_after_what_stands(rt: HostRuntime) -> Result<(), Fail> {
     let one: RefBareItem = GenericBareItem::Integer(integer(1));
     let yes: RefBareItem = GenericBareItem::Boolean(true);
     let mut text = String::from_str(rt.alloc(), "X: ")?;
