@@ -19,6 +19,8 @@ pub fn is_mobile(alloc: Global, input: &[u8]) -> Result<bool, Error>
     ensures rejected { IfErr result (IsParseError rfc9651 item_field input.now) }
 {
     let item = Parser::new(input).parse::<Item>(alloc)?;
-    let hint = item.bare_item.as_boolean();
-    Ok(hint == Some(true))
+    let Some(mobile) = item.bare_item.as_boolean() else {
+        return Ok(false);
+    };
+    Ok(mobile)
 }
