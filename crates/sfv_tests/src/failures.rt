@@ -74,7 +74,7 @@ fn read_with_counter(
 fn ends_at(alloc: Global, parser: Parser<'_>, field: Field, failing_call: u64) -> bool {
     let mut calls = 0;
     let answer = read_with_counter(alloc, parser, field, &mut calls, failing_call);
-    calls == failing_call && answer == Err(ParseError::Visitor(failing_call))
+    calls == failing_call && matches!(answer, Err(ParseError::Visitor(n)) if n == failing_call)
 }
 
 /// How often a visitor that never fails is called, if each that fails at one of these calls ends the reading there.
