@@ -82,9 +82,7 @@ pub fn calls_of(alloc: Global, field: Field, version: Version, input: &[u8]) -> 
     let parser = Parser::new(input).with_version(version);
     let mut total = 0;
     let answer = read_with_counter(alloc, parser, field, &mut total, 0);
-    let mut ends = !matches!(answer, Err(ParseError::Visitor(_)));
-    for failing_call in 1..=total {
-        ends = ends && ends_at(alloc, parser, field, failing_call);
-    }
+    let ends = !matches!(answer, Err(ParseError::Visitor(_)))
+        && (1..=total).all(|failing_call| ends_at(alloc, parser, field, failing_call));
     if ends { Some(total) } else { None }
 }
