@@ -4,7 +4,7 @@ use sfv::ErrorKind;
 use sfv_fields::content_digest::{ContentDigest, DigestError, read, reread, write};
 use std::test::Fail;
 
-// Both digests of a content (RFC 9530, section 2), behind an earlier one and another algorithm.
+// Both digests of a content (RFC 9530, section 2), after an earlier one and another algorithm.
 const FIELD: &[u8] = b"sha-256=:AAAA:, md5=1, \
     sha-512=:YMAam51Jz/jOATT6/zvHrLVgOYTGFy1d6GJiOHTohq4yP+pgk4vf2aCsyRZOtw8MjkM7iw7yZ/WkppmM44T3qg==:, \
     sha-256=:d435Qo+nKZ+gLcUHn7GQtQ72hiBVAgqoLsZnZPiTGPk=:;x";
@@ -34,7 +34,7 @@ fn digests_are_read(rt: HostRuntime) -> Result<(), Fail> {
 }
 
 #[test]
-fn faults_are_told(rt: HostRuntime) {
+fn faults_have_their_error(rt: HostRuntime) {
     let fields: [&[u8]; 3] = [
         b"sha-256=1",
         b"sha-512=(:AA==:)",

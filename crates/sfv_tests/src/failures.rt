@@ -2,7 +2,7 @@
 
 use crate::replay::Field;
 use sfv::visitor::{Event, Visitor};
-use sfv::{ParseError, Parser};
+use sfv::{ParseError, Parser, Version};
 use std::alloc::Global;
 
 /// Counts its calls in a place that outlives it, and fails at one of them.
@@ -50,15 +50,14 @@ impl<'de, 'a> Visitor<'de> for Watched<'a> {
     }
 }
 
-/// Reads the input with a visitor that counts its calls there.
+/// Reads with a visitor that counts its calls there.
 fn read_with_counter(
     alloc: Global,
+    parser: Parser<'_>,
     field: Field,
-    input: &[u8],
     calls: &mut u64,
     failing_call: u64,
 ) -> Result<(), ParseError<u64>> {
-    let parser = Parser::new(input);
     let visitor = Watched {
         calls,
         failing_call,
@@ -70,32 +69,20 @@ fn read_with_counter(
     }
 }
 
-/// Rejected inputs, with the calls before the fault.
-const REJECTED: [(Field, &[u8], u64); 10] = [
-    (Field::Item, b"1;a=2 x", 4),
-    (Field::Item, b"abc;0", 1),
-    (Field::Item, b"abc;a;b=", 2),
-    (Field::List, b"1, (2;a 3), @x", 17),
-    (Field::List, b"(a", 5),
-    (Field::List, b"(a);!", 6),
-    (Field::List, b"1, ", 4),
-    (Field::Dictionary, b"a=1, b=(", 6),
-    (Field::Dictionary, b"a, b=", 6),
-    (Field::Dictionary, b"a=1;b;!", 4),
-];
+/// Whether a visitor that fails at this call ends the reading there: its failure is returned, and it is called no
+/// further.
+fn ends_at(alloc: Global, parser: Parser<'_>, field: Field, failing_call: u64) -> bool {
+    let mut calls = 0;
+    let answer = read_with_counter(alloc, parser, field, &mut calls, failing_call);
+    calls == failing_call && matches!(answer, Err(ParseError::Visitor(n)) if n == failing_call)
+}
 
-#[test]
-fn failures_end_a_reading(rt: HostRuntime) {
-    for (field, input, total) in REJECTED {
-        let mut calls = 0;
-        let answer = read_with_counter(rt.alloc(), field, input, &mut calls, 0);
-        assert!(rt; matches!(answer, Err(ParseError::Syntax(_))));
-        assert_eq!(rt; calls, total);
-        for failing_call in 1..=total {
-            let mut calls = 0;
-            let answer = read_with_counter(rt.alloc(), field, input, &mut calls, failing_call);
-            assert!(rt; matches!(answer, Err(ParseError::Visitor(n)) if n == failing_call));
-            assert_eq!(rt; calls, failing_call);
-        }
-    }
+/// How often a visitor that never fails is called, if each that fails at one of these calls ends the reading there.
+pub fn calls_of(alloc: Global, field: Field, version: Version, input: &[u8]) -> Option<u64> {
+    let parser = Parser::new(input).with_version(version);
+    let mut total = 0;
+    let answer = read_with_counter(alloc, parser, field, &mut total, 0);
+    let ends = !matches!(answer, Err(ParseError::Visitor(_)))
+        && (1..=total).all(|failing_call| ends_at(alloc, parser, field, failing_call));
+    if ends { Some(total) } else { None }
 }

@@ -9,7 +9,7 @@ use std::alloc::Global;
 use std::test::Fail;
 
 /// The canonical text of the input as a field of this type, or the text of its error.
-fn told(alloc: Global, field: Field, version: Version, input: &[u8]) -> Result<String, Fail> {
+fn answered(alloc: Global, field: Field, version: Version, input: &[u8]) -> Result<String, Fail> {
     match canonical_text(alloc, field, version, input) {
         Ok(Some(text)) => Ok(text),
         Ok(None) => Ok(String::from_str(alloc, "nothing")?),
@@ -55,8 +55,8 @@ fn items_have_one_canonical_text(rt: HostRuntime) -> Result<(), Fail> {
         (b"a;  b=\"x y\"", "a;b=\"x y\""),
     ];
     for (row, (input, text)) in rows.into_iter().enumerate() {
-        let told = told(rt.alloc(), Field::Item, Version::Rfc9651, input)?;
-        assert!(rt; told.as_str() == text, "row {row}: {told}");
+        let answer = answered(rt.alloc(), Field::Item, Version::Rfc9651, input)?;
+        assert!(rt; answer.as_str() == text, "row {row}: {answer}");
     }
     Ok(())
 }
@@ -152,8 +152,8 @@ fn faults_of_items_have_their_kind_and_place(rt: HostRuntime) -> Result<(), Fail
         (b"1  2", "trailing characters after parsed value at index 3"),
     ];
     for (row, (input, text)) in rows.into_iter().enumerate() {
-        let told = told(rt.alloc(), Field::Item, Version::Rfc9651, input)?;
-        assert!(rt; told.as_str() == text, "row {row}: {told}");
+        let answer = answered(rt.alloc(), Field::Item, Version::Rfc9651, input)?;
+        assert!(rt; answer.as_str() == text, "row {row}: {answer}");
     }
     Ok(())
 }
@@ -205,8 +205,8 @@ fn lists_have_one_canonical_text_or_a_fault(rt: HostRuntime) -> Result<(), Fail>
         (b"1;a=(", "expected start of bare item at index 4"),
     ];
     for (row, (input, text)) in rows.into_iter().enumerate() {
-        let told = told(rt.alloc(), Field::List, Version::Rfc9651, input)?;
-        assert!(rt; told.as_str() == text, "row {row}: {told}");
+        let answer = answered(rt.alloc(), Field::List, Version::Rfc9651, input)?;
+        assert!(rt; answer.as_str() == text, "row {row}: {answer}");
     }
     Ok(())
 }
@@ -245,8 +245,8 @@ fn dictionaries_have_one_canonical_text_or_a_fault(rt: HostRuntime) -> Result<()
         (b"a=%", "expected '\"' at index 3"),
     ];
     for (row, (input, text)) in rows.into_iter().enumerate() {
-        let told = told(rt.alloc(), Field::Dictionary, Version::Rfc9651, input)?;
-        assert!(rt; told.as_str() == text, "row {row}: {told}");
+        let answer = answered(rt.alloc(), Field::Dictionary, Version::Rfc9651, input)?;
+        assert!(rt; answer.as_str() == text, "row {row}: {answer}");
     }
     Ok(())
 }
@@ -287,8 +287,8 @@ fn the_older_version_has_no_dates_and_no_display_strings(rt: HostRuntime) -> Res
         ),
     ];
     for (row, (field, input, text)) in rows.into_iter().enumerate() {
-        let told = told(rt.alloc(), field, Version::Rfc8941, input)?;
-        assert!(rt; told.as_str() == text, "row {row}: {told}");
+        let answer = answered(rt.alloc(), field, Version::Rfc8941, input)?;
+        assert!(rt; answer.as_str() == text, "row {row}: {answer}");
     }
     Ok(())
 }
@@ -361,7 +361,7 @@ fn items_that_are_made_are_written(rt: HostRuntime) -> Result<(), Fail> {
 }
 
 /// The text of the field of both lines, or of the error of the second.
-fn told_of_lines<T: FieldType<SerializeResult = Option<String>>>(
+fn answer_of_lines<T: FieldType<SerializeResult = Option<String>>>(
     alloc: Global,
     field: Result<T, ParseError<OutOfMemory>>,
 ) -> Result<String, Fail> {
@@ -373,7 +373,7 @@ fn told_of_lines<T: FieldType<SerializeResult = Option<String>>>(
 }
 
 #[test]
-fn further_lines_of_a_list_go_behind_the_earlier(rt: HostRuntime) -> Result<(), Fail> {
+fn further_lines_of_a_list_go_after_the_earlier(rt: HostRuntime) -> Result<(), Fail> {
     let rows: [(&[u8], &[u8], &str); 4] = [
         (
             b"11, (12 13)",
@@ -386,8 +386,8 @@ fn further_lines_of_a_list_go_behind_the_earlier(rt: HostRuntime) -> Result<(), 
     ];
     for (row, (held, line, text)) in rows.into_iter().enumerate() {
         let list = list_of_lines(rt.alloc(), HashSeed::new(1), held, line);
-        let told = told_of_lines(rt.alloc(), list)?;
-        assert!(rt; told.as_str() == text, "row {row}: {told}");
+        let answer = answer_of_lines(rt.alloc(), list)?;
+        assert!(rt; answer.as_str() == text, "row {row}: {answer}");
     }
     Ok(())
 }
@@ -405,8 +405,8 @@ fn further_lines_of_a_dictionary_replace_what_stood_under_a_key(
     ];
     for (row, (held, line, text)) in rows.into_iter().enumerate() {
         let dictionary = dictionary_of_lines(rt.alloc(), HashSeed::new(1), held, line);
-        let told = told_of_lines(rt.alloc(), dictionary)?;
-        assert!(rt; told.as_str() == text, "row {row}: {told}");
+        let answer = answer_of_lines(rt.alloc(), dictionary)?;
+        assert!(rt; answer.as_str() == text, "row {row}: {answer}");
     }
     Ok(())
 }

@@ -35,9 +35,9 @@ fn ignored_fields_have_an_answer_or_their_fault(rt: HostRuntime) {
     assert!(rt; kind == Some(ErrorKind::ExpectedStartOfKey));
 }
 
-// The bare item comes before what stands behind it.
+// The bare item comes before what stands after it.
 #[test]
-fn an_item_of_another_kind_fails_before_a_fault_behind_it(rt: HostRuntime) {
+fn an_item_of_another_kind_fails_before_a_fault_after_it(rt: HostRuntime) {
     let (expected, got) = (BareItemType::Integer, BareItemType::Token);
     let wrong = ItemFault::WrongType { expected, got };
     let answer = Parser::new(b"abc;0").parse_item::<Integer>(rt.alloc());
@@ -116,7 +116,7 @@ fn mistaken<'de, T: ExpectedItem<'de>>(
 }
 
 #[test]
-fn an_item_of_another_kind_is_told_with_the_kind_that_is_expected(rt: HostRuntime) {
+fn an_item_of_another_kind_fails_with_the_kind_that_is_expected(rt: HostRuntime) {
     let alloc = rt.alloc();
     let rows = [
         (mistaken::<Decimal>(alloc, b"5"), BareItemType::Decimal),
@@ -129,16 +129,16 @@ fn an_item_of_another_kind_is_told_with_the_kind_that_is_expected(rt: HostRuntim
         (mistaken::<TokenRef<'_>>(alloc, b"5"), BareItemType::Token),
         (mistaken::<Date>(alloc, b"5"), BareItemType::Date),
     ];
-    for (row, (told, expected)) in rows.into_iter().enumerate() {
+    for (row, (answer, expected)) in rows.into_iter().enumerate() {
         assert!(rt;
-            told == Some((expected, BareItemType::Integer)),
+            answer == Some((expected, BareItemType::Integer)),
             "row {row}"
         );
     }
 }
 
 #[test]
-fn an_item_of_another_kind_is_told_with_its_kind(rt: HostRuntime) {
+fn an_item_of_another_kind_fails_with_its_kind(rt: HostRuntime) {
     let rows: [(&[u8], BareItemType); 7] = [
         (b"5.0", BareItemType::Decimal),
         (b"\"a\"", BareItemType::String),
@@ -149,8 +149,8 @@ fn an_item_of_another_kind_is_told_with_its_kind(rt: HostRuntime) {
         (b"%\"a\"", BareItemType::DisplayString),
     ];
     for (row, (input, got)) in rows.into_iter().enumerate() {
-        let told = mistaken::<Integer>(rt.alloc(), input);
-        assert!(rt; told == Some((BareItemType::Integer, got)), "row {row}");
+        let answer = mistaken::<Integer>(rt.alloc(), input);
+        assert!(rt; answer == Some((BareItemType::Integer, got)), "row {row}");
     }
 }
 

@@ -70,7 +70,7 @@ fn long_strings_with_escapes_give_themselves(rt: HostRuntime) -> Result<(), Fail
     Ok(())
 }
 
-/// Kinds of bare items: what stands in front, a letter, and what stands behind.
+/// Kinds of bare items: what stands in front, a letter, and what stands after.
 const TEXTS: [(&str, &str, &str); 5] = [
     ("\"", "a", "\""),
     ("\"", "\\\\", "\""),

@@ -1,15 +1,15 @@
 //! Replays a list of inputs with their answers.
 //!
-//! Each line of standard input is `TYPE VERSION HEX ANSWER`: the type of field, the version, the input in
-//! hexadecimal (`-` for no bytes), and `ok HEX` of the canonical text, `ok none` of an empty list or
-//! dictionary, or `err MESSAGE`. The program prints each line whose answer is another one, and how many
-//! there were; and of the faults whose kind has no rule for its place it tries whether the text goes on like an
-//! accepted one just up to there (`positions`).
+//! Each line of standard input is `TYPE VERSION HEX CALLS ANSWER`: the type of field, the version, the input in
+//! hexadecimal (`-` for no bytes), how often a visitor is called, and `ok HEX` of the canonical text, `ok none` of an
+//! empty list or dictionary, or `err MESSAGE`. The program prints each line whose answer is another one, and how many
+//! there were. Of the faults whose kind has no rule for its place it tries whether the text goes on like an accepted one
+//! just up to there (`positions`); and of each line whether a visitor is called so often, and with a failure at each
+//! call no further (`failures`).
 #![tactic(auto)]
 
 #[cfg(test)]
 mod content_digest;
-#[cfg(test)]
 mod failures;
 #[cfg(test)]
 mod fields;
@@ -26,6 +26,7 @@ mod uses;
 #[cfg(test)]
 mod visitors;
 
+use crate::failures::calls_of;
 use crate::positions::{is_reach, stands_at_reach};
 use crate::replay::{Field, answer_of, canonical_text, input_of, parse_line};
 use sfv::Version;
@@ -42,37 +43,61 @@ fn fault_at_reach(alloc: Global, field: Field, version: Version, input: &[u8]) -
     }
 }
 
+/// How often something was tried, and how often it failed.
+#[derive(Clone, Copy, Default)]
+struct Tries {
+    all: u64,
+    failed: u64,
+}
+
+impl Tries {
+    /// Counts a try, and returns whether it failed.
+    fn fails(&mut self, passed: bool) -> bool {
+        self.all = self.all.saturating_add(1);
+        if !passed {
+            self.failed = self.failed.saturating_add(1);
+        }
+        !passed
+    }
+}
+
 fn main(rt: HostRuntime) -> io::Result<ExitCode> {
     let alloc = rt.alloc();
-    let (mut lines, mut differences) = (0u64, 0u64);
-    let (mut faults, mut elsewhere) = (0u64, 0u64);
+    let (mut answers, mut faults) = (Tries::default(), Tries::default());
+    let mut visits = Tries::default();
     for line in BufReader::new(alloc, rt.reader())?.lines(alloc) {
         let line = line?;
-        lines = lines.saturating_add(1);
         let Some(case) = parse_line(line.as_str()) else {
-            println!(rt; "line {lines} can't be read: {line}")?;
+            println!(rt; "can't be read: {line}")?;
             return Ok(ExitCode::FAILURE);
         };
         let Some(input) = input_of(alloc, &case) else {
-            println!(rt; "line {lines} has no hexadecimal: {line}")?;
+            println!(rt; "has no hexadecimal: {line}")?;
             return Ok(ExitCode::FAILURE);
         };
         let got = answer_of(alloc, case.field, case.version, &input)?;
-        if got.as_str() != case.answer {
-            differences = differences.saturating_add(1);
-            println!(rt; "line {lines} differs: {line}, but got {got}")?;
+        if answers.fails(got.as_str() == case.answer) {
+            println!(rt; "differs: {line}, but got {got}")?;
         }
         if let Some(index) = fault_at_reach(alloc, case.field, case.version, &input) {
-            faults = faults.saturating_add(1);
-            if !is_reach(alloc, case.field, case.version, &input, index)? {
-                elsewhere = elsewhere.saturating_add(1);
-                println!(rt; "line {lines} goes on elsewhere: {line}")?;
+            if faults.fails(is_reach(alloc, case.field, case.version, &input, index)?) {
+                println!(rt; "goes on elsewhere: {line}")?;
             }
         }
+        if visits.fails(calls_of(alloc, case.field, case.version, &input) == Some(case.calls)) {
+            println!(rt; "is visited otherwise: {line}")?;
+        }
     }
-    println!(rt; "{lines} lines, {differences} differ")?;
-    println!(rt; "{faults} faults at the reach, {elsewhere} elsewhere")?;
-    Ok(if differences == 0 && elsewhere == 0 {
+    println!(rt; "{} lines, {} differ", answers.all, answers.failed)?;
+    println!(rt;
+        "{} faults at the reach, {} elsewhere",
+        faults.all, faults.failed
+    )?;
+    println!(rt;
+        "{} visited with a failure at each call, {} otherwise",
+        visits.all, visits.failed
+    )?;
+    Ok(if answers.failed == 0 && faults.failed == 0 && visits.failed == 0 {
         ExitCode::SUCCESS
     } else {
         ExitCode::FAILURE

@@ -23,6 +23,8 @@ pub struct Case<'a> {
     pub version: Version,
     /// The input in hexadecimal, or `-` for no bytes.
     pub input: &'a str,
+    /// How often a visitor is called that never fails.
+    pub calls: u64,
     /// The answer that is wanted.
     pub answer: &'a str,
 }
@@ -42,11 +44,13 @@ pub fn parse_line(line: &str) -> Option<Case<'_>> {
         "9651" => Version::Rfc9651,
         _ => return None,
     };
-    let (input, answer) = rest.split_once(' ')?;
+    let (input, rest) = rest.split_once(' ')?;
+    let (calls, answer) = rest.split_once(' ')?;
     Some(Case {
         field,
         version,
         input,
+        calls: calls.parse().ok()?,
         answer,
     })
 }

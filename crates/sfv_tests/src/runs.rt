@@ -32,8 +32,8 @@ fn fault_of(alloc: Global, input: &[u8]) -> Option<usize> {
     }
 }
 
-/// Kinds of runs: what stands in front, a byte that ends the run wrongly, what stands behind, and the index of the fault
-/// behind that byte's.
+/// Kinds of runs: what stands in front, a byte that ends the run wrongly, what stands after it, and how far after
+/// that byte the fault stands.
 const RUNS: [(&str, u8, &str, usize); 5] = [
     ("\"", b'\\', "x\"", 1),
     ("%\"", b'%', "x\"", 1),
@@ -44,12 +44,12 @@ const RUNS: [(&str, u8, &str, usize); 5] = [
 
 /// Whether runs of this length, with a wrong byte at this place, have their fault there.
 fn ends_at(alloc: Global, length: usize, stop: usize) -> Result<bool, AllocError> {
-    for (front, byte, ending, behind) in RUNS {
+    for (front, byte, ending, distance) in RUNS {
         let text = text_of(alloc, front, length, stop, byte, ending)?;
         let wanted = front
             .len()
             .checked_add(stop)
-            .and_then(|at| at.checked_add(behind));
+            .and_then(|at| at.checked_add(distance));
         if fault_of(alloc, text.as_slice()) != wanted {
             return Ok(false);
         }
@@ -86,7 +86,7 @@ fn length_of_key(alloc: Global, input: &[u8]) -> Option<usize> {
     item.params.keys().next().map(|key| key.as_str().len())
 }
 
-/// Kinds of runs: what stands in front and behind, the length of what is read where all of 40 bytes are of its class, and
+/// Kinds of runs: what stands in front and after, the length of what is read where all of 40 bytes are of its class, and
 /// the bytes of the class.
 const CLASSES: [(&str, &str, usize, &str); 5] = [
     (

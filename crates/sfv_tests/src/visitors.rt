@@ -237,8 +237,8 @@ fn events_are_counted(rt: HostRuntime) {
 }
 
 #[test]
-fn faults_come_behind_their_events(rt: HostRuntime) {
-    // The bare item is told before the parameter that is no key.
+fn faults_come_after_their_events(rt: HostRuntime) {
+    // The bare item is visited before the parameter that is no key.
     let answer = Parser::new(b"abc;0").parse_item_with_visitor(rt.alloc(), Counter::failing_at(0));
     let Err(ParseError::Syntax(error)) = answer else {
         assert!(rt; false);
@@ -338,10 +338,10 @@ fn empty_lists_have_no_event(rt: HostRuntime) {
     assert!(rt; matches!(answer, Ok(0)));
     let answer = Parser::new(b"").parse_dictionary_with_visitor(rt.alloc(), Counter::failing_at(0));
     assert!(rt; matches!(answer, Ok(0)));
-    // A comma at the end: no further entry is told.
+    // A comma at the end: no further entry is visited.
     let answer = Parser::new(b"1, ").parse_list_with_visitor(rt.alloc(), Counter::failing_at(5));
     assert!(rt; matches!(answer, Err(ParseError::Syntax(_))));
-    // A byte stands where a member is wanted: the entry is told before it is looked at.
+    // A byte stands where a member is wanted: the entry is visited before it is looked at.
     let answer = Parser::new(b"!").parse_list_with_visitor(rt.alloc(), Counter::failing_at(1));
     assert!(rt; matches!(answer, Err(ParseError::Visitor(1))));
 }

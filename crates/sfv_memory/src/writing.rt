@@ -1,0 +1,228 @@
+//! Single calls of the serializers: a call that is refused leaves the text as it stood, and whether a member stands.
+
+ghost use Rattle.std.specs.Prelude.{neg_ℤ, pos, ◌≤ℤ◌};
+
+use crate::refused_if;
+use sfv::{
+    DictSerializer, Dictionary, Error, GenericBareItem, InnerListSerializer, Item, ItemSerializer,
+    List, ListEntry, ListSerializer, ParameterSerializer, Parser, RefBareItem, SerializeError,
+    Sink, integer, key_ref,
+};
+use std::alloc::Global;
+
+fn number<'a>(n: i64) -> RefBareItem<'a>
+    requires low { neg_ℤ (pos 1000) ≤ℤ n }
+    requires high { n ≤ℤ pos 1000 }
+{
+    GenericBareItem::Integer(integer(n))
+}
+
+/// A text with just the room that this one needs, which begins as it does.
+fn lent(alloc: Global, room: &str) -> Result<String, Error> {
+    let mut text = String::with_capacity(alloc, room.len())?;
+    text.push_str("X: ")?;
+    Ok(text)
+}
+
+/// Ends the writing of parameters, and returns whether the call before was made: it is refused only for memory.
+fn is_made<'s, X>(answer: Result<ParameterSerializer<'s, X>, SerializeError>) -> bool {
+    match answer {
+        Ok(params) => {
+            params.finish();
+            true
+        }
+        Err(_) => false,
+    }
+}
+
+/// Writes an item of an inner list, if it is made.
+fn put<X: Sink>(inner: &mut InnerListSerializer<X>, value: RefBareItem<'_>) -> bool {
+    is_made(inner.bare_item(value))
+}
+
+/// Whether what stands is what a refused call leaves, or what the call writes.
+fn stands(
+    is_refused: bool,
+    got: Option<&str>,
+    left: Option<&str>,
+    written: &str,
+) -> Result<bool, Error> {
+    if is_refused {
+        refused_if(got == left)
+    } else {
+        Ok(got == Some(written))
+    }
+}
+
+/// An item of a list into `X: `.
+pub fn first_item(alloc: Global) -> Result<bool, Error> {
+    let mut text = lent(alloc, "X: ")?;
+    let mut list = ListSerializer::with_buffer(&mut text);
+    let made = is_made(list.bare_item(number(1)));
+    stands(!made, list.finish(), None, "X: 1")
+}
+
+/// Ends an inner list, and returns whether it is: where its parenthesis is refused, it is taken away.
+fn is_ended<W: Sink>(inner: InnerListSerializer<&mut ListSerializer<W>>) -> bool {
+    match inner.finish() {
+        Ok(params) => {
+            params.finish();
+            true
+        }
+        Err(_) => false,
+    }
+}
+
+/// Writes `(5)` whole, or nothing.
+fn is_inner_list_made<W: Sink>(list: &mut ListSerializer<W>) -> bool {
+    match list.inner_list() {
+        Ok(mut inner) => {
+            if put(&mut inner, number(5)) {
+                is_ended(inner)
+            } else {
+                inner.abandon();
+                false
+            }
+        }
+        Err(_) => false,
+    }
+}
+
+/// An inner list after 1 and before 2, where the text has this room.
+pub fn inner_list(alloc: Global, room: &str, goes_on: bool) -> Result<bool, Error> {
+    let mut text = lent(alloc, room)?;
+    let mut list = ListSerializer::with_buffer(&mut text);
+    if !is_made(list.bare_item(number(1))) {
+        return Ok(false);
+    }
+    let made = is_inner_list_made(&mut list);
+    if !goes_on {
+        return stands(!made, list.finish(), Some("X: 1"), "X: 1, (5)");
+    }
+    let more = is_made(list.bare_item(number(2)));
+    if made {
+        stands(!more, list.finish(), Some("X: 1, (5)"), "X: 1, (5), 2")
+    } else {
+        stands(true, list.finish(), Some("X: 1, 2"), "")
+    }
+}
+
+/// Writes `(5`, 6 if it is made, 7 if it isn't and it is to go on, and the end. Returns whether 6 is made, and the end.
+fn write_second<W: Sink>(list: &mut ListSerializer<W>, goes_on: bool) -> (bool, bool) {
+    match list.inner_list() {
+        Ok(mut inner) => {
+            let first = put(&mut inner, number(5));
+            let second = put(&mut inner, number(6));
+            if goes_on && first && !second {
+                put(&mut inner, number(7));
+            }
+            (second, is_ended(inner))
+        }
+        Err(_) => (false, false),
+    }
+}
+
+/// An item of an inner list, which ends or goes on with another one where this is refused.
+pub fn inner_item(alloc: Global, goes_on: bool) -> Result<bool, Error> {
+    let mut text = lent(alloc, "X: (5")?;
+    let mut list = ListSerializer::with_buffer(&mut text);
+    let (second, ended) = write_second(&mut list, goes_on);
+    let left = if second {
+        None
+    } else if goes_on {
+        Some("X: (5 7)")
+    } else {
+        Some("X: (5)")
+    };
+    stands(!second || !ended, list.finish(), left, "X: (5 6)")
+}
+
+/// The members of a list, once more where they are refused.
+pub fn members(alloc: Global, goes_on: bool) -> Result<bool, Error> {
+    let value = Parser::new(b"1, (2 3)").parse::<List>(alloc)?;
+    let mut text = lent(alloc, "X: ")?;
+    let mut list = ListSerializer::with_buffer(&mut text);
+    let made = list.members(value[..].iter()).is_ok();
+    let again = goes_on && !made && list.members(value[..].iter()).is_ok();
+    let left = if again { Some("X: 1, (2 3)") } else { None };
+    stands(!made, list.finish(), left, "X: 1, (2 3)")
+}
+
+/// A parameter of a member of a dictionary, and then another member.
+pub fn parameter(alloc: Global, goes_on: bool) -> Result<bool, Error> {
+    let mut text = lent(alloc, "X: a")?;
+    let mut dict = DictSerializer::with_buffer(&mut text);
+    let made = match dict.bare_item(key_ref("a"), GenericBareItem::Boolean(true)) {
+        Ok(params) => is_made(params.parameter(key_ref("b"), number(2))),
+        Err(_) => false,
+    };
+    if !goes_on {
+        return stands(!made, dict.finish(), Some("X: a"), "X: a;b=2");
+    }
+    let more = is_made(dict.bare_item(key_ref("c"), number(1)));
+    if made {
+        stands(!more, dict.finish(), Some("X: a;b=2"), "X: a;b=2, c=1")
+    } else {
+        stands(true, dict.finish(), Some("X: a, c=1"), "")
+    }
+}
+
+/// The members of a dictionary.
+pub fn named_members(alloc: Global) -> Result<bool, Error> {
+    let value = Parser::new(b"a=1, b=(2 3);c").parse::<Dictionary>(alloc)?;
+    let mut text = lent(alloc, "X: ")?;
+    let mut dict = DictSerializer::with_buffer(&mut text);
+    let made = dict.members(value.iter()).is_ok();
+    stands(!made, dict.finish(), None, "X: a=1, b=(2 3);c")
+}
+
+/// A named inner list, begun and abandoned.
+pub fn named_inner_list(alloc: Global) -> Result<bool, Error> {
+    let mut text = lent(alloc, "X: ")?;
+    let mut dict = DictSerializer::with_buffer(&mut text);
+    let made = match dict.inner_list(key_ref("a-key")) {
+        Ok(inner) => {
+            inner.abandon();
+            true
+        }
+        Err(_) => false,
+    };
+    let stays = dict.finish().is_none() && text.as_str() == "X: ";
+    if made { Ok(stays) } else { refused_if(stays) }
+}
+
+/// Writes the items of an inner list, and returns whether they are made, and the end.
+fn write_items<W: Sink>(list: &mut ListSerializer<W>, items: &[Item]) -> (bool, bool) {
+    match list.inner_list() {
+        Ok(mut inner) => {
+            let made = inner.items(items.iter()).is_ok();
+            (made, is_ended(inner))
+        }
+        Err(_) => (false, false),
+    }
+}
+
+/// The items of an inner list.
+pub fn items(alloc: Global) -> Result<bool, Error> {
+    let value = Parser::new(b"(2;a 3)").parse::<List>(alloc)?;
+    let Some(ListEntry::InnerList(inner)) = value[..].first() else {
+        return Ok(false);
+    };
+    let mut text = lent(alloc, "X: (")?;
+    let mut list = ListSerializer::with_buffer(&mut text);
+    let (made, ended) = write_items(&mut list, inner.items.as_slice());
+    let left = if made { None } else { Some("X: ()") };
+    stands(!made || !ended, list.finish(), left, "X: (2;a 3)")
+}
+
+/// An item, with its parameters.
+pub fn item(alloc: Global, room: &str) -> Result<bool, Error> {
+    let value = Parser::new(b"1;a=2;b").parse::<Item>(alloc)?;
+    let mut text = lent(alloc, room)?;
+    let (first, second) = match ItemSerializer::with_buffer(&mut text).bare_item(number(1)) {
+        Ok(params) => (true, is_made(params.parameters(value.params.iter()))),
+        Err(_) => (false, false),
+    };
+    let left = if first { "X: 1" } else { "X: " };
+    stands(!second, Some(text.as_str()), Some(left), "X: 1;a=2;b")
+}
