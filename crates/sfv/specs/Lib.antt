@@ -29,6 +29,7 @@ pub use Rattle.sfv_spec.specs.Strings
 pub use Rattle.sfv_spec.specs.Texts
 pub use Rattle.sfv_spec.specs.Values
 pub use Rattle.sfv_spec.specs.Visiting
+pub use Rattle.sfv_spec.proofs.Runs as EventRuns
 pub use Rattle.sfv_base.specs.Conversions
 pub use Rattle.sfv_base.specs.Errors
 pub use Rattle.sfv_base.specs.Messages

@@ -3,7 +3,7 @@
 ghost use Rattle.std.specs.Prelude.{◌≡◌, ⊤, ◌≤◌, IsSome, IfOk, IfErr, OnOk};
 ghost use Rattle.sfv.specs.Values.{rfc9651, item_field, dictionary_field};
 ghost use Rattle.sfv.specs.Grammar.{IsAccepted};
-ghost use Rattle.sfv.proofs.Callers.{key_in};
+ghost use Rattle.sfv.specs.EventRuns.{key_in};
 ghost use Rattle.sfv.specs.Parsers.{IsMemoryError};
 ghost use Rattle.sfv_uses.specs.Uses.{counts, HasMembers, IsCountError};
 
