@@ -1,19 +1,19 @@
 #!/bin/sh
-# Refuses the first request for memory of each call of `sfv_memory`, then the second, and so on, until no call has so
-# many. Prints how many requests each call makes, and each call that then answers otherwise: the status is 1 if one does,
-# or if a run faults or hangs. A run of `rt try` takes some 20 seconds, and there are some 35.
+# Usage: docs/check-memory.sh [CALL..]
+# Refuses the first request for memory of these calls of `sfv_memory`, or of each, then the second, and so on, until no
+# call has so many. Prints how many requests each call makes, and each call that isn't out of memory where one of them is
+# refused, or then leaves what its contract doesn't say: the status is 1 if one does, or if a run faults or hangs. A run
+# of `rt try` takes some 20 seconds, and there are some 35.
 cd "$(dirname "$0")/../crates/sfv_memory" || exit 2
 room=$(mktemp -d) || exit 2
 trap 'rm -rf "$room"' EXIT
 mkdir "$room/cases"
 
 # The numbers of the calls, each as a case: it prints that it was made, or the line of another answer.
-count=$(sed 's/ .*//' stdout)
-number=0
-while [ "$number" -lt "$count" ]; do
+[ $# -gt 0 ] || set -- $(seq 0 $(($(sed 's/ .*//' stdout) - 1)))
+for number in "$@"; do
     printf '%s' "$number" >"$room/cases/$number"
     echo '1 made' >"$room/cases/$number.stdout"
-    number=$((number + 1))
 done
 
 # Runs the cases with this request refused, and prints the number of each, of its requests, its status and its output.
@@ -30,20 +30,14 @@ while [ -n "$(ls "$room/cases")" ]; do
     refused "$refusal" >"$room/seen"
     [ -s "$room/seen" ] || { cat "$room/log"; exit 2; }
     while read -r number requests status output; do
-        case "$status $output" in
-        "1 expected") ;;
-        "0 expected")
-            # Its last request was refused before: it answers as with enough memory.
-            if [ "$refusal" -gt "$requests" ]; then
-                echo "call $number: $requests requests"
-                rm "$room/cases/$number" "$room/cases/$number.stdout"
-            fi
-            ;;
-        *)
+        if [ "$refusal" -gt "$requests" ] && [ "$status $output" = "0 expected" ]; then
+            # Its last request was refused before.
+            echo "call $number: $requests requests"
+            rm "$room/cases/$number" "$room/cases/$number.stdout"
+        elif [ "$status $output" != "1 expected" ]; then
             echo "call $number answers otherwise where request $refusal is refused (status $status, output $output)"
             failed=1
-            ;;
-        esac
+        fi
     done <"$room/seen"
     refusal=$((refusal + 1))
 done

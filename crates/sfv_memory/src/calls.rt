@@ -1,8 +1,8 @@
 //! The calls.
 
-use crate::reading::{Answer, Field, is_answer, read, read_into};
+use crate::reading::{Answer, Field, is_answer, read, read_into, write_for};
 use crate::{copies, scripts, writing};
-use sfv::{Error, ErrorKind};
+use sfv::{Dictionary, Error, ErrorKind, Item, List};
 use std::alloc::Global;
 
 /// A call, or a few that lead to one.
@@ -12,16 +12,24 @@ pub enum Call {
     Read(Field, &'static [u8], Answer),
     /// A line is read into the value of another.
     ReadInto(Field, &'static [u8], &'static [u8], Answer),
-    /// A key, a token and a string are copied and cloned.
-    CopyTexts,
+    /// A field is read and written for RFC 8941.
+    WriteFor(Field, &'static str),
+    /// A key is copied and cloned.
+    CopyKey,
+    /// A token is copied and cloned.
+    CopyToken,
+    /// A string is copied and cloned.
+    CopyString,
     /// A bare item is copied and cloned.
     CopyBareItem(usize),
     /// A string that was read is copied.
     CopyRead(&'static [u8], &'static str),
-    /// A list is cloned.
-    CopyList(&'static str),
-    /// A dictionary is cloned.
-    CopyDictionary(&'static str),
+    /// A field is cloned.
+    Copy(Field, &'static [u8]),
+    /// The first member of a list is cloned.
+    CopyMember(&'static [u8]),
+    /// The inner list that is the first member of a list is cloned.
+    CopyInnerList(&'static [u8]),
     /// A member is entered into a dictionary.
     Enter,
     /// A parameter is entered.
@@ -53,7 +61,7 @@ pub enum Call {
 }
 
 /// Each, with what it answers.
-pub const CALLS: [Call; 43] = [
+pub const CALLS: [Call; 52] = [
     Call::Read(
         Field::Item,
         b"\"a\\\"b\";k=:aGk:;d=%\"%c3%bc\";k=tok",
@@ -108,15 +116,24 @@ pub const CALLS: [Call; 43] = [
         b"b=\"q\\\"\";y, c=",
         Answer::Fault(ErrorKind::ExpectedStartOfBareItem, 13),
     ),
-    Call::CopyTexts,
+    Call::WriteFor(Field::Item, "\"a\\\"b\";k"),
+    Call::WriteFor(Field::List, "\"a\\\"b\", (k)"),
+    Call::WriteFor(Field::Dictionary, "a=\"a\\\"b\", b=(k)"),
+    Call::CopyKey,
+    Call::CopyToken,
+    Call::CopyString,
     Call::CopyBareItem(0),
     Call::CopyBareItem(1),
     Call::CopyBareItem(2),
     Call::CopyBareItem(3),
     Call::CopyRead(b"\"a b\"", "a b"),
     Call::CopyRead(b"\"\\\"\"", "\""),
-    Call::CopyList("\"a\", (b)"),
-    Call::CopyDictionary("a=\"a\", b=(b)"),
+    Call::Copy(Field::Item, b"\"a\";b=c"),
+    Call::Copy(Field::List, b"\"a\", (b)"),
+    Call::Copy(Field::Dictionary, b"a=\"a\", b=(b)"),
+    Call::CopyMember(b"a"),
+    Call::CopyMember(b"(a)"),
+    Call::CopyInnerList(b"(a);b"),
     Call::Enter,
     Call::EnterParameter,
     Call::ListItem,
@@ -150,11 +167,17 @@ pub fn perform(alloc: Global, call: Call) -> Result<bool, Error> {
         Call::ReadInto(field, held, line, answer) => {
             is_answer(read_into(alloc, field, held, line), answer)
         }
-        Call::CopyTexts => copies::texts(alloc),
+        Call::WriteFor(field, input) => write_for(alloc, field, input),
+        Call::CopyKey => copies::key(alloc),
+        Call::CopyToken => copies::token(alloc),
+        Call::CopyString => copies::string(alloc),
         Call::CopyBareItem(row) => copies::bare_item(alloc, row),
         Call::CopyRead(input, text) => copies::read_string(alloc, input, text),
-        Call::CopyList(input) => copies::list(alloc, input),
-        Call::CopyDictionary(input) => copies::dictionary(alloc, input),
+        Call::Copy(Field::Item, input) => copies::field::<Item>(alloc, input),
+        Call::Copy(Field::List, input) => copies::field::<List>(alloc, input),
+        Call::Copy(Field::Dictionary, input) => copies::field::<Dictionary>(alloc, input),
+        Call::CopyMember(input) => copies::member(alloc, input),
+        Call::CopyInnerList(input) => copies::inner_list(alloc, input),
         Call::Enter => copies::entered(alloc),
         Call::EnterParameter => copies::parameter_entered(alloc),
         Call::ListItem => writing::first_item(alloc),

@@ -9,23 +9,32 @@ use sfv::{
 };
 use std::alloc::Global;
 
-/// Copies a key, a token and a string, and clones the copies.
-pub fn texts(alloc: Global) -> Result<bool, Error> {
-    let (key, token) = (
-        key_ref("a-key").to_owned(alloc)?,
-        token_ref("a/b").to_owned(alloc)?,
-    );
-    let string = string_ref("a b").to_owned(alloc)?;
-    let key_copy: Result<_, _> = key.clone();
-    let token_copy: Result<_, _> = token.clone();
-    let string_copy: Result<_, _> = string.clone();
-    let stays = key.as_str() == "a-key" && token.as_str() == "a/b" && string.as_str() == "a b";
-    match (key_copy, token_copy, string_copy) {
-        (Ok(key), Ok(token), Ok(string)) => Ok(
-            stays && key.as_str() == "a-key" && token.as_str() == "a/b" && string.as_str() == "a b",
-        ),
-        _ => refused_if(stays),
+/// Clones a value, where this one is equal to it.
+fn is_cloned<T: Clone + PartialEq>(value: &T, same: &T) -> Result<bool, Error> {
+    let copy: Result<_, _> = value.clone();
+    let stays = *value == *same;
+    match copy {
+        Ok(copy) => Ok(stays && copy == *same),
+        Err(_) => refused_if(stays),
     }
+}
+
+/// Copies a key, and clones the copy.
+pub fn key(alloc: Global) -> Result<bool, Error> {
+    let key = key_ref("a-key");
+    is_cloned(&key.to_owned(alloc)?, &key.to_owned(alloc)?)
+}
+
+/// The same of a token.
+pub fn token(alloc: Global) -> Result<bool, Error> {
+    let token = token_ref("a/b");
+    is_cloned(&token.to_owned(alloc)?, &token.to_owned(alloc)?)
+}
+
+/// The same of a string.
+pub fn string(alloc: Global) -> Result<bool, Error> {
+    let string = string_ref("a b");
+    is_cloned(&string.to_owned(alloc)?, &string.to_owned(alloc)?)
 }
 
 /// The value of a row.
@@ -38,16 +47,10 @@ fn value_of<'a>(row: usize) -> RefBareItem<'a> {
     }
 }
 
-/// Copies a value, and clones the copy.
+/// The same of a value.
 pub fn bare_item(alloc: Global, row: usize) -> Result<bool, Error> {
     let value = value_of(row);
-    let owned = value.try_to_owned(alloc)?;
-    let copy: Result<_, _> = owned.clone();
-    let stays = owned.as_ref_item() == value;
-    match copy {
-        Ok(copy) => Ok(stays && copy.as_ref_item() == value),
-        Err(_) => refused_if(stays),
-    }
+    is_cloned(&value.try_to_owned(alloc)?, &value.try_to_owned(alloc)?)
 }
 
 /// Copies a string as it was read.
@@ -59,27 +62,31 @@ pub fn read_string(alloc: Global, input: &[u8], text: &str) -> Result<bool, Erro
     }
 }
 
-/// Clones a list.
-pub fn list(alloc: Global, input: &str) -> Result<bool, Error> {
-    let list = Parser::new(input.as_bytes()).parse::<List>(alloc)?;
-    let copy: Result<_, _> = list.clone();
-    let text = list.serialize(alloc)?;
-    let stays = text.as_ref().map(|text| text.as_str()) == Some(input);
-    match copy {
-        Ok(copy) => Ok(stays && copy.serialize(alloc)? == text),
-        Err(_) => refused_if(stays),
+/// Clones a field that is read.
+pub fn field<T: FieldType + Clone + PartialEq>(alloc: Global, input: &[u8]) -> Result<bool, Error> {
+    let parser = Parser::new(input);
+    is_cloned(&parser.parse::<T>(alloc)?, &parser.parse::<T>(alloc)?)
+}
+
+/// Clones the first member of a list.
+pub fn member(alloc: Global, input: &[u8]) -> Result<bool, Error> {
+    let parser = Parser::new(input);
+    let (list, again) = (parser.parse::<List>(alloc)?, parser.parse::<List>(alloc)?);
+    match (list[..].first(), again[..].first()) {
+        (Some(member), Some(same)) => is_cloned(member, same),
+        _ => Ok(false),
     }
 }
 
-/// Clones a dictionary.
-pub fn dictionary(alloc: Global, input: &str) -> Result<bool, Error> {
-    let dictionary = Parser::new(input.as_bytes()).parse::<Dictionary>(alloc)?;
-    let copy: Result<_, _> = dictionary.clone();
-    let text = dictionary.serialize(alloc)?;
-    let stays = text.as_ref().map(|text| text.as_str()) == Some(input);
-    match copy {
-        Ok(copy) => Ok(stays && copy.serialize(alloc)? == text),
-        Err(_) => refused_if(stays),
+/// Clones the inner list that is the first member of a list.
+pub fn inner_list(alloc: Global, input: &[u8]) -> Result<bool, Error> {
+    let parser = Parser::new(input);
+    let (list, again) = (parser.parse::<List>(alloc)?, parser.parse::<List>(alloc)?);
+    match (list[..].first(), again[..].first()) {
+        (Some(ListEntry::InnerList(inner)), Some(ListEntry::InnerList(same))) => {
+            is_cloned(inner, same)
+        }
+        _ => Ok(false),
     }
 }
 

@@ -1,9 +1,9 @@
 //! Calls that ask for memory, each with the answer that it gives where there is enough.
 //!
 //! Standard input may name one of them by its number, from 0 to 99; else each is made. Where a request is refused
-//! (`rt try --fail-alloc N`), a call gives the same answer, or it is out of memory and what it was lent is as its contract
-//! says: then the status is 1. Any other answer is a line of its own, and the status stays 0.
-//! `docs/check-memory.sh` refuses the first request of each call, the second, and so on.
+//! (`rt try --fail-alloc N`), a call is out of memory, and what it was lent is as its contract says: then the status is 1.
+//! Any other answer is a line of its own, and the status is 0. `docs/check-memory.sh` refuses the first request of each
+//! call, the second, and so on.
 #![tactic(auto)]
 
 mod calls;
@@ -24,6 +24,20 @@ fn refused_if(is_left_so: bool) -> Result<bool, Error> {
         Err(Error::from(OutOfMemory))
     } else {
         Ok(false)
+    }
+}
+
+/// Whether a refused call left this text, or a call that was made wrote the other.
+fn is_left(
+    is_refused: bool,
+    text: Option<&str>,
+    left: Option<&str>,
+    written: &str,
+) -> Result<bool, Error> {
+    if is_refused {
+        refused_if(text == left)
+    } else {
+        Ok(text == Some(written))
     }
 }
 

@@ -1,7 +1,11 @@
 //! Fields that are read, and written again; and further lines that are read into a value.
 
+use crate::refused_if;
 use sfv::visitor::{DictionaryBuilder, ListBuilder};
-use sfv::{Dictionary, Error, ErrorKind, FieldType, Item, List, OutOfMemory, ParseError, Parser};
+use sfv::{
+    Dictionary, Error, ErrorKind, FieldType, Item, List, OutOfMemory, ParseError, Parser,
+    SerializeError, Version,
+};
 use std::alloc::Global;
 
 /// The types of fields.
@@ -26,13 +30,13 @@ pub enum Answer {
 
 /// Whether this is the answer.
 pub fn is_answer(read: Result<Option<String>, Error>, answer: Answer) -> Result<bool, Error> {
-    match (read, answer) {
-        (Ok(Some(text)), Answer::Text(want)) => Ok(text.as_str() == want),
-        (Err(error), Answer::Fault(kind, index)) if error.kind() == kind => {
-            Ok(error.index() == Some(index))
-        }
-        (Err(error), _) => Err(error),
-        _ => Ok(false),
+    match answer {
+        Answer::Text(want) => Ok(read?.as_ref().map(|text| text.as_str()) == Some(want)),
+        Answer::Fault(kind, index) => match read {
+            Err(error) if error.kind() == kind => Ok(error.index() == Some(index)),
+            Err(error) => Err(error),
+            Ok(_text) => Ok(false),
+        },
     }
 }
 
@@ -44,6 +48,26 @@ pub fn read(alloc: Global, field: Field, input: &[u8]) -> Result<Option<String>,
         Field::List => parser.parse::<List>(alloc)?.serialize(alloc)?,
         Field::Dictionary => parser.parse::<Dictionary>(alloc)?.serialize(alloc)?,
     })
+}
+
+/// Reads a field of this canonical text, and writes its value for RFC 8941.
+pub fn write_for(alloc: Global, field: Field, input: &str) -> Result<bool, Error> {
+    let parser = Parser::new(input.as_bytes());
+    let version = Version::Rfc8941;
+    let answer = match field {
+        Field::Item => match parser.parse::<Item>(alloc)?.serialize_for(alloc, version) {
+            Ok(text) => Ok(Some(text)),
+            Err(error) => Err(error),
+        },
+        Field::List => parser.parse::<List>(alloc)?.serialize_for(alloc, version),
+        Field::Dictionary => parser
+            .parse::<Dictionary>(alloc)?
+            .serialize_for(alloc, version),
+    };
+    match answer {
+        Ok(text) => Ok(text.as_ref().map(|text| text.as_str()) == Some(input)),
+        Err(error) => refused_if(error == SerializeError::OutOfMemory),
+    }
 }
 
 /// The error of a reading whose visitor fails for memory alone.

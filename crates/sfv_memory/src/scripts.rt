@@ -1,64 +1,49 @@
 //! Lists of calls that are performed at once, and values that are written under a version.
 
-use crate::refused_if;
+use crate::is_left;
 use sfv::script::{
     ItemCalls, MemberCalls, ParamCall, run_dict, run_dict_for, run_item, run_item_for, run_list,
     run_list_for,
 };
-use sfv::{Error, GenericBareItem, KeyRef, RefBareItem, Version, key_ref, string_ref};
+use sfv::{Error, GenericBareItem, KeyRef, Version, key_ref, string_ref};
 use std::alloc::Global;
 
-const TEXT: RefBareItem<'static> = GenericBareItem::Boolean(false);
+/// The call that writes the parameter of this key.
+fn param_calls<'a>(alloc: Global, key: KeyRef<'a>) -> Result<Vec<ParamCall<'a>>, Error> {
+    let value = GenericBareItem::Boolean(false);
+    Ok(vec![in alloc; ParamCall { key, value }]?)
+}
 
 /// The calls that write `"a \"b\"";a=?0`.
 fn item_calls<'a>(alloc: Global) -> Result<ItemCalls<'a>, Error> {
     let value = GenericBareItem::String(string_ref("a \"b\""));
-    let params = vec![in alloc;
-        ParamCall {
-            key: key_ref("a"),
-            value: TEXT
-        },
-    ]?;
+    let params = param_calls(alloc, key_ref("a"))?;
     Ok(ItemCalls { value, params })
 }
 
-/// The calls that write an item, and an inner list of it.
-fn member_calls<'a>(alloc: Global) -> Result<Vec<MemberCalls<'a>>, Error> {
+/// The calls that write an inner list of this item.
+fn inner_list_calls<'a>(alloc: Global) -> Result<MemberCalls<'a>, Error> {
     let items = vec![in alloc; item_calls(alloc)?]?;
-    let params = vec![in alloc;
-        ParamCall {
-            key: key_ref("b"),
-            value: TEXT
-        },
-    ]?;
-    Ok(vec![in alloc;
-        MemberCalls::Item(item_calls(alloc)?),
-        MemberCalls::InnerList {
-            items,
-            params,
-            abandon: false
-        },
-    ]?)
+    let params = param_calls(alloc, key_ref("b"))?;
+    Ok(MemberCalls::InnerList {
+        items,
+        params,
+        abandon: false,
+    })
+}
+
+/// The calls that write the item, and the inner list.
+fn member_calls<'a>(alloc: Global) -> Result<Vec<MemberCalls<'a>>, Error> {
+    let item = MemberCalls::Item(item_calls(alloc)?);
+    let inner_list = inner_list_calls(alloc)?;
+    Ok(vec![in alloc; item, inner_list]?)
 }
 
 /// The same of a dictionary.
 fn named_calls<'a>(alloc: Global) -> Result<Vec<(KeyRef<'a>, MemberCalls<'a>)>, Error> {
-    let mut named = Vec::new(alloc);
-    let mut key = key_ref("x");
-    for call in member_calls(alloc)? {
-        named.push((key, call))?;
-        key = key_ref("y");
-    }
-    Ok(named)
-}
-
-/// Whether the text is what the calls write, or what stood there where they are refused.
-fn is_written(is_refused: bool, text: &str, written: &str) -> Result<bool, Error> {
-    if is_refused {
-        refused_if(text == "P=")
-    } else {
-        Ok(text == written)
-    }
+    let item = (key_ref("x"), MemberCalls::Item(item_calls(alloc)?));
+    let inner_list = (key_ref("y"), inner_list_calls(alloc)?);
+    Ok(vec![in alloc; item, inner_list]?)
 }
 
 /// An item, by calls that are bound to a version or not.
@@ -70,7 +55,12 @@ pub fn item(alloc: Global, bound: bool) -> Result<bool, Error> {
     } else {
         run_item(&mut text, &calls).is_err()
     };
-    is_written(refused, text.as_str(), "P=\"a \\\"b\\\"\";a=?0")
+    is_left(
+        refused,
+        Some(text.as_str()),
+        Some("P="),
+        "P=\"a \\\"b\\\"\";a=?0",
+    )
 }
 
 /// A list, by such calls.
@@ -83,7 +73,7 @@ pub fn list(alloc: Global, bound: bool) -> Result<bool, Error> {
         run_list(&mut text, &calls[..]).is_err()
     };
     let written = "P=\"a \\\"b\\\"\";a=?0, (\"a \\\"b\\\"\";a=?0);b=?0";
-    is_written(refused, text.as_str(), written)
+    is_left(refused, Some(text.as_str()), Some("P="), written)
 }
 
 /// A dictionary, by such calls.
@@ -96,5 +86,5 @@ pub fn dictionary(alloc: Global, bound: bool) -> Result<bool, Error> {
         run_dict(&mut text, &calls[..]).is_err()
     };
     let written = "P=x=\"a \\\"b\\\"\";a=?0, y=(\"a \\\"b\\\"\";a=?0);b=?0";
-    is_written(refused, text.as_str(), written)
+    is_left(refused, Some(text.as_str()), Some("P="), written)
 }

@@ -2,11 +2,11 @@
 
 ghost use Rattle.std.specs.Prelude.{neg_ℤ, pos, ◌≤ℤ◌};
 
-use crate::refused_if;
+use crate::{is_left, refused_if};
 use sfv::{
     DictSerializer, Dictionary, Error, GenericBareItem, InnerListSerializer, Item, ItemSerializer,
-    List, ListEntry, ListSerializer, ParameterSerializer, Parser, RefBareItem, SerializeError,
-    Sink, integer, key_ref,
+    List, ListEntry, ListSerializer, OutOfMemory, Parser, RefBareItem, SerializeError, Sink,
+    integer, key_ref,
 };
 use std::alloc::Global;
 
@@ -24,61 +24,57 @@ fn lent(alloc: Global, room: &str) -> Result<String, Error> {
     Ok(text)
 }
 
-/// Ends the writing of parameters, and returns whether the call before was made: it is refused only for memory.
-fn is_made<'s, X>(answer: Result<ParameterSerializer<'s, X>, SerializeError>) -> bool {
-    match answer {
-        Ok(params) => {
-            params.finish();
-            true
-        }
-        Err(_) => false,
-    }
+/// Writes an item of a list.
+fn put<W: Sink>(
+    list: &mut ListSerializer<W>,
+    value: RefBareItem<'_>,
+) -> Result<(), SerializeError> {
+    list.bare_item(value)?.finish();
+    Ok(())
 }
 
-/// Writes an item of an inner list, if it is made.
-fn put<X: Sink>(inner: &mut InnerListSerializer<X>, value: RefBareItem<'_>) -> bool {
-    is_made(inner.bare_item(value))
+/// Writes an item of an inner list.
+fn put_inner<X: Sink>(
+    inner: &mut InnerListSerializer<X>,
+    value: RefBareItem<'_>,
+) -> Result<(), SerializeError> {
+    inner.bare_item(value)?.finish();
+    Ok(())
 }
 
-/// Whether what stands is what a refused call leaves, or what the call writes.
-fn stands(
-    is_refused: bool,
-    got: Option<&str>,
-    left: Option<&str>,
-    written: &str,
-) -> Result<bool, Error> {
-    if is_refused {
-        refused_if(got == left)
-    } else {
-        Ok(got == Some(written))
-    }
+/// Ends an inner list: where its parenthesis is refused, it is taken away.
+fn end<W: Sink>(inner: InnerListSerializer<&mut ListSerializer<W>>) -> Result<(), OutOfMemory> {
+    inner.finish()?.finish();
+    Ok(())
+}
+
+/// Writes `a`, with a parameter.
+fn put_parameter<W: Sink>(dict: &mut DictSerializer<W>) -> Result<(), SerializeError> {
+    let params = dict.bare_item(key_ref("a"), GenericBareItem::Boolean(true))?;
+    params.parameter(key_ref("b"), number(2))?.finish();
+    Ok(())
+}
+
+/// Writes `c=1`.
+fn put_member<W: Sink>(dict: &mut DictSerializer<W>) -> Result<(), SerializeError> {
+    dict.bare_item(key_ref("c"), number(1))?.finish();
+    Ok(())
 }
 
 /// An item of a list into `X: `.
 pub fn first_item(alloc: Global) -> Result<bool, Error> {
     let mut text = lent(alloc, "X: ")?;
     let mut list = ListSerializer::with_buffer(&mut text);
-    let made = is_made(list.bare_item(number(1)));
-    stands(!made, list.finish(), None, "X: 1")
-}
-
-/// Ends an inner list, and returns whether it is: where its parenthesis is refused, it is taken away.
-fn is_ended<W: Sink>(inner: InnerListSerializer<&mut ListSerializer<W>>) -> bool {
-    match inner.finish() {
-        Ok(params) => {
-            params.finish();
-            true
-        }
-        Err(_) => false,
-    }
+    let made = put(&mut list, number(1)).is_ok();
+    is_left(!made, list.finish(), None, "X: 1")
 }
 
 /// Writes `(5)` whole, or nothing.
 fn is_inner_list_made<W: Sink>(list: &mut ListSerializer<W>) -> bool {
     match list.inner_list() {
         Ok(mut inner) => {
-            if put(&mut inner, number(5)) {
-                is_ended(inner)
+            if put_inner(&mut inner, number(5)).is_ok() {
+                end(inner).is_ok()
             } else {
                 inner.abandon();
                 false
@@ -92,18 +88,18 @@ fn is_inner_list_made<W: Sink>(list: &mut ListSerializer<W>) -> bool {
 pub fn inner_list(alloc: Global, room: &str, goes_on: bool) -> Result<bool, Error> {
     let mut text = lent(alloc, room)?;
     let mut list = ListSerializer::with_buffer(&mut text);
-    if !is_made(list.bare_item(number(1))) {
+    if !put(&mut list, number(1)).is_ok() {
         return Ok(false);
     }
     let made = is_inner_list_made(&mut list);
     if !goes_on {
-        return stands(!made, list.finish(), Some("X: 1"), "X: 1, (5)");
+        return is_left(!made, list.finish(), Some("X: 1"), "X: 1, (5)");
     }
-    let more = is_made(list.bare_item(number(2)));
+    let more = put(&mut list, number(2)).is_ok();
     if made {
-        stands(!more, list.finish(), Some("X: 1, (5)"), "X: 1, (5), 2")
+        is_left(!more, list.finish(), Some("X: 1, (5)"), "X: 1, (5), 2")
     } else {
-        stands(true, list.finish(), Some("X: 1, 2"), "")
+        is_left(true, list.finish(), Some("X: 1, 2"), "")
     }
 }
 
@@ -111,12 +107,12 @@ pub fn inner_list(alloc: Global, room: &str, goes_on: bool) -> Result<bool, Erro
 fn write_second<W: Sink>(list: &mut ListSerializer<W>, goes_on: bool) -> (bool, bool) {
     match list.inner_list() {
         Ok(mut inner) => {
-            let first = put(&mut inner, number(5));
-            let second = put(&mut inner, number(6));
+            let first = put_inner(&mut inner, number(5)).is_ok();
+            let second = put_inner(&mut inner, number(6)).is_ok();
             if goes_on && first && !second {
-                put(&mut inner, number(7));
+                put_inner(&mut inner, number(7)).is_ok();
             }
-            (second, is_ended(inner))
+            (second, end(inner).is_ok())
         }
         Err(_) => (false, false),
     }
@@ -134,7 +130,7 @@ pub fn inner_item(alloc: Global, goes_on: bool) -> Result<bool, Error> {
     } else {
         Some("X: (5)")
     };
-    stands(!second || !ended, list.finish(), left, "X: (5 6)")
+    is_left(!second || !ended, list.finish(), left, "X: (5 6)")
 }
 
 /// The members of a list, once more where they are refused.
@@ -145,25 +141,22 @@ pub fn members(alloc: Global, goes_on: bool) -> Result<bool, Error> {
     let made = list.members(value[..].iter()).is_ok();
     let again = goes_on && !made && list.members(value[..].iter()).is_ok();
     let left = if again { Some("X: 1, (2 3)") } else { None };
-    stands(!made, list.finish(), left, "X: 1, (2 3)")
+    is_left(!made, list.finish(), left, "X: 1, (2 3)")
 }
 
 /// A parameter of a member of a dictionary, and then another member.
 pub fn parameter(alloc: Global, goes_on: bool) -> Result<bool, Error> {
     let mut text = lent(alloc, "X: a")?;
     let mut dict = DictSerializer::with_buffer(&mut text);
-    let made = match dict.bare_item(key_ref("a"), GenericBareItem::Boolean(true)) {
-        Ok(params) => is_made(params.parameter(key_ref("b"), number(2))),
-        Err(_) => false,
-    };
+    let made = put_parameter(&mut dict).is_ok();
     if !goes_on {
-        return stands(!made, dict.finish(), Some("X: a"), "X: a;b=2");
+        return is_left(!made, dict.finish(), Some("X: a"), "X: a;b=2");
     }
-    let more = is_made(dict.bare_item(key_ref("c"), number(1)));
+    let more = put_member(&mut dict).is_ok();
     if made {
-        stands(!more, dict.finish(), Some("X: a;b=2"), "X: a;b=2, c=1")
+        is_left(!more, dict.finish(), Some("X: a;b=2"), "X: a;b=2, c=1")
     } else {
-        stands(true, dict.finish(), Some("X: a, c=1"), "")
+        is_left(true, dict.finish(), Some("X: a, c=1"), "")
     }
 }
 
@@ -173,7 +166,7 @@ pub fn named_members(alloc: Global) -> Result<bool, Error> {
     let mut text = lent(alloc, "X: ")?;
     let mut dict = DictSerializer::with_buffer(&mut text);
     let made = dict.members(value.iter()).is_ok();
-    stands(!made, dict.finish(), None, "X: a=1, b=(2 3);c")
+    is_left(!made, dict.finish(), None, "X: a=1, b=(2 3);c")
 }
 
 /// A named inner list, begun and abandoned.
@@ -196,7 +189,7 @@ fn write_items<W: Sink>(list: &mut ListSerializer<W>, items: &[Item]) -> (bool, 
     match list.inner_list() {
         Ok(mut inner) => {
             let made = inner.items(items.iter()).is_ok();
-            (made, is_ended(inner))
+            (made, end(inner).is_ok())
         }
         Err(_) => (false, false),
     }
@@ -212,17 +205,23 @@ pub fn items(alloc: Global) -> Result<bool, Error> {
     let mut list = ListSerializer::with_buffer(&mut text);
     let (made, ended) = write_items(&mut list, inner.items.as_slice());
     let left = if made { None } else { Some("X: ()") };
-    stands(!made || !ended, list.finish(), left, "X: (2;a 3)")
+    is_left(!made || !ended, list.finish(), left, "X: (2;a 3)")
+}
+
+/// Writes 1 with the parameters of this item, and tells whether 1 is made.
+fn write_item(text: &mut String, item: &Item, is_begun: &mut bool) -> Result<(), SerializeError> {
+    let params = ItemSerializer::with_buffer(text).bare_item(number(1))?;
+    *is_begun = true;
+    params.parameters(item.params.iter())?.finish();
+    Ok(())
 }
 
 /// An item, with its parameters.
 pub fn item(alloc: Global, room: &str) -> Result<bool, Error> {
     let value = Parser::new(b"1;a=2;b").parse::<Item>(alloc)?;
     let mut text = lent(alloc, room)?;
-    let (first, second) = match ItemSerializer::with_buffer(&mut text).bare_item(number(1)) {
-        Ok(params) => (true, is_made(params.parameters(value.params.iter()))),
-        Err(_) => (false, false),
-    };
-    let left = if first { "X: 1" } else { "X: " };
-    stands(!second, Some(text.as_str()), Some(left), "X: 1;a=2;b")
+    let mut is_begun = false;
+    let made = write_item(&mut text, &value, &mut is_begun).is_ok();
+    let left = if is_begun { "X: 1" } else { "X: " };
+    is_left(!made, Some(text.as_str()), Some(left), "X: 1;a=2;b")
 }
