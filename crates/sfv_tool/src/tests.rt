@@ -66,6 +66,15 @@ struct Ended {
     status: u8,
 }
 
+impl Ended {
+    /// Whether the run wrote just this, and ended with this status.
+    fn is(&self, output: &str, errors: &str, status: u8) -> bool {
+        self.output.as_slice() == output.as_bytes()
+            && self.errors.as_slice() == errors.as_bytes()
+            && self.status == status
+    }
+}
+
 /// A run over memory.
 fn run_over(alloc: Global, args: &[&str], input: &[u8]) -> Result<Ended, Fail> {
     let args = words(alloc, args)?;
@@ -129,11 +138,9 @@ fn items(rt: HostRuntime) -> Result<(), Fail> {
             1,
         ),
     ];
-    for (version, input, output, errors, status) in rows {
+    for (row, (version, input, output, errors, status)) in rows.into_iter().enumerate() {
         let ended = run_over(rt.alloc(), &["item", version], input)?;
-        assert_eq!(rt; ended.output.as_slice(), output.as_bytes());
-        assert_eq!(rt; ended.errors.as_slice(), errors.as_bytes());
-        assert_eq!(rt; ended.status, status);
+        assert!(rt; ended.is(output, errors, status), "row {row}");
     }
     Ok(())
 }
@@ -179,16 +186,13 @@ fn lists_and_dictionaries(rt: HostRuntime) -> Result<(), Fail> {
             1,
         ),
     ];
-    for (field, version, input, output, errors, status) in rows {
+    for (row, (field, version, input, output, errors, status)) in rows.into_iter().enumerate() {
         let ended = run_over(rt.alloc(), &[field, version], input)?;
-        assert_eq!(rt; ended.output.as_slice(), output.as_bytes());
-        assert_eq!(rt; ended.errors.as_slice(), errors.as_bytes());
-        assert_eq!(rt; ended.status, status);
+        assert!(rt; ended.is(output, errors, status), "row {row}");
     }
     Ok(())
 }
 
-/// The version of writing is the third argument.
 // An answer of more than 64 KB, which no one call of the system writes as a whole.
 #[test]
 fn long_answers_are_written_whole(rt: HostRuntime) -> Result<(), Fail> {
@@ -199,10 +203,11 @@ fn long_answers_are_written_whole(rt: HostRuntime) -> Result<(), Fail> {
     }
     let ended = run_over(alloc, &["list", "9651"], text.as_bytes())?;
     text.push('\n')?;
-    assert!(rt; ended.status == 0 && ended.output.as_slice() == text.as_bytes());
+    assert!(rt; ended.is(text.as_str(), "", 0));
     Ok(())
 }
 
+// The version of writing is the third argument.
 #[test]
 fn versions_of_writing(rt: HostRuntime) -> Result<(), Fail> {
     let dates = "error: RFC 8941 does not support dates\n";
@@ -236,11 +241,9 @@ fn versions_of_writing(rt: HostRuntime) -> Result<(), Fail> {
             1,
         ),
     ];
-    for (args, input, output, errors, status) in rows {
+    for (row, (args, input, output, errors, status)) in rows.into_iter().enumerate() {
         let ended = run_over(rt.alloc(), args, input)?;
-        assert_eq!(rt; ended.output.as_slice(), output.as_bytes());
-        assert_eq!(rt; ended.errors.as_slice(), errors.as_bytes());
-        assert_eq!(rt; ended.status, status);
+        assert!(rt; ended.is(output, errors, status), "row {row}");
     }
     Ok(())
 }
@@ -263,11 +266,9 @@ fn usage(rt: HostRuntime) -> Result<(), Fail> {
         &["dict"],
         &["9651", "item"],
     ];
-    for args in rows {
+    for (row, args) in rows.into_iter().enumerate() {
         let ended = run_over(rt.alloc(), args, b"1\n")?;
-        assert_eq!(rt; ended.output.len(), 0);
-        assert_eq!(rt; ended.errors.as_slice(), usage.as_bytes());
-        assert_eq!(rt; ended.status, 2);
+        assert!(rt; ended.is("", usage, 2), "row {row}");
     }
     Ok(())
 }
@@ -286,9 +287,12 @@ fn unreadable_input(rt: HostRuntime) -> Result<(), Fail> {
         &mut output,
         &mut errors,
     );
-    assert_eq!(rt; errors.as_slice(), b"error: cannot read input\n".as_slice());
-    assert_eq!(rt; output.len(), 0);
-    assert_eq!(rt; status, 1);
+    let ended = Ended {
+        output,
+        errors,
+        status,
+    };
+    assert!(rt; ended.is("", "error: cannot read input\n", 1));
     Ok(())
 }
 
@@ -330,10 +334,9 @@ fn unwritable_errors(rt: HostRuntime) -> Result<(), Fail> {
         &mut output,
         &mut Full,
     );
-    assert_eq!(rt; output.len(), 0);
-    assert_eq!(rt; status, 1);
+    assert!(rt; output.is_empty() && status == 1);
     let seed = HashSeed::default();
     let status = run(rt.alloc(), seed, &[], &mut input, &mut output, &mut Full);
-    assert_eq!(rt; status, 2);
+    assert!(rt; status == 2);
     Ok(())
 }

@@ -1,5 +1,6 @@
 //! The visitors that build trees, told of events one by one: each event in its place, and out of it.
 
+use crate::common::is_text;
 use sfv::visitor::{DictionaryBuilder, Event, ItemBuilder, ItemFault, ListBuilder, Visitor};
 use sfv::{
     BareItemFromInput, Dictionary, FieldType, HashSeed, Item, KeyRef, List, Parser, key_ref,
@@ -62,7 +63,7 @@ fn lists_are_built_of_the_events_in_their_place(rt: HostRuntime) -> Result<(), F
     ];
     for (row, (held, letters, text)) in rows.into_iter().enumerate() {
         let built = list_of(rt.alloc(), held, letters)?.ok_or("no member")?;
-        assert!(rt; built.as_str() == text, "row {row}: {built}");
+        assert!(rt; is_text(&built, text), "row {row}: {built}");
     }
     Ok(())
 }
@@ -102,7 +103,7 @@ fn dictionaries_are_built_of_the_events_in_their_place(rt: HostRuntime) -> Resul
     ];
     for (row, (held, letters, text)) in rows.into_iter().enumerate() {
         let built = dictionary_of(rt.alloc(), held, letters)?.ok_or("no member")?;
-        assert!(rt; built.as_str() == text, "row {row}: {built}");
+        assert!(rt; is_text(&built, text), "row {row}: {built}");
     }
     Ok(())
 }
@@ -118,15 +119,40 @@ fn build_if_any(
     builder.finish()
 }
 
+/// The text of the item that a builder answers after the events, if it answers one.
+fn item_of(alloc: Global, letters: &str) -> Result<Option<String>, Fail> {
+    let builder = ItemBuilder::new(alloc, HashSeed::default());
+    match build_if_any(Some(builder), letters) {
+        Ok(Some(item)) => Ok(Some(item.serialize(alloc)?)),
+        Ok(None) | Err(ItemFault::NoItem) => Ok(None),
+        Err(fault) => Err(Fail::from(fault)),
+    }
+}
+
 #[test]
-fn optional_visitors_visit_where_there_is_one(rt: HostRuntime) -> Result<(), Fail> {
-    let alloc = rt.alloc();
-    let built = build_if_any(Some(ItemBuilder::new(alloc, HashSeed::default())), "5aA;")?;
-    let text = built.ok_or("no item")?.serialize(alloc)?;
-    assert!(rt; text.as_str() == "5;a=2");
+fn items_are_built_of_the_events_in_their_place(rt: HostRuntime) -> Result<(), Fail> {
+    let rows = [
+        ("5aA;", "5;a=2"),
+        // An event that is out of its place changes nothing.
+        (";,i(ka)5b)6A;5a", "5;b=1;a=2"),
+        // Without its end there is no item.
+        ("5a", ""),
+        ("", ""),
+    ];
+    for (row, (letters, text)) in rows.into_iter().enumerate() {
+        let built = item_of(rt.alloc(), letters)?;
+        let holds = match &built {
+            Some(built) => is_text(built, text),
+            None => text.is_empty(),
+        };
+        assert!(rt; holds, "row {row}");
+    }
+    Ok(())
+}
+
+#[test]
+fn visitors_that_are_not_there_answer_nothing(rt: HostRuntime) -> Result<(), Fail> {
     assert!(rt; build_if_any(None, "5aA;")?.is_none());
     assert!(rt; build_if_any(None, "")?.is_none());
-    let answer = build_if_any(Some(ItemBuilder::new(alloc, HashSeed::default())), "5a");
-    assert!(rt; matches!(answer, Err(ItemFault::NoItem)));
     Ok(())
 }

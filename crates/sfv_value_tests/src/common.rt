@@ -4,6 +4,11 @@ use std::alloc::Global;
 use std::fmt::{Debug, Display};
 use std::hash::{DefaultHasher, Hash, Hasher};
 
+/// Whether the text is the one that is wanted.
+pub fn is_text(text: &str, wanted: &str) -> bool {
+    text == wanted
+}
+
 /// Whether the value prints as this text.
 pub fn prints<T: Display>(alloc: Global, value: &T, text: &str) -> bool {
     match value.to_string(alloc) {

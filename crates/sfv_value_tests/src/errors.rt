@@ -1,6 +1,7 @@
 //! Errors: their kinds, places and texts.
 
 use crate::common::prints;
+use sfv::visitor::{BareItemType, ItemFault};
 use sfv::{Error, ErrorKind, OutOfMemory, ParseError};
 use std::alloc::{AllocError, AllocFailed};
 
@@ -51,6 +52,22 @@ fn want_of_memory_becomes_an_error_that_says_so(rt: HostRuntime) {
     let failed = Error::from(AllocFailed { value: 1u8 });
     for error in [Error::from(OutOfMemory), Error::from(AllocError), failed] {
         assert!(rt; error.is_out_of_memory() && prints(alloc, &error, text));
+    }
+}
+
+#[test]
+fn faults_of_items_print_what_was_expected(rt: HostRuntime) {
+    let (expected, got) = (BareItemType::Integer, BareItemType::Token);
+    let rows = [
+        (
+            ItemFault::WrongType { expected, got },
+            "unexpected bare item type: expected integer, got token",
+        ),
+        (ItemFault::NoItem, "no item"),
+        (ItemFault::OutOfMemory, "out of memory"),
+    ];
+    for (row, (fault, text)) in rows.into_iter().enumerate() {
+        assert!(rt; prints(rt.alloc(), &fault, text), "row {row}");
     }
 }
 

@@ -1,5 +1,6 @@
 //! Which seed the maps of a value have: that of the parser that read it.
 
+use crate::common::is_text;
 use sfv::visitor::{DictionaryBuilder, ItemBuilder, ListBuilder};
 use sfv::{
     Dictionary, HashSeed, InnerList, Item, KeyRef, List, ListEntry, Parameters, Parser, Version,
@@ -67,7 +68,7 @@ fn seeds_are_told_apart(rt: HostRuntime) -> Result<(), Fail> {
     assert!(rt; is_seed(&seed(), seed()) && is_seed(&parser(ITEM).hash_seed(), seed()));
     assert!(rt; is_seed(&Parser::new(ITEM).hash_seed(), HashSeed::default()));
     let shown = format!(in rt.alloc(); "{other:?}")?;
-    assert!(rt; shown.as_str() == "HashSeed { .. }");
+    assert!(rt; is_text(&shown, "HashSeed { .. }"));
     Ok(())
 }
 

@@ -1,6 +1,6 @@
 //! Keys, tokens and strings: which texts are some, their order, hashes, copies and prints.
 
-use crate::common::{hash_of, is_shown, prints};
+use crate::common::{hash_of, is_shown, is_text, prints};
 use sfv::{Error, ErrorKind, OutOfMemory, String, StringRef, key_ref, string_ref, token_ref};
 use sfv_text::checked_text::CheckedText;
 use sfv_text::checked_text_ref::CheckedTextRef;
@@ -119,7 +119,7 @@ fn borrowed_texts_are_owned_and_lent(rt: HostRuntime) -> Result<(), Fail> {
     let token = token_ref("token").to_owned(alloc)?;
     assert!(rt; token.as_str() == "token" && token.as_token_ref() == token_ref("token"));
     let string = string_ref("a string").to_owned(alloc)?;
-    assert!(rt; string.as_str() == "a string");
+    assert!(rt; is_text(string.as_str(), "a string"));
     assert!(rt; string.as_string_ref() == string_ref("a string"));
     Ok(())
 }

@@ -1,5 +1,6 @@
 //! Lists of calls of the serializers, performed at once.
 
+use crate::common::{is_refused, is_text};
 use sfv::script::{
     ItemCalls, MemberCalls, ParamCall, run_dict, run_dict_for, run_item, run_item_for, run_list,
     run_list_for,
@@ -62,13 +63,13 @@ fn lists_are_written_without_abandoned_inner_lists(rt: HostRuntime) -> Result<()
     let want = "P=1;a;a=2, ();b=?0";
     let mut text = String::from_str(alloc, "P=")?;
     assert!(rt; run_list(&mut text, &calls[..])?);
-    assert!(rt; text.as_str() == want);
+    assert!(rt; is_text(&text, want));
 
     // Whether a member stands is asked of what these calls wrote.
     let mut text = String::from_str(alloc, "P=")?;
     assert!(rt; !run_list(&mut text, &calls[1..2])?);
     assert!(rt; !run_list(&mut text, &[])?);
-    assert!(rt; text.as_str() == "P=");
+    assert!(rt; is_text(&text, "P="));
     Ok(())
 }
 
@@ -83,7 +84,7 @@ fn dictionaries_are_written_without_abandoned_inner_lists(rt: HostRuntime) -> Re
     let calls = vec![in alloc; (key_ref("a"), abandoned)]?;
     let mut text = String::from_str(alloc, "Z")?;
     assert!(rt; !run_dict(&mut text, &calls[..])?);
-    assert!(rt; text.as_str() == "Z");
+    assert!(rt; is_text(&text, "Z"));
     Ok(())
 }
 
@@ -118,7 +119,7 @@ fn dictionaries_are_written_with_each_key(rt: HostRuntime) -> Result<(), Fail> {
     let want = "member1=11;foo, member2=(abc;abc_param=?0 def);bar=\"val\", member3=12.346";
     let mut text = String::new(alloc);
     assert!(rt; run_dict(&mut text, &calls[..])?);
-    assert!(rt; text.as_str() == want);
+    assert!(rt; is_text(&text, want));
     Ok(())
 }
 
@@ -133,7 +134,7 @@ fn repeated_keys_are_written_each_time(rt: HostRuntime) -> Result<(), Fail> {
     ]?;
     let mut text = String::new(alloc);
     assert!(rt; run_dict(&mut text, &calls[..])?);
-    assert!(rt; text.as_str() == "a=11, b, a=?0");
+    assert!(rt; is_text(&text, "a=11, b, a=?0"));
     Ok(())
 }
 
@@ -144,7 +145,7 @@ fn items_are_written_with_their_parameters(rt: HostRuntime) -> Result<(), Fail> 
     let calls = item(alloc, YES, &[(key_ref("x"), no_bytes)])?;
     let mut text = String::new(alloc);
     run_item(&mut text, &calls)?;
-    assert!(rt; text.as_str() == "?1;x=::");
+    assert!(rt; is_text(&text, "?1;x=::"));
     Ok(())
 }
 
@@ -165,10 +166,15 @@ fn scripts_of_items_are_refused_where_the_version_lacks_a_value(
     let alloc = rt.alloc();
     let mut text = String::from_str(alloc, "Z")?;
     let calls = item(alloc, seven(), &[(key_ref("a"), day())])?;
-    assert!(rt; run_item_for(Version::Rfc8941, &mut text, &calls).err() == Some(DATE));
-    assert!(rt; text.as_str() == "Z");
+    assert!(rt;
+        is_refused(
+            run_item_for(Version::Rfc8941, &mut text, &calls).err(),
+            DATE
+        )
+    );
+    assert!(rt; is_text(&text, "Z"));
     run_item_for(Version::Rfc9651, &mut text, &calls)?;
-    assert!(rt; text.as_str() == "Z7;a=@1");
+    assert!(rt; is_text(&text, "Z7;a=@1"));
     Ok(())
 }
 
@@ -183,10 +189,15 @@ fn scripts_of_dictionaries_are_refused_for_a_value_of_a_repeated_key(
         (key_ref("a"), MemberCalls::Item(item(alloc, seven(), &[])?)),
     ]?;
     let mut text = String::from_str(alloc, "Z")?;
-    assert!(rt; run_dict_for(Version::Rfc8941, &mut text, &calls[..]).err() == Some(DATE));
-    assert!(rt; text.as_str() == "Z");
+    assert!(rt;
+        is_refused(
+            run_dict_for(Version::Rfc8941, &mut text, &calls[..]).err(),
+            DATE
+        )
+    );
+    assert!(rt; is_text(&text, "Z"));
     assert!(rt; run_dict_for(Version::Rfc9651, &mut text, &calls[..])?);
-    assert!(rt; text.as_str() == "Za=@1, a=7");
+    assert!(rt; is_text(&text, "Za=@1, a=7"));
     Ok(())
 }
 
@@ -210,8 +221,13 @@ fn scripts_of_lists_are_refused_for_an_item_of_an_abandoned_inner_list(
         MemberCalls::Item(item(alloc, seven(), &[])?),
     ]?;
     let mut text = String::new(alloc);
-    assert!(rt; run_list_for(Version::Rfc8941, &mut text, &calls[..]).err() == Some(DATE));
+    assert!(rt;
+        is_refused(
+            run_list_for(Version::Rfc8941, &mut text, &calls[..]).err(),
+            DATE
+        )
+    );
     assert!(rt; run_list_for(Version::Rfc8941, &mut text, &calls[1..])?);
-    assert!(rt; text.as_str() == "7");
+    assert!(rt; is_text(&text, "7"));
     Ok(())
 }

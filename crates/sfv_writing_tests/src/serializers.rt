@@ -1,5 +1,6 @@
 //! Items, lists and dictionaries that are written whole, or part by part by single calls.
 
+use crate::common::{has_text, is_text};
 use sfv::{
     BareItem, Decimal, DictSerializer, Dictionary, FieldType, GenericBareItem, InnerList,
     InnerListSerializer, Item, ItemSerializer, KeyRef, List, ListEntry, ListSerializer, Parameters,
@@ -31,7 +32,7 @@ fn members(alloc: Global) -> Result<List, Fail> {
 fn lists_are_written_member_after_member_or_not_at_all(rt: HostRuntime) -> Result<(), Fail> {
     let alloc = rt.alloc();
     let text = members(alloc)?.serialize(alloc)?.ok_or("no member")?;
-    assert!(rt; text.as_str() == "?0, (?1 2;a;b=?0);a;b=?0, (), ?1;a;b=?0");
+    assert!(rt; is_text(&text, "?0, (?1 2;a;b=?0);a;b=?0, (), ?1;a;b=?0"));
     assert!(rt; List::new(alloc).serialize(alloc)?.is_none());
     Ok(())
 }
@@ -44,7 +45,7 @@ fn dictionaries_leave_out_what_is_true_after_a_key(rt: HostRuntime) -> Result<()
         named.insert(KeyRef::from_str(key)?.to_owned(alloc)?, member)?;
     }
     let text = named.serialize(alloc)?.ok_or("no member")?;
-    assert!(rt; text.as_str() == "p=?0, q=(?1 2;a;b=?0);a;b=?0, r=(), s;a;b=?0");
+    assert!(rt; is_text(&text, "p=?0, q=(?1 2;a;b=?0);a;b=?0, r=(), s;a;b=?0"));
     assert!(rt; dictionary(alloc).serialize(alloc)?.is_none());
     Ok(())
 }
@@ -56,7 +57,7 @@ fn items_are_written_by_single_calls(rt: HostRuntime) -> Result<(), Fail> {
     let mut text = String::new(rt.alloc());
     let params = ItemSerializer::with_buffer(&mut text).bare_item(yes)?;
     params.parameter(key_ref("x"), no_bytes)?.finish();
-    assert!(rt; text.as_str() == "?1;x=::");
+    assert!(rt; is_text(&text, "?1;x=::"));
     Ok(())
 }
 
@@ -70,7 +71,7 @@ fn what_stood_there_stays(rt: HostRuntime) -> Result<(), Fail> {
     let params = params.parameter(key_ref("a"), yes)?;
     let params = params.parameter(key_ref("a"), two)?;
     params.finish();
-    assert!(rt; text.as_str() == "P=\"\\\"\\\\\";a;a=2");
+    assert!(rt; is_text(&text, "P=\"\\\"\\\\\";a;a=2"));
     Ok(())
 }
 
@@ -79,9 +80,9 @@ fn serializers_may_be_let_go(rt: HostRuntime) -> Result<(), Fail> {
     let word: RefBareItem = GenericBareItem::Token(token_ref("w"));
     let mut text = String::new(rt.alloc());
     let _ = ItemSerializer::with_buffer(&mut text);
-    assert!(rt; text.as_str() == "");
+    assert!(rt; is_text(&text, ""));
     let _ = ItemSerializer::with_buffer(&mut text).bare_item(word)?;
-    assert!(rt; text.as_str() == "w");
+    assert!(rt; is_text(&text, "w"));
     Ok(())
 }
 
@@ -113,8 +114,8 @@ fn members_go_after_what_stands(rt: HostRuntime) -> Result<(), Fail> {
     let mut list = ListSerializer::with_buffer(&mut text);
     list.bare_item(one)?.finish();
     list.bare_item(yes)?.finish();
-    assert!(rt; list.finish() == Some("X: 1, ?1"));
-    assert!(rt; text.as_str() == "X: 1, ?1");
+    assert!(rt; has_text(list.finish(), "X: 1, ?1"));
+    assert!(rt; is_text(&text, "X: 1, ?1"));
     Ok(())
 }
 
@@ -132,26 +133,26 @@ fn abandoned_inner_lists_leave_nothing(rt: HostRuntime) -> Result<(), Fail> {
     inner.abandon();
     assert!(rt; written.is_ok());
     list.bare_item(five)?.finish();
-    assert!(rt; list.finish() == Some("5"));
+    assert!(rt; has_text(list.finish(), "5"));
 
     let mut text = String::new(rt.alloc());
     let mut list = ListSerializer::with_buffer(&mut text);
     list.bare_item(one)?.finish();
     list.inner_list()?.abandon();
     list.bare_item(three)?.finish();
-    assert!(rt; list.finish() == Some("1, 3"));
+    assert!(rt; has_text(list.finish(), "1, 3"));
 
     let mut text = String::from_str(rt.alloc(), "Z")?;
     let mut list = ListSerializer::with_buffer(&mut text);
     list.inner_list()?.abandon();
-    assert!(rt; list.finish() == None);
-    assert!(rt; text.as_str() == "Z");
+    assert!(rt; list.finish().is_none());
+    assert!(rt; is_text(&text, "Z"));
 
     let mut text = String::from_str(rt.alloc(), "Z")?;
     let mut dict = DictSerializer::with_buffer(&mut text);
     dict.inner_list(key_ref("a"))?.abandon();
-    assert!(rt; dict.finish() == None);
-    assert!(rt; text.as_str() == "Z");
+    assert!(rt; dict.finish().is_none());
+    assert!(rt; is_text(&text, "Z"));
     Ok(())
 }
 
@@ -166,7 +167,7 @@ fn repeated_keys_are_written_each_time(rt: HostRuntime) -> Result<(), Fail> {
     dict.bare_item(key_ref("a"), one)?.finish();
     dict.bare_item(key_ref("b"), two)?.finish();
     dict.bare_item(key_ref("a"), three)?.finish();
-    assert!(rt; dict.finish() == Some("a=1, b=2, a=3"));
+    assert!(rt; has_text(dict.finish(), "a=1, b=2, a=3"));
     let again = Parser::new(text.as_bytes())
         .parse::<Dictionary>(alloc)?
         .serialize(alloc)?;
@@ -196,7 +197,7 @@ fn dictionaries_are_written_member_by_member(rt: HostRuntime) -> Result<(), Fail
     assert!(rt; first.is_ok() && second.is_ok());
     dict.bare_item(key_ref("member3"), part)?.finish();
     let want = "member1=11;foo, member2=(abc;abc_param=?0 def);bar=\"val\", member3=12.346";
-    assert!(rt; dict.finish() == Some(want));
+    assert!(rt; has_text(dict.finish(), want));
     Ok(())
 }
 
@@ -209,13 +210,13 @@ fn members_of_values_are_written(rt: HostRuntime) -> Result<(), Fail> {
     let mut serializer = ListSerializer::with_buffer(&mut text);
     serializer.bare_item(one)?.finish();
     serializer.members(list[..].iter())?;
-    assert!(rt; serializer.finish() == Some("1, 2;a, (3 4;b);c, ()"));
+    assert!(rt; has_text(serializer.finish(), "1, 2;a, (3 4;b);c, ()"));
 
     let empty: List = Vec::new(alloc);
     let mut text = String::new(alloc);
     let mut serializer = ListSerializer::with_buffer(&mut text);
     serializer.members(empty[..].iter())?;
-    assert!(rt; serializer.finish() == None);
+    assert!(rt; serializer.finish().is_none());
 
     let dictionary = Parser::new(b"a, b=2;x, c=(1)").parse::<Dictionary>(alloc)?;
     let mut text = String::new(alloc);
@@ -223,7 +224,7 @@ fn members_of_values_are_written(rt: HostRuntime) -> Result<(), Fail> {
     serializer.members(dictionary.iter())?;
     serializer.members(dictionary.iter())?;
     let want = "a, b=2;x, c=(1), a, b=2;x, c=(1)";
-    assert!(rt; serializer.finish() == Some(want));
+    assert!(rt; has_text(serializer.finish(), want));
 
     let mut text = String::new(alloc);
     let mut serializer = ListSerializer::with_buffer(&mut text);
@@ -237,7 +238,7 @@ fn members_of_values_are_written(rt: HostRuntime) -> Result<(), Fail> {
         params.parameters(items.params.iter())?.finish();
     }
     assert!(rt; written.is_ok());
-    assert!(rt; serializer.finish() == Some("(1 3 4;b);c"));
+    assert!(rt; has_text(serializer.finish(), "(1 3 4;b);c"));
     Ok(())
 }
 
@@ -247,7 +248,7 @@ fn serializers_of_members_may_be_let_go(rt: HostRuntime) -> Result<(), Fail> {
     let mut text = String::new(rt.alloc());
     let mut list = ListSerializer::with_buffer(&mut text);
     let _ = list.bare_item(one)?;
-    assert!(rt; text.as_str() == "1");
+    assert!(rt; is_text(&text, "1"));
     Ok(())
 }
 
@@ -273,6 +274,6 @@ fn an_inner_list_is_ended_or_taken_away(rt: HostRuntime) -> Result<(), Fail> {
     list.bare_item(three)?.finish();
     assert!(rt; written.is_ok());
     let want = if is_ended { "1, (2), 3" } else { "1, 3" };
-    assert!(rt; list.finish() == Some(want));
+    assert!(rt; has_text(list.finish(), want));
     Ok(())
 }

@@ -1,5 +1,6 @@
 //! Writing that is bound to a version.
 
+use crate::common::{has_text, is_refused, is_text};
 use sfv::visitor::BareItemType;
 use sfv::{
     Date, DictSerializer, Dictionary, Error, FieldType, GenericBareItem, InnerListSerializer, Item,
@@ -38,7 +39,7 @@ fn errors_of_writing_print_why(rt: HostRuntime) -> Result<(), Fail> {
     ];
     for (row, (error, text)) in rows.into_iter().enumerate() {
         let printed = error.to_string(rt.alloc())?;
-        assert!(rt; printed.as_str() == text, "row {row}");
+        assert!(rt; is_text(&printed, text), "row {row}");
     }
     Ok(())
 }
@@ -75,7 +76,7 @@ fn lists_of_what_the_version_has_are_written(rt: HostRuntime) -> Result<(), Fail
     let written = value
         .serialize_for(rt.alloc(), Version::Rfc8941)?
         .ok_or("no member")?;
-    assert!(rt; written.as_str() == text);
+    assert!(rt; is_text(&written, text));
     let empty = List::new(rt.alloc()).serialize_for(rt.alloc(), Version::Rfc8941)?;
     assert!(rt; empty.is_none());
     Ok(())
@@ -84,7 +85,7 @@ fn lists_of_what_the_version_has_are_written(rt: HostRuntime) -> Result<(), Fail
 #[test]
 fn items_are_refused_where_the_version_lacks_a_value(rt: HostRuntime) -> Result<(), Fail> {
     let item = Parser::new(b"1;a;b=@5").parse::<Item>(rt.alloc())?;
-    assert!(rt; item.serialize_for(rt.alloc(), Version::Rfc8941).err() == Some(DATE));
+    assert!(rt; is_refused(item.serialize_for(rt.alloc(), Version::Rfc8941).err(), DATE));
     assert!(rt; item.serialize_for(rt.alloc(), Version::Rfc9651)?.as_str() == "1;a;b=@5");
     Ok(())
 }
@@ -94,9 +95,9 @@ fn a_refused_member_leaves_the_list(rt: HostRuntime) -> Result<(), Fail> {
     let mut text = String::from_str(rt.alloc(), "X")?;
     let mut list = ListSerializer::with_buffer_for(&mut text, Version::Rfc8941);
     list.bare_item(number(1))?.finish();
-    assert!(rt; list.bare_item(date(2)).err() == Some(DATE));
+    assert!(rt; is_refused(list.bare_item(date(2)).err(), DATE));
     list.bare_item(number(3))?.finish();
-    assert!(rt; list.finish() == Some("X1, 3"));
+    assert!(rt; has_text(list.finish(), "X1, 3"));
     Ok(())
 }
 
@@ -123,7 +124,7 @@ fn a_refused_item_leaves_the_inner_list(rt: HostRuntime) -> Result<(), Fail> {
     let written = put(&mut inner, number(6));
     inner.finish()?.finish();
     assert!(rt; refused == Some(DATE) && written.is_none());
-    assert!(rt; list.finish() == Some("(6)"));
+    assert!(rt; has_text(list.finish(), "(6)"));
     Ok(())
 }
 
@@ -131,13 +132,13 @@ fn a_refused_item_leaves_the_inner_list(rt: HostRuntime) -> Result<(), Fail> {
 fn a_refused_member_or_parameter_leaves_the_dictionary(rt: HostRuntime) -> Result<(), Fail> {
     let mut text = String::from_str(rt.alloc(), "X")?;
     let mut dict = DictSerializer::with_buffer_for(&mut text, Version::Rfc8941);
-    assert!(rt; dict.bare_item(key_ref("a"), date(1)).err() == Some(DATE));
+    assert!(rt; is_refused(dict.bare_item(key_ref("a"), date(1)).err(), DATE));
     assert!(rt; !dict.has_member());
     let params = dict.bare_item(key_ref("a"), number(1))?;
     let refused = params.parameter(key_ref("b"), GenericBareItem::DisplayString("q"));
-    assert!(rt; refused.err() == Some(DISPLAY));
+    assert!(rt; is_refused(refused.err(), DISPLAY));
     dict.bare_item(key_ref("c"), number(2))?.finish();
-    assert!(rt; dict.finish() == Some("Xa=1, c=2"));
+    assert!(rt; has_text(dict.finish(), "Xa=1, c=2"));
     Ok(())
 }
 
@@ -145,11 +146,11 @@ fn a_refused_member_or_parameter_leaves_the_dictionary(rt: HostRuntime) -> Resul
 fn a_refused_item_leaves_the_text(rt: HostRuntime) -> Result<(), Fail> {
     let mut text = String::from_str(rt.alloc(), "X")?;
     let item = ItemSerializer::with_buffer_for(&mut text, Version::Rfc8941);
-    assert!(rt; item.bare_item(date(1)).err() == Some(DATE));
-    assert!(rt; text.as_str() == "X");
+    assert!(rt; is_refused(item.bare_item(date(1)).err(), DATE));
+    assert!(rt; is_text(&text, "X"));
     let params = ItemSerializer::with_buffer(&mut text).bare_item(date(1))?;
     params.finish();
-    assert!(rt; text.as_str() == "X@1");
+    assert!(rt; is_text(&text, "X@1"));
     Ok(())
 }
 
@@ -159,9 +160,9 @@ fn refused_members_leave_the_list(rt: HostRuntime) -> Result<(), Fail> {
     let value = Parser::new(b"1, (2 3;a=@4), 5").parse::<List>(alloc)?;
     let mut text = String::from_str(alloc, "X: ")?;
     let mut list = ListSerializer::with_buffer_for(&mut text, Version::Rfc8941);
-    assert!(rt; list.members(value.iter()).err() == Some(DATE));
+    assert!(rt; is_refused(list.members(value.iter()).err(), DATE));
     assert!(rt; !list.has_member());
     list.members(value[..1].iter())?;
-    assert!(rt; list.finish() == Some("X: 1"));
+    assert!(rt; has_text(list.finish(), "X: 1"));
     Ok(())
 }
