@@ -79,7 +79,9 @@ fn no_text_is_a_string_and_no_key_or_token(rt: HostRuntime) {
     assert!(rt; is_checked::<StringClass>("", None));
     let alloc = rt.alloc();
     assert!(rt; is_text(String::empty(alloc).as_str(), ""));
-    assert!(rt; is_text(StringRef::EMPTY.as_str(), "") && is_text(StringRef::default().as_str(), ""));
+    assert!(rt;
+        is_text(StringRef::EMPTY.as_str(), "") && is_text(StringRef::default().as_str(), "")
+    );
 }
 
 /// Whether a byte may begin a text of the class, and whether it may stand in one that the other byte begins.
@@ -119,7 +121,9 @@ fn borrowed_texts_are_owned_and_lent(rt: HostRuntime) -> Result<(), Fail> {
     let key = key_ref("key").to_owned(alloc)?;
     assert!(rt; is_text(key.as_str(), "key") && is_text(key.as_key_ref().as_str(), "key"));
     let token = token_ref("token").to_owned(alloc)?;
-    assert!(rt; is_text(token.as_str(), "token") && is_text(token.as_token_ref().as_str(), "token"));
+    assert!(rt;
+        is_text(token.as_str(), "token") && is_text(token.as_token_ref().as_str(), "token")
+    );
     let string = string_ref("a string").to_owned(alloc)?;
     assert!(rt; is_text(string.as_str(), "a string"));
     assert!(rt; is_text(string.as_string_ref().as_str(), "a string"));
