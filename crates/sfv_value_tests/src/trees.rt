@@ -3,8 +3,9 @@
 use crate::common::{is_text, prints};
 use sfv::visitor::BareItemType;
 use sfv::{
-    BareItem, Dictionary, FieldType, InnerList, Item, KeyRef, List, ListEntry, OutOfMemory,
-    Parameters, Parser, find_entry, find_param, insert_entry, insert_param, key_ref, parameters,
+    BareItem, Dictionary, FieldType, InnerList, Integer, Item, KeyRef, List, ListEntry,
+    OutOfMemory, Parameters, Parser, find_entry, find_param, insert_entry, insert_param, key_ref,
+    parameters,
 };
 use std::alloc::Global;
 use std::test::Fail;
@@ -73,31 +74,34 @@ fn members_equal_their_copies(rt: HostRuntime) -> Result<(), Fail> {
     Ok(())
 }
 
-/// Enters the item of the number, and returns the member that the key had.
-fn enter_number(
-    dictionary: &mut Dictionary,
-    key: KeyRef<'_>,
-    value: u8,
-) -> Result<Option<ListEntry>, OutOfMemory> {
-    let alloc = *dictionary.allocator();
-    let member = ListEntry::from(Item::new(alloc, BareItem::from(value)));
-    Ok(insert_entry(dictionary, key.to_owned(alloc)?, member)?)
-}
-
 /// Whether the member is the item of the number.
 fn is_number(member: Option<&ListEntry>, value: u8) -> bool {
     matches!(member, Some(ListEntry::Item(item)) if item.bare_item == BareItem::from(value))
 }
 
+/// Enters the item of the number, and tells whether the key had the item of the old one, or nothing.
+fn replaces(
+    dictionary: &mut Dictionary,
+    key: KeyRef<'_>,
+    value: u8,
+    old: Option<u8>,
+) -> Result<bool, OutOfMemory> {
+    let alloc = *dictionary.allocator();
+    let member = ListEntry::from(Item::new(alloc, BareItem::from(value)));
+    let had = insert_entry(dictionary, key.to_owned(alloc)?, member)?;
+    Ok(match old {
+        Some(old) => is_number(had.as_ref(), old),
+        None => had.is_none(),
+    })
+}
+
 #[test]
 fn members_are_entered_where_their_key_stood_or_last(rt: HostRuntime) -> Result<(), Fail> {
     let mut members = Parser::new(b"b=5, a=6").parse::<Dictionary>(rt.alloc())?;
-    let old = enter_number(&mut members, key_ref("b"), 7)?;
-    assert!(rt; is_number(old.as_ref(), 5));
-    let old = enter_number(&mut members, key_ref("c"), 8)?;
-    assert!(rt; old.is_none());
+    let known = replaces(&mut members, key_ref("b"), 7, Some(5))?;
+    let new = replaces(&mut members, key_ref("c"), 8, None)?;
     let text = members.serialize(rt.alloc())?.ok_or("no member")?;
-    assert!(rt; is_text(&text, "b=7, a=6, c=8"));
+    assert!(rt; known && new && is_text(&text, "b=7, a=6, c=8"));
     Ok(())
 }
 
@@ -110,38 +114,47 @@ fn has_numbers(members: &Dictionary, keys: (KeyRef<'_>, KeyRef<'_>), numbers: (u
 #[test]
 fn members_are_found_by_their_key(rt: HostRuntime) -> Result<(), Fail> {
     let members = Parser::new(b"a=1, b=2").parse::<Dictionary>(rt.alloc())?;
-    assert!(rt; has_numbers(&members, (key_ref("b"), key_ref("a")), (2, 1)));
-    assert!(rt; find_entry(&members, key_ref("c")).is_none());
+    let none = find_entry(&members, key_ref("c")).is_none();
+    assert!(rt; none && has_numbers(&members, (key_ref("b"), key_ref("a")), (2, 1)));
     Ok(())
 }
 
-/// Enters the number as a parameter, and returns the value that the key had.
-fn enter_param(
+/// Whether the value is that of the number.
+fn is_value(value: Option<&BareItem>, number: u8) -> bool {
+    value.is_some_and(|value| value.as_integer() == Some(Integer::from(number)))
+}
+
+/// Enters the number as a parameter, and tells whether the key had the old one, or nothing.
+fn replaces_param(
     params: &mut Parameters,
     key: KeyRef<'_>,
     value: u8,
-) -> Result<Option<BareItem>, OutOfMemory> {
+    old: Option<u8>,
+) -> Result<bool, OutOfMemory> {
     let alloc = *params.allocator();
-    Ok(insert_param(params, key.to_owned(alloc)?, BareItem::from(value))?)
+    let had = insert_param(params, key.to_owned(alloc)?, BareItem::from(value))?;
+    Ok(match old {
+        Some(old) => is_value(had.as_ref(), old),
+        None => had.is_none(),
+    })
 }
 
 #[test]
 fn parameters_are_entered_where_their_key_stood_or_last(rt: HostRuntime) -> Result<(), Fail> {
-    let mut item = Parser::new(b"1;b;a=2").parse::<Item>(rt.alloc())?;
-    let old = enter_param(&mut item.params, key_ref("b"), 3)?;
-    assert!(rt; old == Some(BareItem::from(true)));
-    let old = enter_param(&mut item.params, key_ref("c"), 4)?;
-    assert!(rt; old.is_none());
+    let mut item = Parser::new(b"1;b=5;a=2").parse::<Item>(rt.alloc())?;
+    let known = replaces_param(&mut item.params, key_ref("b"), 3, Some(5))?;
+    let new = replaces_param(&mut item.params, key_ref("c"), 4, None)?;
     let text = item.serialize(rt.alloc())?;
-    assert!(rt; is_text(&text, "1;b=3;a=2;c=4"));
+    assert!(rt; known && new && is_text(&text, "1;b=3;a=2;c=4"));
     Ok(())
 }
 
 #[test]
 fn parameters_are_found_by_their_key(rt: HostRuntime) -> Result<(), Fail> {
-    let item = Parser::new(b"1;b;a=2").parse::<Item>(rt.alloc())?;
-    assert!(rt; find_param(&item.params, key_ref("a")) == Some(&BareItem::from(2u8)));
-    assert!(rt; find_param(&item.params, key_ref("b")) == Some(&BareItem::from(true)));
-    assert!(rt; find_param(&item.params, key_ref("c")).is_none());
+    let item = Parser::new(b"1;b=3;a=2").parse::<Item>(rt.alloc())?;
+    let holds = is_value(find_param(&item.params, key_ref("a")), 2)
+        && is_value(find_param(&item.params, key_ref("b")), 3)
+        && find_param(&item.params, key_ref("c")).is_none();
+    assert!(rt; holds);
     Ok(())
 }
