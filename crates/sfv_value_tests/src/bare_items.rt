@@ -248,22 +248,41 @@ fn bare_items_equal_their_copies(rt: HostRuntime) -> Result<(), Fail> {
     Ok(())
 }
 
+/// Whether the copy of a text is borrowed, if it equals the text.
+fn is_borrowed_copy(text: &StringFromInput<'_>) -> Result<Option<bool>, Fail> {
+    let copy = text.clone()?;
+    let is_borrowed = matches!(&copy, StringFromInput::Borrowed(_));
+    Ok(if copy == *text {
+        Some(is_borrowed)
+    } else {
+        None
+    })
+}
+
 #[test]
-fn copies_of_texts_that_were_read_stay_borrowed_or_owned(rt: HostRuntime) -> Result<(), Fail> {
-    let alloc = rt.alloc();
-    let text = StringFromInput::Owned(string_ref("s").to_owned(alloc)?);
-    assert!(rt; text == StringFromInput::Borrowed(string_ref("s")));
-    assert!(rt; text != StringFromInput::Borrowed(string_ref("r")));
-    assert!(rt; matches!(&text.clone()?, StringFromInput::Owned(_)));
-    let read: BareItemFromInput = GenericBareItem::String(text);
-    assert!(rt; read.as_ref_item() == RefBareItem::from(string_ref("s")));
-    assert!(rt; read.clone()? == read);
-    assert!(rt; read.try_into_owned(alloc)?.as_string() == Some(string_ref("s")));
-    let text = StringFromInput::Borrowed(string_ref("s"));
-    assert!(rt; matches!(&text.clone()?, StringFromInput::Borrowed(_)));
+fn copies_of_strings_that_were_read_stay_borrowed_or_owned(rt: HostRuntime) -> Result<(), Fail> {
+    let owned = StringFromInput::Owned(string_ref("s").to_owned(rt.alloc())?);
+    let borrowed = StringFromInput::Borrowed(string_ref("s"));
+    assert!(rt; is_borrowed_copy(&owned)? == Some(false));
+    assert!(rt; is_borrowed_copy(&borrowed)? == Some(true));
+    assert!(rt; owned == borrowed && owned != StringFromInput::Borrowed(string_ref("r")));
+    Ok(())
+}
+
+#[test]
+fn copies_of_bare_items_that_were_read_stay_borrowed(rt: HostRuntime) -> Result<(), Fail> {
     let read: BareItemFromInput = GenericBareItem::DisplayString(CowStr::Borrowed("d"));
     let copy = read.clone()?;
-    assert!(rt; matches!(&copy, GenericBareItem::DisplayString(CowStr::Borrowed(_))));
-    assert!(rt; copy == read);
+    let is_borrowed = matches!(&copy, GenericBareItem::DisplayString(CowStr::Borrowed(_)));
+    assert!(rt; is_borrowed && copy == read);
+    Ok(())
+}
+
+#[test]
+fn strings_that_were_read_are_lent_and_owned(rt: HostRuntime) -> Result<(), Fail> {
+    let text = StringFromInput::Owned(string_ref("s").to_owned(rt.alloc())?);
+    let read: BareItemFromInput = GenericBareItem::String(text);
+    assert!(rt; read.as_ref_item() == RefBareItem::from(string_ref("s")));
+    assert!(rt; read.try_into_owned(rt.alloc())?.as_string() == Some(string_ref("s")));
     Ok(())
 }

@@ -120,35 +120,38 @@ fn members_go_after_what_stands(rt: HostRuntime) -> Result<(), Fail> {
 }
 
 #[test]
-fn abandoned_inner_lists_leave_nothing(rt: HostRuntime) -> Result<(), Fail> {
-    let one: RefBareItem = GenericBareItem::Integer(integer(1));
+fn an_abandoned_inner_list_leaves_no_member(rt: HostRuntime) -> Result<(), Fail> {
     let two: RefBareItem = GenericBareItem::Integer(integer(2));
-    let three: RefBareItem = GenericBareItem::Integer(integer(3));
     let five: RefBareItem = GenericBareItem::Integer(integer(5));
-
     let mut text = String::new(rt.alloc());
     let mut list = ListSerializer::with_buffer(&mut text);
     let mut inner = list.inner_list()?;
-    let written = put(&mut inner, two);
+    let written = put(&mut inner, two).is_ok();
     inner.abandon();
-    assert!(rt; written.is_ok());
     list.bare_item(five)?.finish();
-    assert!(rt; has_text(list.finish(), "5"));
+    assert!(rt; written && has_text(list.finish(), "5"));
+    Ok(())
+}
 
+#[test]
+fn an_abandoned_inner_list_leaves_no_separator(rt: HostRuntime) -> Result<(), Fail> {
+    let one: RefBareItem = GenericBareItem::Integer(integer(1));
+    let three: RefBareItem = GenericBareItem::Integer(integer(3));
     let mut text = String::new(rt.alloc());
     let mut list = ListSerializer::with_buffer(&mut text);
     list.bare_item(one)?.finish();
     list.inner_list()?.abandon();
     list.bare_item(three)?.finish();
     assert!(rt; has_text(list.finish(), "1, 3"));
+    Ok(())
+}
 
+#[test]
+fn an_abandoned_inner_list_leaves_the_text(rt: HostRuntime) -> Result<(), Fail> {
     let mut text = String::from_str(rt.alloc(), "Z")?;
     let mut list = ListSerializer::with_buffer(&mut text);
     list.inner_list()?.abandon();
     assert!(rt; list.finish().is_none());
-    assert!(rt; is_text(&text, "Z"));
-
-    let mut text = String::from_str(rt.alloc(), "Z")?;
     let mut dict = DictSerializer::with_buffer(&mut text);
     dict.inner_list(key_ref("a"))?.abandon();
     assert!(rt; dict.finish().is_none());
@@ -202,43 +205,63 @@ fn dictionaries_are_written_member_by_member(rt: HostRuntime) -> Result<(), Fail
 }
 
 #[test]
-fn members_of_values_are_written(rt: HostRuntime) -> Result<(), Fail> {
-    let alloc = rt.alloc();
+fn members_of_a_list_are_written(rt: HostRuntime) -> Result<(), Fail> {
     let one: RefBareItem = GenericBareItem::Integer(integer(1));
-    let list = Parser::new(b"2;a, (3 4;b);c, ()").parse::<List>(alloc)?;
-    let mut text = String::new(alloc);
+    let list = Parser::new(b"2;a, (3 4;b);c, ()").parse::<List>(rt.alloc())?;
+    let mut text = String::new(rt.alloc());
     let mut serializer = ListSerializer::with_buffer(&mut text);
     serializer.bare_item(one)?.finish();
     serializer.members(list[..].iter())?;
     assert!(rt; has_text(serializer.finish(), "1, 2;a, (3 4;b);c, ()"));
+    Ok(())
+}
 
-    let empty: List = Vec::new(alloc);
-    let mut text = String::new(alloc);
+#[test]
+fn no_members_are_written_of_an_empty_list(rt: HostRuntime) -> Result<(), Fail> {
+    let empty: List = Vec::new(rt.alloc());
+    let mut text = String::new(rt.alloc());
     let mut serializer = ListSerializer::with_buffer(&mut text);
     serializer.members(empty[..].iter())?;
     assert!(rt; serializer.finish().is_none());
+    Ok(())
+}
 
-    let dictionary = Parser::new(b"a, b=2;x, c=(1)").parse::<Dictionary>(alloc)?;
-    let mut text = String::new(alloc);
+#[test]
+fn members_of_a_dictionary_are_written(rt: HostRuntime) -> Result<(), Fail> {
+    let dictionary = Parser::new(b"a, b=2;x, c=(1)").parse::<Dictionary>(rt.alloc())?;
+    let mut text = String::new(rt.alloc());
     let mut serializer = DictSerializer::with_buffer(&mut text);
     serializer.members(dictionary.iter())?;
     serializer.members(dictionary.iter())?;
-    let want = "a, b=2;x, c=(1), a, b=2;x, c=(1)";
-    assert!(rt; has_text(serializer.finish(), want));
+    assert!(rt; has_text(serializer.finish(), "a, b=2;x, c=(1), a, b=2;x, c=(1)"));
+    Ok(())
+}
 
-    let mut text = String::new(alloc);
-    let mut serializer = ListSerializer::with_buffer(&mut text);
+/// Writes an inner list of the one number, the items of a list and its parameters.
+fn put_all<W: Sink>(
+    serializer: &mut ListSerializer<W>,
+    first: RefBareItem<'_>,
+    list: &InnerList,
+) -> Result<(), SerializeError> {
     let mut inner = serializer.inner_list()?;
-    let mut written = put(&mut inner, one);
-    if let Some(ListEntry::InnerList(items)) = list[..].get(1) {
-        written = inner.items(items.items[..].iter());
+    if put(&mut inner, first).is_err() || inner.items(list.items[..].iter()).is_err() {
+        inner.abandon();
+        return Err(SerializeError::OutOfMemory);
     }
-    let params = inner.finish()?;
-    if let Some(ListEntry::InnerList(items)) = list[..].get(1) {
-        params.parameters(items.params.iter())?.finish();
-    }
-    assert!(rt; written.is_ok());
-    assert!(rt; has_text(serializer.finish(), "(1 3 4;b);c"));
+    inner.finish()?.parameters(list.params.iter())?.finish();
+    Ok(())
+}
+
+#[test]
+fn items_of_an_inner_list_are_written(rt: HostRuntime) -> Result<(), Fail> {
+    let one: RefBareItem = GenericBareItem::Integer(integer(1));
+    let params = yes_and_no(rt.alloc())?;
+    let items = vec![in rt.alloc(); Item::new(rt.alloc(), BareItem::from(3u8))]?;
+    let list = InnerList::with_params(items, params);
+    let mut text = String::new(rt.alloc());
+    let mut serializer = ListSerializer::with_buffer(&mut text);
+    put_all(&mut serializer, one, &list)?;
+    assert!(rt; has_text(serializer.finish(), "(1 3);a;b=?0"));
     Ok(())
 }
 
