@@ -9,6 +9,8 @@
 #![tactic(auto)]
 
 #[cfg(test)]
+mod cache_status;
+#[cfg(test)]
 mod content_digest;
 mod failures;
 #[cfg(test)]
