@@ -17,7 +17,8 @@ use Rattle.sfv_request.specs.declared.fault.RequestFault.TheVariants as faults
 abbrev pub is_named : List ℕ → Field → Bool
 is_named name field = str_eq_ignore_ascii_case field.name name
 
--- the values of the lines of this name in their order, with a comma and a space between each two (RFC 9110, section 5.2)
+-- the values of the lines of this name in their order, with a comma and a space between each two (RFC 9110, sections 5.2
+-- and 5.3)
 abbrev pub field_text : List ℕ → List Field → List ℕ
 field_text name fields = joined (codes ", ") (map field_value (filter (is_named name) fields))
 

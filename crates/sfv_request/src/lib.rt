@@ -28,8 +28,8 @@ use std::alloc::Global;
 ///
 /// # Errors
 ///
-/// `Head` where the input begins no head of a request, or one that has more fields than `headers` has room for; and
-/// `OutOfMemory`.
+/// `Head` where the input begins no head of a request, or one that has more fields than `headers` has room for; `Field` when
+/// out of memory.
 pub fn request_field(
     alloc: Global,
     name: &str,
