@@ -34,6 +34,7 @@ made() {
             [ "$crate" = sfv_spec ] || part "Rattle.sfv.specs.${name:-$file}" "crates/$crate/specs/$file.antt"
         done
     for file in Memory Parsers; do part "Rattle.sfv.specs.$file" "crates/sfv/specs/$file.antt"; done
+    part Rattle.sfv_fields.specs.Priority crates/sfv_fields/specs/Priority.antt
     for file in crates/sfv_tool/specs/*.antt; do
         name=$(basename "$file" .antt)
         [ "$name" = Lib ] || part "Rattle.sfv_tool.specs.$name" "$file"

@@ -1,15 +1,15 @@
 -- The visitor finds the last hit of the ordered list.
 use Rattle.std.proofs.Common.{◌≡◌, ℕ, ℤ, List, [], ◌∷◌, Bool, true, false, Option, Some, None}
-use Rattle.std.proofs.Common.{refl, sym, ap, subst, ◌∙◌}
+use Rattle.std.proofs.Common.{refl, sym, ap, ◌∙◌}
 use Rattle.std.specs.Prelude.{bytes_eq, if◌then◌else◌, fold, option_map, unwrap_or, codes}
 use Rattle.std.specs.Option.{option_or}
 use Rattle.sfv.specs.Values.{Edition, list_field, BareValue, RawParameters, RawMember, item, inner_list}
-use Rattle.sfv.specs.Events.{TreeEvent, entry, keyed_entry, begins_item, begins_inner_list, bare_item, parameter}
+use Rattle.sfv.specs.Events.{entry, keyed_entry, begins_item, begins_inner_list, bare_item, parameter}
 use Rattle.sfv.specs.Events.{inner_list_end, parameters_end, parameters_events, entry_events, events}
 use Rattle.sfv.specs.Ordered.{last_of, ordered, ordered_member}
 use Rattle.sfv.specs.Visiting.{RunsTo}
 use Rattle.sfv.specs.Parsers.{IsAnswerOf}
-use Rattle.sfv.proofs.Callers.{runs_fold, last_kept, fold_parameters, fold_entries, IsInside}
+use Rattle.sfv.proofs.Callers.{runs_fold, last_kept, fold_parameters, fold_entries, IsIdle}
 use Rattle.sfv.proofs.Callers.{inner_list_passed, last_of-collapse, parsed_as}
 use Rattle.sfv_fields.specs.declared.cache_status.Hit.{Hit}
 use Rattle.sfv_fields.specs.declared.cache_status.HitVisitor.{HitVisitor}
@@ -17,7 +17,7 @@ use Rattle.sfv_fields.specs.CacheStatus.{is_true, integer_in, hit_of, last_hit_o
 use Rattle.sfv_fields.specs.CacheStatusSteps.{HitPlace, place, unread, hit_step}
 
 -- within an inner list nothing is looked at
-idle : (p : HitPlace) → p.in_item ≡ false → (e : TreeEvent) → IsInside e → hit_step p e ≡ p
+idle : (p : HitPlace) → p.in_item ≡ false → IsIdle hit_step p
 idle p out entry h = absurd h
 idle p out (keyed_entry key) h = absurd h
 idle p out begins_item h = refl
@@ -34,32 +34,21 @@ module _ (f : Option (Option ℤ)) where
   abbrev InItem : HitPlace → Type 0
   InItem p = (p.in_item ≡ true) × (p.found ≡ f)
 
-  taken : (p : HitPlace) (k : List ℕ) (v : BareValue) → InItem p → keep_parameter p (k, v) ≡ record {
-    in_item = true;
-    hit = if bytes_eq (codes "hit") k then is_true (Some v) else p.hit;
-    ttl = if bytes_eq (codes "ttl") k then integer_in (Some v) else p.ttl;
-    found = f;
-  }
-  taken p k v h = rw (h.0, h.1) refl
-
-  stays : (p : HitPlace) (k : List ℕ) (v : BareValue) → InItem p → InItem (keep_parameter p (k, v))
-  stays p k v h = subst InItem (sym (taken p k v h)) (refl, refl)
-
   other_hit : (p : HitPlace) (k : List ℕ) (v : BareValue) → InItem p → bytes_eq (codes "hit") k ≡ false
       → ((keep_parameter p (k, v)).hit ≡ p.hit) × InItem (keep_parameter p (k, v))
-  other_hit p k v h n = (ap (λ (a : HitPlace). a.hit) (taken p k v h) ∙ rw n refl, stays p k v h)
+  other_hit p k v h n = rw (h.0, n) (refl, (refl, h.1))
 
   own_hit : (p : HitPlace) (v : BareValue) → InItem p
       → ((keep_parameter p (codes "hit", v)).hit ≡ is_true (Some v)) × InItem (keep_parameter p (codes "hit", v))
-  own_hit p v h = (ap (λ (a : HitPlace). a.hit) (taken p (codes "hit") v h), stays p (codes "hit") v h)
+  own_hit p v h = rw (h.0) (refl, (refl, h.1))
 
   other_ttl : (p : HitPlace) (k : List ℕ) (v : BareValue) → InItem p → bytes_eq (codes "ttl") k ≡ false
       → ((keep_parameter p (k, v)).ttl ≡ p.ttl) × InItem (keep_parameter p (k, v))
-  other_ttl p k v h n = (ap (λ (a : HitPlace). a.ttl) (taken p k v h) ∙ rw n refl, stays p k v h)
+  other_ttl p k v h n = rw (h.0, n) (refl, (refl, h.1))
 
   own_ttl : (p : HitPlace) (v : BareValue) → InItem p
       → ((keep_parameter p (codes "ttl", v)).ttl ≡ integer_in (Some v)) × InItem (keep_parameter p (codes "ttl", v))
-  own_ttl p v h = (ap (λ (a : HitPlace). a.ttl) (taken p (codes "ttl") v h), stays p (codes "ttl") v h)
+  own_ttl p v h = rw (h.0) (refl, (refl, h.1))
 
   found_in : (ps : RawParameters)
       → (fold hit_step (record { in_item = true; hit = false; ttl = None; found = f }) (parameters_events ps)).found

@@ -3,3 +3,4 @@
 
 pub mod cache_status;
 pub mod content_digest;
+pub mod priority;

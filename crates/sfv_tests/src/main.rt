@@ -9,6 +9,8 @@
 #![tactic(auto)]
 
 #[cfg(test)]
+mod cache_status;
+#[cfg(test)]
 mod common;
 #[cfg(test)]
 mod content_digest;
@@ -21,6 +23,8 @@ mod given;
 mod long;
 mod positions;
 mod replay;
+#[cfg(test)]
+mod requests;
 #[cfg(test)]
 mod runs;
 #[cfg(test)]

@@ -1,21 +1,19 @@
 -- The visitor of the example finds what the ordered dictionary holds.
-use Rattle.std.proofs.Common.{◌≡◌, ℕ, List, ◌∷◌, ◌++◌, Bool, true, false, Option, Some, None, Result, Ok, Err}
-use Rattle.std.proofs.Common.{refl, sym, ap, subst, ◌∙◌, inl, inr}
-use Rattle.std.specs.Prelude.{bytes_eq, if◌then◌else◌, ◌&&◌, fold, flat_map, option_map, unwrap_or, IfOk, IfErr}
+use Rattle.std.proofs.Common.{◌≡◌, ℕ, List, Bool, true, false, Option, Some, None, Result, Ok, Err}
+use Rattle.std.proofs.Common.{refl, sym, ap, ◌∙◌, inl, inr}
+use Rattle.std.specs.Prelude.{bytes_eq, fold, option_map, unwrap_or, IfOk, IfErr}
 use Rattle.std.proofs.lemmas.Slice.Eq.{bytes_eq-Decides}
 use Rattle.sfv.specs.Values.{Edition, dictionary_field, BareValue, RawParameters, RawMember, item, inner_list}
 use Rattle.sfv.specs.Events.{TreeEvent, entry, keyed_entry, begins_item, begins_inner_list, bare_item, parameter}
-use Rattle.sfv.specs.Events.{inner_list_end, parameters_end}
-use Rattle.sfv.specs.Events.{parameters_events, inner_item_events, member_events, keyed_events, events}
+use Rattle.sfv.specs.Events.{inner_list_end, parameters_end, parameters_events, member_events, keyed_events, events}
 use Rattle.sfv.specs.Ordered.{last_of, ordered, ordered_member}
 use Rattle.sfv.specs.Grammar.{IsFieldText}
 use Rattle.sfv.specs.Visiting.{RunsTo, IsVisitorError, IsEarlyVisitorError}
 use Rattle.sfv.specs.Parsers.{IsAnswerOf, IsSyntaxOf, IsVisitorErrorOf}
 use Rattle.sfv.specs.Types.{ParseError}
 use Rattle.sfv.specs.Types.parse_errors.{Syntax, Visitor}
-use Rattle.sfv.proofs.Callers.{runs_fold, last_kept, fold_members, fold_parameters, idle_within, IsInside}
-use Rattle.sfv.proofs.Callers.{member_inside}
-use Rattle.sfv.proofs.Callers.{last_of-ordered, last_of-collapse, parsed_as, accepted_or_not}
+use Rattle.sfv.proofs.Callers.{runs_fold, last_kept, fold_parameters, last_of-collapse, parsed_as, accepted_or_not}
+use Rattle.sfv.proofs.Callers.{IsIdle, member_passed, inner_list_passed, last_read}
 use Rattle.sfv_tool.specs.declared.foo.Color.{Color}
 use Rattle.sfv_tool.specs.declared.foo.Foo.{Foo}
 use Rattle.sfv_tool.specs.declared.foo.FooFault.{FooFault}
@@ -26,7 +24,7 @@ use Rattle.sfv_tool.specs.Foo.{IsFooError}
 use Rattle.sfv_tool.specs.FooSteps.{unread, begun, foo_step, foo_found}
 
 -- outside of the item `color` no part of a member is looked at
-idle : (s : FooVisitor) → s.in_color ≡ false → (e : TreeEvent) → IsInside e → foo_step s e ≡ s
+idle : (s : FooVisitor) → s.in_color ≡ false → IsIdle foo_step s
 idle s out entry h = absurd h
 idle s out (keyed_entry key) h = absurd h
 idle s out begins_item h = refl
@@ -47,99 +45,70 @@ abbrev kept_of : RawMember → Kept
 kept_of (item i) = (color_in i.bare, strong_of (last_of strong_key i.parameters))
 kept_of (inner_list l) = (Err faults.ColorWrongType, Ok false)
 
-abbrev keep_member : FooVisitor → List ℕ × RawMember → FooVisitor
-keep_member s m = fold foo_step s (keyed_events m)
+kept_ordered : (m : RawMember) → kept_of (ordered_member m) ≡ kept_of m
+kept_ordered (item i) = rw (last_of-collapse strong_key i.parameters) refl
+kept_ordered (inner_list l) = refl
 
--- a member of another key
-other : (s : FooVisitor) (k : List ℕ) (m : RawMember) → Unit {0} → bytes_eq color_key k ≡ false
-    → (kept (keep_member s (k, m)) ≡ kept s) × Unit {0}
-other s k m h n =
-    let out : FooVisitor = begun s false in (
-      ap (λ (b : Bool). kept (fold foo_step (begun s b) (member_events m))) n
-          ∙ ap kept (idle_within foo_step out (idle out refl) (member_events m) (member_inside m)),
-      tt,
-    )
-
--- a parameter of the color's item
-abbrev keep_parameter : FooVisitor → List ℕ × BareValue → FooVisitor
-keep_parameter s p = foo_step s (parameter p.0 p.1)
-
+-- of the parameters of the color's item the last one of its key
 module _ (c : Result Color FooFault) where
   abbrev InColor : FooVisitor → Type 0
   InColor s = (s.in_color ≡ true) × (s.color ≡ c)
 
-  -- it is set where its key is the one
-  parameter_set : (s : FooVisitor) (k : List ℕ) (v : BareValue) → InColor s
-      → keep_parameter s (k, v) ≡ (if bytes_eq strong_key k
-      then record { in_color = true; color = s.color; strong = strong_in v } else s)
-  parameter_set s k v h = ap (λ (b : Bool). if b && bytes_eq strong_key k
-      then record { in_color = true; color = s.color; strong = strong_in v } else s) h.0
+  abbrev keep_parameter : FooVisitor → List ℕ × BareValue → FooVisitor
+  keep_parameter s p = foo_step s (parameter p.0 p.1)
 
   other_parameter : (s : FooVisitor) (k : List ℕ) (v : BareValue) → InColor s → bytes_eq strong_key k ≡ false
       → ((keep_parameter s (k, v)).strong ≡ s.strong) × InColor (keep_parameter s (k, v))
-  other_parameter s k v h n =
-      subst (λ (a : FooVisitor). (a.strong ≡ s.strong) × InColor a) (sym (parameter_set s k v h ∙ rw n refl)) (refl, h)
+  other_parameter s k v h n = rw (h.0, n) (refl, (refl, h.1))
 
   own_parameter : (s : FooVisitor) (v : BareValue) → InColor s
       → ((keep_parameter s (strong_key, v)).strong ≡ strong_in v) × InColor (keep_parameter s (strong_key, v))
-  own_parameter s v h =
-      subst (λ (a : FooVisitor). (a.strong ≡ strong_in v) × InColor a)
-      (sym (parameter_set s strong_key v h ∙ rw ((bytes_eq-Decides strong_key strong_key).1 refl) refl)) (
-        refl,
-        (refl, h.1),
-      )
+  own_parameter s v h = rw (h.0, (bytes_eq-Decides strong_key strong_key).1 refl) (refl, (refl, h.1))
 
-  -- after all of them the last one of its key stands
   kept_parameters : (ps : RawParameters) (s : FooVisitor) → InColor s → s.strong ≡ Ok false
       → kept (fold foo_step s (parameters_events ps)) ≡ (c, strong_of (last_of strong_key ps))
   kept_parameters ps s h none =
       let k = last_kept InColor keep_parameter
       (λ s. s.strong) strong_key strong_in other_parameter own_parameter ps s h in
-      let strong : (fold keep_parameter s ps).strong ≡ strong_of (last_of strong_key ps) = k.0
-      ∙ rw none (by_default (last_of strong_key ps)) in
-      ap kept (fold_parameters foo_step ps s) ∙ rw (k.1.1, strong) refl
+      ap kept (fold_parameters foo_step ps s) ∙ rw (k.1.1, k.0, none) (ap (λ strong. (c, strong)) (by_default _))
     where
       by_default : (o : Option BareValue) → unwrap_or (option_map strong_in o) (Ok false) ≡ strong_of o
       by_default None = refl
       by_default (Some v) = refl
 
--- a member of the color, in place of what stood there
-own : (s : FooVisitor) (m : RawMember) → Unit {0} → (kept (keep_member s (color_key, m)) ≡ kept_of m) × Unit {0}
-own s (item i) h =
-    let first : FooVisitor = record { in_color = true; color = color_in i.bare; strong = Ok false } in
-    (kept_parameters (color_in i.bare) i.parameters first (refl, refl) refl, tt)
-own s (inner_list l) h =
-    let out : FooVisitor = record { in_color = false; color = Err faults.ColorWrongType; strong = Ok false } in
-    let inside = member_inside (inner_list l) in (
-      ap kept (idle_within foo_step out (idle out refl)
-          (flat_map inner_item_events l.items ++ inner_list_end ∷ parameters_events l.parameters) inside.1),
-      tt,
-    )
+-- a member of another key, and one of the color, in place of what stood there
+abbrev keep_member : FooVisitor → List ℕ × RawMember → FooVisitor
+keep_member s m = fold foo_step s (keyed_events m)
 
--- what is found after all members is the field in the ordered dictionary
-all_kept : (raw : List (List ℕ × RawMember))
-    → kept (fold foo_step unread (events dictionary_field raw))
-    ≡ unwrap_or (option_map kept_of (last_of color_key raw)) (kept unread)
-all_kept raw = ap kept (fold_members foo_step raw unread)
-    ∙ (last_kept (λ _. Unit {0}) keep_member kept color_key kept_of other own raw unread tt).0
+other : (s : FooVisitor) (k : List ℕ) (m : RawMember) → bytes_eq color_key k ≡ false → kept (keep_member s (k, m)) ≡ kept s
+other s k m n = ap (λ (b : Bool). kept (fold foo_step (begun s b) (member_events m))) n
+    ∙ ap kept (member_passed foo_step (begun s false) (idle _ refl) m)
+
+own : (s : FooVisitor) (m : RawMember) → kept (keep_member s (color_key, m)) ≡ kept_of m
+own s (item i) =
+    let first : FooVisitor = record { in_color = true; color = color_in i.bare; strong = Ok false } in
+    kept_parameters (color_in i.bare) i.parameters first (refl, refl) refl
+own s (inner_list l) =
+    let out : FooVisitor = record { in_color = false; color = Err faults.ColorWrongType; strong = Ok false } in
+    ap kept (inner_list_passed foo_step (begun s true) out l refl (idle out refl))
 
 abbrev found_in : Kept → Result Foo FooFault
 found_in k = foo_of k.0 k.1
 
-found : (o : Option RawMember)
-    → found_in (unwrap_or (option_map kept_of o) (kept unread)) ≡ foo_in (option_map ordered_member o)
+found : (o : Option RawMember) → found_in (unwrap_or (option_map kept_of o) (kept unread)) ≡ foo_in o
 found None = refl
-found (Some (item i)) = rw (last_of-collapse strong_key i.parameters) refl
+found (Some (item i)) = refl
 found (Some (inner_list l)) = refl
 
+-- what is found after all members is the field in the ordered dictionary
 all_found : (raw : List (List ℕ × RawMember)) (s : FooVisitor)
     → RunsTo (λ s e after. after ≡ foo_step s e) unread (events dictionary_field raw) s
     → foo (ordered dictionary_field raw) ≡ foo_found s
 all_found raw s run =
     let last : s ≡ fold foo_step unread (events dictionary_field raw) =
     runs_fold (λ s. s) foo_step (events dictionary_field raw) unread s run in
-    sym (ap found_in (ap kept last ∙ all_kept raw) ∙ found (last_of color_key raw)
-    ∙ sym (ap foo_in (last_of-ordered color_key raw)))
+    sym (ap found_in (ap kept last ∙ last_read foo_step kept color_key kept_of kept_ordered other own raw unread)
+    ∙ found (last_of color_key (ordered dictionary_field raw)))
 
 -- ---- what is read
 

@@ -1,6 +1,3 @@
 pub mod Lines
 mod Foos
-mod Priorities
-mod PriorityTexts
 mod Requests
-mod PriorityExamples

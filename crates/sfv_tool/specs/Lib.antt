@@ -1,5 +1,3 @@
-pub mod Priority
-pub mod PrioritySteps
 pub mod Answers
 pub mod Runs
 pub mod Foo

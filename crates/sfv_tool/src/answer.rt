@@ -8,11 +8,11 @@ ghost use Rattle.sfv_tool.specs.Answers.{IsAnswer, IsToolFault, IsAnswerTo, IsFa
 ghost use Rattle.sfv.specs.Types.serialize_errors as serialize_errors;
 ghost use Rattle.sfv_tool.specs.declared.answer.ToolFault.TheVariants as faults;
 
-use crate::priority::{read_priority, write_priority};
 use sfv::{
     Dictionary, Error, FieldType, HashSeed, Item, List, OutOfMemory, Parser, SerializeError,
     Version,
 };
+use sfv_fields::priority::{read_priority, write_priority};
 use std::alloc::Global;
 use std::fmt;
 

@@ -6,7 +6,6 @@ mod answer;
 mod foo;
 #[cfg(test)]
 mod foo_tests;
-mod priority;
 #[cfg(test)]
 mod priority_tests;
 mod run;

@@ -1,8 +1,8 @@
 //! The Priority field, read both ways and written, and what the program prints.
 
-use crate::priority::{Priority, priority_from_dictionary, read_priority, write_priority};
 use crate::run::run;
 use sfv::{Dictionary, HashSeed, Parser, Version};
+use sfv_fields::priority::{Priority, priority_from_dictionary, read_priority, write_priority};
 use std::alloc::Global;
 use std::test::Fail;
 

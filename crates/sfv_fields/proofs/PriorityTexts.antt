@@ -11,8 +11,8 @@ use Rattle.sfv.specs.Canonical.{canonical}
 use Rattle.sfv.specs.Calls.{Fits}
 use Rattle.sfv.specs.Statements.{IsParsedAs, IsValue}
 use Rattle.sfv.proofs.Callers.{read_back_either}
-use Rattle.sfv_tool.specs.Priority.{PriorityValue, priority, priority_text, IsPriorityOf}
-use Rattle.sfv_tool.specs.PrioritySteps.{members_by, members_of}
+use Rattle.sfv_fields.specs.Priority.{PriorityValue, priority, priority_text, IsPriorityOf}
+use Rattle.sfv_fields.specs.PrioritySteps.{members_by, members_of}
 
 abbrev text_by : Bool → Bool → ℕ → List ℕ
 text_by d i n = joined (codes ", ")

@@ -6,7 +6,7 @@ use Rattle.sfv.specs.Texts.{joined}
 use Rattle.sfv.specs.Values.{Edition, dictionary_field, BareValue, integer, boolean, RawMember, item}
 use Rattle.sfv.specs.Ordered.{last_of}
 use Rattle.sfv.specs.Statements.{IsParsedAs}
-use Rattle.sfv_tool.specs.declared.priority.value.Priority.{Priority}
+use Rattle.sfv_fields.specs.declared.priority.value.Priority.{Priority}
 
 -- an Integer from 0 to 7, or else 3
 abbrev pub urgency_in : BareValue → ℕ

@@ -3,10 +3,10 @@ use Rattle.sfv.specs.Values.{dictionary_field}
 use Rattle.sfv.specs.Canonical.{canonical}
 use Rattle.sfv.specs.Scripts.{described_dictionary}
 use Rattle.sfv.specs.Written.{AppendsOrKeeps}
-use Rattle.sfv_tool.specs.Priority.{priority_text, value_of}
-use Rattle.sfv_tool.proofs.PriorityTexts.{written_text, reads_back}
+use Rattle.sfv_fields.specs.Priority.{priority_text, value_of}
+use Rattle.sfv_fields.proofs.PriorityTexts.{written_text, reads_back}
 use Rattle.sfv.proofs.Callers.{on_ok}
-use Rattle.sfv_tool.proofs.priority.write_priority.Goals as goal
+use Rattle.sfv_fields.proofs.priority.write_priority.Goals as goal
 
 pub returns-clause-text : goal.returns-clause-text
 returns-clause-text c =

@@ -10,11 +10,11 @@ use Rattle.sfv.specs.Ordered.{last_of, ordered, ordered_member}
 use Rattle.sfv.specs.Visiting.{RunsTo}
 use Rattle.sfv.specs.Parsers.{IsAnswerOf}
 use Rattle.sfv.proofs.Callers.{runs_fold, parsed_as}
-use Rattle.sfv_tool.specs.declared.priority.visiting.Place.TheVariants as places
-use Rattle.sfv_tool.specs.declared.priority.visiting.PriorityVisitor.{PriorityVisitor}
-use Rattle.sfv_tool.specs.declared.priority.value.Priority.{Priority}
-use Rattle.sfv_tool.specs.Priority.{urgency_of, incremental_of, priority, value_of, IsPriorityOf}
-use Rattle.sfv_tool.specs.PrioritySteps.{VisitState, state_of, at, unread, passed, begun, priority_step}
+use Rattle.sfv_fields.specs.declared.priority.visiting.Place.TheVariants as places
+use Rattle.sfv_fields.specs.declared.priority.visiting.PriorityVisitor.{PriorityVisitor}
+use Rattle.sfv_fields.specs.declared.priority.value.Priority.{Priority}
+use Rattle.sfv_fields.specs.Priority.{urgency_of, incremental_of, priority, value_of, IsPriorityOf}
+use Rattle.sfv_fields.specs.PrioritySteps.{VisitState, state_of, at, unread, passed, begun, priority_step}
 use Rattle.sfv.proofs.Callers.{IsIdle, member_passed, item_passed, inner_list_passed, last_read}
 
 -- once its bare item is past, no part of a member is looked at

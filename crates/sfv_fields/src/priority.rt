@@ -12,9 +12,9 @@ ghost use Rattle.sfv.specs.BareItems.{ref_value};
 ghost use Rattle.sfv.specs.Trees.{member_tree, dictionary_tree};
 ghost use Rattle.sfv.specs.Scripts.{member_calls, described_dictionary};
 ghost use Rattle.sfv.specs.Written.{AppendsOrKeeps};
-ghost use Rattle.sfv_tool.specs.Priority.{priority, urgency_in, urgency_of, incremental_in, incremental_of};
-ghost use Rattle.sfv_tool.specs.Priority.{priority_text, value_of, IsPriorityOf};
-ghost use Rattle.sfv_tool.specs.PrioritySteps.{members_of};
+ghost use Rattle.sfv_fields.specs.Priority.{priority, urgency_in, urgency_of, incremental_in, incremental_of};
+ghost use Rattle.sfv_fields.specs.Priority.{priority_text, value_of, IsPriorityOf};
+ghost use Rattle.sfv_fields.specs.PrioritySteps.{members_of};
 
 mod value;
 mod visiting;

@@ -3,7 +3,7 @@ use Rattle.std.proofs.Common.{◌≡◌, ℕ, List, [], ◌∷◌, true, false, 
 use Rattle.sfv.specs.Values.{integer, boolean, RawMember, item}
 use Rattle.sfv.specs.Ordered.{last_of}
 use Rattle.sfv.specs.Builders.{plain_item}
-use Rattle.sfv_tool.specs.Priority.{priority, priority_text}
+use Rattle.sfv_fields.specs.Priority.{priority, priority_text}
 
 -- u=1, i
 urgent : List (List ℕ × RawMember)

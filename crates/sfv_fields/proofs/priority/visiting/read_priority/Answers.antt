@@ -1,6 +1,6 @@
 use Rattle.sfv.specs.BareItems.{edition_of}
-use Rattle.sfv_tool.proofs.Priorities.{visited}
-use Rattle.sfv_tool.proofs.priority.visiting.read_priority.Goals as goal
+use Rattle.sfv_fields.proofs.Priorities.{visited}
+use Rattle.sfv_fields.proofs.priority.visiting.read_priority.Goals as goal
 
 pub returns-in-Ok-clause-read : goal.returns-in-Ok-clause-read
 returns-in-Ok-clause-read c =

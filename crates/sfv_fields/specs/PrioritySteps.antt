@@ -3,10 +3,10 @@ use Rattle.std.specs.Prelude.{ℕ, List, [], ◌∷◌, ◌++◌, ◌==◌, Bool
 use Rattle.sfv.specs.Values.{BareValue, integer, boolean, RawMember, item}
 use Rattle.sfv.specs.Builders.{plain_item}
 use Rattle.sfv.specs.Events.{TreeEvent, keyed_entry, begins_inner_list, bare_item}
-use Rattle.sfv_tool.specs.declared.priority.visiting.Place.{Place}
-use Rattle.sfv_tool.specs.declared.priority.visiting.Place.TheVariants as places
-use Rattle.sfv_tool.specs.declared.priority.visiting.PriorityVisitor.{PriorityVisitor}
-use Rattle.sfv_tool.specs.Priority.{PriorityValue, urgency_in, incremental_in}
+use Rattle.sfv_fields.specs.declared.priority.visiting.Place.{Place}
+use Rattle.sfv_fields.specs.declared.priority.visiting.Place.TheVariants as places
+use Rattle.sfv_fields.specs.declared.priority.visiting.PriorityVisitor.{PriorityVisitor}
+use Rattle.sfv_fields.specs.Priority.{PriorityValue, urgency_in, incremental_in}
 
 -- what a visitor has come to
 pub record VisitState : Type 0 where

@@ -4,8 +4,8 @@ ghost use Rattle.std.specs.Prelude.{◌≡◌, IfOk, IfErr};
 ghost use Rattle.sfv.specs.Values.{dictionary_field};
 ghost use Rattle.sfv.specs.BareItems.{ref_value, edition_of};
 ghost use Rattle.sfv.specs.Parsers.{IsParseError};
-ghost use Rattle.sfv_tool.specs.Priority.{value_of, IsPriorityOf};
-ghost use Rattle.sfv_tool.specs.PrioritySteps.{state_of, unread, begun, taken, priority_step};
+ghost use Rattle.sfv_fields.specs.Priority.{value_of, IsPriorityOf};
+ghost use Rattle.sfv_fields.specs.PrioritySteps.{state_of, unread, begun, taken, priority_step};
 
 use crate::priority::value::Priority;
 use crate::priority::{incremental_of_item, urgency_of_item};

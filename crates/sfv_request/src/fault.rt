@@ -1,0 +1,52 @@
+//! What is wrong with a request.
+
+ghost use Rattle.std.specs.Prelude.{◌≡◌};
+ghost use Rattle.sfv.specs.Errors.{out_of_memory};
+ghost use Rattle.sfv_request.specs.declared.fault.RequestFault.TheVariants as faults;
+
+use std::alloc::AllocError;
+use std::fmt;
+
+/// Why nothing is read from a request.
+#[derive(Clone, Copy, Debug, PartialEq, Eq)]
+pub enum RequestFault {
+    /// The input begins no head of a request, or one that has more fields than there is room for.
+    Head(httparse::Error),
+    /// The field isn't read, or out of memory.
+    Field(sfv::Error),
+}
+
+impl fmt::Display for RequestFault {
+    fn fmt<W: fmt::Write>(&self, f: &mut fmt::Formatter<W>) -> fmt::Result {
+        match self {
+            RequestFault::Head(error) => write!(f, "{error}"),
+            RequestFault::Field(error) => write!(f, "{error}"),
+        }
+    }
+}
+
+impl std::error::Error for RequestFault {}
+
+impl From<httparse::Error> for RequestFault {
+    ghost from_gives = { λ error fault. fault ≡ faults.Head error };
+
+    fn from(error: httparse::Error) -> RequestFault {
+        RequestFault::Head(error)
+    }
+}
+
+impl From<sfv::Error> for RequestFault {
+    ghost from_gives = { λ error fault. fault ≡ faults.Field error };
+
+    fn from(error: sfv::Error) -> RequestFault {
+        RequestFault::Field(error)
+    }
+}
+
+impl From<AllocError> for RequestFault {
+    ghost from_gives = { λ _ fault. fault ≡ faults.Field out_of_memory };
+
+    fn from(error: AllocError) -> RequestFault {
+        RequestFault::Field(sfv::Error::from(error))
+    }
+}

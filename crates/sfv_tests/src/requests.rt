@@ -1,0 +1,117 @@
+//! Heads of requests, and the priority that each has.
+
+use httparse::Status;
+use httparse::spans::{EMPTY_HEADER_SPAN, HeaderSpan};
+use sfv::{ErrorKind, Version};
+use sfv_fields::priority::Priority;
+use sfv_request::{RequestFault, request_field, request_priority};
+use std::alloc::Global;
+
+const ROOM: [HeaderSpan; 4] = [EMPTY_HEADER_SPAN; 4];
+
+// Whether the request has this priority.
+fn has_priority(alloc: Global, input: &[u8], expected: Priority) -> bool {
+    let mut headers = ROOM;
+    match request_priority(alloc, Version::Rfc9651, input, &mut headers) {
+        Ok(Status::Complete(priority)) => priority == expected,
+        _ => false,
+    }
+}
+
+#[test]
+fn requests_have_their_priority(rt: HostRuntime) {
+    let rows: [(&[u8], Priority); 7] = [
+        (
+            b"GET / HTTP/1.1\r\npriority: u=1, i\r\n\r\nbody",
+            Priority::new(1, true),
+        ),
+        (
+            b"GET / HTTP/1.1\r\nPriority: u=1\r\nHost: a\r\nPRIORITY:i\r\n\r\n",
+            Priority::new(1, true),
+        ),
+        (
+            b"GET / HTTP/1.1\r\npriority: u=1\r\npriority: u=5\r\n\r\n",
+            Priority::new(5, false),
+        ),
+        (b"GET / HTTP/1.1\r\nHost: a\r\n\r\n", Priority::default()),
+        (
+            b"GET / HTTP/1.1\r\npriority: \t \r\n\r\n",
+            Priority::default(),
+        ),
+        (
+            b"GET / HTTP/1.1\r\npriorities: u=1\r\nx-priority: u=1\r\n\r\n",
+            Priority::default(),
+        ),
+        (
+            b"GET / HTTP/1.1\npriority: u=9, i=?1\n\n",
+            Priority::new(3, true),
+        ),
+    ];
+    for (input, expected) in rows {
+        assert!(rt; has_priority(rt.alloc(), input, expected));
+    }
+}
+
+// Whether the field of the request isn't read, with this kind at this index of the joined text.
+fn has_fault(alloc: Global, input: &[u8], kind: ErrorKind, index: usize) -> bool {
+    let mut headers = ROOM;
+    match request_priority(alloc, Version::Rfc9651, input, &mut headers) {
+        Err(RequestFault::Field(error)) => error.kind() == kind && error.index() == Some(index),
+        _ => false,
+    }
+}
+
+#[test]
+fn fields_have_their_fault(rt: HostRuntime) {
+    let rows: [(&[u8], ErrorKind, usize); 3] = [
+        (
+            b"GET / HTTP/1.1\r\npriority: u=1,\r\n\r\n",
+            ErrorKind::TrailingComma,
+            3,
+        ),
+        (
+            b"GET / HTTP/1.1\r\npriority:\r\npriority: u=1\r\n\r\n",
+            ErrorKind::ExpectedStartOfKey,
+            0,
+        ),
+        (
+            b"GET / HTTP/1.1\r\npriority: u=1\r\npriority: I\r\n\r\n",
+            ErrorKind::ExpectedStartOfKey,
+            5,
+        ),
+    ];
+    for (input, kind, index) in rows {
+        assert!(rt; has_fault(rt.alloc(), input, kind, index));
+    }
+}
+
+// Whether the text of a field of the request is this one.
+fn has_text(alloc: Global, name: &str, input: &[u8], expected: &[u8]) -> bool {
+    let mut headers = ROOM;
+    match request_field(alloc, name, input, &mut headers) {
+        Ok(Status::Complete(text)) => text.as_slice() == expected,
+        _ => false,
+    }
+}
+
+#[test]
+fn lines_are_joined(rt: HostRuntime) {
+    let head: &[u8] = b"GET / HTTP/1.1\r\nA: 1 \r\nb: 2\r\na:\r\nA:\t3\r\n\r\n";
+    let rows: [(&str, &[u8]); 3] = [("a", b"1, , 3"), ("B", b"2"), ("c", b"")];
+    for (name, expected) in rows {
+        assert!(rt; has_text(rt.alloc(), name, head, expected));
+    }
+}
+
+#[test]
+fn heads_may_be_none(rt: HostRuntime) {
+    let alloc = rt.alloc();
+    let mut headers = ROOM;
+    let answer = request_priority(alloc, Version::Rfc9651, b"GET / HTTP/1.1\r\n", &mut headers);
+    assert!(rt; answer == Ok(Status::Partial));
+    let answer = request_priority(alloc, Version::Rfc9651, b"GET /\r\n", &mut headers);
+    assert!(rt; matches!(answer, Err(RequestFault::Head(_))));
+    let head = b"GET / HTTP/1.1\r\na:1\r\nb:2\r\nc:3\r\nd:4\r\ne:5\r\n\r\n";
+    let answer = request_priority(alloc, Version::Rfc9651, head, &mut headers);
+    assert!(rt; answer == Err(RequestFault::Head(httparse::Error::TooManyHeaders)));
+}
