@@ -34,9 +34,11 @@ made() {
             [ "$crate" = sfv_spec ] || part "Rattle.sfv.specs.${name:-$file}" "crates/$crate/specs/$file.antt"
         done
     for file in Memory Parsers; do part "Rattle.sfv.specs.$file" "crates/sfv/specs/$file.antt"; done
-    for file in crates/sfv_tool/specs/*.antt; do
-        name=$(basename "$file" .antt)
-        [ "$name" = Lib ] || part "Rattle.sfv_tool.specs.$name" "$file"
+    for crate in sfv_tool sfv_c; do
+        for file in "crates/$crate"/specs/*.antt; do
+            name=$(basename "$file" .antt)
+            [ "$name" = Lib ] || part "Rattle.$crate.specs.$name" "$file"
+        done
     done
 }
 
