@@ -1,6 +1,6 @@
 /* Reads the lines of standard input (lines.h) with a heap of its own in place of the kit's, in which each request for
  * memory is refused in turn. Then a call answers SFV_OUT_OF_MEMORY, or as where none is refused; it leaves the buffers
- * that it has to leave, and gives back all that it took. Prints what doesn't hold, and how many requests each call made. */
+ * that it has to leave, and gives back all that it took. Prints what doesn't hold, and how many lines there were. */
 #include "lines.h"
 
 static unsigned long asked, refused;
@@ -73,22 +73,28 @@ static void check_refusal(enum call call, sfv_answer a, sfv_answer whole) {
         expect(is_untouched(out, LOOKED_AT) && is_untouched((unsigned char *)rows, LOOKED_AT), "a buffer was written");
 }
 
+/* Makes each call, and again with each of its requests refused. */
+static void try_line(unsigned long requests[CALLS]) {
+    for (enum call call = CHECK; call < CALLS; call++) {
+        sfv_answer whole = make(call, 0);
+        unsigned long made = asked;
+        expect(held == 0, "not given back");
+        requests[call] += made;
+        for (unsigned long number = 1; number <= made; number++) check_refusal(call, make(call, number), whole);
+        expect(is_guarded(current->input, current->length), "the input was written");
+    }
+}
+
 int main(void) {
     line l;
-    unsigned long requests[CALLS] = {0, 0, 0, 0};
-    while (next_line(&l)) {
+    unsigned long requests[CALLS] = {0, 0, 0, 0}, lines = 0;
+    for (; next_line(&l); lines++) {
         current = &l;
-        for (enum call call = CHECK; call < CALLS; call++) {
-            sfv_answer whole = make(call, 0);
-            unsigned long made = asked;
-            expect(held == 0, "not given back");
-            requests[call] += made;
-            for (unsigned long number = 1; number <= made; number++) check_refusal(call, make(call, number), whole);
-            expect(is_guarded(l.input, l.length), "the input was written");
-        }
+        try_line(requests);
         end_line(&l);
     }
-    printf("requests: check %lu, canonical %lu, events %lu, whole %lu; %d faults\n", requests[CHECK],
-           requests[CANONICAL], requests[EVENTS], requests[WHOLE], faults);
+    for (enum call call = CHECK; call < CALLS; call++)
+        if (requests[call] == 0) printf("call %d made no request\n", (int)call), faults++;
+    printf("%lu lines, %d faults\n", lines, faults);
     return faults != 0;
 }

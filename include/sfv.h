@@ -26,9 +26,9 @@
  * its place, as examples/memory.c does. Nothing else is undefined but memcpy, memmove and memset. gcc, clang, g++, rustc
  * (examples/rust) and -shared take both archives.
  *
- * WHAT IS PROVED. What each call answers and leaves in its buffers, as said below, for every input, but for one thing that
- * is only tested: what sfv_events leaves in its two buffers. (That their sizes are as said is proved, and of
- * sfv_events_whole everything is.) Nothing checks what a caller in C does.
+ * WHAT IS PROVED. What each call answers and leaves in its buffers, as said below, for every input, but for what is only
+ * tested: what sfv_events leaves in its two buffers (that their sizes are as said is proved, and of sfv_events_whole
+ * everything is), and that SFV_EVENTS_FOR and the 64 bytes of a message are enough. Nothing checks what a caller in C does.
  */
 #ifndef SFV_H
 #define SFV_H

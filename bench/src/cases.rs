@@ -1,6 +1,9 @@
 //! The fields that are measured.
 
+use crate::keys;
 use sfv_c::{DICTIONARY, ITEM, LIST};
+
+const SEED: u64 = 0x5eed;
 
 pub struct Case {
     pub name: &'static str,
@@ -12,7 +15,7 @@ pub struct Case {
 }
 
 fn accepted(name: &'static str, kind: u32, field: impl Into<Vec<u8>>) -> Case {
-    Case { name, kind, field: field.into(), accepted: true, seed: 0x5eed }
+    Case { name, kind, field: field.into(), accepted: true, seed: SEED }
 }
 
 fn refused(name: &'static str, kind: u32, field: impl Into<Vec<u8>>) -> Case {
@@ -68,8 +71,7 @@ fn long() -> Vec<Case> {
     ]
 }
 
-/// Fields that are refused, and one whose keys fall together in a map of the library under this seed.
-fn hostile() -> Vec<Case> {
+fn refusals() -> Vec<Case> {
     vec![
         refused("refused at the first byte: list", LIST, "}"),
         refused("refused at the first byte: dictionary", DICTIONARY, "}"),
@@ -80,6 +82,14 @@ fn hostile() -> Vec<Case> {
     ]
 }
 
+/// Dictionaries of 64 KB whose keys are chosen for the library's maps under one seed, read under that seed and under
+/// another one, which they aren't chosen for.
+fn hostile() -> Vec<Case> {
+    let field = keys::chosen(9_362, SEED);
+    let other = Case { seed: SEED + 1, ..accepted("the same keys under another seed", DICTIONARY, field.clone()) };
+    vec![accepted("9,362 keys chosen for the seed", DICTIONARY, field), other]
+}
+
 pub fn all() -> Vec<Case> {
-    headers().into_iter().chain(long()).chain(hostile()).collect()
+    headers().into_iter().chain(long()).chain(refusals()).chain(hostile()).collect()
 }

@@ -2,6 +2,7 @@
 //! ratios: above 1 the library is slower.
 
 mod cases;
+mod keys;
 #[cfg(feature = "theirs")]
 mod theirs;
 

@@ -1,14 +1,12 @@
-//! Links the archives that SFV_LIBRARIES names, with a space between each two: libsfv_c.a, and the kit's liblibc_c.a.
-
-use std::path::Path;
+//! Links the archives that SFV_LIBRARIES names, as PATH names folders: libsfv_c.a, and the kit's liblibc_c.a.
 
 fn main() {
     println!("cargo:rerun-if-env-changed=SFV_LIBRARIES");
-    for archive in std::env::var("SFV_LIBRARIES").expect("SFV_LIBRARIES").split_whitespace() {
-        let path = Path::new(archive);
+    let archives = std::env::var_os("SFV_LIBRARIES").expect("SFV_LIBRARIES");
+    for path in std::env::split_paths(&archives) {
         let stem = path.file_stem().and_then(|stem| stem.to_str()).expect("a file");
         let name = stem.strip_prefix("lib").expect("an archive");
-        println!("cargo:rerun-if-changed={archive}");
+        println!("cargo:rerun-if-changed={}", path.display());
         println!("cargo:rustc-link-search=native={}", path.parent().expect("a folder").display());
         println!("cargo:rustc-link-lib=static={name}");
     }

@@ -1,11 +1,11 @@
 -- What the calls of C answer.
 use Rattle.std.specs.Prelude.{◌≡◌, ◌<◌, ℕ, List, length, drop, ◌++◌, Option, Some, None, Result, Ok, Err, MatchOption}
-use Rattle.sfv.specs.Values.{Edition, FieldKind, RawField}
+use Rattle.sfv.specs.Values.{Edition, FieldKind, RawField, HasMember}
 use Rattle.sfv.specs.Grammar.{IsAccepted}
 use Rattle.sfv.specs.Events.{bare_values}
 use Rattle.sfv.specs.Statements.{IsParsedAs, IsSerializedAs}
 use Rattle.sfv.specs.Parsers.{IsParseError}
-use Rattle.sfv.specs.Memory.{HoldsMark}
+use Rattle.sfv.specs.Memory.{HoldsMark, NeedsMoreThanSpaces}
 use Rattle.sfv.specs.Messages.{message_of}
 use Rattle.sfv.specs.Errors.{kind_of, index_of, out_of_memory}
 use Rattle.sfv.specs.Versions.{IsSerializeError}
@@ -71,11 +71,12 @@ pub record IsPut (reading writing : Edition) (kind : FieldKind) (input old new :
   pub serialized : IsSerializedAs writing kind value text
   pub put : PutsText text old new w
 
--- the input isn't read by the one edition, or it is read as a value that isn't written for the other
+-- the input isn't read by the one edition, or it is read as a value that isn't written for the other; memory is asked for
+-- only where the input holds more than spaces, and then only where there is a member
 abbrev pub IsFault : Edition → Edition → FieldKind → List ℕ → Fault → Type 0
-IsFault reading writing kind input (faults.Read e) = IsParseError reading kind input e
-IsFault reading writing kind input (faults.Write e) =
-    (value : RawField kind) × IsParsedAs reading kind input value × IsSerializeError writing (bare_values kind value) e
+IsFault reading writing kind input (faults.Read e) = IsParseError reading kind input e × NeedsMoreThanSpaces input e
+IsFault reading writing kind input (faults.Write e) = (value : RawField kind) × IsParsedAs reading kind input value
+    × HasMember kind value × IsSerializeError writing (bare_values kind value) e
 
 -- what the writing of the canonical text comes to, and what it leaves in the buffer
 abbrev pub IsOutcome : Edition → Edition → FieldKind → List ℕ → List ℕ → List ℕ → Result Written Fault → Type 0
