@@ -34,7 +34,7 @@ written_answer (written.Text n) = answer 0 0 0 n 0
 written_answer written.Nothing = answer 1 0 0 0 0
 written_answer (written.TooSmall n) = answer 2 0 0 n 0
 
--- the answer of an error: 3 with kind and index, or 4, out of memory
+-- the answer of an error: 3 with kind and index, or 4 of one without index, which is want of memory
 abbrev pub refusal_at : Option ℕ → ErrorKind → Answer
 refusal_at (Some index) kind = answer 3 (kind_number kind) index 0 0
 refusal_at None kind = answer 4 (kind_number kind) 0 0 0

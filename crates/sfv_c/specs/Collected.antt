@@ -56,10 +56,12 @@ copied m rows bytes =
 abbrev pub left_alone : List Row → List ℕ → List Row × List ℕ × Answer
 left_alone rows bytes = (rows, bytes, bad_argument)
 
+-- what a reading comes to: the events that are collected, or its error
 abbrev pub IsReading : Edition → FieldKind → List ℕ → Result Collected Error → Type 0
 IsReading edition kind input (Ok m) = AreEvents edition kind input m
 IsReading edition kind input (Err e) = IsParseError edition kind input e
 
+-- both buffers and the answer after it: where it has an error, both are as they were
 abbrev pub put_of : List Row → List ℕ → Result Collected Error → List Row × List ℕ × Answer
 put_of rows bytes (Ok m) = copied m rows bytes
 put_of rows bytes (Err e) = (rows, bytes, refusal e)

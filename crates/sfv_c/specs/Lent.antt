@@ -83,6 +83,7 @@ pub record AreCounted (edition : Edition) (kind : FieldKind) (input : List ℕ) 
   pub events_wanted : counts.events ≡ last.count
   pub bytes_wanted : counts.bytes ≡ last.used
 
+-- what a reading into memory that is lent so comes to: these counts, or its error
 abbrev pub IsCounting : Edition → FieldKind → List ℕ → List Row → List ℕ → Result Counts Error → Type 0
 IsCounting edition kind input rows bytes (Ok counts) = AreCounted edition kind input rows bytes counts
 IsCounting edition kind input rows bytes (Err e) = IsParseError edition kind input e

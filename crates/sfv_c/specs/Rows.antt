@@ -26,6 +26,7 @@ key_of (keyed_entry key) = key
 key_of (parameter key value) = key
 key_of e = []
 
+-- the number of a boolean
 abbrev pub number_of_bool : Bool → ℤ
 number_of_bool true = pos 1
 number_of_bool false = pos 0
@@ -70,7 +71,7 @@ pub record Parts : Type 0 where
 abbrev pub parts_of : TreeEvent → Parts
 parts_of e = record { tag = tag_of e; key = key_of e; value = value_parts (value_in e) }
 
--- the same of what the code holds
+-- the value, and the event, that the code holds in numbers
 abbrev pub lent_value : Value → ValueParts
 lent_value v = record { kind = v.kind; number = v.number; bytes = v.bytes.now }
 

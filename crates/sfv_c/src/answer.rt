@@ -23,16 +23,22 @@ pub struct Answer {
     pub events: usize,
 }
 
+/// Done.
 pub(crate) const OK: u32 = 0;
 
+/// There is no member, and nothing to write.
 const NOTHING: u32 = 1;
 
+/// A buffer is too small.
 pub(crate) const TOO_SMALL: u32 = 2;
 
+/// The input is no such field.
 const REFUSED: u32 = 3;
 
+/// Memory was refused.
 const OUT_OF_MEMORY: u32 = 4;
 
+/// The version of writing doesn't have a value.
 const UNSUPPORTED: u32 = 6;
 
 /// An argument names nothing.

@@ -12,6 +12,7 @@ use crate::numbers::Field;
 use sfv::{Dictionary, FieldType, Item, List, Parser, Version};
 use std::alloc::Global;
 
+/// Reads an item, and puts its canonical text for the version at the beginning of the buffer.
 fn put_item(
     alloc: Global,
     parser: Parser<'_>,
@@ -29,6 +30,7 @@ fn put_item(
     Ok(put_text(Some(text), out))
 }
 
+/// Reads a list, and puts its canonical text for the version at the beginning of the buffer.
 fn put_list(
     alloc: Global,
     parser: Parser<'_>,
@@ -46,6 +48,7 @@ fn put_list(
     Ok(put_text(text, out))
 }
 
+/// Reads a dictionary, and puts its canonical text for the version at the beginning of the buffer.
 fn put_dictionary(
     alloc: Global,
     parser: Parser<'_>,
