@@ -28,8 +28,7 @@
  *
  * WHAT IS PROVED. What each call answers and leaves in its buffers, as said below, for every input, but for what is only
  * tested: what sfv_events leaves in its two buffers (that their sizes are as said is proved, and of sfv_events_whole
- * everything is), and for what it asks for memory; and that SFV_EVENTS_FOR and the 64 bytes of a message are enough.
- * Nothing checks what a caller in C does.
+ * everything is), and that SFV_EVENTS_FOR and the 64 bytes of a message are enough. Nothing checks what a caller in C does.
  */
 #ifndef SFV_H
 #define SFV_H

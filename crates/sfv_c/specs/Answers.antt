@@ -100,10 +100,14 @@ abbrev pub check_answer : Option Error → Answer
 check_answer None = answer 0 0 0 0 0
 check_answer (Some e) = refusal e
 
--- the input is accepted; or the error is that of `parse`, and memory is asked for only where a mark stands
+-- the error is that of `parse`, and memory is asked for only where a mark stands
+abbrev pub IsReadingError : Edition → FieldKind → List ℕ → Error → Type 0
+IsReadingError edition kind input e = IsParseError edition kind input e × (e ≡ out_of_memory → HoldsMark input)
+
+-- the input is accepted, or it has this error
 abbrev pub IsJudged : Edition → FieldKind → List ℕ → Option Error → Type 0
 IsJudged edition kind input None = IsAccepted edition kind input
-IsJudged edition kind input (Some e) = IsParseError edition kind input e × (e ≡ out_of_memory → HoldsMark input)
+IsJudged edition kind input (Some e) = IsReadingError edition kind input e
 
 -- the answer says whether the input is accepted, and its error if it isn't
 pub record IsCheck (edition : Edition) (kind : FieldKind) (input : List ℕ) (a : Answer) : Type 0 where

@@ -1,10 +1,9 @@
 -- Events that are written into lent memory, as far as there is room.
-use Rattle.std.specs.Prelude.{◌≡◌, ℕ, ◌+◌, List, length, take, drop, ◌++◌, Result, Ok, Err, nat_lt, nat_le, ◌&&◌}
+use Rattle.std.specs.Prelude.{◌≡◌, ℕ, ◌+◌, ◌-◌, ◌^◌, min, List, length, take, drop, ◌++◌, Result, Ok, Err, nat_lt, nat_le, ◌&&◌}
 use Rattle.std.specs.Prelude.{if◌then◌else◌, slice_set, fold}
 use Rattle.sfv.specs.Values.{Edition, FieldKind, RawField}
 use Rattle.sfv.specs.Grammar.{IsFieldText}
 use Rattle.sfv.specs.Events.{TreeEvent, events}
-use Rattle.sfv.specs.Parsers.{IsParseError}
 use Rattle.sfv.specs.Types.{Error}
 use Rattle.sfv_c.specs.declared.answer.Answer.{Answer}
 use Rattle.sfv_c.specs.declared.rows.Row.{Row}
@@ -12,7 +11,7 @@ use Rattle.sfv_c.specs.declared.lent.LentRows.{LentRows}
 use Rattle.sfv_c.specs.declared.lent.Counts.{Counts}
 use Rattle.sfv_c.specs.declared.lent.Visited.{Visited}
 use Rattle.sfv_c.specs.declared.lent.Visited.TheVariants as visited
-use Rattle.sfv_c.specs.Answers.{answer, refusal}
+use Rattle.sfv_c.specs.Answers.{answer, refusal, IsReadingError}
 use Rattle.sfv_c.specs.Rows.{Parts, parts_of, row_of}
 
 -- lent memory: its rows and how many are wanted so far, its bytes and how many are wanted so far
@@ -29,6 +28,10 @@ memory_of s = record { rows = s.rows.now; count = s.count; bytes = s.bytes.now; 
 abbrev pub lent_memory : List Row → List ℕ → Memory
 lent_memory rows bytes = record { rows = rows; count = 0; bytes = bytes; used = 0 }
 
+-- a sum as it is counted: it ends at the largest number of 64 bits
+abbrev pub counted : ℕ → ℕ
+counted n = min n (2 ^ 64 - 1)
+
 -- the bytes with the text there, if there is room
 abbrev pub put_bytes : List ℕ → ℕ → List ℕ → List ℕ
 put_bytes bytes at text =
@@ -40,7 +43,7 @@ keep_bytes m text = record {
   rows = m.rows;
   count = m.count;
   bytes = put_bytes m.bytes m.used text;
-  used = m.used + length text;
+  used = counted (m.used + length text);
 }
 
 -- the rows with the row there, if there is room
@@ -51,14 +54,14 @@ put_row rows at row = if nat_lt at (length rows) then slice_set rows at row else
 abbrev pub keep_row : Memory → Row → Memory
 keep_row m row = record {
   rows = put_row m.rows m.count row;
-  count = m.count + 1;
+  count = counted (m.count + 1);
   bytes = m.bytes;
   used = m.used;
 }
 
 -- the memory after an event: its key, its value's bytes and then its row
 abbrev pub keep_parts : Memory → Parts → Memory
-keep_parts m p = keep_row (keep_bytes (keep_bytes m p.key) p.value.bytes) (row_of m.used (m.used + length p.key) p)
+keep_parts m p = keep_row (keep_bytes (keep_bytes m p.key) p.value.bytes) (row_of m.used (counted (m.used + length p.key)) p)
 
 abbrev pub keep_event : Memory → TreeEvent → Memory
 keep_event m e = keep_parts m (parts_of e)
@@ -70,10 +73,10 @@ pub record AreKept (edition : Edition) (kind : FieldKind) (input : List ℕ) (fr
   pub only : (other : RawField kind) → IsFieldText edition kind other input → other ≡ raw
   pub memory : to ≡ fold keep_event from (events kind raw)
 
--- so they were; or the error is that of `parse`
+-- so they were; or the input has this error
 abbrev pub IsVisitedAs : Edition → FieldKind → List ℕ → LentRows → Visited → Type 0
 IsVisitedAs edition kind input s (visited.Done t) = AreKept edition kind input (memory_of s) (memory_of t)
-IsVisitedAs edition kind input s (visited.Failed e) = IsParseError edition kind input e
+IsVisitedAs edition kind input s (visited.Failed e) = IsReadingError edition kind input e
 
 -- so many events and bytes are wanted of memory that is lent so
 pub record AreCounted (edition : Edition) (kind : FieldKind) (input : List ℕ) (rows : List Row) (bytes : List ℕ)
@@ -86,7 +89,7 @@ pub record AreCounted (edition : Edition) (kind : FieldKind) (input : List ℕ) 
 -- what a reading into memory that is lent so comes to: these counts, or its error
 abbrev pub IsCounting : Edition → FieldKind → List ℕ → List Row → List ℕ → Result Counts Error → Type 0
 IsCounting edition kind input rows bytes (Ok counts) = AreCounted edition kind input rows bytes counts
-IsCounting edition kind input rows bytes (Err e) = IsParseError edition kind input e
+IsCounting edition kind input rows bytes (Err e) = IsReadingError edition kind input e
 
 -- the sizes that are wanted, with 0 where both buffers are long enough, and else with 2; or the error
 abbrev pub counted_answer : ℕ → ℕ → Result Counts Error → Answer

@@ -1,28 +1,15 @@
 //! Readings that write nothing.
 
-ghost use Rattle.std.specs.Prelude.{◌≡◌};
 ghost use Rattle.sfv.specs.Parsers.{input_of, parser_edition};
-ghost use Rattle.sfv.specs.Types.parse_errors;
 ghost use Rattle.sfv_c.specs.Numbers.{kind_of_field};
 ghost use Rattle.sfv_c.specs.Answers.{IsCheck};
 
 use crate::answer::{Answer, OK};
 use crate::numbers::Field;
-use crate::reading::read;
+use crate::reading::{read, syntax_of};
+use sfv::Parser;
 use sfv::visitor::Ignored;
-use sfv::{Error, ParseError, Parser};
 use std::alloc::Global;
-use std::convert::Infallible;
-
-/// The error of a reading whose visitor has none.
-fn syntax_of(error: ParseError<Infallible>) -> Error
-    ensures { parse_errors.Syntax result ≡ error }
-{
-    match error {
-        ParseError::Syntax(error) => error,
-        ParseError::Visitor(never) => match never {},
-    }
-}
 
 /// Tells whether the input is a field of this type.
 pub(crate) fn check(alloc: Global, field: Field, parser: Parser<'_>) -> Answer

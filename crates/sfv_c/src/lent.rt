@@ -1,22 +1,20 @@
 //! Events that a visitor writes into lent memory, as far as there is room.
 
-ghost use Rattle.std.specs.Prelude.{◌≡◌, ⊤, OnOk, IfOk, IfErr};
-ghost use Rattle.sfv.specs.Parsers.{input_of, parser_edition, IsParseError};
+ghost use Rattle.std.specs.Prelude.{◌≡◌, IfOk, IfErr};
+ghost use Rattle.sfv.specs.Parsers.{input_of, parser_edition};
 ghost use Rattle.sfv_c.specs.Numbers.{kind_of_field};
+ghost use Rattle.sfv_c.specs.Answers.{IsReadingError};
 ghost use Rattle.sfv_c.specs.Rows.{lent_parts};
 ghost use Rattle.sfv_c.specs.Lent.{memory_of, keep_bytes, keep_row, keep_parts, keep_event, IsVisitedAs, AreCounted, IsEvents};
 
 use crate::answer::{Answer, OK, TOO_SMALL};
 use crate::numbers::Field;
-use crate::reading::read;
+use crate::reading::{read, syntax_of};
 use crate::rows::{EventParts, Row, parts_of};
 use sfv::visitor::{Event, Visitor};
-use sfv::{Error, OutOfMemory, ParseError, Parser};
+use sfv::{Error, Parser};
 use std::alloc::Global;
-
-/// More than can be counted.
-#[derive(Clone, Copy, Drop)]
-struct Uncounted;
+use std::convert::Infallible;
 
 /// How many events and bytes are wanted.
 #[derive(Clone, Copy, Drop)]
@@ -52,65 +50,57 @@ impl<'a> LentRows<'a> {
     }
 
     /// Keeps bytes, if there is room.
-    fn keep_bytes(&mut self, text: &[u8]) -> Result<(), Uncounted>
-        ensures { OnOk result (memory_of self.new ≡ keep_bytes (memory_of self.old) text.now) }
+    fn keep_bytes(&mut self, text: &[u8])
+        ensures { memory_of self.new ≡ keep_bytes (memory_of self.old) text.now }
     {
-        let Some(end) = self.used.checked_add(text.len()) else {
-            return Err(Uncounted);
-        };
+        let end = self.used.saturating_add(text.len());
         if end <= self.bytes.len() {
             self.bytes[self.used..end].copy_from_slice(text);
         }
         self.used = end;
-        Ok(())
     }
 
     /// Keeps a row, if there is room.
-    fn keep_row(&mut self, row: Row) -> Result<(), Uncounted>
-        ensures { OnOk result (memory_of self.new ≡ keep_row (memory_of self.old) row) }
+    fn keep_row(&mut self, row: Row)
+        ensures { memory_of self.new ≡ keep_row (memory_of self.old) row }
     {
-        let Some(next) = self.count.checked_add(1) else {
-            return Err(Uncounted);
-        };
         if self.count < self.rows.len() {
             self.rows[self.count] = row;
         }
-        self.count = next;
-        Ok(())
+        self.count = self.count.saturating_add(1);
     }
 
     /// Keeps the texts of an event and its row.
-    fn keep(&mut self, parts: EventParts<'_>) -> Result<(), Uncounted>
-        ensures { OnOk result (memory_of self.new ≡ keep_parts (memory_of self.old) (lent_parts parts.entry)) }
+    fn keep(&mut self, parts: EventParts<'_>)
+        ensures { memory_of self.new ≡ keep_parts (memory_of self.old) (lent_parts parts.entry) }
     {
         let key = self.used;
-        self.keep_bytes(parts.key)?;
+        self.keep_bytes(parts.key);
         let bytes = self.used;
-        self.keep_bytes(parts.bytes())?;
-        self.keep_row(parts.row(key, bytes))
+        self.keep_bytes(parts.bytes());
+        self.keep_row(parts.row(key, bytes));
     }
 }
 
 impl<'a, 'de> Visitor<'de> for LentRows<'a> {
     type Out = LentRows<'a>;
 
-    type Error = Uncounted;
+    type Error = Infallible;
 
     ghost takes = { λ s e after. memory_of after ≡ keep_event (memory_of s) e };
 
-    ghost fails = { λ _ _ _. ⊤ };
+    ghost fails = { λ _ _ _. ⊥ };
 
     ghost finishes = { λ s out. memory_of out ≡ memory_of s };
 
     ghost finish_fails = { λ _ _. ⊥ };
 
-    ghost is_memory = { λ _. ⊤ };
-
-    fn event(&mut self, event: Event<'de>) -> Result<(), Uncounted> {
-        self.keep(parts_of(&event))
+    fn event(&mut self, event: Event<'de>) -> Result<(), Infallible> {
+        self.keep(parts_of(&event));
+        Ok(())
     }
 
-    fn finish(self) -> Result<LentRows<'a>, Uncounted> {
+    fn finish(self) -> Result<LentRows<'a>, Infallible> {
         Ok(self)
     }
 }
@@ -130,8 +120,7 @@ fn visit<'a>(alloc: Global, field: Field, parser: Parser<'_>, rows: LentRows<'a>
 {
     match read(alloc, field, parser, rows) {
         Ok(rows) => Visited::Done(rows),
-        Err(ParseError::Syntax(error)) => Visited::Failed(error),
-        Err(ParseError::Visitor(_)) => Visited::Failed(Error::from(OutOfMemory)),
+        Err(error) => Visited::Failed(syntax_of(error)),
     }
 }
 
@@ -145,7 +134,7 @@ fn count_events(
 ) -> Result<Counts, Error>
     ensures counted { IfOk result (AreCounted (parser_edition parser.entry) (kind_of_field field)
         (input_of parser.entry) rows.old bytes.old) }
-    ensures rejected { IfErr result (IsParseError (parser_edition parser.entry) (kind_of_field field)
+    ensures rejected { IfErr result (IsReadingError (parser_edition parser.entry) (kind_of_field field)
         (input_of parser.entry)) }
 {
     match visit(alloc, field, parser, LentRows::new(rows, bytes)) {

@@ -1,14 +1,16 @@
 //! Reading a field of a type that is a value.
 
-ghost use Rattle.std.specs.Prelude.{IfOk, IfErr};
+ghost use Rattle.std.specs.Prelude.{◌≡◌, IfOk, IfErr};
 ghost use Rattle.sfv.specs.Memory.{NeedsMark};
 ghost use Rattle.sfv.specs.Parsers.{input_of, IsAnswerBy, IsSyntaxBy};
+ghost use Rattle.sfv.specs.Types.parse_errors;
 ghost use Rattle.sfv_c.specs.Numbers.{kind_of_field};
 
 use crate::numbers::Field;
 use sfv::visitor::Visitor;
-use sfv::{ParseError, Parser};
+use sfv::{Error, ParseError, Parser};
 use std::alloc::Global;
+use std::convert::Infallible;
 
 /// Reads the input as a field of this type with a visitor.
 pub(crate) fn read<'de, V: Visitor<'de>>(
@@ -26,5 +28,15 @@ pub(crate) fn read<'de, V: Visitor<'de>>(
         Field::Item => parser.parse_item_with_visitor(alloc, visitor),
         Field::List => parser.parse_list_with_visitor(alloc, visitor),
         Field::Dictionary => parser.parse_dictionary_with_visitor(alloc, visitor),
+    }
+}
+
+/// The error of a reading whose visitor has none.
+pub(crate) fn syntax_of(error: ParseError<Infallible>) -> Error
+    ensures { parse_errors.Syntax result ≡ error }
+{
+    match error {
+        ParseError::Syntax(error) => error,
+        ParseError::Visitor(never) => match never {},
     }
 }

@@ -1,4 +1,4 @@
-use Rattle.std.proofs.Common.{◌∙◌}
+use Rattle.std.proofs.Common.{◌∙◌, sym}
 use Rattle.sfv.specs.Events.{events}
 use Rattle.sfv.proofs.Callers.{runs_fold}
 use Rattle.sfv_c.specs.Numbers.{kind_of_field}
@@ -16,3 +16,9 @@ returns-in-Ok c =
       memory = v.visited.answered
           ∙ runs_fold memory_of keep_event es c.args.rows v.visited.last v.visited.taken;
     }
+
+pub returns-in-Err : goal.returns-in-Err
+returns-in-Err c =
+    let syntax = rw (sym c.syntax_of.ensures) at c.in-Err.ensures.syntax in
+    let memory = rw (sym c.syntax_of.ensures) at c.in-Err.ensures.memory in
+    (syntax.0, memory)
