@@ -36,7 +36,7 @@ find crates/*/src -name '*.rt' ! -name tests.rt ! -path '*/sfv_reading/*' ! -pat
     in_header && /^ +for / { in_trait = 1 }
     in_header && /\{$/ { in_header = 0 }
     /^}$/ { in_trait = 0 }
-    /^ *(pub(\([a-z]+\))? )?fn / { is_public = /^ *pub fn / || in_trait }
+    /^ *(pub(\([a-z]+\))? )?(extern "C" )?fn / { is_public = /^ *pub (extern "C" )?fn / || in_trait }
     # The name of a clause or of a ghost member is no use of a word.
     /^ *(requires|ensures)/ { in_clause = is_public; sub(/^ *[a-z]+[^{]*/, "") }
     /^ *ghost / { in_ghost = in_trait; sub(/^ *ghost [A-Za-z_]+/, "") }

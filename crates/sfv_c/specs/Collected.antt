@@ -1,0 +1,74 @@
+-- Events that are collected, and then put into lent memory, whole or not at all.
+use Rattle.std.specs.Prelude.{◌≡◌, ℕ, List, [], ◌∷◌, length, drop, ◌++◌, Result, Ok, Err, nat_le, ◌&&◌}
+use Rattle.std.specs.Prelude.{if◌then◌else◌, fold}
+use Rattle.sfv.specs.Values.{Edition, FieldKind, RawField}
+use Rattle.sfv.specs.Grammar.{IsFieldText}
+use Rattle.sfv.specs.Events.{TreeEvent, events}
+use Rattle.sfv.specs.Parsers.{IsParseError}
+use Rattle.sfv.specs.Types.{Error}
+use Rattle.sfv_c.specs.declared.answer.Answer.{Answer}
+use Rattle.sfv_c.specs.declared.rows.Row.{Row}
+use Rattle.sfv_c.specs.declared.collected.Collector.{Collector}
+use Rattle.sfv_c.specs.Answers.{answer, refusal, bad_argument}
+use Rattle.sfv_c.specs.Rows.{Parts, parts_of, row_of}
+
+-- rows, and the bytes of their texts
+pub record Collected : Type 0 where
+  pub rows : List Row
+  pub bytes : List ℕ
+
+abbrev pub collected_of : Collector → Collected
+collected_of s = record { rows = s.rows.items; bytes = s.bytes.items }
+
+-- no event
+abbrev pub nothing : Collected
+nothing = record { rows = []; bytes = [] }
+
+-- an event more: its row, and the bytes of its key and of its value
+abbrev pub collect_parts : Collected → Parts → Collected
+collect_parts m p = record {
+  rows = m.rows ++ row_of (length m.bytes) (length (m.bytes ++ p.key)) p ∷ [];
+  bytes = (m.bytes ++ p.key) ++ p.value.bytes;
+}
+
+abbrev pub collect : Collected → TreeEvent → Collected
+collect m e = collect_parts m (parts_of e)
+
+-- these are the events of the only field that the grammar gives the input
+pub record AreEvents (edition : Edition) (kind : FieldKind) (input : List ℕ) (m : Collected) : Type 0 where
+  pub raw : RawField kind
+  pub accepted : IsFieldText edition kind raw input
+  pub only : (other : RawField kind) → IsFieldText edition kind other input → other ≡ raw
+  pub collected : m ≡ fold collect nothing (events kind raw)
+
+-- what is left in the buffers, and the answer: both are written where both are long enough, and else neither is
+abbrev pub copied : Collected → List Row → List ℕ → List Row × List ℕ × Answer
+copied m rows bytes =
+    if nat_le (length m.rows) (length rows) && nat_le (length m.bytes) (length bytes)
+    then (
+      m.rows ++ drop (length m.rows) rows,
+      m.bytes ++ drop (length m.bytes) bytes,
+      answer 0 0 0 (length m.bytes) (length m.rows),
+    )
+    else (rows, bytes, answer 2 0 0 (length m.bytes) (length m.rows))
+
+-- both buffers as they were, and the answer of an argument that names nothing
+abbrev pub left_alone : List Row → List ℕ → List Row × List ℕ × Answer
+left_alone rows bytes = (rows, bytes, bad_argument)
+
+-- what a reading comes to: the events that are collected, or its error
+abbrev pub IsReading : Edition → FieldKind → List ℕ → Result Collected Error → Type 0
+IsReading edition kind input (Ok m) = AreEvents edition kind input m
+IsReading edition kind input (Err e) = IsParseError edition kind input e
+
+-- both buffers and the answer after it: where it has an error, both are as they were
+abbrev pub put_of : List Row → List ℕ → Result Collected Error → List Row × List ℕ × Answer
+put_of rows bytes (Ok m) = copied m rows bytes
+put_of rows bytes (Err e) = (rows, bytes, refusal e)
+
+-- what a reading leaves in the buffers, and answers: the events of the only field, if there is room; or its error
+pub record IsEventsPut (edition : Edition) (kind : FieldKind) (input : List ℕ) (rows : List Row) (bytes : List ℕ)
+    (left : List Row × List ℕ × Answer) : Type 0 where
+  pub outcome : Result Collected Error
+  pub reading : IsReading edition kind input outcome
+  pub put : left ≡ put_of rows bytes outcome

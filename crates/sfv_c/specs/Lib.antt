@@ -1,0 +1,5 @@
+pub mod Numbers
+pub mod Answers
+pub mod Rows
+pub mod Lent
+pub mod Collected

@@ -1,0 +1,91 @@
+-- Events in numbers.
+use Rattle.std.specs.Prelude.{ℕ, ℤ, pos, List, [], length, Bool, true, false, Option, Some, None}
+use Rattle.sfv.specs.Values.{BareValue, integer, decimal, string, token, byte_sequence, boolean, date, display_string}
+use Rattle.sfv.specs.Events.{TreeEvent, entry, keyed_entry, begins_item, begins_inner_list, bare_item, parameter}
+use Rattle.sfv.specs.Events.{parameters_end, inner_list_end, value_in}
+use Rattle.sfv.specs.Kinds.{kind_of_value}
+use Rattle.sfv_c.specs.declared.rows.Row.{Row}
+use Rattle.sfv_c.specs.declared.rows.Value.{Value}
+use Rattle.sfv_c.specs.declared.rows.EventParts.{EventParts}
+use Rattle.sfv_c.specs.Numbers.{type_number}
+
+-- the number of an event's tag
+abbrev pub tag_of : TreeEvent → ℕ
+tag_of entry = 1
+tag_of (keyed_entry key) = 2
+tag_of begins_item = 3
+tag_of begins_inner_list = 4
+tag_of (bare_item value) = 5
+tag_of (parameter key value) = 6
+tag_of parameters_end = 7
+tag_of inner_list_end = 8
+
+-- the key of an event, empty where it has none
+abbrev pub key_of : TreeEvent → List ℕ
+key_of (keyed_entry key) = key
+key_of (parameter key value) = key
+key_of e = []
+
+-- the number of a boolean
+abbrev pub number_of_bool : Bool → ℤ
+number_of_bool true = pos 1
+number_of_bool false = pos 0
+
+-- the number of a value: decimals in thousandths, dates in seconds, true as 1, and texts as 0
+abbrev pub number_of_value : BareValue → ℤ
+number_of_value (integer z) = z
+number_of_value (decimal z) = z
+number_of_value (boolean b) = number_of_bool b
+number_of_value (date z) = z
+number_of_value v = pos 0
+
+-- the bytes of a value, none of a number
+abbrev pub bytes_of_value : BareValue → List ℕ
+bytes_of_value (string s) = s
+bytes_of_value (token t) = t
+bytes_of_value (byte_sequence b) = b
+bytes_of_value (display_string s) = s
+bytes_of_value v = []
+
+-- a value in numbers: its kind, its number and its bytes
+pub record ValueParts : Type 0 where
+  pub kind : ℕ
+  pub number : ℤ
+  pub bytes : List ℕ
+
+-- the number of the kind of a value, its number and its bytes; all nothing where there is no value
+abbrev pub value_parts : Option BareValue → ValueParts
+value_parts None = record { kind = 0; number = pos 0; bytes = [] }
+value_parts (Some v) = record {
+  kind = type_number (kind_of_value v);
+  number = number_of_value v;
+  bytes = bytes_of_value v;
+}
+
+-- an event in numbers: its tag, its key and its value
+pub record Parts : Type 0 where
+  pub tag : ℕ
+  pub key : List ℕ
+  pub value : ValueParts
+
+abbrev pub parts_of : TreeEvent → Parts
+parts_of e = record { tag = tag_of e; key = key_of e; value = value_parts (value_in e) }
+
+-- the value, and the event, that the code holds in numbers
+abbrev pub lent_value : Value → ValueParts
+lent_value v = record { kind = v.kind; number = v.number; bytes = v.bytes.now }
+
+abbrev pub lent_parts : EventParts → Parts
+lent_parts p = record { tag = p.tag; key = p.key.now; value = lent_value p.value }
+
+-- the row of these parts, whose key stands at the one place and whose value's bytes at the other
+abbrev pub row_of : ℕ → ℕ → Parts → Row
+row_of key bytes p = record {
+  tag = p.tag;
+  kind = p.value.kind;
+  key = key;
+  key_length = length p.key;
+  bytes = bytes;
+  bytes_length = length p.value.bytes;
+  number = p.value.number;
+}
