@@ -67,7 +67,7 @@ put_of rows bytes (Ok m) = copied m rows bytes
 put_of rows bytes (Err e) = (rows, bytes, refusal e)
 
 -- what a reading leaves in the buffers, and answers: the events of the only field, if there is room; or its error
-pub record IsEventsPut (edition : Edition) (kind : FieldKind) (input : List ℕ) (rows : List Row) (bytes : List ℕ)
+pub record PutsEvents (edition : Edition) (kind : FieldKind) (input : List ℕ) (rows : List Row) (bytes : List ℕ)
     (left : List Row × List ℕ × Answer) : Type 0 where
   pub outcome : Result Collected Error
   pub reading : IsReading edition kind input outcome

@@ -4,7 +4,7 @@ ghost use Rattle.std.specs.Prelude.{◌≡◌, ⊤, OnOk, IfOk, IfErr};
 ghost use Rattle.sfv.specs.Parsers.{input_of, parser_edition, IsParseError};
 ghost use Rattle.sfv_c.specs.Numbers.{kind_of_field};
 ghost use Rattle.sfv_c.specs.Rows.{lent_parts};
-ghost use Rattle.sfv_c.specs.Collected.{collected_of, nothing, collect_parts, collect, AreEvents, copied, IsEventsPut};
+ghost use Rattle.sfv_c.specs.Collected.{collected_of, nothing, collect_parts, collect, AreEvents, copied, PutsEvents};
 
 use crate::answer::{Answer, OK, TOO_SMALL};
 use crate::numbers::Field;
@@ -103,7 +103,7 @@ pub(crate) fn put_events(
     rows: &mut [Row],
     bytes: &mut [u8],
 ) -> Answer
-    ensures { IsEventsPut (parser_edition parser.entry) (kind_of_field field) (input_of parser.entry)
+    ensures { PutsEvents (parser_edition parser.entry) (kind_of_field field) (input_of parser.entry)
         rows.old bytes.old (rows.new, bytes.new, result) }
 {
     match collect_events(alloc, field, parser) {

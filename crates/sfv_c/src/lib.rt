@@ -7,7 +7,7 @@ ghost use Rattle.std.specs.Prelude.{◌≡◌, None};
 ghost use Rattle.sfv_c.specs.Numbers.{named_field, named_version, Names, NamesThree};
 ghost use Rattle.sfv_c.specs.Answers.{bad_argument, IsCanonical, IsCheck, IsMessage};
 ghost use Rattle.sfv_c.specs.Lent.{IsEvents};
-ghost use Rattle.sfv_c.specs.Collected.{left_alone, IsEventsPut};
+ghost use Rattle.sfv_c.specs.Collected.{left_alone, PutsEvents};
 
 mod answer;
 mod canonical;
@@ -49,7 +49,7 @@ pub extern "C" fn sfv_c_canonical(
     out: &mut [u8],
 ) -> Answer
     ensures named { NamesThree field reading writing
-        (λ kind r w. IsCanonical r w kind input.now out.old out.new result) }
+        (λ k r w. IsCanonical r w k input.now out.old out.new result) }
     ensures no_field { named_field field ≡ None → (result ≡ bad_argument) × (out.new ≡ out.old) }
     ensures no_reading { named_version reading ≡ None → (result ≡ bad_argument) × (out.new ≡ out.old) }
     ensures no_writing { named_version writing ≡ None → (result ≡ bad_argument) × (out.new ≡ out.old) }
@@ -73,7 +73,7 @@ pub extern "C" fn sfv_c_canonical(
 /// Refused, with kind and index, or out of memory, as `Parser::parse` has it.
 #[unsafe(no_mangle)]
 pub extern "C" fn sfv_c_check(alloc: Global, field: u32, version: u32, input: &[u8]) -> Answer
-    ensures named { Names field version (λ kind v. IsCheck v kind input.now result) }
+    ensures named { Names field version (λ k v. IsCheck v k input.now result) }
     ensures no_field { named_field field ≡ None → result ≡ bad_argument }
     ensures no_version { named_version version ≡ None → result ≡ bad_argument }
 {
@@ -101,7 +101,7 @@ pub extern "C" fn sfv_c_events(
     rows: &mut [Row],
     bytes: &mut [u8],
 ) -> Answer
-    ensures named { Names field version (λ kind v. IsEvents v kind input.now rows.old bytes.old result) }
+    ensures named { Names field version (λ k v. IsEvents v k input.now rows.old bytes.old result) }
     ensures no_field { named_field field ≡ None → result ≡ bad_argument }
     ensures no_version { named_version version ≡ None → result ≡ bad_argument }
 {
@@ -130,7 +130,7 @@ pub extern "C" fn sfv_c_events_whole(
     bytes: &mut [u8],
 ) -> Answer
     ensures named { Names field version
-        (λ kind v. IsEventsPut v kind input.now rows.old bytes.old (rows.new, bytes.new, result)) }
+        (λ k v. PutsEvents v k input.now rows.old bytes.old (rows.new, bytes.new, result)) }
     ensures no_field { named_field field ≡ None → (rows.new, bytes.new, result) ≡ left_alone rows.old bytes.old }
     ensures no_version { named_version version ≡ None → (rows.new, bytes.new, result) ≡ left_alone rows.old bytes.old }
 {
