@@ -27,7 +27,7 @@ use Rattle.sfv_visitor.specs.declared.visitor.list_builder.ListBuilder.{ListBuil
 use Rattle.sfv_visitor.specs.declared.visitor.dictionary_builder.DictionaryBuilder.{DictionaryBuilder}
 use Rattle.sfv.specs.Memory.{HasMoreThanSpaces, NeedsMark}
 use Rattle.sfv.specs.Parsers.{IsVisitorErrorOf, VisitsFirst}
-use Rattle.sfv.specs.Visits.{VisitsField}
+use Rattle.sfv.specs.parser.Visits.{VisitsField}
 
 -- ---- a byte of a text
 

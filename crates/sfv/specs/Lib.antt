@@ -1,17 +1,9 @@
-pub mod Cursor
-pub mod ReadNumbers
-pub mod Digits
-pub mod ReadTexts
-pub mod Runs
-pub mod Zeros
-pub mod Items
-pub mod Fields
-pub mod Parsers
-pub mod Quoted
-pub mod Visits
-pub mod Members
-pub mod Memory
+-- What users import of this crate's own: the types of public values, and what a parser reads.
 pub mod Types
+pub mod Memory
+pub mod Parsers
+-- What they don't.
+pub mod parser
 -- The words of lower crates, and of the map, that public clauses use: a caller's clauses need no crate but this one.
 pub use Rattle.sfv_spec.specs.Ascii
 pub use Rattle.sfv_spec.specs.Base64

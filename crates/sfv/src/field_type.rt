@@ -1,6 +1,9 @@
 //! The types of fields.
 
-ghost use Rattle.std.specs.Prelude.{ℕ, List, Option, Some, option_map, IfOk, IfErr, string_bytes};
+ghost use Rattle.std.specs.Prelude.{◌≡◌, ℕ, List, Option, Some, option_map, IfOk, IfErr, string_bytes};
+ghost use Rattle.std.proofs.Common.{ap};
+ghost use Rattle.std.specs.declared.alloc.Global.{Global as Heap};
+ghost use Rattle.std.specs.declared.string.String.{String as Text};
 ghost use Rattle.sfv_spec.specs.Values.{FieldKind, RawField, HasMember, rfc9651, item_field, list_field, dictionary_field};
 ghost use Rattle.sfv_spec.specs.Events.{bare_values};
 ghost use Rattle.sfv_spec.specs.Statements.{IsParsedAs, IsSerializedAs};
@@ -37,7 +40,7 @@ mod sealed {
 /// A contract sees a value as its tree, by the kind of field that it is.
 pub trait FieldType: sealed::Sealed + Drop {
     /// What `serialize` returns: a text, of a list or a dictionary only if it has a member.
-    type SerializeResult: Drop;
+    type SerializeResult: Drop + Into<Option<StdString>>;
 
     ghost kind: { FieldKind };
 
@@ -82,6 +85,9 @@ pub trait FieldType: sealed::Sealed + Drop {
             IsSerializedAs (edition_of version) kind (tree self.now) (written text)) }
         ensures looks { LooksFirst (edition_of version) (bare_values kind (tree self.now)) result }
         ensures failed { IfErr result (λ _. HasMember kind (tree self.now)) };
+
+    ghost into_written: { (result : Self.SerializeResult) (text : Option (Text Heap))
+        → Self.SerializeResult.converts result text → option_map string_bytes text ≡ written result };
 }
 
 impl FieldType for Item {
@@ -92,6 +98,8 @@ impl FieldType for Item {
     ghost tree = { item_tree };
 
     ghost written = { λ text. Some (string_bytes text) };
+
+    ghost into_written = { λ result text same. ap (option_map string_bytes) same };
 
     fn parse(alloc: Global, parser: Parser<'_>) -> Result<Item, Error> {
         let builder = ItemBuilder::new(alloc, parser.hash_seed());
@@ -125,6 +133,8 @@ impl FieldType for List {
 
     ghost written = { option_map string_bytes };
 
+    ghost into_written = { λ result text same. ap (option_map string_bytes) same };
+
     fn parse(alloc: Global, parser: Parser<'_>) -> Result<List, Error> {
         let builder = ListBuilder::new(List::new(alloc), parser.hash_seed());
         match parser.parse_list_with_visitor(alloc, builder) {
@@ -157,6 +167,8 @@ impl FieldType for Dictionary {
     ghost tree = { λ dictionary. dictionary_tree dictionary.entries };
 
     ghost written = { option_map string_bytes };
+
+    ghost into_written = { λ result text same. ap (option_map string_bytes) same };
 
     fn parse(alloc: Global, parser: Parser<'_>) -> Result<Dictionary, Error> {
         let dictionary = Dictionary::with_hasher(alloc, parser.hash_seed());

@@ -64,11 +64,11 @@ ruled_kind edition kind t _ i (faults.decimal_date h) = refl
 ruled_kind edition kind t _ i (faults.long_decimal_date h) = refl
 ruled_kind edition kind t _ i (faults.open_bytes h) = refl
 ruled_kind edition kind t _ i (faults.lone_symbol h) = refl
-ruled_kind edition kind t _ i (faults.open_display h) = refl
-ruled_kind edition kind t _ i (faults.open_escape h) = refl
-ruled_kind edition kind t _ i (faults.wrong_escape h) = refl
-ruled_kind edition kind t _ i (faults.wrong_byte h) = refl
-ruled_kind edition kind t _ i (faults.wrong_utf8 h) = refl
+ruled_kind edition kind t _ _ (faults.display _ _ _ _ _ _ (faults.open_display _ _)) = refl
+ruled_kind edition kind t _ _ (faults.display _ _ _ _ _ _ (faults.open_escape _ _ _ _)) = refl
+ruled_kind edition kind t _ _ (faults.display _ _ _ _ _ _ (faults.wrong_escape _ _ _ _)) = refl
+ruled_kind edition kind t _ _ (faults.display _ _ _ _ _ _ (faults.wrong_byte _ _)) = refl
+ruled_kind edition kind t _ _ (faults.display _ _ _ _ _ _ (faults.wrong_utf8 _ _ _ _ _ _)) = refl
 
 row_kind : (edition : Edition) (s there : List ℕ) (f : SyntaxFault) → BareItemFault edition s there f → is_want f
     ≡ false

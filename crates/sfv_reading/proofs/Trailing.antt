@@ -1,9 +1,8 @@
 -- The faults of bare items have kinds of their own, and that something stands after a whole field is the fault of
 -- no reader, but of the ending alone.
 use Rattle.std.proofs.Common.{◌≡◌, ℕ, zero, suc, Bool, true, false, cond, List, [], ◌∷◌, ◌++◌, Option, Some}
-use Rattle.std.proofs.Common.{length, None, Ok, Err, refl, sym, ap, subst, ◌∙◌}
+use Rattle.std.proofs.Common.{length, None, Ok, Err, refl, sym, ap, subst, ◌∙◌, inl, inr}
 use Rattle.std.specs.Prelude.{⊤}
-use Rattle.std.specs.List.{list_any}
 use Rattle.sfv_spec.specs.Classes.{is_key_start, is_key_inner}
 use Rattle.sfv_spec.specs.Values.{Edition, rfc8941, rfc9651, FieldKind, RawField, BareValue}
 use Rattle.sfv_spec.specs.Grammar.{IsFieldText}
@@ -11,11 +10,11 @@ use Rattle.sfv_spec.specs.Events.{TreeEvent, events}
 use Rattle.sfv_spec.specs.Faults.{SyntaxFault, trailing_characters_after_member, trailing_comma}
 use Rattle.sfv_spec.specs.Faults.{trailing_characters_after_parsed_value, expected_inner_list_delimiter}
 use Rattle.sfv_spec.specs.Faults.{unterminated_inner_list, expected_start_of_key}
+use Rattle.sfv_reading.specs.Claims.{IsBytesFault}
 use Rattle.sfv_reading.specs.Judgements.{Reached}
-use Rattle.sfv_reading.specs.Reader.{Fault, Answer, Reader, at_reach, and_then, give, fail, ruled, ◌>>=◌, bind}
-use Rattle.sfv_reading.specs.Reader.{branch, ahead, at_start, back, up_to, span, led_answer, led, go_on, many_within}
-use Rattle.sfv_reading.specs.Reader.{many}
-use Rattle.sfv_reading.specs.Content.{bytes_of, is_colon, content_in, closed_by, bytes_at}
+use Rattle.sfv_reading.specs.Reader.{Fault, Answer, Reader, at_reach, by_rule, and_then, give, fail, ruled, ◌>>=◌, bind}
+use Rattle.sfv_reading.specs.Reader.{branch, ahead, back, up_to, span, led, go_on, many_within, many}
+use Rattle.sfv_reading.specs.Content.{bytes_at}
 use Rattle.sfv_reading.specs.Quoted.{string_at, display_at, StringStops, IsDisplayFault}
 use Rattle.sfv_reading.specs.Bare.{sign_at, long_at, decimal_at, fraction_at, point_at, whole_at, number_at, boolean_at}
 use Rattle.sfv_reading.specs.Bare.{token_at, date_at, quoted_at, bare_at}
@@ -24,6 +23,9 @@ use Rattle.sfv_reading.specs.Fields.{whole_field_at, ending, read_field}
 use Rattle.sfv_reading.proofs.sound.Combinators.{Somewhere, Steady-span}
 use Rattle.sfv_reading.proofs.sound.Fields.{FieldGoes, Sound-field}
 use Rattle.sfv_reading.proofs.complete.Combinators.{bind_complete}
+use Rattle.sfv_reading.proofs.rules.Combinators.{Rules, Rules-give, Rules-steady, Rules-led, Rules-branch, Rules-ahead}
+use Rattle.sfv_reading.proofs.rules.Combinators.{Rules-back, fault_at, fail_at}
+use Rattle.sfv_reading.proofs.rules.ByteSequences.{bytes_fault}
 use Rattle.sfv_reading.proofs.rules.Quoted.{string_fault, display_fault}
 use Rattle.sfv_reading.proofs.places.Calls.{Leaf, bare, key, leaf_at, like_self}
 use Rattle.sfv_reading.proofs.places.Walks.{faulty, Met, Elsewhere, Found, called, elsewhere}
@@ -38,81 +40,51 @@ IsOther expected_inner_list_delimiter = ⊥
 IsOther unterminated_inner_list = ⊥
 IsOther _ = ⊤
 
--- a value, or a fault of another kind
-abbrev pub Shunned : {A : Type 0} → Answer A → Type 0
-Shunned (Ok x) = ⊤
-Shunned (Err e) = IsOther e.kind
-
 -- no fault of a reader is of these kinds
-pub record Shuns {A : Type 0} (f : Reader A) : Type 0 where
-  pub shuns : (t : List ℕ) → Shunned (f t)
+abbrev pub Shuns : {A : Type 0} → Reader A → Type 0
+Shuns f = Rules f (λ _ e. IsOther e.kind)
 
 -- ---- the combinators
 
 pub Shuns-give : {A : Type 0} (v : A) → Shuns (give v)
-unfolding give
-Shuns-give v = record { shuns = λ t. tt }
+Shuns-give v = Rules-give v _
 
 pub Shuns-fail : {A : Type 0} (k : SyntaxFault) → IsOther k → Shuns {A = A} (fail k)
-unfolding fail
-Shuns-fail k h = record { shuns = λ t. h }
+Shuns-fail {A} k h = record { rules = λ t e i. fail_at A k (λ _ e. IsOther e.kind) t e i h }
 
 pub Shuns-ruled : {A : Type 0} (k : SyntaxFault) → IsOther k → Shuns {A = A} (ruled k)
 unfolding ruled
-Shuns-ruled k h = record { shuns = λ t. h }
-
-led_on : {A : Type 0} (es : List TreeEvent) (a : Answer A) → Shunned a → Shunned (led_answer es a)
-led_on es (Ok x) h = tt
-led_on es (Err e) h = h
+Shuns-ruled {A} k h = record {
+  rules = λ t e i. fault_at {A = A} (λ _ e. IsOther e.kind) t (by_rule k t) e (Err (by_rule k t)) refl h i;
+}
 
 pub Shuns-led : {A : Type 0} (es : List TreeEvent) (f : Reader A) → Shuns f → Shuns (led es f)
-unfolding led
-Shuns-led es f h = record { shuns = λ t. led_on es (f t) (h.shuns t) }
+Shuns-led es f h = Rules-led es f _ h
 
-bind_on : {A B : Type 0} (g : A → Reader B) (a : Answer A) → Shunned a → ((v : A) → Shuns (g v))
-    → Shunned (and_then a g)
-bind_on g (Ok x) h k = (k x.0).shuns x.1
-bind_on g (Err e) h k = h
+bind_on : {A B : Type 0} (g : A → Reader B) (a : Answer A) (e : Fault) → ((x : Fault) → a ≡ Err x → IsOther x.kind)
+    → ((v : A) → Shuns (g v)) → and_then a g ≡ Err e → IsOther e.kind
+bind_on g (Ok x) e h k i = (k x.0).rules x.1 e i
+bind_on g (Err x) e h k i = let same : x ≡ e = cc in subst (λ (e : Fault). IsOther e.kind) same (h x refl)
 
 pub Shuns-bind : {A B : Type 0} (f : Reader A) (g : A → Reader B) → Shuns f → ((v : A) → Shuns (g v)) → Shuns (f >>= g)
 unfolding bind
-Shuns-bind f g h k = record { shuns = λ t. bind_on g (f t) (h.shuns t) k }
+Shuns-bind f g h k = record { rules = λ t e i. bind_on g (f t) e (λ x j. h.rules t x j) k i }
 
 pub Shuns-cond : {A : Type 0} (b : Bool) (x y : Reader A) → Shuns x → Shuns y → Shuns (cond b x y)
 Shuns-cond true x y h k = h
 Shuns-cond false x y h k = k
 
-either : {A : Type 0} (b : Bool) (x y : Answer A) → Shunned x → Shunned y → Shunned (cond b x y)
-either true x y h k = h
-either false x y h k = k
-
 pub Shuns-branch : {A : Type 0} (class : ℕ → Bool) (taken : ℕ → Reader A) (other : Reader A)
     → ((c : ℕ) → Shuns (taken c)) → Shuns other → Shuns (branch class taken other)
-unfolding branch
-Shuns-branch class taken other h k = record { shuns = on }
-  where
-    on : (t : List ℕ) → Shunned (branch class taken other t)
-    on [] = k.shuns []
-    on (c ∷ r) = either (class c) (taken c r) (other (c ∷ r)) ((h c).shuns r) (k.shuns (c ∷ r))
+Shuns-branch class taken other h k = Rules-branch class taken other _ (λ c _. h c) k
 
 pub Shuns-ahead : {A : Type 0} (class : ℕ → Bool) (taken other : Reader A) → Shuns taken → Shuns other
     → Shuns (ahead class taken other)
-unfolding ahead
-Shuns-ahead class taken other h k = record { shuns = on }
-  where
-    on : (t : List ℕ) → Shunned (ahead class taken other t)
-    on [] = k.shuns []
-    on (c ∷ r) = either (class c) (taken (c ∷ r)) (other (c ∷ r)) (h.shuns (c ∷ r)) (k.shuns (c ∷ r))
-
-back_on : {A : Type 0} (k : SyntaxFault) (t : List ℕ) (a : Answer (Option A)) → IsOther k → Shunned a
-    → Shunned (at_start k t a)
-back_on k t (Ok (Some v, r)) o h = tt
-back_on k t (Ok (None, r)) o h = o
-back_on k t (Err e) o h = h
+Shuns-ahead class taken other h k = Rules-ahead class taken other _ (λ c r e _ i. h.rules (c ∷ r) e i)
+    (λ c r e _ i. k.rules (c ∷ r) e i) (λ e i. k.rules [] e i)
 
 pub Shuns-back : {A : Type 0} (k : SyntaxFault) (f : Reader (Option A)) → IsOther k → Shuns f → Shuns (back k f)
-unfolding back
-Shuns-back k f o h = record { shuns = λ t. back_on k t (f t) o (h.shuns t) }
+Shuns-back k f o h = Rules-back k f _ (λ _ _ _. o) h
 
 pub Shuns-up_to : (class : ℕ → Bool) (n : ℕ) → Shuns (up_to class n)
 unfolding up_to
@@ -121,17 +93,12 @@ Shuns-up_to class (suc n) = Shuns-branch _ _ _ (λ c. Shuns-bind _ _ (Shuns-up_t
     (Shuns-give _)
 
 pub Shuns-span : (class : ℕ → Bool) → Shuns (span class)
-unfolding span
-Shuns-span class = record { shuns = on }
-  where
-    on : (t : List ℕ) → Shunned (span class t)
-    on [] = tt
-    on (c ∷ r) = either (class c) _ (Ok ([], c ∷ r)) (bind_on _ (span class r) (on r) (λ cs. Shuns-give (c ∷ cs))) tt
+Shuns-span class = Rules-steady (span class) _ _ (Steady-span class)
 
 pub Shuns-many : {A : Type 0} (parts : A → List TreeEvent) (step : Reader (Option A)) → Shuns step
     → Shuns (many parts step)
 unfolding many many_within
-Shuns-many {A} parts step h = record { shuns = λ t. (within (suc (length t))).shuns t }
+Shuns-many {A} parts step h = record { rules = λ t e i. (within (suc (length t))).rules t e i }
   where
     next : (more : Reader (List A)) → Shuns more → (o : Option A) → Shuns (go_on parts more o)
     next more k None = Shuns-give []
@@ -175,28 +142,18 @@ display_kind expected_inner_list_delimiter t there h = h.ends
 display_kind unterminated_inner_list t there h = h.ends
 display_kind _ t there h = tt
 
--- by what the faults of a reader are
-from_faults : {A : Type 0} (f : Reader A) → ((t : List ℕ) (e : Fault) → f t ≡ Err e → IsOther e.kind) → Shuns f
-from_faults {A} f h = record { shuns = λ t. on t (f t) refl }
-  where
-    on : (t : List ℕ) (a : Answer A) → f t ≡ a → Shunned a
-    on t (Ok x) i = tt
-    on t (Err e) i = h t e i
-
 pub Shuns-string : Shuns string_at
-Shuns-string = from_faults string_at (λ t e i. let h =
-    (string_fault t e i).0 in string_kind e.kind h.left e.rest h.ends)
+Shuns-string = record { rules = λ t e i. let h = (string_fault t e i).0 in string_kind e.kind h.left e.rest h.ends }
 
 pub Shuns-display : Shuns display_at
-Shuns-display = from_faults display_at (λ t e i. display_kind e.kind t e.rest (display_fault t e i).0)
+Shuns-display = record { rules = λ t e i. display_kind e.kind t e.rest (display_fault t e i).0 }
+
+bytes_kind : (t : List ℕ) (e : Fault) → IsBytesFault t e → IsOther e.kind
+bytes_kind t e (inl h) = subst (λ (e : Fault). IsOther e.kind) (sym h.1) tt
+bytes_kind t e (inr h) = subst (λ (e : Fault). IsOther e.kind) (sym h.5) tt
 
 pub Shuns-bytes : Shuns bytes_at
-unfolding bytes_at
-Shuns-bytes = record { shuns = λ t. either (list_any is_colon t) _ _ (closed t _ (bytes_of (content_in t))) tt }
-  where
-    closed : (t content : List ℕ) (value : Option (List ℕ)) → Shunned (closed_by t content value)
-    closed t content (Some bytes) = tt
-    closed t content None = tt
+Shuns-bytes = record { rules = λ t e i. bytes_kind t e (bytes_fault t e i) }
 
 pub Shuns-number : (dated : Bool) → Shuns (number_at dated)
 unfolding number_at sign_at whole_at point_at fraction_at decimal_at long_at
@@ -227,10 +184,6 @@ Shuns-parameters edition = search (shuns_rules, Shuns-key, Shuns-bare) depth 40
 pub Shuns-item : (edition : Edition) → Shuns (item_at edition)
 unfolding item_at
 Shuns-item edition = search (shuns_rules, Shuns-bare, Shuns-parameters) depth 40
-
--- such a fault has a kind of its own
-pub other_kind : {A : Type 0} (f : Reader A) → Shuns f → (t : List ℕ) (e : Fault) → f t ≡ Err e → IsOther e.kind
-other_kind f h t e i = subst Shunned i (h.shuns t)
 
 -- a fault of a key stands at its start
 pub key_fault : (t : List ℕ) (e : Fault) → key_at t ≡ Err e → at_reach expected_start_of_key t ≡ e
@@ -265,12 +218,12 @@ of_no_field edition t bare e m k = on (bare_at edition t) refl m
   where
     on : (a : Answer BareValue) → bare_at edition t ≡ a → Met (faulty e) t a → ⊥
     on (Ok x) i m = m
-    on (Err x) i m = subst IsOther (m.kind ∙ k) (other_kind (bare_at edition) (Shuns-bare edition) t x i)
+    on (Err x) i m = subst IsOther (m.kind ∙ k) ((Shuns-bare edition).rules t x i)
 of_no_field edition t key e m k = on (key_at t) refl m
   where
     on : (a : Answer (List ℕ)) → key_at t ≡ a → Met (faulty e) t a → ⊥
     on (Ok x) i m = m
-    on (Err x) i m = subst IsOther (m.kind ∙ k) (other_kind key_at Shuns-key t x i)
+    on (Err x) i m = subst IsOther (m.kind ∙ k) (Shuns-key.rules t x i)
 
 read_otherwise : (edition : Edition) (kind : FieldKind) (t : List ℕ) (e : Fault) → whole_field_at edition kind t ≡ Err e
     → ¬ (e.kind ≡ trailing_characters_after_parsed_value)

@@ -4,22 +4,17 @@ use Rattle.std.specs.Prelude.{Some, None, Ok, Err, ◌⊎◌, codes}
 use Rattle.sfv_spec.specs.Ascii.{colon}
 use Rattle.sfv_spec.specs.Texts.{RunOf}
 use Rattle.sfv_spec.specs.Classes.{is_one_of}
-use Rattle.sfv_spec.specs.Values.{Edition, rfc9651, FieldKind, RawField, BareValue}
+use Rattle.sfv_spec.specs.Values.{Edition, FieldKind, RawField, BareValue}
 use Rattle.sfv_spec.specs.Grammar.{IsBareText, IsFieldText, IsEnded}
 use Rattle.sfv_spec.specs.Events.{TreeEvent, events}
 use Rattle.sfv_spec.specs.Reach.{IsReach}
 use Rattle.sfv_spec.specs.Visiting.{BeginsEvents, BeginsEventsAfter}
 use Rattle.sfv_spec.specs.Base64.{IsBase64Text, symbols}
-use Rattle.sfv_spec.specs.Faults.{SyntaxFault, trailing_comma, unterminated_byte_sequence}
-use Rattle.sfv_spec.specs.Faults.{invalid_byte_sequence, unterminated_escape_sequence, invalid_escape_sequence}
-use Rattle.sfv_spec.specs.Faults.{unterminated_display_string, invalid_display_string_character}
-use Rattle.sfv_spec.specs.Faults.{invalid_utf8_in_display_string, IsTrailingComma, WantsBetween}
-use Rattle.sfv_spec.specs.Faults.{IsUnterminatedByteSequence, IsLoneSymbol, IsUnterminatedDisplay, IsUnterminatedEscape}
-use Rattle.sfv_spec.specs.Faults.{IsInvalidEscape, IsInvalidDisplayByte, IsInvalidUtf8}
+use Rattle.sfv_spec.specs.Faults.{SyntaxFault, trailing_comma, unterminated_byte_sequence, invalid_byte_sequence}
+use Rattle.sfv_spec.specs.Faults.{IsTrailingComma, WantsBetween, IsUnterminatedByteSequence, IsLoneSymbol}
 use Rattle.sfv_reading.specs.Reader.{has_rule, Fault, by_rule, visited}
 use Rattle.sfv_reading.specs.Content.{valid_from, bytes_of, fault_place, HasNoColon, content_fault}
 use Rattle.sfv_reading.specs.Content.{bytes_at}
-use Rattle.sfv_reading.specs.Quoted.{display_at}
 use Rattle.sfv_reading.specs.Bare.{bare_at}
 use Rattle.sfv_reading.specs.Fields.{whole_field_at, read_field}
 
@@ -88,7 +83,7 @@ BareIsExact =
     × ((edition : Edition) (t : List ℕ) (e : Fault) → bare_at edition t ≡ Err e → (s rest : List ℕ) → t ≡ s ++ rest
     → IsSomeBareText edition s → ¬ IsEnded rest)
 
--- ---- the insides of byte sequences, strings and display strings
+-- ---- the insides of byte sequences
 
 -- a content is Base64 of the bytes that `bytes_of` gives, and of no others
 abbrev pub GivesTheBytes : Type 0
@@ -125,27 +120,3 @@ BytesRules =
     ↔ IsUnterminatedByteSequence edition kind whole index)
     × ((edition : Edition) (kind : FieldKind) (whole : List ℕ) (index : ℕ)
     → IsFaultOfBytes edition kind whole invalid_byte_sequence index ↔ IsLoneSymbol edition kind whole index)
-
--- In a text in which a bare item is wanted after before, and a Display String begins there, the reader gives
--- this fault, where so much of the whole is left.
-pub record IsFaultOfDisplay (edition : Edition) (kind : FieldKind) (whole : List ℕ) (k : SyntaxFault)
-    (index : ℕ) : Type 0 where
-  pub known : edition ≡ rfc9651
-  pub before : List ℕ
-  pub inside : List ℕ
-  pub there : List ℕ
-  pub place : WantsBetween edition kind whole before (codes "%\"" ++ inside)
-  pub fault : display_at inside ≡ Err (by_rule k there)
-  pub here : index + length there ≡ length whole
-
--- a rule of the fault table says where the reader gives this fault
-abbrev pub RuleOf : (Edition → FieldKind → List ℕ → ℕ → Type 0) → SyntaxFault → Type 0
-RuleOf R k = (edition : Edition) (kind : FieldKind) (whole : List ℕ) (index : ℕ)
-    → IsFaultOfDisplay edition kind whole k index ↔ R edition kind whole index
-
--- the faults of a Display String are those of its rules, each at its place
-abbrev pub DisplayRules : Type 0
-DisplayRules =
-    RuleOf IsUnterminatedDisplay unterminated_display_string × RuleOf IsUnterminatedEscape unterminated_escape_sequence
-    × RuleOf IsInvalidEscape invalid_escape_sequence
-    × RuleOf IsInvalidDisplayByte invalid_display_string_character × RuleOf IsInvalidUtf8 invalid_utf8_in_display_string

@@ -6,7 +6,7 @@ use Rattle.std.specs.Prelude.{IfErr, OnOk}
 use Rattle.std.specs.List.{AllByRecursion}
 use Rattle.std.proofs.lemmas.List.{take_more, map-append, append-nil}
 use Rattle.sfv_spec.specs.Texts.{joined}
-use Rattle.sfv_serializer.specs.Written.{lead, led, still_first}
+use Rattle.sfv_serializer.specs.Written.{lead, in_a_row, still_first}
 
 -- whether there are none
 abbrev pub is_none : {A : Type 0} → List A → Bool
@@ -48,12 +48,12 @@ is_none-push (y ∷ ys) x = refl
 
 -- one more part is written
 pub row_more : {A : Type 0} (text_of : A → List ℕ)
-    (IsGood : A → Type 0) (s : List ℕ) (xs ys : List A) (is_first is_next : Bool) (before output led new : List ℕ)
+    (IsGood : A → Type 0) (s : List ℕ) (xs ys : List A) (is_first is_next : Bool) (before output ready new : List ℕ)
     (x : A)
     → IsRow text_of IsGood s xs is_first before output → is_next ≡ false → ys ≡ xs ++ x ∷ []
-    → led ≡ output ++ cond is_first [] s → new ≡ led ++ text_of x → IsGood x
+    → ready ≡ output ++ cond is_first [] s → new ≡ ready ++ text_of x → IsGood x
     → IsRow text_of IsGood s ys is_next before new
-row_more {A} text_of IsGood s xs ys is_first is_next before output led new x row f y l n g =
+row_more {A} text_of IsGood s xs ys is_first is_next before output ready new x row f y l n g =
     let so_far : List ℕ = joined s (map text_of xs) in
     let between : List ℕ = cond is_first [] s in
     let flag : is_first ≡ is_none (map text_of xs) = row.first ∙ sym (is_none-map text_of xs) in
@@ -117,7 +117,7 @@ anyway X (Err e) x = x
 pub record IsLed {A : Type 0} (text_of : A → List ℕ) (IsGood : A → Type 0) (separator : List ℕ) (xs : List A)
     (was_first is_first : Bool) (before output : List ℕ) : Type 0 where
   pub first : is_first ≡ still_first was_first xs
-  pub text : output ≡ before ++ led was_first separator (map text_of xs)
+  pub text : output ≡ before ++ in_a_row was_first separator (map text_of xs)
   pub good : AllByRecursion IsGood xs
 
 still_first-push : {A : Type 0} (b : Bool) (xs : List A) (x : A) → still_first b (xs ++ x ∷ []) ≡ false
@@ -130,32 +130,32 @@ still_first-false [] = refl
 still_first-false (y ∷ ys) = refl
 
 -- one more text, after the separator unless it is the first
-led_push : {A : Type 0} (text_of : A → List ℕ) (s : List ℕ) (b : Bool) (xs : List A) (x : A)
-    → led b s (map text_of (xs ++ x ∷ []))
-    ≡ (led b s (map text_of xs) ++ lead (still_first b xs) s) ++ text_of x
-led_push text_of s b [] x = append-nil (lead b s ++ text_of x)
-led_push text_of s b (y ∷ ys) x =
-    let rest : List ℕ = led false s (map text_of ys) in
+in_a_row_push : {A : Type 0} (text_of : A → List ℕ) (s : List ℕ) (b : Bool) (xs : List A) (x : A)
+    → in_a_row b s (map text_of (xs ++ x ∷ []))
+    ≡ (in_a_row b s (map text_of xs) ++ lead (still_first b xs) s) ++ text_of x
+in_a_row_push text_of s b [] x = append-nil (lead b s ++ text_of x)
+in_a_row_push text_of s b (y ∷ ys) x =
+    let rest : List ℕ = in_a_row false s (map text_of ys) in
     let front : List ℕ = lead b s ++ text_of y in
-    ap (λ (t : List ℕ). front ++ t) (led_push text_of s false ys x
+    ap (λ (t : List ℕ). front ++ t) (in_a_row_push text_of s false ys x
     ∙ ap (λ (f : Bool). (rest ++ lead f s) ++ text_of x) (still_first-false ys))
     ∙ sym (append_assoc front (rest ++ s) (text_of x))
     ∙ ap (λ (t : List ℕ). t ++ text_of x) (sym (append_assoc front rest s))
 
 -- one more part is written
-pub led_more : {A : Type 0} (text_of : A → List ℕ) (IsGood : A → Type 0) (s : List ℕ) (xs : List A)
+pub in_a_row_more : {A : Type 0} (text_of : A → List ℕ) (IsGood : A → Type 0) (s : List ℕ) (xs : List A)
     (was_first is_first is_next : Bool) (before output front new : List ℕ) (x : A)
     → IsLed text_of IsGood s xs was_first is_first before output → is_next ≡ false
     → front ≡ output ++ lead is_first s → new ≡ front ++ text_of x → IsGood x
     → IsLed text_of IsGood s (xs ++ x ∷ []) was_first is_next before new
-led_more text_of IsGood s xs was_first is_first is_next before output front new x row f l n g =
-    let so_far : List ℕ = led was_first s (map text_of xs) in
+in_a_row_more text_of IsGood s xs was_first is_first is_next before output front new x row f l n g =
+    let so_far : List ℕ = in_a_row was_first s (map text_of xs) in
     let between : List ℕ = lead (still_first was_first xs) s in
     record {
       first = f ∙ sym (still_first-push was_first xs x);
       text = n ∙ ap (λ (t : List ℕ). t ++ text_of x) (l ∙ ap (λ (t : List ℕ). t ++ lead is_first s) row.text
           ∙ ap (λ (b : Bool). (before ++ so_far) ++ lead b s) row.first ∙ append_assoc before so_far between)
           ∙ append_assoc before (so_far ++ between) (text_of x)
-          ∙ ap (λ (t : List ℕ). before ++ t) (sym (led_push text_of s was_first xs x));
+          ∙ ap (λ (t : List ℕ). before ++ t) (sym (in_a_row_push text_of s was_first xs x));
       good = all_push IsGood xs x row.good g;
     }

@@ -21,7 +21,7 @@ use Rattle.sfv_serializer.specs.Scripts.{WritesInner, WritesList, WritesDictiona
 use Rattle.sfv_serializer.specs.declared.kind.InnerListItems.{InnerListItems}
 use Rattle.sfv_serializer.specs.declared.parts.Parts.{Parts}
 use Rattle.sfv_serializer.specs.declared.sink.Sink.{Ghosts as Sink}
-use Rattle.sfv_serializer.specs.Written.{Extends, lead, led, still_first}
+use Rattle.sfv_serializer.specs.Written.{Extends, lead, in_a_row, still_first}
 use Rattle.sfv_serializer.specs.Serializers.{HasMoreParts, KeepsParts, GrowsParts, AreCutBack, lent_parts, parts_sink}
 use Rattle.sfv_serializer.specs.Serializers.{has_no_part, length_before}
 use Rattle.sfv_serializer.proofs.Rows.{IsLed, mapped_more, still_first-false}
@@ -36,26 +36,26 @@ still_first-map f b [] = refl
 still_first-map f b (x ∷ xs) = refl
 
 -- parts in a row after others
-led_append : (s : List ℕ) (b : Bool) (xs ys : List (List ℕ))
-    → led b s (xs ++ ys) ≡ led b s xs ++ led (still_first b xs) s ys
-led_append s b [] ys = refl
-led_append s b (x ∷ xs) ys =
+in_a_row_append : (s : List ℕ) (b : Bool) (xs ys : List (List ℕ))
+    → in_a_row b s (xs ++ ys) ≡ in_a_row b s xs ++ in_a_row (still_first b xs) s ys
+in_a_row_append s b [] ys = refl
+in_a_row_append s b (x ∷ xs) ys =
     let front : List ℕ = lead b s ++ x in
-    let rest : List ℕ = led false s xs in
-    let behind : List ℕ = led false s ys in
-    let next : led false s (xs ++ ys) ≡ rest ++ behind = led_append s false xs ys
-    ∙ ap (λ (c : Bool). rest ++ led c s ys) (still_first-false xs) in
+    let rest : List ℕ = in_a_row false s xs in
+    let behind : List ℕ = in_a_row false s ys in
+    let next : in_a_row false s (xs ++ ys) ≡ rest ++ behind = in_a_row_append s false xs ys
+    ∙ ap (λ (c : Bool). rest ++ in_a_row c s ys) (still_first-false xs) in
     ap (λ (t : List ℕ). front ++ t) next ∙ sym (append_assoc front rest behind)
 
 -- the first part has no separator
-pub led_first : (s : List ℕ) (xs : List (List ℕ)) → led true s xs ≡ joined s xs
-led_first s [] = refl
-led_first s (x ∷ []) = append-nil x
-led_first s (x ∷ y ∷ xs) =
-    let behind : List ℕ = led false s xs in
+pub in_a_row_first : (s : List ℕ) (xs : List (List ℕ)) → in_a_row true s xs ≡ joined s xs
+in_a_row_first s [] = refl
+in_a_row_first s (x ∷ []) = append-nil x
+in_a_row_first s (x ∷ y ∷ xs) =
+    let behind : List ℕ = in_a_row false s xs in
     ap (λ (t : List ℕ). x ++ t) (append_assoc s y behind)
     ∙ sym (append_assoc x s (y ++ behind))
-    ∙ ap (λ (t : List ℕ). (x ++ s) ++ t) (led_first s (y ∷ xs))
+    ∙ ap (λ (t : List ℕ). (x ++ s) ++ t) (in_a_row_first s (y ∷ xs))
 
 all_append : {A : Type 0} (P : A → Type 0) (xs ys : List A) → AllByRecursion P xs → AllByRecursion P ys
     → AllByRecursion P (xs ++ ys)
@@ -63,22 +63,22 @@ all_append P [] ys h k = k
 all_append P (x ∷ xs) ys h k = (h.0, all_append P xs ys h.1 k)
 
 -- more parts are written
-pub led_parts : {A : Type 0} (text_of : A → List ℕ) (IsGood : A → Type 0) (s : List ℕ) (xs ys : List A)
+pub in_a_row_parts : {A : Type 0} (text_of : A → List ℕ) (IsGood : A → Type 0) (s : List ℕ) (xs ys : List A)
     (was_first is_first is_next : Bool) (before output new : List ℕ)
     → IsLed text_of IsGood s xs was_first is_first before output → is_next ≡ still_first is_first ys
-    → new ≡ output ++ led is_first s (map text_of ys) → AllByRecursion IsGood ys
+    → new ≡ output ++ in_a_row is_first s (map text_of ys) → AllByRecursion IsGood ys
     → IsLed text_of IsGood s (xs ++ ys) was_first is_next before new
-led_parts text_of IsGood s xs ys was_first is_first is_next before output new row f n g =
-    let so_far : List ℕ = led was_first s (map text_of xs) in
-    let behind : Bool → List ℕ = λ b. led b s (map text_of ys) in
+in_a_row_parts text_of IsGood s xs ys was_first is_first is_next before output new row f n g =
+    let so_far : List ℕ = in_a_row was_first s (map text_of xs) in
+    let behind : Bool → List ℕ = λ b. in_a_row b s (map text_of ys) in
     let flag : is_first ≡ still_first was_first (map text_of xs) =
     row.first ∙ sym (still_first-map text_of was_first xs) in
     record {
       first = f ∙ ap (λ (b : Bool). still_first b ys) row.first ∙ sym (still_first-append was_first xs ys);
       text = n ∙ ap (λ (t : List ℕ). t ++ behind is_first) row.text ∙ append_assoc before so_far (behind is_first)
           ∙ ap (λ (t : List ℕ). before ++ t) (ap (λ (b : Bool). so_far ++ behind b) flag
-          ∙ sym (led_append s was_first (map text_of xs) (map text_of ys))
-          ∙ ap (led was_first s) (sym (map-append text_of xs ys)));
+          ∙ sym (in_a_row_append s was_first (map text_of xs) (map text_of ys))
+          ∙ ap (in_a_row was_first s) (sym (map-append text_of xs ys)));
       good = all_append IsGood xs ys row.good g;
     }
 
@@ -94,7 +94,7 @@ item_more items n x was_first is_first is_next before output new lt is row f e g
     let text : List ℕ = item_text (called_item x) in
     subst (λ (is : List RawItem). IsLed item_text IsItem (codes " ") is was_first is_next before new)
     (sym (mapped_more called_item items n x lt is))
-    (led_parts item_text IsItem (codes " ") (map called_item (take n items)) (called_item x ∷ []) was_first is_first is_next
+    (in_a_row_parts item_text IsItem (codes " ") (map called_item (take n items)) (called_item x ∷ []) was_first is_first is_next
     before output new row f (e ∙ ap (λ (t : List ℕ). output ++ t) (sym (append-nil (space ++ text)))) (good, tt))
 
 -- the calls so far, and one more
@@ -103,7 +103,7 @@ pub calls_more : {C D M : Type 0} (given : D → Option M) (f : C → D) (text_o
     → n < length calls → x ≡ get_or calls n x
     → IsLed text_of IsGood s (filter_map given (map f (take n calls))) was_first is_first before output
     → is_next ≡ still_first is_first (filter_map given (f x ∷ []))
-    → new ≡ output ++ led is_first s (map text_of (filter_map given (f x ∷ [])))
+    → new ≡ output ++ in_a_row is_first s (map text_of (filter_map given (f x ∷ [])))
     → AllByRecursion IsGood (filter_map given (f x ∷ []))
     → IsLed text_of IsGood s (filter_map given (map f (take (n + 1) calls))) was_first is_next before new
 calls_more {D = D} {M} given f text_of IsGood s calls n x was_first is_first is_next before output new lt is row e
@@ -113,7 +113,7 @@ calls_more {D = D} {M} given f text_of IsGood s calls n x was_first is_first is_
     ap (λ (ds : List D). filter_map given ds) (mapped_more f calls n x lt is)
     ∙ filter_map-append given (map f (take n calls)) (f x ∷ []) in
     subst (λ (ms : List M). IsLed text_of IsGood s ms was_first is_next before new) (sym more)
-    (led_parts text_of IsGood s _ _ was_first is_first is_next before output new row e t good)
+    (in_a_row_parts text_of IsGood s _ _ was_first is_first is_next before output new row e t good)
 
 -- what is written after other text
 extends_again : (a b c : List ℕ) → Extends a b → Extends b c → Extends a c
@@ -191,13 +191,13 @@ written_behind before now new front piece more e n = n ∙ ap (λ (t : List ℕ)
 -- an inner list that was begun, written and ended
 pub inner_list_ended : (before t1 t2 t3 t4 front opening : List ℕ) (none : Bool) (items : List RawItem)
     (params : RawParameters)
-    → t1 ≡ before ++ (front ++ opening) → t2 ≡ t1 ++ led none (codes " ") (map item_text items) → none ≡ true
+    → t1 ≡ before ++ (front ++ opening) → t2 ≡ t1 ++ in_a_row none (codes " ") (map item_text items) → none ≡ true
     → t3 ≡ t2 ++ codes ")" → t4 ≡ t3 ++ parameters_text params
     → t4 ≡ before ++ (front ++ ended_text opening items params)
 inner_list_ended before t1 t2 t3 t4 front opening none items params e1 e2 n e3 e4 =
     let inside : List ℕ = joined (codes " ") (map item_text items) in
-    let row : led none (codes " ") (map item_text items) ≡ inside =
-    ap (λ (b : Bool). led b (codes " ") (map item_text items)) n ∙ led_first (codes " ") (map item_text items) in
+    let row : in_a_row none (codes " ") (map item_text items) ≡ inside =
+    ap (λ (b : Bool). in_a_row b (codes " ") (map item_text items)) n ∙ in_a_row_first (codes " ") (map item_text items) in
     let begun = written_behind before t1 t2 front opening inside e1 (e2 ∙ ap (λ (t : List ℕ). t1 ++ t) row) in
     let closed = written_behind before t2 t3 front (opening ++ inside) (codes ")") begun e3 in
     written_behind before t3 t4 front ((opening ++ inside) ++ codes ")") (parameters_text params) closed e4
@@ -207,7 +207,7 @@ module _ {W K : Type 0} (w : Sink W) (again : (r s t : W) → w.same r s → w.s
   pub inner_ended : (s e v : Parts W K) (t u : Parts (MutBor (Parts W K)) InnerListItems) (front opening : List ℕ)
       (items : List RawItem) (params : RawParameters) (was_first none : Bool)
       → HasMoreParts w s (parts_sink t).now (front ++ opening) was_first → has_no_part t ≡ true
-      → HasMoreParts (lent_parts w) t u (led (has_no_part t) (codes " ") (map item_text items)) none
+      → HasMoreParts (lent_parts w) t u (in_a_row (has_no_part t) (codes " ") (map item_text items)) none
       → HasMoreParts w (parts_sink u).now e (codes ")") false → HasMoreParts w e v (parameters_text params) false
       → HasMoreParts w s v (front ++ ended_text opening items params) false
   inner_ended s e v t u front opening items params was_first none begun n row ended behind = (
@@ -228,7 +228,7 @@ named_inner key items params = simp append_assoc (ap (λ (t : List ℕ). key ++ 
 -- an inner list that was begun after a key, written and ended
 pub named_list_ended : (before t1 t2 t3 t4 front key : List ℕ) (none : Bool) (items : List RawItem)
     (params : RawParameters)
-    → t1 ≡ before ++ (front ++ (key ++ codes "=(")) → t2 ≡ t1 ++ led none (codes " ") (map item_text items) → none ≡ true
+    → t1 ≡ before ++ (front ++ (key ++ codes "=(")) → t2 ≡ t1 ++ in_a_row none (codes " ") (map item_text items) → none ≡ true
     → t3 ≡ t2 ++ codes ")" → t4 ≡ t3 ++ parameters_text params
     → t4 ≡ before ++ (front ++ dictionary_member_text (key, inner_list (record { items = items; parameters = params })))
 named_list_ended before t1 t2 t3 t4 front key none items params e1 e2 n e3 e4 =

@@ -15,7 +15,8 @@ use Rattle.sfv_spec.specs.Strings.{is_escaped_in_string, is_plain_in_string}
 use Rattle.sfv_reading.proofs.quoted.StringSteps as in_string
 use Rattle.sfv_reading.proofs.quoted.DisplaySteps as in_display
 use Rattle.sfv_serializer.specs.Written.{Extends, IsCutBack}
-use Rattle.sfv_serializer.specs.Quoted.{plain_of, piece_of}
+use Rattle.sfv_spec.proofs.Marks.{plain_of}
+use Rattle.sfv_serializer.specs.Quoted.{piece_of}
 
 flat_map_append : (f : ℕ → List ℕ) (xs ys : List ℕ) → flat_map f (xs ++ ys) ≡ flat_map f xs ++ flat_map f ys
 flat_map_append f [] ys = refl

@@ -2,18 +2,12 @@
 use Rattle.std.specs.Prelude.{ℕ, Bool, true, false, List}
 use Rattle.sfv_spec.specs.Classes.{is_string_byte}
 use Rattle.sfv_spec.specs.Values.{is_byte}
-use Rattle.sfv_spec.specs.Strings.{is_plain_in_string, is_plain_in_display}
 use Rattle.sfv_spec.specs.Canonical.{string_piece, display_piece}
 
 -- the bytes that the text may hold
 abbrev pub held_of : Bool → ℕ → Bool
 held_of true = is_byte
 held_of false = is_string_byte
-
--- the bytes that the text writes for themselves
-abbrev pub plain_of : Bool → ℕ → Bool
-plain_of true = is_plain_in_display
-plain_of false = is_plain_in_string
 
 -- what is written for a byte
 abbrev pub piece_of : Bool → ℕ → List ℕ

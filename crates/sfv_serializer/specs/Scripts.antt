@@ -9,7 +9,7 @@ use Rattle.sfv_text.specs.KeyText.{KeyRef, key_text}
 use Rattle.sfv_bare.specs.BareItems.{ref_value}
 use Rattle.sfv_serializer.specs.declared.parts.Parts.{Parts}
 use Rattle.sfv_serializer.specs.declared.sink.Sink.{Ghosts as Sink}
-use Rattle.sfv_serializer.specs.Written.{led, still_first}
+use Rattle.sfv_serializer.specs.Written.{in_a_row, still_first}
 use Rattle.sfv_serializer.specs.Serializers.{KeepsParts, HasMoreParts, HasNextPart}
 use Rattle.sfv_serializer.specs.declared.script.ParamCall.{ParamCall}
 use Rattle.sfv_serializer.specs.declared.script.ItemCalls.{ItemCalls}
@@ -64,11 +64,11 @@ handed_dictionary members = handed dictionary_field (dictionary_calls members)
 
 -- what calls write, after members or as the first of a list or a dictionary
 abbrev pub list_text : Bool → Calls list_field → List ℕ
-list_text is_first calls = led is_first (codes ", ") (map member_text (described list_field calls))
+list_text is_first calls = in_a_row is_first (codes ", ") (map member_text (described list_field calls))
 
 abbrev pub dictionary_text : Bool → Calls dictionary_field → List ℕ
 dictionary_text is_first calls =
-    led is_first (codes ", ") (map dictionary_member_text (described dictionary_field calls))
+    in_a_row is_first (codes ", ") (map dictionary_member_text (described dictionary_field calls))
 
 module _ {W : Type 0} (w : Sink W) where
   -- an inner list was written after its opening, or abandoned

@@ -58,9 +58,9 @@ pub record IsCutBack (len : ℕ) (old new : List ℕ) : Type 0 where
   pub back : (before : List ℕ) → IsUtf8 before → len ≡ length before → Extends before old → new ≡ before
 
 -- parts in a row, each after the separator unless it is the first
-abbrev pub led : Bool → List ℕ → List (List ℕ) → List ℕ
-led is_first separator [] = []
-led is_first separator (t ∷ ts) = lead is_first separator ++ t ++ led false separator ts
+abbrev pub in_a_row : Bool → List ℕ → List (List ℕ) → List ℕ
+in_a_row is_first separator [] = []
+in_a_row is_first separator (t ∷ ts) = lead is_first separator ++ t ++ in_a_row false separator ts
 
 -- whether none stands yet, when these were added
 abbrev pub still_first : {A : Type 0} → Bool → List A → Bool
@@ -77,7 +77,7 @@ lent_entry member = member_tree member.now
 abbrev pub lent_member : Bor (List ℕ) × Bor ListEntry → List ℕ × RawMember
 lent_member member = (member.0.now, member_tree member.1.now)
 
--- each is a value of its class
+-- each part of each of them is in its range or class, and no key stands twice in parameters
 abbrev pub AreItems : List (Bor Item) → Type 0
 AreItems = AllByRecursion (λ i. IsItem (lent_item i) × IsOrderedItem (lent_item i))
 
@@ -90,10 +90,10 @@ AreMembers = AllByRecursion (λ m. (IsTrue (is_key m.0.now) × IsMember (member_
 
 -- what is written of them
 abbrev pub items_text : Bool → List (Bor Item) → List ℕ
-items_text is_first items = led is_first (codes " ") (map (λ i. item_text (lent_item i)) items)
+items_text is_first items = in_a_row is_first (codes " ") (map (λ i. item_text (lent_item i)) items)
 
 abbrev pub entries_text : Bool → List (Bor ListEntry) → List ℕ
-entries_text is_first members = led is_first (codes ", ") (map (λ m. member_text (lent_entry m)) members)
+entries_text is_first members = in_a_row is_first (codes ", ") (map (λ m. member_text (lent_entry m)) members)
 
 abbrev pub members_text : Bool → List (Bor (List ℕ) × Bor ListEntry) → List ℕ
-members_text is_first members = led is_first (codes ", ") (map (λ m. dictionary_member_text (lent_member m)) members)
+members_text is_first members = in_a_row is_first (codes ", ") (map (λ m. dictionary_member_text (lent_member m)) members)

@@ -5,7 +5,7 @@ ghost use Rattle.sfv_spec.specs.Values.{display_string};
 ghost use Rattle.sfv_spec.specs.Canonical.{hexadecimal_digit, bare_text};
 ghost use Rattle.sfv_serializer.specs.Written.{Appends};
 
-use crate::quoted::{QuotedText, serialize_inside};
+use crate::quoted::{Escaping, serialize_inside};
 use sfv_base::error::OutOfMemory;
 use sfv_base::runs::{PlainInDisplayString, is_of, split_run};
 use std::alloc::{AllocError, Allocator};
@@ -24,9 +24,9 @@ fn digit_of(value: u8) -> char
 }
 
 /// The inside of a display string.
-struct InDisplayString;
+struct DisplayEscaping;
 
-impl QuotedText for InDisplayString {
+impl Escaping for DisplayEscaping {
     ghost display = { true };
 
     #[inline(always)]
@@ -57,7 +57,7 @@ pub(crate) fn serialize_display_string<A: Allocator>(
     ensures text { Appends output.old output.new (bare_text (display_string value.now)) result }
 {
     output.push_str("%\"")?;
-    serialize_inside::<InDisplayString, A>(value.as_bytes(), output)?;
+    serialize_inside::<DisplayEscaping, A>(value.as_bytes(), output)?;
     output.push('"')?;
     Ok(())
 }

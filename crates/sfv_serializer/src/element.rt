@@ -13,7 +13,7 @@ ghost use Rattle.sfv_spec.specs.Calls.{AllFit};
 ghost use Rattle.sfv_bare.specs.BareItems.{edition_of};
 ghost use Rattle.sfv_tree.specs.Trees.{member_tree};
 ghost use Rattle.sfv_serializer.specs.Versions.{LooksAt, FailsAmong, values_of_item, values_of_member};
-ghost use Rattle.sfv_serializer.specs.Written.{Appends, Extends, led, still_first, lent_item, lent_entry, lent_member};
+ghost use Rattle.sfv_serializer.specs.Written.{Appends, Extends, in_a_row, still_first, lent_item, lent_entry, lent_member};
 
 use crate::item::serialize_item;
 use crate::look::{look_at_item, look_at_member};
@@ -111,7 +111,7 @@ pub(crate) fn serialize_each<E: Element, A: Allocator, I: Iterator<Item = E> + D
     requires can { I.can_next elements }
     requires ends { IsFinite (I.remaining elements) }
     ensures text { IfOk result (λ none. (taken : List _) × Drains I.next_gives elements taken
-        × (string_bytes output.new ≡ string_bytes output.old ++ led is_first separator.now (map E.text taken))
+        × (string_bytes output.new ≡ string_bytes output.old ++ in_a_row is_first separator.now (map E.text taken))
         × (none ≡ still_first is_first taken) × AllByRecursion E.is_valid taken
         × AllFit (edition_of version) (flat_map E.values taken)) }
     ensures failed { IfErr result (FailsAmong I.next_gives elements (flat_map E.values) (edition_of version)) }
@@ -138,7 +138,7 @@ pub(crate) fn append_each<E: Element, A: Allocator, I: Iterator<Item = E> + Drop
     requires can { I.can_next elements }
     requires ends { IsFinite (I.remaining elements) }
     ensures text { IfOk result (λ none. (taken : List _) × Drains I.next_gives elements taken
-        × (string_bytes output.new ≡ string_bytes output.old ++ led is_first separator.now (map E.text taken))
+        × (string_bytes output.new ≡ string_bytes output.old ++ in_a_row is_first separator.now (map E.text taken))
         × (none ≡ still_first is_first taken) × AllByRecursion E.is_valid taken
         × AllFit (edition_of version) (flat_map E.values taken)) }
     ensures failed { IfErr result (FailsAmong I.next_gives elements (flat_map E.values) (edition_of version)) }

@@ -11,7 +11,7 @@ ghost use Rattle.sfv_spec.specs.Values.{rfc9651, IsBareValue};
 ghost use Rattle.sfv_spec.specs.Canonical.{bare_text};
 ghost use Rattle.sfv_spec.specs.Calls.{AllFit};
 ghost use Rattle.sfv_bare.specs.BareItems.{ref_value, edition_of};
-ghost use Rattle.sfv_serializer.specs.Written.{led, still_first};
+ghost use Rattle.sfv_serializer.specs.Written.{in_a_row, still_first};
 ghost use Rattle.sfv_serializer.specs.Versions.{LooksFirst, FailsAmong};
 ghost use Rattle.sfv_serializer.specs.Serializers.{SameParts, KeepsParts, HasMoreParts, HasNextPart, PartsRest, parts_sink};
 ghost use Rattle.sfv_serializer.specs.Serializers.{parts_edition, has_no_part, params_sink, params_name, params_edition};
@@ -128,7 +128,7 @@ impl<W: Sink, K: Kind> Parts<W, K> {
         requires can { I.can_next elements }
         requires ends { IsFinite (I.remaining elements) }
         ensures text { OnOk result ((taken : List _) × Drains I.next_gives elements taken
-            × HasMoreParts W.Sink self.old self.new (led (has_no_part self.old) K.separator (map E.text taken))
+            × HasMoreParts W.Sink self.old self.new (in_a_row (has_no_part self.old) K.separator (map E.text taken))
             (still_first (has_no_part self.old) taken)
             × AllByRecursion E.is_valid taken × AllFit (parts_edition self.old) (flat_map E.values taken)) }
         ensures failed { IfErr result (FailsAmong I.next_gives elements (flat_map E.values) (parts_edition self.old)) }

@@ -2,14 +2,15 @@
 
 ghost use Rattle.std.specs.Prelude.{◌≡◌, ◌++◌, ◌<◌, Bool, length, flat_map, IsFalse, IsTrue, slice_index};
 ghost use Rattle.sfv_spec.specs.Texts.{RunOf};
-ghost use Rattle.sfv_serializer.specs.Quoted.{plain_of, held_of, piece_of};
+ghost use Rattle.sfv_spec.proofs.Marks.{plain_of};
+ghost use Rattle.sfv_serializer.specs.Quoted.{held_of, piece_of};
 ghost use Rattle.sfv_serializer.specs.Written.{Appends};
 
 use sfv_base::error::OutOfMemory;
 use std::alloc::{AllocError, Allocator};
 
 /// A kind of quoted text.
-pub(super) trait QuotedText {
+pub(super) trait Escaping {
     ghost display: { Bool };
 
     /// Whether the text writes this byte of it for itself.
@@ -31,7 +32,7 @@ pub(super) trait QuotedText {
 }
 
 /// Appends the inside of a quoted text, of these bytes.
-pub(super) fn serialize_inside<Q: QuotedText, A: Allocator>(
+pub(super) fn serialize_inside<Q: Escaping, A: Allocator>(
     bytes: &[u8],
     output: &mut String<A>,
 ) -> Result<(), OutOfMemory>

@@ -10,7 +10,7 @@ ghost use Rattle.sfv_spec.specs.Calls.{described};
 ghost use Rattle.sfv_spec.specs.Canonical.{canonical, item_text, dictionary_member_text};
 ghost use Rattle.sfv_bare.specs.BareItems.{edition_of};
 ghost use Rattle.sfv_text.specs.KeyText.{key_text};
-ghost use Rattle.sfv_serializer.specs.Written.{Appends, AppendsOrKeeps, IsReadBack, led, still_first};
+ghost use Rattle.sfv_serializer.specs.Written.{Appends, AppendsOrKeeps, IsReadBack, in_a_row, still_first};
 ghost use Rattle.sfv_serializer.specs.Serializers.{lent_parts, HasMoreParts, HasNextPart, GrowsParts, inner_list_name, has_no_part};
 ghost use Rattle.sfv_serializer.specs.Serializers.{parts_edition};
 ghost use Rattle.sfv_serializer.specs.Versions.{LooksFirst};
@@ -146,7 +146,7 @@ fn write_inner_items<W: Sink, K>(
     requires { parts_edition inner.old ≡ rfc9651 }
     ensures lent { inner_list_name inner.new ≡ inner_list_name inner.old }
     ensures text { OnOk result (HasMoreParts (lent_parts W.Sink) inner.old inner.new
-        (led (has_no_part inner.old) (codes " ") (map item_text (map called_item items.now)))
+        (in_a_row (has_no_part inner.old) (codes " ") (map item_text (map called_item items.now)))
         (still_first (has_no_part inner.old) (map called_item items.now))) }
     ensures value { OnOk result (AllByRecursion IsItem (map called_item items.now)) }
     ensures grows { GrowsParts (lent_parts W.Sink) inner.old inner.new }
@@ -255,7 +255,7 @@ fn write_list_members<W: Sink>(
 }
 
 /// Writes a list, and returns whether a member stands.
-#[tactic(auto, using(crate::proofs::Scripts::led_first))]
+#[tactic(auto, using(crate::proofs::Scripts::in_a_row_first))]
 fn write_list(text: &mut StdString, calls: &[MemberCalls<'_>]) -> Result<bool, OutOfMemory>
     ensures text { Appends text.old text.new (canonical list_field (described_list calls.now)) result }
     ensures member { IfOk result (λ stands. IsTrue stands ↔ HasMember list_field (described_list calls.now)) }
@@ -286,7 +286,7 @@ fn write_dictionary_members<W: Sink>(
 }
 
 /// Writes a dictionary, and returns whether a member stands.
-#[tactic(auto, using(crate::proofs::Scripts::led_first))]
+#[tactic(auto, using(crate::proofs::Scripts::in_a_row_first))]
 fn write_dictionary(
     text: &mut StdString,
     calls: &[(KeyRef<'_>, MemberCalls<'_>)],

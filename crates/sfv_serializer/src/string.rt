@@ -6,7 +6,7 @@ ghost use Rattle.sfv_spec.specs.Canonical.{bare_text};
 ghost use Rattle.sfv_text.specs.StringText.{string_text};
 ghost use Rattle.sfv_serializer.specs.Written.{Appends};
 
-use crate::quoted::{QuotedText, serialize_inside};
+use crate::quoted::{Escaping, serialize_inside};
 use sfv_base::error::OutOfMemory;
 use sfv_base::runs::{PlainInString, split_run};
 use sfv_base::utils::is_escaped_in_string;
@@ -14,9 +14,9 @@ use sfv_text::string_ref::StringRef;
 use std::alloc::{AllocError, Allocator};
 
 /// The inside of a string.
-struct InString;
+struct StringEscaping;
 
-impl QuotedText for InString {
+impl Escaping for StringEscaping {
     ghost display = { false };
 
     #[inline(always)]
@@ -45,7 +45,7 @@ pub(crate) fn serialize_string<A: Allocator>(
     ensures text { Appends output.old output.new (bare_text (string (string_text value.entry))) result }
 {
     output.push('"')?;
-    serialize_inside::<InString, A>(value.as_str().as_bytes(), output)?;
+    serialize_inside::<StringEscaping, A>(value.as_str().as_bytes(), output)?;
     output.push('"')?;
     Ok(())
 }

@@ -1,7 +1,8 @@
--- Bytes that the grammar has, and no definition names: readers and proofs do.
-use Rattle.std.specs.Prelude.{ℕ, Bool, ◌||◌, ◌==◌}
+-- Bytes that the grammar has and classes of them, which no definition names: readers and proofs do.
+use Rattle.std.specs.Prelude.{ℕ, Bool, true, false, ◌||◌, ◌==◌}
 use Rattle.sfv_spec.specs.Ascii.{digit_zero, digit_nine, upper_a, upper_z, lower_a, lower_z}
 use Rattle.sfv_spec.specs.Classes.{is_between}
+use Rattle.sfv_spec.specs.Strings.{is_plain_in_string, is_plain_in_display}
 
 -- b'('
 abbrev pub left_parenthesis : ℕ
@@ -51,3 +52,8 @@ at_sign = 0x40
 unfoldable pub is_symbol : ℕ → Bool
 is_symbol c = is_between upper_a upper_z c || is_between lower_a lower_z c || is_between digit_zero digit_nine c
     || c == plus_sign || c == slash
+
+-- the bytes that a quoted text writes for themselves: true is a Display String, false a String
+abbrev pub plain_of : Bool → ℕ → Bool
+plain_of true = is_plain_in_display
+plain_of false = is_plain_in_string

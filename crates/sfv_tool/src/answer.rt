@@ -1,7 +1,6 @@
 //! What the program returns for an input.
 
 ghost use Rattle.std.specs.Prelude.{◌≡◌, ◌++◌, Some, IfOk, IfErr, codes, string_bytes};
-ghost use Rattle.sfv.specs.Values.{item_field, list_field, dictionary_field};
 ghost use Rattle.sfv.specs.BareItems.{edition_of};
 ghost use Rattle.sfv_tool.specs.Answers.{without_newline, text_or_empty, tool_fault_text};
 ghost use Rattle.sfv_tool.specs.Answers.{IsAnswer, IsToolFault, IsAnswerTo, IsFaultFor, IsPriorityAnswer, IsPriorityFault};
@@ -98,8 +97,9 @@ fn line(alloc: Global, text: Option<String>) -> Result<String, SerializeError>
     Ok(line)
 }
 
-/// Reads the input as an item under the one version, and returns its canonical text for the other, and a newline.
-fn answer_item(
+/// Reads the input as a field of this type under the one version, and returns its canonical text for the other, and a
+/// newline.
+fn answer_as<T: FieldType>(
     alloc: Global,
     seed: HashSeed,
     reading: Version,
@@ -107,55 +107,15 @@ fn answer_item(
     input: &[u8],
 ) -> Result<String, ToolFault>
     ensures accepted { IfOk result (λ text.
-        IsAnswer (edition_of reading) (edition_of writing) item_field input.now (string_bytes text)) }
-    ensures failed { IfErr result (IsToolFault (edition_of reading) (edition_of writing) item_field input.now) }
+        IsAnswer (edition_of reading) (edition_of writing) T.kind input.now (string_bytes text)) }
+    ensures failed { IfErr result (IsToolFault (edition_of reading) (edition_of writing) T.kind input.now) }
 {
     let parser = Parser::new(input)
         .with_version(reading)
         .with_hash_seed(seed);
-    let item = parser.parse::<Item>(alloc)?;
-    let text = item.serialize_for(alloc, writing)?;
-    Ok(line(alloc, Some(text))?)
-}
-
-/// Reads the input as a list under the one version, and returns its canonical text for the other, and a newline.
-fn answer_list(
-    alloc: Global,
-    seed: HashSeed,
-    reading: Version,
-    writing: Version,
-    input: &[u8],
-) -> Result<String, ToolFault>
-    ensures accepted { IfOk result (λ text.
-        IsAnswer (edition_of reading) (edition_of writing) list_field input.now (string_bytes text)) }
-    ensures failed { IfErr result (IsToolFault (edition_of reading) (edition_of writing) list_field input.now) }
-{
-    let parser = Parser::new(input)
-        .with_version(reading)
-        .with_hash_seed(seed);
-    let list = parser.parse::<List>(alloc)?;
-    let text = list.serialize_for(alloc, writing)?;
-    Ok(line(alloc, text)?)
-}
-
-/// Reads the input as a dictionary under the one version, and returns its canonical text for the other, and a newline.
-fn answer_dictionary(
-    alloc: Global,
-    seed: HashSeed,
-    reading: Version,
-    writing: Version,
-    input: &[u8],
-) -> Result<String, ToolFault>
-    ensures accepted { IfOk result (λ text.
-        IsAnswer (edition_of reading) (edition_of writing) dictionary_field input.now (string_bytes text)) }
-    ensures failed { IfErr result (IsToolFault (edition_of reading) (edition_of writing) dictionary_field input.now) }
-{
-    let parser = Parser::new(input)
-        .with_version(reading)
-        .with_hash_seed(seed);
-    let dictionary = parser.parse::<Dictionary>(alloc)?;
-    let text = dictionary.serialize_for(alloc, writing)?;
-    Ok(line(alloc, text)?)
+    let value = parser.parse::<T>(alloc)?;
+    let text = value.serialize_for(alloc, writing)?;
+    Ok(line(alloc, text.into())?)
 }
 
 /// Reads the input, without one closing newline byte, as a field of this type under the one version, and returns its
@@ -178,9 +138,9 @@ pub fn answer(
 {
     let input = without_newline(input);
     match field {
-        Field::Item => answer_item(alloc, seed, reading, writing, input),
-        Field::List => answer_list(alloc, seed, reading, writing, input),
-        Field::Dict => answer_dictionary(alloc, seed, reading, writing, input),
+        Field::Item => answer_as::<Item>(alloc, seed, reading, writing, input),
+        Field::List => answer_as::<List>(alloc, seed, reading, writing, input),
+        Field::Dict => answer_as::<Dictionary>(alloc, seed, reading, writing, input),
     }
 }
 

@@ -9,7 +9,7 @@ ghost use Rattle.sfv.specs.Scripts.{described_list};
 ghost use Rattle.sfv.specs.Errors.{out_of_memory};
 ghost use Rattle.sfv.specs.BareItems.{ref_value};
 ghost use Rattle.sfv.specs.KeyText.{key_text};
-ghost use Rattle.sfv.specs.Written.{keyed_text, led};
+ghost use Rattle.sfv.specs.Written.{keyed_text, in_a_row};
 ghost use Rattle.sfv.specs.Serializers.{lent_parts, HasMoreParts, HasNextPart, GrowsParts, KeepsParts};
 ghost use Rattle.sfv.specs.Serializers.{inner_list_name, has_no_part};
 ghost use Rattle.sfv_uses.specs.Uses.{item_of_one, item_of_two, pair_of, example_dictionary, Adds};
@@ -266,7 +266,7 @@ fn write_pair<W: Sink, K>(
 ) -> Result<(), SerializeError>
     ensures lent { inner_list_name inner.new ≡ inner_list_name inner.old }
     ensures text { OnOk result (HasMoreParts (lent_parts W.Sink) inner.old inner.new
-        (led (has_no_part inner.old) (codes " ") (map item_text (pair_of (ref_value first.entry)
+        (in_a_row (has_no_part inner.old) (codes " ") (map item_text (pair_of (ref_value first.entry)
         (key_text param.entry.0) (ref_value param.entry.1) (ref_value second.entry)))) false) }
 {
     put_with(inner, first, param)?;

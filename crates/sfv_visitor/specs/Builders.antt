@@ -79,8 +79,8 @@ has_ended (ended m) = true
 has_ended p = false
 
 -- the item that is being read of a member: its own, or one of its inner list
-abbrev pub item_of : PartialMember → Option RawItem
-item_of m = option_map (λ value. item_with value m.params.entries) m.bare_item
+abbrev pub item_in_hand : PartialMember → Option RawItem
+item_in_hand m = option_map (λ value. item_with value m.params.entries) m.bare_item
 
 -- the place of what is read of a member: of an item of its own, or of one of an inner list, or between the items of one
 abbrev pub shown : Place → Option RawItem → Option InnerList → MemberPlace
@@ -93,7 +93,7 @@ shown places.Head None None = item_head
 shown p None None = begun
 
 abbrev pub member_place : PartialMember → MemberPlace
-member_place m = shown m.place (item_of m) m.inner
+member_place m = shown m.place (item_in_hand m) m.inner
 
 -- the seed of the parameters that are made next
 abbrev pub member_seed : PartialMember → HashSeed
@@ -105,7 +105,7 @@ whole_member i (Some l) = Some (inner_list (inner_list_tree l))
 whole_member i None = option_map item i
 
 abbrev pub whole_of : PartialMember → Option RawMember
-whole_of m = whole_member (item_of m) m.inner
+whole_of m = whole_member (item_in_hand m) m.inner
 
 abbrev pub ended_with : Option RawMember → MemberPlace
 ended_with (Some m) = ended m

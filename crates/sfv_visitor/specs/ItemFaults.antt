@@ -5,8 +5,8 @@ use Rattle.sfv_visitor.specs.declared.visitor.ItemFault.{ItemFault}
 use Rattle.sfv_visitor.specs.declared.visitor.ItemFault.TheVariants as faults
 
 -- what the fault of a visitor of an item prints
-abbrev pub fault_text : ItemFault → List ℕ
-fault_text (faults.WrongType expected got) =
+abbrev pub item_fault_text : ItemFault → List ℕ
+item_fault_text (faults.WrongType expected got) =
     codes "unexpected bare item type: expected " ++ kind_text expected ++ codes ", got " ++ kind_text got
-fault_text faults.NoItem = codes "no item"
-fault_text faults.OutOfMemory = codes "out of memory"
+item_fault_text faults.NoItem = codes "no item"
+item_fault_text faults.OutOfMemory = codes "out of memory"

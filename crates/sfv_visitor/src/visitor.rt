@@ -2,7 +2,7 @@
 
 ghost use Rattle.std.specs.Prelude.{◌≡◌, ⊤, Some, OnOk, IfOk, IfErr};
 ghost use Rattle.sfv_spec.specs.Events.{TreeEvent};
-ghost use Rattle.sfv_visitor.specs.ItemFaults.{fault_text};
+ghost use Rattle.sfv_visitor.specs.ItemFaults.{item_fault_text};
 ghost use Rattle.sfv_visitor.specs.Events.{event_of};
 ghost use Rattle.sfv_visitor.specs.declared.visitor.Event.{Event};
 
@@ -134,7 +134,7 @@ pub enum ItemFault {
 }
 
 impl fmt::Display for ItemFault {
-    ghost output = { λ fault. Some (fault_text fault) };
+    ghost output = { λ fault. Some (item_fault_text fault) };
 
     fn fmt<W: fmt::Write>(&self, f: &mut fmt::Formatter<W>) -> fmt::Result {
         match self {

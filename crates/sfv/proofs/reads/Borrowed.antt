@@ -18,9 +18,9 @@ use Rattle.sfv_bare.specs.declared.bare.StringFromInput.{StringFromInput}
 use Rattle.sfv_reading.specs.Reader.{Fault, byte, span}
 use Rattle.sfv_reading.proofs.sound.Combinators.{Steady-span}
 use Rattle.sfv.specs.declared.parser.item.ReadParameter.{ReadParameter}
-use Rattle.sfv.specs.Cursor.{TakesIf}
-use Rattle.sfv.specs.Items.{IsBorrowedParameter}
-use Rattle.sfv.specs.Quoted.{IsBorrowedUpTo, IsBorrowedValue}
+use Rattle.sfv.specs.parser.Cursor.{TakesIf}
+use Rattle.sfv.specs.parser.Quoted.{IsBorrowedParameter}
+use Rattle.sfv.specs.parser.Quoted.{IsBorrowedUpTo, IsBorrowedValue}
 
 same_tail : (a b : ℕ) (r q : List ℕ) → a ∷ r ≡ b ∷ q → r ≡ q
 same_tail a b r q h = cc

@@ -15,7 +15,7 @@ use Rattle.sfv_spec.specs.Values.{is_byte}
 use Rattle.sfv_spec.specs.Base64.{symbols, symbol}
 use Rattle.sfv_spec.proofs.Marks.{is_symbol}
 use Rattle.sfv_reading.specs.Content.{symbol_value, bytes_from}
-use Rattle.sfv.specs.Zeros.{HasZeros, decoded_symbols}
+use Rattle.sfv.specs.parser.Base64.{HasZeros, decoded_symbols}
 use Rattle.sfv_reading.proofs.base64.Bits.{is_value, head_value, bytes_within}
 use Rattle.sfv_reading.proofs.base64.Shape.{are_values, symbols-values, value_within, symbol-value, value-symbol}
 use Rattle.sfv_reading.proofs.base64.Shape.{symbol-is_symbol}

@@ -19,9 +19,9 @@ use Rattle.sfv_reading.proofs.base64.Contents.{well_formed, gives_the_bytes, rej
 use Rattle.sfv_reading.proofs.sound.ByteSequences.{symbols_apart, padding_apart, both_apart, no_colon}
 use Rattle.sfv_reading.proofs.rules.ByteSequences.{gives_value, gives_fault, gives_unclosed}
 use Rattle.sfv_reading.specs.Content.{IsContentAt, IsBytesAt, IsInvalidAt}
-use Rattle.sfv.specs.Cursor.{located}
-use Rattle.sfv.specs.Runs.{IsSymbolRun, IsPaddingRun}
-use Rattle.sfv.specs.Zeros.{decoded_symbols}
+use Rattle.sfv.specs.parser.Cursor.{located}
+use Rattle.sfv.specs.parser.Base64.{IsSymbolRun, IsPaddingRun}
+use Rattle.sfv.specs.parser.Base64.{decoded_symbols}
 
 -- the first colon
 first_colon : (u : List ℕ) → list_any (λ c. c == colon) u ≡ true

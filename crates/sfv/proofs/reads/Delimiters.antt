@@ -16,8 +16,8 @@ use Rattle.sfv_reading.specs.Reader.{span, led, many, ◌>>=◌}
 use Rattle.sfv_reading.specs.Members.{inner_item_at, next_item_at, inner_items_at}
 use Rattle.sfv_reading.specs.Fields.{comma_at, next_at, members_at}
 use Rattle.sfv_reading.proofs.complete.Combinators.{bind_complete}
-use Rattle.sfv.specs.Cursor.{located, TakesIf}
-use Rattle.sfv.specs.Members.{item_delimiter_at, member_delimiter_at}
+use Rattle.sfv.specs.parser.Cursor.{located, TakesIf}
+use Rattle.sfv.specs.parser.Members.{item_delimiter_at, member_delimiter_at}
 use Rattle.sfv.proofs.reads.Steps.{branch_true, branch_false}
 
 -- a run is read wherever it is wanted

@@ -1,6 +1,7 @@
 -- What a part of a reading answers is what the whole does.
 use Rattle.std.proofs.Common.{◌≡◌, ℕ, ◌≤◌, List, length, Option, Some, None, Ok, Err, sym, ap, subst, ◌∙◌, drop}
-use Rattle.std.specs.Prelude.{MatchOption, Result}
+use Rattle.std.specs.Prelude.{MatchOption, Result, IsErrAnd}
+use Rattle.std.proofs.lemmas.Result.{err_from_is_err_and}
 use Rattle.std.specs.declared.alloc.Global.{Global}
 use Rattle.sfv_spec.specs.Values.{Edition, rfc9651, display_string}
 use Rattle.sfv_base.specs.declared.error.Error.{Error}
@@ -14,10 +15,14 @@ use Rattle.sfv_bare.specs.BareItems.{cow_text}
 use Rattle.std.specs.declared.borrow.CowStr.{CowStr}
 use Rattle.sfv.specs.declared.parser.Parser.{Parser}
 use Rattle.sfv.specs.declared.parser.cursor.Cursor.{Cursor}
-use Rattle.sfv.specs.Cursor.{kept, kept_input, kept_edition, rest, located, IsFaultOf, IsErrorOf, Reads}
-use Rattle.sfv.specs.Cursor.{ReadsOrOutOfMemory}
-use Rattle.sfv.specs.ReadTexts.{display_value_of}
+use Rattle.sfv.specs.parser.Cursor.{kept, kept_input, kept_edition, rest, located, IsFaultOf, IsErrorOf, Reads}
+use Rattle.sfv.specs.parser.Cursor.{ReadsOrOutOfMemory}
+use Rattle.sfv.specs.parser.Values.{display_value_of}
 use Rattle.sfv.specs.Memory.{IsRefusal}
+
+-- what `?` returns
+pub left_with : {T E : Type 0} {r : Result T E} {e : E} → IsErrAnd r (λ f. f ≡ e) → r ≡ Err e
+left_with {r = r} h = let p = err_from_is_err_and r h in p.1 ∙ ap (λ e. Err e) p.2
 
 pub fault_bind : {A B : Type 0} (f : Reader A) (g : A → Reader B) (t : List ℕ) (k : ErrorKind) (r : List ℕ)
     → located (f t) ≡ Err (k, r) → located ((f >>= g) t) ≡ Err (k, r)
@@ -60,6 +65,12 @@ ErrorOf-fault input e a = on e.index
     on None h = absurd h
     on (Some i) h = h
 
+-- the same, so many bytes into an input that was kept
+pub ErrorOf-kept : {A : Type 0} (i j : Parser × Global) (e : Error) (n : ℕ) (f : Reader A) → i ≡ j
+    → IsFaultOf (kept_input i) e (f (drop n (kept_input i))) → IsErrorOf (kept_input j) e (f (drop n (kept_input j)))
+ErrorOf-kept i j e n f same h = ErrorOf-fault (kept_input j) e (f (drop n (kept_input j)))
+    (subst (λ (k : Parser × Global). IsFaultOf (kept_input k) e (f (drop n (kept_input k)))) same h)
+
 -- the whole is that part
 pub ErrorOf-same : {A : Type 0} (i j : Parser × Global) (e : Error) (f : Edition → Reader A) (t : List ℕ) (a : Answer A)
     → i ≡ j → a ≡ f (kept_edition j) t → IsErrorOf (kept_input i) e (f (kept_edition i) t)
@@ -92,15 +103,3 @@ ErrorOf-located i e a b eq = on e.index
         × (index ≤ length i))
     on None h = h
     on (Some n) h = (eq ∙ h.0, h.1)
-
--- a display string as a bare item, of which its text was read
-pub behind_quote : (before middle after : Cursor) (r : Result (CowStr Global) Error) → kept middle ≡ kept before
-    → quoted_at rfc9651 (rest before) ≡ (display_at >>= λ s. give (display_string s)) (rest middle)
-    → ReadsOrOutOfMemory cow_text middle after r display_at
-    → ReadsOrOutOfMemory display_value_of before after r (quoted_at rfc9651)
-unfolding give
-behind_quote before middle after (Ok text) same eq h =
-    (eq ∙ bind_complete display_at (λ s. give (display_string s)) _ _ _ h.0, h.1 ∙ same)
-behind_quote before middle after (Err e) same eq h =
-    ErrorOf-part (kept middle) (kept before) e (λ _. display_at) (λ s. give (display_string s)) (rest middle) _ same eq
-    h

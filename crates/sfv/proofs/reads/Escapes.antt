@@ -28,9 +28,10 @@ use Rattle.sfv_reading.proofs.quoted.DisplaySteps.{outside_byte}
 use Rattle.sfv.proofs.reads.Steps.{passed}
 use Rattle.sfv.specs.declared.parser.Parser.{Parser}
 use Rattle.sfv.specs.declared.parser.cursor.Cursor.{Cursor}
-use Rattle.sfv.specs.Cursor.{kept_input, rest, located, IsFaultOf, IsErrorOf, NextIs, TakesIf, Skips}
-use Rattle.sfv.specs.Quoted.{plain_of, mark_of, stop_of, inside, behind_mark, opening, HasNoMark, HasNoMarkInside}
-use Rattle.sfv.specs.ReadTexts.{is_borrowed_text}
+use Rattle.sfv.specs.parser.Cursor.{kept_input, rest, located, IsFaultOf, IsErrorOf, NextIs, TakesIf, Skips}
+use Rattle.sfv_spec.proofs.Marks.{plain_of}
+use Rattle.sfv.specs.parser.Quoted.{mark_of, stop_of, inside, behind_mark, opening, HasNoMark, HasNoMarkInside}
+use Rattle.sfv.specs.parser.Values.{is_borrowed_text}
 use Rattle.sfv.specs.Memory.{IsRefusal}
 
 -- ---- one byte of a quoted text
@@ -328,10 +329,3 @@ behind_opening d A before middle after opens h = (
   λ a. let n = h.0 a in (n.0, opens ∙ ap (λ (l : List ℕ). opening d ++ l) n.1, n.2),
   λ n. h.1 (n.0, opened d _ _ (sym opens ∙ n.1), n.2),
 )
-
-pub borrowed_behind : (before middle after : Cursor) (r : Result (CowStr Global) Error)
-    → rest before ≡ opening true ++ rest middle → IfOk r (λ text. IsTrue (is_borrowed_text text)
-    ↔ HasNoMark true middle after)
-    → IfOk r (λ text. IsTrue (is_borrowed_text text) ↔ HasNoMarkInside true before after)
-borrowed_behind before middle after (Ok text) opens h = behind_opening true _ before middle after opens h
-borrowed_behind before middle after (Err e) opens h = h

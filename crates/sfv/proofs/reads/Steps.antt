@@ -35,7 +35,7 @@ use Rattle.sfv_reading.proofs.complete.Combinators.{branch_past, branch_take, ah
 use Rattle.sfv_reading.proofs.complete.Combinators.{led_complete, span_complete}
 use Rattle.sfv.proofs.reads.Errors.{fault_bind}
 use Rattle.sfv.specs.declared.parser.Parser.{Parser}
-use Rattle.sfv.specs.Cursor.{kept_input, located, IsFaultOf, NextIs, TakesIf, Skips}
+use Rattle.sfv.specs.parser.Cursor.{kept_input, located, IsFaultOf, NextIs, TakesIf, Skips}
 
 pub ahead_true : {A : Type 0} (class : ℕ → Bool) (taken other : Reader A) (t : List ℕ) → NextIs class true t
     → ahead class taken other t ≡ taken t
@@ -230,7 +230,7 @@ pub ruleset boolean_steps = (boolean_false, boolean_true, boolean_none)
 
 -- ---- dates
 
-pub date_older : (t : List ℕ) → located (date_at rfc8941 t) ≡ Err (Rfc8941Date, t)
+date_older : (t : List ℕ) → located (date_at rfc8941 t) ≡ Err (Rfc8941Date, t)
 unfolding date_at fail
 date_older t = refl
 
@@ -281,7 +281,7 @@ date_fault t r i j e m k same h = subst (λ (i : Parser
 
 -- ---- display strings
 
-pub quoted_older : (t : List ℕ) → located (quoted_at rfc8941 t) ≡ Err (Rfc8941DisplayString, t)
+quoted_older : (t : List ℕ) → located (quoted_at rfc8941 t) ≡ Err (Rfc8941DisplayString, t)
 unfolding quoted_at fail
 quoted_older t = refl
 
@@ -302,10 +302,6 @@ quoted_no_quote t r q m k n = ap located (quoted_is t r m k ∙ branch_false _ _
 pub quoted_reads : (t r q : List ℕ) → NextIs (byte percent_sign) true t → Skips t r
     → TakesIf (byte double_quote) true r q → quoted_at rfc9651 t ≡ (display_at >>= λ s. give (display_string s)) q
 quoted_reads t r q m k n = quoted_is t r m k ∙ branch_true _ _ _ r q n
-
-pub ruleset quoted_steps = quoted_older
-
-pub ruleset date_steps = date_older
 
 -- ---- bare items
 
@@ -342,6 +338,16 @@ pub bare_quoted : (edition : Edition) (t : List ℕ) → NextIs (byte percent_si
     → bare_at edition t ≡ quoted_at edition t
 unfolding bare_at branch ahead
 bare_quoted edition t m = let e = next_byte percent_sign t m in ap (bare_at edition) e ∙ sym (ap (quoted_at edition) e)
+
+-- what RFC 8941 has not
+pub bare_older_date : (t : List ℕ) → NextIs (byte at_sign) true t → located (bare_at rfc8941 t) ≡ Err (Rfc8941Date, t)
+bare_older_date t m = ap located (bare_date rfc8941 t m) ∙ date_older t
+
+pub bare_older_quoted : (t : List ℕ) → NextIs (byte percent_sign) true t
+    → located (bare_at rfc8941 t) ≡ Err (Rfc8941DisplayString, t)
+bare_older_quoted t m = ap located (bare_quoted rfc8941 t m) ∙ quoted_older t
+
+pub ruleset older_steps = (bare_older_date, bare_older_quoted)
 
 -- a byte that a number begins with is none of the others
 no_opener : (b c : ℕ) → is_number_start b ≡ true → is_number_start c ≡ false → byte c b ≡ false

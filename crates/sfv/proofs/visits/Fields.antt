@@ -37,10 +37,10 @@ use Rattle.sfv_reading.proofs.visits.Fields.{visited_begins, failed_begins}
 use Rattle.sfv_reading.proofs.visits.Reached.{visited_reach}
 use Rattle.sfv.specs.declared.parser.Parser.{Parser}
 use Rattle.sfv.specs.declared.parser.cursor.Cursor.{Cursor}
-use Rattle.sfv.specs.Cursor.{kept_input, located, IsErrorOf}
-use Rattle.sfv.specs.Fields.{located_whole}
-use Rattle.sfv.specs.Members.{MemberValue, member_parts, one_member_at, field_of}
-use Rattle.sfv.specs.Visits.{VisitsAnswer, IsOfVisitor, VisitsField, IsFinishedAt, IsAskedThere}
+use Rattle.sfv.specs.parser.Cursor.{kept_input, located, IsErrorOf}
+use Rattle.sfv.specs.parser.Cursor.{located_whole}
+use Rattle.sfv.specs.parser.Members.{MemberValue, member_parts, one_member_at, field_of}
+use Rattle.sfv.specs.parser.Visits.{VisitsAnswer, IsOfVisitor, VisitsField, IsFinishedAt, IsAskedThere}
 use Rattle.sfv.specs.Parsers.{IsAnswerOf, IsSyntaxOf, IsVisitorErrorOf, IsParseError, VisitsAccepted, IsFinishedFirst}
 use Rattle.sfv.specs.Parsers.{trailing_error}
 use Rattle.sfv.proofs.visits.Whole.{spaced, field_error, ending_located}

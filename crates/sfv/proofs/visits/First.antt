@@ -24,7 +24,7 @@ use Rattle.sfv_reading.proofs.sound.Combinators.{Somewhere, IsSpan, Steady-span}
 use Rattle.sfv_reading.proofs.Exact.{bare_is_exact}
 use Rattle.sfv_reading.proofs.First.{first_bare, longest_read}
 use Rattle.sfv_reading.proofs.visits.Fields.{visited_begins}
-use Rattle.sfv.specs.Visits.{IsOfVisitor, VisitsField, TookBare, TookFirst}
+use Rattle.sfv.specs.parser.Visits.{IsOfVisitor, VisitsField, TookBare, TookFirst}
 use Rattle.sfv.specs.Parsers.{IsParseError, VisitsFirst}
 use Rattle.sfv.proofs.Parsed.{parse_error}
 use Rattle.sfv.proofs.visits.Fields.{whole_visited, whole_accepted}

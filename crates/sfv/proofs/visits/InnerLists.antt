@@ -16,9 +16,9 @@ use Rattle.sfv_reading.specs.Members.{inner_items_at, inner_of, closed_events, i
 use Rattle.sfv_reading.specs.Visits.{VisitorFails}
 use Rattle.sfv.specs.declared.parser.Parser.{Parser}
 use Rattle.sfv.specs.declared.parser.cursor.Cursor.{Cursor}
-use Rattle.sfv.specs.Cursor.{TakesIf, kept_input}
-use Rattle.sfv.specs.Members.{behind_begin}
-use Rattle.sfv.specs.Visits.{VisitsAnswer, IsOfVisitor}
+use Rattle.sfv.specs.parser.Cursor.{TakesIf, kept_input}
+use Rattle.sfv.specs.parser.Members.{behind_begin}
+use Rattle.sfv.specs.parser.Visits.{VisitsAnswer, IsOfVisitor}
 use Rattle.sfv.proofs.reads.Steps.{branch_true, branch_false}
 use Rattle.sfv.proofs.visits.Taken.{runs_on, took_part}
 use Rattle.sfv.proofs.visits.Parameters.{of_visitor}

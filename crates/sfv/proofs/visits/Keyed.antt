@@ -15,8 +15,8 @@ use Rattle.sfv_reading.specs.Members.{member_at, member_value_at, keyed_at}
 use Rattle.sfv_reading.proofs.visits.Parts.{visited_then}
 use Rattle.sfv.specs.declared.parser.Parser.{Parser}
 use Rattle.sfv.specs.declared.parser.cursor.Cursor.{Cursor}
-use Rattle.sfv.specs.Cursor.{TakesIf, kept_input, IsErrorOf}
-use Rattle.sfv.specs.Visits.{VisitsAnswer, TookAll, IsOfVisitor}
+use Rattle.sfv.specs.parser.Cursor.{TakesIf, kept_input, IsErrorOf}
+use Rattle.sfv.specs.parser.Visits.{VisitsAnswer, TookAll, IsOfVisitor}
 use Rattle.sfv.proofs.reads.Steps.{branch_true, branch_false}
 use Rattle.sfv.proofs.visits.Taken.{took_part, took_none, key_quiet}
 use Rattle.sfv.proofs.visits.Parameters.{of_visitor}

@@ -23,9 +23,9 @@ use Rattle.sfv_reading.proofs.Exact.{bare_is_exact}
 use Rattle.sfv_reading.proofs.First.{longest_read}
 use Rattle.sfv_reading.proofs.Theorems.{read_is_accepted}
 use Rattle.sfv.specs.declared.parser.cursor.Cursor.{Cursor}
-use Rattle.sfv.specs.Cursor.{kept, edition, rest}
-use Rattle.sfv.specs.Quoted.{IsBorrowedUnlessEscaped}
-use Rattle.sfv.specs.Visits.{Visits, TakesAsRead}
+use Rattle.sfv.specs.parser.Cursor.{kept, edition, rest}
+use Rattle.sfv.specs.parser.Quoted.{IsBorrowedUnlessEscaped}
+use Rattle.sfv.specs.parser.Visits.{Visits, TakesAsRead}
 use Rattle.sfv.specs.Parsers.{IsLent, AnswersAsRead}
 use Rattle.sfv.proofs.reads.Steps.{item_some}
 use Rattle.sfv.proofs.visits.Parts.{kept_visits}

@@ -24,9 +24,9 @@ use Rattle.sfv_base.specs.declared.error.ParseError.{ParseError}
 use Rattle.sfv_base.specs.declared.error.ParseError.TheVariants.{Syntax, Visitor}
 use Rattle.sfv.specs.declared.parser.Parser.{Parser}
 use Rattle.sfv.specs.declared.parser.cursor.Cursor.{Cursor}
-use Rattle.sfv.specs.Cursor.{kept, kept_input, edition, input, rest, IsFaultOf, IsErrorOf}
-use Rattle.sfv.specs.Members.{item_delimiter_at, member_delimiter_at, MemberValue, member_parts, one_member_at}
-use Rattle.sfv.specs.Visits.{VisitsAnswer, Visits, TookAll}
+use Rattle.sfv.specs.parser.Cursor.{kept, kept_input, edition, input, rest, IsFaultOf, IsErrorOf}
+use Rattle.sfv.specs.parser.Members.{item_delimiter_at, member_delimiter_at, MemberValue, member_parts, one_member_at}
+use Rattle.sfv.specs.parser.Visits.{VisitsAnswer, Visits, TookAll}
 use Rattle.sfv.proofs.reads.Errors.{ErrorOf-fault}
 use Rattle.sfv.proofs.visits.Taken.{runs_on, took_behind, took_part, took_none, IsQuiet, item_delimiter_quiet}
 use Rattle.sfv.proofs.visits.Taken.{member_delimiter_quiet}

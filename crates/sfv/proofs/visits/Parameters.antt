@@ -20,8 +20,8 @@ use Rattle.sfv_base.specs.declared.error.ParseError.{ParseError}
 use Rattle.sfv_base.specs.declared.error.ParseError.TheVariants.{Syntax, Visitor}
 use Rattle.sfv.specs.declared.parser.Parser.{Parser}
 use Rattle.sfv.specs.declared.parser.cursor.Cursor.{Cursor}
-use Rattle.sfv.specs.Cursor.{kept, kept_input, kept_edition, rest, IsErrorOf}
-use Rattle.sfv.specs.Visits.{VisitsAnswer, TookAll, IsOfVisitor}
+use Rattle.sfv.specs.parser.Cursor.{kept, kept_input, kept_edition, rest, IsErrorOf}
+use Rattle.sfv.specs.parser.Visits.{VisitsAnswer, TookAll, IsOfVisitor}
 use Rattle.sfv.proofs.visits.Taken.{runs_on, took_behind, took_part, took_none, bare_quiet, parameter_quiet}
 use Rattle.sfv.proofs.reads.Steps.{item_some}
 

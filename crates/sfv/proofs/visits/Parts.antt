@@ -14,8 +14,8 @@ use Rattle.sfv_reading.proofs.visits.Parts.{visited_then, visited_first, failed_
 use Rattle.sfv_reading.proofs.complete.Combinators.{bind_complete, led_complete}
 use Rattle.sfv.specs.declared.parser.Parser.{Parser}
 use Rattle.sfv.specs.declared.parser.cursor.Cursor.{Cursor}
-use Rattle.sfv.specs.Cursor.{kept, kept_input, kept_edition, rest}
-use Rattle.sfv.specs.Visits.{Visits, VisitsAnswer, IsOfVisitor}
+use Rattle.sfv.specs.parser.Cursor.{kept, kept_input, kept_edition, rest}
+use Rattle.sfv.specs.parser.Visits.{Visits, VisitsAnswer, IsOfVisitor}
 use Rattle.sfv.proofs.visits.Taken.{runs_on, took_behind, took_part, took_same}
 use Rattle.sfv.proofs.visits.Parameters.{of_visitor}
 

@@ -25,9 +25,9 @@ use Rattle.sfv_reading.proofs.sound.Combinators.{Sound-span, Sound-back, Found, 
 use Rattle.sfv_reading.proofs.sound.Bare.{Sound-bare}
 use Rattle.sfv_reading.proofs.sound.Items.{Sound-key, Sound-value}
 use Rattle.sfv.specs.declared.parser.cursor.Cursor.{Cursor}
-use Rattle.sfv.specs.Cursor.{kept, input, edition, rest, located, IsErrorOf}
-use Rattle.sfv.specs.Members.{item_delimiter_at, member_delimiter_at}
-use Rattle.sfv.specs.Visits.{TookAll}
+use Rattle.sfv.specs.parser.Cursor.{kept, input, edition, rest, located, IsErrorOf}
+use Rattle.sfv.specs.parser.Members.{item_delimiter_at, member_delimiter_at}
+use Rattle.sfv.specs.parser.Visits.{TookAll}
 use Rattle.sfv.proofs.reads.Errors.{ErrorOf-here}
 use Rattle.sfv.proofs.reads.Delimiters.{items_none}
 use Rattle.sfv.specs.Memory.{IsRefusal}

@@ -15,8 +15,8 @@ use Rattle.sfv_reading.specs.Fields.{whole_field_at, ending, read_field}
 use Rattle.sfv_reading.proofs.complete.Combinators.{bind_complete}
 use Rattle.sfv.specs.declared.parser.Parser.{Parser}
 use Rattle.sfv.specs.declared.parser.cursor.Cursor.{Cursor}
-use Rattle.sfv.specs.Cursor.{kept, kept_input, rest, located, IsErrorOf}
-use Rattle.sfv.specs.Fields.{located_whole}
+use Rattle.sfv.specs.parser.Cursor.{kept, kept_input, rest, located, IsErrorOf}
+use Rattle.sfv.specs.parser.Cursor.{located_whole}
 use Rattle.sfv.proofs.reads.Errors.{fault_bind}
 use Rattle.sfv.specs.Memory.{IsRefusal}
 

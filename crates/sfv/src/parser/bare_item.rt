@@ -1,24 +1,22 @@
 //! Reading bare items (RFC 9651, sections 4.2.3.1 and 4.2.5 to 4.2.10).
 
-ghost use Rattle.std.specs.Prelude.{◌≡◌, ◌↔◌, Bool, true, IfOk, IsTrue};
+ghost use Rattle.std.specs.Prelude.{◌≡◌, true, IfOk};
 ghost use Rattle.sfv_spec.specs.Ascii.{double_quote, percent_sign, colon};
 ghost use Rattle.sfv_spec.proofs.Marks.{question_mark, at_sign};
 ghost use Rattle.sfv_spec.specs.Values.{rfc9651, boolean, date};
 ghost use Rattle.sfv_base.specs.Numbers.{seconds_of};
 ghost use Rattle.sfv_bare.specs.BareItems.{input_value};
 ghost use Rattle.sfv_reading.specs.Reader.{byte};
-ghost use Rattle.sfv_reading.specs.Bare.{is_number_start, boolean_at, date_at, quoted_at, token_at, bare_at};
-ghost use Rattle.sfv.specs.Cursor.{edition, rest, Reads, ReadsOrOutOfMemory, NextIs};
-ghost use Rattle.sfv.specs.Quoted.{HasNoMarkInside, IsBorrowedUnlessEscaped};
-ghost use Rattle.sfv.specs.ReadTexts.{display_value_of, is_borrowed_text};
+ghost use Rattle.sfv_reading.specs.Bare.{is_number_start, boolean_at, date_at, token_at, bare_at};
+ghost use Rattle.sfv.specs.parser.Cursor.{edition, rest, Reads, ReadsOrOutOfMemory, NextIs};
+ghost use Rattle.sfv.specs.parser.Quoted.{IsBorrowedUnlessEscaped};
 
 use crate::parser::cursor::Cursor;
+use crate::parser::digits::is_digit_byte;
 use crate::parser::number::Number;
-use crate::parser::runs::is_digit_byte;
 use sfv_bare::bare::{BareItemFromInput, GenericBareItem, Version};
 use sfv_base::date::Date;
 use sfv_base::error::{Error, ErrorKind};
-use std::borrow::CowStr;
 
 impl<'de> Cursor<'de> {
     /// Takes a boolean after its question mark.
@@ -35,20 +33,8 @@ impl<'de> Cursor<'de> {
         Err(self.error(ErrorKind::ExpectedBoolean))
     }
 
-    /// Takes a date, which RFC 8941 has not.
-    #[tactic(auto, using(crate::proofs::reads::Steps::date_steps))]
-    fn date(&mut self) -> Result<Date, Error>
-        requires { NextIs (byte at_sign) true (rest self.old) }
-        ensures { Reads (λ d. date (seconds_of d)) self.old self.new result (date_at (edition self.old)) }
-    {
-        match self.parser.version {
-            Version::Rfc8941 => Err(self.error(ErrorKind::Rfc8941Date)),
-            Version::Rfc9651 => self.seconds(),
-        }
-    }
-
     /// Takes the sign `@` and the seconds of a date.
-    fn seconds(&mut self) -> Result<Date, Error>
+    fn date(&mut self) -> Result<Date, Error>
         requires { NextIs (byte at_sign) true (rest self.old) }
         ensures { Reads (λ d. date (seconds_of d)) self.old self.new result (date_at rfc9651) }
     {
@@ -58,35 +44,6 @@ impl<'de> Cursor<'de> {
             Number::Integer(seconds) => Ok(Date::from_unix_seconds(seconds)),
             Number::Decimal(_) => Err(Error::at(ErrorKind::NonIntegerDate, start)),
         }
-    }
-
-    /// Takes a display string, which RFC 8941 has not.
-    #[tactic(auto, using(crate::proofs::reads::Steps::quoted_steps))]
-    fn display_string(&mut self) -> Result<CowStr<'de>, Error>
-        requires { NextIs (byte percent_sign) true (rest self.old) }
-        ensures read { ReadsOrOutOfMemory display_value_of self.old self.new result (quoted_at (edition self.old)) }
-        ensures borrowed { IfOk result (λ text.
-            IsTrue (is_borrowed_text text) ↔ HasNoMarkInside true self.old self.new) }
-    {
-        match self.parser.version {
-            Version::Rfc8941 => Err(self.error(ErrorKind::Rfc8941DisplayString)),
-            Version::Rfc9651 => self.quoted(),
-        }
-    }
-
-    /// Takes the sign `%` and the quoted text of a display string.
-    #[tactic(auto, using(crate::proofs::reads::Steps::quoted_steps))]
-    fn quoted(&mut self) -> Result<CowStr<'de>, Error>
-        requires { NextIs (byte percent_sign) true (rest self.old) }
-        ensures read { ReadsOrOutOfMemory display_value_of self.old self.new result (quoted_at rfc9651) }
-        ensures borrowed { IfOk result (λ text.
-            IsTrue (is_borrowed_text text) ↔ HasNoMarkInside true self.old self.new) }
-    {
-        self.skip();
-        if !self.take_if(b'"') {
-            return Err(self.error(ErrorKind::ExpectedQuote));
-        }
-        self.display_text()
     }
 
     /// Takes a boolean as a bare item.
@@ -122,24 +79,32 @@ impl<'de> Cursor<'de> {
         Ok(GenericBareItem::ByteSequence(self.byte_sequence()?))
     }
 
-    /// Takes a date as a bare item.
+    /// Takes a date as a bare item, which RFC 8941 has not.
     #[inline(never)]
+    #[tactic(auto, using(crate::proofs::reads::Steps::older_steps))]
     fn date_item(&mut self) -> Result<BareItemFromInput<'de>, Error>
         requires { NextIs (byte at_sign) true (rest self.old) }
         ensures read { ReadsOrOutOfMemory input_value self.old self.new result (bare_at (edition self.old)) }
         ensures borrowed { IfOk result (λ item. IsBorrowedUnlessEscaped item self.old self.new) }
     {
-        Ok(GenericBareItem::Date(self.date()?))
+        match self.parser.version {
+            Version::Rfc8941 => Err(self.error(ErrorKind::Rfc8941Date)),
+            Version::Rfc9651 => Ok(GenericBareItem::Date(self.date()?)),
+        }
     }
 
-    /// Takes a display string as a bare item.
+    /// Takes a display string as a bare item, which RFC 8941 has not.
     #[inline(never)]
+    #[tactic(auto, using(crate::proofs::reads::Steps::older_steps))]
     fn display_string_item(&mut self) -> Result<BareItemFromInput<'de>, Error>
         requires { NextIs (byte percent_sign) true (rest self.old) }
         ensures read { ReadsOrOutOfMemory input_value self.old self.new result (bare_at (edition self.old)) }
         ensures borrowed { IfOk result (λ item. IsBorrowedUnlessEscaped item self.old self.new) }
     {
-        Ok(GenericBareItem::DisplayString(self.display_string()?))
+        match self.parser.version {
+            Version::Rfc8941 => Err(self.error(ErrorKind::Rfc8941DisplayString)),
+            Version::Rfc9651 => Ok(GenericBareItem::DisplayString(self.display_string()?)),
+        }
     }
 
     /// Takes a number as a bare item.

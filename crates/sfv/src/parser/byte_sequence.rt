@@ -9,9 +9,9 @@ ghost use Rattle.sfv_spec.specs.Texts.{RunOf};
 ghost use Rattle.sfv_spec.proofs.Marks.{is_symbol};
 ghost use Rattle.sfv_base.specs.Errors.{out_of_memory};
 ghost use Rattle.sfv_reading.specs.Content.{bytes_at};
-ghost use Rattle.sfv.specs.Cursor.{rest, ReadsOrOutOfMemory};
-ghost use Rattle.sfv.specs.ReadTexts.{vec_bytes};
-ghost use Rattle.sfv.specs.Zeros.{HasZeros, decoded_symbols};
+ghost use Rattle.sfv.specs.parser.Cursor.{rest, ReadsOrOutOfMemory};
+ghost use Rattle.sfv.specs.parser.Values.{vec_bytes};
+ghost use Rattle.sfv.specs.parser.Base64.{HasZeros, decoded_symbols};
 
 use crate::parser::cursor::Cursor;
 use crate::parser::symbols::{padding_after, padding_run, rounded_symbol, symbol_run};

@@ -5,10 +5,10 @@ ghost use Rattle.sfv_spec.specs.Texts.{RunOf};
 ghost use Rattle.sfv_spec.specs.Classes.{is_digit, is_space, is_space_or_tab};
 ghost use Rattle.sfv_base.specs.Errors.{error_of};
 ghost use Rattle.sfv_reading.specs.Reader.{Apart, first, byte, up_to, span};
-ghost use Rattle.sfv.specs.Digits.{Spells};
+ghost use Rattle.sfv.specs.parser.Values.{Spells};
 
 use crate::parser::Parser;
-use crate::parser::runs::{Digits, digit_run, is_digit_byte};
+use crate::parser::digits::{Digits, digit_run, is_digit_byte};
 use sfv_base::error::{Error, ErrorKind};
 use sfv_base::runs::{RunClass, run_end_from};
 use std::alloc::Global;
@@ -24,7 +24,7 @@ pub(crate) struct Cursor<'de> {
 
 impl<'de> Cursor<'de> {
     ghost use Rattle.sfv.specs.Parsers.{input_of};
-    ghost use Rattle.sfv.specs.Cursor.{kept, rest, NextIs, TakesIf, Skips};
+    ghost use Rattle.sfv.specs.parser.Cursor.{kept, rest, NextIs, TakesIf, Skips};
 
     /// At the start of the parser's input. Memory is asked of `alloc`.
     pub(super) fn new(parser: Parser<'de>, alloc: Global) -> Cursor<'de>

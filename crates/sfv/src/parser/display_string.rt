@@ -1,62 +1,19 @@
 //! Reading display strings (RFC 9651, section 4.2.10).
 
-ghost use Rattle.std.specs.Prelude.{◌≡◌, ◌≤◌, ◌<◌, ◌↔◌, ℕ, List, true, length, drop, IfOk, IsTrue, Ok};
-ghost use Rattle.sfv_spec.specs.Classes.{is_lower_hexadecimal};
-ghost use Rattle.sfv_spec.specs.Strings.{hexadecimal_value};
-ghost use Rattle.sfv_bare.specs.BareItems.{cow_text};
+ghost use Rattle.std.specs.Prelude.{◌≡◌, ◌≤◌, ◌↔◌, ℕ, List, true, length, drop, IfOk, IsTrue, Ok};
+ghost use Rattle.sfv_spec.specs.Ascii.{percent_sign};
+ghost use Rattle.sfv_spec.specs.Values.{rfc9651};
+ghost use Rattle.sfv_reading.specs.Reader.{byte};
+ghost use Rattle.sfv_reading.specs.Bare.{quoted_at};
 ghost use Rattle.sfv_reading.specs.Quoted.{outside, pieces_from, behind_pieces, display_at};
-ghost use Rattle.sfv.specs.Cursor.{ReadsOrOutOfMemory};
-ghost use Rattle.sfv.specs.Quoted.{HasNoMark, ReadsDigit, GivesText};
-ghost use Rattle.sfv.specs.ReadTexts.{is_borrowed_text};
+ghost use Rattle.sfv.specs.parser.Cursor.{rest, ReadsOrOutOfMemory, NextIs};
+ghost use Rattle.sfv.specs.parser.Quoted.{HasNoMarkInside, GivesDisplayText};
+ghost use Rattle.sfv.specs.parser.Values.{display_value_of, is_borrowed_text};
 
 use crate::parser::cursor::Cursor;
-use crate::parser::quoted::{QuotedBytes, QuotedText};
+use crate::parser::quoted::{InDisplayString, QuotedBytes};
 use sfv_base::error::{Error, ErrorKind};
-use sfv_base::runs::PlainInDisplayString;
-use sfv_base::utils::is_lower_hexadecimal_digit;
 use std::borrow::CowStr;
-
-/// The number that a digit stands for.
-fn value_of(digit: u8) -> u8
-    requires { IsTrue (is_lower_hexadecimal digit) }
-    ensures value { result ≡ hexadecimal_value digit }
-    ensures below { result < 16 }
-{
-    if digit < b'a' {
-        digit - b'0'
-    } else {
-        digit - b'a' + 10
-    }
-}
-
-/// The inside of a display string.
-pub(super) struct InDisplayString;
-
-impl QuotedText for InDisplayString {
-    ghost display = { true };
-
-    fn mark() -> u8 {
-        b'%'
-    }
-
-    fn stop(at_byte: bool) -> ErrorKind {
-        if at_byte {
-            ErrorKind::InvalidDisplayStringCharacter
-        } else {
-            ErrorKind::UnterminatedDisplayString
-        }
-    }
-
-    fn plain<'de>(cursor: &mut Cursor<'de>) -> &'de [u8] {
-        cursor.run::<PlainInDisplayString>()
-    }
-
-    fn escaped(cursor: &mut Cursor<'_>) -> Result<u8, Error> {
-        let high = cursor.escape_digit()?;
-        let low = cursor.escape_digit()?;
-        Ok(16 * value_of(high) + value_of(low))
-    }
-}
 
 /// Where what stands after the first `count` bytes begins, each of them plain or an escape.
 fn place(input: &[u8], start: usize, count: usize) -> usize
@@ -78,7 +35,7 @@ fn text_of(input: &[u8], start: usize, bytes: Vec<u8>) -> Result<String, Error>
     requires within { start ≤ length input.now }
     requires read { (rest : List ℕ) × (pieces_from outside (drop start input.now) ≡ Ok (bytes.items, rest)) }
     ensures { (rest : List ℕ) → pieces_from outside (drop start input.now) ≡ Ok (bytes.items, rest)
-        → GivesText input.now result rest (display_at (drop start input.now)) }
+        → GivesDisplayText input.now result rest (display_at (drop start input.now)) }
 {
     match String::from_utf8(bytes) {
         Ok(text) => Ok(text),
@@ -91,25 +48,17 @@ fn text_of(input: &[u8], start: usize, bytes: Vec<u8>) -> Result<String, Error>
 }
 
 impl<'de> Cursor<'de> {
-    /// Takes a digit of an escape.
-    fn escape_digit(&mut self) -> Result<u8, Error>
-        ensures { ReadsDigit self.old self.new result }
+    /// Takes the sign `%` and the quoted text of a display string: a slice of the input if it has no escape.
+    pub(super) fn display_string(&mut self) -> Result<CowStr<'de>, Error>
+        requires { NextIs (byte percent_sign) true (rest self.old) }
+        ensures read { ReadsOrOutOfMemory display_value_of self.old self.new result (quoted_at rfc9651) }
+        ensures borrowed { IfOk result (λ text.
+            IsTrue (is_borrowed_text text) ↔ HasNoMarkInside true self.old self.new) }
     {
-        let Some(byte) = self.peek() else {
-            return Err(self.error(ErrorKind::UnterminatedEscapeSequence));
-        };
-        if !is_lower_hexadecimal_digit(byte) {
-            return Err(self.error(ErrorKind::InvalidEscapeSequence));
-        }
         self.skip();
-        Ok(byte)
-    }
-
-    /// Takes a display string after its opening quote, with the closing one: a slice of the input if it has no escape.
-    pub(super) fn display_text(&mut self) -> Result<CowStr<'de>, Error>
-        ensures read { ReadsOrOutOfMemory cow_text self.old self.new result display_at }
-        ensures borrowed { IfOk result (λ text. IsTrue (is_borrowed_text text) ↔ HasNoMark true self.old self.new) }
-    {
+        if !self.take_if(b'"') {
+            return Err(self.error(ErrorKind::ExpectedQuote));
+        }
         let start = self.index;
         match self.quoted_text::<InDisplayString>()? {
             QuotedBytes::Plain(bytes) => {

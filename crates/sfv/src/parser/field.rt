@@ -2,14 +2,14 @@
 
 ghost use Rattle.std.specs.Prelude.{IfOk, IfErr};
 ghost use Rattle.sfv_spec.specs.Values.{item_field};
-ghost use Rattle.sfv.specs.Members.{field_of};
+ghost use Rattle.sfv.specs.parser.Members.{field_of};
 ghost use Rattle.sfv.specs.Parsers.{input_of, parser_edition, AnswersAsRead};
-ghost use Rattle.sfv.specs.Visits.{VisitsField, TookFirst};
+ghost use Rattle.sfv.specs.parser.Visits.{VisitsField, TookFirst};
 
 use crate::parser::Parser;
 use crate::parser::cursor::Cursor;
-use crate::parser::item::finish;
 use crate::parser::member::Member;
+use crate::parser::visit::finish;
 use sfv_base::error::{ErrorKind, ParseError};
 use sfv_visitor::visitor::Visitor;
 use std::alloc::Global;

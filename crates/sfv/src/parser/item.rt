@@ -3,12 +3,12 @@
 ghost use Rattle.std.specs.Prelude.{option_map, OnOk, IfOk, IfErr, IfSome};
 ghost use Rattle.sfv_spec.specs.Events.{parameters_events, item_events};
 ghost use Rattle.sfv_bare.specs.BareItems.{input_value};
-ghost use Rattle.sfv_visitor.specs.Events.{event_of};
 ghost use Rattle.sfv_reading.specs.Items.{value_at, parameter_at, parameters_at, item_at};
-ghost use Rattle.sfv.specs.Cursor.{edition, rest, ReadsOrOutOfMemory};
-ghost use Rattle.sfv.specs.Visits.{Visits, TakesAsRead, IsOfVisitor, TookBare};
+ghost use Rattle.sfv.specs.parser.Cursor.{edition, rest, ReadsOrOutOfMemory};
+ghost use Rattle.sfv.specs.parser.Visits.{Visits, TakesAsRead, TookBare};
 
 use crate::parser::cursor::Cursor;
+use crate::parser::visit::visit;
 use sfv_bare::bare::{BareItemFromInput, GenericBareItem};
 use sfv_base::error::{Error, ParseError};
 use sfv_text::key_ref::KeyRef;
@@ -21,34 +21,9 @@ pub(crate) struct ReadParameter<'de> {
     pub(crate) value: BareItemFromInput<'de>,
 }
 
-/// Visits an event, or fails with the visitor's error.
-#[inline(always)]
-pub(crate) fn visit<'de, V: Visitor<'de>>(
-    visitor: &mut V,
-    event: Event<'de>,
-) -> Result<(), ParseError<V::Error>>
-    requires { V.is_ready visitor.old }
-    ensures ready { OnOk result (V.is_ready visitor.new) }
-    ensures taken { OnOk result (V.takes visitor.old (event_of event.entry) visitor.new) }
-    ensures taken_read { OnOk result (V.takes_read visitor.old event.entry visitor.new) }
-    ensures failed { IfErr result (IsOfVisitor (V.fails visitor.old (event_of event.entry))) }
-{
-    visitor.event(event).map_err(ParseError::Visitor)
-}
-
-/// Returns what the visitor makes of the events, or fails with its error.
-#[inline(always)]
-pub(crate) fn finish<'de, V: Visitor<'de>>(visitor: V) -> Result<V::Out, ParseError<V::Error>>
-    requires { V.is_ready visitor }
-    ensures answered { IfOk result (V.finishes visitor) }
-    ensures failed { IfErr result (IsOfVisitor (V.finish_fails visitor)) }
-{
-    visitor.finish().map_err(ParseError::Visitor)
-}
-
 impl<'de> Cursor<'de> {
-    ghost use Rattle.sfv.specs.Items.{read_pair, IsBorrowedParameter};
-    ghost use Rattle.sfv.specs.Quoted.{IsBorrowedValue};
+    ghost use Rattle.sfv.specs.parser.Values.{read_pair};
+    ghost use Rattle.sfv.specs.parser.Quoted.{IsBorrowedValue, IsBorrowedParameter};
 
     /// Takes the value of a parameter after its key: without `=` it is true.
     #[tactic(auto, using(crate::proofs::reads::Steps::value_steps))]

@@ -4,7 +4,7 @@ ghost use Rattle.std.specs.Prelude.{◌≡◌, ◌++◌, IfOk};
 ghost use Rattle.sfv_spec.specs.Classes.{is_key_start};
 ghost use Rattle.sfv_text.specs.KeyText.{key_text};
 ghost use Rattle.sfv_reading.specs.Items.{key_at};
-ghost use Rattle.sfv.specs.Cursor.{rest, Reads, NextIs};
+ghost use Rattle.sfv.specs.parser.Cursor.{rest, Reads, NextIs};
 
 use crate::parser::cursor::Cursor;
 use sfv_base::error::{Error, ErrorKind};

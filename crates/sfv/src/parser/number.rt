@@ -6,12 +6,12 @@ ghost use Rattle.sfv_spec.specs.Numbers.{signed as with_sign};
 ghost use Rattle.sfv_base.specs.Numbers.{integer_of};
 ghost use Rattle.sfv_reading.specs.Reader.{byte};
 ghost use Rattle.sfv_reading.specs.Bare.{sign_at, point_at, whole_at, number_at};
-ghost use Rattle.sfv.specs.Cursor.{kept, rest, Reads, NextIs};
-ghost use Rattle.sfv.specs.Digits.{Spells};
-ghost use Rattle.sfv.specs.ReadNumbers.{number_value_of};
+ghost use Rattle.sfv.specs.parser.Cursor.{kept, rest, Reads, NextIs};
+ghost use Rattle.sfv.specs.parser.Values.{Spells};
+ghost use Rattle.sfv.specs.parser.Values.{number_value_of};
 
 use crate::parser::cursor::Cursor;
-use crate::parser::runs::{Digits, thousandths};
+use crate::parser::digits::{Digits, thousandths};
 use sfv_base::decimal::Decimal;
 use sfv_base::error::{Error, ErrorKind};
 use sfv_base::integer::Integer;

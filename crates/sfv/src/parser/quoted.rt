@@ -1,17 +1,23 @@
 //! Reading what stands between two quotes: the inside of a string or of a display string.
 
-ghost use Rattle.std.specs.Prelude.{◌≡◌, ◌++◌, ◌↔◌, Bool, List, length, IfOk, IsTrue};
+ghost use Rattle.std.specs.Prelude.{◌≡◌, ◌<◌, ◌++◌, ◌↔◌, Bool, true, false, List, length, IfOk, IsTrue};
 ghost use Rattle.sfv_spec.specs.Ascii.{double_quote};
 ghost use Rattle.sfv_spec.specs.Texts.{RunOf};
+ghost use Rattle.sfv_spec.specs.Classes.{is_lower_hexadecimal};
+ghost use Rattle.sfv_spec.specs.Strings.{hexadecimal_value};
+ghost use Rattle.sfv_spec.proofs.Marks.{plain_of};
 ghost use Rattle.sfv_reading.specs.Reader.{Apart, byte};
 ghost use Rattle.sfv_reading.specs.Quoted.{behind_bytes};
-ghost use Rattle.sfv.specs.Cursor.{input, kept, rest, IsFaultOf, ReadsOrOutOfMemory};
-ghost use Rattle.sfv.specs.Quoted.{plain_of, mark_of, stop_of, inside, quoted_bytes, is_plain, HasNoMark, ReadsEscape};
-ghost use Rattle.sfv.specs.ReadTexts.{vec_bytes};
+ghost use Rattle.sfv.specs.parser.Cursor.{input, kept, rest, IsFaultOf, ReadsOrOutOfMemory};
+ghost use Rattle.sfv.specs.parser.Quoted.{mark_of, stop_of, inside, quoted_bytes, is_plain, HasNoMark, ReadsEscape};
+ghost use Rattle.sfv.specs.parser.Quoted.{ReadsDigit};
+ghost use Rattle.sfv.specs.parser.Values.{vec_bytes};
 ghost use Rattle.sfv.specs.Memory.{HoldsMark};
 
 use crate::parser::cursor::Cursor;
 use sfv_base::error::{Error, ErrorKind};
+use sfv_base::runs::{PlainInDisplayString, PlainInString};
+use sfv_base::utils::{is_escaped_in_string, is_lower_hexadecimal_digit};
 
 /// A kind of quoted text.
 pub(super) trait QuotedText {
@@ -37,6 +43,82 @@ pub(super) trait QuotedText {
         ensures { ReadsEscape display cursor.old cursor.new result };
 }
 
+/// The number that a digit stands for.
+fn value_of(digit: u8) -> u8
+    requires { IsTrue (is_lower_hexadecimal digit) }
+    ensures value { result ≡ hexadecimal_value digit }
+    ensures below { result < 16 }
+{
+    if digit < b'a' {
+        digit - b'0'
+    } else {
+        digit - b'a' + 10
+    }
+}
+
+/// The inside of a string.
+pub(super) struct InString;
+
+impl QuotedText for InString {
+    ghost display = { false };
+
+    fn mark() -> u8 {
+        b'\\'
+    }
+
+    fn stop(at_byte: bool) -> ErrorKind {
+        if at_byte {
+            ErrorKind::InvalidStringCharacter
+        } else {
+            ErrorKind::UnterminatedString
+        }
+    }
+
+    fn plain<'de>(cursor: &mut Cursor<'de>) -> &'de [u8] {
+        cursor.run::<PlainInString>()
+    }
+
+    fn escaped(cursor: &mut Cursor<'_>) -> Result<u8, Error> {
+        let Some(byte) = cursor.peek() else {
+            return Err(cursor.error(ErrorKind::UnterminatedEscapeSequence));
+        };
+        if !is_escaped_in_string(byte) {
+            return Err(cursor.error(ErrorKind::InvalidEscapeSequence));
+        }
+        cursor.skip();
+        Ok(byte)
+    }
+}
+
+/// The inside of a display string.
+pub(super) struct InDisplayString;
+
+impl QuotedText for InDisplayString {
+    ghost display = { true };
+
+    fn mark() -> u8 {
+        b'%'
+    }
+
+    fn stop(at_byte: bool) -> ErrorKind {
+        if at_byte {
+            ErrorKind::InvalidDisplayStringCharacter
+        } else {
+            ErrorKind::UnterminatedDisplayString
+        }
+    }
+
+    fn plain<'de>(cursor: &mut Cursor<'de>) -> &'de [u8] {
+        cursor.run::<PlainInDisplayString>()
+    }
+
+    fn escaped(cursor: &mut Cursor<'_>) -> Result<u8, Error> {
+        let high = cursor.escape_digit()?;
+        let low = cursor.escape_digit()?;
+        Ok(16 * value_of(high) + value_of(low))
+    }
+}
+
 /// The bytes of a quoted text.
 #[derive(Drop)]
 pub(super) enum QuotedBytes<'de> {
@@ -46,6 +128,20 @@ pub(super) enum QuotedBytes<'de> {
 }
 
 impl<'de> Cursor<'de> {
+    /// Takes a digit of an escape.
+    fn escape_digit(&mut self) -> Result<u8, Error>
+        ensures { ReadsDigit self.old self.new result }
+    {
+        let Some(byte) = self.peek() else {
+            return Err(self.error(ErrorKind::UnterminatedEscapeSequence));
+        };
+        if !is_lower_hexadecimal_digit(byte) {
+            return Err(self.error(ErrorKind::InvalidEscapeSequence));
+        }
+        self.skip();
+        Ok(byte)
+    }
+
     /// The error where a quoted text can't go on.
     fn stop<Q: QuotedText>(&self) -> Error
         requires plain { Apart (plain_of Q.display) (rest self.now) }

@@ -4,7 +4,7 @@ ghost use Rattle.std.specs.Prelude.{◌≡◌, ◌*◌, ◌/◌, ◌<◌, IsTrue
 ghost use Rattle.sfv_spec.specs.Base64.{symbol};
 ghost use Rattle.sfv_spec.proofs.Marks.{is_symbol};
 ghost use Rattle.sfv_reading.specs.Content.{symbol_value, most_padding};
-ghost use Rattle.sfv.specs.Runs.{IsSymbolRun, IsPaddingRun};
+ghost use Rattle.sfv.specs.parser.Base64.{IsSymbolRun, IsPaddingRun};
 
 use sfv_base::runs::{Symbol, run_end};
 

@@ -4,7 +4,7 @@ ghost use Rattle.sfv_spec.specs.Classes.{is_token_start};
 ghost use Rattle.sfv_spec.specs.Values.{token};
 ghost use Rattle.sfv_text.specs.TokenText.{token_text};
 ghost use Rattle.sfv_reading.specs.Bare.{token_at};
-ghost use Rattle.sfv.specs.Cursor.{rest, Reads, NextIs};
+ghost use Rattle.sfv.specs.parser.Cursor.{rest, Reads, NextIs};
 
 use crate::parser::cursor::Cursor;
 use sfv_base::error::{Error, ErrorKind};

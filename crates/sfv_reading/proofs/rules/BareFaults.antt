@@ -189,7 +189,7 @@ behind_short (suc n) (c ∷ r) = elim (cases_Bool (c == percent_sign)) [
 ]
 
 -- what is left at a fault is an ending
-display_short : (t there : List ℕ) (k : SyntaxFault) → IsDisplayFault t k there → length there ≤ length t
+pub display_short : (t there : List ℕ) (k : SyntaxFault) → IsDisplayFault t k there → length there ≤ length t
 display_short t there unterminated_display_string h = omega (arith, ap (length {A = ℕ}) h.ends.1)
 display_short t there unterminated_escape_sequence h = omega (arith, ap (length {A = ℕ}) h.ends.2)
 display_short t there invalid_escape_sequence h = omega (
@@ -216,13 +216,7 @@ display_row t e i =
     let f = display_fault t e i in
     inr (
       ap (λ (e : Fault). e.exact) f.1,
-      λ kind w before place. ruled rfc9651 kind w before t e.rest e.kind (length w - length e.rest) refl place f.0
-          (omega (
-            arith,
-            ap (length {A = ℕ}) place.text,
-            length-append before (percent_sign ∷ double_quote ∷ t),
-            display_short t e.rest e.kind f.0,
-          )),
+      λ kind w before place. ruled rfc9651 kind w before t e.rest e.kind refl place f.0,
     )
 
 -- what is read after the percent sign and the quote

@@ -8,16 +8,15 @@ use Rattle.std.proofs.lemmas.Bool.{and_parts, or_parts, not-true, both_ways}
 use Rattle.std.proofs.lemmas.List.{length-append, take_at}
 use Rattle.std.proofs.lemmas.Str.{utf8_valid_len_le}
 use Rattle.sfv_spec.specs.Ascii.{double_quote, percent_sign}
-use Rattle.sfv_spec.specs.Texts.{IsLongestBeginning}
-use Rattle.sfv_spec.specs.Classes.{is_string_byte}
+use Rattle.sfv_spec.specs.Texts.{begins_with, IsLongestBeginning}
+use Rattle.sfv_spec.specs.Classes.{is_string_byte, is_lower_hexadecimal}
 use Rattle.sfv_spec.specs.Values.{Edition, rfc9651, FieldKind}
 use Rattle.sfv_spec.specs.Strings.{IsDisplayPiece, AreDisplayPieces}
 use Rattle.sfv_spec.specs.Faults.{SyntaxFault, unterminated_escape_sequence, invalid_escape_sequence}
 use Rattle.sfv_spec.specs.Faults.{invalid_utf8_in_display_string, invalid_display_string_character}
-use Rattle.sfv_spec.specs.Faults.{unterminated_display_string, WantsBetween, IsDisplayBegun, IsUnterminatedDisplay}
-use Rattle.sfv_spec.specs.Faults.{IsUnterminatedEscape, IsInvalidEscape, IsInvalidDisplayByte, IsInvalidUtf8}
-use Rattle.sfv_spec.specs.Faults.{RuledFault, open_display, open_escape, wrong_escape, wrong_byte, wrong_utf8}
-use Rattle.sfv_reading.specs.Quoted.{outside, behind_pieces, IsDisplayFault}
+use Rattle.sfv_spec.specs.Faults.{unterminated_display_string, WantsBetween, IsDisplayBegun, DisplayFault}
+use Rattle.sfv_spec.specs.Faults.{open_display, open_escape, wrong_escape, wrong_byte, wrong_utf8, RuledFault, display}
+use Rattle.sfv_reading.specs.Quoted.{outside, behind_pieces, DisplayStops, IsDisplayFault}
 use Rattle.sfv_reading.proofs.quoted.Pieces.{closed, closed_past, closed_pieces, IsStuck, stuck, stuck_quote}
 use Rattle.sfv_reading.proofs.texts.Utf8.{longest_text}
 
@@ -74,165 +73,42 @@ drop_one p r b (inl h) n =
     ∙ ap (λ (x : Bool). behind_pieces n (cond x (drop 2 r) r)) o.0
 drop_one p r b (inr h) n = ap (λ (l : List ℕ). behind_pieces (suc n) (l ++ r)) h.4
 
--- the first n pieces, and what stands after them
-pub behind_split_at : (n : ℕ) (bytes : List ℕ) (pieces : List (List ℕ)) (left : List ℕ)
+-- after the first n pieces
+pub behind_drop : (n : ℕ) (bytes : List ℕ) (pieces : List (List ℕ)) (left : List ℕ)
     → AllZip IsDisplayPiece bytes pieces → n ≤ length bytes
-    → concat pieces ++ left ≡ concat (take n pieces) ++ behind_pieces n (concat pieces ++ left)
-behind_split_at zero bytes [] left h l = refl
-behind_split_at zero bytes (p ∷ pieces) left h l = refl
-behind_split_at (suc n) [] pieces left h l = absurd (omega (arith, l))
-behind_split_at (suc n) (b ∷ bytes) [] left h l = absurd h
-behind_split_at (suc n) (b ∷ bytes) (p ∷ pieces) left h l =
-    let tail : List ℕ = concat pieces ++ left in
-    let here : (p ++ concat pieces) ++ left ≡ p ++ tail = append_assoc p (concat pieces) left in
-    let step : behind_pieces (suc n) ((p ++ concat pieces) ++ left) ≡ behind_pieces n tail =
-    ap (behind_pieces (suc n)) here ∙ drop_one p tail b h.0 n in
-    here ∙ ap (λ (l : List ℕ). p ++ l) (behind_split_at n bytes pieces left h.1 (omega (arith, l)))
-    ∙ sym (append_assoc p (concat (take n pieces)) (behind_pieces n tail))
-    ∙ ap (λ (l : List ℕ). (p ++ concat (take n pieces)) ++ l) (sym step)
+    → behind_pieces n (concat pieces ++ left) ≡ concat (drop n pieces) ++ left
+behind_drop zero bytes pieces left h l = refl
+behind_drop (suc n) [] pieces left h l = absurd (omega (arith, l))
+behind_drop (suc n) (b ∷ bytes) [] left h l = absurd h
+behind_drop (suc n) (b ∷ bytes) (p ∷ pieces) left h l =
+    ap (behind_pieces (suc n)) (append_assoc p (concat pieces) left) ∙ drop_one p (concat pieces ++ left) b h.0 n
+    ∙ behind_drop n bytes pieces left h.1 (omega (arith, l))
 
 -- ---- the faults
 
+row_of : (k : SyntaxFault) (bytes : List ℕ) (pieces : List (List ℕ)) (left there : List ℕ) → DisplayStops k left there
+    → DisplayFault bytes pieces left there k
+row_of unterminated_display_string bytes pieces left there h = open_display h.0 h.1
+row_of unterminated_escape_sequence bytes pieces left there h = open_escape h.0 h.3 h.1 h.2
+row_of invalid_escape_sequence bytes pieces left there h =
+    wrong_escape h.0 h.5 (h.3 ∙ ap (λ (l : List ℕ). percent_sign ∷ (h.0 ++ l)) (sym h.4))
+    (ap (begins_with (λ c. not (is_lower_hexadecimal c))) h.4 ∙ ap not h.7)
+row_of invalid_display_string_character bytes pieces left there h =
+    wrong_byte (h.2 ∙ sym h.3) (ap (begins_with (λ c. not (is_string_byte c))) h.3 ∙ ap not h.4)
+row_of _ bytes pieces left there h = absurd h
+
 -- The text from the percent sign on has this fault, so the whole has it, at the place where that stands.
-pub open_of : (edition : Edition) (kind : FieldKind) (whole before t there : List ℕ) (index : ℕ) → edition ≡ rfc9651
-    → WantsBetween edition kind whole before (codes "%\"" ++ t) → IsDisplayFault t unterminated_display_string there
-    → index + length there ≡ length whole → IsUnterminatedDisplay edition kind whole index
-open_of edition kind whole before t there index known place h i =
-    record {
-      before = before;
-      bytes = h.bytes;
-      pieces = h.pieces;
-      begun = subst (λ (l : List ℕ). IsDisplayBegun edition kind whole before l h.bytes h.pieces) h.ends.0
-          (begun edition kind whole before t h.left h.bytes h.pieces known place h.text h.content
-          (stuck unterminated_display_string h.left there h.ends));
-      here = let n = ap (length {A = ℕ}) h.ends.1 in omega (arith, n, i);
-    }
-
-pub open_escape_of : (edition : Edition) (kind : FieldKind) (whole before t there : List ℕ) (index : ℕ)
-    → edition ≡ rfc9651 → WantsBetween edition kind whole before (codes "%\"" ++ t)
-    → IsDisplayFault t unterminated_escape_sequence there → index + length there ≡ length whole
-    → IsUnterminatedEscape edition kind whole index
-open_escape_of edition kind whole before t there index known place h i =
-    record {
-      before = before;
-      bytes = h.bytes;
-      pieces = h.pieces;
-      digits = h.ends.0;
-      begun = subst (λ (l : List ℕ). IsDisplayBegun edition kind whole before l h.bytes h.pieces) h.ends.1
-          (begun edition kind whole before t h.left h.bytes h.pieces known place h.text h.content
-          (stuck unterminated_escape_sequence h.left there h.ends));
-      hexadecimal = h.ends.3;
-      here = let n = ap (length {A = ℕ}) h.ends.2 in omega (arith, n, i);
-    }
-
-pub wrong_escape_of : (edition : Edition) (kind : FieldKind) (whole before t there : List ℕ) (index : ℕ)
-    → edition ≡ rfc9651 → WantsBetween edition kind whole before (codes "%\"" ++ t)
-    → IsDisplayFault t invalid_escape_sequence there → index + length there ≡ length whole
-    → IsInvalidEscape edition kind whole index
-wrong_escape_of edition kind whole before t there index known place h i =
-    let b = subst (λ (l : List ℕ). IsDisplayBegun edition kind whole before l h.bytes h.pieces) h.ends.3
-    (begun edition kind whole before t h.left h.bytes h.pieces known place h.text h.content
-    (stuck invalid_escape_sequence h.left there h.ends)) in
-    record {
-      before = before;
-      bytes = h.bytes;
-      pieces = h.pieces;
-      digits = h.ends.0;
-      wrong = h.ends.1;
-      rest = h.ends.2;
-      begun = b;
-      hexadecimal = h.ends.5;
-      not_hexadecimal = h.ends.7;
-      here =
-          let n = ap (length {A = ℕ}) h.ends.4 in
-          let m = ap (length {A = ℕ}) b.place.text in
-          omega (
-            arith,
-            n,
-            i,
-            simp length-append at m,
-            length-append (before ++ codes "%\"" ++ concat h.pieces ++ codes "%") h.ends.0,
-            length-append (before ++ codes "%\"" ++ concat h.pieces) (codes "%"),
-            length-append (before ++ codes "%\"") (concat h.pieces),
-            length-append before (codes "%\""),
-          );
-    }
-
-pub wrong_byte_of : (edition : Edition) (kind : FieldKind) (whole before t there : List ℕ) (index : ℕ)
-    → edition ≡ rfc9651 → WantsBetween edition kind whole before (codes "%\"" ++ t)
-    → IsDisplayFault t invalid_display_string_character there → index + length there ≡ length whole
-    → IsInvalidDisplayByte edition kind whole index
-wrong_byte_of edition kind whole before t there index known place h i =
-    let b = subst (λ (l : List ℕ). IsDisplayBegun edition kind whole before l h.bytes h.pieces) h.ends.2
-    (begun edition kind whole before t h.left h.bytes h.pieces known place h.text h.content
-    (stuck invalid_display_string_character h.left there h.ends)) in
-    record {
-      before = before;
-      bytes = h.bytes;
-      pieces = h.pieces;
-      wrong = h.ends.0;
-      rest = h.ends.1;
-      begun = b;
-      outside = h.ends.4;
-      here =
-          let n = ap (length {A = ℕ}) h.ends.3 in
-          let m = ap (length {A = ℕ}) b.place.text in
-          omega (
-            arith,
-            n,
-            i,
-            simp length-append at m,
-            length-append (before ++ codes "%\"") (concat h.pieces),
-            length-append before (codes "%\""),
-          );
-    }
-
-pub wrong_utf8_of : (edition : Edition) (kind : FieldKind) (whole before t there : List ℕ) (index : ℕ)
-    → edition ≡ rfc9651 → WantsBetween edition kind whole before (codes "%\"" ++ t)
-    → IsDisplayFault t invalid_utf8_in_display_string there → index + length there ≡ length whole
-    → IsInvalidUtf8 edition kind whole index
-wrong_utf8_of edition kind whole before t there index known place h i =
-    let valid : ℕ = utf8_valid_len h.bytes in
-    let b = begun edition kind whole before t h.left h.bytes h.pieces known place h.text h.content
-    (subst IsStuck (sym h.ends.1) (stuck_quote h.ends.0)) in
-    record {
-      before = before;
-      bytes = h.bytes;
-      pieces = h.pieces;
-      rest = h.ends.0;
-      valid = valid;
-      begun = subst (λ (l : List ℕ). IsDisplayBegun edition kind whole before l h.bytes h.pieces) h.ends.1 b;
-      not_text = h.ends.2;
-      longest = longest_text h.bytes;
-      here =
-          let s = behind_split_at valid h.bytes h.pieces h.left h.content (utf8_valid_len_le h.bytes) in
-          let e : t ≡ concat (take valid h.pieces) ++ there = h.text ∙ s
-          ∙ ap (λ (l : List ℕ). concat (take valid h.pieces) ++ l) (ap (behind_pieces valid) (sym h.text)
-          ∙ sym h.ends.3) in
-          let n = ap (length {A = ℕ}) e in
-          let m = ap (length {A = ℕ}) place.text in
-          omega (
-            arith,
-            n,
-            i,
-            simp length-append at m,
-            length-append (concat (take valid h.pieces)) there,
-            length-append (before ++ codes "%\"") (concat (take valid h.pieces)),
-            length-append before (codes "%\""),
-          );
-    }
-
-pub ruled : (edition : Edition) (kind : FieldKind) (whole before t there : List ℕ) (k : SyntaxFault) (index : ℕ)
+pub ruled : (edition : Edition) (kind : FieldKind) (whole before t there : List ℕ) (k : SyntaxFault)
     → edition ≡ rfc9651 → WantsBetween edition kind whole before (codes "%\"" ++ t) → IsDisplayFault t k there
-    → index + length there ≡ length whole → RuledFault edition kind whole k index
-ruled edition kind whole before t there unterminated_display_string index known place h i =
-    open_display (open_of edition kind whole before t there index known place h i)
-ruled edition kind whole before t there unterminated_escape_sequence index known place h i =
-    open_escape (open_escape_of edition kind whole before t there index known place h i)
-ruled edition kind whole before t there invalid_escape_sequence index known place h i =
-    wrong_escape (wrong_escape_of edition kind whole before t there index known place h i)
-ruled edition kind whole before t there invalid_display_string_character index known place h i =
-    wrong_byte (wrong_byte_of edition kind whole before t there index known place h i)
-ruled edition kind whole before t there invalid_utf8_in_display_string index known place h i =
-    wrong_utf8 (wrong_utf8_of edition kind whole before t there index known place h i)
-ruled edition kind whole before t there _ index known place h i = absurd h.ends
+    → RuledFault edition kind whole k (length whole - length there)
+ruled edition kind whole before t there invalid_utf8_in_display_string known place h =
+    let valid : ℕ = utf8_valid_len h.bytes in
+    display before h.left there h.bytes h.pieces
+    (begun edition kind whole before t h.left h.bytes h.pieces known place h.text h.content
+    (subst IsStuck (sym h.ends.1) (stuck_quote h.ends.0)))
+    (wrong_utf8 h.ends.0 valid h.ends.2 (longest_text h.bytes) h.ends.1 (h.ends.3 ∙ ap (behind_pieces valid) h.text
+    ∙ behind_drop valid h.bytes h.pieces h.left h.content (utf8_valid_len_le h.bytes)))
+ruled edition kind whole before t there k known place h =
+    display before h.left there h.bytes h.pieces
+    (begun edition kind whole before t h.left h.bytes h.pieces known place h.text h.content
+    (stuck k h.left there h.ends)) (row_of k h.bytes h.pieces h.left there h.ends)

@@ -1,7 +1,8 @@
 -- Each rule of the table of faults is given by the reader of bare items, but for the trailing comma.
-use Rattle.std.proofs.Common.{◌≡◌, ℕ, ◌+◌, true, List, ◌∷◌, ◌++◌, length, Err, refl, ap, ◌∙◌}
+use Rattle.std.proofs.Common.{◌≡◌, ℕ, ◌+◌, ◌-◌, true, List, ◌∷◌, ◌++◌, length, Err, refl, ap, ◌∙◌}
 use Rattle.std.proofs.Common.{append_assoc, arith, inl, inr}
 use Rattle.std.specs.Prelude.{codes}
+use Rattle.std.specs.List.{concat}
 use Rattle.std.proofs.lemmas.Bool.{true≢false}
 use Rattle.std.proofs.lemmas.List.{length-append}
 use Rattle.sfv_spec.specs.Ascii.{double_quote, percent_sign, colon}
@@ -11,16 +12,17 @@ use Rattle.sfv_spec.specs.Numbers.{minus_text}
 use Rattle.sfv_spec.specs.Faults.{SyntaxFault, trailing_decimal_point, non_integer_date, at_text, WantsBetween}
 use Rattle.sfv_spec.specs.Faults.{too_many_digits_after_decimal_point, IsTrailingPoint, IsDecimalDate}
 use Rattle.sfv_spec.specs.Faults.{IsLongDecimalDate, comma, point, decimal_date, long_decimal_date, open_bytes}
-use Rattle.sfv_spec.specs.Faults.{lone_symbol, open_display, open_escape, wrong_escape, wrong_byte, wrong_utf8}
+use Rattle.sfv_spec.specs.Faults.{lone_symbol, display, IsDisplayBegun, DisplayFault}
 use Rattle.sfv_reading.specs.Reader.{give, and_then, by_rule}
 use Rattle.sfv_reading.specs.Bare.{bare_at}
-use Rattle.sfv_reading.specs.Claims.{IsFaultOfBytes, IsFaultOfDisplay}
+use Rattle.sfv_reading.specs.Claims.{IsFaultOfBytes}
 use Rattle.sfv_reading.specs.BareFaults.{IsFaultInBare, RuledIsGiven}
 use Rattle.sfv_reading.proofs.complete.Bare.{bare_percent, front}
 use Rattle.sfv_reading.proofs.rules.BytesRules.{bytes_rules}
-use Rattle.sfv_reading.proofs.rules.DisplayRules.{display_rules}
+use Rattle.sfv_reading.proofs.rules.DisplayRules.{faults_ruled}
+use Rattle.sfv_reading.proofs.rules.Quoted.{display_faulty}
 use Rattle.sfv_reading.proofs.rules.Numbers.{no_fraction, long_fraction, a_decimal, shape_read}
-use Rattle.sfv_reading.proofs.rules.BareFaults.{quoted_read}
+use Rattle.sfv_reading.proofs.rules.BareFaults.{quoted_read, display_short}
 use Rattle.sfv_reading.proofs.rules.BareRows.{date_given, number_given, bytes_given}
 
 -- a fault by a rule, in any spelling of the text that is left at before
@@ -88,13 +90,21 @@ bytes_in edition kind whole k index h =
     in_bare edition kind whole h.before (colon ∷ h.inside) (colon ∷ h.inside) h.there k index h.place refl
     (bytes_given edition h.inside (by_rule k h.there) h.fault) h.here
 
-display_in : (edition : Edition) (kind : FieldKind) (whole : List ℕ) (k : SyntaxFault) (index : ℕ)
-    → IsFaultOfDisplay edition kind whole k index → IsFaultInBare edition kind whole k index
-display_in edition kind whole k index h =
-    let s : List ℕ = percent_sign ∷ double_quote ∷ h.inside in
-    in_bare edition kind whole h.before s s h.there k index h.place refl (ap (λ e. bare_at e s) h.known
-    ∙ bare_percent rfc9651 (double_quote ∷ h.inside) ∙ quoted_read h.inside
-    ∙ ap (λ a. and_then a (λ s. give (display_string s))) h.fault) h.here
+display_in : (edition : Edition) (kind : FieldKind) (whole before rest there bytes : List ℕ) (pieces : List (List ℕ))
+    (k : SyntaxFault) → IsDisplayBegun edition kind whole before rest bytes pieces
+    → DisplayFault bytes pieces rest there k → IsFaultInBare edition kind whole k (length whole - length there)
+display_in edition kind whole before rest there bytes pieces k h fault =
+    let inside : List ℕ = concat pieces ++ rest in
+    let s : List ℕ = percent_sign ∷ double_quote ∷ inside in
+    let f = faults_ruled bytes pieces rest there k h.content h.longest fault in
+    in_bare edition kind whole before s s there k (length whole - length there) h.place refl
+    (ap (λ e. bare_at e s) h.known ∙ bare_percent rfc9651 (double_quote ∷ inside) ∙ quoted_read inside
+    ∙ ap (λ a. and_then a (λ s. give (display_string s))) (display_faulty inside there k f)) (omega (
+      arith,
+      ap (length {A = ℕ}) h.place.text,
+      length-append before s,
+      display_short inside there k f,
+    ))
 
 pub ruled_is_given : RuledIsGiven
 ruled_is_given edition kind whole _ index (comma h) = inl (refl, h)
@@ -105,13 +115,5 @@ ruled_is_given edition kind whole _ index (open_bytes h) =
     inr (bytes_in edition kind whole _ index ((bytes_rules.0 edition kind whole index).1 h))
 ruled_is_given edition kind whole _ index (lone_symbol h) =
     inr (bytes_in edition kind whole _ index ((bytes_rules.1 edition kind whole index).1 h))
-ruled_is_given edition kind whole _ index (open_display h) =
-    inr (display_in edition kind whole _ index ((display_rules.0 edition kind whole index).1 h))
-ruled_is_given edition kind whole _ index (open_escape h) =
-    inr (display_in edition kind whole _ index ((display_rules.1 edition kind whole index).1 h))
-ruled_is_given edition kind whole _ index (wrong_escape h) =
-    inr (display_in edition kind whole _ index ((display_rules.2 edition kind whole index).1 h))
-ruled_is_given edition kind whole _ index (wrong_byte h) =
-    inr (display_in edition kind whole _ index ((display_rules.3 edition kind whole index).1 h))
-ruled_is_given edition kind whole _ index (wrong_utf8 h) =
-    inr (display_in edition kind whole _ index ((display_rules.4 edition kind whole index).1 h))
+ruled_is_given edition kind whole k _ (display before rest there bytes pieces h fault) =
+    inr (display_in edition kind whole before rest there bytes pieces k h fault)

@@ -22,7 +22,7 @@ use Rattle.sfv_reading.specs.Members.{inner_item_at, next_item_at, inner_items_a
 use Rattle.sfv_reading.specs.Members.{entry_at}
 use Rattle.sfv_reading.specs.Members.{member_value_at, keyed_at}
 use Rattle.sfv_reading.proofs.Trailing.{IsOther, Shuns, Shuns-item, Shuns-key, Shuns-parameters, Shuns-led, Shuns-bind}
-use Rattle.sfv_reading.proofs.Trailing.{Shuns-give, Shuns-branch, Shuns-span, other_kind}
+use Rattle.sfv_reading.proofs.Trailing.{Shuns-give, Shuns-branch, Shuns-span}
 use Rattle.sfv_reading.proofs.sound.Combinators.{Steady-span, Sound-steady, IsSpan}
 use Rattle.sfv_reading.proofs.sound.Items.{Sound-key, parameter_of, true_value}
 use Rattle.sfv_reading.proofs.sound.Members.{IsClosed, IsNextItem, Sound-inner_item, Sound-next_item}
@@ -142,7 +142,7 @@ pub Rules-other : {A B : Type 0} (f : Reader A) (P : B → List ℕ → Type 0) 
     → Shuns f → Rules f (λ t e. Stands P Has e.kind (at t) e.rest)
 Rules-other f P Has at h = record {
   rules = λ t e i.
-      stands_other P Has e.kind (at t) e.rest (other_kind f h t e i);
+      stands_other P Has e.kind (at t) e.rest (h.rules t e i);
 }
 
 -- ---- items, of which the last gets one more parameter

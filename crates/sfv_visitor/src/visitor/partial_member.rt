@@ -6,7 +6,7 @@ ghost use Rattle.sfv_bare.specs.BareItems.{input_value, is_borrowed};
 ghost use Rattle.sfv_text.specs.KeyText.{key_text};
 ghost use Rattle.sfv_tree.specs.Trees.{item_tree, member_tree};
 ghost use Rattle.sfv_visitor.specs.Events.{event_of, is_moved};
-ghost use Rattle.sfv_visitor.specs.Builders.{begun, member_step, member_place, takes_memory, item_of};
+ghost use Rattle.sfv_visitor.specs.Builders.{begun, member_step, member_place, takes_memory, item_in_hand};
 ghost use Rattle.sfv_visitor.specs.Builders.{whole_of, place_after, member_seed};
 
 use crate::visitor::Event;
@@ -150,7 +150,7 @@ impl PartialMember {
     /// Takes the item out that was read.
     #[inline(always)]
     pub(crate) fn take_item(&mut self, alloc: Global) -> Option<Item>
-        ensures item { option_map item_tree result ≡ item_of self.old }
+        ensures item { option_map item_tree result ≡ item_in_hand self.old }
         ensures taken { self.new.bare_item ≡ None }
         ensures inner { self.new.inner ≡ self.old.inner }
         ensures place { self.new.place ≡ self.old.place }
@@ -233,7 +233,7 @@ impl PartialMember {
     pub(crate) fn take_inner_list(&mut self) -> Option<InnerList>
         ensures list { result ≡ self.old.inner }
         ensures taken { self.new.inner ≡ None }
-        ensures item { item_of self.new ≡ item_of self.old }
+        ensures item { item_in_hand self.new ≡ item_in_hand self.old }
         ensures place { self.new.place ≡ self.old.place }
     {
         self.inner.take()

@@ -3,7 +3,7 @@ use Rattle.std.specs.List.{flat_map}
 use Rattle.std.specs.Iterator.{IsFinite, Yields}
 use Rattle.sfv_bare.specs.BareItems.{edition_of}
 use Rattle.sfv_serializer.proofs.Looks.{each_more, fails_among, memory_among}
-use Rattle.sfv_serializer.proofs.Rows.{led_more}
+use Rattle.sfv_serializer.proofs.Rows.{in_a_row_more}
 use Rattle.sfv_serializer.proofs.element.serialize_each.Goals as goal
 
 pub loop-element-preserved : goal.loop-element-preserved
@@ -13,7 +13,7 @@ loop-element-preserved g c =
     search rules in (
       goes.0,
       goes.1,
-      led_more g.E.Element.text g.E.Element.is_valid c.args.separator.now _ _ _ _ _ _ _ _ c.in-Some.element
+      in_a_row_more g.E.Element.text g.E.Element.is_valid c.args.separator.now _ _ _ _ _ _ _ _ c.in-Some.element
           c.loop-element.invariant.2 refl c.in_ok-serialize_separator.ensures written.text written.valid,
       each_more (edition_of c.args.version) g.E.Element.values c.loop-element.yielded c.in-Some.element
           c.loop-element.invariant.3 c.in_ok-look.ensures,

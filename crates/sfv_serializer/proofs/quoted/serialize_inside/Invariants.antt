@@ -4,7 +4,7 @@ use Rattle.sfv_serializer.proofs.Written.{IsWrittenUpTo}
 use Rattle.sfv_serializer.proofs.quoted.serialize_inside.Given as goal
 
 abbrev pub invariant-loop-byte : goal.invariant-loop-byte
-invariant-loop-byte g l = IsWrittenUpTo (piece_of g.Q.QuotedText.display) (string_bytes l.fn.output) l.bytes l.rest
+invariant-loop-byte g l = IsWrittenUpTo (piece_of g.Q.Escaping.display) (string_bytes l.fn.output) l.bytes l.rest
     (string_bytes l.output)
 
 abbrev pub decreases-loop-byte : goal.decreases-loop-byte

@@ -1,6 +1,6 @@
 use Rattle.std.proofs.Common.{◌≡◌, drop, sym, ◌∙◌}
 use Rattle.std.proofs.lemmas.List.{take-append-drop}
-use Rattle.sfv.specs.Zeros.{decoded_symbols}
+use Rattle.sfv.specs.parser.Base64.{decoded_symbols}
 use Rattle.sfv.proofs.reads.Coded.{decoded}
 use Rattle.sfv.proofs.parser.byte_sequence.append_decoded.Goals as goal
 

@@ -1,6 +1,6 @@
 use Rattle.std.proofs.Common.{◌≡◌, ◌+◌, ◌*◌, ◌/◌, ◌-◌, ◌%◌, ◌++◌, List, ℕ, length, take, get_or, ◌∙◌, ap, arith, refl}
 use Rattle.std.proofs.lemmas.List.{length-take-le}
-use Rattle.sfv.specs.Zeros.{decoded_symbols}
+use Rattle.sfv.specs.parser.Base64.{decoded_symbols}
 use Rattle.sfv.proofs.reads.Coded.{symbols_taken, symbol_at, rounded_is, groups_exact, two_exact, three_exact, with_two}
 use Rattle.sfv.proofs.reads.Coded.{with_three, with_none}
 use Rattle.sfv.proofs.parser.byte_sequence.decode_symbols.Goals as goal

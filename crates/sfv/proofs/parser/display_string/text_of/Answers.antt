@@ -4,7 +4,7 @@ use Rattle.std.specs.Prelude.{IsUtf8}
 use Rattle.std.specs.Str.Lossy.{utf8_valid_len}
 use Rattle.std.specs.Str.{valid_up_to}
 use Rattle.sfv_reading.proofs.quoted.DisplaySteps.{shown_text, shown_wrong}
-use Rattle.sfv.specs.Cursor.{located}
+use Rattle.sfv.specs.parser.Cursor.{located}
 use Rattle.sfv.proofs.parser.display_string.text_of.Goals as goal
 
 pub place-index-requires-clause-pieces : goal.place-index-requires-clause-pieces

@@ -1,26 +1,25 @@
 use Rattle.std.proofs.Common.{◌≡◌, ◌∙◌, Ok, Err, sym, ap, subst}
-use Rattle.std.proofs.lemmas.Result.{err_from_is_err_and}
 use Rattle.sfv_spec.specs.Classes.{is_space}
 use Rattle.sfv_spec.specs.Events.{item_events}
 use Rattle.sfv_reading.specs.Reader.{span}
 use Rattle.sfv_bare.specs.BareItems.{input_value}
 use Rattle.sfv_reading.specs.Bare.{bare_at}
 use Rattle.sfv_reading.specs.Items.{item_of, item_at}
-use Rattle.sfv.specs.Cursor.{rest, edition, kept_edition}
+use Rattle.sfv.specs.parser.Cursor.{rest, edition, kept_edition}
 use Rattle.sfv.specs.Parsers.{input_of, parser_edition}
 use Rattle.sfv.proofs.visits.Whole.{field_trailing_error, field_done}
 use Rattle.sfv.proofs.visits.Parts.{kept_visits}
 use Rattle.sfv.proofs.visits.Lent.{lent_front, answered_as_read}
 use Rattle.sfv.proofs.visits.First.{visitor_failed, after_spaces, item_taken}
 use Rattle.sfv.proofs.visits.Fields.{item_fails, finish_failed, finished_at}
+use Rattle.sfv.proofs.reads.Errors.{left_with}
 use Rattle.sfv.proofs.parser.field.parse_item_field.Goals as goal
 
 pub returns-in_err-item-clause-visited : goal.returns-in_err-item-clause-visited
 returns-in_err-item-clause-visited g c =
-    let p = err_from_is_err_and c.from_residual.result c.from_residual.ensures.1 in
     let skipped : span is_space (input_of c.args.parser) ≡ Ok (c.skip_sp.ensures.skipped.0, rest c.skip_sp.new.self) =
     rw (← c.new-cursor.ensures.rest) c.skip_sp.ensures.skipped.1 in
-    rw (p.1, p.2)
+    rw (left_with c.from_residual.ensures.1)
     (item_fails g.V.Visitor.takes g.V.Visitor.fails g.V.Visitor.finishes g.V.Visitor.finish_fails
     (parser_edition c.args.parser) (
       c.args.parser,
@@ -32,13 +31,12 @@ returns-in_err-item-clause-visited g c =
 
 pub returns-in_err-out-clause-visited : goal.returns-in_err-out-clause-visited
 returns-in_err-out-clause-visited g c =
-    let p = err_from_is_err_and c.from_residual-in_err-out.result c.from_residual-in_err-out.ensures.1 in
     let skipped : span is_space (input_of c.args.parser) ≡ Ok (c.skip_sp.ensures.skipped.0, rest c.skip_sp.new.self) =
     rw (← c.new-cursor.ensures.rest) c.skip_sp.ensures.skipped.1 in
     let read = kept_visits g.V.Visitor.takes g.V.Visitor.fails item_events item_at c.skip_sp.new.self c.item.new.self
     c.args.visitor c.item.new.visitor _ (Ok tt) (c.skip_sp.ensures.kept
     ∙ c.new-cursor.ensures.kept) c.in_ok-item.ensures.visited in
-    rw (p.1, p.2) (finish_failed g.V.Visitor.takes g.V.Visitor.fails g.V.Visitor.finishes g.V.Visitor.finish_fails
+    rw (left_with c.from_residual-in_err-out.ensures.1) (finish_failed g.V.Visitor.takes g.V.Visitor.fails g.V.Visitor.finishes g.V.Visitor.finish_fails
     (parser_edition c.args.parser) (input_of c.args.parser) _ _ _ read.0 c.args.visitor c.item.new.visitor _ skipped
     read.1 read.2 c.in_err-out.ensures.failed)
 
@@ -75,17 +73,15 @@ returns-clause-visited g c =
 
 pub returns-in_err-item-clause-told : goal.returns-in_err-item-clause-told
 returns-in_err-item-clause-told g c =
-    let p = err_from_is_err_and c.from_residual.result c.from_residual.ensures.1 in
     let skipped : span is_space (input_of c.args.parser) ≡ Ok (c.skip_sp.ensures.skipped.0, rest c.skip_sp.new.self) =
     rw (← c.new-cursor.ensures.rest) c.skip_sp.ensures.skipped.1 in
-    rw (p.1, p.2) (after_spaces g.V.Visitor.takes (parser_edition c.args.parser) (edition c.skip_sp.new.self)
+    rw (left_with c.from_residual.ensures.1) (after_spaces g.V.Visitor.takes (parser_edition c.args.parser) (edition c.skip_sp.new.self)
     (input_of c.args.parser) _ (rest c.skip_sp.new.self) c.args.visitor c.in_err-item.field-0.0
     (ap kept_edition (c.skip_sp.ensures.kept ∙ c.new-cursor.ensures.kept)) skipped c.in_err-item.ensures.told)
 
 pub returns-in_err-out-clause-told : goal.returns-in_err-out-clause-told
 returns-in_err-out-clause-told g c =
-    let p = err_from_is_err_and c.from_residual-in_err-out.result c.from_residual-in_err-out.ensures.1 in
-    rw (p.1, p.2) (λ s r skipped. visitor_failed g.V.Visitor.takes (parser_edition c.args.parser) r c.args.visitor
+    rw (left_with c.from_residual-in_err-out.ensures.1) (λ s r skipped. visitor_failed g.V.Visitor.takes (parser_edition c.args.parser) r c.args.visitor
     _ _ c.in_err-out.ensures.failed)
 
 pub returns-then-is_some-clause-told : goal.returns-then-is_some-clause-told

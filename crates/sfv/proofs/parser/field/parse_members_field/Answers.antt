@@ -1,17 +1,16 @@
 use Rattle.std.proofs.Common.{Ok, Err, flat_map}
-use Rattle.std.proofs.lemmas.Result.{err_from_is_err_and}
 use Rattle.sfv_reading.specs.Fields.{members_at}
-use Rattle.sfv.specs.Members.{member_parts, one_member_at}
+use Rattle.sfv.specs.parser.Members.{member_parts, one_member_at}
 use Rattle.sfv.specs.Parsers.{input_of, parser_edition}
 use Rattle.sfv.proofs.visits.Parts.{start_visits}
 use Rattle.sfv.proofs.visits.Fields.{members_fail, members_finish}
+use Rattle.sfv.proofs.reads.Errors.{left_with}
 use Rattle.sfv.proofs.parser.field.parse_members_field.Goals as goal
 
 pub returns-in_err-members : goal.returns-in_err-members
 returns-in_err-members g c =
-    let p = err_from_is_err_and c.from_residual.result c.from_residual.ensures.1 in
     let keyed = g.M.Member.keyed in
-    rw (p.1, p.2)
+    rw (left_with c.from_residual.ensures.1)
     (members_fail g.V.Visitor.takes g.V.Visitor.fails g.V.Visitor.finishes g.V.Visitor.finish_fails keyed
     (parser_edition c.args.parser) (
       c.args.parser,

@@ -1,15 +1,13 @@
 use Rattle.std.proofs.Common.{◌∙◌}
-use Rattle.std.proofs.lemmas.Result.{err_from_is_err_and}
 use Rattle.sfv_spec.specs.Values.{byte_sequence}
 use Rattle.sfv_reading.specs.Content.{bytes_at}
-use Rattle.sfv.proofs.reads.Errors.{ErrorOf-part}
+use Rattle.sfv.proofs.reads.Errors.{left_with, ErrorOf-part}
 use Rattle.sfv.proofs.reads.Steps.{bare_bytes, given}
 use Rattle.sfv.proofs.parser.cursor.Cursor.byte_sequence_item.Goals as goal
 
 pub returns-in_err-byte_sequence-clause-read : goal.returns-in_err-byte_sequence-clause-read
 returns-in_err-byte_sequence-clause-read c =
-    let p = err_from_is_err_and c.from_residual.result c.from_residual.ensures.1 in
-    rw (p.1, p.2) (ErrorOf-part _ _ _ (λ _. bytes_at) _ _ _ c.skip.ensures.kept
+    rw (left_with c.from_residual.ensures.1) (ErrorOf-part _ _ _ (λ _. bytes_at) _ _ _ c.skip.ensures.kept
     (bare_bytes _ _ _ c.requires c.skip.ensures.skips) c.in_err-byte_sequence.ensures.read)
 
 pub returns-clause-read : goal.returns-clause-read

@@ -1,17 +1,15 @@
 use Rattle.std.proofs.Common.{◌∙◌, refl}
-use Rattle.std.proofs.lemmas.Result.{err_from_is_err_and}
+use Rattle.sfv_spec.specs.Values.{rfc9651}
 use Rattle.sfv_reading.specs.Bare.{date_at}
-use Rattle.sfv.specs.Cursor.{kept}
-use Rattle.sfv.proofs.reads.Errors.{ErrorOf-fault, ErrorOf-same}
+use Rattle.sfv.specs.parser.Cursor.{kept}
+use Rattle.sfv.proofs.reads.Errors.{left_with, ErrorOf-fault, ErrorOf-same}
 use Rattle.sfv.proofs.reads.Steps.{bare_date}
 use Rattle.sfv.proofs.parser.cursor.Cursor.date_item.Goals as goal
 
-pub returns-in_err-date-clause-read : goal.returns-in_err-date-clause-read
-returns-in_err-date-clause-read c =
-    let p = err_from_is_err_and c.from_residual.result c.from_residual.ensures.1 in
-    rw (p.1, p.2) (ErrorOf-same (kept c.args.self.now) (kept c.args.self.now) _ date_at _ _ refl
-    (bare_date _ _ c.requires)
-    (ErrorOf-fault _ _ _ c.in_err-date.ensures))
+pub returns-in_err-date-in-Rfc9651-clause-read : goal.returns-in_err-date-in-Rfc9651-clause-read
+returns-in_err-date-in-Rfc9651-clause-read c =
+    rw (left_with c.from_residual.ensures.1, c.in-Rfc9651.is) (ErrorOf-same (kept c.args.self.now) (kept c.args.self.now) _ (λ _. date_at rfc9651) _ _ refl
+    (bare_date rfc9651 _ c.requires) (ErrorOf-fault _ _ _ c.in_err-date-in-Rfc9651.ensures))
 
-pub returns-clause-read : goal.returns-clause-read
-returns-clause-read c = (bare_date _ _ c.requires ∙ c.in_ok-date.ensures.0, c.in_ok-date.ensures.1)
+pub returns-in_ok-date-in-Rfc9651-clause-read : goal.returns-in_ok-date-in-Rfc9651-clause-read
+returns-in_ok-date-in-Rfc9651-clause-read c = (rw c.in-Rfc9651.is (bare_date rfc9651 _ c.requires ∙ c.in_ok-date-in-Rfc9651.ensures.0), c.in_ok-date-in-Rfc9651.ensures.1)

@@ -1,17 +1,16 @@
 use Rattle.std.proofs.Common.{◌≡◌, ◌∙◌, false, ap, not, refl, []}
 use Rattle.std.specs.Prelude.{is_some}
-use Rattle.std.proofs.lemmas.Result.{err_from_is_err_and}
 use Rattle.sfv_reading.specs.Reader.{first}
-use Rattle.sfv.specs.Cursor.{rest}
+use Rattle.sfv.specs.parser.Cursor.{rest}
 use Rattle.sfv.proofs.visits.Taken.{no_items_visited}
 use Rattle.sfv.proofs.reads.Delimiters.{items_closed, items_first}
 use Rattle.sfv.proofs.visits.Loops.{begun, shorter, first_fails, more, ended, delimiter_fails, one_fails, items_loop}
+use Rattle.sfv.proofs.reads.Errors.{left_with}
 use Rattle.sfv.proofs.parser.cursor.Cursor.inner_items.Goals as goal
 
 pub returns-in_err-inner_item-clause-visited : goal.returns-in_err-inner_item-clause-visited
 returns-in_err-inner_item-clause-visited g c =
-    let p = err_from_is_err_and c.from_residual.result c.from_residual.ensures.1 in
-    rw (p.1, p.2) (first_fails g.V.Visitor.takes g.V.Visitor.fails items_loop c.args.self.now _ c.take_if.new.self
+    rw (left_with c.from_residual.ensures.1) (first_fails g.V.Visitor.takes g.V.Visitor.fails items_loop c.args.self.now _ c.take_if.new.self
     c.inner_item.new.self _ c.inner_item.new.visitor _ (
       items_first _ _ _ _ _ (rw (← c.peek.ensures) (c.is_none.ensures
           ∙ ap not c.if-is_none.false)) c.skip_sp.ensures.skipped.1 c.if-take_if.ensures.takes,
@@ -33,9 +32,7 @@ loop-self-init g c = record {
 
 pub returns-in_err-consume_item_delimiter-clause-visited : goal.returns-in_err-consume_item_delimiter-clause-visited
 returns-in_err-consume_item_delimiter-clause-visited g c =
-    let p = err_from_is_err_and c.from_residual-in_err-consume_item_delimiter.result
-    c.from_residual-in_err-consume_item_delimiter.ensures.1 in
-    rw (p.1, p.2) (delimiter_fails g.V.Visitor.takes g.V.Visitor.fails items_loop c.args.self.now _ c.loop-self.self
+    rw (left_with c.from_residual-in_err-consume_item_delimiter.ensures.1) (delimiter_fails g.V.Visitor.takes g.V.Visitor.fails items_loop c.args.self.now _ c.loop-self.self
     c.consume_item_delimiter.new.self _ c.loop-self.visitor _ c.loop-self.invariant.visited
     c.in_err-consume_item_delimiter.ensures)
 
@@ -57,10 +54,8 @@ loop-self-preserved g c =
 
 pub returns-in_err-inner_item-2-clause-visited : goal.returns-in_err-inner_item-2-clause-visited
 returns-in_err-inner_item-2-clause-visited g c =
-    let p = err_from_is_err_and c.from_residual-in_err-inner_item-2.result
-    c.from_residual-in_err-inner_item-2.ensures.1 in
     let wanted = rw c.if-branch.true at c.in_ok-consume_item_delimiter.ensures in
-    rw (p.1, p.2) (one_fails g.V.Visitor.takes g.V.Visitor.fails items_loop c.args.self.now _ c.loop-self.self
+    rw (left_with c.from_residual-in_err-inner_item-2.ensures.1) (one_fails g.V.Visitor.takes g.V.Visitor.fails items_loop c.args.self.now _ c.loop-self.self
     c.consume_item_delimiter.new.self c.inner_item-in-loop-self.new.self _ _ c.inner_item-in-loop-self.new.visitor _
     c.loop-self.invariant.visited wanted c.in_err-inner_item-2.ensures.visited)
 

@@ -1,6 +1,6 @@
 use Rattle.std.proofs.Common.{length}
 use Rattle.sfv_reading.specs.Members.{inner_items_at}
-use Rattle.sfv.specs.Cursor.{edition, rest}
+use Rattle.sfv.specs.parser.Cursor.{edition, rest}
 use Rattle.sfv.proofs.visits.Loops.{VisitedSoFar, items_loop}
 use Rattle.sfv.proofs.parser.cursor.Cursor.inner_items.Given as goal
 

@@ -1,22 +1,20 @@
-use Rattle.std.proofs.lemmas.Result.{err_from_is_err_and}
 use Rattle.sfv_spec.specs.Events.{parameters_events}
 use Rattle.sfv_reading.specs.Items.{parameters_at}
-use Rattle.sfv.specs.Cursor.{kept, edition}
+use Rattle.sfv.specs.parser.Cursor.{kept, edition}
 use Rattle.sfv.proofs.visits.InnerLists.{items_fail, end_fails, inner_list_visits}
 use Rattle.sfv.proofs.visits.Parts.{kept_visits}
+use Rattle.sfv.proofs.reads.Errors.{left_with}
 use Rattle.sfv.proofs.parser.cursor.Cursor.inner_list.Goals as goal
 
 pub returns-in_err-inner_items-clause-visited : goal.returns-in_err-inner_items-clause-visited
 returns-in_err-inner_items-clause-visited g c =
-    let p = err_from_is_err_and c.from_residual.result c.from_residual.ensures.1 in
-    rw (p.1, p.2) (items_fail g.V.Visitor.takes g.V.Visitor.fails (edition c.args.self.now) _ _
+    rw (left_with c.from_residual.ensures.1) (items_fail g.V.Visitor.takes g.V.Visitor.fails (edition c.args.self.now) _ _
     c.inner_items.new.visitor (kept c.args.self.now) c.inner_items.new.self _ c.in_err-inner_items.ensures.visited)
 
 pub returns-in_err-visit-clause-visited : goal.returns-in_err-visit-clause-visited
 returns-in_err-visit-clause-visited g c =
-    let p = err_from_is_err_and c.from_residual-in_err-visit.result c.from_residual-in_err-visit.ensures.1 in
     let read = c.in_ok-inner_items.ensures.visited in
-    rw (p.1, p.2) (end_fails g.V.Visitor.takes g.V.Visitor.fails (edition c.args.self.now) _ _ read.0 _ _
+    rw (left_with c.from_residual-in_err-visit.ensures.1) (end_fails g.V.Visitor.takes g.V.Visitor.fails (edition c.args.self.now) _ _ read.0 _ _
     c.visit.new.visitor (kept c.args.self.now) c.inner_items.new.self _ read.1 read.2 c.in_err-visit.ensures.failed)
 
 pub returns-clause-visited : goal.returns-clause-visited

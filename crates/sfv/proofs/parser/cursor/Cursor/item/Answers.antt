@@ -1,22 +1,20 @@
-use Rattle.std.proofs.lemmas.Result.{err_from_is_err_and}
 use Rattle.sfv_spec.specs.Events.{parameters_events, item_events}
 use Rattle.sfv_reading.specs.Items.{parameters_at}
-use Rattle.sfv.specs.Cursor.{kept, edition, rest, input}
+use Rattle.sfv.specs.parser.Cursor.{kept, edition, rest, input}
 use Rattle.sfv.proofs.visits.Parameters.{of_visitor, bare_failed, bare_faulty, item_visits}
 use Rattle.sfv.proofs.visits.Parts.{kept_visits}
 use Rattle.sfv.proofs.visits.Lent.{item_as_read}
+use Rattle.sfv.proofs.reads.Errors.{left_with}
 use Rattle.sfv.proofs.parser.cursor.Cursor.item.Goals as goal
 
 pub returns-in_err-bare_item-clause-visited : goal.returns-in_err-bare_item-clause-visited
 returns-in_err-bare_item-clause-visited g c =
-    let p = err_from_is_err_and c.from_residual.result c.from_residual.ensures.1 in
-    rw (p.1, p.2) (bare_faulty g.V.Visitor.takes (edition c.args.self.now) (rest c.args.self.now) (input c.args.self.now)
+    rw (left_with c.from_residual.ensures.1) (bare_faulty g.V.Visitor.takes (edition c.args.self.now) (rest c.args.self.now) (input c.args.self.now)
     _ c.args.visitor.now c.in_err-bare_item.ensures.read)
 
 pub returns-in_err-visit-clause-visited : goal.returns-in_err-visit-clause-visited
 returns-in_err-visit-clause-visited g c =
-    let p = err_from_is_err_and c.from_residual-in_err-visit.result c.from_residual-in_err-visit.ensures.1 in
-    rw (p.1, p.2) (of_visitor g.V.Visitor.takes g.V.Visitor.fails item_events (kept c.args.self.now)
+    rw (left_with c.from_residual-in_err-visit.ensures.1) (of_visitor g.V.Visitor.takes g.V.Visitor.fails item_events (kept c.args.self.now)
     c.bare_item.new.self _ c.visit.new.visitor _ _ _ c.in_err-visit.ensures.failed
     (λ fault failed. bare_failed g.V.Visitor.takes g.V.Visitor.fails _ _ _ _ _ fault
     c.in_ok-bare_item.ensures.read.0 failed))

@@ -1,17 +1,16 @@
-use Rattle.std.proofs.lemmas.Result.{err_from_is_err_and}
 use Rattle.sfv_spec.specs.Events.{item_events}
 use Rattle.sfv_reading.specs.Items.{item_at}
 use Rattle.sfv_reading.specs.Members.{inner_at}
-use Rattle.sfv.specs.Cursor.{kept, edition}
-use Rattle.sfv.specs.Members.{behind_begin}
+use Rattle.sfv.specs.parser.Cursor.{kept, edition}
+use Rattle.sfv.specs.parser.Members.{behind_begin}
 use Rattle.sfv.proofs.visits.InnerLists.{list_member_visits, item_member_visits, list_begin_fails, item_begin_fails}
 use Rattle.sfv.proofs.visits.Parts.{kept_visits}
+use Rattle.sfv.proofs.reads.Errors.{left_with}
 use Rattle.sfv.proofs.parser.cursor.Cursor.member.Goals as goal
 
 pub returns-in_err-visit-clause-visited : goal.returns-in_err-visit-clause-visited
 returns-in_err-visit-clause-visited g c =
-    let p = err_from_is_err_and c.from_residual.result c.from_residual.ensures.1 in
-    rw (p.1, p.2) (list_begin_fails g.V.Visitor.takes g.V.Visitor.fails (edition c.args.self.now) _ _ _
+    rw (left_with c.from_residual.ensures.1) (list_begin_fails g.V.Visitor.takes g.V.Visitor.fails (edition c.args.self.now) _ _ _
     c.visit.new.visitor (kept c.args.self.now) c.take_if.new.self _ c.if-take_if.ensures.takes
     c.in_err-visit.ensures.failed)
 
@@ -24,8 +23,7 @@ returns-then-take_if-clause-visited g c =
 
 pub returns-in_err-visit-2-clause-visited : goal.returns-in_err-visit-2-clause-visited
 returns-in_err-visit-2-clause-visited g c =
-    let p = err_from_is_err_and c.from_residual-in_err-visit-2.result c.from_residual-in_err-visit-2.ensures.1 in
-    rw (p.1, p.2) (item_begin_fails g.V.Visitor.takes g.V.Visitor.fails (edition c.args.self.now) _ _ _
+    rw (left_with c.from_residual-in_err-visit-2.ensures.1) (item_begin_fails g.V.Visitor.takes g.V.Visitor.fails (edition c.args.self.now) _ _ _
     c.visit-2.new.visitor (kept c.args.self.now) c.take_if.new.self _ c.if-take_if.ensures.takes
     c.in_err-visit-2.ensures.failed)
 

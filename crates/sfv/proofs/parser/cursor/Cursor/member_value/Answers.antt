@@ -1,10 +1,10 @@
-use Rattle.std.proofs.lemmas.Result.{err_from_is_err_and}
 use Rattle.sfv_spec.specs.Events.{member_events, parameters_events}
 use Rattle.sfv_reading.specs.Items.{parameters_at}
 use Rattle.sfv_reading.specs.Members.{member_at}
-use Rattle.sfv.specs.Cursor.{kept, edition}
+use Rattle.sfv.specs.parser.Cursor.{kept, edition}
 use Rattle.sfv.proofs.visits.Keyed.{value_visits, true_begin_fails, true_bare_fails, true_visits}
 use Rattle.sfv.proofs.visits.Parts.{kept_visits}
+use Rattle.sfv.proofs.reads.Errors.{left_with}
 use Rattle.sfv.proofs.parser.cursor.Cursor.member_value.Goals as goal
 
 pub returns-then-take_if-clause-visited : goal.returns-then-take_if-clause-visited
@@ -16,15 +16,13 @@ returns-then-take_if-clause-visited g c =
 
 pub returns-in_err-visit-clause-visited : goal.returns-in_err-visit-clause-visited
 returns-in_err-visit-clause-visited g c =
-    let p = err_from_is_err_and c.from_residual.result c.from_residual.ensures.1 in
-    rw (p.1, p.2) (true_begin_fails g.V.Visitor.takes g.V.Visitor.fails (edition c.args.self.now) _ _ _
+    rw (left_with c.from_residual.ensures.1) (true_begin_fails g.V.Visitor.takes g.V.Visitor.fails (edition c.args.self.now) _ _ _
     c.visit.new.visitor (kept c.args.self.now) c.take_if.new.self _ c.if-take_if.ensures.takes
     c.in_err-visit.ensures.failed)
 
 pub returns-in_err-visit-2-clause-visited : goal.returns-in_err-visit-2-clause-visited
 returns-in_err-visit-2-clause-visited g c =
-    let p = err_from_is_err_and c.from_residual-in_err-visit-2.result c.from_residual-in_err-visit-2.ensures.1 in
-    rw (p.1, p.2) (true_bare_fails g.V.Visitor.takes g.V.Visitor.fails (edition c.args.self.now) _ _ _ _
+    rw (left_with c.from_residual-in_err-visit-2.ensures.1) (true_bare_fails g.V.Visitor.takes g.V.Visitor.fails (edition c.args.self.now) _ _ _ _
     c.visit-2.new.visitor (kept c.args.self.now) c.take_if.new.self _ c.if-take_if.ensures.takes
     c.in_ok-visit.ensures.taken c.in_err-visit-2.ensures.failed)
 

@@ -1,15 +1,14 @@
 use Rattle.std.proofs.Common.{◌∙◌, ap, not, refl, []}
-use Rattle.std.proofs.lemmas.Result.{err_from_is_err_and}
-use Rattle.sfv.specs.Cursor.{edition}
-use Rattle.sfv.specs.Members.{member_parts, one_member_at}
+use Rattle.sfv.specs.parser.Cursor.{edition}
+use Rattle.sfv.specs.parser.Members.{member_parts, one_member_at}
 use Rattle.sfv.proofs.reads.Delimiters.{at_end, members_none, members_first, ends_there}
 use Rattle.sfv.proofs.visits.Loops.{begun, shorter, first_fails, more, ended, delimiter_fails, one_fails, members_loop}
+use Rattle.sfv.proofs.reads.Errors.{left_with}
 use Rattle.sfv.proofs.parser.cursor.Cursor.members.Goals as goal
 
 pub returns-in_err-consume-clause-visited : goal.returns-in_err-consume-clause-visited
 returns-in_err-consume-clause-visited g c =
-    let p = err_from_is_err_and c.from_residual.result c.from_residual.ensures.1 in
-    rw (p.1, p.2) (first_fails g.V.Visitor.takes g.V.Visitor.fails (members_loop g.M.Member.keyed) c.args.self.now _
+    rw (left_with c.from_residual.ensures.1) (first_fails g.V.Visitor.takes g.V.Visitor.fails (members_loop g.M.Member.keyed) c.args.self.now _
     c.skip_sp.new.self c.consume.new.cursor _ c.consume.new.visitor _ (
       members_first (member_parts g.M.Member.keyed) (one_member_at g.M.Member.keyed (edition c.args.self.now)) _ _ _
           c.skip_sp.ensures.skipped.1 (rw (← c.peek.ensures) (c.is_none.ensures ∙ ap not c.if-is_none.false)),
@@ -30,9 +29,7 @@ loop-self-init g c = record {
 
 pub returns-in_err-consume_comma-clause-visited : goal.returns-in_err-consume_comma-clause-visited
 returns-in_err-consume_comma-clause-visited g c =
-    let p = err_from_is_err_and c.from_residual-in_err-consume_comma.result
-    c.from_residual-in_err-consume_comma.ensures.1 in
-    rw (p.1, p.2) (delimiter_fails g.V.Visitor.takes g.V.Visitor.fails (members_loop g.M.Member.keyed) c.args.self.now _
+    rw (left_with c.from_residual-in_err-consume_comma.ensures.1) (delimiter_fails g.V.Visitor.takes g.V.Visitor.fails (members_loop g.M.Member.keyed) c.args.self.now _
     c.loop-self.self c.consume_comma.new.self _ c.loop-self.visitor _ c.loop-self.invariant.visited
     c.in_err-consume_comma.ensures)
 
@@ -54,9 +51,8 @@ loop-self-preserved g c =
 
 pub returns-in_err-consume-2-clause-visited : goal.returns-in_err-consume-2-clause-visited
 returns-in_err-consume-2-clause-visited g c =
-    let p = err_from_is_err_and c.from_residual-in_err-consume-2.result c.from_residual-in_err-consume-2.ensures.1 in
     let wanted = rw c.if-branch.true at c.in_ok-consume_comma.ensures in
-    rw (p.1, p.2) (one_fails g.V.Visitor.takes g.V.Visitor.fails (members_loop g.M.Member.keyed) c.args.self.now _
+    rw (left_with c.from_residual-in_err-consume-2.ensures.1) (one_fails g.V.Visitor.takes g.V.Visitor.fails (members_loop g.M.Member.keyed) c.args.self.now _
     c.loop-self.self c.consume_comma.new.self c.consume-in-loop-self.new.cursor _ _
     c.consume-in-loop-self.new.visitor _ c.loop-self.invariant.visited wanted c.in_err-consume-2.ensures.visited)
 

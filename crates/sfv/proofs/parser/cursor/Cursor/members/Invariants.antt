@@ -1,7 +1,7 @@
 use Rattle.std.proofs.Common.{length}
 use Rattle.sfv_reading.specs.Fields.{members_at}
-use Rattle.sfv.specs.Cursor.{edition, rest}
-use Rattle.sfv.specs.Members.{member_parts, one_member_at}
+use Rattle.sfv.specs.parser.Cursor.{edition, rest}
+use Rattle.sfv.specs.parser.Members.{member_parts, one_member_at}
 use Rattle.sfv.proofs.visits.Loops.{VisitedSoFar, members_loop}
 use Rattle.sfv.proofs.parser.cursor.Cursor.members.Given as goal
 

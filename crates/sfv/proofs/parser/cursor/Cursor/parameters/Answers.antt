@@ -1,5 +1,5 @@
 use Rattle.std.proofs.Common.{refl}
-use Rattle.sfv.specs.Cursor.{edition, kept, rest}
+use Rattle.sfv.specs.parser.Cursor.{edition, kept, rest}
 use Rattle.sfv.proofs.reads.Steps.{parameter_none}
 use Rattle.sfv.proofs.visits.Parameters.{visited_none, end_visits}
 use Rattle.sfv.proofs.parser.cursor.Cursor.parameters.Goals as goal

@@ -1,11 +1,10 @@
 use Rattle.std.proofs.Common.{◌∙◌, true, refl, sym}
-use Rattle.std.proofs.lemmas.Result.{err_from_is_err_and}
 use Rattle.std.proofs.lemmas.Bool.{true≢false}
 use Rattle.sfv_reading.specs.Reader.{byte}
 use Rattle.sfv_reading.specs.Quoted.{behind_bytes}
-use Rattle.sfv.specs.Cursor.{rest, kept, NextIs}
-use Rattle.sfv.specs.Quoted.{mark_of, inside}
-use Rattle.sfv.proofs.reads.Errors.{ErrorOf-same}
+use Rattle.sfv.specs.parser.Cursor.{rest, kept, NextIs}
+use Rattle.sfv.specs.parser.Quoted.{mark_of, inside}
+use Rattle.sfv.proofs.reads.Errors.{left_with, ErrorOf-same}
 use Rattle.sfv.proofs.reads.Escapes.{begins, all_plain, behind_fault, no_escape, some_escape}
 use Rattle.sfv.proofs.parser.cursor.Cursor.quoted_text.Goals as goal
 
@@ -32,8 +31,7 @@ returns-then-not-next_is-clause-read g c =
 
 pub returns-in_err-bytes-clause-read : goal.returns-in_err-bytes-clause-read
 returns-in_err-bytes-clause-read g c =
-    let r = err_from_is_err_and c.from_residual.result c.from_residual.ensures.1 in
-    rw (r.1, r.2)
+    rw (left_with c.from_residual.ensures.1)
     (ErrorOf-same _ _ _ (λ _ t. behind_bytes c.plain-plain.result.now (inside g.Q.QuotedText.display t))
     (rest c.take_if.new.self) _ (c.take_if.ensures.kept ∙ c.plain-plain.ensures.kept)
     (begins g.Q.QuotedText.display _ _ _ _ c.plain-plain.ensures.each c.plain-plain.ensures.taken

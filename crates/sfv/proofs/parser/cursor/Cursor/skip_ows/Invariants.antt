@@ -1,6 +1,6 @@
 use Rattle.std.proofs.Common.{◌≡◌, length}
 use Rattle.sfv_spec.specs.Classes.{is_space_or_tab}
-use Rattle.sfv.specs.Cursor.{kept, rest}
+use Rattle.sfv.specs.parser.Cursor.{kept, rest}
 use Rattle.sfv.proofs.reads.Runs.{Skipped}
 use Rattle.sfv.proofs.parser.cursor.Cursor.skip_ows.Given as goal
 

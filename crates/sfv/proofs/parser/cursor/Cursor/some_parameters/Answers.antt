@@ -1,10 +1,9 @@
 use Rattle.std.proofs.Common.{◌∙◌, refl}
-use Rattle.std.proofs.lemmas.Result.{err_from_is_err_and}
 use Rattle.sfv_spec.specs.Events.{parameters_events}
 use Rattle.sfv_reading.specs.Items.{parameter_at}
 use Rattle.sfv_reading.proofs.sound.Items.{Consumes-parameter}
-use Rattle.sfv.specs.Cursor.{edition, kept, rest}
-use Rattle.sfv.proofs.reads.Errors.{kept_reads}
+use Rattle.sfv.specs.parser.Cursor.{edition, kept, rest}
+use Rattle.sfv.proofs.reads.Errors.{left_with, kept_reads}
 use Rattle.sfv.proofs.visits.Parameters.{of_visitor, visited_none, visited_more, visited_error, parameter_failed}
 use Rattle.sfv.proofs.visits.Parameters.{end_visits}
 use Rattle.sfv.proofs.parser.cursor.Cursor.some_parameters.Goals as goal
@@ -18,16 +17,14 @@ loop-parameter-init g c = record {
 
 pub returns-in_err-parameter-clause-visited : goal.returns-in_err-parameter-clause-visited
 returns-in_err-parameter-clause-visited g c =
-    let p = err_from_is_err_and c.from_residual.result c.from_residual.ensures.1 in
-    rw (p.1, p.2) (visited_error g.V.Visitor.takes _ _ _ _ _ _ _ c.loop-parameter.invariant.kept
+    rw (left_with c.from_residual.ensures.1) (visited_error g.V.Visitor.takes _ _ _ _ _ _ _ c.loop-parameter.invariant.kept
     c.loop-parameter.invariant.visited c.in_err-parameter.ensures.read)
 
 pub returns-in_err-visit-clause-visited : goal.returns-in_err-visit-clause-visited
 returns-in_err-visit-clause-visited g c =
-    let p = err_from_is_err_and c.from_residual-in_err-visit.result c.from_residual-in_err-visit.ensures.1 in
     let e = rw c.in-Some.is at c.in_ok-parameter.ensures.read in
     let read = kept_reads parameter_at _ _ _ c.loop-parameter.invariant.kept ∙ e.0 in
-    rw (p.1, p.2) (of_visitor g.V.Visitor.takes g.V.Visitor.fails parameters_events (kept c.args.self.now)
+    rw (left_with c.from_residual-in_err-visit.ensures.1) (of_visitor g.V.Visitor.takes g.V.Visitor.fails parameters_events (kept c.args.self.now)
     c.parameter.new.self _ c.visit.new.visitor _ _ _ c.in_err-visit.ensures.failed
     (λ fault failed. parameter_failed g.V.Visitor.takes g.V.Visitor.fails _ _ _ _ _ _ _ _ fault
     c.loop-parameter.invariant.visited read failed))

@@ -1,5 +1,5 @@
 use Rattle.std.proofs.Common.{◌≡◌, length}
-use Rattle.sfv.specs.Cursor.{kept, edition, rest}
+use Rattle.sfv.specs.parser.Cursor.{kept, edition, rest}
 use Rattle.sfv.proofs.visits.Parameters.{VisitedParameters}
 use Rattle.sfv.proofs.parser.cursor.Cursor.some_parameters.Given as goal
 

@@ -1,6 +1,6 @@
 use Rattle.std.proofs.Common.{refl, ◌∙◌, ap}
 use Rattle.std.specs.Prelude.{is_some}
-use Rattle.sfv.specs.Cursor.{kept}
+use Rattle.sfv.specs.parser.Cursor.{kept}
 use Rattle.sfv.proofs.reads.Errors.{FaultOf-here}
 use Rattle.sfv.proofs.reads.Escapes.{stops}
 use Rattle.sfv.proofs.parser.cursor.Cursor.stop.Goals as goal

@@ -1,16 +1,14 @@
 use Rattle.std.proofs.Common.{◌∙◌, false}
-use Rattle.std.proofs.lemmas.Result.{err_from_is_err_and}
 use Rattle.sfv_spec.specs.Values.{string}
 use Rattle.sfv_reading.specs.Quoted.{string_at}
-use Rattle.sfv.proofs.reads.Errors.{ErrorOf-part}
+use Rattle.sfv.proofs.reads.Errors.{left_with, ErrorOf-part}
 use Rattle.sfv.proofs.reads.Steps.{bare_string, given}
 use Rattle.sfv.proofs.reads.Escapes.{string_opens, behind_opening}
 use Rattle.sfv.proofs.parser.cursor.Cursor.string_item.Goals as goal
 
 pub returns-in_err-string-clause-read : goal.returns-in_err-string-clause-read
 returns-in_err-string-clause-read c =
-    let p = err_from_is_err_and c.from_residual.result c.from_residual.ensures.1 in
-    rw (p.1, p.2) (ErrorOf-part _ _ _ (λ _. string_at) _ _ _ c.skip.ensures.kept
+    rw (left_with c.from_residual.ensures.1) (ErrorOf-part _ _ _ (λ _. string_at) _ _ _ c.skip.ensures.kept
     (bare_string _ _ _ c.requires c.skip.ensures.skips) c.in_err-string.ensures.read)
 
 pub returns-clause-read : goal.returns-clause-read

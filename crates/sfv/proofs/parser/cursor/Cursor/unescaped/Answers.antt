@@ -1,17 +1,16 @@
 use Rattle.std.proofs.Common.{◌∙◌, true}
-use Rattle.std.proofs.lemmas.Result.{err_from_is_err_and}
 use Rattle.sfv_reading.specs.Reader.{byte}
-use Rattle.sfv.specs.Cursor.{kept, rest, TakesIf}
-use Rattle.sfv.specs.Quoted.{mark_of}
+use Rattle.sfv.specs.parser.Cursor.{kept, rest, TakesIf}
+use Rattle.sfv.specs.parser.Quoted.{mark_of}
 use Rattle.sfv.proofs.reads.Escapes.{closed_behind, past_escape, past_run, escape_fails}
+use Rattle.sfv.proofs.reads.Errors.{left_with}
 use Rattle.sfv.proofs.parser.cursor.Cursor.unescaped.Goals as goal
 
 pub returns-in_err-byte : goal.returns-in_err-byte
 returns-in_err-byte g c =
-    let r = err_from_is_err_and c.from_residual-in_err-byte.result c.from_residual-in_err-byte.ensures.1 in
     let mark : TakesIf (byte (mark_of g.Q.QuotedText.display)) true (rest c.take_if.new.self)
     (rest c.take_if-in-loop-self.new.self) = rw (← c.mark.ensures) c.if-take_if.ensures.takes in
-    rw (r.1, r.2)
+    rw (left_with c.from_residual-in_err-byte.ensures.1)
     (escape_fails g.Q.QuotedText.display (kept c.take_if-in-loop-self.new.self) (kept c.args.self.now) _
     c.loop-self.bytes.items _ _ _ _ (c.take_if-in-loop-self.ensures.kept ∙ c.take_if.ensures.kept
     ∙ c.loop-self.invariant.kept)

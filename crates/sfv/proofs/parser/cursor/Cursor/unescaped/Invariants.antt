@@ -1,7 +1,7 @@
 use Rattle.std.proofs.Common.{◌≡◌, length}
 use Rattle.sfv_reading.specs.Quoted.{behind_bytes}
-use Rattle.sfv.specs.Cursor.{kept, rest}
-use Rattle.sfv.specs.Quoted.{inside}
+use Rattle.sfv.specs.parser.Cursor.{kept, rest}
+use Rattle.sfv.specs.parser.Quoted.{inside}
 use Rattle.sfv.proofs.parser.cursor.Cursor.unescaped.Given as goal
 
 abbrev pub invariant-loop-self : goal.invariant-loop-self

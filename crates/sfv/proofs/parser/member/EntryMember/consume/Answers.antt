@@ -1,15 +1,14 @@
-use Rattle.std.proofs.lemmas.Result.{err_from_is_err_and}
 use Rattle.sfv_spec.specs.Events.{entry, member_events}
 use Rattle.sfv_reading.specs.Members.{member_at, entry_at}
-use Rattle.sfv.specs.Cursor.{kept, edition}
+use Rattle.sfv.specs.parser.Cursor.{kept, edition}
 use Rattle.sfv.proofs.visits.Parts.{led_visits, led_fails}
+use Rattle.sfv.proofs.reads.Errors.{left_with}
 use Rattle.sfv.proofs.parser.member.EntryMember.consume.Goals as goal
 
 pub returns-in_err-visit-clause-visited : goal.returns-in_err-visit-clause-visited
 unfolding entry_at
 returns-in_err-visit-clause-visited g c =
-    let p = err_from_is_err_and c.from_residual.result c.from_residual.ensures.1 in
-    rw (p.1, p.2) (led_fails g.V.Visitor.takes g.V.Visitor.fails entry member_events
+    rw (left_with c.from_residual.ensures.1) (led_fails g.V.Visitor.takes g.V.Visitor.fails entry member_events
     (member_at (edition c.args.cursor.now)) _ _ c.visit.new.visitor (kept c.args.cursor.now) c.args.cursor.now _
     c.in_err-visit.ensures.failed)
 

@@ -1,22 +1,19 @@
-use Rattle.std.proofs.lemmas.Result.{err_from_is_err_and}
 use Rattle.sfv_spec.specs.Events.{member_events}
 use Rattle.sfv_reading.specs.Members.{member_value_at}
-use Rattle.sfv.specs.Cursor.{kept, edition}
-use Rattle.sfv.proofs.reads.Errors.{ErrorOf-fault}
+use Rattle.sfv.specs.parser.Cursor.{kept, edition}
+use Rattle.sfv.proofs.reads.Errors.{left_with, ErrorOf-fault}
 use Rattle.sfv.proofs.visits.Keyed.{key_fails, keyed_fails, keyed_visits}
 use Rattle.sfv.proofs.visits.Parts.{kept_visits}
 use Rattle.sfv.proofs.parser.member.KeyedEntryMember.consume.Goals as goal
 
 pub returns-in_err-key-clause-visited : goal.returns-in_err-key-clause-visited
 returns-in_err-key-clause-visited g c =
-    let p = err_from_is_err_and c.from_residual.result c.from_residual.ensures.1 in
-    rw (p.1, p.2) (key_fails g.V.Visitor.takes g.V.Visitor.fails (edition c.args.cursor.now) _ (kept c.args.cursor.now)
+    rw (left_with c.from_residual.ensures.1) (key_fails g.V.Visitor.takes g.V.Visitor.fails (edition c.args.cursor.now) _ (kept c.args.cursor.now)
     _ c.args.visitor.now (ErrorOf-fault _ _ _ c.in_err-key.ensures.read))
 
 pub returns-in_err-visit-clause-visited : goal.returns-in_err-visit-clause-visited
 returns-in_err-visit-clause-visited g c =
-    let p = err_from_is_err_and c.from_residual-in_err-visit.result c.from_residual-in_err-visit.ensures.1 in
-    rw (p.1, p.2) (keyed_fails g.V.Visitor.takes g.V.Visitor.fails (edition c.args.cursor.now) _ _ _ _
+    rw (left_with c.from_residual-in_err-visit.ensures.1) (keyed_fails g.V.Visitor.takes g.V.Visitor.fails (edition c.args.cursor.now) _ _ _ _
     c.visit.new.visitor (kept c.args.cursor.now) c.key.new.self _ c.in_ok-key.ensures.read.0
     c.in_err-visit.ensures.failed)
 

@@ -1,8 +1,8 @@
 use Rattle.std.proofs.Common.{refl, ◌∙◌, sym, ap, arith, length, ℕ}
-use Rattle.sfv.specs.Cursor.{kept, rest}
+use Rattle.sfv.specs.parser.Cursor.{kept, rest}
 use Rattle.sfv.proofs.reads.Errors.{FaultOf-here}
 use Rattle.sfv.proofs.reads.Escapes.{string_cut, string_wrong, string_escaped, no_first, first_is}
-use Rattle.sfv.proofs.parser.string.InStringQuotedText.escaped.Goals as goal
+use Rattle.sfv.proofs.parser.quoted.InStringQuotedText.escaped.Goals as goal
 
 pub returns-in_default : goal.returns-in_default
 returns-in_default c = rw c.error.ensures (FaultOf-here _ c.args.cursor.now (kept c.args.cursor.now) _ refl

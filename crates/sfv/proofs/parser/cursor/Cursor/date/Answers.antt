@@ -1,12 +1,11 @@
 use Rattle.std.proofs.Common.{◌∙◌, true}
-use Rattle.std.proofs.lemmas.Result.{err_from_is_err_and}
 use Rattle.sfv.proofs.reads.Steps.{date_integer, date_decimal, date_fault}
-use Rattle.sfv.proofs.parser.cursor.Cursor.seconds.Goals as goal
+use Rattle.sfv.proofs.reads.Errors.{left_with}
+use Rattle.sfv.proofs.parser.cursor.Cursor.date.Goals as goal
 
 pub returns-in_err-seconds : goal.returns-in_err-seconds
 returns-in_err-seconds c =
-    let p = err_from_is_err_and c.from_residual.result c.from_residual.ensures.1 in
-    rw (p.1, p.2) (date_fault _ _ _ _ _ c.requires c.skip.ensures.skips c.skip.ensures.kept
+    rw (left_with c.from_residual.ensures.1) (date_fault _ _ _ _ _ c.requires c.skip.ensures.skips c.skip.ensures.kept
     (c.in_err-seconds.ensures true))
 
 pub returns-in-Integer : goal.returns-in-Integer

@@ -7,14 +7,16 @@ use Rattle.std.specs.declared.vec.Vec.{Vec}
 use Rattle.std.specs.declared.string.String as std_string
 use Rattle.std.specs.declared.borrow.CowStr.{CowStr}
 use Rattle.sfv_spec.specs.Ascii.{percent_sign, backslash, double_quote, equals_sign}
+use Rattle.sfv_spec.proofs.Marks.{semicolon}
 use Rattle.sfv_spec.specs.Texts.{RunOf}
+use Rattle.sfv_spec.specs.Grammar.{Spaces}
 use Rattle.sfv_spec.specs.Classes.{is_lower_hexadecimal}
-use Rattle.sfv_spec.specs.Strings.{is_plain_in_string, is_plain_in_display}
 use Rattle.sfv_base.specs.declared.error.Error.{Error}
 use Rattle.sfv_base.specs.declared.error.ErrorKind.{ErrorKind}
 use Rattle.sfv_base.specs.declared.error.ErrorKind.TheVariants.{UnterminatedString, InvalidStringCharacter}
 use Rattle.sfv_base.specs.declared.error.ErrorKind.TheVariants.{UnterminatedDisplayString}
 use Rattle.sfv_base.specs.declared.error.ErrorKind.TheVariants.{InvalidDisplayStringCharacter}
+use Rattle.sfv_text.specs.KeyText.{key_text}
 use Rattle.sfv_text.specs.TokenText.{TokenRef}
 use Rattle.sfv_bare.specs.declared.bare.GenericBareItem.{GenericBareItem}
 use Rattle.sfv_bare.specs.declared.bare.GenericBareItem.TheVariants as bare
@@ -23,14 +25,10 @@ use Rattle.sfv_bare.specs.BareItems.{is_borrowed_string, is_borrowed_text}
 use Rattle.sfv_reading.specs.Reader.{Answer, Reader}
 use Rattle.sfv_reading.specs.Quoted.{behind_bytes, string_from, outside, percent, digit, pieces_from}
 use Rattle.sfv.specs.declared.parser.cursor.Cursor.{Cursor}
+use Rattle.sfv.specs.declared.parser.item.ReadParameter.{ReadParameter}
 use Rattle.sfv.specs.declared.parser.quoted.QuotedBytes.{QuotedBytes}
 use Rattle.sfv.specs.declared.parser.quoted.QuotedBytes.TheVariants as quoted
-use Rattle.sfv.specs.Cursor.{kept, input, rest, IsFaultOf}
-
--- the bytes that the text writes for themselves
-abbrev pub plain_of : Bool → ℕ → Bool
-plain_of true = is_plain_in_display
-plain_of false = is_plain_in_string
+use Rattle.sfv.specs.parser.Cursor.{kept, input, rest, IsFaultOf}
 
 -- the byte that opens an escape
 abbrev pub mark_of : Bool → ℕ
@@ -98,6 +96,12 @@ abbrev pub IsBorrowedValue : GenericBareItem StringFromInput (Vec ℕ Global) To
     → Type 0
 IsBorrowedValue item t left = (q : List ℕ) → t ≡ equals_sign ∷ q → IsBorrowedUpTo item q left
 
+-- After the semicolon, spaces and its key, a text that is the parameter's value is borrowed from the input exactly if it
+-- was written without an escape.
+abbrev pub IsBorrowedParameter : ReadParameter → List ℕ → List ℕ → Type 0
+IsBorrowedParameter p t left = (s r : List ℕ) × (t ≡ semicolon ∷ (s ++ (key_text p.key ++ r))) × Spaces s
+    × IsBorrowedValue p.value r left
+
 -- the byte was taken that an escape stands for, after its mark
 abbrev pub ReadsEscape : Bool → Cursor → Cursor → Result ℕ Error → Type 0
 ReadsEscape display before after (Ok c) =
@@ -115,6 +119,6 @@ ReadsDigit before after (Err e) =
     × ((high : ℕ) → IsFaultOf (input before) e (pieces_from (digit high) (rest before)))
 
 -- The reader gives this text, and the rest after it.
-abbrev pub GivesText : List ℕ → Result (std_string.String Global) Error → List ℕ → Answer (List ℕ) → Type 0
-GivesText input (Ok text) rest answer = answer ≡ Ok (string_bytes text, rest)
-GivesText input (Err e) rest answer = IsFaultOf input e answer
+abbrev pub GivesDisplayText : List ℕ → Result (std_string.String Global) Error → List ℕ → Answer (List ℕ) → Type 0
+GivesDisplayText input (Ok text) rest answer = answer ≡ Ok (string_bytes text, rest)
+GivesDisplayText input (Err e) rest answer = IsFaultOf input e answer

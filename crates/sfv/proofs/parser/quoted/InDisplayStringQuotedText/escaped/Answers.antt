@@ -1,18 +1,16 @@
 use Rattle.std.proofs.Common.{◌∙◌, ap, arith, length, ℕ}
-use Rattle.std.proofs.lemmas.Result.{err_from_is_err_and}
 use Rattle.sfv.proofs.reads.Escapes.{both_digits, second_fault}
-use Rattle.sfv.proofs.parser.display_string.InDisplayStringQuotedText.escaped.Goals as goal
+use Rattle.sfv.proofs.reads.Errors.{left_with}
+use Rattle.sfv.proofs.parser.quoted.InDisplayStringQuotedText.escaped.Goals as goal
 
 pub returns-in_err-high : goal.returns-in_err-high
 returns-in_err-high c =
-    let r = err_from_is_err_and c.from_residual.result c.from_residual.ensures.1 in
-    rw (r.1, r.2) c.in_err-high.ensures.0
+    rw (left_with c.from_residual.ensures.1) c.in_err-high.ensures.0
 
 pub returns-in_err-low : goal.returns-in_err-low
 returns-in_err-low c =
-    let r = err_from_is_err_and c.from_residual-in_err-low.result c.from_residual-in_err-low.ensures.1 in
     let h = c.in_ok-high.ensures in
-    rw (r.1, r.2) (second_fault _ _ _ _ _ c.in_ok-high.high h.2 h.0 h.1 (c.in_err-low.ensures.1 c.in_ok-high.high))
+    rw (left_with c.from_residual-in_err-low.ensures.1) (second_fault _ _ _ _ _ c.in_ok-high.high h.2 h.0 h.1 (c.in_err-low.ensures.1 c.in_ok-high.high))
 
 pub returns : goal.returns
 returns c =

@@ -1,9 +1,12 @@
--- Runs of symbols of Base64, and of padding.
-use Rattle.std.specs.Prelude.{◌≡◌, ℕ, ◌≤◌, ◌⊎◌, List, length, take, drop, replicate}
+-- Runs of symbols of Base64, and of padding, and what symbols decode to.
+use Rattle.std.specs.Prelude.{◌≡◌, ℕ, ◌≤◌, ◌⊎◌, List, length, take, drop, replicate, map}
+use Rattle.base64.specs.Rfc4648.{encode_symbols}
 use Rattle.sfv_spec.specs.Ascii.{equals_sign}
 use Rattle.sfv_spec.specs.Texts.{RunOf}
+use Rattle.sfv_spec.specs.Base64.{symbols}
 use Rattle.sfv_spec.proofs.Marks.{is_symbol}
 use Rattle.sfv_reading.specs.Reader.{Apart, byte}
+use Rattle.sfv_reading.specs.Content.{bytes_from, symbol_value}
 
 -- the first n bytes, and no more, are symbols
 pub record IsSymbolRun (t : List ℕ) (n : ℕ) : Type 0 where
@@ -17,3 +20,11 @@ pub record IsPaddingRun (t : List ℕ) (most n : ℕ) : Type 0 where
   pub room : n ≤ most
   pub each : take n t ≡ replicate n equals_sign
   pub ends : (n ≡ most) ⊎ Apart (byte equals_sign) (drop n t)
+
+-- the bytes of these symbols
+abbrev pub decoded_symbols : List ℕ → List ℕ
+decoded_symbols cs = bytes_from (map symbol_value cs)
+
+-- their spare bits are zeros: they are written again as the same symbols
+pub record HasZeros (cs : List ℕ) : Type 0 where
+  pub text : encode_symbols symbols (decoded_symbols cs) ≡ cs

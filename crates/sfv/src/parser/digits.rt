@@ -3,7 +3,7 @@
 ghost use Rattle.std.specs.Prelude.{◌≡◌, ◌≤◌, ◌<◌, ◌^◌, ◌*◌, ◌-◌, ℕ, List, length, take, drop, Ok};
 ghost use Rattle.sfv_spec.specs.Classes.{is_digit};
 ghost use Rattle.sfv_reading.specs.Reader.{up_to};
-ghost use Rattle.sfv.specs.Digits.{Spells};
+ghost use Rattle.sfv.specs.parser.Values.{Spells};
 
 #[inline(always)]
 pub(crate) fn is_digit_byte(byte: u8) -> bool

@@ -16,9 +16,9 @@ use Rattle.sfv_reading.specs.Fields.{whole_field_at, read_field}
 use Rattle.sfv_reading.specs.Visits.{Visited, VisitorFails}
 use Rattle.sfv.specs.declared.parser.Parser.{Parser}
 use Rattle.sfv.specs.declared.parser.cursor.Cursor.{Cursor}
-use Rattle.sfv.specs.Cursor.{kept, kept_input, edition, rest, IsErrorOf}
-use Rattle.sfv.specs.Fields.{located_whole}
-use Rattle.sfv.specs.Quoted.{IsBorrowedUnlessEscaped}
+use Rattle.sfv.specs.parser.Cursor.{kept, kept_input, edition, rest, IsErrorOf}
+use Rattle.sfv.specs.parser.Cursor.{located_whole}
+use Rattle.sfv.specs.parser.Quoted.{IsBorrowedUnlessEscaped}
 use Rattle.sfv_reading.specs.Items.{item_of, item_at}
 use Rattle.sfv_bare.specs.BareItems.{input_value}
 use Rattle.sfv_visitor.specs.declared.visitor.Event.{Event}

@@ -6,7 +6,7 @@ use Rattle.sfv_base.specs.declared.error.Error.{Error}
 use Rattle.sfv_base.specs.declared.error.ErrorKind.{ErrorKind}
 use Rattle.sfv_base.specs.Errors.{error_kind, kind_of, index_of}
 use Rattle.sfv_bare.specs.BareItems.{edition_of}
-use Rattle.sfv_reading.specs.Reader.{Answer, Reader, Apart}
+use Rattle.sfv_reading.specs.Reader.{Fault, Answer, Reader, Apart}
 use Rattle.sfv.specs.declared.parser.Parser.{Parser}
 use Rattle.sfv.specs.declared.parser.cursor.Cursor.{Cursor}
 use Rattle.sfv.specs.Memory.{IsRefusal}
@@ -36,6 +36,11 @@ rest c = drop c.index (input c)
 abbrev pub located : {A : Type 0} → Answer A → Result (A × List ℕ) (ErrorKind × List ℕ)
 located (Ok x) = Ok x
 located (Err f) = Err (error_kind f.kind, f.rest)
+
+-- the same of a whole input, after which nothing is left
+abbrev pub located_whole : {A : Type 0} → Result A Fault → Result A (ErrorKind × List ℕ)
+located_whole (Ok v) = Ok v
+located_whole (Err f) = Err (error_kind f.kind, f.rest)
 
 -- the error is the fault that the reader answers, at its place in the input
 abbrev pub IsFaultOf : {A : Type 0} → List ℕ → Error → Answer A → Type 0

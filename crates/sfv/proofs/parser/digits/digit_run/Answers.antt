@@ -1,7 +1,7 @@
 use Rattle.std.proofs.Common.{arith, sym, ◌∙◌}
 use Rattle.sfv_spec.specs.Classes.{is_digit}
 use Rattle.sfv.proofs.reads.Runs.{up_to_run, spells_none, spells_more, spelt_below}
-use Rattle.sfv.proofs.parser.runs.digit_run.Goals as goal
+use Rattle.sfv.proofs.parser.digits.digit_run.Goals as goal
 
 pub overflow_mul-value : goal.overflow_mul-value
 overflow_mul-value c = omega (arith, spelt_below _ _ 14 c.loop-count.invariant.2 (omega arith))

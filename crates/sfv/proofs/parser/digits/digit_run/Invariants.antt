@@ -1,6 +1,6 @@
 use Rattle.std.proofs.Common.{◌-◌, ◌≤◌, length, take}
-use Rattle.sfv.specs.Digits.{Spells}
-use Rattle.sfv.proofs.parser.runs.digit_run.Given as goal
+use Rattle.sfv.specs.parser.Values.{Spells}
+use Rattle.sfv.proofs.parser.digits.digit_run.Given as goal
 
 abbrev pub invariant-loop-count : goal.invariant-loop-count
 invariant-loop-count l = (l.count ≤ l.most) × (l.count ≤ length l.bytes)

@@ -1,0 +1,33 @@
+//! Visiting an event, and finishing, with the errors of a parser.
+
+ghost use Rattle.std.specs.Prelude.{OnOk, IfOk, IfErr};
+ghost use Rattle.sfv_visitor.specs.Events.{event_of};
+ghost use Rattle.sfv.specs.parser.Visits.{IsOfVisitor};
+
+use sfv_base::error::ParseError;
+use sfv_visitor::visitor::{Event, Visitor};
+
+/// Visits an event, or fails with the visitor's error.
+#[inline(always)]
+pub(crate) fn visit<'de, V: Visitor<'de>>(
+    visitor: &mut V,
+    event: Event<'de>,
+) -> Result<(), ParseError<V::Error>>
+    requires { V.is_ready visitor.old }
+    ensures ready { OnOk result (V.is_ready visitor.new) }
+    ensures taken { OnOk result (V.takes visitor.old (event_of event.entry) visitor.new) }
+    ensures taken_read { OnOk result (V.takes_read visitor.old event.entry visitor.new) }
+    ensures failed { IfErr result (IsOfVisitor (V.fails visitor.old (event_of event.entry))) }
+{
+    visitor.event(event).map_err(ParseError::Visitor)
+}
+
+/// Returns what the visitor makes of the events, or fails with its error.
+#[inline(always)]
+pub(crate) fn finish<'de, V: Visitor<'de>>(visitor: V) -> Result<V::Out, ParseError<V::Error>>
+    requires { V.is_ready visitor }
+    ensures answered { IfOk result (V.finishes visitor) }
+    ensures failed { IfErr result (IsOfVisitor (V.finish_fails visitor)) }
+{
+    visitor.finish().map_err(ParseError::Visitor)
+}
