@@ -1,5 +1,5 @@
 -- A field of a request, as the bytes of its head have it. What a head is, `httparse` defines (RFC 9112).
-use Rattle.std.specs.Prelude.{◌≡◌, ◌≢◌, ◌⊎◌, ℕ, List, Bool, map, filter, codes}
+use Rattle.std.specs.Prelude.{◌≡◌, ◌≢◌, ◌⊎◌, ℕ, List, Bool, Option, Some, None, map, filter, codes}
 use Rattle.std.specs.Str.{str_eq_ignore_ascii_case}
 use Rattle.httparse.specs.Grammar.{Field, field_value, RequestHead, ReadsRequest, NeverHasRequest}
 use Rattle.httparse.specs.Spans.{RequestOverflows, RequestExceeds}
@@ -7,7 +7,7 @@ use Rattle.httparse.specs.declared.Error.{Error}
 use Rattle.httparse.specs.declared.Error.TheVariants.{TooManyHeaders}
 use Rattle.sfv.specs.Texts.{joined}
 use Rattle.sfv.specs.Values.{Edition, dictionary_field}
-use Rattle.sfv.specs.Errors.{out_of_memory}
+use Rattle.sfv.specs.Errors.{out_of_memory, error_text}
 use Rattle.sfv.specs.Parsers.{IsParseError}
 use Rattle.sfv_fields.specs.Priority.{PriorityValue, IsPriorityOf}
 use Rattle.sfv_request.specs.declared.fault.RequestFault.{RequestFault}
@@ -50,3 +50,8 @@ IsRequestFault edition room input (faults.Head error) = IsHeadFault room input e
 IsRequestFault edition room input (faults.Field error) =
     (error ≡ out_of_memory) ⊎ ((text : List ℕ) × IsRequestField (codes "priority") input text
     × IsParseError edition dictionary_field text error)
+
+-- what a fault prints; of the head's it isn't said
+abbrev pub printed : RequestFault → Option (List ℕ)
+printed (faults.Head error) = None
+printed (faults.Field error) = Some (error_text error)

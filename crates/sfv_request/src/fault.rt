@@ -2,6 +2,7 @@
 
 ghost use Rattle.std.specs.Prelude.{◌≡◌};
 ghost use Rattle.sfv.specs.Errors.{out_of_memory};
+ghost use Rattle.sfv_request.specs.Requests.{printed};
 ghost use Rattle.sfv_request.specs.declared.fault.RequestFault.TheVariants as faults;
 
 use std::alloc::AllocError;
@@ -17,6 +18,8 @@ pub enum RequestFault {
 }
 
 impl fmt::Display for RequestFault {
+    ghost output = { λ fault. printed fault };
+
     fn fmt<W: fmt::Write>(&self, f: &mut fmt::Formatter<W>) -> fmt::Result {
         match self {
             RequestFault::Head(error) => write!(f, "{error}"),

@@ -2,10 +2,11 @@
 
 use httparse::Status;
 use httparse::spans::{EMPTY_HEADER_SPAN, HeaderSpan};
-use sfv::{ErrorKind, Version};
+use sfv::{Error, ErrorKind, Version};
 use sfv_fields::priority::Priority;
 use sfv_request::{RequestFault, request_field, request_priority};
 use std::alloc::Global;
+use std::test::Fail;
 
 const ROOM: [HeaderSpan; 4] = [EMPTY_HEADER_SPAN; 4];
 
@@ -114,4 +115,13 @@ fn heads_may_be_none(rt: HostRuntime) {
     let head = b"GET / HTTP/1.1\r\na:1\r\nb:2\r\nc:3\r\nd:4\r\ne:5\r\n\r\n";
     let answer = request_priority(alloc, Version::Rfc9651, head, &mut headers);
     assert!(rt; answer == Err(RequestFault::Head(httparse::Error::TooManyHeaders)));
+}
+
+#[test]
+fn faults_are_printed(rt: HostRuntime) -> Result<(), Fail> {
+    let fault = RequestFault::Head(httparse::Error::TooManyHeaders);
+    assert!(rt; format!(in rt.alloc(); "{fault}")?.as_str() == "too many headers");
+    let fault = RequestFault::Field(Error::with_kind(ErrorKind::TrailingComma, Some(3)));
+    assert!(rt; format!(in rt.alloc(); "{fault}")?.as_str() == "trailing comma at index 3");
+    Ok(())
 }
