@@ -3,10 +3,10 @@ use Rattle.std.specs.Prelude.{ℕ, List, [], ◌∷◌, ◌++◌, Bool, true, fa
 use Rattle.std.specs.Prelude.{bytes_eq}
 use Rattle.std.specs.Map.{lookup}
 use Rattle.indexmap.specs.IndexMap.{insert_entry, hasher_of}
-use Rattle.sfv_spec.specs.Values.{BareValue, RawItem, RawInnerList, RawMember, item, inner_list}
+use Rattle.sfv_spec.specs.Values.{BareValue, RawParameters, RawItem, RawInnerList, RawMember, item, inner_list}
 use Rattle.sfv_spec.specs.Events.{TreeEvent, entry, keyed_entry, begins_item, begins_inner_list}
 use Rattle.sfv_spec.specs.Events.{bare_item, parameter, parameters_end, inner_list_end}
-use Rattle.sfv_bare.specs.BareItems.{is_text}
+use Rattle.sfv_bare.specs.BareItems.{is_text, bare_value}
 use Rattle.sfv_tree.specs.Trees.{item_with, item_tree, inner_list_tree, list_tree, dictionary_tree}
 use Rattle.sfv_tree.specs.declared.hash_seed.HashSeed.{HashSeed}
 use Rattle.sfv_tree.specs.declared.parsed.Item.{Item}
@@ -16,6 +16,10 @@ use Rattle.sfv_visitor.specs.declared.visitor.partial_member.PartialMember.{Part
 use Rattle.sfv_visitor.specs.declared.visitor.partial_member.Place.{Place}
 use Rattle.sfv_visitor.specs.declared.visitor.partial_member.Place.TheVariants as places
 use Rattle.sfv_visitor.specs.declared.visitor.list_builder.ListBuilder.{ListBuilder}
+use Rattle.sfv_visitor.specs.declared.visitor.list_builder.Stage.{Stage}
+use Rattle.sfv_visitor.specs.declared.visitor.list_builder.Stage.TheVariants as stages
+use Rattle.sfv_visitor.specs.declared.visitor.part.Part.{Part}
+use Rattle.sfv_visitor.specs.declared.visitor.part.Part.TheVariants as parts
 use Rattle.sfv_visitor.specs.declared.visitor.dictionary_builder.DictionaryBuilder.{DictionaryBuilder}
 
 -- a key that is there keeps its place and takes the new value, and a new key goes last
@@ -167,27 +171,80 @@ list_step (between ms) entry = within ms begun
 list_step (between ms) e = between ms
 list_step (within ms p) e = settle ms (member_step p e)
 
--- an event takes memory here: where it does within the member, and where the member ends and goes into the list; no
--- builder stands within a member that has ended
+-- a member goes into the list here: an inner list where it begins, and an item where its parameters end, or before
+abbrev pub goes_in : MemberPlace → TreeEvent → Bool
+goes_in begun begins_inner_list = true
+goes_in (item_parameters i) parameters_end = true
+goes_in p e = false
+
+-- an event takes memory here: where it does within the member, and where the member goes into the list
 abbrev pub list_takes_memory : ListPlace → TreeEvent → Bool
 list_takes_memory (between ms) e = false
-list_takes_memory (within ms p) e = takes_memory p e || has_ended (member_step p e)
+list_takes_memory (within ms p) e = takes_memory p e || goes_in p e
 
 -- the members that are whole
 abbrev pub list_members : ListPlace → List RawMember
 list_members (between ms) = ms
 list_members (within ms p) = ms
 
-abbrev pub place_among : List RawMember → Bool → PartialMember → ListPlace
-place_among ms false m = between ms
-place_among ms true m = within ms (member_place m)
+-- all but the last, and the last
+abbrev pub split_from : {X : Type 0} → X → List X → List X × X
+split_from x [] = ([], x)
+split_from x (y ∷ ys) = (x ∷ (split_from y ys).0, (split_from y ys).1)
+
+abbrev pub split_last : {X : Type 0} → List X → Option (List X × X)
+split_last [] = None
+split_last (x ∷ xs) = Some (split_from x xs)
+
+-- the place in an inner list whose last item is being read; no builder stands so without an item
+abbrev pub among_items : RawParameters → Option (List RawItem × RawItem) → MemberPlace
+among_items ps (Some (is, i)) = inner_parameters (record { items = is; parameters = ps }) i
+among_items ps None = inner_items (record { items = []; parameters = ps })
+
+-- the place in a member of which this part is wanted, where it can be
+abbrev pub place_in : Part → RawMember → Option MemberPlace
+place_in parts.Params (item i) = Some (item_parameters i)
+place_in parts.Items (inner_list l) = Some (inner_items l)
+place_in parts.InnerHead (inner_list l) = Some (inner_head l)
+place_in parts.InnerParams (inner_list l) = Some (among_items l.parameters (split_last l.items))
+place_in parts.ListParams (inner_list l) = Some (list_parameters l)
+place_in p m = None
+
+-- the place in an inner list of which the bare item of an item is held
+abbrev pub held_place : Option BareValue → RawMember → Option MemberPlace
+held_place (Some value) (inner_list l) = Some (inner_parameters l (plain_item value))
+held_place held m = None
+
+-- the place with the last member, which is whole or is being read
+abbrev pub with_last : List RawMember → RawMember → Option MemberPlace → ListPlace
+with_last ms m None = between (ms ++ m ∷ [])
+with_last ms m (Some p) = within ms p
+
+abbrev pub at_last : (RawMember → Option MemberPlace) → Option (List RawMember × RawMember) → ListPlace
+at_last place None = between []
+at_last place (Some (ms, m)) = with_last ms m (place m)
+
+-- the place of a member whose bare item is held
+abbrev pub held_shown : Option BareValue → List RawMember → ListPlace
+held_shown (Some value) ms = within ms (item_parameters (plain_item value))
+held_shown None ms = between ms
+
+-- the place at this stage, with the members so far; where of the last a part is wanted that it has not, or where nothing
+-- is held, to which no builder comes, all are whole
+abbrev pub list_shown : Stage → Option BareValue → List RawMember → ListPlace
+list_shown stages.Between held ms = between ms
+list_shown stages.Begun held ms = within ms begun
+list_shown stages.Head held ms = within ms item_head
+list_shown stages.Held held ms = held_shown held ms
+list_shown stages.InnerHeld held ms = at_last (held_place held) (split_last ms)
+list_shown (stages.Within p) held ms = at_last (place_in p) (split_last ms)
 
 -- the place of a builder, with the list so far
 abbrev pub list_place : ListBuilder → ListPlace
-list_place b = place_among (list_tree b.list.items) b.is_within b.member
+list_place b = list_shown b.stage (option_map bare_value b.held) (list_tree b.list.items)
 
 abbrev pub list_seed : ListBuilder → HashSeed
-list_seed b = member_seed b.member
+list_seed b = b.seed
 
 -- the place of a dictionary's builder, with the pairs that are whole: between two of them, or within the member of a
 -- key

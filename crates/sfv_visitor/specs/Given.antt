@@ -4,7 +4,6 @@ use Rattle.std.specs.declared.alloc.Global.{Global}
 use Rattle.std.specs.declared.vec.Vec.{Vec}
 use Rattle.std.specs.declared.borrow.CowStr.{CowStr}
 use Rattle.sfv_spec.specs.Values.{BareValue}
-use Rattle.sfv_spec.specs.Values as values
 use Rattle.sfv_spec.specs.Events.{TreeEvent, bare_item}
 use Rattle.sfv_text.specs.TokenText.{TokenRef}
 use Rattle.sfv_bare.specs.BareItems.{is_text, input_value}

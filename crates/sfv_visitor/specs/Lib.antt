@@ -1,4 +1,5 @@
 pub mod Events
 pub mod ItemFaults
 pub mod Builders
+pub mod InPlace
 pub mod Given

@@ -11,6 +11,7 @@ mod item_builder;
 mod list_builder;
 mod option;
 mod parameters;
+mod part;
 mod partial_member;
 
 pub use dictionary_builder::DictionaryBuilder;

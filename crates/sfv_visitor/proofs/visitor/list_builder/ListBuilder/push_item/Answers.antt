@@ -1,0 +1,7 @@
+use Rattle.std.proofs.Common.{rules}
+use Rattle.sfv_visitor.proofs.Lasts.{tree_push}
+use Rattle.sfv_visitor.proofs.visitor.list_builder.ListBuilder.push_item.Goals as goal
+
+pub returns-clause-place : goal.returns-clause-place
+returns-clause-place c =
+    rw (c.push_reserved.ensures.items, tree_push, c.with_params.ensures.tree) search rules

@@ -1,0 +1,50 @@
+use Rattle.std.proofs.Common.{rules, ◌≡◌, ◌<◌, ◌-◌, true, false, length, subst, slice_index_or}
+use Rattle.std.specs.Vec.{vec_len}
+use Rattle.std.specs.Prelude.{option_map}
+use Rattle.sfv_bare.specs.BareItems.{bare_value, input_value}
+use Rattle.std.specs.Prelude.{IsTrue}
+use Rattle.sfv_spec.specs.Events as tree
+use Rattle.sfv_visitor.specs.Builders.{list_takes_memory, list_step}
+use Rattle.sfv_visitor.specs.InPlace.{PutsItem}
+use Rattle.sfv_tree.specs.Trees.{member_tree}
+use Rattle.sfv_visitor.specs.Builders.{list_place, place_in, held_place}
+use Rattle.sfv_visitor.specs.declared.visitor.part.Part.TheVariants as parts
+use Rattle.sfv_visitor.proofs.Lasts.{is_last, lead_last, memory_last}
+use Rattle.sfv_visitor.proofs.visitor.list_builder.ListBuilder.put_inner_item.Goals as goal
+
+pub returns-in-Some-clause-place : goal.returns-in-Some-clause-place
+returns-in-Some-clause-place c =
+    let n : vec_len c.args.self.now.list ≡ length c.args.self.now.list.items = search rules in
+    let some : 0 < vec_len c.args.self.now.list = search rules in
+    let here : c.in-Some.member.now ≡ slice_index_or c.args.self.now.list.items (vec_len c.args.self.now.list - 1) c.in-Some.member.now =
+    search rules in
+    let last = is_last c.args.self.now.list.items (vec_len c.args.self.now.list) c.in-Some.member.now n some here in
+    let puts : PutsItem (member_tree c.in-Some.member.now) (input_value c.args.bare_item) false
+    (option_map bare_value c.put_item.new.held) (member_tree c.put_item.new.member) =
+    subst (λ b. PutsItem (member_tree c.in-Some.member.now) (input_value c.args.bare_item) b
+    (option_map bare_value c.put_item.new.held) (member_tree c.put_item.new.member)) c.if-branch.false c.in_ok-put_item.ensures.place in
+    rw (c.requires) (lead_last (λ p. list_step p (tree.bare_item (input_value c.args.bare_item))) (place_in parts.InnerHead) (held_place (option_map bare_value c.put_item.new.held)) _ _ _ _ last puts)
+
+pub returns-then-branch-clause-place : goal.returns-then-branch-clause-place
+returns-then-branch-clause-place c =
+    let n : vec_len c.args.self.now.list ≡ length c.args.self.now.list.items = search rules in
+    let some : 0 < vec_len c.args.self.now.list = search rules in
+    let here : c.in-Some.member.now ≡ slice_index_or c.args.self.now.list.items (vec_len c.args.self.now.list - 1) c.in-Some.member.now =
+    search rules in
+    let last = is_last c.args.self.now.list.items (vec_len c.args.self.now.list) c.in-Some.member.now n some here in
+    let puts : PutsItem (member_tree c.in-Some.member.now) (input_value c.args.bare_item) true
+    (option_map bare_value c.put_item.new.held) (member_tree c.put_item.new.member) =
+    subst (λ b. PutsItem (member_tree c.in-Some.member.now) (input_value c.args.bare_item) b
+    (option_map bare_value c.put_item.new.held) (member_tree c.put_item.new.member)) c.if-branch.true c.in_ok-put_item.ensures.place in
+    rw (c.requires) (lead_last (λ p. list_step p (tree.bare_item (input_value c.args.bare_item))) (place_in parts.InnerHead) (place_in parts.InnerParams) _ _ _ _ last puts)
+
+pub returns-in_err-put_item-clause-out_of_memory : goal.returns-in_err-put_item-clause-out_of_memory
+returns-in_err-put_item-clause-out_of_memory c =
+    let n : vec_len c.args.self.now.list ≡ length c.args.self.now.list.items = search rules in
+    let some : 0 < vec_len c.args.self.now.list = search rules in
+    let here : c.in-Some.member.now ≡ slice_index_or c.args.self.now.list.items (vec_len c.args.self.now.list - 1) c.in-Some.member.now =
+    search rules in
+    let last = is_last c.args.self.now.list.items (vec_len c.args.self.now.list) c.in-Some.member.now n some here in
+    let takes : IsTrue (list_takes_memory (list_place c.args.self.now) (tree.bare_item (input_value c.args.bare_item))) =
+    rw (c.requires) (memory_last (place_in parts.InnerHead) _ _ _ (λ p. IsTrue (list_takes_memory p (tree.bare_item (input_value c.args.bare_item)))) last c.in_err-put_item.ensures.out_of_memory) in
+    search rules

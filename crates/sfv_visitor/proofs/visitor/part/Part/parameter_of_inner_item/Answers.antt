@@ -1,0 +1,8 @@
+use Rattle.std.proofs.Common.{map}
+use Rattle.sfv_tree.specs.Trees.{item_tree, pairs_tree}
+use Rattle.sfv_visitor.proofs.Lasts.{inner_enters}
+use Rattle.sfv_visitor.proofs.visitor.part.Part.parameter_of_inner_item.Goals as goal
+
+pub returns-in_ok-parameter_of_last-in-InnerList-clause-place : goal.returns-in_ok-parameter_of_last-in-InnerList-clause-place
+returns-in_ok-parameter_of_last-in-InnerList-clause-place c = λ ms.
+    rw (c.in-InnerList.is) (inner_enters ms (pairs_tree c.in-InnerList.list.params.entries) (map item_tree c.in-InnerList.list.items.items) _ _ _ c.in_ok-parameter_of_last-in-InnerList.ensures.place)

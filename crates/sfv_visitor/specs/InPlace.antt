@@ -1,0 +1,80 @@
+-- Steps in the last member of a list, which is read where it stays. Only private contracts speak of them.
+use Rattle.std.specs.Prelude.{◌≡◌, ℕ, List, [], ◌∷◌, ◌++◌, Bool, true, false, Option, Some, None, IsTrue, is_none, is_some}
+use Rattle.sfv_spec.specs.Values.{BareValue, RawItem, RawMember, inner_list}
+use Rattle.sfv_spec.specs.Events.{TreeEvent, bare_item, parameter, parameters_end}
+use Rattle.sfv_visitor.specs.Builders.{MemberPlace, ListPlace, enters, list_step, list_takes_memory, split_last}
+use Rattle.sfv_visitor.specs.Builders.{place_in, held_place, with_last}
+use Rattle.sfv_visitor.specs.declared.visitor.list_builder.Stage.{Stage}
+use Rattle.sfv_visitor.specs.declared.visitor.list_builder.Stage.TheVariants as stages
+use Rattle.sfv_visitor.specs.declared.visitor.part.Part.{Part}
+use Rattle.sfv_visitor.specs.declared.visitor.part.Part.TheVariants as parts
+
+-- the last item of an inner list is to be read, and there is none
+abbrev pub lacks_item_in : Part → RawMember → Bool
+lacks_item_in parts.InnerParams (inner_list l) = is_none (split_last l.items)
+lacks_item_in p m = false
+
+-- a parameter is entered into the last item, if there is one
+abbrev pub enters_last : Option (List RawItem × RawItem) → List ℕ → BareValue → List RawItem
+enters_last None key value = []
+enters_last (Some (is, i)) key value = is ++ enters i key value ∷ []
+
+abbrev pub EntersLast : List RawItem → List ℕ → BareValue → List RawItem → Type 0
+EntersLast is key value js = js ≡ enters_last (split_last is) key value
+
+-- after whatever members: from the one place in the last member to the other
+abbrev pub LeadsIn : (ListPlace → ListPlace) → Option MemberPlace → RawMember → Option MemberPlace → RawMember → Type 0
+LeadsIn f p m q n = (ms : List RawMember) → with_last ms n q ≡ f (with_last ms m p)
+
+-- a parameter is entered in the last member
+abbrev pub Enters : (RawMember → Option MemberPlace) → RawMember → List ℕ → BareValue → RawMember → Type 0
+Enters place m key value n = LeadsIn (λ p. list_step p (parameter key value)) (place m) m (place n) n
+
+-- the place of an item of an inner list after its bare item: it was put, or its bare item is held
+abbrev pub put_place : Bool → Option BareValue → RawMember → Option MemberPlace
+put_place true held m = place_in parts.InnerParams m
+put_place false held m = held_place held m
+
+abbrev pub PutsItem : RawMember → BareValue → Bool → Option BareValue → RawMember → Type 0
+PutsItem m value is_put held n =
+    LeadsIn (λ p. list_step p (bare_item value)) (place_in parts.InnerHead m) m (put_place is_put held n) n
+
+-- an item of an inner list is put whose bare item was held
+abbrev pub PlacesItem : BareValue → RawMember → RawMember → Type 0
+PlacesItem value m n = LeadsIn (λ p. p) (held_place (Some value) m) m (place_in parts.InnerParams n) n
+
+-- after whatever members: the event takes memory
+abbrev pub TakesMemoryIn : Option MemberPlace → RawMember → TreeEvent → Type 0
+TakesMemoryIn p m e = (ms : List RawMember) → IsTrue (list_takes_memory (with_last ms m p) e)
+
+-- a parameter takes memory, and so does the end of parameters
+abbrev pub EndTakesMemory : ListPlace → Type 0
+EndTakesMemory p = IsTrue (list_takes_memory p parameters_end)
+    × ((key : List ℕ) (value : BareValue) → IsTrue (list_takes_memory p (parameter key value)))
+
+abbrev pub PlacingTakesMemory : BareValue → RawMember → Type 0
+PlacingTakesMemory value m = (ms : List RawMember) → EndTakesMemory (with_last ms m (held_place (Some value) m))
+
+-- a bare item is held
+abbrev pub is_held : Stage → Bool
+is_held stages.Held = true
+is_held stages.InnerHeld = true
+is_held s = false
+
+-- the last member is being read
+abbrev pub is_open_at : (RawMember → Option MemberPlace) → Option (List RawMember × RawMember) → Bool
+is_open_at place None = false
+is_open_at place (Some (ms, m)) = is_some (place m)
+
+abbrev pub is_open : Stage → Option BareValue → List RawMember → Bool
+is_open stages.InnerHeld held ms = is_open_at (held_place held) (split_last ms)
+is_open (stages.Within p) held ms = is_open_at (place_in p) (split_last ms)
+is_open s held ms = false
+
+abbrev pub lacks_item_at : Part → Option (List RawMember × RawMember) → Bool
+lacks_item_at p None = false
+lacks_item_at p (Some (ms, m)) = lacks_item_in p m
+
+abbrev pub lacks_item : Stage → List RawMember → Bool
+lacks_item (stages.Within p) ms = lacks_item_at p (split_last ms)
+lacks_item s ms = false

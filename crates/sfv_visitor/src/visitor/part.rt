@@ -1,0 +1,220 @@
+//! A member of a list that is read where it stays.
+
+ghost use Rattle.std.specs.Prelude.{◌≡◌, ◌<◌, Some, IfOk, OnOk, OnErr, IsTrue, is_some, length, map, option_map};
+ghost use Rattle.sfv_spec.specs.Events as tree;
+ghost use Rattle.sfv_bare.specs.BareItems.{bare_value, input_value, is_borrowed};
+ghost use Rattle.sfv_text.specs.KeyText.{key_text};
+ghost use Rattle.sfv_tree.specs.Trees.{item_tree, member_tree};
+ghost use Rattle.sfv_visitor.specs.Builders.{place_in};
+ghost use Rattle.sfv_visitor.specs.InPlace.{Enters, TakesMemoryIn, EntersLast, PutsItem, PlacesItem};
+ghost use Rattle.sfv_visitor.specs.InPlace.{lacks_item_in, PlacingTakesMemory};
+ghost use Rattle.sfv_visitor.specs.declared.visitor.part.Part.TheVariants as parts;
+
+use crate::visitor::parameters::enter;
+use sfv_bare::bare::{BareItem, BareItemFromInput};
+use sfv_base::error::OutOfMemory;
+use sfv_text::key_ref::KeyRef;
+use sfv_tree::hash_seed::HashSeed;
+use sfv_tree::parsed::{Item, ListEntry, Parameters};
+use std::alloc::Global;
+
+/// What is wanted of a member that stands in its list and is being read.
+#[derive(Clone, Copy, PartialEq, Eq)]
+pub(crate) enum Part {
+    // A parameter of an item.
+    Params,
+    // In an inner list, an item or the end of the items.
+    Items,
+    // The bare item of an item of an inner list.
+    InnerHead,
+    // A parameter of the last item of an inner list.
+    InnerParams,
+    // A parameter of an inner list.
+    ListParams,
+}
+
+/// Holds a bare item for which there is no room yet.
+#[inline(never)]
+pub(crate) fn hold(held: &mut Option<BareItem>, bare_item: BareItem)
+    ensures { held.new ≡ Some bare_item }
+{
+    *held = Some(bare_item);
+}
+
+impl Part {
+    /// Whether this can be wanted of the member.
+    #[inline(never)]
+    pub(crate) fn is_in(self, member: &ListEntry) -> bool
+        ensures { result ≡ is_some (place_in self (member_tree member.now)) }
+    {
+        match member {
+            ListEntry::Item(_) => self == Part::Params,
+            ListEntry::InnerList(_) => self != Part::Params,
+        }
+    }
+
+    /// Whether a parameter of the last item is wanted of an inner list that has none. No builder stands so, but its
+    /// steps hold of every state.
+    #[inline(never)]
+    pub(crate) fn lacks_item(self, member: &ListEntry) -> bool
+        ensures { result ≡ lacks_item_in self (member_tree member.now) }
+    {
+        match member {
+            ListEntry::Item(_) => false,
+            ListEntry::InnerList(list) => self == Part::InnerParams && list.items.is_empty(),
+        }
+    }
+
+    // Enters a parameter of an item.
+    #[inline(always)]
+    fn parameter_of_item(
+        alloc: Global,
+        member: &mut ListEntry,
+        key: KeyRef<'_>,
+        value: BareItemFromInput<'_>,
+    ) -> Result<(), OutOfMemory>
+        ensures place { OnOk result (Enters (place_in parts.Params) (member_tree member.old)
+            (key_text key.entry) (input_value value.entry) (member_tree member.new)) }
+        ensures out_of_memory { OnErr result (TakesMemoryIn (place_in parts.Params (member_tree member.old)) (member_tree member.old)
+            (tree.parameter (key_text key.entry) (input_value value.entry))) }
+    {
+        match member {
+            ListEntry::Item(item) => enter(alloc, &mut item.params, key, value),
+            ListEntry::InnerList(_) => Ok(()),
+        }
+    }
+
+    // Enters a parameter of an inner list.
+    #[inline(always)]
+    fn parameter_of_list(
+        alloc: Global,
+        member: &mut ListEntry,
+        key: KeyRef<'_>,
+        value: BareItemFromInput<'_>,
+    ) -> Result<(), OutOfMemory>
+        ensures place { OnOk result (Enters (place_in parts.ListParams) (member_tree member.old)
+            (key_text key.entry) (input_value value.entry) (member_tree member.new)) }
+        ensures out_of_memory { OnErr result (TakesMemoryIn (place_in parts.ListParams (member_tree member.old)) (member_tree member.old)
+            (tree.parameter (key_text key.entry) (input_value value.entry))) }
+    {
+        match member {
+            ListEntry::InnerList(list) => enter(alloc, &mut list.params, key, value),
+            ListEntry::Item(_) => Ok(()),
+        }
+    }
+
+    // Enters a parameter of the last item.
+    #[inline(always)]
+    fn parameter_of_last(
+        alloc: Global,
+        items: &mut Vec<Item>,
+        key: KeyRef<'_>,
+        value: BareItemFromInput<'_>,
+    ) -> Result<(), OutOfMemory>
+        ensures place { OnOk result (EntersLast (map item_tree items.old.items) (key_text key.entry)
+            (input_value value.entry) (map item_tree items.new.items)) }
+        ensures out_of_memory { OnErr result (0 < length items.old.items) }
+    {
+        match items.last_mut() {
+            Some(item) => {
+                enter(alloc, &mut item.params, key, value)?;
+                Ok(())
+            }
+            None => Ok(()),
+        }
+    }
+
+    // Enters a parameter of the last item of an inner list.
+    #[inline(always)]
+    fn parameter_of_inner_item(
+        alloc: Global,
+        member: &mut ListEntry,
+        key: KeyRef<'_>,
+        value: BareItemFromInput<'_>,
+    ) -> Result<(), OutOfMemory>
+        ensures place { OnOk result (Enters (place_in parts.InnerParams) (member_tree member.old)
+            (key_text key.entry) (input_value value.entry) (member_tree member.new)) }
+        ensures out_of_memory { OnErr result (TakesMemoryIn (place_in parts.InnerParams (member_tree member.old)) (member_tree member.old)
+            (tree.parameter (key_text key.entry) (input_value value.entry))) }
+    {
+        match member {
+            ListEntry::InnerList(list) => {
+                Part::parameter_of_last(alloc, &mut list.items, key, value)?;
+                Ok(())
+            }
+            ListEntry::Item(_) => Ok(()),
+        }
+    }
+
+    /// Enters a parameter, where one is wanted.
+    #[inline(always)]
+    pub(crate) fn parameter(
+        self,
+        alloc: Global,
+        member: &mut ListEntry,
+        key: KeyRef<'_>,
+        value: BareItemFromInput<'_>,
+    ) -> Result<(), OutOfMemory>
+        ensures place { OnOk result (Enters (place_in self) (member_tree member.old)
+            (key_text key.entry) (input_value value.entry) (member_tree member.new)) }
+        ensures out_of_memory { OnErr result (TakesMemoryIn (place_in self (member_tree member.old)) (member_tree member.old)
+            (tree.parameter (key_text key.entry) (input_value value.entry))) }
+    {
+        match self {
+            Part::Params => Part::parameter_of_item(alloc, member, key, value),
+            Part::ListParams => Part::parameter_of_list(alloc, member, key, value),
+            Part::InnerParams => Part::parameter_of_inner_item(alloc, member, key, value),
+            Part::Items | Part::InnerHead => Ok(()),
+        }
+    }
+
+    /// Puts an item last into an inner list, or holds its bare item where the inner list has no room. Returns whether
+    /// it was put.
+    #[inline(always)]
+    pub(crate) fn put_item(
+        alloc: Global,
+        seed: HashSeed,
+        member: &mut ListEntry,
+        held: &mut Option<BareItem>,
+        bare_item: BareItemFromInput<'_>,
+    ) -> Result<bool, OutOfMemory>
+        ensures place { IfOk result (λ is_put. PutsItem (member_tree member.old) (input_value bare_item.entry) is_put
+            (option_map bare_value held.new) (member_tree member.new)) }
+        ensures out_of_memory { OnErr result (TakesMemoryIn (place_in parts.InnerHead (member_tree member.old))
+            (member_tree member.old) (tree.bare_item (input_value bare_item.entry))) }
+        ensures copied { OnErr result (IsTrue (is_borrowed bare_item.entry)) }
+    {
+        if let ListEntry::InnerList(list) = member {
+            let bare_item = bare_item.try_into_owned(alloc)?;
+            if list.items.len() < list.items.capacity() {
+                let params = Parameters::with_hasher(alloc, seed);
+                list.items
+                    .push_reserved(Item::with_params(bare_item, params));
+                return Ok(true);
+            }
+            hold(held, bare_item);
+        }
+        Ok(false)
+    }
+
+    /// Puts the item of a bare item that was held last into an inner list.
+    #[inline(always)]
+    pub(crate) fn place_item(
+        alloc: Global,
+        seed: HashSeed,
+        member: &mut ListEntry,
+        bare_item: BareItem,
+    ) -> Result<(), OutOfMemory>
+        ensures place { OnOk result (PlacesItem (bare_value bare_item) (member_tree member.old)
+            (member_tree member.new)) }
+        ensures out_of_memory { OnErr result (PlacingTakesMemory (bare_value bare_item) (member_tree member.old)) }
+    {
+        if let ListEntry::InnerList(list) = member {
+            let params = Parameters::with_hasher(alloc, seed);
+            list.items.reserve(1)?;
+            list.items
+                .push_reserved(Item::with_params(bare_item, params));
+        }
+        Ok(())
+    }
+}
