@@ -1,6 +1,6 @@
 //! The visitor that builds a dictionary.
 
-ghost use Rattle.std.specs.Prelude.{◌≡◌, ⊤, false, ℕ, List, Some, OnOk, OnErr, IsTrue};
+ghost use Rattle.std.specs.Prelude.{◌≡◌, ⊤, false, ℕ, List, Some, OnOk, OnErr, IsTrue, IsSome};
 ghost use Rattle.indexmap.specs.IndexMap.{hasher_of};
 ghost use Rattle.sfv_text.specs.KeyText.{key_text};
 ghost use Rattle.sfv_tree.specs.Trees.{dictionary_tree};
@@ -14,7 +14,7 @@ use crate::visitor::{Event, Visitor};
 use sfv_base::error::OutOfMemory;
 use sfv_text::key::Key;
 use sfv_text::key_ref::KeyRef;
-use sfv_tree::parsed::Dictionary;
+use sfv_tree::parsed::{Dictionary, ListEntry};
 
 /// Builds a dictionary of its events, from a dictionary that it begins with. Of a repeated key the last member stands
 /// whole, at the place of the first (RFC 9651, section 4.2.2); so does the last value of a repeated parameter.
@@ -60,6 +60,23 @@ impl DictionaryBuilder {
         Ok(())
     }
 
+    // Enters a member that is a whole inner list.
+    #[inline(never)]
+    fn settle_inner_list(&mut self) -> Result<(), OutOfMemory>
+        requires { IsSome self.old.member.inner }
+        ensures place { OnOk result ((key : List ℕ) → self.old.key ≡ Some key → dictionary_place self.new
+            ≡ settle_pair (dictionary_tree self.old.dictionary.entries) key (ended_member self.old.member)) }
+        ensures out_of_memory { OnErr result ((key : List ℕ) → self.old.key ≡ Some key → IsTrue
+            (settle_takes_memory (dictionary_tree self.old.dictionary.entries) key (ended_member self.old.member))) }
+    {
+        if let Some(list) = self.member.take_inner_list() {
+            if let Some(key) = self.key.take() {
+                self.dictionary.insert(key, ListEntry::InnerList(list))?;
+            }
+        }
+        Ok(())
+    }
+
     // Enters a member that is whole.
     #[inline(never)]
     fn settle(&mut self) -> Result<(), OutOfMemory>
@@ -68,10 +85,16 @@ impl DictionaryBuilder {
         ensures out_of_memory { OnErr result ((key : List ℕ) → self.old.key ≡ Some key → IsTrue
             (settle_takes_memory (dictionary_tree self.old.dictionary.entries) key (ended_member self.old.member))) }
     {
-        if let Some(member) = self.member.take(*self.dictionary.allocator()) {
-            if let Some(key) = self.key.take() {
-                self.dictionary.insert(key, member)?;
+        if self.member.is_inner_list() {
+            return self.settle_inner_list();
+        }
+        match self.member.take_item(*self.dictionary.allocator()) {
+            Some(item) => {
+                if let Some(key) = self.key.take() {
+                    self.dictionary.insert(key, ListEntry::Item(item))?;
+                }
             }
+            None => self.member.begin(),
         }
         Ok(())
     }

@@ -1,13 +1,13 @@
 //! A member of a list or a dictionary while it is read.
 
-ghost use Rattle.std.specs.Prelude.{◌≡◌, false, None, is_some, IsSome, IfOk, IfNone, OnOk, OnErr, IsTrue, option_map};
+ghost use Rattle.std.specs.Prelude.{◌≡◌, false, None, is_some, IsSome, IfOk, OnOk, OnErr, IsTrue, option_map};
 ghost use Rattle.sfv_spec.specs.Events as tree;
 ghost use Rattle.sfv_bare.specs.BareItems.{input_value, is_borrowed};
 ghost use Rattle.sfv_text.specs.KeyText.{key_text};
-ghost use Rattle.sfv_tree.specs.Trees.{item_tree, member_tree};
+ghost use Rattle.sfv_tree.specs.Trees.{item_tree};
 ghost use Rattle.sfv_visitor.specs.Events.{event_of, is_moved};
 ghost use Rattle.sfv_visitor.specs.Builders.{begun, member_step, member_place, takes_memory, item_in_hand};
-ghost use Rattle.sfv_visitor.specs.Builders.{whole_of, place_after, member_seed};
+ghost use Rattle.sfv_visitor.specs.Builders.{place_after, member_seed};
 
 use crate::visitor::Event;
 use crate::visitor::parameters::enter;
@@ -15,7 +15,7 @@ use sfv_bare::bare::{BareItem, BareItemFromInput};
 use sfv_base::error::OutOfMemory;
 use sfv_text::key_ref::KeyRef;
 use sfv_tree::hash_seed::HashSeed;
-use sfv_tree::parsed::{InnerList, Item, ListEntry, Parameters};
+use sfv_tree::parsed::{InnerList, Item, Parameters};
 use std::alloc::Global;
 use std::mem::replace;
 
@@ -237,21 +237,5 @@ impl PartialMember {
         ensures place { self.new.place ≡ self.old.place }
     {
         self.inner.take()
-    }
-
-    /// Takes the member out, where it is whole.
-    #[inline(always)]
-    pub(crate) fn take(&mut self, alloc: Global) -> Option<ListEntry>
-        ensures member { option_map member_tree result ≡ whole_of self.old }
-        ensures begun { IfNone result (member_place self.new ≡ begun) }
-    {
-        if let Some(list) = self.take_inner_list() {
-            return Some(ListEntry::InnerList(list));
-        }
-        self.place = Place::Begun;
-        match self.take_item(alloc) {
-            Some(item) => Some(ListEntry::Item(item)),
-            None => None,
-        }
     }
 }
