@@ -1,6 +1,8 @@
 //! Runs of digits, and the numbers that they spell.
 
-ghost use Rattle.std.specs.Prelude.{◌≡◌, ◌≤◌, ◌<◌, ◌^◌, ◌*◌, ◌-◌, ℕ, List, length, take, drop, Ok};
+ghost use Rattle.std.specs.Prelude.{◌≡◌, ◌≤◌, ◌<◌, ◌^◌, ◌*◌, ◌-◌, ℕ, true, false, List, length, take, drop, Ok};
+ghost use Rattle.std.specs.Prelude.{MatchOption};
+ghost use Rattle.sfv_spec.specs.Ascii.{digit_zero};
 ghost use Rattle.sfv_spec.specs.Classes.{is_digit};
 ghost use Rattle.sfv_reading.specs.Reader.{up_to};
 ghost use Rattle.sfv.specs.parser.Values.{Spells};
@@ -10,6 +12,16 @@ pub(crate) fn is_digit_byte(byte: u8) -> bool
     ensures { result ≡ is_digit byte }
 {
     byte.is_ascii_digit()
+}
+
+/// The number that a digit stands for. One subtraction tells it, and whether the byte is a digit.
+#[inline(always)]
+fn digit_of(byte: u8) -> Option<u64>
+    ensures { MatchOption result (is_digit byte ≡ false)
+        (λ value. (is_digit byte ≡ true) × (value ≡ byte - digit_zero)) }
+{
+    let value = u64::from(byte).wrapping_sub(u64::from(b'0'));
+    if value < 10 { Some(value) } else { None }
 }
 
 /// Digits in a row: how many they are, and the number that they spell.
@@ -30,8 +42,11 @@ pub(crate) fn digit_run(bytes: &[u8], most: usize) -> Digits
 {
     let mut count = 0;
     let mut value = 0;
-    while count < most && count < bytes.len() && is_digit_byte(bytes[count]) {
-        value = value * 10 + u64::from(bytes[count] - b'0');
+    while count < most && count < bytes.len() {
+        let Some(digit) = digit_of(bytes[count]) else {
+            break;
+        };
+        value = value * 10 + digit;
         count += 1;
     }
     Digits { count, value }
