@@ -2,19 +2,15 @@
 use Rattle.std.specs.Prelude.{ℕ, List, [], ◌∷◌, ◌++◌, Bool, true, false, ◌&&◌, ◌||◌, Option, Some, None, is_none, option_map}
 use Rattle.std.specs.Prelude.{bytes_eq}
 use Rattle.std.specs.Map.{lookup}
-use Rattle.indexmap.specs.IndexMap.{insert_entry, hasher_of}
+use Rattle.indexmap.specs.IndexMap.{insert_entry}
 use Rattle.sfv_spec.specs.Values.{BareValue, RawParameters, RawItem, RawInnerList, RawMember, item, inner_list}
 use Rattle.sfv_spec.specs.Events.{TreeEvent, entry, keyed_entry, begins_item, begins_inner_list}
 use Rattle.sfv_spec.specs.Events.{bare_item, parameter, parameters_end, inner_list_end}
 use Rattle.sfv_bare.specs.BareItems.{is_text, bare_value}
-use Rattle.sfv_tree.specs.Trees.{item_with, item_tree, inner_list_tree, list_tree, dictionary_tree}
+use Rattle.sfv_tree.specs.Trees.{item_tree, list_tree, dictionary_tree}
 use Rattle.sfv_tree.specs.declared.hash_seed.HashSeed.{HashSeed}
 use Rattle.sfv_tree.specs.declared.parsed.Item.{Item}
-use Rattle.sfv_tree.specs.declared.parsed.InnerList.{InnerList}
 use Rattle.sfv_visitor.specs.declared.visitor.item_builder.ItemBuilder.{ItemBuilder}
-use Rattle.sfv_visitor.specs.declared.visitor.partial_member.PartialMember.{PartialMember}
-use Rattle.sfv_visitor.specs.declared.visitor.partial_member.Place.{Place}
-use Rattle.sfv_visitor.specs.declared.visitor.partial_member.Place.TheVariants as places
 use Rattle.sfv_visitor.specs.declared.visitor.list_builder.ListBuilder.{ListBuilder}
 use Rattle.sfv_visitor.specs.declared.visitor.list_builder.Stage.{Stage}
 use Rattle.sfv_visitor.specs.declared.visitor.list_builder.Stage.TheVariants as stages
@@ -81,48 +77,6 @@ takes_memory p e = false
 abbrev pub has_ended : MemberPlace → Bool
 has_ended (ended m) = true
 has_ended p = false
-
--- the item that is being read of a member: its own, or one of its inner list
-abbrev pub item_in_hand : PartialMember → Option RawItem
-item_in_hand m = option_map (λ value. item_with value m.params.entries) m.bare_item
-
--- the place of what is read of a member: of an item of its own, or of one of an inner list, or between the items of one
-abbrev pub shown : Place → Option RawItem → Option InnerList → MemberPlace
-shown p (Some i) None = item_parameters i
-shown p (Some i) (Some l) = inner_parameters (inner_list_tree l) i
-shown places.Begun None (Some l) = inner_items (inner_list_tree l)
-shown places.Head None (Some l) = inner_head (inner_list_tree l)
-shown places.Params None (Some l) = list_parameters (inner_list_tree l)
-shown places.Head None None = item_head
-shown p None None = begun
-
-abbrev pub member_place : PartialMember → MemberPlace
-member_place m = shown m.place (item_in_hand m) m.inner
-
--- the seed of the parameters that are made next
-abbrev pub member_seed : PartialMember → HashSeed
-member_seed m = hasher_of m.params
-
--- the member that is read, once it is whole
-abbrev pub whole_member : Option RawItem → Option InnerList → Option RawMember
-whole_member i (Some l) = Some (inner_list (inner_list_tree l))
-whole_member i None = option_map item i
-
-abbrev pub whole_of : PartialMember → Option RawMember
-whole_of m = whole_member (item_in_hand m) m.inner
-
-abbrev pub ended_with : Option RawMember → MemberPlace
-ended_with (Some m) = ended m
-ended_with None = begun
-
--- the place of a member that is whole
-abbrev pub ended_member : PartialMember → MemberPlace
-ended_member m = ended_with (whole_of m)
-
--- the place after a step that tells whether the member is whole
-abbrev pub place_after : Bool → PartialMember → MemberPlace
-place_after true m = ended_member m
-place_after false m = member_place m
 
 -- the place of an item's builder, which reads the item as a member is read: before its bare item, among its
 -- parameters, or after them; an event out of its place changes nothing
@@ -268,26 +222,36 @@ dictionary_step (within_pair ms key p) e = settle_pair ms key (member_step p e)
 abbrev pub settle_takes_memory : List (List ℕ × RawMember) → List ℕ → MemberPlace → Bool
 settle_takes_memory ms key p = has_ended p && is_none (lookup (bytes_eq key) ms)
 
--- an event takes memory here: a key, which is copied; and within the member of a key, where it does there, and where
--- the member ends and is entered
+-- an inner list begins here, which stands in a list of its own until it is entered
+abbrev pub begins_list : MemberPlace → TreeEvent → Bool
+begins_list begun begins_inner_list = true
+begins_list p e = false
+
+-- an event takes memory here: a key, which is copied; and within the member of a key, where it does there, where the
+-- member is an inner list that begins, and where the member ends and is entered
 abbrev pub dictionary_takes_memory : DictionaryPlace → TreeEvent → Bool
 dictionary_takes_memory (between_pairs ms) (keyed_entry key) = true
 dictionary_takes_memory (between_pairs ms) e = false
-dictionary_takes_memory (within_pair ms key p) e = takes_memory p e || settle_takes_memory ms key (member_step p e)
+dictionary_takes_memory (within_pair ms key p) e =
+    takes_memory p e || begins_list p e || settle_takes_memory ms key (member_step p e)
 
 -- the pairs that are whole
 abbrev pub dictionary_members : DictionaryPlace → List (List ℕ × RawMember)
 dictionary_members (between_pairs ms) = ms
 dictionary_members (within_pair ms key p) = ms
 
-abbrev pub place_among_pairs : List (List ℕ × RawMember) → Option (List ℕ) → PartialMember → DictionaryPlace
-place_among_pairs ms None m = between_pairs ms
-place_among_pairs ms (Some key) m = within_pair ms key (member_place m)
+-- the place among pairs, where the member of the key is the last of a list of its own; a key without a member in reading,
+-- with which no builder stands, is none
+abbrev pub place_among_pairs : List (List ℕ × RawMember) → Option (List ℕ) → ListPlace → DictionaryPlace
+place_among_pairs ms None p = between_pairs ms
+place_among_pairs ms (Some key) (between ns) = between_pairs ms
+place_among_pairs ms (Some key) (within ns (ended m)) = between_pairs ms
+place_among_pairs ms (Some key) (within ns p) = within_pair ms key p
 
 -- the place of a builder, with the dictionary so far
 abbrev pub dictionary_place : DictionaryBuilder → DictionaryPlace
-dictionary_place b = place_among_pairs (dictionary_tree b.dictionary.entries) b.key b.member
+dictionary_place b = place_among_pairs (dictionary_tree b.dictionary.entries) b.key (list_place b.member)
 
 -- the seed of a builder is that of its dictionary, which its parameters have too
 abbrev pub dictionary_seed : DictionaryBuilder → HashSeed
-dictionary_seed b = member_seed b.member
+dictionary_seed b = list_seed b.member

@@ -2,7 +2,7 @@
 use Rattle.std.specs.Prelude.{◌≡◌, ℕ, List, [], ◌∷◌, ◌++◌, Bool, true, false, Option, Some, None, IsTrue, is_none, is_some}
 use Rattle.sfv_spec.specs.Values.{BareValue, RawItem, RawMember, inner_list}
 use Rattle.sfv_spec.specs.Events.{TreeEvent, bare_item, parameter, parameters_end}
-use Rattle.sfv_visitor.specs.Builders.{MemberPlace, ListPlace, enters, list_step, list_takes_memory, split_last}
+use Rattle.sfv_visitor.specs.Builders.{MemberPlace, ListPlace, between, within, ended, enters, list_step, list_takes_memory, split_last}
 use Rattle.sfv_visitor.specs.Builders.{place_in, held_place, with_last}
 use Rattle.sfv_visitor.specs.declared.visitor.list_builder.Stage.{Stage}
 use Rattle.sfv_visitor.specs.declared.visitor.list_builder.Stage.TheVariants as stages
@@ -78,3 +78,20 @@ lacks_item_at p (Some (ms, m)) = lacks_item_in p m
 abbrev pub lacks_item : Stage → List RawMember → Bool
 lacks_item (stages.Within p) ms = lacks_item_at p (split_last ms)
 lacks_item s ms = false
+
+-- a member is being read
+abbrev pub is_reading : ListPlace → Bool
+is_reading (between ms) = false
+is_reading (within ms (ended m)) = false
+is_reading (within ms p) = true
+
+-- the end of parameters ends the last member
+abbrev pub ends_last : Stage → Bool
+ends_last (stages.Within parts.Params) = true
+ends_last (stages.Within parts.ListParams) = true
+ends_last s = false
+
+-- the end of parameters ends a member
+abbrev pub ends_member : Stage → Bool
+ends_member stages.Held = true
+ends_member s = ends_last s

@@ -12,7 +12,6 @@ mod list_builder;
 mod option;
 mod parameters;
 mod part;
-mod partial_member;
 
 pub use dictionary_builder::DictionaryBuilder;
 pub use item_builder::ItemBuilder;

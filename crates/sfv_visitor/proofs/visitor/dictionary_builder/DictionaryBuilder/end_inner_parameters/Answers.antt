@@ -1,0 +1,13 @@
+use Rattle.std.specs.Prelude.{option_map}
+use Rattle.sfv_bare.specs.BareItems.{bare_value}
+use Rattle.sfv_tree.specs.Trees.{list_tree, dictionary_tree}
+use Rattle.sfv_visitor.specs.Builders.{list_place}
+use Rattle.sfv_visitor.proofs.Pairs.{inner_end}
+use Rattle.sfv_visitor.proofs.visitor.dictionary_builder.DictionaryBuilder.end_inner_parameters.Goals as goal
+
+pub returns-clause-place : goal.returns-clause-place
+returns-clause-place c =
+    inner_end (dictionary_tree c.args.self.now.dictionary.entries) c.args.self.now.key c.args.self.now.member.stage
+    (option_map bare_value c.args.self.now.member.held) (list_tree c.args.self.now.member.list.items)
+    (list_place c.place_held.new.self) (list_place c.end_parameters.new.self) c.requires.stage
+    c.in_ok-place_held.ensures.place c.end_parameters.ensures

@@ -1,0 +1,29 @@
+use Rattle.std.proofs.Common.{rules, ◌≡◌, Some, IsTrue}
+use Rattle.std.proofs.lemmas.Map.Made.{lookup-map_values}
+use Rattle.sfv_spec.specs.Events as tree
+use Rattle.sfv_tree.proofs.Entered.{dictionary_tree-insert}
+use Rattle.sfv_tree.specs.Trees.{member_tree}
+use Rattle.sfv_visitor.specs.Builders.{dictionary_place, dictionary_takes_memory}
+use Rattle.sfv_visitor.proofs.visitor.dictionary_builder.DictionaryBuilder.enter_held.Goals as goal
+
+pub returns-in_ok-insert-clause-place : goal.returns-in_ok-insert-clause-place
+returns-in_ok-insert-clause-place c =
+    let key : c.args.self.now.key ≡ Some c.in-Some.key = search rules in
+    let held : c.args.self.now.member.held ≡ Some c.in-Some-take.bare_item = search rules in
+    rw (
+      c.take.ensures.after,
+      key,
+      c.requires,
+      held,
+      c.in_ok-insert.ensures.entries,
+      dictionary_tree-insert,
+      c.with_params.ensures.tree,
+    ) search rules
+
+pub returns-in_err-insert-clause-out_of_memory : goal.returns-in_err-insert-clause-out_of_memory
+returns-in_err-insert-clause-out_of_memory c =
+    let key : c.args.self.now.key ≡ Some c.in-Some.key = search rules in
+    let held : c.args.self.now.member.held ≡ Some c.in-Some-take.bare_item = search rules in
+    let takes : IsTrue (dictionary_takes_memory (dictionary_place c.args.self.now) tree.parameters_end) =
+    rw (key, c.requires, held, lookup-map_values member_tree, c.in_err-insert.ensures.absent) (search rules) in
+    search rules
