@@ -10,12 +10,14 @@ ghost use Rattle.sfv_c.specs.Lent.{IsEvents};
 ghost use Rattle.sfv_c.specs.Collected.{left_alone, PutsEvents};
 
 mod answer;
+mod calls;
 mod canonical;
 mod check;
 mod collected;
 mod lent;
 mod message;
 mod numbers;
+mod part;
 mod reading;
 mod rows;
 
