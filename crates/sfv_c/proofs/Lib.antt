@@ -3,3 +3,4 @@ pub mod Stops
 pub mod Bytes
 pub mod Unique
 pub mod Invalid
+pub mod Fields

@@ -1,7 +1,7 @@
 -- Where the reading of events stops.
-use Rattle.std.proofs.Common.{◌≡◌, ℕ, suc, ◌+◌, ◌-◌, ◌<◌, ◌≤◌, List, [], ◌∷◌, ◌++◌, length, drop, get_or, map, flat_map, refl, sym, ◌∙◌, ap, subst}
+use Rattle.std.proofs.Common.{◌≡◌, ℕ, suc, ◌+◌, ◌-◌, ◌<◌, ◌≤◌, List, [], ◌∷◌, ◌++◌, length, drop, get_or, flat_map, refl, sym, ◌∙◌, ap, subst}
 use Rattle.std.proofs.Common.{arith, add-one, append_assoc, length-append, length-drop, Bool, false, Option, Some, None}
-use Rattle.std.proofs.Common.{Result, Ok, Err, filter_map, if◌then◌else◌}
+use Rattle.std.proofs.Common.{Result, Ok, Err, if◌then◌else◌}
 use Rattle.std.specs.Result.{IsErrAnd, IfErr}
 use Rattle.std.specs.Borrow.{Bor}
 use Rattle.std.proofs.Math.Seq.{drop-cons}
@@ -9,7 +9,6 @@ use Rattle.std.proofs.Math.ListN.{drop_of_length-le}
 use Rattle.std.proofs.lemmas.List.{length-map, append-nil, map-append}
 use Rattle.std.proofs.lemmas.Grind.{flat_map-append}
 use Rattle.std.proofs.lemmas.List.Elements.{filter_map-append}
-use Rattle.sfv.specs.Values.{RawMember}
 use Rattle.sfv.specs.Events.{TreeEvent, entry, keyed_entry, member_events, entry_events, keyed_events}
 use Rattle.sfv.specs.Calls.{written, handed_member}
 use Rattle.sfv.specs.KeyText.{KeyRef, key_text}
@@ -21,7 +20,7 @@ use Rattle.sfv_c.specs.declared.part.Part.{Part}
 use Rattle.sfv_c.specs.declared.part.Part.TheVariants as parts
 use Rattle.sfv_c.specs.declared.calls.Stop.{Stop}
 use Rattle.sfv_c.specs.declared.calls.Stop.TheVariants as stop
-use Rattle.sfv_c.specs.Parts.{Place, ended, list_members, dictionary_members, member, value, parameters, items, stops, after, may_end}
+use Rattle.sfv_c.specs.Parts.{Place, ended, list_members, dictionary_members, parameters, items, stops, after, may_end}
 use Rattle.sfv_c.specs.Parts.{part_event, events_in, events_from, IsStop}
 
 -- an error that a call hands on
@@ -96,13 +95,18 @@ some_here ps at h = omega (arith, left_length ps at)
 
 pub shrinks : (ps : List Part) (at end : ℕ) (front : List TreeEvent) → at < length ps
     → events_from (at + 1) ps ≡ front ++ events_from end ps → length ps - end < length ps - at
-shrinks ps at end front h e = omega (arith, ap length e, length-append front (events_from end ps), left_length ps end,
-    left_length ps (at + 1))
+shrinks ps at end front h e = omega (
+  arith,
+  ap length e,
+  length-append front (events_from end ps),
+  left_length ps end,
+  left_length ps (at + 1),
+)
 
 module _ (p : Place) where
   pub not_parameter : (part : Part)
       → ((key : KeyRef) (v : GenericBareItem StringRef (Bor (List ℕ)) TokenRef (Bor (List ℕ)))
-          → part ≡ parts.Parameter key v → ⊥)
+      → part ≡ parts.Parameter key v → ⊥)
       → (part ≡ parts.ParametersEnd → ⊥) → after (parameters p) (part_event part) ≡ None
   not_parameter (parts.Parameter key v) h g = absurd (h key v refl)
   not_parameter parts.ParametersEnd h g = absurd (g refl)

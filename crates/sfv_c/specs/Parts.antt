@@ -1,19 +1,26 @@
 -- Events that rows hold, and what may follow what.
 use Rattle.std.specs.Prelude.{◌≡◌, MatchOption, ⊤, ℕ, ◌<◌, List, [], ◌∷◌, length, drop, map, Bool, true, false, IsTrue, Option, Some, None}
-use Rattle.std.specs.Prelude.{if◌then◌else◌}
-use Rattle.std.specs.List.{AllByRecursion}
+use Rattle.std.specs.Prelude.{if◌then◌else◌, Result, Ok, Err, option_map, string_bytes}
 use Rattle.std.specs.Borrow.{Bor}
-use Rattle.sfv.specs.Values.{FieldKind, item_field, list_field, dictionary_field, BareValue, IsBareValue}
+use Rattle.sfv.specs.Values.{Edition, FieldKind, RawField, item_field, list_field, dictionary_field, BareValue, IsBareValue}
 use Rattle.sfv.specs.Classes.{is_key}
 use Rattle.sfv.specs.Events.{TreeEvent, entry, keyed_entry, begins_item, begins_inner_list, bare_item, parameter}
-use Rattle.sfv.specs.Events.{parameters_end, inner_list_end}
+use Rattle.sfv.specs.Events.{parameters_end, inner_list_end, events, bare_values}
 use Rattle.sfv.specs.BareItems.{ref_value}
 use Rattle.sfv.specs.StringText.{StringRef}
 use Rattle.sfv.specs.TokenText.{TokenRef}
 use Rattle.sfv.specs.Types.{GenericBareItem}
 use Rattle.sfv.specs.KeyText.{key_text}
 use Rattle.sfv_c.specs.Rows.{ValueParts, Parts, value_parts, parts_of}
-use Rattle.sfv_c.specs.Writing.{IsRowOf}
+use Rattle.sfv_c.specs.Writing.{IsRowOf, IsScriptText}
+use Rattle.sfv_c.specs.declared.answer.Fault.{Fault}
+use Rattle.sfv_c.specs.declared.answer.Fault.TheVariants as faults
+use Rattle.std.specs.declared.alloc.Global.{Global}
+use Rattle.std.specs.declared.string.String as std_string
+use Rattle.sfv.specs.Calls.{Fits}
+use Rattle.sfv.specs.Versions.{IsSerializeError}
+use Rattle.sfv.specs.Types.{BareItemType}
+use Rattle.sfv.specs.Types.serialize_errors as errors
 use Rattle.sfv_c.specs.declared.rows.Row.{Row}
 use Rattle.sfv_c.specs.declared.part.Part.{Part}
 use Rattle.sfv_c.specs.declared.part.Part.TheVariants as parts
@@ -63,6 +70,13 @@ abbrev pub GivesEvent : List ℕ → Row → Option Part → Type 0
 GivesEvent bytes row r = MatchOption r ((e : TreeEvent) → IsValidEvent e → ¬ IsRowOf bytes row e)
     (λ part. IsValidEvent (part_event part) × IsRowOf bytes row (part_event part))
 
+-- these are the events of the rows, as far as each is that of one
+abbrev pub AreEventsOf : List ℕ → List Row → List TreeEvent → Type 0
+AreEventsOf bytes [] [] = ⊤
+AreEventsOf bytes [] (e ∷ es) = ⊥
+AreEventsOf bytes (row ∷ rows) [] = (e : TreeEvent) → IsValidEvent e → ¬ IsRowOf bytes row e
+AreEventsOf bytes (row ∷ rows) (e ∷ es) = IsValidEvent e × IsRowOf bytes row e × AreEventsOf bytes rows es
+
 -- what may come next, and what after that
 pub data Place : Type 0 where
   ended list_members dictionary_members : Place
@@ -103,3 +117,29 @@ stops p (e ∷ es) = elim (after p e) [ None ↦ Some (length (e ∷ es)) | Some
 abbrev pub IsStop : Place → List TreeEvent → Stop → Type 0
 IsStop p es (stop.At left) = stops p es ≡ Some left
 IsStop p es stop.Memory = 0 < length es
+
+-- the events are those of a field that fits the edition, and this is what is written of it
+pub record IsTextOf (edition : Edition) (kind : FieldKind) (es : List TreeEvent) (text : Option (List ℕ)) : Type 0 where
+  pub raw : RawField kind
+  pub events_of : es ≡ events kind raw
+  pub fits : Fits edition kind raw
+  pub written : IsScriptText edition kind raw text
+
+-- the events are those of a field that holds a value of this kind, which the edition doesn't have
+pub record IsUnsupported (edition : Edition) (kind : FieldKind) (es : List TreeEvent) (unfit : BareItemType) : Type 0
+  where
+    pub raw : RawField kind
+    pub events_of : es ≡ events kind raw
+    pub error : IsSerializeError edition (bare_values kind raw) (errors.Unsupported unfit)
+
+-- why no text is made of the events, of which there may be more
+abbrev pub IsTextFault : Edition → FieldKind → List TreeEvent → Bool → Fault → Type 0
+IsTextFault edition kind es whole (faults.Read e) = ⊥
+IsTextFault edition kind es whole (faults.Write errors.OutOfMemory) = 0 < length es
+IsTextFault edition kind es whole (faults.Write (errors.Unsupported unfit)) =
+    IsTrue whole × IsUnsupported edition kind es unfit
+IsTextFault edition kind es whole (faults.Rows n) = ¬ (IsTrue whole × (stops (beginning kind) es ≡ None))
+
+abbrev pub IsTextMade : Edition → FieldKind → List TreeEvent → Bool → Result (Option (std_string.String Global)) Fault → Type 0
+IsTextMade edition kind es whole (Ok text) = IsTrue whole × IsTextOf edition kind es (option_map string_bytes text)
+IsTextMade edition kind es whole (Err fault) = IsTextFault edition kind es whole fault

@@ -1,4 +1,4 @@
-use Rattle.std.proofs.Common.{◌∙◌, ◌∷◌, ◌<◌, ap, map, flat_map, length, length-append, arith}
+use Rattle.std.proofs.Common.{◌∙◌, ◌∷◌, ap, map, flat_map, length, length-append, arith}
 use Rattle.sfv.specs.Events.{inner_item_events, inner_list_end}
 use Rattle.sfv.specs.Scripts.{called_item}
 use Rattle.sfv_c.specs.Parts.{items, parameters, stops, events_from}
@@ -12,6 +12,6 @@ returns-in_err-params-clause-stopped c =
     let rest = inner_list_end ∷ events_from c.in_ok-items.end c.args.parts.now in
     err_and c.from_residual-in_err-params.result _ _ c.from_residual-in_err-params.ensures.1
     (λ p. carried (items p) (parameters p) (events_from c.args.at c.args.parts.now) (events_from c.in_ok-items.end c.args.parts.now)
-        (ap (stops (items p)) c.in_ok-items.ensures.read ∙ stops_items p is rest)
-        (omega (arith, ap length c.in_ok-items.ensures.read, length-append (flat_map inner_item_events is) rest))
-        _ (c.in_err-params.ensures.stopped p))
+    (ap (stops (items p)) c.in_ok-items.ensures.read ∙ stops_items p is rest)
+    (omega (arith, ap length c.in_ok-items.ensures.read, length-append (flat_map inner_item_events is) rest))
+    _ (c.in_err-params.ensures.stopped p))

@@ -11,8 +11,8 @@ returns-in_default-part c = record {
   stopped = λ p. ap (stops (parameters p)) c.loop-part.invariant
       ∙ (stops_parameters p (map called_param c.loop-part.params.items) (events_from c.loop-part.at c.args.parts.now)
       ∙ stuck (parameters p) c.args.parts.now c.loop-part.at c.in-Some.part.now _ c.in-Some.ensures.lookup.3.0
-          c.in-Some.ensures.lookup.1 c.left.ensures
-          (not_parameter p _ c.in_default-part.not-Parameter c.in_default-part.not-ParametersEnd));
+      c.in-Some.ensures.lookup.1 c.left.ensures
+      (not_parameter p _ c.in_default-part.not-Parameter c.in_default-part.not-ParametersEnd));
 }
 
 pub returns-clause-stopped : goal.returns-clause-stopped

@@ -1,4 +1,4 @@
-use Rattle.std.proofs.Common.{◌≡◌, ℕ, List, IsTrue, Option, MatchOption, sym, subst}
+use Rattle.std.proofs.Common.{◌≡◌, IsTrue, Option, MatchOption, sym, subst}
 use Rattle.std.specs.List.{list_all}
 use Rattle.sfv.specs.Classes.{is_string_byte}
 use Rattle.sfv.specs.InvalidTexts.{IsInvalidString}

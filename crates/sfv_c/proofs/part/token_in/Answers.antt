@@ -1,5 +1,4 @@
-use Rattle.std.proofs.Common.{◌≡◌, ℕ, List, IsTrue, Option, MatchOption, sym, subst}
-use Rattle.std.specs.List.{list_all}
+use Rattle.std.proofs.Common.{◌≡◌, IsTrue, Option, MatchOption, sym, subst}
 use Rattle.sfv.specs.Classes.{is_token}
 use Rattle.sfv.specs.InvalidTexts.{IsInvalidToken}
 use Rattle.sfv.specs.TokenText.{TokenRef, token_text}
