@@ -25,8 +25,8 @@ static void check_text(unsigned char *out, size_t length) {
 }
 
 /* The events are written as a text that is read as the same value, and as the canonical text itself where no key is
- * repeated; and without the last one, or as another type, they are those of no field. */
-static void check_write(const sfv_event *e, size_t events, const unsigned char *bytes, size_t length) {
+ * repeated; and without the last one, as another type, or with a row of no event, they are those of no field. */
+static void check_write(sfv_event *e, size_t events, const unsigned char *bytes, size_t length) {
     const line *l = current;
     sfv_answer wanted = canonical(NULL, 0), less, a = sfv_write(l->type, SFV_RFC9651, e, events, bytes, length, NULL, 0);
     size_t size = a.status == SFV_TOO_SMALL ? a.length : 0;
@@ -44,6 +44,17 @@ static void check_write(const sfv_event *e, size_t events, const unsigned char *
         expect(less.status == SFV_ROW && less.index == events - 1, "an event less is written");
         less = sfv_write(l->type == SFV_ITEM ? SFV_LIST : SFV_ITEM, SFV_RFC9651, e, events, bytes, length, NULL, 0);
         expect(less.status == SFV_ROW && less.index == 0, "written as another type");
+    }
+    for (size_t i = 0; i < events && i < 32; i++) {
+        uint32_t tag = e[i].tag;
+        e[i].tag = SFV_END_INNER + 1;
+        less = sfv_write(l->type, SFV_RFC9651, e, events, bytes, length, NULL, 0);
+        expect(less.status == SFV_ROW && less.index == i, "a row of no event is written");
+        e[i].tag = tag;
+        e[i].key = length + 1;
+        less = sfv_write(l->type, SFV_RFC9651, e, events, bytes, length, NULL, 0);
+        expect(less.status == SFV_ROW && less.index == i, "a key outside of the bytes is written");
+        e[i].key = e[i].bytes - e[i].key_length;
     }
     expect(is_guarded(out, size + 3), "outside of what is written");
     release(out), release(text), release(again);

@@ -1,11 +1,12 @@
 /* sfv.h: Structured Field Values for HTTP (RFC 9651, RFC 8941), for callers in C and C++.
  *
  * POINTERS. Every pointer is lent for the length of the call alone, and stays its caller's: the library keeps none, frees
- * none and returns none. What a call reads (`input`; of sfv_write `events` and `bytes`) it doesn't write. What a call writes
- * into (`out`, and else `events`, `bytes`) may overlap neither its input nor another buffer of the same call. An input is bytes of any value, and needs no closing
- * NUL; nor is one written. A length is at most PTRDIFF_MAX. Each pointer of a function of this header (sfv_canonical, ..)
- * may be NULL, whatever its length, and is then a buffer of no bytes. The exported functions (sfv_c_canonical, ..) take
- * no NULL, not even with a length of 0, which their compiled code takes for granted.
+ * none and returns none. What a call reads (`input`; of sfv_write `events` and `bytes`) it doesn't write. What a call
+ * writes into (`out`, and else `events`, `bytes`) may overlap neither its input nor another buffer of the same call. An
+ * input is bytes of any value, and needs no closing NUL; nor is one written. A length is at most PTRDIFF_MAX. Each
+ * pointer of a function of this header (sfv_canonical, ..) may be NULL, whatever its length, and is then a buffer of no
+ * bytes. The exported functions (sfv_c_canonical, ..) take no NULL, not even with a length of 0, which their compiled
+ * code takes for granted.
  *
  * MEMORY. The library asks malloc, realloc and free, by way of the kit's object (see LINKING), and gives back all that it
  * took before it returns. These align a block to each power of two up to 16 that divides its size, as those of glibc and
@@ -28,7 +29,8 @@
  *
  * WHAT IS PROVED. What each call answers and leaves in its buffers, as said below, for every input, but for what is only
  * tested: what sfv_events leaves in its two buffers (that their sizes are as said is proved, and of sfv_events_whole
- * everything is), that the `index` of SFV_ROW is the sharp one (that no field has the rows is proved), and that SFV_EVENTS_FOR and the 64 bytes of a message are enough. Nothing checks what a caller in C does.
+ * everything is), that the `index` of SFV_ROW is the sharp one (that no field has the rows is proved), and that
+ * SFV_EVENTS_FOR and the 64 bytes of a message are enough. Nothing checks what a caller in C does.
  */
 #ifndef SFV_H
 #define SFV_H
@@ -198,7 +200,7 @@ static inline sfv_answer sfv_events_whole(sfv_type type, sfv_version version, co
  * write them, or a program of its own. Puts the field's canonical text for `version` at the beginning of `out`, a repeated
  * key each time; `version` reads it back, and there the last value counts. A row's key and text may stand anywhere in
  * `bytes`, and may overlap those of another row; where a row has none, its length is 0 and its offset at most
- * `bytes_length`. All numbers that the row's tag and kind don't name are 0, and a field without members has no row.
+ * `bytes_length`; where its tag or kind names no `kind` or `number`, that is 0. A field without members has no row.
  * SFV_OK: `length` bytes were written, and what follows them in `out` is as it was. On every other status `out` is as it
  * was. SFV_TOO_SMALL: `length` is wanted. SFV_ROW: no field of this type has these rows, since the one at `index` is none,
  * can't follow those before it, or is missing (then `index` is `events_length`); whichever rows a field has, they are
