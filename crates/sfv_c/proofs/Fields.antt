@@ -212,9 +212,12 @@ module _ (bytes : List ℕ) where
     rows_of = field_of kind rows es h.1.raw d (to h.0) h.1.events_of;
     error = h.1.error;
   }
-  write_fault edition kind rows es whole d to from (faults.Rows n) h = λ raw r.
-      let i = only_events rows es (events kind raw) d (field_valid kind raw r.value) r.in_rows in
-      h (from i.1, ap (stops (beginning kind)) (sym i.0) ∙ field_read kind raw)
+  write_fault edition kind rows es whole d to from (faults.Rows n) h = (
+    omega (arith, few_events rows es d, h.0),
+    λ raw r.
+        let i = only_events rows es (events kind raw) d (field_valid kind raw r.value) r.in_rows in
+        h.1 (from i.1, ap (stops (beginning kind)) (sym i.0) ∙ field_read kind raw),
+  )
 
   pub puts_rows : (edition : Edition) (kind : FieldKind) (rows : List Row) (es : List TreeEvent) (whole : Bool)
       (old new : List ℕ) (w : Written) (text : Option (List ℕ)) → AreEventsOf bytes rows es

@@ -1,5 +1,5 @@
 -- Events that rows hold, and what may follow what.
-use Rattle.std.specs.Prelude.{◌≡◌, MatchOption, ⊤, ℕ, ◌<◌, List, [], ◌∷◌, length, drop, map, Bool, true, false, IsTrue, Option, Some, None}
+use Rattle.std.specs.Prelude.{◌≡◌, MatchOption, ⊤, ℕ, ◌<◌, ◌≤◌, List, [], ◌∷◌, length, drop, map, Bool, true, false, IsTrue, Option, Some, None}
 use Rattle.std.specs.Prelude.{if◌then◌else◌, Result, Ok, Err, option_map, string_bytes}
 use Rattle.std.specs.Borrow.{Bor}
 use Rattle.sfv.specs.Values.{Edition, FieldKind, RawField, item_field, list_field, dictionary_field, BareValue, IsBareValue}
@@ -138,7 +138,8 @@ IsTextFault edition kind es whole (faults.Read e) = ⊥
 IsTextFault edition kind es whole (faults.Write errors.OutOfMemory) = 0 < length es
 IsTextFault edition kind es whole (faults.Write (errors.Unsupported unfit)) =
     IsTrue whole × IsUnsupported edition kind es unfit
-IsTextFault edition kind es whole (faults.Rows n) = ¬ (IsTrue whole × (stops (beginning kind) es ≡ None))
+IsTextFault edition kind es whole (faults.Rows n) =
+    (n ≤ length es) × ¬ (IsTrue whole × (stops (beginning kind) es ≡ None))
 
 abbrev pub IsTextMade : Edition → FieldKind → List TreeEvent → Bool → Result (Option (std_string.String Global)) Fault → Type 0
 IsTextMade edition kind es whole (Ok text) = IsTrue whole × IsTextOf edition kind es (option_map string_bytes text)

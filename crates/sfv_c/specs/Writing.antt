@@ -66,12 +66,13 @@ pub record HoldsUnfit (edition : Edition) (kind : FieldKind) (rows : List Row) (
   pub error : IsSerializeError edition (bare_values kind raw) (errors.Unsupported unfit)
 
 -- why rows aren't written: memory is asked for only where there is a row, and rows are refused only if they are those of
--- no field
+-- no field, with the index of one of them, or their number
 abbrev pub IsWriteFault : Edition → FieldKind → List Row → List ℕ → Fault → Type 0
 IsWriteFault edition kind rows bytes (faults.Read e) = ⊥
 IsWriteFault edition kind rows bytes (faults.Write errors.OutOfMemory) = 0 < length rows
 IsWriteFault edition kind rows bytes (faults.Write (errors.Unsupported unfit)) = HoldsUnfit edition kind rows bytes unfit
-IsWriteFault edition kind rows bytes (faults.Rows n) = (raw : RawField kind) → ¬ AreRowsOfField kind rows bytes raw
+IsWriteFault edition kind rows bytes (faults.Rows n) =
+    (n ≤ length rows) × ((raw : RawField kind) → ¬ AreRowsOfField kind rows bytes raw)
 
 abbrev pub IsWriteOutcome : Edition → FieldKind → List Row → List ℕ → List ℕ → List ℕ → Result Written Fault → Type 0
 IsWriteOutcome edition kind rows bytes old new (Ok w) = PutsRows edition kind rows bytes old new w

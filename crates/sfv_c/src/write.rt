@@ -1,6 +1,6 @@
 //! Rows that are written as a text.
 
-ghost use Rattle.std.specs.Prelude.{◌<◌, length, IfOk, OnErr, Bool, List};
+ghost use Rattle.std.specs.Prelude.{◌≡◌, ◌<◌, length, IfOk, OnErr, Bool, List};
 ghost use Rattle.sfv.specs.Values.{Edition, FieldKind, item_field, list_field, dictionary_field};
 ghost use Rattle.sfv.specs.Events.{TreeEvent};
 ghost use Rattle.sfv.specs.BareItems.{edition_of};
@@ -35,7 +35,7 @@ fn parts_in<'a>(alloc: Global, rows: &[Row], bytes: &'a [u8]) -> Result<Vec<Part
 /// Why so many parts are those of no field.
 fn fault_of(count: usize, stop: Stop) -> Fault
     ensures { (kind : FieldKind) (es : List TreeEvent) (whole : Bool) (edition : Edition)
-        → IsStop (beginning kind) es stop → IsTextFault edition kind es whole result }
+        → count ≡ length es → IsStop (beginning kind) es stop → IsTextFault edition kind es whole result }
 {
     match stop {
         Stop::At(left) => Fault::Rows(count.saturating_sub(left)),

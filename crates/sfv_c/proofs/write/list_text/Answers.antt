@@ -1,17 +1,18 @@
-use Rattle.std.proofs.Common.{◌<◌, List, length, subst}
+use Rattle.std.proofs.Common.{sym, ◌<◌, List, length, subst}
+use Rattle.std.proofs.lemmas.List.{length-map}
 use Rattle.sfv.specs.BareItems.{edition_of}
 use Rattle.sfv.specs.Events.{bare_values}
 use Rattle.sfv.specs.Scripts.{handed_list}
 use Rattle.sfv.specs.Types.{MemberCalls}
 use Rattle.sfv.specs.Values.{list_field}
 use Rattle.sfv.specs.Versions.{IsSerializeError}
-use Rattle.sfv_c.specs.Parts.{events_in}
+use Rattle.sfv_c.specs.Parts.{events_in, part_event}
 use Rattle.sfv_c.proofs.Fields.{text_err, script_fault, some_list}
 use Rattle.sfv_c.proofs.write.list_text.Goals as goal
 
 pub returns-in-Err : goal.returns-in-Err
 returns-in-Err c = c.fault_of.ensures list_field (events_in c.args.parts.now) c.args.whole (edition_of c.args.writing)
-    c.in-Err.ensures.stopped
+    (sym (length-map c.args.parts.now part_event)) c.in-Err.ensures.stopped
 
 pub returns-in_err-stands : goal.returns-in_err-stands
 returns-in_err-stands c =
