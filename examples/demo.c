@@ -1,4 +1,5 @@
-/* Reads a Priority field, walks a Cache-Status list by its events, prints canonical texts, and points at faults. The
+/* Reads a Priority field, walks a Cache-Status list by its events, prints canonical texts, points at faults, and writes a
+ * list from its parts. The
  * program in rust/src/main.rs does the same, and both print demo.out. */
 #include <stdio.h>
 #include <string.h>
@@ -109,6 +110,20 @@ static void statuses(void) {
     printf("%u\n", (unsigned)sfv_check((sfv_type)7, SFV_RFC9651, "1", 1).status);
 }
 
+/* Writes the list `token;k=1` from its parts, then the same without its end. */
+static void write_list(void) {
+    const char *bytes = "tokenk";
+    sfv_event events[] = {
+        {SFV_ENTRY, 0, 0, 0, 0, 0, 0}, {SFV_BEGIN_ITEM, 0, 0, 0, 0, 0, 0}, {SFV_BARE_ITEM, SFV_TOKEN, 0, 0, 0, 5, 0},
+        {SFV_PARAMETER, SFV_INTEGER, 5, 1, 0, 0, 1}, {SFV_END_PARAMETERS, 0, 0, 0, 0, 0, 0},
+    };
+    char out[16];
+    sfv_answer a = sfv_write(SFV_LIST, SFV_RFC9651, events, 5, bytes, 6, out, sizeof out);
+    printf("%u %.*s\n", (unsigned)a.status, (int)a.length, out);
+    a = sfv_write(SFV_LIST, SFV_RFC9651, events, 4, bytes, 6, out, sizeof out);
+    printf("%u %u\n", (unsigned)a.status, (unsigned)a.index);
+}
+
 int main(void) {
     priority("u=1, i");
     priority("u=9;x, i=?1, u=5, z=(1 2)");
@@ -124,5 +139,6 @@ int main(void) {
     canonical(SFV_LIST, SFV_RFC8941, "1, @2, %\"c\"");
     canonical(SFV_LIST, SFV_RFC8941, "1, 2.0, c");
     statuses();
+    write_list();
     return 0;
 }

@@ -33,13 +33,18 @@ void rattle_dealloc(void *block) {
     free(block);
 }
 
-enum call { CHECK, CANONICAL, EVENTS, WHOLE, CALLS };
+enum call { CHECK, CANONICAL, EVENTS, WHOLE, WRITE, CALLS };
 enum { LOOKED_AT = 256 };
 
 static const line *current;
 static int faults;
 static unsigned char out[1 << 16];
 static sfv_event rows[1 << 14];
+
+/* The events of the line, if it is accepted, and else none. */
+static sfv_event read_rows[1 << 14];
+static unsigned char read_bytes[1 << 16];
+static sfv_answer read_answer;
 
 static void expect(int holds, const char *what) {
     if (!holds && faults++ < 20) printf("%s: %s\n", what, current->text);
@@ -56,7 +61,8 @@ static sfv_answer make(enum call call, unsigned long number) {
     case CHECK: return sfv_check(l->type, l->version, l->input, l->length);
     case CANONICAL: return sfv_canonical(l->type, l->version, l->version, 1, l->input, l->length, out, sizeof out);
     case EVENTS: return sfv_events(l->type, l->version, l->input, l->length, rows, 1 << 14, out, sizeof out);
-    default: return sfv_events_whole(l->type, l->version, l->input, l->length, rows, 1 << 14, out, sizeof out);
+    case WHOLE: return sfv_events_whole(l->type, l->version, l->input, l->length, rows, 1 << 14, out, sizeof out);
+    default: return sfv_write(l->type, l->version, read_rows, read_answer.events, read_bytes, read_answer.length, out, sizeof out);
     }
 }
 
@@ -75,6 +81,9 @@ static void check_refusal(enum call call, sfv_answer a, sfv_answer whole) {
 
 /* Makes each call, and again with each of its requests refused. */
 static void try_line(unsigned long requests[CALLS]) {
+    const line *l = current;
+    refused = 0;
+    read_answer = sfv_events(l->type, l->version, l->input, l->length, read_rows, 1 << 14, read_bytes, sizeof read_bytes);
     for (enum call call = CHECK; call < CALLS; call++) {
         sfv_answer whole = make(call, 0);
         unsigned long made = asked;
@@ -87,7 +96,7 @@ static void try_line(unsigned long requests[CALLS]) {
 
 int main(void) {
     line l;
-    unsigned long requests[CALLS] = {0, 0, 0, 0}, lines = 0;
+    unsigned long requests[CALLS] = {0, 0, 0, 0, 0}, lines = 0;
     for (; next_line(&l); lines++) {
         current = &l;
         try_line(requests);

@@ -24,6 +24,42 @@ static void check_text(unsigned char *out, size_t length) {
     release(small);
 }
 
+/* The events are written as a text that is read as the same value, and as the canonical text itself where no key is
+ * repeated; and without the last one, as another type, or with a row of no event, they are those of no field. */
+static void check_write(sfv_event *e, size_t events, const unsigned char *bytes, size_t length) {
+    const line *l = current;
+    sfv_answer wanted = canonical(NULL, 0), less, a = sfv_write(l->type, SFV_RFC9651, e, events, bytes, length, NULL, 0);
+    size_t size = a.status == SFV_TOO_SMALL ? a.length : 0;
+    unsigned char *out = guarded(size + 3), *text = guarded(wanted.length + 3), *again = guarded(wanted.length + 3);
+    expect(a.status == wanted.status && a.length >= wanted.length, "the length of what is written");
+    a = sfv_write(l->type, SFV_RFC9651, e, events, bytes, length, out, size + 3);
+    expect(a.status == (size ? SFV_OK : SFV_NOTHING) && a.length == size && is_untouched(out + size, 3), "written");
+    wanted = canonical(text, wanted.length + 3);
+    if (size == wanted.length) expect(memcmp(out, text, size) == 0, "written otherwise");
+    a = sfv_canonical(l->type, SFV_RFC9651, SFV_RFC9651, 1, out, size, again, wanted.length + 3);
+    expect(a.status == wanted.status && a.length == wanted.length, "read back");
+    expect(memcmp(again, text, wanted.length + 3) == 0, "read back as another");
+    if (events > 0) {
+        less = sfv_write(l->type, SFV_RFC9651, e, events - 1, bytes, length, NULL, 0);
+        expect(less.status == SFV_ROW && less.index == events - 1, "an event less is written");
+        less = sfv_write(l->type == SFV_ITEM ? SFV_LIST : SFV_ITEM, SFV_RFC9651, e, events, bytes, length, NULL, 0);
+        expect(less.status == SFV_ROW && less.index == 0, "written as another type");
+    }
+    for (size_t i = 0; i < events && i < 32; i++) {
+        uint32_t tag = e[i].tag;
+        e[i].tag = SFV_END_INNER + 1;
+        less = sfv_write(l->type, SFV_RFC9651, e, events, bytes, length, NULL, 0);
+        expect(less.status == SFV_ROW && less.index == i, "a row of no event is written");
+        e[i].tag = tag;
+        e[i].key = length + 1;
+        less = sfv_write(l->type, SFV_RFC9651, e, events, bytes, length, NULL, 0);
+        expect(less.status == SFV_ROW && less.index == i, "a key outside of the bytes is written");
+        e[i].key = e[i].bytes - e[i].key_length;
+    }
+    expect(is_guarded(out, size + 3), "outside of what is written");
+    release(out), release(text), release(again);
+}
+
 /* Both calls for events write the same, as long as there is room, and the one that is whole nothing else. */
 static void check_events(size_t events, size_t length) {
     const line *l = current;
@@ -48,6 +84,7 @@ static void check_events(size_t events, size_t length) {
     expect(memcmp(rows, rows2, size) == 0 && memcmp(bytes, bytes2, length) == 0, "events of both calls");
     expect(is_guarded(rows, size) && is_guarded(bytes, length), "outside of the events");
     expect(is_guarded(rows2, size) && is_guarded(bytes2, length), "outside of the whole events");
+    check_write(e, events, bytes, length);
     release(rows), release(bytes), release(rows2), release(bytes2);
 }
 

@@ -1,11 +1,12 @@
 /* sfv.h: Structured Field Values for HTTP (RFC 9651, RFC 8941), for callers in C and C++.
  *
  * POINTERS. Every pointer is lent for the length of the call alone, and stays its caller's: the library keeps none, frees
- * none and returns none. What a call reads (`input`) it doesn't write. What a call writes into (`out`, `events`, `bytes`)
- * may overlap neither its input nor another buffer of the same call. An input is bytes of any value, and needs no closing
- * NUL; nor is one written. A length is at most PTRDIFF_MAX. Each pointer of a function of this header (sfv_canonical, ..)
- * may be NULL, whatever its length, and is then a buffer of no bytes. The exported functions (sfv_c_canonical, ..) take
- * no NULL, not even with a length of 0, which their compiled code takes for granted.
+ * none and returns none. What a call reads (`input`; of sfv_write `events` and `bytes`) it doesn't write. What a call
+ * writes into (`out`, and else `events`, `bytes`) may overlap neither its input nor another buffer of the same call. An
+ * input is bytes of any value, and needs no closing NUL; nor is one written. A length is at most PTRDIFF_MAX. Each
+ * pointer of a function of this header (sfv_canonical, ..) may be NULL, whatever its length, and is then a buffer of no
+ * bytes. The exported functions (sfv_c_canonical, ..) take no NULL, not even with a length of 0, which their compiled
+ * code takes for granted.
  *
  * MEMORY. The library asks malloc, realloc and free, by way of the kit's object (see LINKING), and gives back all that it
  * took before it returns. These align a block to each power of two up to 16 that divides its size, as those of glibc and
@@ -28,7 +29,8 @@
  *
  * WHAT IS PROVED. What each call answers and leaves in its buffers, as said below, for every input, but for what is only
  * tested: what sfv_events leaves in its two buffers (that their sizes are as said is proved, and of sfv_events_whole
- * everything is), and that SFV_EVENTS_FOR and the 64 bytes of a message are enough. Nothing checks what a caller in C does.
+ * everything is), that the `index` of SFV_ROW is the sharp one (that no field has the rows is proved), and that
+ * SFV_EVENTS_FOR and the 64 bytes of a message are enough. Nothing checks what a caller in C does.
  */
 #ifndef SFV_H
 #define SFV_H
@@ -51,7 +53,8 @@ typedef enum sfv_status {
     SFV_REFUSED = 3,       /* the input is no such field: `kind` and `index` */
     SFV_OUT_OF_MEMORY = 4, /* `kind` is SFV_ERR_OUT_OF_MEMORY */
     SFV_BAD_ARGUMENT = 5,  /* a type, a version or a kind that isn't one of these; nothing was read or written */
-    SFV_UNSUPPORTED = 6    /* the version of writing doesn't have a value: `kind` is an sfv_value, that of the first */
+    SFV_UNSUPPORTED = 6,   /* the version of writing doesn't have a value: `kind` is an sfv_value, that of the first */
+    SFV_ROW = 7            /* the events are those of no such field: `index` is that of the one that can't stand there */
 } sfv_status;
 
 /* The kinds of error. sfv_message has the text of each. */
@@ -93,7 +96,7 @@ typedef enum sfv_kind {
 typedef struct sfv_answer {
     uint32_t status; /* an sfv_status */
     uint32_t kind;   /* of SFV_REFUSED and SFV_OUT_OF_MEMORY an sfv_kind, of SFV_UNSUPPORTED an sfv_value */
-    size_t index;    /* of SFV_REFUSED: the offset of the fault in the input, from 0 to its length */
+    size_t index;    /* of SFV_REFUSED: the offset of the fault in the input, from 0 to its length; of SFV_ROW: of the row */
     size_t length;   /* of SFV_OK and SFV_TOO_SMALL: bytes written or wanted */
     size_t events;   /* of SFV_OK and SFV_TOO_SMALL of sfv_events and sfv_events_whole: events written or wanted */
 } sfv_answer;
@@ -143,6 +146,8 @@ sfv_answer sfv_c_events(uint32_t type, uint32_t version, const uint8_t *input, s
                         size_t events_length, uint8_t *bytes, size_t bytes_length);
 sfv_answer sfv_c_events_whole(uint32_t type, uint32_t version, const uint8_t *input, size_t input_length,
                               sfv_event *events, size_t events_length, uint8_t *bytes, size_t bytes_length);
+sfv_answer sfv_c_write(uint32_t type, uint32_t version, const sfv_event *events, size_t events_length,
+                       const uint8_t *bytes, size_t bytes_length, uint8_t *out, size_t out_length);
 sfv_answer sfv_c_message(uint32_t kind, uint8_t *out, size_t out_length);
 
 /* Reads `input` as a field under the version `reading` and puts its canonical text for the version `writing` at the
@@ -189,6 +194,25 @@ static inline sfv_answer sfv_events_whole(sfv_type type, sfv_version version, co
     return sfv_c_events_whole((uint32_t)type, (uint32_t)version, input ? (const uint8_t *)input : &none,
                               input ? input_length : 0, events ? events : &no_event, events ? events_length : 0,
                               bytes ? (uint8_t *)bytes : &nothing, bytes ? bytes_length : 0);
+}
+
+/* Writes a field from its parts: `events` rows, with their keys and texts in `bytes`, as sfv_events and sfv_events_whole
+ * write them, or a program of its own. Puts the field's canonical text for `version` at the beginning of `out`, a repeated
+ * key each time; `version` reads it back, and there the last value counts. A row's key and text may stand anywhere in
+ * `bytes`, and may overlap those of another row; where a row has none, its length is 0 and its offset at most
+ * `bytes_length`; where its tag or kind names no `kind` or `number`, that is 0. A field without members has no row.
+ * SFV_OK: `length` bytes were written, and what follows them in `out` is as it was. On every other status `out` is as it
+ * was. SFV_TOO_SMALL: `length` is wanted. SFV_ROW: no field of this type has these rows, since the one at `index` is none,
+ * can't follow those before it, or is missing (then `index` is `events_length`); whichever rows a field has, they are
+ * taken. SFV_UNSUPPORTED: only of SFV_RFC8941, and `kind` is SFV_DATE or SFV_DISPLAY. SFV_OUT_OF_MEMORY: only where there
+ * is a row. May also answer SFV_NOTHING, SFV_BAD_ARGUMENT. No map is built. */
+static inline sfv_answer sfv_write(sfv_type type, sfv_version version, const sfv_event *events, size_t events_length,
+                                   const void *bytes, size_t bytes_length, void *out, size_t out_length) {
+    uint8_t none = 0, nothing = 0;
+    sfv_event no_event = {0, 0, 0, 0, 0, 0, 0};
+    return sfv_c_write((uint32_t)type, (uint32_t)version, events ? events : &no_event, events ? events_length : 0,
+                       bytes ? (const uint8_t *)bytes : &none, bytes ? bytes_length : 0,
+                       out ? (uint8_t *)out : &nothing, out ? out_length : 0);
 }
 
 /* Puts the text of an sfv_kind into `out`, without a NUL: SFV_OK, SFV_TOO_SMALL or SFV_BAD_ARGUMENT. 64 bytes hold

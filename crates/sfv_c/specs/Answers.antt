@@ -46,11 +46,13 @@ refusal e = refusal_at (index_of e) (kind_of e)
 abbrev pub bad_argument : Answer
 bad_argument = answer 5 0 0 0 0
 
--- the answer of an error of reading, and of one of writing: 6 with the kind of the value that isn't supported
+-- the answer of an error of reading, and of one of writing: 6 with the kind of the value that isn't supported; and 7 with
+-- the index of a row
 abbrev pub fault_answer : Fault → Answer
 fault_answer (faults.Read e) = refusal e
 fault_answer (faults.Write serialize_errors.OutOfMemory) = refusal out_of_memory
 fault_answer (faults.Write (serialize_errors.Unsupported kind)) = answer 6 (type_number kind) 0 0 0
+fault_answer (faults.Rows n) = answer 7 0 n 0 0
 
 -- the text stands at the buffer's beginning, and what follows it is as it was; or the buffer is shorter, and as it was
 abbrev pub Puts : List ℕ → List ℕ → List ℕ → Written → Type 0
@@ -77,6 +79,7 @@ abbrev pub IsFault : Edition → Edition → FieldKind → List ℕ → Fault �
 IsFault reading writing kind input (faults.Read e) = IsParseError reading kind input e × NeedsMoreThanSpaces input e
 IsFault reading writing kind input (faults.Write e) = (value : RawField kind) × IsParsedAs reading kind input value
     × HasMember kind value × IsSerializeError writing (bare_values kind value) e
+IsFault reading writing kind input (faults.Rows n) = ⊥
 
 -- what the writing of the canonical text comes to, and what it leaves in the buffer
 abbrev pub IsOutcome : Edition → Edition → FieldKind → List ℕ → List ℕ → List ℕ → Result Written Fault → Type 0

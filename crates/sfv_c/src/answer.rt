@@ -15,7 +15,7 @@ pub struct Answer {
     pub status: u32,
     /// The kind of the error, or that of the value that isn't supported.
     pub kind: u32,
-    /// Where the input is at fault.
+    /// Where the input is at fault, or which row.
     pub index: usize,
     /// The length of the text, or that which is wanted.
     pub length: usize,
@@ -40,6 +40,9 @@ const OUT_OF_MEMORY: u32 = 4;
 
 /// The version of writing doesn't have a value.
 const UNSUPPORTED: u32 = 6;
+
+/// Rows are those of no field.
+const NO_FIELD: u32 = 7;
 
 /// An argument names nothing.
 pub(crate) const BAD_ARGUMENT: Answer = Answer {
@@ -68,6 +71,8 @@ pub(crate) enum Fault {
     Read(Error),
     /// What was read isn't written.
     Write(SerializeError),
+    /// The rows are those of no field: this one can't stand there.
+    Rows(usize),
 }
 
 impl From<Error> for Fault {
@@ -151,6 +156,13 @@ impl Answer {
             Fault::Write(SerializeError::Unsupported(value)) => {
                 Answer::of_kind(UNSUPPORTED, number_of_type(value))
             }
+            Fault::Rows(index) => Answer {
+                status: NO_FIELD,
+                kind: 0,
+                index,
+                length: 0,
+                events: 0,
+            },
         }
     }
 }

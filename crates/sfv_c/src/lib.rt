@@ -8,16 +8,20 @@ ghost use Rattle.sfv_c.specs.Numbers.{named_field, named_version, Names, NamesTh
 ghost use Rattle.sfv_c.specs.Answers.{bad_argument, IsCanonical, IsCheck, IsMessage};
 ghost use Rattle.sfv_c.specs.Lent.{IsEvents};
 ghost use Rattle.sfv_c.specs.Collected.{left_alone, PutsEvents};
+ghost use Rattle.sfv_c.specs.Writing.{IsWrite};
 
 mod answer;
+mod calls;
 mod canonical;
 mod check;
 mod collected;
 mod lent;
 mod message;
 mod numbers;
+mod part;
 mod reading;
 mod rows;
+mod write;
 
 use crate::answer::{Answer, BAD_ARGUMENT};
 use crate::canonical::canonical;
@@ -27,6 +31,7 @@ use crate::lent::keep_events;
 use crate::message::message;
 use crate::numbers::{field_of, version_of};
 use crate::rows::Row;
+use crate::write::write;
 use sfv::{HashSeed, Parser};
 use std::alloc::Global;
 
@@ -139,6 +144,33 @@ pub extern "C" fn sfv_c_events_whole(
             let parser = Parser::new(input).with_version(version);
             put_events(alloc, field, parser, rows, bytes)
         }
+        _ => BAD_ARGUMENT,
+    }
+}
+
+/// Puts the canonical text for the version of the field of these rows, as `sfv_c_events_whole` writes them, at the
+/// beginning of the buffer: a repeated key each time.
+///
+/// # Errors
+///
+/// No field, with the index of a row, if the rows are those of no field of this type; unsupported, with the kind of the
+/// first value that the version doesn't have; out of memory, and only where there is a row; too small, with the length
+/// that is wanted; and nothing, of a list or a dictionary without members. The buffer is then as it was.
+#[unsafe(no_mangle)]
+pub extern "C" fn sfv_c_write(
+    alloc: Global,
+    field: u32,
+    version: u32,
+    rows: &[Row],
+    bytes: &[u8],
+    out: &mut [u8],
+) -> Answer
+    ensures named { Names field version (λ k w. IsWrite w k rows.now bytes.now out.old out.new result) }
+    ensures no_field { named_field field ≡ None → (result ≡ bad_argument) × (out.new ≡ out.old) }
+    ensures no_version { named_version version ≡ None → (result ≡ bad_argument) × (out.new ≡ out.old) }
+{
+    match (field_of(field), version_of(version)) {
+        (Some(field), Some(version)) => write(alloc, field, version, rows, bytes, out),
         _ => BAD_ARGUMENT,
     }
 }

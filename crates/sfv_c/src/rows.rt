@@ -31,17 +31,17 @@ pub struct Row {
 /// A value: its kind, its number and its bytes.
 #[derive(Clone, Copy, Drop)]
 pub(crate) struct Value<'a> {
-    kind: u32,
-    number: i64,
-    bytes: &'a [u8],
+    pub(crate) kind: u32,
+    pub(crate) number: i64,
+    pub(crate) bytes: &'a [u8],
 }
 
 /// An event: its tag, its key and its value.
 #[derive(Clone, Copy, Drop)]
 pub(crate) struct EventParts<'a> {
-    tag: u32,
+    pub(crate) tag: u32,
     pub(crate) key: &'a [u8],
-    value: Value<'a>,
+    pub(crate) value: Value<'a>,
 }
 
 /// The value of a number.

@@ -40,6 +40,7 @@ pub const TOO_SMALL: u32 = 2;
 pub const REFUSED: u32 = 3;
 pub const OUT_OF_MEMORY: u32 = 4;
 pub const UNSUPPORTED: u32 = 6;
+pub const ROW: u32 = 7;
 
 extern "C" {
     fn sfv_c_canonical(
@@ -63,6 +64,16 @@ extern "C" {
         bytes: *mut u8,
         bytes_length: usize,
     ) -> Answer;
+    fn sfv_c_write(
+        field: u32,
+        version: u32,
+        events: *const Event,
+        events_length: usize,
+        bytes: *const u8,
+        bytes_length: usize,
+        out: *mut u8,
+        out_length: usize,
+    ) -> Answer;
     fn sfv_c_message(kind: u32, out: *mut u8, out_length: usize) -> Answer;
 }
 
@@ -78,6 +89,11 @@ pub fn check(field: u32, version: u32, input: &[u8]) -> Answer {
 pub fn events(field: u32, version: u32, input: &[u8], events: &mut [Event], bytes: &mut [u8]) -> Answer {
     let (rows, texts) = (events.as_mut_ptr(), bytes.as_mut_ptr());
     unsafe { sfv_c_events(field, version, input.as_ptr(), input.len(), rows, events.len(), texts, bytes.len()) }
+}
+
+pub fn write(field: u32, version: u32, events: &[Event], bytes: &[u8], out: &mut [u8]) -> Answer {
+    let (rows, texts, to) = (events.as_ptr(), bytes.as_ptr(), out.as_mut_ptr());
+    unsafe { sfv_c_write(field, version, rows, events.len(), texts, bytes.len(), to, out.len()) }
 }
 
 pub fn message(kind: u32) -> String {

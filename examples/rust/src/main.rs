@@ -113,6 +113,23 @@ fn statuses() {
     println!("{}", sfv_c::check(7, RFC9651, b"1").status);
 }
 
+/// Writes the list `token;k=1` from its parts, then the same without its end.
+fn write_list() {
+    let part = |tag, kind| sfv_c::Event { tag, kind, ..Default::default() };
+    let events = [
+        part(1, 0),
+        part(3, 0),
+        sfv_c::Event { bytes_length: 5, ..part(5, 4) },
+        sfv_c::Event { key: 5, key_length: 1, number: 1, ..part(6, 1) },
+        part(7, 0),
+    ];
+    let mut out = [0; 16];
+    let answer = sfv_c::write(LIST, RFC9651, &events, b"tokenk", &mut out);
+    println!("{} {}", answer.status, String::from_utf8_lossy(&out[..answer.length]));
+    let answer = sfv_c::write(LIST, RFC9651, &events[..4], b"tokenk", &mut out);
+    println!("{} {}", answer.status, answer.index);
+}
+
 fn main() {
     priority("u=1, i");
     priority("u=9;x, i=?1, u=5, z=(1 2)");
@@ -128,4 +145,5 @@ fn main() {
     canonical(LIST, RFC8941, "1, @2, %\"c\"");
     canonical(LIST, RFC8941, "1, 2.0, c");
     statuses();
+    write_list();
 }

@@ -1,0 +1,146 @@
+-- Events that rows hold, and what may follow what.
+use Rattle.std.specs.Prelude.{◌≡◌, MatchOption, ⊤, ℕ, ◌<◌, ◌≤◌, List, [], ◌∷◌, length, drop, map, Bool, true, false, IsTrue, Option, Some, None}
+use Rattle.std.specs.Prelude.{if◌then◌else◌, Result, Ok, Err, option_map, string_bytes}
+use Rattle.std.specs.Borrow.{Bor}
+use Rattle.sfv.specs.Values.{Edition, FieldKind, RawField, item_field, list_field, dictionary_field, BareValue, IsBareValue}
+use Rattle.sfv.specs.Classes.{is_key}
+use Rattle.sfv.specs.Events.{TreeEvent, entry, keyed_entry, begins_item, begins_inner_list, bare_item, parameter}
+use Rattle.sfv.specs.Events.{parameters_end, inner_list_end, events, bare_values}
+use Rattle.sfv.specs.BareItems.{ref_value}
+use Rattle.sfv.specs.StringText.{StringRef}
+use Rattle.sfv.specs.TokenText.{TokenRef}
+use Rattle.sfv.specs.Types.{GenericBareItem}
+use Rattle.sfv.specs.KeyText.{key_text}
+use Rattle.sfv_c.specs.Rows.{ValueParts, Parts, value_parts, parts_of}
+use Rattle.sfv_c.specs.Writing.{IsRowOf, IsScriptText}
+use Rattle.sfv_c.specs.declared.answer.Fault.{Fault}
+use Rattle.sfv_c.specs.declared.answer.Fault.TheVariants as faults
+use Rattle.std.specs.declared.alloc.Global.{Global}
+use Rattle.std.specs.declared.string.String as std_string
+use Rattle.sfv.specs.Calls.{Fits}
+use Rattle.sfv.specs.Versions.{IsSerializeError}
+use Rattle.sfv.specs.Types.{BareItemType}
+use Rattle.sfv.specs.Types.serialize_errors as errors
+use Rattle.sfv_c.specs.declared.rows.Row.{Row}
+use Rattle.sfv_c.specs.declared.part.Part.{Part}
+use Rattle.sfv_c.specs.declared.part.Part.TheVariants as parts
+use Rattle.sfv_c.specs.declared.calls.Stop.{Stop}
+use Rattle.sfv_c.specs.declared.calls.Stop.TheVariants as stop
+
+abbrev pub RefItem : Type 0
+RefItem = GenericBareItem StringRef (Bor (List ℕ)) TokenRef (Bor (List ℕ))
+
+-- the event that a part is
+abbrev pub part_event : Part → TreeEvent
+part_event parts.Entry = entry
+part_event (parts.KeyedEntry key) = keyed_entry (key_text key)
+part_event parts.Item = begins_item
+part_event parts.InnerList = begins_inner_list
+part_event (parts.BareItem value) = bare_item (ref_value value)
+part_event (parts.Parameter key value) = parameter (key_text key) (ref_value value)
+part_event parts.ParametersEnd = parameters_end
+part_event parts.InnerListEnd = inner_list_end
+
+abbrev pub events_in : List Part → List TreeEvent
+events_in ps = map part_event ps
+
+-- those from this one on
+abbrev pub events_from : ℕ → List Part → List TreeEvent
+events_from at ps = events_in (drop at ps)
+
+-- its key is one, and its value
+abbrev pub IsValidEvent : TreeEvent → Type 0
+IsValidEvent (keyed_entry key) = IsTrue (is_key key)
+IsValidEvent (bare_item value) = IsBareValue value
+IsValidEvent (parameter key value) = IsTrue (is_key key) × IsBareValue value
+IsValidEvent e = ⊤
+
+-- the item of these parts, or none has them
+abbrev pub GivesItem : ValueParts → Option RefItem → Type 0
+GivesItem p r = MatchOption r ((v : BareValue) → IsBareValue v → ¬ (value_parts (Some v) ≡ p))
+    (λ item. IsBareValue (ref_value item) × (value_parts (Some (ref_value item)) ≡ p))
+
+-- the event of these parts, or none has them
+abbrev pub GivesPart : Parts → Option Part → Type 0
+GivesPart p r = MatchOption r ((e : TreeEvent) → IsValidEvent e → ¬ (parts_of e ≡ p))
+    (λ part. IsValidEvent (part_event part) × (parts_of (part_event part) ≡ p))
+
+-- the event of this row, or it is the row of none
+abbrev pub GivesEvent : List ℕ → Row → Option Part → Type 0
+GivesEvent bytes row r = MatchOption r ((e : TreeEvent) → IsValidEvent e → ¬ IsRowOf bytes row e)
+    (λ part. IsValidEvent (part_event part) × IsRowOf bytes row (part_event part))
+
+-- these are the events of the rows, as far as each is that of one
+abbrev pub AreEventsOf : List ℕ → List Row → List TreeEvent → Type 0
+AreEventsOf bytes [] [] = ⊤
+AreEventsOf bytes [] (e ∷ es) = ⊥
+AreEventsOf bytes (row ∷ rows) [] = (e : TreeEvent) → IsValidEvent e → ¬ IsRowOf bytes row e
+AreEventsOf bytes (row ∷ rows) (e ∷ es) = IsValidEvent e × IsRowOf bytes row e × AreEventsOf bytes rows es
+
+-- what may come next, and what after that
+pub data Place : Type 0 where
+  ended list_members dictionary_members : Place
+  member value parameters items : Place → Place
+
+-- the place at which a field begins
+abbrev pub beginning : FieldKind → Place
+beginning item_field = value ended
+beginning list_field = list_members
+beginning dictionary_field = dictionary_members
+
+-- the place after an event, if it may come here
+abbrev pub after : Place → TreeEvent → Option Place
+after list_members entry = Some (member list_members)
+after dictionary_members (keyed_entry key) = Some (member dictionary_members)
+after (member p) begins_item = Some (value p)
+after (member p) begins_inner_list = Some (items p)
+after (value p) (bare_item v) = Some (parameters p)
+after (parameters p) (parameter key v) = Some (parameters p)
+after (parameters p) parameters_end = Some p
+after (items p) begins_item = Some (value (items p))
+after (items p) inner_list_end = Some (parameters p)
+after p e = None
+
+-- a field may end here
+abbrev pub may_end : Place → Bool
+may_end ended = true
+may_end list_members = true
+may_end dictionary_members = true
+may_end p = false
+
+-- how many events are left where they can't go on, or where they end too early
+abbrev pub stops : Place → List TreeEvent → Option ℕ
+stops p [] = if may_end p then None else Some 0
+stops p (e ∷ es) = elim (after p e) [ None ↦ Some (length (e ∷ es)) | Some next ↦ stops next es ]
+
+-- why reading stopped: so many events are left, or memory was refused, which is asked for only where there is an event
+abbrev pub IsStop : Place → List TreeEvent → Stop → Type 0
+IsStop p es (stop.At left) = stops p es ≡ Some left
+IsStop p es stop.Memory = 0 < length es
+
+-- the events are those of a field that fits the edition, and this is what is written of it
+pub record IsTextOf (edition : Edition) (kind : FieldKind) (es : List TreeEvent) (text : Option (List ℕ)) : Type 0 where
+  pub raw : RawField kind
+  pub events_of : es ≡ events kind raw
+  pub fits : Fits edition kind raw
+  pub written : IsScriptText edition kind raw text
+
+-- the events are those of a field that holds a value of this kind, which the edition doesn't have
+pub record IsUnsupported (edition : Edition) (kind : FieldKind) (es : List TreeEvent) (unfit : BareItemType) : Type 0
+  where
+    pub raw : RawField kind
+    pub events_of : es ≡ events kind raw
+    pub error : IsSerializeError edition (bare_values kind raw) (errors.Unsupported unfit)
+
+-- why no text is made of the events, of which there may be more
+abbrev pub IsTextFault : Edition → FieldKind → List TreeEvent → Bool → Fault → Type 0
+IsTextFault edition kind es whole (faults.Read e) = ⊥
+IsTextFault edition kind es whole (faults.Write errors.OutOfMemory) = 0 < length es
+IsTextFault edition kind es whole (faults.Write (errors.Unsupported unfit)) =
+    IsTrue whole × IsUnsupported edition kind es unfit
+IsTextFault edition kind es whole (faults.Rows n) =
+    (n ≤ length es) × ¬ (IsTrue whole × (stops (beginning kind) es ≡ None))
+
+abbrev pub IsTextMade : Edition → FieldKind → List TreeEvent → Bool → Result (Option (std_string.String Global)) Fault → Type 0
+IsTextMade edition kind es whole (Ok text) = IsTrue whole × IsTextOf edition kind es (option_map string_bytes text)
+IsTextMade edition kind es whole (Err fault) = IsTextFault edition kind es whole fault

@@ -1,0 +1,86 @@
+-- Rows that are written as a text.
+use Rattle.std.specs.Prelude.{◌≡◌, ℕ, ◌+◌, ◌≤◌, ◌<◌, List, length, take, drop, Option, Some, None, Result, Ok, Err}
+use Rattle.std.specs.List.{AllZip}
+use Rattle.sfv.specs.Values.{Edition, FieldKind, RawField, IsFieldValue, HasMember}
+use Rattle.sfv.specs.Events.{TreeEvent, events, bare_values}
+use Rattle.sfv.specs.Ordered.{ordered}
+use Rattle.sfv.specs.Canonical.{canonical}
+use Rattle.sfv.specs.Calls.{Fits}
+use Rattle.sfv.specs.Statements.{IsParsedAs}
+use Rattle.sfv.specs.Versions.{IsSerializeError}
+use Rattle.sfv.specs.Types.{BareItemType}
+use Rattle.sfv.specs.Types.serialize_errors as errors
+use Rattle.sfv_c.specs.Answers.{PutsText, outcome_answer}
+use Rattle.sfv_c.specs.declared.answer.Answer.{Answer}
+use Rattle.sfv_c.specs.declared.answer.Written.{Written}
+use Rattle.sfv_c.specs.declared.answer.Fault.{Fault}
+use Rattle.sfv_c.specs.declared.answer.Fault.TheVariants as faults
+use Rattle.sfv_c.specs.declared.rows.Row.{Row}
+use Rattle.sfv_c.specs.Rows.{Parts, parts_of, row_of}
+
+-- the text stands at this place of the bytes, of this length
+pub record IsAt (bytes : List ℕ) (at size : ℕ) (text : List ℕ) : Type 0 where
+  pub within : at + size ≤ length bytes
+  pub text_there : take size (drop at bytes) ≡ text
+
+-- the row is that of these parts, whose texts stand at its own places
+pub record IsRowOfParts (bytes : List ℕ) (row : Row) (p : Parts) : Type 0 where
+  pub in_numbers : row ≡ row_of row.key row.bytes p
+  pub key : IsAt bytes row.key row.key_length p.key
+  pub value : IsAt bytes row.bytes row.bytes_length p.value.bytes
+
+abbrev pub IsRowOf : List ℕ → Row → TreeEvent → Type 0
+IsRowOf bytes row e = IsRowOfParts bytes row (parts_of e)
+
+-- a row of each event, in order
+abbrev pub AreRowsOf : List ℕ → List Row → List TreeEvent → Type 0
+AreRowsOf bytes rows es = AllZip (IsRowOf bytes) rows es
+
+-- the rows are those of this field, in which keys may be repeated
+pub record AreRowsOfField (kind : FieldKind) (rows : List Row) (bytes : List ℕ) (raw : RawField kind) : Type 0 where
+  pub value : IsFieldValue kind raw
+  pub in_rows : AreRowsOf bytes rows (events kind raw)
+
+-- what is written of a field: nothing of a list or dictionary without members, and else its canonical text, a repeated
+-- key each time, which is read back as the field's ordered value
+abbrev pub IsScriptText : Edition → (kind : FieldKind) → RawField kind → Option (List ℕ) → Type 0
+IsScriptText edition kind raw None = ¬ HasMember kind raw
+IsScriptText edition kind raw (Some t) =
+    HasMember kind raw × (t ≡ canonical kind raw) × IsParsedAs edition kind t (ordered kind raw)
+
+-- the rows are those of a field that fits the edition, and what is written of it was put into the buffer
+pub record PutsRows (edition : Edition) (kind : FieldKind) (rows : List Row) (bytes old new : List ℕ) (w : Written)
+    : Type 0 where
+  pub raw : RawField kind
+  pub rows_of : AreRowsOfField kind rows bytes raw
+  pub fits : Fits edition kind raw
+  pub text : Option (List ℕ)
+  pub written : IsScriptText edition kind raw text
+  pub put : PutsText text old new w
+
+-- the rows are those of a field of which the first value that the edition doesn't have is of this kind
+pub record HoldsUnfit (edition : Edition) (kind : FieldKind) (rows : List Row) (bytes : List ℕ) (unfit : BareItemType)
+    : Type 0 where
+  pub raw : RawField kind
+  pub rows_of : AreRowsOfField kind rows bytes raw
+  pub error : IsSerializeError edition (bare_values kind raw) (errors.Unsupported unfit)
+
+-- why rows aren't written: memory is asked for only where there is a row, and rows are refused only if they are those of
+-- no field, with the index of one of them, or their number
+abbrev pub IsWriteFault : Edition → FieldKind → List Row → List ℕ → Fault → Type 0
+IsWriteFault edition kind rows bytes (faults.Read e) = ⊥
+IsWriteFault edition kind rows bytes (faults.Write errors.OutOfMemory) = 0 < length rows
+IsWriteFault edition kind rows bytes (faults.Write (errors.Unsupported unfit)) = HoldsUnfit edition kind rows bytes unfit
+IsWriteFault edition kind rows bytes (faults.Rows n) =
+    (n ≤ length rows) × ((raw : RawField kind) → ¬ AreRowsOfField kind rows bytes raw)
+
+abbrev pub IsWriteOutcome : Edition → FieldKind → List Row → List ℕ → List ℕ → List ℕ → Result Written Fault → Type 0
+IsWriteOutcome edition kind rows bytes old new (Ok w) = PutsRows edition kind rows bytes old new w
+IsWriteOutcome edition kind rows bytes old new (Err fault) = IsWriteFault edition kind rows bytes fault × (new ≡ old)
+
+-- the rows are written, or they aren't; and the answer is that in numbers
+pub record IsWrite (edition : Edition) (kind : FieldKind) (rows : List Row) (bytes old new : List ℕ) (a : Answer)
+    : Type 0 where
+  pub outcome : Result Written Fault
+  pub is_outcome : IsWriteOutcome edition kind rows bytes old new outcome
+  pub in_numbers : a ≡ outcome_answer outcome
