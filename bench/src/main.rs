@@ -19,21 +19,28 @@ pub enum Task {
     Check,
     /// Reading into a list of parts.
     Events,
+    /// Writing the canonical text of a list of parts.
+    Write,
 }
 
-const TASKS: [Task; 3] = [Task::Canonical, Task::Check, Task::Events];
+const TASKS: [Task; 4] = [Task::Canonical, Task::Check, Task::Events, Task::Write];
 
 /// The library's side, with the buffers that its calls want.
 struct Ours {
     out: Vec<u8>,
     rows: Vec<Event>,
+    bytes: Vec<u8>,
+    /// What the field was read as, into the rows and the bytes.
+    read: Answer,
 }
 
 impl Ours {
     fn new(case: &Case) -> Ours {
         let out = vec![0; 4 * case.field.len() + 16];
-        let rows = vec![Event::default(); 2 * case.field.len() + 2];
-        Ours { out, rows }
+        let mut rows = vec![Event::default(); 2 * case.field.len() + 2];
+        let mut bytes = out.clone();
+        let read = sfv_c::events(case.kind, RFC9651, &case.field, &mut rows, &mut bytes);
+        Ours { out, rows, bytes, read }
     }
 
     fn run(&mut self, case: &Case, task: Task) -> Answer {
@@ -41,7 +48,11 @@ impl Ours {
         match task {
             Task::Canonical => sfv_c::canonical(case.kind, RFC9651, RFC9651, case.seed, field, &mut self.out),
             Task::Check => sfv_c::check(case.kind, RFC9651, field),
-            Task::Events => sfv_c::events(case.kind, RFC9651, field, &mut self.rows, &mut self.out),
+            Task::Events => sfv_c::events(case.kind, RFC9651, field, &mut self.rows, &mut self.bytes),
+            Task::Write => {
+                let (rows, bytes) = (&self.rows[..self.read.events], &self.bytes[..self.read.length]);
+                sfv_c::write(case.kind, RFC9651, black_box(rows), bytes, &mut self.out)
+            }
         }
     }
 }
@@ -104,7 +115,12 @@ fn processor() -> String {
     model.map_or("unknown".to_string(), |(_, name)| name.to_string())
 }
 
-fn cell((ours, theirs): (f64, Option<f64>)) -> String {
+/// The cells of a task; where the field is refused, there is nothing to write.
+fn cells(case: &Case, task: Task, rounds: u32) -> String {
+    if matches!(task, Task::Write) && !case.accepted {
+        return "|".to_string();
+    }
+    let (ours, theirs) = measure(case, task, rounds);
     match theirs {
         Some(theirs) => format!("{:.2} | {ours:.0}", ours / theirs),
         None => format!("| {ours:.0}"),
@@ -115,13 +131,13 @@ fn main() {
     let rounds = std::env::args().nth(1).map_or(40, |arg| arg.parse().expect("a number of rounds"));
     let with = if cfg!(feature = "theirs") { "beside the Rust crate" } else { "alone: the Rust crate isn't there" };
     println!("The library {with}, on {}, least of {rounds} rounds.\n", processor());
-    println!("| field | bytes | tree and text | ns | ignored | ns | list of parts | ns |");
-    println!("|---|--:|--:|--:|--:|--:|--:|--:|");
+    println!("| field | bytes | tree and text | ns | ignored | ns | list of parts | ns | written | ns |");
+    println!("|---|--:|--:|--:|--:|--:|--:|--:|--:|--:|");
     for case in cases::all() {
         let answer = Ours::new(&case).run(&case, Task::Canonical);
         let accepted = answer.status == OK || answer.status == NOTHING;
         assert_eq!(accepted, case.accepted, "{}: {answer:?}", case.name);
-        let cells = TASKS.map(|task| cell(measure(&case, task, rounds)));
+        let cells = TASKS.map(|task| cells(&case, task, rounds));
         println!("| {} | {} | {} |", case.name, case.field.len(), cells.join(" | "));
     }
 }

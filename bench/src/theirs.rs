@@ -5,13 +5,17 @@ use crate::Task;
 use sfv::visitor::{
     DictionaryVisitor, EntryVisitor, Ignored, InnerListVisitor, ItemVisitor, ListVisitor, ParameterVisitor,
 };
-use sfv::{BareItemFromInput, Dictionary, FieldType, Item, KeyRef, List, Parser};
+use sfv::{
+    BareItemFromInput, DictSerializer, Dictionary, FieldType, InnerListSerializer, Item, ItemSerializer, KeyRef, List,
+    ListSerializer, ParameterSerializer, Parser,
+};
 use sfv_c::{ITEM, LIST};
+use std::borrow::BorrowMut;
 use std::convert::Infallible;
 use std::hint::black_box;
+use std::slice::Iter;
 
-/// A part of a field, as it is visited. Nothing reads what it holds.
-#[allow(dead_code)]
+/// A part of a field, as it is visited.
 enum Part<'de> {
     Entry,
     KeyedEntry(&'de KeyRef),
@@ -134,6 +138,63 @@ fn events<'de>(kind: u32, parser: Parser<'de>, parts: &mut Vec<Part<'de>>) -> bo
     }
 }
 
+/// The bare item that is next.
+fn bare_item<'p, 'de>(parts: &mut Iter<'p, Part<'de>>) -> &'p BareItemFromInput<'de> {
+    match parts.next() {
+        Some(Part::BareItem(value)) => value,
+        _ => unreachable!("the parts are those of a field"),
+    }
+}
+
+fn write_parameters<W: BorrowMut<String>>(mut serializer: ParameterSerializer<W>, parts: &mut Iter<'_, Part<'_>>) -> W {
+    while let Some(Part::Parameter(key, value)) = parts.next() {
+        serializer = serializer.parameter(key, value);
+    }
+    serializer.finish()
+}
+
+fn write_inner_list(mut list: InnerListSerializer<'_>, parts: &mut Iter<'_, Part<'_>>) {
+    while let Some(Part::Item) = parts.next() {
+        write_parameters(list.bare_item(bare_item(parts)), parts);
+    }
+    write_parameters(list.finish(), parts);
+}
+
+fn write_list(parts: &mut Iter<'_, Part<'_>>) -> Option<String> {
+    let mut list = ListSerializer::new();
+    while let Some(Part::Entry) = parts.next() {
+        match parts.next() {
+            Some(Part::InnerList) => write_inner_list(list.inner_list(), parts),
+            _ => {
+                write_parameters(list.bare_item(bare_item(parts)), parts);
+            }
+        }
+    }
+    list.finish()
+}
+
+fn write_dictionary(parts: &mut Iter<'_, Part<'_>>) -> Option<String> {
+    let mut dictionary = DictSerializer::new();
+    while let Some(Part::KeyedEntry(key)) = parts.next() {
+        match parts.next() {
+            Some(Part::InnerList) => write_inner_list(dictionary.inner_list(key), parts),
+            _ => {
+                write_parameters(dictionary.bare_item(key, bare_item(parts)), parts);
+            }
+        }
+    }
+    dictionary.finish()
+}
+
+fn write(kind: u32, parts: &[Part<'_>]) -> Option<String> {
+    let parts = &mut parts.iter();
+    match kind {
+        ITEM => Some(write_parameters(ItemSerializer::new().bare_item(bare_item(parts)), parts)),
+        LIST => write_list(parts),
+        _ => write_dictionary(parts),
+    }
+}
+
 /// The Rust crate's side, with room for as many parts as the library is lent.
 pub struct Theirs<'de> {
     parts: Vec<Part<'de>>,
@@ -141,7 +202,9 @@ pub struct Theirs<'de> {
 
 impl<'de> Theirs<'de> {
     pub fn new(case: &'de Case) -> Theirs<'de> {
-        Theirs { parts: Vec::with_capacity(2 * case.field.len() + 2) }
+        let mut parts = Vec::with_capacity(2 * case.field.len() + 2);
+        events(case.kind, Parser::new(&case.field), &mut parts);
+        Theirs { parts }
     }
 
     pub fn run(&mut self, case: &'de Case, task: Task) {
@@ -156,6 +219,7 @@ impl<'de> Theirs<'de> {
                 black_box(events(case.kind, parser, &mut self.parts));
                 black_box(&self.parts);
             }
+            Task::Write => drop(black_box(write(case.kind, black_box(&self.parts)))),
         }
     }
 }
