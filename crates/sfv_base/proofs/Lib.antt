@@ -1,4 +1,5 @@
 pub mod DecimalText
+mod Digits
 mod Masks
 mod Rows
 mod RunEnds

@@ -83,11 +83,6 @@ looked_up table js size long small =
     ∙ get_or_append_left table table 0 (get_or js i 0) (omega arith)
     ∙ sym (get_or-map (λ j. get_or table j 0) js i 0 0 lt))
 
--- the test of one byte
-pub marked_at : (table : List ℕ) (class : ℕ → Bool) (b : ℕ) → b < 256 → agree_below (is_marked table) class 256 ≡ true
-    → is_marked table b ≡ class b
-marked_at table class b lt all = agree_below_at (is_marked table) class 256 b all lt
-
 flag : (b : Bool) → top 7 (cond b 255 0) ≡ not (not b)
 flag true = refl
 flag false = refl

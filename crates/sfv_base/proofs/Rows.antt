@@ -5,13 +5,15 @@ use Rattle.std.proofs.lemmas.Bool.{and_parts}
 use Rattle.std.proofs.lemmas.List.FromFn.{get_or-map-range_with_len}
 use Rattle.std.specs.List.{range_with_len}
 use mathlib.Core.Bool.{beq}
-use Rattle.sfv_spec.specs.Classes.{is_string_byte, is_token_start, is_token_inner, is_key_start, is_key_inner}
-use Rattle.sfv_spec.specs.Classes.{is_lower_hexadecimal}
+use Rattle.sfv_spec.specs.Classes.{is_string_byte, is_token_inner, is_key_inner}
+use Rattle.sfv_spec.specs.Strings.{is_plain_in_string, is_plain_in_display}
+use Rattle.sfv_spec.proofs.Marks.{is_symbol}
 use Rattle.sfv_base.specs.Rows.{row_of, sum_of}
-use Rattle.sfv_base.specs.declared.utils.TheConstants.{ROWS}
+use Rattle.sfv_base.specs.declared.classes.TheConstants.{ROWS}
 
 -- each row of the table, computed
 rows_are : ROWS ≡ map row_of (range_with_len 0 256)
+unfolding is_symbol
 rows_are = refl
 
 pub row_at : (b : ℕ) → b < 256 → get_or ROWS b 0 ≡ row_of b
@@ -55,26 +57,26 @@ module _ (weight : ℕ) (part : Bool → Bool → Bool → Bool → Bool → Boo
 pub string_bit : (byte row : ℕ) → row ≡ row_of byte → has_bit 1 row ≡ is_string_byte byte
 string_bit byte row is = rw is (bit_of 1 (λ a b c d e f. a) refl _ _ _ _ _ _)
 
-pub token_start_bit : (byte row : ℕ) → row ≡ row_of byte → has_bit 2 row ≡ is_token_start byte
-token_start_bit byte row is = rw is (bit_of 2 (λ a b c d e f. b) refl _ _ _ _ _ _)
+pub plain_in_string_bit : (byte row : ℕ) → row ≡ row_of byte → has_bit 2 row ≡ is_plain_in_string byte
+plain_in_string_bit byte row is = rw is (bit_of 2 (λ a b c d e f. b) refl _ _ _ _ _ _)
 
-pub token_inner_bit : (byte row : ℕ) → row ≡ row_of byte → has_bit 4 row ≡ is_token_inner byte
-token_inner_bit byte row is = rw is (bit_of 4 (λ a b c d e f. c) refl _ _ _ _ _ _)
+pub plain_in_display_bit : (byte row : ℕ) → row ≡ row_of byte → has_bit 4 row ≡ is_plain_in_display byte
+plain_in_display_bit byte row is = rw is (bit_of 4 (λ a b c d e f. c) refl _ _ _ _ _ _)
 
-pub key_start_bit : (byte row : ℕ) → row ≡ row_of byte → has_bit 8 row ≡ is_key_start byte
-key_start_bit byte row is = rw is (bit_of 8 (λ a b c d e f. d) refl _ _ _ _ _ _)
+pub token_inner_bit : (byte row : ℕ) → row ≡ row_of byte → has_bit 8 row ≡ is_token_inner byte
+token_inner_bit byte row is = rw is (bit_of 8 (λ a b c d e f. d) refl _ _ _ _ _ _)
 
 pub key_inner_bit : (byte row : ℕ) → row ≡ row_of byte → has_bit 16 row ≡ is_key_inner byte
 key_inner_bit byte row is = rw is (bit_of 16 (λ a b c d e f. e) refl _ _ _ _ _ _)
 
-pub lower_hexadecimal_bit : (byte row : ℕ) → row ≡ row_of byte → has_bit 32 row ≡ is_lower_hexadecimal byte
-lower_hexadecimal_bit byte row is = rw is (bit_of 32 (λ a b c d e f. f) refl _ _ _ _ _ _)
+pub symbol_bit : (byte row : ℕ) → row ≡ row_of byte → has_bit 32 row ≡ is_symbol byte
+symbol_bit byte row is = rw is (bit_of 32 (λ a b c d e f. f) refl _ _ _ _ _ _)
 
 pub ruleset class_bits = (
   string_bit,
-  token_start_bit,
+  plain_in_string_bit,
+  plain_in_display_bit,
   token_inner_bit,
-  key_start_bit,
   key_inner_bit,
-  lower_hexadecimal_bit,
+  symbol_bit,
 )

@@ -1,4 +1,5 @@
 pub mod Conversions
+pub mod Digits
 pub mod Errors
 pub mod Lanes
 pub mod Messages

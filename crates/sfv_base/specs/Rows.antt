@@ -1,7 +1,8 @@
--- The classes of bytes as one table.
+-- The classes of bytes of which runs are read, as one table.
 use Rattle.std.specs.Prelude.{ℕ, ◌+◌, Bool, if◌then◌else◌}
-use Rattle.sfv_spec.specs.Classes.{is_string_byte, is_token_start, is_token_inner, is_key_start, is_key_inner}
-use Rattle.sfv_spec.specs.Classes.{is_lower_hexadecimal}
+use Rattle.sfv_spec.specs.Classes.{is_string_byte, is_token_inner, is_key_inner}
+use Rattle.sfv_spec.specs.Strings.{is_plain_in_string, is_plain_in_display}
+use Rattle.sfv_spec.proofs.Marks.{is_symbol}
 
 -- the weight of a class, if the byte is of it
 abbrev pub weight : ℕ → Bool → ℕ
@@ -13,5 +14,5 @@ sum_of a b c d e f = weight 1 a + weight 2 b + weight 4 c + weight 8 d + weight 
 
 -- the table's row of a byte
 abbrev pub row_of : ℕ → ℕ
-row_of c = sum_of (is_string_byte c) (is_token_start c) (is_token_inner c) (is_key_start c) (is_key_inner c)
-    (is_lower_hexadecimal c)
+row_of c = sum_of (is_string_byte c) (is_plain_in_string c) (is_plain_in_display c) (is_token_inner c) (is_key_inner c)
+    (is_symbol c)

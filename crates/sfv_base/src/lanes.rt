@@ -13,14 +13,6 @@ pub(crate) const LANES: usize = 32;
 // The bit of each high half of a byte. No class has a byte of 0x80 or more.
 const HIGH: [u8; 16] = [1, 2, 4, 8, 16, 32, 64, 128, 0, 0, 0, 0, 0, 0, 0, 0];
 
-/// Whether the byte is of the class of which this is the table.
-#[inline(always)]
-pub(crate) fn is_marked(low: &[u8; 16], byte: u8) -> bool
-    ensures { result ≡ is_marked low.now byte }
-{
-    low[usize::from(byte % 16)] & HIGH[usize::from(byte / 16)] != 0
-}
-
 // What the table has at each place.
 #[inline(always)]
 fn looked_up(table: &[u8; 16], places: u8x32) -> u8x32

@@ -2,6 +2,7 @@
 //! classes of bytes and where runs of them end.
 #![tactic(auto)]
 
+mod classes;
 pub mod date;
 pub mod decimal;
 pub mod error;

@@ -4,12 +4,15 @@ ghost use Rattle.std.specs.Prelude.{◌≡◌, ◌++◌, ◌≤◌, ◌<◌, ℕ
 ghost use Rattle.std.specs.Prelude.{slice_range};
 ghost use Rattle.std.specs.List.{prefix_len};
 ghost use Rattle.sfv_spec.specs.Texts.{RunOf};
-ghost use Rattle.sfv_spec.specs.Classes.{is_token_inner, is_key_inner};
+ghost use Rattle.sfv_spec.specs.Classes.{is_string_byte, is_token_inner, is_key_inner};
 ghost use Rattle.sfv_spec.specs.Strings.{is_plain_in_string, is_plain_in_display};
 ghost use Rattle.sfv_spec.proofs.Marks.{is_symbol};
 ghost use Rattle.sfv_base.specs.Lanes.{outside_mask, is_table_of};
 
-use crate::lanes::{LANES, is_marked, unmarked};
+use crate::classes::{
+    INNER_KEY, INNER_TOKEN, PLAIN_IN_DISPLAY_STRING, PLAIN_IN_STRING, STRING, SYMBOL, row,
+};
+use crate::lanes::{LANES, unmarked};
 use std::simd::prelude::*;
 
 /// A class of bytes, of which runs are read. No byte of it is above 0x7f.
@@ -20,6 +23,30 @@ pub trait RunClass {
     /// of the class with it.
     fn table() -> &'static [u8; 16]
         ensures { IsTrue (is_table_of class result.now) };
+
+    /// Whether the byte is of the class.
+    fn has(byte: u8) -> bool
+        ensures { result ≡ class byte };
+}
+
+/// The bytes that a string may hold: printable ASCII, from 0x20 to 0x7e.
+pub struct StringByte;
+
+impl RunClass for StringByte {
+    ghost class = { is_string_byte };
+
+    #[inline(always)]
+    fn table() -> &'static [u8; 16] {
+        &[
+            252, 252, 252, 252, 252, 252, 252, 252, 252, 252, 252, 252, 252, 252, 252, 124,
+        ]
+    }
+
+    #[inline(always)]
+    #[tactic(auto, using(crate::proofs::Rows::class_bits))]
+    fn has(byte: u8) -> bool {
+        row(byte) & STRING != 0
+    }
 }
 
 /// The bytes that a string writes for themselves: its bytes other than the quote and the backslash.
@@ -33,6 +60,12 @@ impl RunClass for PlainInString {
         &[
             252, 252, 248, 252, 252, 252, 252, 252, 252, 252, 252, 252, 220, 252, 252, 124,
         ]
+    }
+
+    #[inline(always)]
+    #[tactic(auto, using(crate::proofs::Rows::class_bits))]
+    fn has(byte: u8) -> bool {
+        row(byte) & PLAIN_IN_STRING != 0
     }
 }
 
@@ -49,6 +82,12 @@ impl RunClass for PlainInDisplayString {
             252, 252, 248, 252, 252, 248, 252, 252, 252, 252, 252, 252, 252, 252, 252, 124,
         ]
     }
+
+    #[inline(always)]
+    #[tactic(auto, using(crate::proofs::Rows::class_bits))]
+    fn has(byte: u8) -> bool {
+        row(byte) & PLAIN_IN_DISPLAY_STRING != 0
+    }
 }
 
 /// The bytes that may stand in a token after its first.
@@ -63,6 +102,12 @@ impl RunClass for InnerToken {
             232, 252, 248, 252, 252, 252, 252, 252, 248, 248, 252, 84, 208, 84, 244, 116,
         ]
     }
+
+    #[inline(always)]
+    #[tactic(auto, using(crate::proofs::Rows::class_bits))]
+    fn has(byte: u8) -> bool {
+        row(byte) & INNER_TOKEN != 0
+    }
 }
 
 /// The bytes that may stand in a key after its first.
@@ -76,6 +121,12 @@ impl RunClass for InnerKey {
         &[
             136, 200, 200, 200, 200, 200, 200, 200, 200, 200, 196, 64, 64, 68, 68, 96,
         ]
+    }
+
+    #[inline(always)]
+    #[tactic(auto, using(crate::proofs::Rows::class_bits))]
+    fn has(byte: u8) -> bool {
+        row(byte) & INNER_KEY != 0
     }
 }
 
@@ -92,14 +143,12 @@ impl RunClass for Symbol {
             168, 248, 248, 248, 248, 248, 248, 248, 248, 248, 240, 84, 80, 80, 80, 84,
         ]
     }
-}
 
-/// Whether the byte is of the class.
-#[inline(always)]
-pub fn is_of<C: RunClass>(byte: u8) -> bool
-    ensures { result ≡ C.class byte }
-{
-    is_marked(C::table(), byte)
+    #[inline(always)]
+    #[tactic(auto, using(crate::proofs::Rows::class_bits))]
+    fn has(byte: u8) -> bool {
+        row(byte) & SYMBOL != 0
+    }
 }
 
 // The bytes that aren't of the class, as bits, of which the lowest stands for the first.
@@ -119,7 +168,7 @@ fn byte_end<C: RunClass>(bytes: &[u8]) -> usize
     ensures { result ≡ prefix_len C.class bytes.now }
 {
     let mut end = 0;
-    while end < bytes.len() && is_of::<C>(bytes[end]) {
+    while end < bytes.len() && C::has(bytes[end]) {
         end += 1;
     }
     end
@@ -156,7 +205,7 @@ pub fn run_end<C: RunClass>(bytes: &[u8]) -> usize
         return byte_end::<C>(bytes);
     }
     for end in 0..NEAR {
-        if !is_of::<C>(bytes[end]) {
+        if !C::has(bytes[end]) {
             return end;
         }
     }

@@ -12,7 +12,7 @@ use std::string::String;
 
 /// Appends a byte sequence: its Base64 between colons.
 #[inline(never)]
-#[tactic(auto, using(sfv_bare::proofs::Bytes::run_of_bytes))]
+#[tactic(auto, using(sfv_bare::proofs::Bytes::run_of_bytes, crate::proofs::Encoded::between_colons))]
 pub(crate) fn serialize_byte_sequence<A: Allocator>(
     value: &[u8],
     output: &mut String<A>,

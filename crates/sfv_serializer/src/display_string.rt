@@ -7,7 +7,7 @@ ghost use Rattle.sfv_serializer.specs.Written.{Appends};
 
 use crate::quoted::{Escaping, serialize_inside};
 use sfv_base::error::OutOfMemory;
-use sfv_base::runs::{PlainInDisplayString, is_of, split_run};
+use sfv_base::runs::{PlainInDisplayString, RunClass, split_run};
 use std::alloc::{AllocError, Allocator};
 
 /// The digit of a number below 16.
@@ -31,7 +31,7 @@ impl Escaping for DisplayEscaping {
 
     #[inline(always)]
     fn is_plain(byte: u8) -> bool {
-        is_of::<PlainInDisplayString>(byte)
+        PlainInDisplayString::has(byte)
     }
 
     #[inline(always)]

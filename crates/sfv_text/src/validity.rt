@@ -2,34 +2,20 @@
 
 ghost use Rattle.std.specs.Prelude.{◌≡◌, IsTrue, MatchResult, not, position};
 ghost use Rattle.std.specs.List.{list_all};
-ghost use Rattle.sfv_spec.specs.Classes.{is_key, is_key_inner, is_token, is_token_inner, is_string_byte};
+ghost use Rattle.sfv_spec.specs.Classes.{is_key, is_token, is_string_byte};
 ghost use Rattle.sfv_text.specs.InvalidTexts.{IsInvalidKey, IsInvalidToken, IsInvalidString};
 
 use sfv_base::error::{Error, ErrorKind};
-use sfv_base::utils::{
-    is_allowed_inner_key_char, is_allowed_inner_token_char, is_allowed_start_key_char,
-    is_allowed_start_token_char, is_allowed_string_char,
-};
+use sfv_base::runs::{InnerKey, InnerToken, RunClass, StringByte, run_end};
+use sfv_base::utils::{is_allowed_start_key_char, is_allowed_start_token_char};
 
-/// Returns the index of the first byte that may not stand after the first of a key.
-fn first_outside_keys(bytes: &[u8]) -> Option<usize>
-    ensures { result ≡ position (λ b. not (is_key_inner b)) bytes.now }
+/// Returns the index of the first byte outside the class.
+#[tactic(auto, using(crate::proofs::Outside::run_is_position))]
+fn first_outside<C: RunClass>(bytes: &[u8]) -> Option<usize>
+    ensures { result ≡ position (λ b. not (C.class b)) bytes.now }
 {
-    bytes.iter().position(|c| !is_allowed_inner_key_char(*c))
-}
-
-/// Returns the index of the first byte that may not stand after the first of a token.
-fn first_outside_tokens(bytes: &[u8]) -> Option<usize>
-    ensures { result ≡ position (λ b. not (is_token_inner b)) bytes.now }
-{
-    bytes.iter().position(|c| !is_allowed_inner_token_char(*c))
-}
-
-/// Returns the index of the first byte that a string may not hold.
-fn first_outside_strings(bytes: &[u8]) -> Option<usize>
-    ensures { result ≡ position (λ b. not (is_string_byte b)) bytes.now }
-{
-    bytes.iter().position(|c| !is_allowed_string_char(*c))
+    let end = run_end::<C>(bytes);
+    if end < bytes.len() { Some(end) } else { None }
 }
 
 /// Tests whether the bytes are a key, or returns why they are none.
@@ -43,7 +29,7 @@ pub(crate) fn check_key(bytes: &[u8]) -> Result<(), Error>
     if !is_allowed_start_key_char(*start) {
         return Err(Error::at(ErrorKind::InvalidCharacter, 0));
     }
-    match first_outside_keys(inner) {
+    match first_outside::<InnerKey>(inner) {
         Some(index) => Err(Error::at(ErrorKind::InvalidCharacter, index + 1)),
         None => Ok(()),
     }
@@ -60,7 +46,7 @@ pub(crate) fn check_token(bytes: &[u8]) -> Result<(), Error>
     if !is_allowed_start_token_char(*start) {
         return Err(Error::at(ErrorKind::InvalidCharacter, 0));
     }
-    match first_outside_tokens(inner) {
+    match first_outside::<InnerToken>(inner) {
         Some(index) => Err(Error::at(ErrorKind::InvalidCharacter, index + 1)),
         None => Ok(()),
     }
@@ -73,7 +59,7 @@ pub(crate) fn check_string(bytes: &[u8]) -> Result<(), Error>
         (λ _. IsTrue (list_all is_string_byte bytes.now))
         (IsInvalidString bytes.now) }
 {
-    match first_outside_strings(bytes) {
+    match first_outside::<StringByte>(bytes) {
         Some(index) => Err(Error::at(ErrorKind::InvalidCharacter, index)),
         None => Ok(()),
     }

@@ -2,12 +2,12 @@
 use Rattle.std.proofs.Common.{◌≡◌, ℕ, ◌<◌, ◌≤◌, ◌+◌, ◌*◌, Bool, true, false, not, List, [], ◌∷◌, ◌++◌, length, drop}
 use Rattle.std.proofs.Common.{Option, Some, None, Ok, Err, refl, sym, ap, subst, ◌∙◌, append_assoc, length-append}
 use Rattle.std.proofs.Common.{arith, inl, inr}
-use Rattle.std.specs.Prelude.{MatchOption, IfOk, IsTrue, Result, is_some, ◌==◌, ◌↔◌}
+use Rattle.std.specs.Prelude.{MatchOption, is_some, ◌==◌, ◌↔◌}
 use Rattle.std.specs.List.{concat}
 use Rattle.std.specs.declared.alloc.Global.{Global}
-use Rattle.std.specs.declared.borrow.CowStr.{CowStr}
 use Rattle.std.proofs.lemmas.Bool.{and_parts, and_from, and_cases, or_parts, or_from, not-true, not_from_false}
 use Rattle.std.proofs.lemmas.Bool.{both_ways, eqb-true}
+use Rattle.std.proofs.lemmas.Bool.Decides.{nat_tests}
 use Rattle.std.proofs.lemmas.List.{append-nil}
 use Rattle.sfv_spec.specs.Ascii.{double_quote, percent_sign, backslash}
 use Rattle.sfv_spec.specs.Texts.{RunOf}
@@ -17,6 +17,7 @@ use Rattle.sfv_base.specs.declared.error.Error.{Error}
 use Rattle.sfv_base.specs.declared.error.ErrorKind.{ErrorKind}
 use Rattle.sfv_base.specs.declared.error.ErrorKind.TheVariants.{UnterminatedEscapeSequence}
 use Rattle.sfv_base.specs.declared.error.ErrorKind.TheVariants.{InvalidEscapeSequence}
+use Rattle.sfv_base.specs.Digits.{digit_value}
 use Rattle.sfv_base.specs.Errors.{kind_of, index_of}
 use Rattle.sfv_reading.specs.Reader.{Answer, first, byte, Apart}
 use Rattle.sfv_reading.specs.Quoted.{behind_bytes, string_from, outside, percent, digit, pieces_from, checked}
@@ -31,7 +32,6 @@ use Rattle.sfv.specs.declared.parser.cursor.Cursor.{Cursor}
 use Rattle.sfv.specs.parser.Cursor.{kept_input, rest, located, IsFaultOf, IsErrorOf, NextIs, TakesIf, Skips}
 use Rattle.sfv_spec.proofs.Marks.{plain_of}
 use Rattle.sfv.specs.parser.Quoted.{mark_of, stop_of, inside, behind_mark, opening, HasNoMark, HasNoMarkInside}
-use Rattle.sfv.specs.parser.Values.{is_borrowed_text}
 use Rattle.sfv.specs.Memory.{IsRefusal}
 
 -- ---- one byte of a quoted text
@@ -304,6 +304,14 @@ pub digit_wrong : (t : List ℕ) (c : ℕ) → first t ≡ Some c → is_lower_h
 unfolding pieces_from
 digit_wrong [] c i h = absurd cc
 digit_wrong (x ∷ t) c i h = let same : x ≡ c = cc in (rw (same, h) refl, λ high. rw (same, h) refl)
+
+-- a byte by its value as a digit
+pub no_digit : (c : ℕ) → digit_value c ≡ None → is_lower_hexadecimal c ≡ false
+no_digit c h = grind (arith, nat_tests)
+
+pub digit_is : (c value : ℕ) → digit_value c ≡ Some value
+    → (is_lower_hexadecimal c ≡ true) × (value ≡ hexadecimal_value c) × (value < 16)
+digit_is c value h = (grind (arith, nat_tests), grind (arith, nat_tests), grind (arith, nat_tests))
 
 -- ---- a text with its opening
 

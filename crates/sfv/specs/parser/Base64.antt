@@ -1,9 +1,7 @@
 -- Runs of symbols of Base64, and of padding, and what symbols decode to.
 use Rattle.std.specs.Prelude.{◌≡◌, ℕ, ◌≤◌, ◌⊎◌, List, length, take, drop, replicate, map}
-use Rattle.base64.specs.Rfc4648.{encode_symbols}
 use Rattle.sfv_spec.specs.Ascii.{equals_sign}
 use Rattle.sfv_spec.specs.Texts.{RunOf}
-use Rattle.sfv_spec.specs.Base64.{symbols}
 use Rattle.sfv_spec.proofs.Marks.{is_symbol}
 use Rattle.sfv_reading.specs.Reader.{Apart, byte}
 use Rattle.sfv_reading.specs.Content.{bytes_from, symbol_value}
@@ -24,7 +22,3 @@ pub record IsPaddingRun (t : List ℕ) (most n : ℕ) : Type 0 where
 -- the bytes of these symbols
 abbrev pub decoded_symbols : List ℕ → List ℕ
 decoded_symbols cs = bytes_from (map symbol_value cs)
-
--- their spare bits are zeros: they are written again as the same symbols
-pub record HasZeros (cs : List ℕ) : Type 0 where
-  pub text : encode_symbols symbols (decoded_symbols cs) ≡ cs

@@ -11,6 +11,7 @@ use Rattle.sfv_spec.proofs.Marks.{semicolon}
 use Rattle.sfv_spec.specs.Texts.{RunOf}
 use Rattle.sfv_spec.specs.Grammar.{Spaces}
 use Rattle.sfv_spec.specs.Classes.{is_lower_hexadecimal}
+use Rattle.sfv_spec.specs.Strings.{hexadecimal_value}
 use Rattle.sfv_base.specs.declared.error.Error.{Error}
 use Rattle.sfv_base.specs.declared.error.ErrorKind.{ErrorKind}
 use Rattle.sfv_base.specs.declared.error.ErrorKind.TheVariants.{UnterminatedString, InvalidStringCharacter}
@@ -109,11 +110,12 @@ ReadsEscape display before after (Ok c) =
     × (length (rest after) < length (rest before)) × (kept after ≡ kept before)
 ReadsEscape display before after (Err e) = IsFaultOf (input before) e (behind_mark display (rest before))
 
--- A digit of a display string's escape was taken; without one, the reader gives this fault, be it the first digit or
--- the second.
+-- A digit of a display string's escape was taken, which has this value; without one, the reader gives this fault, be
+-- it the first digit or the second.
 abbrev pub ReadsDigit : Cursor → Cursor → Result ℕ Error → Type 0
-ReadsDigit before after (Ok c) = (rest before ≡ c ∷ rest after) × IsTrue (is_lower_hexadecimal c)
-    × (kept after ≡ kept before)
+ReadsDigit before after (Ok value) =
+    ((c : ℕ) × (rest before ≡ c ∷ rest after) × IsTrue (is_lower_hexadecimal c) × (value ≡ hexadecimal_value c))
+    × (value < 16) × (kept after ≡ kept before)
 ReadsDigit before after (Err e) =
     IsFaultOf (input before) e (pieces_from percent (rest before))
     × ((high : ℕ) → IsFaultOf (input before) e (pieces_from (digit high) (rest before)))

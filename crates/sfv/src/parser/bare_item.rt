@@ -108,7 +108,7 @@ impl<'de> Cursor<'de> {
     }
 
     /// Takes a number as a bare item.
-    #[inline(never)]
+    #[inline(always)]
     fn number_item(&mut self) -> Result<BareItemFromInput<'de>, Error>
         requires { NextIs is_number_start true (rest self.old) }
         ensures read { ReadsOrOutOfMemory input_value self.old self.new result (bare_at (edition self.old)) }
@@ -146,7 +146,8 @@ impl<'de> Cursor<'de> {
         ensures read { ReadsOrOutOfMemory input_value self.old self.new result (bare_at (edition self.old)) }
         ensures borrowed { IfOk result (λ item. IsBorrowedUnlessEscaped item self.old self.new) }
     {
-        // Each kind is taken by a function of its own, so that none pays for the room that the others need.
+        // Each kind but a number is taken by a function of its own, so that none pays for the room that the others
+        // need.
         if self.next_is_number_start() {
             return self.number_item();
         }

@@ -1,29 +1,29 @@
 //! Reading byte sequences (RFC 9651, section 4.2.7).
 //!
 //! The symbols and the padding are checked before any memory is asked for, so that `base64` is given only
-//! what it decodes. It never sees padding, which may be left out, nor spare bits that aren't zeros, which
-//! have no meaning here.
+//! what it decodes: whole groups. Padding may be left out, and spare bits that aren't zeros have no meaning
+//! here, so the last symbols are decoded by hand.
 
-ghost use Rattle.std.specs.Prelude.{◌≡◌, ◌++◌, IfOk, IfErr, IsOk, OnOk};
+ghost use Rattle.std.specs.Prelude.{◌≡◌, ◌<◌, ◌%◌, ◌++◌, length, IfOk, IfErr, IsOk, OnOk};
 ghost use Rattle.sfv_spec.specs.Texts.{RunOf};
 ghost use Rattle.sfv_spec.proofs.Marks.{is_symbol};
 ghost use Rattle.sfv_base.specs.Errors.{out_of_memory};
 ghost use Rattle.sfv_reading.specs.Content.{bytes_at};
 ghost use Rattle.sfv.specs.parser.Cursor.{rest, ReadsOrOutOfMemory};
 ghost use Rattle.sfv.specs.parser.Values.{vec_bytes};
-ghost use Rattle.sfv.specs.parser.Base64.{HasZeros, decoded_symbols};
+ghost use Rattle.sfv.specs.parser.Base64.{decoded_symbols};
 
 use crate::parser::cursor::Cursor;
-use crate::parser::symbols::{padding_after, padding_run, rounded_symbol, symbol_run};
+use crate::parser::symbols::{padding_after, padding_run, symbol_run, value_of};
 use base64::engine::general_purpose::STANDARD_NO_PAD;
 use base64::{DecodeAllocError, decoded_len_estimate};
 use sfv_base::error::{Error, ErrorKind};
 use std::alloc::{AllocError, Global};
 
-/// Appends the bytes of symbols whose spare bits are zeros.
-fn append_decoded(symbols: &[u8], bytes: &mut Vec<u8>) -> Result<(), AllocError>
+/// Appends the bytes of whole groups of four symbols, which have no spare bits.
+fn append_groups(symbols: &[u8], bytes: &mut Vec<u8>) -> Result<(), AllocError>
     requires symbols { RunOf is_symbol symbols.now }
-    requires zeros { HasZeros symbols.now }
+    requires whole { length symbols.now % 4 ≡ 0 }
     ensures { OnOk result (bytes.new.items ≡ bytes.old.items ++ decoded_symbols symbols.now) }
 {
     match STANDARD_NO_PAD.decode_vec(symbols, bytes) {
@@ -33,30 +33,34 @@ fn append_decoded(symbols: &[u8], bytes: &mut Vec<u8>) -> Result<(), AllocError>
     }
 }
 
+/// Appends the bytes of the symbols after the whole groups, whatever their spare bits are.
+#[tactic(auto, using(crate::proofs::reads::Coded::few_after, crate::proofs::reads::Coded::two_after, crate::proofs::reads::Coded::three_after))]
+fn append_last(symbols: &[u8], bytes: &mut Vec<u8>) -> Result<(), AllocError>
+    requires symbols { RunOf is_symbol symbols.now }
+    requires few { length symbols.now < 4 }
+    ensures { OnOk result (bytes.new.items ≡ bytes.old.items ++ decoded_symbols symbols.now) }
+{
+    let count = symbols.len();
+    if count < 2 {
+        return Ok(());
+    }
+    let second = value_of(symbols[1]);
+    bytes.push(value_of(symbols[0]) * 4 + second / 16)?;
+    if count == 3 {
+        bytes.push(second % 16 * 16 + value_of(symbols[2]) / 4)?;
+    }
+    Ok(())
+}
+
 /// The bytes of symbols, whatever their spare bits are.
 fn decode_symbols(alloc: Global, symbols: &[u8]) -> Result<Vec<u8>, AllocError>
     requires { RunOf is_symbol symbols.now }
     ensures { IfOk result (λ bytes. bytes.items ≡ decoded_symbols symbols.now) }
 {
     let mut bytes = Vec::with_capacity(alloc, decoded_len_estimate(symbols.len()))?;
-    // Whole groups of four have no spare bits. Of the symbols after them only the last one has some.
-    let whole = symbols.len() / 4 * 4;
-    append_decoded(&symbols[..whole], &mut bytes)?;
-    match symbols.len() - whole {
-        2 => {
-            let last = [symbols[whole], rounded_symbol(symbols[whole + 1], 16)];
-            append_decoded(&last, &mut bytes)?;
-        }
-        3 => {
-            let last = [
-                symbols[whole],
-                symbols[whole + 1],
-                rounded_symbol(symbols[whole + 2], 4),
-            ];
-            append_decoded(&last, &mut bytes)?;
-        }
-        _ => {}
-    }
+    let (groups, last) = symbols.split_at(symbols.len() / 4 * 4);
+    append_groups(groups, &mut bytes)?;
+    append_last(last, &mut bytes)?;
     Ok(bytes)
 }
 

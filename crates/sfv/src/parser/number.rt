@@ -78,6 +78,7 @@ impl Cursor<'_> {
     }
 
     /// Takes the point and the fraction of a decimal.
+    #[inline(always)]
     #[tactic(auto, using(crate::proofs::reads::Steps::point_steps))]
     fn fraction(&mut self, negative: bool, whole: Digits) -> Result<Number, Error>
         requires most { whole.count ≤ 12 }

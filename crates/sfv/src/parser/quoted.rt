@@ -1,10 +1,8 @@
 //! Reading what stands between two quotes: the inside of a string or of a display string.
 
-ghost use Rattle.std.specs.Prelude.{◌≡◌, ◌<◌, ◌++◌, ◌↔◌, Bool, true, false, List, length, IfOk, IsTrue};
+ghost use Rattle.std.specs.Prelude.{◌≡◌, ◌++◌, ◌↔◌, Bool, true, false, IfOk, IsTrue};
 ghost use Rattle.sfv_spec.specs.Ascii.{double_quote};
 ghost use Rattle.sfv_spec.specs.Texts.{RunOf};
-ghost use Rattle.sfv_spec.specs.Classes.{is_lower_hexadecimal};
-ghost use Rattle.sfv_spec.specs.Strings.{hexadecimal_value};
 ghost use Rattle.sfv_spec.proofs.Marks.{plain_of};
 ghost use Rattle.sfv_reading.specs.Reader.{Apart, byte};
 ghost use Rattle.sfv_reading.specs.Quoted.{behind_bytes};
@@ -17,7 +15,7 @@ ghost use Rattle.sfv.specs.Memory.{HoldsMark};
 use crate::parser::cursor::Cursor;
 use sfv_base::error::{Error, ErrorKind};
 use sfv_base::runs::{PlainInDisplayString, PlainInString};
-use sfv_base::utils::{is_escaped_in_string, is_lower_hexadecimal_digit};
+use sfv_base::utils::{escape_digit_value, is_escaped_in_string};
 
 /// A kind of quoted text.
 pub(super) trait QuotedText {
@@ -41,19 +39,6 @@ pub(super) trait QuotedText {
     /// Takes the byte that an escape stands for, after its mark.
     fn escaped(cursor: &mut Cursor<'_>) -> Result<u8, Error>
         ensures { ReadsEscape display cursor.old cursor.new result };
-}
-
-/// The number that a digit stands for.
-fn value_of(digit: u8) -> u8
-    requires { IsTrue (is_lower_hexadecimal digit) }
-    ensures value { result ≡ hexadecimal_value digit }
-    ensures below { result < 16 }
-{
-    if digit < b'a' {
-        digit - b'0'
-    } else {
-        digit - b'a' + 10
-    }
 }
 
 /// The inside of a string.
@@ -115,7 +100,7 @@ impl QuotedText for InDisplayString {
     fn escaped(cursor: &mut Cursor<'_>) -> Result<u8, Error> {
         let high = cursor.escape_digit()?;
         let low = cursor.escape_digit()?;
-        Ok(16 * value_of(high) + value_of(low))
+        Ok(16 * high + low)
     }
 }
 
@@ -128,18 +113,18 @@ pub(super) enum QuotedBytes<'de> {
 }
 
 impl<'de> Cursor<'de> {
-    /// Takes a digit of an escape.
+    /// Takes a digit of an escape, and returns its value.
     fn escape_digit(&mut self) -> Result<u8, Error>
         ensures { ReadsDigit self.old self.new result }
     {
         let Some(byte) = self.peek() else {
             return Err(self.error(ErrorKind::UnterminatedEscapeSequence));
         };
-        if !is_lower_hexadecimal_digit(byte) {
+        let Some(value) = escape_digit_value(byte) else {
             return Err(self.error(ErrorKind::InvalidEscapeSequence));
-        }
+        };
         self.skip();
-        Ok(byte)
+        Ok(value)
     }
 
     /// The error where a quoted text can't go on.
@@ -159,19 +144,22 @@ impl<'de> Cursor<'de> {
             (λ t. behind_bytes plain.now (inside Q.display t)) }
     {
         let mut bytes = Vec::from_slice(self.alloc, plain)?;
-        while !self.take_if(b'"') {
+        // A copy that no call keeps, so that its index stays in a register.
+        let mut cursor = *self;
+        while !cursor.take_if(b'"') {
             // One escape often follows another: a run is looked for only where none stands.
-            if self.take_if(Q::mark()) {
-                let byte = Q::escaped(self)?;
+            if cursor.take_if(Q::mark()) {
+                let byte = Q::escaped(&mut cursor)?;
                 bytes.push(byte)?;
             } else {
-                let run = Q::plain(self);
+                let run = Q::plain(&mut cursor);
                 if run.is_empty() {
-                    return Err(self.stop::<Q>());
+                    return Err(cursor.stop::<Q>());
                 }
                 bytes.extend_from_slice(run)?;
             }
         }
+        *self = cursor;
         Ok(bytes)
     }
 

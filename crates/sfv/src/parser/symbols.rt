@@ -1,15 +1,11 @@
 //! The symbols of Base64 (RFC 4648, section 4), and runs of them.
 
-ghost use Rattle.std.specs.Prelude.{◌≡◌, ◌*◌, ◌/◌, ◌<◌, IsTrue};
-ghost use Rattle.sfv_spec.specs.Base64.{symbol};
+ghost use Rattle.std.specs.Prelude.{◌≡◌, ◌<◌, IsTrue};
 ghost use Rattle.sfv_spec.proofs.Marks.{is_symbol};
 ghost use Rattle.sfv_reading.specs.Content.{symbol_value, most_padding};
 ghost use Rattle.sfv.specs.parser.Base64.{IsSymbolRun, IsPaddingRun};
 
 use sfv_base::runs::{Symbol, run_end};
-
-/// The symbols in the order of their values.
-const SYMBOLS: [u8; 64] = *b"ABCDEFGHIJKLMNOPQRSTUVWXYZabcdefghijklmnopqrstuvwxyz0123456789+/";
 
 /// The value of a symbol.
 #[tactic(auto, unfolding(sfv_spec::proofs::Marks::is_symbol, sfv_reading::specs::Content::symbol_value))]
@@ -25,15 +21,6 @@ pub(crate) fn value_of(byte: u8) -> u8
         b'+' => 62,
         _ => 63,
     }
-}
-
-/// The symbol whose value is that of `byte`, down to a multiple of `unit`.
-pub(crate) fn rounded_symbol(byte: u8, unit: u8) -> u8
-    requires symbol { IsTrue (is_symbol byte) }
-    requires unit { 0 < unit }
-    ensures { result ≡ symbol (symbol_value byte / unit * unit) }
-{
-    SYMBOLS[(value_of(byte) / unit * unit) as usize]
 }
 
 /// How many symbols the bytes begin with.

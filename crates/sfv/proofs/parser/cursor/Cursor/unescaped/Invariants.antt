@@ -4,12 +4,12 @@ use Rattle.sfv.specs.parser.Cursor.{kept, rest}
 use Rattle.sfv.specs.parser.Quoted.{inside}
 use Rattle.sfv.proofs.parser.cursor.Cursor.unescaped.Given as goal
 
-abbrev pub invariant-loop-self : goal.invariant-loop-self
-invariant-loop-self g l = record {
-  read : behind_bytes l.bytes.items (inside g.Q.QuotedText.display (rest l.self))
+abbrev pub invariant-loop-cursor : goal.invariant-loop-cursor
+invariant-loop-cursor g l = record {
+  read : behind_bytes l.bytes.items (inside g.Q.QuotedText.display (rest l.cursor))
       ≡ behind_bytes l.fn.plain (inside g.Q.QuotedText.display (rest l.fn.self));
-  kept : kept l.self ≡ kept l.fn.self;
+  kept : kept l.cursor ≡ kept l.fn.self;
 }
 
-abbrev pub decreases-loop-self : goal.decreases-loop-self
-decreases-loop-self g l = length (rest l.self)
+abbrev pub decreases-loop-cursor : goal.decreases-loop-cursor
+decreases-loop-cursor g l = length (rest l.cursor)

@@ -9,16 +9,16 @@ returns-in_err-high c =
 
 pub returns-in_err-low : goal.returns-in_err-low
 returns-in_err-low c =
-    let h = c.in_ok-high.ensures in
-    rw (left_with c.from_residual-in_err-low.ensures.1) (second_fault _ _ _ _ _ c.in_ok-high.high h.2 h.0 h.1 (c.in_err-low.ensures.1 c.in_ok-high.high))
+    let h = c.in_ok-high.ensures.0 in
+    rw (left_with c.from_residual-in_err-low.ensures.1) (second_fault _ _ _ _ _ h.0 c.in_ok-high.ensures.2 h.1 h.2 (c.in_err-low.ensures.1 h.0))
 
 pub returns : goal.returns
 returns c =
-    let h = c.in_ok-high.ensures in
-    let l = c.in_ok-low.ensures in
-    let n = ap (length {A = ℕ}) h.0 in
-    let m = ap (length {A = ℕ}) l.0 in (
-      rw (c.value_of.ensures.value, c.value_of-2.ensures.value) (both_digits _ _ _ _ _ h.0 h.1 l.0 l.1),
+    let h = c.in_ok-high.ensures.0 in
+    let l = c.in_ok-low.ensures.0 in
+    let n = ap (length {A = ℕ}) h.1 in
+    let m = ap (length {A = ℕ}) l.1 in (
+      rw (h.3, l.3) (both_digits _ _ _ _ _ h.1 h.2 l.1 l.2),
       omega (arith, n, m),
-      l.2 ∙ h.2,
+      c.in_ok-low.ensures.2 ∙ c.in_ok-high.ensures.2,
     )
