@@ -5,4 +5,5 @@ pub mod Parsed
 pub mod Memory
 pub mod Expected
 pub mod LastRead
+mod Beginnings
 pub mod Callers

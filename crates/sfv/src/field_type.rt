@@ -13,7 +13,7 @@ ghost use Rattle.sfv_serializer.specs.Versions.{LooksFirst};
 ghost use Rattle.sfv.specs.Parsers.{input_of, parser_edition, IsParseError};
 ghost use Rattle.sfv.specs.Memory.{NeedsMoreThanSpaces};
 
-use crate::parser::Parser;
+use crate::parser::{Parser, look_for_dictionary, look_for_item, look_for_list};
 use sfv_bare::bare::Version;
 use sfv_base::error::{Error, OutOfMemory, ParseError};
 use sfv_serializer::{
@@ -102,6 +102,7 @@ impl FieldType for Item {
     ghost into_written = { λ result text same. ap (option_map string_bytes) same };
 
     fn parse(alloc: Global, parser: Parser<'_>) -> Result<Item, Error> {
+        look_for_item(parser, alloc)?;
         let builder = ItemBuilder::new(alloc, parser.hash_seed());
         match parser.parse_item_with_visitor(alloc, builder) {
             Ok(item) => Ok(item),
@@ -136,6 +137,7 @@ impl FieldType for List {
     ghost into_written = { λ result text same. ap (option_map string_bytes) same };
 
     fn parse(alloc: Global, parser: Parser<'_>) -> Result<List, Error> {
+        look_for_list(parser, alloc)?;
         let builder = ListBuilder::new(List::new(alloc), parser.hash_seed());
         match parser.parse_list_with_visitor(alloc, builder) {
             Ok(list) => Ok(list),
@@ -171,6 +173,7 @@ impl FieldType for Dictionary {
     ghost into_written = { λ result text same. ap (option_map string_bytes) same };
 
     fn parse(alloc: Global, parser: Parser<'_>) -> Result<Dictionary, Error> {
+        look_for_dictionary(parser, alloc)?;
         let dictionary = Dictionary::with_hasher(alloc, parser.hash_seed());
         let builder = DictionaryBuilder::new(dictionary);
         match parser.parse_dictionary_with_visitor(alloc, builder) {

@@ -15,6 +15,7 @@ use sfv_visitor::visitor::Visitor;
 use std::alloc::Global;
 
 mod bare_item;
+mod beginning;
 mod byte_sequence;
 mod cursor;
 mod digits;
@@ -30,6 +31,7 @@ mod symbols;
 mod token;
 mod visit;
 
+pub(crate) use beginning::{look_for_dictionary, look_for_item, look_for_list};
 use field::{parse_item_field, parse_members_field};
 use member::{Entry, KeyedEntry};
 

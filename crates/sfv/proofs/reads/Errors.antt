@@ -3,21 +3,14 @@ use Rattle.std.proofs.Common.{◌≡◌, ℕ, ◌≤◌, List, length, Option, S
 use Rattle.std.specs.Prelude.{MatchOption, Result, IsErrAnd}
 use Rattle.std.proofs.lemmas.Result.{err_from_is_err_and}
 use Rattle.std.specs.declared.alloc.Global.{Global}
-use Rattle.sfv_spec.specs.Values.{Edition, rfc9651, display_string}
+use Rattle.sfv_spec.specs.Values.{Edition}
 use Rattle.sfv_base.specs.declared.error.Error.{Error}
 use Rattle.sfv_base.specs.declared.error.ErrorKind.{ErrorKind}
 use Rattle.sfv_base.specs.Errors.{error_of}
-use Rattle.sfv_reading.specs.Reader.{Answer, Reader, and_then, bind, give, ◌>>=◌}
-use Rattle.sfv_reading.specs.Bare.{quoted_at}
-use Rattle.sfv_reading.specs.Quoted.{display_at}
-use Rattle.sfv_reading.proofs.complete.Combinators.{bind_complete}
-use Rattle.sfv_bare.specs.BareItems.{cow_text}
-use Rattle.std.specs.declared.borrow.CowStr.{CowStr}
+use Rattle.sfv_reading.specs.Reader.{Answer, Reader, and_then, bind, ◌>>=◌}
 use Rattle.sfv.specs.declared.parser.Parser.{Parser}
 use Rattle.sfv.specs.declared.parser.cursor.Cursor.{Cursor}
 use Rattle.sfv.specs.parser.Cursor.{kept, kept_input, kept_edition, rest, located, IsFaultOf, IsErrorOf, Reads}
-use Rattle.sfv.specs.parser.Cursor.{ReadsOrOutOfMemory}
-use Rattle.sfv.specs.parser.Values.{display_value_of}
 use Rattle.sfv.specs.Memory.{IsRefusal}
 
 -- what `?` returns

@@ -34,7 +34,7 @@ pub ending_located : {A : Type 0} (parts : A → List TreeEvent) (a : Answer A) 
 ending_located parts (Ok x) k r h = absurd cc
 ending_located parts (Err f) k r h = ap (λ (p : ErrorKind × List ℕ). Err p) cc
 
-field_faulty : (edition : Edition) (t s r : List ℕ) (k : ErrorKind) (q : List ℕ) → span is_space t ≡ Ok (s, r)
+pub field_faulty : (edition : Edition) (t s r : List ℕ) (k : ErrorKind) (q : List ℕ) → span is_space t ≡ Ok (s, r)
     → located (item_at edition r) ≡ Err (k, q) → located_whole (read_field edition item_field t) ≡ Err (k, q)
 unfolding spaced
 field_faulty edition t s r k q e h = ap located_whole (field_is edition t s r e)

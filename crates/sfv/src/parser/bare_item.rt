@@ -132,7 +132,7 @@ impl<'de> Cursor<'de> {
 
     /// Whether a byte stands next that a number may begin with.
     #[inline(always)]
-    fn next_is_number_start(&self) -> bool
+    pub(super) fn next_is_number_start(&self) -> bool
         ensures { NextIs is_number_start result (rest self.now) }
     {
         self.peek()

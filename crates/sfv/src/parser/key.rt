@@ -14,7 +14,8 @@ use sfv_text::key_ref::KeyRef;
 
 impl<'de> Cursor<'de> {
     /// Whether a byte stands next that a key may begin with.
-    fn next_is_key_start(&self) -> bool
+    #[inline(always)]
+    pub(super) fn next_is_key_start(&self) -> bool
         ensures { NextIs is_key_start result (rest self.now) }
     {
         self.peek().is_some_and(is_allowed_start_key_char)

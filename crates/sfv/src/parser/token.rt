@@ -14,7 +14,8 @@ use sfv_text::token_ref::TokenRef;
 
 impl<'de> Cursor<'de> {
     /// Whether a byte stands next that a token may begin with.
-    fn next_is_token_start(&self) -> bool
+    #[inline(always)]
+    pub(super) fn next_is_token_start(&self) -> bool
         ensures { NextIs is_token_start result (rest self.now) }
     {
         self.peek().is_some_and(is_allowed_start_token_char)
