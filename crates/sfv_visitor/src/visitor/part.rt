@@ -34,7 +34,7 @@ pub(crate) enum Part {
 }
 
 /// Holds a bare item for which there is no room yet.
-#[inline(never)]
+#[inline(always)]
 pub(crate) fn hold(held: &mut Option<BareItem>, bare_item: BareItem)
     ensures { held.new ≡ Some bare_item }
 {
