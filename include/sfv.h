@@ -29,8 +29,8 @@
  *
  * WHAT IS PROVED. What each call answers and leaves in its buffers, as said below, for every input, but for what is only
  * tested: what sfv_events leaves in its two buffers (that their sizes are as said is proved, and of sfv_events_whole
- * everything is), that the `index` of SFV_ROW is the sharp one (that no field has the rows is proved), and that
- * SFV_EVENTS_FOR and the 64 bytes of a message are enough. Nothing checks what a caller in C does.
+ * everything is), and that SFV_EVENTS_FOR and the 64 bytes of a message are enough. Nothing checks what a caller in C
+ * does.
  */
 #ifndef SFV_H
 #define SFV_H
@@ -202,10 +202,10 @@ static inline sfv_answer sfv_events_whole(sfv_type type, sfv_version version, co
  * `bytes`, and may overlap those of another row; where a row has none, its length is 0 and its offset at most
  * `bytes_length`; where its tag or kind names no `kind` or `number`, that is 0. A field without members has no row.
  * SFV_OK: `length` bytes were written, and what follows them in `out` is as it was. On every other status `out` is as it
- * was. SFV_TOO_SMALL: `length` is wanted. SFV_ROW: no field of this type has these rows, since the one at `index` is none,
- * can't follow those before it, or is missing (then `index` is `events_length`); whichever rows a field has, they are
- * taken. SFV_UNSUPPORTED: only of SFV_RFC8941, and `kind` is SFV_DATE or SFV_DISPLAY. SFV_OUT_OF_MEMORY: only where there
- * is a row. May also answer SFV_NOTHING, SFV_BAD_ARGUMENT. No map is built. */
+ * was. SFV_TOO_SMALL: `length` is wanted. SFV_ROW: no field of this type has these rows. Those before `index` begin the
+ * rows of one, but the row at `index` is none, or can't follow them, or is missing (then `index` is `events_length`);
+ * whichever rows a field has, they are taken. SFV_UNSUPPORTED: only of SFV_RFC8941, and `kind` is SFV_DATE or SFV_DISPLAY.
+ * SFV_OUT_OF_MEMORY: only where there is a row. May also answer SFV_NOTHING, SFV_BAD_ARGUMENT. No map is built. */
 static inline sfv_answer sfv_write(sfv_type type, sfv_version version, const sfv_event *events, size_t events_length,
                                    const void *bytes, size_t bytes_length, void *out, size_t out_length) {
     uint8_t none = 0, nothing = 0;

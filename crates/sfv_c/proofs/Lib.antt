@@ -3,4 +3,9 @@ pub mod Stops
 pub mod Bytes
 pub mod Unique
 pub mod Invalid
+pub mod Valid
+pub mod Accepted
+pub mod Reached
+pub mod RowEvents
+pub mod WrongRows
 pub mod Fields

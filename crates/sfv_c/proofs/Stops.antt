@@ -43,13 +43,13 @@ events_next ps at part h e = rw add-one (ap events_in (drop-cons ps at part h)
 pub events_over : (ps : List Part) (at : ℕ) → length ps ≤ at → events_from at ps ≡ []
 events_over ps at h = ap events_in (drop_of_length-le ps h)
 
-no_place : (p : Place) (e : TreeEvent) (es : List TreeEvent) → after p e ≡ None
+pub no_place : (p : Place) (e : TreeEvent) (es : List TreeEvent) → after p e ≡ None
     → stops p (e ∷ es) ≡ Some (length (e ∷ es))
 no_place p e es h = subst
     (λ (o : Option Place). elim o [ None ↦ Some (length (e ∷ es)) | Some next ↦ stops next es ] ≡ Some (length (e ∷ es)))
     (sym h) refl
 
-a_place : (p q : Place) (e : TreeEvent) (es : List TreeEvent) → after p e ≡ Some q → stops p (e ∷ es) ≡ stops q es
+pub a_place : (p q : Place) (e : TreeEvent) (es : List TreeEvent) → after p e ≡ Some q → stops p (e ∷ es) ≡ stops q es
 a_place p q e es h = subst
     (λ (o : Option Place). elim o [ None ↦ Some (length (e ∷ es)) | Some next ↦ stops next es ] ≡ stops q es)
     (sym h) refl

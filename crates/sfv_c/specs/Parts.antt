@@ -1,5 +1,5 @@
 -- Events that rows hold, and what may follow what.
-use Rattle.std.specs.Prelude.{◌≡◌, MatchOption, ⊤, ℕ, ◌<◌, ◌≤◌, List, [], ◌∷◌, length, drop, map, Bool, true, false, IsTrue, Option, Some, None}
+use Rattle.std.specs.Prelude.{◌≡◌, MatchOption, ⊤, ℕ, ◌-◌, ◌<◌, List, [], ◌∷◌, length, drop, map, Bool, true, false, IsTrue, Option, Some, None}
 use Rattle.std.specs.Prelude.{if◌then◌else◌, Result, Ok, Err, option_map, string_bytes}
 use Rattle.std.specs.Borrow.{Bor}
 use Rattle.sfv.specs.Values.{Edition, FieldKind, RawField, item_field, list_field, dictionary_field, BareValue, IsBareValue}
@@ -132,14 +132,18 @@ pub record IsUnsupported (edition : Edition) (kind : FieldKind) (es : List TreeE
     pub events_of : es ≡ events kind raw
     pub error : IsSerializeError edition (bare_values kind raw) (errors.Unsupported unfit)
 
+-- so many events may come where they stand: those up to where reading stops, or all, though there is something behind them
+abbrev pub IsWrongAfter : Option ℕ → List TreeEvent → Bool → ℕ → Type 0
+IsWrongAfter (Some left) es whole n = n ≡ length es - left
+IsWrongAfter None es whole n = (whole ≡ false) × (n ≡ length es)
+
 -- why no text is made of the events, of which there may be more
 abbrev pub IsTextFault : Edition → FieldKind → List TreeEvent → Bool → Fault → Type 0
 IsTextFault edition kind es whole (faults.Read e) = ⊥
 IsTextFault edition kind es whole (faults.Write errors.OutOfMemory) = 0 < length es
 IsTextFault edition kind es whole (faults.Write (errors.Unsupported unfit)) =
     IsTrue whole × IsUnsupported edition kind es unfit
-IsTextFault edition kind es whole (faults.Rows n) =
-    (n ≤ length es) × ¬ (IsTrue whole × (stops (beginning kind) es ≡ None))
+IsTextFault edition kind es whole (faults.Rows n) = IsWrongAfter (stops (beginning kind) es) es whole n
 
 abbrev pub IsTextMade : Edition → FieldKind → List TreeEvent → Bool → Result (Option (std_string.String Global)) Fault → Type 0
 IsTextMade edition kind es whole (Ok text) = IsTrue whole × IsTextOf edition kind es (option_map string_bytes text)

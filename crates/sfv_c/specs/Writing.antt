@@ -8,6 +8,7 @@ use Rattle.sfv.specs.Canonical.{canonical}
 use Rattle.sfv.specs.Calls.{Fits}
 use Rattle.sfv.specs.Statements.{IsParsedAs}
 use Rattle.sfv.specs.Versions.{IsSerializeError}
+use Rattle.sfv.specs.Visiting.{BeginsEvents}
 use Rattle.sfv.specs.Types.{BareItemType}
 use Rattle.sfv.specs.Types.serialize_errors as errors
 use Rattle.sfv_c.specs.Answers.{PutsText, outcome_answer}
@@ -41,6 +42,20 @@ pub record AreRowsOfField (kind : FieldKind) (rows : List Row) (bytes : List ℕ
   pub value : IsFieldValue kind raw
   pub in_rows : AreRowsOf bytes rows (events kind raw)
 
+-- the rows are the first of some field's, or all of them
+pub record BeginRowsOfField (kind : FieldKind) (rows : List Row) (bytes : List ℕ) : Type 0 where
+  pub es : List TreeEvent
+  pub in_rows : AreRowsOf bytes rows es
+  pub begins : BeginsEvents kind es
+
+-- the rows are those of no field, and this is the index of the first that no field has there: those before it are the first
+-- of some field's, and with it they aren't; or it is their number, and more are wanted
+pub record AreWrongAt (kind : FieldKind) (rows : List Row) (bytes : List ℕ) (n : ℕ) : Type 0 where
+  pub within : n ≤ length rows
+  pub begun : BeginRowsOfField kind (take n rows) bytes
+  pub wrong : n < length rows → ¬ BeginRowsOfField kind (take (n + 1) rows) bytes
+  pub no_field : (raw : RawField kind) → ¬ AreRowsOfField kind rows bytes raw
+
 -- what is written of a field: nothing of a list or dictionary without members, and else its canonical text, a repeated
 -- key each time, which is read back as the field's ordered value
 abbrev pub IsScriptText : Edition → (kind : FieldKind) → RawField kind → Option (List ℕ) → Type 0
@@ -66,13 +81,12 @@ pub record HoldsUnfit (edition : Edition) (kind : FieldKind) (rows : List Row) (
   pub error : IsSerializeError edition (bare_values kind raw) (errors.Unsupported unfit)
 
 -- why rows aren't written: memory is asked for only where there is a row, and rows are refused only if they are those of
--- no field, with the index of one of them, or their number
+-- no field, with the index at which they go wrong
 abbrev pub IsWriteFault : Edition → FieldKind → List Row → List ℕ → Fault → Type 0
 IsWriteFault edition kind rows bytes (faults.Read e) = ⊥
 IsWriteFault edition kind rows bytes (faults.Write errors.OutOfMemory) = 0 < length rows
 IsWriteFault edition kind rows bytes (faults.Write (errors.Unsupported unfit)) = HoldsUnfit edition kind rows bytes unfit
-IsWriteFault edition kind rows bytes (faults.Rows n) =
-    (n ≤ length rows) × ((raw : RawField kind) → ¬ AreRowsOfField kind rows bytes raw)
+IsWriteFault edition kind rows bytes (faults.Rows n) = AreWrongAt kind rows bytes n
 
 abbrev pub IsWriteOutcome : Edition → FieldKind → List Row → List ℕ → List ℕ → List ℕ → Result Written Fault → Type 0
 IsWriteOutcome edition kind rows bytes old new (Ok w) = PutsRows edition kind rows bytes old new w

@@ -71,7 +71,7 @@ pub(crate) enum Fault {
     Read(Error),
     /// What was read isn't written.
     Write(SerializeError),
-    /// The rows are those of no field: this one can't stand there.
+    /// The rows are those of no field: this one can't stand there, or so many are too few.
     Rows(usize),
 }
 

@@ -1,4 +1,4 @@
-use Rattle.std.proofs.Common.{◌≡◌, ℕ, List, ◌++◌, ◌∙◌, ap, sym, subst, string_bytes}
+use Rattle.std.proofs.Common.{◌≡◌, ℕ, List, length, ◌++◌, ◌∙◌, ap, sym, subst, string_bytes}
 use Rattle.std.proofs.lemmas.List.{length-map}
 use Rattle.sfv.specs.BareItems.{edition_of}
 use Rattle.sfv.specs.Canonical.{canonical}
@@ -7,12 +7,16 @@ use Rattle.sfv.specs.Scripts.{called_item}
 use Rattle.sfv.specs.Statements.{IsParsedAs}
 use Rattle.sfv.specs.Values.{item_field}
 use Rattle.sfv_c.specs.Parts.{events_in, part_event}
-use Rattle.sfv_c.proofs.Fields.{text_err, script_fault, some_item}
+use Rattle.sfv_c.proofs.Fields.{text_err, script_fault, wrong_behind, some_item}
 use Rattle.sfv_c.proofs.write.item_text.Goals as goal
 
 pub returns-in-Err : goal.returns-in-Err
 returns-in-Err c = c.fault_of.ensures item_field (events_in c.args.parts.now) c.args.whole (edition_of c.args.writing)
     (sym (length-map c.args.parts.now part_event)) c.in-Err.ensures.stopped
+
+pub returns-in-Ok-2 : goal.returns-in-Ok-2
+returns-in-Ok-2 c = wrong_behind item_field (called_item c.in-Ok-2.field-0) (events_in c.args.parts.now) c.args.whole
+    (length c.args.parts.now) c.in-Ok-2.ensures.read c.if-whole.false (sym (length-map c.args.parts.now part_event))
 
 pub returns-in_err-run_item_for : goal.returns-in_err-run_item_for
 returns-in_err-run_item_for c =

@@ -7,12 +7,16 @@ use Rattle.sfv.specs.Types.{MemberCalls}
 use Rattle.sfv.specs.Values.{list_field}
 use Rattle.sfv.specs.Versions.{IsSerializeError}
 use Rattle.sfv_c.specs.Parts.{events_in, part_event}
-use Rattle.sfv_c.proofs.Fields.{text_err, script_fault, some_list}
+use Rattle.sfv_c.proofs.Fields.{text_err, script_fault, wrong_behind, some_list}
 use Rattle.sfv_c.proofs.write.list_text.Goals as goal
 
 pub returns-in-Err : goal.returns-in-Err
 returns-in-Err c = c.fault_of.ensures list_field (events_in c.args.parts.now) c.args.whole (edition_of c.args.writing)
     (sym (length-map c.args.parts.now part_event)) c.in-Err.ensures.stopped
+
+pub returns-in-Ok-2 : goal.returns-in-Ok-2
+returns-in-Ok-2 c = wrong_behind list_field (handed_list c.in-Ok-2.field-0.items) (events_in c.args.parts.now) c.args.whole
+    (length c.args.parts.now) c.in-Ok-2.ensures.read c.if-whole.false (sym (length-map c.args.parts.now part_event))
 
 pub returns-in_err-stands : goal.returns-in_err-stands
 returns-in_err-stands c =

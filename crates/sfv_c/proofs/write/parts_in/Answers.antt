@@ -1,5 +1,5 @@
 use Rattle.sfv_c.specs.Parts.{events_in}
-use Rattle.sfv_c.proofs.Fields.{no_more, no_row_more}
+use Rattle.sfv_c.proofs.RowEvents.{no_more, no_row_more}
 use Rattle.sfv_c.proofs.write.parts_in.Goals as goal
 
 pub returns-in_default-clause-events : goal.returns-in_default-clause-events
