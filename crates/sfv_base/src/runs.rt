@@ -212,6 +212,19 @@ pub fn run_end<C: RunClass>(bytes: &[u8]) -> usize
     block_end::<C>(bytes)
 }
 
+/// Where the run of the class that the bytes begin with ends, as `run_end` has it: by blocks from the first byte on, for a
+/// class whose runs are mostly long.
+#[inline(always)]
+#[tactic(auto, using(crate::proofs::RunEnds::end_within, crate::proofs::RunEnds::end_each, crate::proofs::RunEnds::end_stops))]
+pub fn long_run_end<C: RunClass>(bytes: &[u8]) -> usize
+    ensures value { result ≡ prefix_len C.class bytes.now }
+    ensures within { result ≤ length bytes.now }
+    ensures each { RunOf C.class (take result bytes.now) }
+    ensures ends { result < length bytes.now → IsFalse (C.class (slice_index bytes.now result)) }
+{
+    block_end::<C>(bytes)
+}
+
 /// Where the run of the class that begins at `start` ends.
 #[inline]
 pub fn run_end_from<C: RunClass>(bytes: &[u8], start: usize) -> usize

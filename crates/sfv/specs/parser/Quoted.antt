@@ -1,6 +1,6 @@
 -- What the code reads after the opening quotes of strings and display strings. A flag says which: true is a display
 -- string.
-use Rattle.std.specs.Prelude.{◌≡◌, ⊤, ◌↔◌, ℕ, ◌<◌, Bool, true, false, not, ◌==◌, List, [], ◌∷◌, ◌++◌, length, Result}
+use Rattle.std.specs.Prelude.{◌*◌, ◌+◌, ◌≡◌, ⊤, ◌↔◌, ℕ, ◌<◌, Bool, true, false, not, ◌==◌, List, [], ◌∷◌, ◌++◌, length, Result}
 use Rattle.std.specs.Prelude.{Ok, Err, IsTrue, string_bytes}
 use Rattle.std.specs.declared.alloc.Global.{Global}
 use Rattle.std.specs.declared.vec.Vec.{Vec}
@@ -109,6 +109,11 @@ ReadsEscape display before after (Ok c) =
     (behind_mark display (rest before) ≡ behind_bytes (c ∷ []) (inside display (rest after)))
     × (length (rest after) < length (rest before)) × (kept after ≡ kept before)
 ReadsEscape display before after (Err e) = IsFaultOf (input before) e (behind_mark display (rest before))
+
+-- two digits stand next, for which an escape gives this byte
+abbrev pub IsNextEscape : List ℕ → ℕ → Type 0
+IsNextEscape t byte = (high : ℕ) × (low : ℕ) × (r : List ℕ) × (t ≡ high ∷ low ∷ r) × IsTrue (is_lower_hexadecimal high)
+    × IsTrue (is_lower_hexadecimal low) × (byte ≡ 16 * hexadecimal_value high + hexadecimal_value low)
 
 -- A digit of a display string's escape was taken, which has this value; without one, the reader gives this fault, be
 -- it the first digit or the second.

@@ -1,6 +1,6 @@
 //! Reading what stands between two quotes: the inside of a string or of a display string.
 
-ghost use Rattle.std.specs.Prelude.{◌≡◌, ◌++◌, ◌↔◌, Bool, true, false, IfOk, IsTrue};
+ghost use Rattle.std.specs.Prelude.{◌≡◌, ◌++◌, ◌↔◌, Bool, true, false, IfOk, IfSome, IsTrue};
 ghost use Rattle.sfv_spec.specs.Ascii.{double_quote};
 ghost use Rattle.sfv_spec.specs.Texts.{RunOf};
 ghost use Rattle.sfv_spec.proofs.Marks.{plain_of};
@@ -8,7 +8,7 @@ ghost use Rattle.sfv_reading.specs.Reader.{Apart, byte};
 ghost use Rattle.sfv_reading.specs.Quoted.{behind_bytes};
 ghost use Rattle.sfv.specs.parser.Cursor.{input, kept, rest, IsFaultOf, ReadsOrOutOfMemory};
 ghost use Rattle.sfv.specs.parser.Quoted.{mark_of, stop_of, inside, quoted_bytes, is_plain, HasNoMark, ReadsEscape};
-ghost use Rattle.sfv.specs.parser.Quoted.{ReadsDigit};
+ghost use Rattle.sfv.specs.parser.Quoted.{ReadsDigit, IsNextEscape};
 ghost use Rattle.sfv.specs.parser.Values.{vec_bytes};
 ghost use Rattle.sfv.specs.Memory.{HoldsMark};
 
@@ -98,6 +98,12 @@ impl QuotedText for InDisplayString {
     }
 
     fn escaped(cursor: &mut Cursor<'_>) -> Result<u8, Error> {
+        // Mostly both digits stand there: then one look tells it.
+        if let Some(byte) = cursor.next_escape() {
+            cursor.skip();
+            cursor.skip();
+            return Ok(byte);
+        }
         let high = cursor.escape_digit()?;
         let low = cursor.escape_digit()?;
         Ok(16 * high + low)
@@ -113,6 +119,20 @@ pub(super) enum QuotedBytes<'de> {
 }
 
 impl<'de> Cursor<'de> {
+    /// The byte that two digits of an escape stand for, if two stand next.
+    #[inline(always)]
+    fn next_escape(&self) -> Option<u8>
+        ensures { IfSome result (IsNextEscape (rest self.now)) }
+    {
+        let input = self.parser.input;
+        if input.len() - self.index < 2 {
+            return None;
+        }
+        let high = escape_digit_value(input[self.index])?;
+        let low = escape_digit_value(input[self.index + 1])?;
+        Some(16 * high + low)
+    }
+
     /// Takes a digit of an escape, and returns its value.
     fn escape_digit(&mut self) -> Result<u8, Error>
         ensures { ReadsDigit self.old self.new result }
@@ -138,6 +158,7 @@ impl<'de> Cursor<'de> {
     }
 
     /// Takes the rest of a quoted text after the bytes `plain`, with its closing quote. Returns the bytes of both.
+    #[inline(never)]
     fn unescaped<Q: QuotedText>(&mut self, plain: &[u8]) -> Result<Vec<u8>, Error>
         requires { HoldsMark (input self.old) }
         ensures { ReadsOrOutOfMemory vec_bytes self.old self.new result

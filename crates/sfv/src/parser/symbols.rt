@@ -5,7 +5,7 @@ ghost use Rattle.sfv_spec.proofs.Marks.{is_symbol};
 ghost use Rattle.sfv_reading.specs.Content.{symbol_value, most_padding};
 ghost use Rattle.sfv.specs.parser.Base64.{IsSymbolRun, IsPaddingRun};
 
-use sfv_base::runs::{Symbol, run_end};
+use sfv_base::runs::{Symbol, long_run_end};
 
 /// The value of a symbol.
 #[tactic(auto, unfolding(sfv_spec::proofs::Marks::is_symbol, sfv_reading::specs::Content::symbol_value))]
@@ -27,7 +27,7 @@ pub(crate) fn value_of(byte: u8) -> u8
 pub(crate) fn symbol_run(bytes: &[u8]) -> usize
     ensures { IsSymbolRun bytes.now result }
 {
-    run_end::<Symbol>(bytes)
+    long_run_end::<Symbol>(bytes)
 }
 
 /// How much padding the bytes begin with, up to `most`.
