@@ -5,7 +5,6 @@ use sfv::HashSeed;
 use std::alloc::Global;
 use std::io;
 use std::io::{Read, Write};
-use std::test::Fail;
 
 /// A reader that fails after its bytes.
 #[derive(Drop)]
@@ -50,293 +49,227 @@ impl Write for Unflushed {
     }
 }
 
-fn words(alloc: Global, args: &[&str]) -> Result<Vec<String>, Fail> {
+/// The arguments, which spaces part.
+fn arguments(alloc: Global, args: &str) -> Option<Vec<String>> {
     let mut all = Vec::new(alloc);
-    for arg in args {
-        all.push(String::from_str(alloc, arg)?)?;
+    for arg in args.split(' ') {
+        if !arg.is_empty() {
+            all.push(String::from_str(alloc, arg).ok()?).ok()?;
+        }
     }
-    Ok(all)
+    Some(all)
 }
 
-/// What a run wrote, and its status.
-#[derive(Drop)]
-struct Ended {
-    output: Vec<u8>,
-    errors: Vec<u8>,
-    status: u8,
+/// The status with which a run over these ends.
+fn status_of<R: Read, W: Write, E: Write>(
+    alloc: Global,
+    args: &str,
+    input: &mut R,
+    output: &mut W,
+    errors: &mut E,
+) -> Option<u8> {
+    let args = arguments(alloc, args)?;
+    let seed = HashSeed::new(1);
+    Some(run(alloc, seed, args.as_slice(), input, output, errors))
 }
 
-impl Ended {
-    /// Whether the run wrote just this, and ended with this status.
-    fn is(&self, output: &str, errors: &str, status: u8) -> bool {
-        self.output.as_slice() == output.as_bytes()
-            && self.errors.as_slice() == errors.as_bytes()
-            && self.status == status
-    }
+/// Whether a run over memory writes just this, and ends with this status.
+fn ends(alloc: Global, args: &str, input: &str, wanted: (&str, &str, u8)) -> bool {
+    let (mut output, mut errors) = (Vec::new(alloc), Vec::new(alloc));
+    let mut input = input.as_bytes();
+    let status = status_of(alloc, args, &mut input, &mut output, &mut errors);
+    output.as_slice() == wanted.0.as_bytes()
+        && errors.as_slice() == wanted.1.as_bytes()
+        && status == Some(wanted.2)
 }
 
-/// A run over memory.
-fn run_over(alloc: Global, args: &[&str], input: &[u8]) -> Result<Ended, Fail> {
-    let args = words(alloc, args)?;
-    let mut output = Vec::new(alloc);
-    let mut errors = Vec::new(alloc);
-    let mut input = input;
-    let status = run(
-        alloc,
-        HashSeed::new(1),
-        args.as_slice(),
-        &mut input,
-        &mut output,
-        &mut errors,
-    );
-    Ok(Ended {
-        output,
-        errors,
-        status,
-    })
+/// Whether a run over memory writes this output and no error.
+fn writes(alloc: Global, args: &str, input: &str, output: &str) -> bool {
+    ends(alloc, args, input, (output, "", 0))
 }
 
-#[test]
-fn items(rt: HostRuntime) -> Result<(), Fail> {
-    let rows: [(&str, &[u8], &str, &str, u8); 8] = [
-        ("9651", b"007.50;a=?1\n", "7.5;a\n", "", 0),
-        ("9651", b"007.50;a=?1", "7.5;a\n", "", 0),
-        (
-            "9651",
-            b"1\n\n",
-            "",
-            "error: trailing characters after parsed value at index 1\n",
-            1,
-        ),
-        (
-            "9651",
-            b"",
-            "",
-            "error: expected start of bare item at index 0\n",
-            1,
-        ),
-        (
-            "9651",
-            b"\n",
-            "",
-            "error: expected start of bare item at index 0\n",
-            1,
-        ),
-        ("9651", b"@5\n", "@5\n", "", 0),
-        (
-            "8941",
-            b"@5\n",
-            "",
-            "error: RFC 8941 does not support dates at index 0\n",
-            1,
-        ),
-        (
-            "8941",
-            b"%\"x\"\n",
-            "",
-            "error: RFC 8941 does not support display strings at index 0\n",
-            1,
-        ),
-    ];
-    for (row, (version, input, output, errors, status)) in rows.into_iter().enumerate() {
-        let ended = run_over(rt.alloc(), &["item", version], input)?;
-        assert!(rt; ended.is(output, errors, status), "row {row}");
-    }
-    Ok(())
+/// Whether a run over memory writes this error and no output.
+fn fails(alloc: Global, args: &str, input: &str, error: &str) -> bool {
+    ends(alloc, args, input, ("", error, 1))
 }
 
-#[test]
-fn lists_and_dictionaries(rt: HostRuntime) -> Result<(), Fail> {
-    let rows: [(&str, &str, &[u8], &str, &str, u8); 9] = [
-        (
-            "dict",
-            "8941",
-            b"a=@1",
-            "",
-            "error: RFC 8941 does not support dates at index 2\n",
-            1,
-        ),
-        ("list", "9651", b"1 \t,\t 2\n", "1, 2\n", "", 0),
-        ("list", "9651", b"\n", "\n", "", 0),
-        (
-            "list",
-            "9651",
-            b"a ,b,\n",
-            "",
-            "error: trailing comma at index 4\n",
-            1,
-        ),
-        (
-            "list",
-            "8941",
-            b"1;x=@5\n",
-            "",
-            "error: RFC 8941 does not support dates at index 4\n",
-            1,
-        ),
-        ("dict", "9651", b"a=1;x, b=2, a=3\n", "a=3, b=2\n", "", 0),
-        ("dict", "9651", b"", "\n", "", 0),
-        ("dict", "8941", b"a, b;x=1", "a, b;x=1\n", "", 0),
-        (
-            "dict",
-            "9651",
-            b"a=\n\n",
-            "",
-            "error: expected start of bare item at index 2\n",
-            1,
-        ),
-    ];
-    for (row, (field, version, input, output, errors, status)) in rows.into_iter().enumerate() {
-        let ended = run_over(rt.alloc(), &[field, version], input)?;
-        assert!(rt; ended.is(output, errors, status), "row {row}");
-    }
-    Ok(())
-}
-
-// An answer of more than 64 KB, which no one call of the system writes as a whole.
-#[test]
-fn long_answers_are_written_whole(rt: HostRuntime) -> Result<(), Fail> {
-    let alloc = rt.alloc();
-    let mut text = String::from_str(alloc, "1")?;
-    for _ in 0..30_000 {
-        text.push_str(", 1")?;
-    }
-    let ended = run_over(alloc, &["list", "9651"], text.as_bytes())?;
-    text.push('\n')?;
-    assert!(rt; ended.is(text.as_str(), "", 0));
-    Ok(())
-}
+/// Arguments, an input, and what is written.
+const WRITTEN: [(&str, &str, &str); 17] = [
+    ("item 9651", "007.50;a=?1\n", "7.5;a\n"),
+    ("item 9651", "007.50;a=?1", "7.5;a\n"),
+    ("item 9651", "@5\n", "@5\n"),
+    ("list 9651", "1 \t,\t 2\n", "1, 2\n"),
+    ("list 9651", "\n", "\n"),
+    ("dict 9651", "a=1;x, b=2, a=3\n", "a=3, b=2\n"),
+    ("dict 9651", "", "\n"),
+    ("dict 8941", "a, b;x=1", "a, b;x=1\n"),
+    ("dict 9651 8941", "a=@1, a=2\n", "a=2\n"),
+    ("dict 9651 9651", "a=@1\n", "a=@1\n"),
+    ("list 9651 8941", "\n", "\n"),
+    ("list 8941 8941", "1, (2 4)\n", "1, (2 4)\n"),
+    ("item 9651 8941", "5\n", "5\n"),
+    ("priority 9651", "u=1, i\n", "u=1, i\n"),
+    ("priority 9651", "u=1, u=9\n", "\n"),
+    ("priority 9651", "", "\n"),
+    ("priority 9651", "u=1, x=@5\n", "u=1\n"),
+];
 
 // The version of writing is the third argument.
 #[test]
-fn versions_of_writing(rt: HostRuntime) -> Result<(), Fail> {
-    let dates = "error: RFC 8941 does not support dates\n";
-    let display = "error: RFC 8941 does not support display strings\n";
-    let rows: [(&[&str], &[u8], &str, &str, u8); 9] = [
-        (
-            &["dict", "9651", "8941"],
-            b"a=1;x=%\"q\", b=@2\n",
-            "",
-            display,
-            1,
-        ),
-        (&["dict", "9651", "8941"], b"a=@1, a=2\n", "a=2\n", "", 0),
-        (&["dict", "9651", "9651"], b"a=@1\n", "a=@1\n", "", 0),
-        (&["list", "9651", "8941"], b"\n", "\n", "", 0),
-        (&["list", "9651", "8941"], b"1, (2;a=@3 4)\n", "", dates, 1),
-        (
-            &["list", "8941", "8941"],
-            b"1, (2 4)\n",
-            "1, (2 4)\n",
-            "",
-            0,
-        ),
-        (&["item", "9651", "8941"], b"@5\n", "", dates, 1),
-        (&["item", "9651", "8941"], b"5\n", "5\n", "", 0),
-        (
-            &["item", "8941", "9651"],
-            b"@5\n",
-            "",
-            "error: RFC 8941 does not support dates at index 0\n",
-            1,
-        ),
-    ];
-    for (row, (args, input, output, errors, status)) in rows.into_iter().enumerate() {
-        let ended = run_over(rt.alloc(), args, input)?;
-        assert!(rt; ended.is(output, errors, status), "row {row}");
+fn what_is_read_is_written(rt: HostRuntime) {
+    for (args, input, output) in WRITTEN {
+        assert!(rt; writes(rt.alloc(), args, input, output), "{args} {input}");
     }
-    Ok(())
+}
+
+const NO_ITEM: &str = "error: expected start of bare item at index 0\n";
+
+const NO_DATE: &str = "error: RFC 8941 does not support dates\n";
+
+/// Arguments, an input, and the error that is written.
+const REFUSED: [(&str, &str, &str); 15] = [
+    (
+        "item 9651",
+        "1\n\n",
+        "error: trailing characters after parsed value at index 1\n",
+    ),
+    ("item 9651", "", NO_ITEM),
+    ("item 9651", "\n", NO_ITEM),
+    (
+        "item 8941",
+        "@5\n",
+        "error: RFC 8941 does not support dates at index 0\n",
+    ),
+    (
+        "item 8941",
+        "%\"x\"\n",
+        "error: RFC 8941 does not support display strings at index 0\n",
+    ),
+    (
+        "dict 8941",
+        "a=@1",
+        "error: RFC 8941 does not support dates at index 2\n",
+    ),
+    ("list 9651", "a ,b,\n", "error: trailing comma at index 4\n"),
+    (
+        "list 8941",
+        "1;x=@5\n",
+        "error: RFC 8941 does not support dates at index 4\n",
+    ),
+    (
+        "dict 9651",
+        "a=\n\n",
+        "error: expected start of bare item at index 2\n",
+    ),
+    (
+        "dict 9651 8941",
+        "a=1;x=%\"q\", b=@2\n",
+        "error: RFC 8941 does not support display strings\n",
+    ),
+    ("list 9651 8941", "1, (2;a=@3 4)\n", NO_DATE),
+    ("item 9651 8941", "@5\n", NO_DATE),
+    (
+        "item 8941 9651",
+        "@5\n",
+        "error: RFC 8941 does not support dates at index 0\n",
+    ),
+    (
+        "priority 9651",
+        "u=1,\n",
+        "error: trailing comma at index 3\n",
+    ),
+    (
+        "priority 8941",
+        "u=1, x=@5\n",
+        "error: RFC 8941 does not support dates at index 7\n",
+    ),
+];
+
+#[test]
+fn faults_are_written_as_errors(rt: HostRuntime) {
+    for (args, input, error) in REFUSED {
+        assert!(rt; fails(rt.alloc(), args, input, error), "{args} {input}");
+    }
+}
+
+/// Whether an answer of more than 64 KB, which no one call of the system writes as a whole, is written whole.
+fn is_long_answer_whole(alloc: Global) -> bool {
+    let mut text = String::new(alloc);
+    for _ in 0..30_000 {
+        if text.push_str("1, ").is_err() {
+            return false;
+        }
+    }
+    if text.push_str("1\n").is_err() {
+        return false;
+    }
+    writes(alloc, "list 9651", text.as_str(), text.as_str())
 }
 
 #[test]
-fn usage(rt: HostRuntime) -> Result<(), Fail> {
+fn long_answers_are_written_whole(rt: HostRuntime) {
+    assert!(rt; is_long_answer_whole(rt.alloc()));
+}
+
+#[test]
+fn other_arguments_have_the_usage(rt: HostRuntime) {
     let usage = "usage: sfv_tool item|list|dict 8941|9651 [8941|9651] | priority 8941|9651\n";
-    let rows: [&[&str]; 13] = [
-        &["priority"],
-        &["priority", "9651", "9651"],
-        &[],
-        &["item"],
-        &["item", "9652"],
-        &["Item", "9651"],
-        &["item", "9651", "9652"],
-        &["item", "9651", "9651", "9651"],
-        &["item", "9651", "item"],
-        &["lists", "9651"],
-        &["dictionary", "9651"],
-        &["dict"],
-        &["9651", "item"],
+    let rows = [
+        "priority",
+        "priority 9651 9651",
+        "",
+        "item",
+        "item 9652",
+        "Item 9651",
+        "item 9651 9652",
+        "item 9651 9651 9651",
+        "item 9651 item",
+        "lists 9651",
+        "dictionary 9651",
+        "dict",
+        "9651 item",
     ];
-    for (row, args) in rows.into_iter().enumerate() {
-        let ended = run_over(rt.alloc(), args, b"1\n")?;
-        assert!(rt; ended.is("", usage, 2), "row {row}");
+    for args in rows {
+        assert!(rt; ends(rt.alloc(), args, "1\n", ("", usage, 2)), "{args}");
     }
-    Ok(())
 }
 
-#[test]
-fn unreadable_input(rt: HostRuntime) -> Result<(), Fail> {
-    let args = words(rt.alloc(), &["item", "9651"])?;
-    let mut output = Vec::new(rt.alloc());
-    let mut errors = Vec::new(rt.alloc());
-    let mut input = Broken { left: b"1;a" };
-    let status = run(
-        rt.alloc(),
-        HashSeed::default(),
-        args.as_slice(),
-        &mut input,
-        &mut output,
-        &mut errors,
-    );
-    let ended = Ended {
-        output,
-        errors,
-        status,
-    };
-    assert!(rt; ended.is("", "error: cannot read input\n", 1));
-    Ok(())
+/// Whether the run over this input, and errors into memory, ends with this error.
+fn is_unreadable<R: Read>(alloc: Global, input: &mut R) -> bool {
+    let (mut output, mut errors) = (Vec::new(alloc), Vec::new(alloc));
+    let status = status_of(alloc, "item 9651", input, &mut output, &mut errors);
+    status == Some(1)
+        && output.is_empty()
+        && errors.as_slice() == b"error: cannot read input\n".as_slice()
 }
 
 /// Whether the run over this output says that it can't be written, with status 1.
-fn is_unwritable<W: Write>(alloc: Global, output: &mut W) -> Result<bool, Fail> {
-    let args = words(alloc, &["item", "9651"])?;
+fn is_unwritable<W: Write>(alloc: Global, output: &mut W) -> bool {
     let mut errors = Vec::new(alloc);
     let mut input = b"1\n".as_slice();
-    let seed = HashSeed::default();
-    let status = run(
-        alloc,
-        seed,
-        args.as_slice(),
-        &mut input,
-        output,
-        &mut errors,
-    );
-    Ok(status == 1 && errors.as_slice() == b"error: cannot write output\n".as_slice())
+    let status = status_of(alloc, "item 9651", &mut input, output, &mut errors);
+    status == Some(1) && errors.as_slice() == b"error: cannot write output\n".as_slice()
 }
 
-#[test]
-fn unwritable_output(rt: HostRuntime) -> Result<(), Fail> {
-    assert!(rt; is_unwritable(rt.alloc(), &mut Full)?);
-    assert!(rt; is_unwritable(rt.alloc(), &mut Unflushed)?);
-    Ok(())
-}
-
-/// Where the errors can't be written, the status stays.
-#[test]
-fn unwritable_errors(rt: HostRuntime) -> Result<(), Fail> {
-    let args = words(rt.alloc(), &["item", "9651"])?;
-    let mut output = Vec::new(rt.alloc());
+/// The status of a run whose errors can't be written.
+fn status_with_full_errors(alloc: Global, args: &str) -> Option<u8> {
+    let mut output = Vec::new(alloc);
     let mut input = b"1,\n".as_slice();
-    let status = run(
-        rt.alloc(),
-        HashSeed::default(),
-        args.as_slice(),
-        &mut input,
-        &mut output,
-        &mut Full,
-    );
-    assert!(rt; output.is_empty() && status == 1);
-    let seed = HashSeed::default();
-    let status = run(rt.alloc(), seed, &[], &mut input, &mut output, &mut Full);
-    assert!(rt; status == 2);
-    Ok(())
+    let status = status_of(alloc, args, &mut input, &mut output, &mut Full)?;
+    if output.is_empty() {
+        Some(status)
+    } else {
+        None
+    }
+}
+
+// Where the errors can't be written, the status stays.
+#[test]
+fn readers_and_writers_may_fail(rt: HostRuntime) {
+    let alloc = rt.alloc();
+    assert!(rt; is_unreadable(alloc, &mut Broken { left: b"1;a" }));
+    assert!(rt; is_unwritable(alloc, &mut Full));
+    assert!(rt; is_unwritable(alloc, &mut Unflushed));
+    assert!(rt; status_with_full_errors(alloc, "item 9651") == Some(1));
+    assert!(rt; status_with_full_errors(alloc, "") == Some(2));
 }

@@ -1,12 +1,9 @@
 //! The visitors that build trees, told of events one by one: each event in its place, and out of it.
 
-use crate::common::is_text;
-use sfv::visitor::{DictionaryBuilder, Event, ItemBuilder, ItemFault, ListBuilder, Visitor};
-use sfv::{
-    BareItemFromInput, Dictionary, FieldType, HashSeed, Item, KeyRef, List, Parser, key_ref,
-};
+use crate::common::has_text;
+use sfv::visitor::{DictionaryBuilder, Event, ItemBuilder, ListBuilder, Visitor};
+use sfv::{BareItemFromInput, Dictionary, FieldType, HashSeed, KeyRef, List, Parser, key_ref};
 use std::alloc::Global;
-use std::test::Fail;
 
 fn param(key: KeyRef<'static>, value: u8) -> Event<'static> {
     Event::Parameter(key, BareItemFromInput::from(value))
@@ -31,18 +28,31 @@ fn event(letter: char) -> Event<'static> {
     }
 }
 
+/// The text of a list or a dictionary that was built, if it has a member.
+fn written<T: FieldType<SerializeResult = Option<String>>, E: Drop>(
+    alloc: Global,
+    built: Result<T, E>,
+) -> Option<String> {
+    match built {
+        Ok(field) => field.serialize(alloc).ok()?,
+        Err(_) => None,
+    }
+}
+
 /// The text of what is built of the events after a list of this text.
-fn list_of(alloc: Global, held: &str, letters: &str) -> Result<Option<String>, Fail> {
-    let list = Parser::new(held.as_bytes()).parse::<List>(alloc)?;
+fn list_of(alloc: Global, held: &str, letters: &str) -> Option<String> {
+    let list = Parser::new(held.as_bytes()).parse::<List>(alloc).ok()?;
     let mut builder = ListBuilder::new(list, HashSeed::default());
     for letter in letters.chars() {
-        builder.event(event(letter))?;
+        if builder.event(event(letter)).is_err() {
+            return None;
+        }
     }
-    Ok(builder.finish()?.serialize(alloc)?)
+    written(alloc, builder.finish())
 }
 
 #[test]
-fn lists_are_built_of_the_events_in_their_place(rt: HostRuntime) -> Result<(), Fail> {
+fn lists_are_built_of_the_events_in_their_place(rt: HostRuntime) {
     let three = "6, (5;b=1);a=1, 5";
     let rows = [
         ("", ",i5abA;,(i5a;i6;)aA;", "5;a=2;b=1, (5;a=1 6);a=2"),
@@ -61,25 +71,30 @@ fn lists_are_built_of_the_events_in_their_place(rt: HostRuntime) -> Result<(), F
         ("6", ",(i5b;)a;,i5;,i6a", three),
         ("6", ",(i5b;)a;,i5;,(i6;i5", three),
     ];
-    for (row, (held, letters, text)) in rows.into_iter().enumerate() {
-        let built = list_of(rt.alloc(), held, letters)?.ok_or("no member")?;
-        assert!(rt; is_text(&built, text), "row {row}: {built}");
+    for (held, letters, text) in rows {
+        assert!(rt;
+            has_text(list_of(rt.alloc(), held, letters), text),
+            "{letters}"
+        );
     }
-    Ok(())
 }
 
 /// The text of what is built of the events after a dictionary of this text.
-fn dictionary_of(alloc: Global, held: &str, letters: &str) -> Result<Option<String>, Fail> {
-    let dictionary = Parser::new(held.as_bytes()).parse::<Dictionary>(alloc)?;
+fn dictionary_of(alloc: Global, held: &str, letters: &str) -> Option<String> {
+    let dictionary = Parser::new(held.as_bytes())
+        .parse::<Dictionary>(alloc)
+        .ok()?;
     let mut builder = DictionaryBuilder::new(dictionary);
     for letter in letters.chars() {
-        builder.event(event(letter))?;
+        if builder.event(event(letter)).is_err() {
+            return None;
+        }
     }
-    Ok(builder.finish()?.serialize(alloc)?)
+    written(alloc, builder.finish())
 }
 
 #[test]
-fn dictionaries_are_built_of_the_events_in_their_place(rt: HostRuntime) -> Result<(), Fail> {
+fn dictionaries_are_built_of_the_events_in_their_place(rt: HostRuntime) {
     let two = "b=5;a=1;b=1, a=(5;a=1 6);a=2";
     let three = "c=6, a=(5;b=1);a=1, b=5";
     let rows = [
@@ -101,58 +116,53 @@ fn dictionaries_are_built_of_the_events_in_their_place(rt: HostRuntime) -> Resul
         ("c=6", "k(i5b;)a;li5;mi5a", three),
         ("c=6", "k(i5b;)a;li5;m(i6;i5", three),
     ];
-    for (row, (held, letters, text)) in rows.into_iter().enumerate() {
-        let built = dictionary_of(rt.alloc(), held, letters)?.ok_or("no member")?;
-        assert!(rt; is_text(&built, text), "row {row}: {built}");
+    for (held, letters, text) in rows {
+        assert!(rt;
+            has_text(dictionary_of(rt.alloc(), held, letters), text),
+            "{letters}"
+        );
     }
-    Ok(())
 }
 
-/// What an optional builder of an item answers after the events.
-fn build_if_any(
-    mut builder: Option<ItemBuilder>,
-    letters: &str,
-) -> Result<Option<Item>, ItemFault> {
+/// The text of the item that a builder answers after the events, if it answers one; an optional builder, which may not be
+/// there.
+fn item_of(alloc: Global, is_there: bool, letters: &str) -> Option<String> {
+    let mut builder = if is_there {
+        Some(ItemBuilder::new(alloc, HashSeed::default()))
+    } else {
+        None
+    };
     for letter in letters.chars() {
-        builder.event(event(letter))?;
+        if builder.event(event(letter)).is_err() {
+            return None;
+        }
     }
-    builder.finish()
-}
-
-/// The text of the item that a builder answers after the events, if it answers one.
-fn item_of(alloc: Global, letters: &str) -> Result<Option<String>, Fail> {
-    let builder = ItemBuilder::new(alloc, HashSeed::default());
-    match build_if_any(Some(builder), letters) {
-        Ok(Some(item)) => Ok(Some(item.serialize(alloc)?)),
-        Ok(None) | Err(ItemFault::NoItem) => Ok(None),
-        Err(fault) => Err(Fail::from(fault)),
-    }
+    let item = builder.finish().ok()??;
+    item.serialize(alloc).ok()
 }
 
 #[test]
-fn items_are_built_of_the_events_in_their_place(rt: HostRuntime) -> Result<(), Fail> {
+fn items_are_built_of_the_events_in_their_place(rt: HostRuntime) {
     let rows = [
         ("5aA;", "5;a=2"),
         // An event that is out of its place changes nothing.
         (";,i(ka)5b)6A;5a", "5;b=1;a=2"),
-        // Without its end there is no item.
-        ("5a", ""),
-        ("", ""),
     ];
-    for (row, (letters, text)) in rows.into_iter().enumerate() {
-        let built = item_of(rt.alloc(), letters)?;
-        let holds = match &built {
-            Some(built) => is_text(built, text),
-            None => text.is_empty(),
-        };
-        assert!(rt; holds, "row {row}");
+    for (letters, text) in rows {
+        assert!(rt;
+            has_text(item_of(rt.alloc(), true, letters), text),
+            "{letters}"
+        );
     }
-    Ok(())
 }
 
+// Without its end there is no item, and of a builder that isn't there neither.
 #[test]
-fn visitors_that_are_not_there_answer_nothing(rt: HostRuntime) -> Result<(), Fail> {
-    assert!(rt; build_if_any(None, "5aA;")?.is_none());
-    assert!(rt; build_if_any(None, "")?.is_none());
-    Ok(())
+fn items_that_have_not_ended_are_none(rt: HostRuntime) {
+    for (is_there, letters) in [(true, "5a"), (true, ""), (false, "5aA;"), (false, "")] {
+        assert!(rt;
+            item_of(rt.alloc(), is_there, letters).is_none(),
+            "{letters}"
+        );
+    }
 }

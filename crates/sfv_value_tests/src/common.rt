@@ -9,6 +9,14 @@ pub fn is_text(text: &str, wanted: &str) -> bool {
     text == wanted
 }
 
+/// Whether there is a text, and it is the one that is wanted.
+pub fn has_text(text: Option<String>, wanted: &str) -> bool {
+    match text {
+        Some(text) => text.as_str() == wanted,
+        None => false,
+    }
+}
+
 /// Whether the value prints as this text.
 pub fn prints<T: Display>(alloc: Global, value: &T, text: &str) -> bool {
     match value.to_string(alloc) {

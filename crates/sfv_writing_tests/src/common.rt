@@ -1,6 +1,6 @@
-//! What tests ask of texts and errors.
+//! What tests ask of texts, and values that words stand for.
 
-use sfv::SerializeError;
+use sfv::{Date, RefBareItem, integer};
 
 /// Whether the text is the one that is wanted.
 pub fn is_text(text: &str, wanted: &str) -> bool {
@@ -8,11 +8,20 @@ pub fn is_text(text: &str, wanted: &str) -> bool {
 }
 
 /// Whether there is a text, and it is the one that is wanted.
-pub fn has_text(text: Option<&str>, wanted: &str) -> bool {
-    text == Some(wanted)
+pub fn has_text(text: Option<String>, wanted: &str) -> bool {
+    match text {
+        Some(text) => text.as_str() == wanted,
+        None => false,
+    }
 }
 
-/// Whether there is an error, and it is the one that is wanted.
-pub fn is_refused(error: Option<SerializeError>, wanted: SerializeError) -> bool {
-    error == Some(wanted)
+/// The value of a word: a date for `@`, what is true for `?`, and else a number.
+pub fn value<'a>(word: &str) -> RefBareItem<'a> {
+    match word {
+        "@" => RefBareItem::from(Date::from_unix_seconds(integer(1))),
+        "?" => RefBareItem::from(true),
+        "2" => RefBareItem::from(2u8),
+        "3" => RefBareItem::from(3u8),
+        _ => RefBareItem::from(1u8),
+    }
 }

@@ -1,250 +1,220 @@
 //! Items, lists and dictionaries that are written whole, or part by part by single calls.
 
-use crate::common::{has_text, is_text};
+use crate::common::{has_text, is_text, value};
 use sfv::{
-    BareItem, Decimal, DictSerializer, Dictionary, FieldType, GenericBareItem, InnerList,
-    InnerListSerializer, Item, ItemSerializer, KeyRef, List, ListEntry, ListSerializer, Parameters,
-    Parser, RefBareItem, SerializeError, Sink, dictionary, integer, key_ref, string_ref, token_ref,
+    BareItem, DictSerializer, Dictionary, FieldType, InnerList, InnerListSerializer, Item,
+    ItemSerializer, KeyRef, List, ListEntry, ListSerializer, Parameters, Parser, SerializeError,
+    Sink, Version, dictionary, key_ref,
 };
 use std::alloc::Global;
-use std::test::Fail;
 
 /// The parameters `;a;b=?0`.
-fn yes_and_no(alloc: Global) -> Result<Parameters, Fail> {
-    Ok(Parser::new(b"1;a;b=?0").parse::<Item>(alloc)?.params)
+fn yes_and_no(alloc: Global) -> Option<Parameters> {
+    let item = Parser::new(b"1;a;b=?0").parse::<Item>(alloc).ok()?;
+    Some(item.params)
 }
 
-/// The members `?0`, `(?1 2;a;b=?0);a;b=?0`, `()` and `?1;a;b=?0`.
-fn members(alloc: Global) -> Result<List, Fail> {
-    let items = vec![in alloc;
-        Item::new(alloc, BareItem::from(true)),
-        Item::with_params(BareItem::from(2u8), yes_and_no(alloc)?),
-    ]?;
-    Ok(vec![in alloc;
+/// The inner list `(?1 2;a;b=?0);a;b=?0`.
+fn inner_list(alloc: Global) -> Option<InnerList> {
+    let first = Item::new(alloc, BareItem::from(true));
+    let second = Item::with_params(BareItem::from(2u8), yes_and_no(alloc)?);
+    let items = vec![in alloc; first, second].ok()?;
+    Some(InnerList::with_params(items, yes_and_no(alloc)?))
+}
+
+/// The text of a list of members that are made one by one.
+fn text_of_members(alloc: Global) -> Option<String> {
+    let members: List = vec![in alloc;
         ListEntry::from(Item::new(alloc, BareItem::from(false))),
-        ListEntry::from(InnerList::with_params(items, yes_and_no(alloc)?)),
+        ListEntry::from(inner_list(alloc)?),
         ListEntry::from(InnerList::empty(alloc)),
-        ListEntry::from(Item::with_params(BareItem::from(true), yes_and_no(alloc)?)),
-    ]?)
+    ]
+    .ok()?;
+    members.serialize(alloc).ok()?
 }
 
 #[test]
-fn lists_are_written_member_after_member_or_not_at_all(rt: HostRuntime) -> Result<(), Fail> {
+fn fields_that_are_made_are_written_or_not_at_all(rt: HostRuntime) {
     let alloc = rt.alloc();
-    let text = members(alloc)?.serialize(alloc)?.ok_or("no member")?;
-    assert!(rt; is_text(&text, "?0, (?1 2;a;b=?0);a;b=?0, (), ?1;a;b=?0"));
-    assert!(rt; List::new(alloc).serialize(alloc)?.is_none());
-    Ok(())
+    assert!(rt; has_text(text_of_members(alloc), "?0, (?1 2;a;b=?0);a;b=?0, ()"));
+    assert!(rt; matches!(List::new(alloc).serialize(alloc), Ok(None)));
+    assert!(rt; matches!(dictionary(alloc).serialize(alloc), Ok(None)));
 }
 
-#[test]
-fn dictionaries_leave_out_what_is_true_after_a_key(rt: HostRuntime) -> Result<(), Fail> {
-    let alloc = rt.alloc();
-    let mut named = dictionary(alloc);
-    for (key, member) in ["p", "q", "r", "s"].into_iter().zip(members(alloc)?) {
-        named.insert(KeyRef::from_str(key)?.to_owned(alloc)?, member)?;
+/// Writes an item of an inner list, if the version has it.
+fn put<X: Sink>(inner: &mut InnerListSerializer<X>, word: &str) {
+    if let Ok(params) = inner.bare_item(value(word)) {
+        params.finish();
     }
-    let text = named.serialize(alloc)?.ok_or("no member")?;
-    assert!(rt; is_text(&text, "p=?0, q=(?1 2;a;b=?0);a;b=?0, r=(), s;a;b=?0"));
-    assert!(rt; dictionary(alloc).serialize(alloc)?.is_none());
-    Ok(())
+}
+
+/// Writes a member of a list, if the version has it: an item, one with a parameter after `;`, or an inner list of one item
+/// after `(`, or after `x` one that is abandoned.
+fn put_member<W: Sink>(list: &mut ListSerializer<W>, word: &str) {
+    if let Some(item) = word.strip_prefix('(') {
+        if let Ok(mut inner) = list.inner_list() {
+            put(&mut inner, item);
+            if let Ok(params) = inner.finish() {
+                params.finish();
+            }
+        }
+    } else if let Some(item) = word.strip_prefix('x') {
+        if let Ok(mut inner) = list.inner_list() {
+            put(&mut inner, item);
+            inner.abandon();
+        }
+    } else if let Some((item, param)) = word.split_once(';') {
+        if let Ok(params) = list.bare_item(value(item)) {
+            let _ = params.parameter(key_ref("a"), value(param));
+        }
+    } else if let Ok(params) = list.bare_item(value(word)) {
+        params.finish();
+    }
+}
+
+/// Whether the members of these words are written after a text so, and any stands just where it is said so.
+fn is_list(alloc: Global, front: &str, words: &str, wanted: &str) -> bool {
+    let Ok(mut text) = String::from_str(alloc, front) else {
+        return false;
+    };
+    let mut list = ListSerializer::with_buffer_for(&mut text, Version::Rfc8941);
+    for word in words.split(' ') {
+        put_member(&mut list, word);
+    }
+    let stands = list.has_member();
+    let is_answered = list.finish().is_some();
+    (stands == is_answered) & (stands != (front == wanted)) & is_text(&text, wanted)
 }
 
 #[test]
-fn items_are_written_by_single_calls(rt: HostRuntime) -> Result<(), Fail> {
-    let yes: RefBareItem = GenericBareItem::Boolean(true);
-    let no_bytes: RefBareItem = GenericBareItem::ByteSequence(b"");
-    let mut text = String::new(rt.alloc());
-    let params = ItemSerializer::with_buffer(&mut text).bare_item(yes)?;
-    params.parameter(key_ref("x"), no_bytes)?.finish();
-    assert!(rt; is_text(&text, "?1;x=::"));
-    Ok(())
+fn lists_are_written_by_single_calls(rt: HostRuntime) {
+    let rows = [
+        ("X: ", "1 ?", "X: 1, ?1"),
+        ("", "1;2 3;?", "1;a=2, 3;a"),
+        ("", "(1 2", "(1), 2"),
+        // An abandoned inner list leaves no member, no separator, and the text as it was.
+        ("", "x2 3", "3"),
+        ("", "1 x2 3", "1, 3"),
+        ("Z", "x1", "Z"),
+        // RFC 8941 has no date: what is refused leaves the list, the inner list and the item.
+        ("X", "1 @ 3", "X1, 3"),
+        ("", "(@ 2", "(), 2"),
+        ("", "1;@ 2", "1, 2"),
+        ("Z", "@", "Z"),
+    ];
+    for (front, words, wanted) in rows {
+        assert!(rt; is_list(rt.alloc(), front, words, wanted), "{words}");
+    }
+}
+
+/// Writes a member of a dictionary after its key and `=`, if the version has it, as `put_member` does.
+fn put_named<W: Sink>(dict: &mut DictSerializer<W>, name: KeyRef<'_>, word: &str) {
+    if let Some(item) = word.strip_prefix('(') {
+        if let Ok(mut inner) = dict.inner_list(name) {
+            put(&mut inner, item);
+            if let Ok(params) = inner.finish() {
+                params.finish();
+            }
+        }
+    } else if let Some(item) = word.strip_prefix('x') {
+        if let Ok(mut inner) = dict.inner_list(name) {
+            put(&mut inner, item);
+            inner.abandon();
+        }
+    } else if let Some((item, param)) = word.split_once(';') {
+        if let Ok(params) = dict.bare_item(name, value(item)) {
+            let _ = params.parameter(key_ref("a"), value(param));
+        }
+    } else if let Ok(params) = dict.bare_item(name, value(word)) {
+        params.finish();
+    }
+}
+
+/// Whether the members of these words, under keys from `a` on, are written after a text so, and any stands just where it
+/// is said so.
+fn is_dictionary(alloc: Global, front: &str, words: &str, wanted: &str) -> bool {
+    let Ok(mut text) = String::from_str(alloc, front) else {
+        return false;
+    };
+    let mut dict = DictSerializer::with_buffer_for(&mut text, Version::Rfc8941);
+    for word in words.split(' ') {
+        if let Some((name, word)) = word.split_once('=') {
+            if let Ok(name) = KeyRef::from_str(name) {
+                put_named(&mut dict, name, word);
+            }
+        }
+    }
+    let stands = dict.has_member();
+    let is_answered = dict.finish().is_some();
+    (stands == is_answered) & (stands != (front == wanted)) & is_text(&text, wanted)
 }
 
 #[test]
-fn what_stood_there_stays(rt: HostRuntime) -> Result<(), Fail> {
-    let yes: RefBareItem = GenericBareItem::Boolean(true);
-    let two: RefBareItem = GenericBareItem::Integer(integer(2));
-    let quoted: RefBareItem = GenericBareItem::String(string_ref("\"\\"));
-    let mut text = String::from_str(rt.alloc(), "P=")?;
-    let params = ItemSerializer::with_buffer(&mut text).bare_item(quoted)?;
-    let params = params.parameter(key_ref("a"), yes)?;
-    let params = params.parameter(key_ref("a"), two)?;
-    params.finish();
-    assert!(rt; is_text(&text, "P=\"\\\"\\\\\";a;a=2"));
-    Ok(())
+fn dictionaries_are_written_by_single_calls(rt: HostRuntime) {
+    let rows = [
+        ("X: ", "a=1 b=?", "X: a=1, b"),
+        ("", "a=1;2 b=(3", "a=1;a=2, b=(3)"),
+        // A repeated key is written each time.
+        ("", "a=1 b=2 a=3", "a=1, b=2, a=3"),
+        ("Z", "a=x1", "Z"),
+        ("X", "a=@ a=1;@ c=2", "Xa=1, c=2"),
+    ];
+    for (front, words, wanted) in rows {
+        assert!(rt; is_dictionary(rt.alloc(), front, words, wanted), "{words}");
+    }
 }
 
 #[test]
-fn serializers_may_be_let_go(rt: HostRuntime) -> Result<(), Fail> {
-    let word: RefBareItem = GenericBareItem::Token(token_ref("w"));
+fn serializers_may_be_let_go(rt: HostRuntime) {
     let mut text = String::new(rt.alloc());
     let _ = ItemSerializer::with_buffer(&mut text);
-    assert!(rt; is_text(&text, ""));
-    let _ = ItemSerializer::with_buffer(&mut text).bare_item(word)?;
-    assert!(rt; is_text(&text, "w"));
-    Ok(())
+    let is_empty = is_text(&text, "");
+    let _ = ItemSerializer::with_buffer(&mut text).bare_item(value("1"));
+    assert!(rt; is_empty & is_text(&text, "1"));
 }
 
-/// Writes an item of an inner list.
-fn put<X: Sink>(
-    inner: &mut InnerListSerializer<X>,
-    value: RefBareItem<'_>,
-) -> Result<(), SerializeError> {
-    inner.bare_item(value)?.finish();
-    Ok(())
-}
-
-/// Writes an item of an inner list with a parameter.
-fn put_with<X: Sink>(
-    inner: &mut InnerListSerializer<X>,
-    value: RefBareItem<'_>,
-    key: KeyRef<'_>,
-    param: RefBareItem<'_>,
-) -> Result<(), SerializeError> {
-    inner.bare_item(value)?.parameter(key, param)?.finish();
-    Ok(())
-}
-
-#[test]
-fn members_go_after_what_stands(rt: HostRuntime) -> Result<(), Fail> {
-    let one: RefBareItem = GenericBareItem::Integer(integer(1));
-    let yes: RefBareItem = GenericBareItem::Boolean(true);
-    let mut text = String::from_str(rt.alloc(), "X: ")?;
-    let mut list = ListSerializer::with_buffer(&mut text);
-    list.bare_item(one)?.finish();
-    list.bare_item(yes)?.finish();
-    assert!(rt; has_text(list.finish(), "X: 1, ?1"));
-    assert!(rt; is_text(&text, "X: 1, ?1"));
-    Ok(())
-}
-
-#[test]
-fn an_abandoned_inner_list_leaves_no_member(rt: HostRuntime) -> Result<(), Fail> {
-    let two: RefBareItem = GenericBareItem::Integer(integer(2));
-    let five: RefBareItem = GenericBareItem::Integer(integer(5));
-    let mut text = String::new(rt.alloc());
-    let mut list = ListSerializer::with_buffer(&mut text);
-    let mut inner = list.inner_list()?;
-    let written = put(&mut inner, two).is_ok();
-    inner.abandon();
-    list.bare_item(five)?.finish();
-    assert!(rt; written && has_text(list.finish(), "5"));
-    Ok(())
-}
-
-#[test]
-fn an_abandoned_inner_list_leaves_no_separator(rt: HostRuntime) -> Result<(), Fail> {
-    let one: RefBareItem = GenericBareItem::Integer(integer(1));
-    let three: RefBareItem = GenericBareItem::Integer(integer(3));
-    let mut text = String::new(rt.alloc());
-    let mut list = ListSerializer::with_buffer(&mut text);
-    list.bare_item(one)?.finish();
-    list.inner_list()?.abandon();
-    list.bare_item(three)?.finish();
-    assert!(rt; has_text(list.finish(), "1, 3"));
-    Ok(())
-}
-
-#[test]
-fn an_abandoned_inner_list_leaves_the_text(rt: HostRuntime) -> Result<(), Fail> {
-    let mut text = String::from_str(rt.alloc(), "Z")?;
-    let mut list = ListSerializer::with_buffer(&mut text);
-    list.inner_list()?.abandon();
-    assert!(rt; list.finish().is_none());
-    let mut dict = DictSerializer::with_buffer(&mut text);
-    dict.inner_list(key_ref("a"))?.abandon();
-    assert!(rt; dict.finish().is_none());
-    assert!(rt; is_text(&text, "Z"));
-    Ok(())
-}
-
-#[test]
-fn repeated_keys_are_written_each_time(rt: HostRuntime) -> Result<(), Fail> {
-    let alloc = rt.alloc();
-    let one: RefBareItem = GenericBareItem::Integer(integer(1));
-    let two: RefBareItem = GenericBareItem::Integer(integer(2));
-    let three: RefBareItem = GenericBareItem::Integer(integer(3));
+/// What is written of the members of a list.
+fn list_again(alloc: Global, input: &str) -> Option<String> {
+    let list = Parser::new(input.as_bytes()).parse::<List>(alloc).ok()?;
     let mut text = String::new(alloc);
-    let mut dict = DictSerializer::with_buffer(&mut text);
-    dict.bare_item(key_ref("a"), one)?.finish();
-    dict.bare_item(key_ref("b"), two)?.finish();
-    dict.bare_item(key_ref("a"), three)?.finish();
-    assert!(rt; has_text(dict.finish(), "a=1, b=2, a=3"));
-    let again = Parser::new(text.as_bytes())
-        .parse::<Dictionary>(alloc)?
-        .serialize(alloc)?;
-    assert!(rt; again.as_ref().map(|text| text.as_str()) == Some("a=3, b=2"));
-    Ok(())
-}
-
-#[test]
-fn dictionaries_are_written_member_by_member(rt: HostRuntime) -> Result<(), Fail> {
-    let yes: RefBareItem = GenericBareItem::Boolean(true);
-    let no: RefBareItem = GenericBareItem::Boolean(false);
-    let eleven: RefBareItem = GenericBareItem::Integer(integer(11));
-    let abc: RefBareItem = GenericBareItem::Token(token_ref("abc"));
-    let def: RefBareItem = GenericBareItem::Token(token_ref("def"));
-    let val: RefBareItem = GenericBareItem::String(string_ref("val"));
-    let part: RefBareItem = GenericBareItem::Decimal(Decimal::from_integer_scaled_1000(integer(
-        12346,
-    )));
-    let mut text = String::new(rt.alloc());
-    let mut dict = DictSerializer::with_buffer(&mut text);
-    let params = dict.bare_item(key_ref("member1"), eleven)?;
-    params.parameter(key_ref("foo"), yes)?.finish();
-    let mut inner = dict.inner_list(key_ref("member2"))?;
-    let first = put_with(&mut inner, abc, key_ref("abc_param"), no);
-    let second = put(&mut inner, def);
-    inner.finish()?.parameter(key_ref("bar"), val)?.finish();
-    assert!(rt; first.is_ok() && second.is_ok());
-    dict.bare_item(key_ref("member3"), part)?.finish();
-    let want = "member1=11;foo, member2=(abc;abc_param=?0 def);bar=\"val\", member3=12.346";
-    assert!(rt; has_text(dict.finish(), want));
-    Ok(())
-}
-
-#[test]
-fn members_of_a_list_are_written(rt: HostRuntime) -> Result<(), Fail> {
-    let one: RefBareItem = GenericBareItem::Integer(integer(1));
-    let list = Parser::new(b"2;a, (3 4;b);c, ()").parse::<List>(rt.alloc())?;
-    let mut text = String::new(rt.alloc());
     let mut serializer = ListSerializer::with_buffer(&mut text);
-    serializer.bare_item(one)?.finish();
-    serializer.members(list[..].iter())?;
-    assert!(rt; has_text(serializer.finish(), "1, 2;a, (3 4;b);c, ()"));
-    Ok(())
+    serializer.members(list[..].iter()).ok()?;
+    let stands = serializer.finish().is_some();
+    if stands { Some(text) } else { None }
 }
 
 #[test]
-fn no_members_are_written_of_an_empty_list(rt: HostRuntime) -> Result<(), Fail> {
-    let empty: List = Vec::new(rt.alloc());
-    let mut text = String::new(rt.alloc());
-    let mut serializer = ListSerializer::with_buffer(&mut text);
-    serializer.members(empty[..].iter())?;
-    assert!(rt; serializer.finish().is_none());
-    Ok(())
+fn members_of_a_list_are_written(rt: HostRuntime) {
+    let text = "2;a, (3 4;b);c, ()";
+    assert!(rt; has_text(list_again(rt.alloc(), text), text));
+    assert!(rt; list_again(rt.alloc(), "").is_none());
 }
 
-#[test]
-fn members_of_a_dictionary_are_written(rt: HostRuntime) -> Result<(), Fail> {
-    let dictionary = Parser::new(b"a, b=2;x, c=(1)").parse::<Dictionary>(rt.alloc())?;
-    let mut text = String::new(rt.alloc());
+/// What is written of the members of a dictionary.
+fn dictionary_again(alloc: Global, input: &str) -> Option<String> {
+    let parser = Parser::new(input.as_bytes());
+    let dictionary = parser.parse::<Dictionary>(alloc).ok()?;
+    let mut text = String::new(alloc);
     let mut serializer = DictSerializer::with_buffer(&mut text);
-    serializer.members(dictionary.iter())?;
-    serializer.members(dictionary.iter())?;
-    assert!(rt; has_text(serializer.finish(), "a, b=2;x, c=(1), a, b=2;x, c=(1)"));
-    Ok(())
+    serializer.members(dictionary.iter()).ok()?;
+    serializer.members(dictionary.iter()).ok()?;
+    Some(text)
 }
 
-/// Writes an inner list of the one number, the items of a list and its parameters.
+#[test]
+fn members_of_a_dictionary_are_written(rt: HostRuntime) {
+    let text = dictionary_again(rt.alloc(), "a, b=2;x, c=(1)");
+    assert!(rt; has_text(text, "a, b=2;x, c=(1), a, b=2;x, c=(1)"));
+}
+
+/// Writes an inner list of 1, the items of a list and its parameters.
 fn put_all<W: Sink>(
     serializer: &mut ListSerializer<W>,
-    first: RefBareItem<'_>,
     list: &InnerList,
 ) -> Result<(), SerializeError> {
     let mut inner = serializer.inner_list()?;
-    if put(&mut inner, first).is_err() || inner.items(list.items[..].iter()).is_err() {
+    put(&mut inner, "1");
+    if inner.items(list.items[..].iter()).is_err() {
         inner.abandon();
         return Err(SerializeError::OutOfMemory);
     }
@@ -252,51 +222,48 @@ fn put_all<W: Sink>(
     Ok(())
 }
 
-#[test]
-fn items_of_an_inner_list_are_written(rt: HostRuntime) -> Result<(), Fail> {
-    let one: RefBareItem = GenericBareItem::Integer(integer(1));
-    let params = yes_and_no(rt.alloc())?;
-    let items = vec![in rt.alloc(); Item::new(rt.alloc(), BareItem::from(3u8))]?;
-    let list = InnerList::with_params(items, params);
-    let mut text = String::new(rt.alloc());
+/// What is written of the items of an inner list after another, and of its parameters.
+fn inner_list_again(alloc: Global) -> Option<String> {
+    let list = inner_list(alloc)?;
+    let mut text = String::new(alloc);
     let mut serializer = ListSerializer::with_buffer(&mut text);
-    put_all(&mut serializer, one, &list)?;
-    assert!(rt; has_text(serializer.finish(), "(1 3);a;b=?0"));
-    Ok(())
+    put_all(&mut serializer, &list).ok()?;
+    Some(text)
 }
 
 #[test]
-fn serializers_of_members_may_be_let_go(rt: HostRuntime) -> Result<(), Fail> {
-    let one: RefBareItem = GenericBareItem::Integer(integer(1));
-    let mut text = String::new(rt.alloc());
+fn items_of_an_inner_list_are_written(rt: HostRuntime) {
+    assert!(rt; has_text(inner_list_again(rt.alloc()), "(1 ?1 2;a;b=?0);a;b=?0"));
+}
+
+/// Whether a list goes on after an inner list that is ended, or as if that had not begun.
+fn goes_on(alloc: Global) -> bool {
+    let Ok(mut text) = String::with_capacity(alloc, "1, (2".len()) else {
+        return false;
+    };
     let mut list = ListSerializer::with_buffer(&mut text);
-    let _ = list.bare_item(one)?;
-    assert!(rt; is_text(&text, "1"));
-    Ok(())
+    put_member(&mut list, "1");
+    let is_ended = match list.inner_list() {
+        Ok(mut inner) => {
+            put(&mut inner, "2");
+            match inner.finish() {
+                Ok(params) => {
+                    params.finish();
+                    true
+                }
+                Err(_) => false,
+            }
+        }
+        Err(_) => return false,
+    };
+    put_member(&mut list, "3");
+    let wanted = if is_ended { "1, (2), 3" } else { "1, 3" };
+    list.finish() == Some(wanted)
 }
 
 // Where the second allocation fails (`rt try --test --fail-alloc 2`), it is that of the closing parenthesis: the list is
 // then as it was before the inner list began, and goes on.
 #[test]
-fn an_inner_list_is_ended_or_taken_away(rt: HostRuntime) -> Result<(), Fail> {
-    let one: RefBareItem = GenericBareItem::Integer(integer(1));
-    let two: RefBareItem = GenericBareItem::Integer(integer(2));
-    let three: RefBareItem = GenericBareItem::Integer(integer(3));
-    let mut text = String::with_capacity(rt.alloc(), "1, (2".len())?;
-    let mut list = ListSerializer::with_buffer(&mut text);
-    list.bare_item(one)?.finish();
-    let mut inner = list.inner_list()?;
-    let written = put(&mut inner, two);
-    let is_ended = match inner.finish() {
-        Ok(params) => {
-            params.finish();
-            true
-        }
-        Err(_) => false,
-    };
-    list.bare_item(three)?.finish();
-    assert!(rt; written.is_ok());
-    let want = if is_ended { "1, (2), 3" } else { "1, 3" };
-    assert!(rt; has_text(list.finish(), want));
-    Ok(())
+fn an_inner_list_is_ended_or_taken_away(rt: HostRuntime) {
+    assert!(rt; goes_on(rt.alloc()));
 }
