@@ -8,8 +8,11 @@ pub fn is_text(text: &str, wanted: &str) -> bool {
 }
 
 /// Whether there is a text, and it is the one that is wanted.
-pub fn has_text(text: Option<&str>, wanted: &str) -> bool {
-    text == Some(wanted)
+pub fn has_text(text: Option<String>, wanted: &str) -> bool {
+    match text {
+        Some(text) => text.as_str() == wanted,
+        None => false,
+    }
 }
 
 /// Whether there is an error, and it is the one that is wanted.

@@ -1,9 +1,9 @@
 //! The Content-Digest field, a field crate on the library.
 
-use crate::common::is_text;
-use sfv::ErrorKind;
+use crate::common::has_text;
+use sfv::{Error, ErrorKind};
 use sfv_fields::content_digest::{ContentDigest, DigestError, read, reread, write};
-use std::test::Fail;
+use std::alloc::Global;
 
 // Both digests of a content (RFC 9530, section 2), after an earlier one and another algorithm.
 const FIELD: &[u8] = b"sha-256=:AAAA:, md5=1, \
@@ -19,58 +19,80 @@ const NONE: ContentDigest = ContentDigest {
     sha_512: None,
 };
 
-#[test]
-fn digests_are_read(rt: HostRuntime) -> Result<(), Fail> {
-    let digest = read(rt.alloc(), FIELD)?;
-    let Some(sha_256) = &digest.sha_256 else {
-        return Err(Fail::from("no digest"));
+/// Whether the bytes are the digest of SHA-256 in the field.
+fn is_sha_256(bytes: &[u8]) -> bool {
+    bytes.len() == 32 && bytes.first() == Some(&0x77) && bytes.last() == Some(&0xf9)
+}
+
+/// Whether the field has both digests.
+fn has_both(alloc: Global) -> bool {
+    let Ok(digest) = read(alloc, FIELD) else {
+        return false;
     };
-    assert!(rt; sha_256.len() == 32);
-    assert!(rt; sha_256.first() == Some(&0x77));
-    assert!(rt; sha_256.last() == Some(&0xf9));
-    assert!(rt; digest.sha_512.is_some());
-    let digest = read(rt.alloc(), b"md5=1")?;
-    assert!(rt; digest.sha_256.is_none() && digest.sha_512.is_none());
-    Ok(())
+    match &digest.sha_256 {
+        Some(sha_256) => is_sha_256(sha_256) & digest.sha_512.is_some(),
+        None => false,
+    }
+}
+
+/// Whether the field has no digest.
+fn has_none(alloc: Global, field: &[u8]) -> bool {
+    match read(alloc, field) {
+        Ok(digest) => digest.sha_256.is_none() & digest.sha_512.is_none(),
+        Err(_) => false,
+    }
+}
+
+#[test]
+fn digests_are_read(rt: HostRuntime) {
+    assert!(rt; has_both(rt.alloc()));
+    assert!(rt; has_none(rt.alloc(), b"md5=1"));
+}
+
+/// Whether the field has a member of another kind.
+fn is_of_wrong_type(alloc: Global, field: &str) -> bool {
+    matches!(read(alloc, field.as_bytes()), Err(DigestError::WrongType))
+}
+
+/// Whether the field is none, with this error.
+fn has_fault(alloc: Global, field: &str, fault: Error) -> bool {
+    matches!(read(alloc, field.as_bytes()), Err(DigestError::Field(error)) if error == fault)
 }
 
 #[test]
 fn faults_have_their_error(rt: HostRuntime) {
-    let fields: [&[u8]; 3] = [
-        b"sha-256=1",
-        b"sha-512=(:AA==:)",
-        b"sha-256=:AA==:, sha-256",
-    ];
-    for field in fields {
-        let answer = read(rt.alloc(), field);
-        assert!(rt; matches!(answer, Err(DigestError::WrongType)));
+    for field in ["sha-256=1", "sha-512=(:AA==:)", "sha-256=:AA==:, sha-256"] {
+        assert!(rt; is_of_wrong_type(rt.alloc(), field), "{field}");
     }
-    let Err(DigestError::Field(error)) = read(rt.alloc(), b"sha-256=:A?:") else {
-        assert!(rt; false);
-        return;
-    };
-    assert!(rt; error.kind() == ErrorKind::InvalidByteSequence);
-    assert!(rt; error.index() == Some(10));
+    let fault = Error::at(ErrorKind::InvalidByteSequence, 10);
+    assert!(rt; has_fault(rt.alloc(), "sha-256=:A?:", fault));
+}
+
+/// The text of the digests of the field.
+fn written(alloc: Global) -> Option<String> {
+    let digest = read(alloc, FIELD).ok()?;
+    write(alloc, &digest).ok()?
 }
 
 #[test]
-fn digests_are_written(rt: HostRuntime) -> Result<(), Fail> {
-    let digest = read(rt.alloc(), FIELD)?;
-    let Some(text) = write(rt.alloc(), &digest)? else {
-        return Err(Fail::from("nothing written"));
+fn digests_are_written(rt: HostRuntime) {
+    assert!(rt; has_text(written(rt.alloc()), TEXT));
+    assert!(rt; matches!(write(rt.alloc(), &NONE), Ok(None)));
+}
+
+/// Whether both digests come back.
+fn come_back(alloc: Global) -> bool {
+    let Ok(digest) = read(alloc, FIELD) else {
+        return false;
     };
-    assert!(rt; is_text(&text, TEXT));
-    assert!(rt; write(rt.alloc(), &NONE)?.is_none());
-    Ok(())
+    match reread(alloc, &digest) {
+        Ok(Some(again)) => { (again.sha_256 == digest.sha_256) & (again.sha_512 == digest.sha_512) }
+        _ => false,
+    }
 }
 
 #[test]
-fn digests_come_back(rt: HostRuntime) -> Result<(), Fail> {
-    let digest = read(rt.alloc(), FIELD)?;
-    let Some(again) = reread(rt.alloc(), &digest)? else {
-        return Err(Fail::from("nothing written"));
-    };
-    assert!(rt; again.sha_256 == digest.sha_256 && again.sha_512 == digest.sha_512);
-    assert!(rt; reread(rt.alloc(), &NONE)?.is_none());
-    Ok(())
+fn digests_come_back(rt: HostRuntime) {
+    assert!(rt; come_back(rt.alloc()));
+    assert!(rt; matches!(reread(rt.alloc(), &NONE), Ok(None)));
 }

@@ -3,192 +3,148 @@
 ghost use Rattle.std.specs.Prelude.{⊤};
 
 use sfv::visitor::{
-    BareItemType, Event, ExpectItem, ExpectedItem, Ignored, ItemFault, MakeItemVisitor,
-    NoMemoryError, Visitor, item_visitor_with, parameter_visitor_with,
+    BareItemType, Event, ExpectItem, Ignored, ItemFault, MakeItemVisitor, NoMemoryError, Visitor,
+    item_visitor_with, parameter_visitor_with,
 };
 use sfv::{
-    BareItem, BareItemFromInput, Date, Decimal, ErrorKind, FieldType, HashSeed, Integer,
-    ParseError, Parser, StringFromInput, TokenRef, integer, key_ref, string_ref, token_ref,
+    BareItemFromInput, Date, Decimal, HashSeed, Integer, ParseError, Parser, TokenRef, integer,
+    key_ref, token_ref,
 };
-use sfv_uses::expecting::{dictionary, expect, item, list, token};
+use sfv_uses::expecting::{dictionary, expect, item, list, string, token};
 use std::alloc::Global;
 use std::convert::Infallible;
-use std::test::Fail;
 
 #[test]
-fn ignored_fields_have_an_answer_or_their_fault(rt: HostRuntime) {
+fn ignored_fields_have_an_answer(rt: HostRuntime) {
     let alloc = rt.alloc();
-    let answer = Parser::new(b"abc;x").parse_item_with_visitor(alloc, Ignored);
-    assert!(rt; answer.is_ok());
-    let answer = Parser::new(b"a, (b;x c);y").parse_list_with_visitor(alloc, Ignored);
-    assert!(rt; answer.is_ok());
-    let answer = Parser::new(b"a, b=(c;x)").parse_dictionary_with_visitor(
-        alloc,
-        Ignored::default(),
-    );
-    assert!(rt; answer.is_ok());
-    let answer = Parser::new(b"abc;0").parse_item_with_visitor(alloc, Ignored);
-    let kind = match answer {
-        Err(ParseError::Syntax(error)) => Some(error.kind()),
-        _ => None,
-    };
-    assert!(rt; kind == Some(ErrorKind::ExpectedStartOfKey));
-}
-
-// The bare item comes before what stands after it.
-#[test]
-fn an_item_of_another_kind_fails_before_a_fault_after_it(rt: HostRuntime) {
-    let (expected, got) = (BareItemType::Integer, BareItemType::Token);
-    let wrong = ItemFault::WrongType { expected, got };
-    let answer = Parser::new(b"abc;0").parse_item::<Integer>(rt.alloc());
-    assert!(rt; matches!(answer, Err(ParseError::Visitor(fault)) if fault == wrong));
+    let item = Parser::new(b"abc;x").parse_item_with_visitor(alloc, Ignored);
+    let list = Parser::new(b"a, (b;x c);y").parse_list_with_visitor(alloc, Ignored);
+    let more = Parser::new(b"a, b=(c;x)");
+    let dictionary = more.parse_dictionary_with_visitor(alloc, Ignored::default());
+    assert!(rt; item.is_ok() & list.is_ok() & dictionary.is_ok());
 }
 
 #[test]
 fn items_are_expected_to_be_of_a_kind(rt: HostRuntime) {
     let alloc = rt.alloc();
     let (decimal, date) = (Decimal::from(5u8), Date::from_unix_seconds(integer(5)));
+    let numbers = (expect::<Integer>(alloc, b"5;a").ok() == Some(integer(5)))
+        & (expect::<Decimal>(alloc, b"5.0").ok() == Some(decimal))
+        & (expect::<Date>(alloc, b"@5").ok() == Some(date))
+        & (expect::<bool>(alloc, b"?1").ok() == Some(true));
     let name = Parser::new(b"abc;x").parse_item::<TokenRef<'_>>(alloc);
-    let rows = [
-        expect::<Integer>(alloc, b"5;a").ok() == Some(integer(5)),
-        expect::<Decimal>(alloc, b"5.0").ok() == Some(decimal),
-        expect::<Date>(alloc, b"@5").ok() == Some(date),
-        expect::<bool>(alloc, b"?1").ok() == Some(true),
-        token(alloc, b"abc;x").ok() == Some(token_ref("abc")),
-        name.ok() == Some(token_ref("abc")),
-    ];
-    for (row, holds) in rows.into_iter().enumerate() {
-        assert!(rt; holds, "row {row}");
+    let tokens = (token(alloc, b"abc;x").ok() == Some(token_ref("abc")))
+        & (name.ok() == Some(token_ref("abc")));
+    assert!(rt; numbers & tokens);
+}
+
+/// Whether the input is an item that is this string.
+fn is_string(alloc: Global, input: &[u8], wanted: &str) -> bool {
+    match string(alloc, input) {
+        Ok(text) => text.as_string_ref().as_str() == wanted,
+        Err(_) => false,
     }
 }
 
-#[test]
-fn items_are_expected_to_be_texts(rt: HostRuntime) {
-    let alloc = rt.alloc();
-    let text = expect::<StringFromInput<'_>>(alloc, b"\"a\"").ok();
-    assert!(rt; text == Some(StringFromInput::Borrowed(string_ref("a"))));
-    let bytes = expect::<Vec<u8>>(alloc, b":AQI=:").ok();
-    assert!(rt; bytes.is_some_and(|bytes| bytes.as_slice() == [1u8, 2].as_slice()));
+/// Whether the input is an item that is these bytes.
+fn is_bytes(alloc: Global, input: &[u8], wanted: &[u8]) -> bool {
+    match expect::<Vec<u8>>(alloc, input) {
+        Ok(bytes) => bytes.as_slice() == wanted,
+        Err(_) => false,
+    }
+}
+
+/// Whether the input is an item that is a display string.
+fn is_display_string(alloc: Global, input: &[u8]) -> bool {
+    matches!(
+        expect::<BareItemFromInput<'_>>(alloc, input),
+        Ok(BareItemFromInput::DisplayString(_))
+    )
 }
 
 #[test]
-fn items_are_expected_to_be_of_any_kind(rt: HostRuntime) {
+fn items_are_expected_to_be_texts_or_of_any_kind(rt: HostRuntime) {
     let alloc = rt.alloc();
-    let owned = expect::<BareItem>(alloc, b"?1").ok();
-    assert!(rt; owned == Some(BareItem::from(true)));
-    let owned = expect::<BareItem>(alloc, b"\"a\"").ok();
-    assert!(rt; owned.is_some_and(|item| item.as_string() == Some(string_ref("a"))));
-    let read = expect::<BareItemFromInput<'_>>(alloc, b"?0").ok();
-    assert!(rt; read == Some(BareItemFromInput::from(false)));
-    let read = expect::<BareItemFromInput<'_>>(alloc, b"%\"a\"").ok();
-    assert!(rt; matches!(read, Some(BareItemFromInput::DisplayString(_))));
+    assert!(rt; is_string(alloc, b"\"a\"", "a"));
+    assert!(rt; is_bytes(alloc, b":AQI=:", &[1, 2]));
+    assert!(rt; is_display_string(alloc, b"%\"a\""));
 }
 
-/// What is kept of a list.
-fn first_of<'de, T: ExpectedItem<'de>>(
-    alloc: Global,
-    input: &'de [u8],
-) -> Result<T, ParseError<ItemFault>> {
-    let visitor: ExpectItem<T> = ExpectItem::new(alloc);
-    Parser::new(input).parse_list_with_visitor(alloc, visitor)
+/// The first integer of a list, or what stands in its place.
+fn first_of(alloc: Global, input: &[u8]) -> Result<Integer, ItemFault> {
+    let visitor: ExpectItem<Integer> = ExpectItem::new(alloc);
+    match Parser::new(input).parse_list_with_visitor(alloc, visitor) {
+        Ok(first) => Ok(first),
+        Err(ParseError::Visitor(fault)) => Err(fault),
+        Err(ParseError::Syntax(_)) => Err(ItemFault::OutOfMemory),
+    }
 }
 
 #[test]
 fn the_first_item_is_kept(rt: HostRuntime) {
-    let alloc = rt.alloc();
-    let first = first_of::<Integer>(alloc, b"(5;a=6;a=7 8);b=9, x");
-    assert!(rt; first.ok() == Some(integer(5)));
-    let first = first_of::<bool>(alloc, b"(), ?0;a, 5");
-    assert!(rt; first.ok() == Some(false));
-    let none = first_of::<bool>(alloc, b"();a");
-    assert!(rt; matches!(none, Err(ParseError::Visitor(ItemFault::NoItem))));
-}
-
-/// The kind that is said to be expected, and the one that is said to stand there.
-fn mistaken<'de, T: ExpectedItem<'de>>(
-    alloc: Global,
-    input: &'de [u8],
-) -> Option<(BareItemType, BareItemType)> {
-    match first_of::<T>(alloc, input) {
-        Err(ParseError::Visitor(ItemFault::WrongType { expected, got })) => Some((expected, got)),
-        _ => None,
-    }
-}
-
-#[test]
-fn an_item_of_another_kind_fails_with_the_kind_that_is_expected(rt: HostRuntime) {
-    let alloc = rt.alloc();
     let rows = [
-        (mistaken::<Decimal>(alloc, b"5"), BareItemType::Decimal),
-        (
-            mistaken::<StringFromInput<'_>>(alloc, b"5"),
-            BareItemType::String,
-        ),
-        (mistaken::<Vec<u8>>(alloc, b"5"), BareItemType::ByteSequence),
-        (mistaken::<bool>(alloc, b"5"), BareItemType::Boolean),
-        (mistaken::<TokenRef<'_>>(alloc, b"5"), BareItemType::Token),
-        (mistaken::<Date>(alloc, b"5"), BareItemType::Date),
+        ("(5;a=6;a=7 8);b=9, x", Ok(integer(5))),
+        ("(), 6;a, 5", Ok(integer(6))),
+        ("();a", Err(ItemFault::NoItem)),
     ];
-    for (row, (answer, expected)) in rows.into_iter().enumerate() {
-        assert!(rt;
-            answer == Some((expected, BareItemType::Integer)),
-            "row {row}"
-        );
+    for (input, first) in rows {
+        assert!(rt; first_of(rt.alloc(), input.as_bytes()) == first, "{input}");
     }
 }
 
+// It fails before what stands after it.
 #[test]
 fn an_item_of_another_kind_fails_with_its_kind(rt: HostRuntime) {
-    let rows: [(&[u8], BareItemType); 7] = [
-        (b"5.0", BareItemType::Decimal),
-        (b"\"a\"", BareItemType::String),
-        (b":AQI=:", BareItemType::ByteSequence),
-        (b"?1", BareItemType::Boolean),
-        (b"a", BareItemType::Token),
-        (b"@5", BareItemType::Date),
-        (b"%\"a\"", BareItemType::DisplayString),
+    let expected = BareItemType::Integer;
+    let rows = [
+        ("5.0", BareItemType::Decimal),
+        ("\"a\"", BareItemType::String),
+        (":AQI=:", BareItemType::ByteSequence),
+        ("?1", BareItemType::Boolean),
+        ("a", BareItemType::Token),
+        ("a;0", BareItemType::Token),
+        ("@5", BareItemType::Date),
+        ("%\"a\"", BareItemType::DisplayString),
     ];
-    for (row, (input, got)) in rows.into_iter().enumerate() {
-        let answer = mistaken::<Integer>(rt.alloc(), input);
-        assert!(rt; answer == Some((BareItemType::Integer, got)), "row {row}");
+    for (input, got) in rows {
+        let fault = Err(ItemFault::WrongType { expected, got });
+        assert!(rt; first_of(rt.alloc(), input.as_bytes()) == fault, "{input}");
     }
 }
 
 #[test]
-fn fields_are_made_visitors(rt: HostRuntime) -> Result<(), Fail> {
+fn fields_are_made_visitors(rt: HostRuntime) {
     let alloc = rt.alloc();
-    let Ok(read) = item(alloc, b"1;a=2") else {
-        return Err(Fail::from("no item"));
+    assert!(rt; item(alloc, b"1;a=2").is_ok());
+    assert!(rt; list(alloc, b"1,(2 3)").is_ok());
+    assert!(rt; dictionary(alloc, b"a=1,b,a=2").is_ok());
+}
+
+/// What a visitor answers that may be left out.
+fn answer_of(alloc: Global, input: &[u8], is_there: bool) -> Option<Option<Integer>> {
+    let visitor = if is_there {
+        Some(Integer::make_item_visitor(alloc, HashSeed::default()))
+    } else {
+        None
     };
-    assert!(rt; read.serialize(alloc)?.as_str() == "1;a=2");
-    let Ok(read) = list(alloc, b"1,(2 3)") else {
-        return Err(Fail::from("no list"));
-    };
-    assert!(rt; read.serialize(alloc)?.ok_or("empty")?.as_str() == "1, (2 3)");
-    let Ok(read) = dictionary(alloc, b"a=1,b,a=2") else {
-        return Err(Fail::from("no dictionary"));
-    };
-    assert!(rt; read.serialize(alloc)?.ok_or("empty")?.as_str() == "a=2, b");
-    Ok(())
+    Parser::new(input)
+        .parse_item_with_visitor(alloc, visitor)
+        .ok()
 }
 
 #[test]
 fn a_visitor_may_be_left_out(rt: HostRuntime) {
-    let alloc = rt.alloc();
-    let some = Some(Integer::make_item_visitor(alloc, HashSeed::default()));
-    let answer = Parser::new(b"5").parse_item_with_visitor(alloc, some);
-    assert!(rt; answer.ok() == Some(Some(integer(5))));
-    let some = Some(Integer::make_item_visitor(alloc, HashSeed::default()));
-    let answer = Parser::new(b"abc").parse_item_with_visitor(alloc, some);
-    assert!(rt;
-        matches!(
-            answer,
-            Err(ParseError::Visitor(ItemFault::WrongType { .. }))
-        )
-    );
-    let none: Option<ExpectItem<Integer>> = None;
-    let answer = Parser::new(b"abc").parse_item_with_visitor(alloc, none);
-    assert!(rt; answer.ok() == Some(None));
+    let rows = [
+        ("5", true, Some(Some(integer(5)))),
+        ("abc", true, None),
+        ("abc", false, Some(None)),
+    ];
+    for (input, is_there, answer) in rows {
+        assert!(rt;
+            answer_of(rt.alloc(), input.as_bytes(), is_there) == answer,
+            "{input}"
+        );
+    }
 }
 
 /// Answers seven, whatever it is called on.
@@ -201,25 +157,34 @@ fn integer_of(value: BareItemFromInput<'_>) -> Result<Integer, ItemFault> {
     value.as_integer().ok_or(ItemFault::NoItem)
 }
 
-#[test]
-fn functions_are_called_on_the_first_item(rt: HostRuntime) {
-    let alloc = rt.alloc();
+/// What a function answers that is called on the first item of a list.
+fn called_on_first(alloc: Global, input: &[u8]) -> Option<Option<Integer>> {
     let visitor = item_visitor_with(integer_of);
-    let answer = Parser::new(b"(1 2), 3, a").parse_list_with_visitor(alloc, visitor);
-    assert!(rt; answer.ok() == Some(Some(integer(1))));
-    let visitor = item_visitor_with(integer_of).with_memory_errors::<NoMemoryError>();
-    let answer = Parser::new(b"4").parse_item_with_visitor(alloc, visitor);
-    assert!(rt; answer.ok() == Some(Some(integer(4))));
-    let visitor = item_visitor_with(integer_of);
-    let answer = Parser::new(b"").parse_list_with_visitor(alloc, visitor);
-    assert!(rt; answer.ok() == Some(None));
-    let visitor = item_visitor_with(integer_of);
-    let answer = Parser::new(b"a, 3").parse_list_with_visitor(alloc, visitor);
-    assert!(rt; matches!(answer, Err(ParseError::Visitor(ItemFault::NoItem))));
+    Parser::new(input)
+        .parse_list_with_visitor(alloc, visitor)
+        .ok()
 }
 
 #[test]
-fn closures_are_called_on_the_first_item(rt: HostRuntime) -> Result<(), Fail> {
+fn functions_are_called_on_the_first_item(rt: HostRuntime) {
+    let rows = [
+        ("(1 2), 3, a", Some(Some(integer(1)))),
+        ("", Some(None)),
+        ("a, 3", None),
+    ];
+    for (input, answer) in rows {
+        assert!(rt;
+            called_on_first(rt.alloc(), input.as_bytes()) == answer,
+            "{input}"
+        );
+    }
+    let visitor = item_visitor_with(integer_of).with_memory_errors::<NoMemoryError>();
+    let answer = Parser::new(b"4").parse_item_with_visitor(rt.alloc(), visitor);
+    assert!(rt; answer.ok() == Some(Some(integer(4))));
+}
+
+#[test]
+fn closures_are_called_on_the_first_item(rt: HostRuntime) {
     let mut seen = false;
     let mut visitor = item_visitor_with(
         |item: BareItemFromInput<'_>|
@@ -229,12 +194,16 @@ fn closures_are_called_on_the_first_item(rt: HostRuntime) -> Result<(), Fail> {
             integer_of(item)
         },
     );
-    visitor.event(Event::Parameter(key_ref("a"), BareItemFromInput::from(4u8)))?;
-    visitor.event(Event::BareItem(BareItemFromInput::from(5u8)))?;
-    visitor.event(Event::BareItem(BareItemFromInput::from(6u8)))?;
-    assert!(rt; visitor.finish()? == Some(integer(5)));
-    assert!(rt; seen);
-    Ok(())
+    let parameter = Event::Parameter(key_ref("a"), BareItemFromInput::from(4u8));
+    let taken = visitor.event(parameter).is_ok()
+        & visitor
+            .event(Event::BareItem(BareItemFromInput::from(5u8)))
+            .is_ok()
+        & visitor
+            .event(Event::BareItem(BareItemFromInput::from(6u8)))
+            .is_ok();
+    let answer = visitor.finish().ok();
+    assert!(rt; taken & seen & (answer == Some(Some(integer(5)))));
 }
 
 /// Whether a number is below five, of those below ten.
@@ -264,15 +233,15 @@ fn functions_are_called_on_the_answer_of_a_visitor(rt: HostRuntime) {
     let answer = Parser::new(b"a;b").parse_item_with_visitor(alloc, visitor);
     assert!(rt; matches!(answer, Ok(7)));
     let (expected, got) = (BareItemType::Integer, BareItemType::Token);
-    let rows: [(&[u8], Result<bool, ItemFault>); 4] = [
-        (b"4;a=5", Ok(true)),
-        (b"5;a=4", Ok(false)),
-        (b"12", Err(ItemFault::NoItem)),
+    let rows = [
+        ("4;a=5", Ok(true)),
+        ("5;a=4", Ok(false)),
+        ("12", Err(ItemFault::NoItem)),
         // The visitor within fails first.
-        (b"abc", Err(ItemFault::WrongType { expected, got })),
+        ("abc", Err(ItemFault::WrongType { expected, got })),
     ];
-    for (row, (input, want)) in rows.into_iter().enumerate() {
-        assert!(rt; smallness(alloc, input) == want, "row {row}");
+    for (input, wanted) in rows {
+        assert!(rt; smallness(alloc, input.as_bytes()) == wanted, "{input}");
     }
 }
 
