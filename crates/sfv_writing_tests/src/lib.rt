@@ -6,8 +6,6 @@ mod common;
 #[cfg(test)]
 mod memory;
 #[cfg(test)]
-mod places;
-#[cfg(test)]
 mod scripts;
 #[cfg(test)]
 mod serializers;

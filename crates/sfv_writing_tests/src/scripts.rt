@@ -2,7 +2,8 @@
 
 use crate::common::{is_text, value};
 use sfv::script::{
-    ItemCalls, MemberCalls, ParamCall, run_dict, run_item, run_item_for, run_list, run_list_for,
+    ItemCalls, MemberCalls, ParamCall, run_dict, run_dict_for, run_item, run_item_for, run_list,
+    run_list_for,
 };
 use sfv::visitor::BareItemType;
 use sfv::{KeyRef, SerializeError, Version, key_ref};
@@ -98,14 +99,18 @@ fn named<'a>(
     vec![in alloc; (key_ref("a"), a), (key_ref("b"), b)].ok()
 }
 
-/// Whether the two members are written so, and any stands just where it is said so.
+/// Whether the two members are written so by both versions, and any stands just where it is said so.
 fn is_dictionary(alloc: Global, first: &str, second: &str, wanted: &str) -> bool {
     let Some(calls) = named(alloc, first, second) else {
         return false;
     };
-    let mut text = String::new(alloc);
-    let stands = run_dict(&mut text, &calls[..]);
-    (stands == Ok(!wanted.is_empty())) & is_text(&text, wanted)
+    let (mut text, mut older) = (String::new(alloc), String::new(alloc));
+    let stands = run_dict(&mut text, &calls[..]).ok();
+    let is_alike = run_dict_for(Version::Rfc8941, &mut older, &calls[..]).ok() == stands;
+    (stands == Some(!wanted.is_empty()))
+        & is_alike
+        & is_text(&text, wanted)
+        & is_text(&older, wanted)
 }
 
 #[test]
