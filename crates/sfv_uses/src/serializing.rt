@@ -72,7 +72,8 @@ fn put_with<X: Sink>(
     ensures grows { GrowsParts X.Sink inner.old inner.new }
 {
     let (key, param) = param;
-    inner.bare_item(value)?.parameter(key, param)?.finish();
+    let params = inner.bare_item(value)?;
+    params.parameter(key, param)?.finish();
     Ok(())
 }
 
