@@ -133,11 +133,12 @@ fn is_refused_item(alloc: Global, word: &str, words: &str, wanted: &str) -> bool
     let Some(calls) = item(alloc, word, words) else {
         return false;
     };
-    let mut text = String::new(alloc);
+    let (mut text, mut newer) = (String::new(alloc), String::new(alloc));
     let is_refused = run_item_for(Version::Rfc8941, &mut text, &calls) == Err(DATE);
     let is_left = text.is_empty();
-    let is_written = run_item(&mut text, &calls) == Ok(());
-    is_refused & is_left & is_written & is_text(&text, wanted)
+    let is_written = (run_item(&mut text, &calls) == Ok(()))
+        & (run_item_for(Version::Rfc9651, &mut newer, &calls) == Ok(()));
+    is_refused & is_left & is_written & is_text(&text, wanted) & is_text(&newer, wanted)
 }
 
 #[test]
