@@ -1,4 +1,4 @@
-/* Lines `TYPE VERSION HEX CALLS ANSWER`, as crates/sfv_tests/stdin has them: the type of field, the version, the input in
+/* Lines `TYPE VERSION HEX CALLS ANSWER`, as crates/sfv_replay/stdin has them: the type of field, the version, the input in
  * hexadecimal (`-` for no bytes), how often a visitor is called, and the answer. */
 #ifndef LINES_H
 #define LINES_H

@@ -56,7 +56,7 @@ fn faults_of_items_print_what_was_expected(rt: HostRuntime) {
     assert!(rt; holds);
 }
 
-// The messages of the other kinds stand in the answers that the lines of `sfv_tests` have.
+// The messages of the other kinds stand in the answers that the lines of `sfv_replay` have.
 #[test]
 fn kinds_that_no_field_has_print_their_message(rt: HostRuntime) {
     let rows = [

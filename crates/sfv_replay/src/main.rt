@@ -8,29 +8,9 @@
 //! call no further (`failures`).
 #![tactic(auto)]
 
-#[cfg(test)]
-mod cache_status;
-#[cfg(test)]
-mod common;
-#[cfg(test)]
-mod content_digest;
 mod failures;
-#[cfg(test)]
-mod fields;
-#[cfg(test)]
-mod given;
-#[cfg(test)]
-mod long;
 mod positions;
 mod replay;
-#[cfg(test)]
-mod requests;
-#[cfg(test)]
-mod runs;
-#[cfg(test)]
-mod uses;
-#[cfg(test)]
-mod visitors;
 
 use crate::failures::calls_of;
 use crate::positions::{is_reach, stands_at_reach};
