@@ -35,7 +35,7 @@ made() {
         done
     for file in Memory Parsers; do part "Rattle.sfv.specs.$file" "crates/sfv/specs/$file.antt"; done
     part Rattle.sfv_fields.specs.Priority crates/sfv_fields/specs/Priority.antt
-    for crate in sfv_tool sfv_c; do
+    for crate in sfv_answers sfv_c; do
         for file in "crates/$crate"/specs/*.antt; do
             name=$(basename "$file" .antt)
             [ "$name" = Lib ] || part "Rattle.$crate.specs.$name" "$file"

@@ -10,13 +10,19 @@ mod content_digest;
 #[cfg(test)]
 mod fields;
 #[cfg(test)]
+mod foo;
+#[cfg(test)]
 mod given;
 #[cfg(test)]
 mod long;
 #[cfg(test)]
+mod priority;
+#[cfg(test)]
 mod requests;
 #[cfg(test)]
 mod runs;
+#[cfg(test)]
+mod tool;
 #[cfg(test)]
 mod uses;
 #[cfg(test)]

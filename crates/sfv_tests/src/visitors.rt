@@ -153,7 +153,7 @@ fn texts_without_an_escape_are_borrowed(rt: HostRuntime) {
 }
 
 /// A visitor that tells events into a text of its own.
-fn teller(alloc: Global) -> Teller<Global> {
+fn new_teller(alloc: Global) -> Teller<Global> {
     Teller {
         text: String::new(alloc),
     }
@@ -162,9 +162,12 @@ fn teller(alloc: Global) -> Teller<Global> {
 #[test]
 fn events_stand_in_their_order(rt: HostRuntime) {
     let alloc = rt.alloc();
-    let item = Parser::new(b"1;a;b=2;a=3").parse_item_with_visitor(alloc, teller(alloc));
-    let list = Parser::new(b"1;a, ()").parse_list_with_visitor(alloc, teller(alloc));
-    let dictionary = Parser::new(b"a=(1 x;y), b").parse_dictionary_with_visitor(alloc, teller(alloc));
+    let item = Parser::new(b"1;a;b=2;a=3").parse_item_with_visitor(alloc, new_teller(alloc));
+    let list = Parser::new(b"1;a, ()").parse_list_with_visitor(alloc, new_teller(alloc));
+    let dictionary = Parser::new(b"a=(1 x;y), b").parse_dictionary_with_visitor(
+        alloc,
+        teller(alloc),
+    );
     let holds = has_text(item.ok(), "bare 1, a=true, b=2, a=3, end")
         & has_text(
             list.ok(),

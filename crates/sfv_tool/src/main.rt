@@ -2,18 +2,8 @@
 //! default.
 #![tactic(auto)]
 
-mod answer;
-mod foo;
-#[cfg(test)]
-mod foo_tests;
-#[cfg(test)]
-mod priority_tests;
-mod run;
-#[cfg(test)]
-mod tests;
-
-use crate::run::run;
 use sfv::HashSeed;
+use sfv_answers::run::run;
 use std::alloc::AllocGlobal;
 use std::env::Env;
 use std::io::Write;

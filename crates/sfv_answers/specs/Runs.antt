@@ -3,11 +3,11 @@ use Rattle.std.specs.Prelude.{◌≡◌, ℕ, List, [], ◌∷◌, ◌⊎◌, Op
 use Rattle.std.specs.Io.KnownBytes.{Keeps, Appends}
 use Rattle.sfv.specs.Types.{Version}
 use Rattle.sfv.specs.Types.versions as version
-use Rattle.sfv_tool.specs.declared.answer.Field.{Field}
-use Rattle.sfv_tool.specs.declared.answer.Field.TheVariants as field
-use Rattle.sfv_tool.specs.declared.run.Request.{Request}
-use Rattle.sfv_tool.specs.declared.run.Request.TheVariants as request
-use Rattle.sfv_tool.specs.Answers.{IsAnswerTo, IsPriorityAnswer}
+use Rattle.sfv_answers.specs.declared.answer.Field.{Field}
+use Rattle.sfv_answers.specs.declared.answer.Field.TheVariants as field
+use Rattle.sfv_answers.specs.declared.run.Request.{Request}
+use Rattle.sfv_answers.specs.declared.run.Request.TheVariants as request
+use Rattle.sfv_answers.specs.Answers.{IsAnswerTo, IsPriorityAnswer}
 
 -- the word of a type of field
 abbrev pub field_word : Field → List ℕ

@@ -1,4 +1,4 @@
-use Rattle.sfv_tool.proofs.run.answer_to.Goals as goal
+use Rattle.sfv_answers.proofs.run.answer_to.Goals as goal
 
 pub returns-in-Priority : goal.returns-in-Priority
 returns-in-Priority c = rw c.in-Priority.is c.answer_priority.ensures.accepted

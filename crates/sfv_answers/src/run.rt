@@ -1,9 +1,9 @@
-//! The run of the program.
+//! The run of the program `sfv_tool`.
 
 ghost use Rattle.std.specs.Prelude.{◌≡◌, ◌≤◌, ◌↔◌, IfSome, IfNone, IfOk, OnOk, IsTrue, map, string_bytes};
 ghost use Rattle.std.specs.Io.KnownBytes.{Appends};
-ghost use Rattle.sfv_tool.specs.Runs.{Names, NamesNothing, Requests, IsAnswered, IsFailed, field_word, version_word};
-ghost use Rattle.sfv_tool.specs.Runs.{IsAnswerFor, NamesPriority, NamesNoField, NamesNoPriority, priority_word};
+ghost use Rattle.sfv_answers.specs.Runs.{Names, NamesNothing, Requests, IsAnswered, IsFailed, field_word, version_word};
+ghost use Rattle.sfv_answers.specs.Runs.{IsAnswerFor, NamesPriority, NamesNoField, NamesNoPriority, priority_word};
 
 use crate::answer::{Field, ToolFault, answer, answer_priority};
 use sfv::{HashSeed, Version};
@@ -11,11 +11,14 @@ use std::alloc::Global;
 use std::io;
 use std::io::{Read, Write};
 
-const DONE: u8 = 0;
+/// The exit status where the answer is written.
+pub const DONE: u8 = 0;
 
-const FAILED: u8 = 1;
+/// The exit status where something is wrong.
+pub const FAILED: u8 = 1;
 
-const WRONG_ARGUMENTS: u8 = 2;
+/// The exit status for other arguments.
+pub const WRONG_ARGUMENTS: u8 = 2;
 
 /// What the program is asked for.
 #[derive(Clone, Copy)]
@@ -172,7 +175,7 @@ fn convert<R: Read, W: Write, E: Write>(
 }
 
 /// Looks at the arguments, reads all of the input, and writes the answer to `output`, or what is wrong
-/// to `errors`. Returns the exit status: 0, 1 where something is wrong, 2 for other arguments. If
+/// to `errors`. Returns the exit status: `DONE`, `FAILED` where something is wrong, `WRONG_ARGUMENTS` for other arguments. If
 /// `errors` can't be written the status stays. Maps are built under `seed`.
 pub fn run<R: Read, W: Write, E: Write>(
     alloc: Global,

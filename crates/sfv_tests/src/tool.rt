@@ -1,7 +1,7 @@
-//! Runs of the program over memory.
+//! Runs of the program `sfv_tool` over memory.
 
-use crate::run::run;
 use sfv::HashSeed;
+use sfv_answers::run::run;
 use std::alloc::Global;
 use std::io;
 use std::io::{Read, Write};

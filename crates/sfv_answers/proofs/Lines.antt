@@ -11,9 +11,9 @@ use Rattle.sfv.specs.Calls.{Fits}
 use Rattle.sfv.specs.Events.{bare_values}
 use Rattle.sfv.specs.Versions.{IsSerializeError}
 use Rattle.sfv.specs.Types.{SerializeError}
-use Rattle.sfv_tool.specs.declared.answer.ToolFault.{ToolFault}
-use Rattle.sfv_tool.specs.declared.answer.ToolFault.TheVariants as faults
-use Rattle.sfv_tool.specs.Answers.{text_or_empty, IsAnswer, IsToolFault}
+use Rattle.sfv_answers.specs.declared.answer.ToolFault.{ToolFault}
+use Rattle.sfv_answers.specs.declared.answer.ToolFault.TheVariants as faults
+use Rattle.sfv_answers.specs.Answers.{text_or_empty, IsAnswer, IsToolFault}
 
 -- nothing is written of a field without members
 empty_text : (kind : FieldKind) (value : RawField kind) → ¬ HasMember kind value → [] ≡ canonical kind value

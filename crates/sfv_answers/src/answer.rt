@@ -1,11 +1,11 @@
-//! What the program returns for an input.
+//! What the program `sfv_tool` returns for an input.
 
 ghost use Rattle.std.specs.Prelude.{◌≡◌, ◌++◌, Some, IfOk, IfErr, codes, string_bytes};
 ghost use Rattle.sfv.specs.BareItems.{edition_of};
-ghost use Rattle.sfv_tool.specs.Answers.{without_newline, text_or_empty, tool_fault_text};
-ghost use Rattle.sfv_tool.specs.Answers.{IsAnswer, IsToolFault, IsAnswerTo, IsFaultFor, IsPriorityAnswer, IsPriorityFault};
+ghost use Rattle.sfv_answers.specs.Answers.{without_newline, text_or_empty, tool_fault_text};
+ghost use Rattle.sfv_answers.specs.Answers.{IsAnswer, IsToolFault, IsAnswerTo, IsFaultFor, IsPriorityAnswer, IsPriorityFault};
 ghost use Rattle.sfv.specs.Types.serialize_errors as serialize_errors;
-ghost use Rattle.sfv_tool.specs.declared.answer.ToolFault.TheVariants as faults;
+ghost use Rattle.sfv_answers.specs.declared.answer.ToolFault.TheVariants as faults;
 
 use sfv::{
     Dictionary, Error, FieldType, HashSeed, Item, List, OutOfMemory, Parser, SerializeError,

@@ -15,10 +15,10 @@ use Rattle.sfv.specs.Parsers.{IsParseError}
 use Rattle.sfv.specs.Versions.{IsSerializeError, serialize_error_text}
 use Rattle.sfv.specs.Types.serialize_errors as serialize_errors
 use Rattle.sfv_fields.specs.Priority.{PriorityValue, priority_text, IsPriorityOf}
-use Rattle.sfv_tool.specs.declared.answer.ToolFault.{ToolFault}
-use Rattle.sfv_tool.specs.declared.answer.ToolFault.TheVariants as faults
-use Rattle.sfv_tool.specs.declared.answer.Field.{Field}
-use Rattle.sfv_tool.specs.declared.answer.Field.TheVariants as field
+use Rattle.sfv_answers.specs.declared.answer.ToolFault.{ToolFault}
+use Rattle.sfv_answers.specs.declared.answer.ToolFault.TheVariants as faults
+use Rattle.sfv_answers.specs.declared.answer.Field.{Field}
+use Rattle.sfv_answers.specs.declared.answer.Field.TheVariants as field
 
 -- the kind of field
 abbrev pub kind_of_field : Field → FieldKind
