@@ -166,7 +166,7 @@ fn events_stand_in_their_order(rt: HostRuntime) {
     let list = Parser::new(b"1;a, ()").parse_list_with_visitor(alloc, new_teller(alloc));
     let dictionary = Parser::new(b"a=(1 x;y), b").parse_dictionary_with_visitor(
         alloc,
-        teller(alloc),
+        new_teller(alloc),
     );
     let holds = has_text(item.ok(), "bare 1, a=true, b=2, a=3, end")
         & has_text(
