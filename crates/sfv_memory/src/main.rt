@@ -41,15 +41,9 @@ fn is_left(
     }
 }
 
-/// The number that two bytes are, if they are digits.
+/// The number that the bytes name, if they do.
 fn number_of(bytes: &[u8]) -> Option<usize> {
-    match bytes {
-        [low @ b'0'..=b'9'] => Some(usize::from(low - b'0')),
-        [high @ b'0'..=b'9', low @ b'0'..=b'9'] => {
-            Some(usize::from(high - b'0') * 10 + usize::from(low - b'0'))
-        }
-        _ => None,
-    }
+    str::from_utf8(bytes).ok()?.parse().ok()
 }
 
 fn main(rt: HostRuntime) -> io::Result<ExitCode> {

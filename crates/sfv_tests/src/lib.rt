@@ -1,4 +1,4 @@
-//! Tests of what is read, of visitors, and of what the callers in other crates answer. There is no code.
+//! Tests of what the callers of the library answer, and the given visitors with them. There is no code.
 #![tactic(auto)]
 
 #[cfg(test)]
@@ -14,16 +14,10 @@ mod foo;
 #[cfg(test)]
 mod given;
 #[cfg(test)]
-mod long;
-#[cfg(test)]
 mod priority;
 #[cfg(test)]
 mod requests;
 #[cfg(test)]
-mod runs;
-#[cfg(test)]
 mod tool;
 #[cfg(test)]
 mod uses;
-#[cfg(test)]
-mod visitors;

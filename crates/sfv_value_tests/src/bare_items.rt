@@ -114,23 +114,31 @@ fn bare_items_equal_their_copies_and_are_seen_as_their_kind_alone(rt: HostRuntim
     assert!(rt; RefBareItem::from(7u8) != RefBareItem::from(8u8));
 }
 
-/// Whether a token and a string of these texts are lent and moved as they are.
-fn are_lent_and_moved(alloc: Global) -> bool {
-    let (string, token) = (string_ref("s"), token_ref("t"));
-    let (Ok(owned_string), Ok(owned_token)) = (string.to_owned(alloc), token.to_owned(alloc)) else {
+/// Whether a string that owns its text is lent and moved as it is.
+fn is_string_lent_and_moved(alloc: Global) -> bool {
+    let string = string_ref("s");
+    let Ok(owned) = string.to_owned(alloc) else {
         return false;
     };
-    let lent = (RefBareItem::from(&owned_string) == GenericBareItem::String(string))
-        & (RefBareItem::from(&owned_token) == GenericBareItem::Token(token))
-        & (BareItemFromInput::from(&owned_token).as_token() == Some(token));
-    let moved = (BareItem::from(owned_string).as_string() == Some(string))
-        & (BareItem::from(owned_token).as_token() == Some(token));
-    lent & moved
+    let is_lent = RefBareItem::from(&owned).as_string() == Some(string);
+    is_lent & (BareItem::from(owned).as_string() == Some(string))
+}
+
+/// Whether a token that owns its text is lent and moved as it is.
+fn is_token_lent_and_moved(alloc: Global) -> bool {
+    let token = token_ref("t");
+    let Ok(owned) = token.to_owned(alloc) else {
+        return false;
+    };
+    let is_lent = (RefBareItem::from(&owned).as_token() == Some(token))
+        & (BareItemFromInput::from(&owned).as_token() == Some(token));
+    is_lent & (BareItem::from(owned).as_token() == Some(token))
 }
 
 #[test]
 fn owned_texts_become_bare_items(rt: HostRuntime) {
-    assert!(rt; are_lent_and_moved(rt.alloc()));
+    assert!(rt; is_string_lent_and_moved(rt.alloc()));
+    assert!(rt; is_token_lent_and_moved(rt.alloc()));
 }
 
 /// Whether what was read, its copy, and what becomes of the copy are this item, and show the same texts.
