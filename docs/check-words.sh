@@ -4,7 +4,8 @@
 #
 # These words are the public definitions, records and data types of `sfv_spec`'s specs, all of them, and of the other
 # crates' specs those that a public contract uses. A public contract is what stands after `requires` or `ensures` at a
-# `pub fn`, or at a method of a public trait or of an impl of a trait, and each `ghost` line of these, outside tests.
+# `pub fn`, or at a method of a public trait or of an impl of a trait, and each `ghost` line of these, outside the crates
+# of tests.
 # Left out are the laws of `sfv_reading`, which nobody has to believe, the modules `runs` and `utils` of `sfv_base`,
 # which `sfv` doesn't export, and the callers of `sfv_uses`, `sfv_fields`, `sfv_request` and `sfv_mobile_hint`.
 cd "$(dirname "$0")/.." || exit 2
@@ -18,12 +19,9 @@ words_of() {
 }
 
 # The names in public contracts that their file imports by `ghost use`, or that stand in an imported module.
-find crates/*/src -name '*.rt' ! -name tests.rt ! -path '*/sfv_reading/*' ! -path '*/sfv_uses/*' ! -path '*/sfv_fields/*' ! -path '*/sfv_request/*' ! -path '*/sfv_mobile_hint/*' \
+find crates/*/src -name '*.rt' ! -path '*tests/src/*' ! -path '*/sfv_reading/*' ! -path '*/sfv_uses/*' ! -path '*/sfv_fields/*' ! -path '*/sfv_request/*' ! -path '*/sfv_mobile_hint/*' \
     ! -path '*/sfv_base/src/runs.rt' ! -path '*/sfv_base/src/utils.rt' -exec awk '
-    FNR == 1 { split("", imported); in_test = in_trait = is_public = in_clause = in_ghost = 0 }
-    # Tests: `mod tests;`, or `mod tests {` and all up to a `}` at the margin.
-    /^#\[cfg\(test\)\]$/ { in_test = 1; next }
-    in_test { if (/^mod .*;$/ || /^}$/) in_test = 0; next }
+    FNR == 1 { split("", imported); in_trait = is_public = in_clause = in_ghost = 0 }
     /^ *\/\// { next }
     /^ *ghost use / {
         count = split($0, part, /[^A-Za-z0-9_]+/)

@@ -174,9 +174,9 @@ fn convert<R: Read, W: Write, E: Write>(
     }
 }
 
-/// Looks at the arguments, reads all of the input, and writes the answer to `output`, or what is wrong
-/// to `errors`. Returns the exit status: `DONE`, `FAILED` where something is wrong, `WRONG_ARGUMENTS` for other arguments. If
-/// `errors` can't be written the status stays. Maps are built under `seed`.
+/// Looks at the arguments, reads all of the input, and writes the answer to `output`, or what is wrong to `errors`.
+/// Returns the exit status: `DONE`, `FAILED` where something is wrong, `WRONG_ARGUMENTS` for other arguments. If `errors`
+/// can't be written the status stays. Maps are built under `seed`.
 pub fn run<R: Read, W: Write, E: Write>(
     alloc: Global,
     seed: HashSeed,
