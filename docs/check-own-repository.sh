@@ -1,12 +1,13 @@
 #!/bin/sh
-# Makes a repository of one's own in a temporary folder: the nine crates of the library, copied without their wrong
+# Makes a repository of one's own in a temporary folder: the ten crates of the library, copied without their wrong
 # bodies, with their lines of `crates.txt`, and the smallest field crate; then checks that crate there. What `rt check`
 # kept here (`out/`) is copied too, so that it takes a minute or two; without it, as long as all proofs of the library.
 cd "$(dirname "$0")/.." || exit 2
 room=$(mktemp -d) || exit 2
 trap 'rm -rf "$room"' EXIT
 
-for crate in sfv_spec sfv_reading sfv_base sfv_text sfv_bare sfv_tree sfv_visitor sfv_serializer sfv sfv_mobile_hint; do
+for crate in sfv_spec sfv_reading sfv_base sfv_text sfv_bare sfv_tree sfv_visitor sfv_writer sfv_serializer sfv \
+    sfv_mobile_hint; do
     mkdir -p "$room/crates/$crate" || exit 2
     for part in src specs proofs out; do
         [ ! -d "crates/$crate/$part" ] || cp -a "crates/$crate/$part" "$room/crates/$crate/" || exit 2

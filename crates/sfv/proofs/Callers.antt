@@ -40,10 +40,10 @@ pub use Rattle.sfv_spec.proofs.Last.{IsLast, last_of-split, split-last_of, none-
 pub use Rattle.sfv_spec.proofs.Last.{last_of-ordered}
 pub use Rattle.sfv_spec.proofs.Collapse.{last_of-collapse, last_of-absent}
 -- the pairs that an iterator over a map lends
-pub use Rattle.sfv_serializer.proofs.Lent.{lent_all}
+pub use Rattle.sfv_writer.proofs.Lent.{lent_all}
 -- what is written of a field is read as its ordered value, repeated keys too, and what is written of a value as itself,
 -- by each edition that has all that it holds: RFC 9651 has all
-pub use Rattle.sfv_serializer.proofs.ReadBack.{read_back, value_read_back}
+pub use Rattle.sfv_writer.proofs.ReadBack.{read_back, value_read_back}
 pub use Rattle.sfv_spec.proofs.Fields.{all_fit_newer}
 pub use Rattle.sfv.proofs.LastRead.{read_back_either}
 -- an inner list that is taken away again, and what a text holds after what was written to it

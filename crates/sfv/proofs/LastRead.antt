@@ -17,7 +17,7 @@ use Rattle.sfv_spec.proofs.Kept.{last_kept, fold_members, idle_within}
 use Rattle.sfv_spec.proofs.Last.{last_of-ordered}
 use Rattle.sfv_spec.proofs.Runs.{IsInside, member_inside}
 use Rattle.sfv_spec.proofs.Fields.{all_fit_newer}
-use Rattle.sfv_serializer.proofs.ReadBack.{value_read_back}
+use Rattle.sfv_writer.proofs.ReadBack.{value_read_back}
 
 -- what holds in any case holds on success
 pub on_ok : {A E : Type 0} (r : Result A E) (P : Type 0) → P → OnOk r P

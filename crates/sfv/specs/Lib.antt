@@ -41,9 +41,9 @@ pub use Rattle.sfv_tree.specs.HashSeeds
 pub use Rattle.sfv_visitor.specs.ItemFaults
 pub use Rattle.sfv_tree.specs.Trees
 pub use Rattle.sfv_visitor.specs.Given
+pub use Rattle.sfv_writer.specs.Versions
+pub use Rattle.sfv_writer.specs.Written
 pub use Rattle.sfv_serializer.specs.Scripts
 pub use Rattle.sfv_serializer.specs.Serializers
 pub use Rattle.sfv_serializer.specs.Texts as LentTexts
-pub use Rattle.sfv_serializer.specs.Versions
-pub use Rattle.sfv_serializer.specs.Written
 pub use Rattle.indexmap.specs.IndexMap as Maps

@@ -28,9 +28,9 @@ pub use Rattle.sfv_visitor.specs.declared.visitor.dictionary_builder.DictionaryB
 pub use Rattle.sfv_visitor.specs.declared.expect_item.ExpectItem.{ExpectItem}
 pub use Rattle.sfv_visitor.specs.declared.item_visitor.ItemVisitorWith.{ItemVisitorWith}
 pub use Rattle.sfv_visitor.specs.declared.parameter_visitor.ParameterVisitorWith.{ParameterVisitorWith}
+pub use Rattle.sfv_writer.specs.declared.serialize_error.SerializeError.{SerializeError}
+pub use Rattle.sfv_writer.specs.declared.serialize_error.SerializeError.TheVariants as serialize_errors
 pub use Rattle.sfv_serializer.specs.declared.script.ParamCall.{ParamCall}
 pub use Rattle.sfv_serializer.specs.declared.script.ItemCalls.{ItemCalls}
 pub use Rattle.sfv_serializer.specs.declared.script.MemberCalls.{MemberCalls}
 pub use Rattle.sfv_serializer.specs.declared.script.MemberCalls.TheVariants as script_members
-pub use Rattle.sfv_serializer.specs.declared.serialize_error.SerializeError.{SerializeError}
-pub use Rattle.sfv_serializer.specs.declared.serialize_error.SerializeError.TheVariants as serialize_errors

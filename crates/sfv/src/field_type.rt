@@ -9,19 +9,19 @@ ghost use Rattle.sfv_spec.specs.Events.{bare_values};
 ghost use Rattle.sfv_spec.specs.Statements.{IsParsedAs, IsSerializedAs};
 ghost use Rattle.sfv_bare.specs.BareItems.{edition_of};
 ghost use Rattle.sfv_tree.specs.Trees.{item_tree, list_tree, dictionary_tree};
-ghost use Rattle.sfv_serializer.specs.Versions.{LooksFirst};
+ghost use Rattle.sfv_writer.specs.Versions.{LooksFirst};
 ghost use Rattle.sfv.specs.Parsers.{input_of, parser_edition, IsParseError};
 ghost use Rattle.sfv.specs.Memory.{NeedsMoreThanSpaces};
 
 use crate::parser::{Parser, look_for_dictionary, look_for_item, look_for_list};
 use sfv_bare::bare::Version;
 use sfv_base::error::{Error, OutOfMemory, ParseError};
-use sfv_serializer::{
+use sfv_tree::parsed::{Dictionary, Item, List};
+use sfv_visitor::visitor::{DictionaryBuilder, ItemBuilder, ListBuilder};
+use sfv_writer::{
     SerializeError, dictionary_text, list_text, look_at_dictionary, look_at_item, look_at_list,
     serialize_item,
 };
-use sfv_tree::parsed::{Dictionary, Item, List};
-use sfv_visitor::visitor::{DictionaryBuilder, ItemBuilder, ListBuilder};
 use std::alloc::Global;
 use std::string::String as StdString;
 

@@ -23,8 +23,7 @@ pub use sfv_base::integer::Integer;
 pub use sfv_base::shorthand::integer;
 pub use sfv_serializer::{
     DictMembers, DictSerializer, InnerListItems, InnerListSerializer, ItemSerializer, Kind,
-    ListMembers, ListSerializer, Members, ParameterSerializer, Parts, SerializeError, Sink,
-    Unnamed,
+    ListMembers, ListSerializer, Members, ParameterSerializer, Parts, Sink, Unnamed,
 };
 pub use sfv_text::key::Key;
 pub use sfv_text::key_ref::KeyRef;
@@ -39,3 +38,4 @@ pub use sfv_tree::parsed::{
     insert_param,
 };
 pub use sfv_tree::shorthand::{dictionary, parameters};
+pub use sfv_writer::SerializeError;

@@ -2,7 +2,7 @@
 
 use linked_list_allocator::LocalHeap;
 use sfv::{Item, OutOfMemory, Parser};
-use sfv_serializer::serialize_item;
+use sfv_writer::serialize_item;
 use std::alloc::Global;
 
 /// Sizes of a heap, from none to enough for each text below, so that each request fails at some size.

@@ -13,6 +13,8 @@ use Rattle.sfv_spec.specs.Values.{RawItem, RawParameters, IsItem, inner_list}
 use Rattle.sfv_spec.specs.Canonical.{item_text, parameters_text, dictionary_member_text}
 use Rattle.sfv_bare.specs.BareItems.{ref_value}
 use Rattle.sfv_bare.specs.declared.bare.Version.{Version}
+use Rattle.sfv_writer.specs.Written.{Extends, lead, in_a_row, still_first}
+use Rattle.sfv_writer.proofs.Rows.{IsLed, mapped_more, still_first-false, in_a_row_first}
 use Rattle.sfv_serializer.specs.declared.script.ItemCalls.{ItemCalls}
 use Rattle.sfv_serializer.specs.declared.script.ParamCall.{ParamCall}
 use Rattle.sfv_serializer.specs.declared.script.MemberCalls.{MemberCalls}
@@ -21,10 +23,8 @@ use Rattle.sfv_serializer.specs.Scripts.{WritesInner, WritesList, WritesDictiona
 use Rattle.sfv_serializer.specs.declared.kind.InnerListItems.{InnerListItems}
 use Rattle.sfv_serializer.specs.declared.parts.Parts.{Parts}
 use Rattle.sfv_serializer.specs.declared.sink.Sink.{Ghosts as Sink}
-use Rattle.sfv_serializer.specs.Written.{Extends, lead, in_a_row, still_first}
 use Rattle.sfv_serializer.specs.Serializers.{HasMoreParts, KeepsParts, GrowsParts, AreCutBack, lent_parts, parts_sink}
 use Rattle.sfv_serializer.specs.Serializers.{has_no_part, length_before}
-use Rattle.sfv_serializer.proofs.Rows.{IsLed, mapped_more, still_first-false}
 
 still_first-append : {A : Type 0} (b : Bool) (xs ys : List A)
     → still_first b (xs ++ ys) ≡ still_first (still_first b xs) ys
@@ -46,16 +46,6 @@ in_a_row_append s b (x ∷ xs) ys =
     let next : in_a_row false s (xs ++ ys) ≡ rest ++ behind = in_a_row_append s false xs ys
     ∙ ap (λ (c : Bool). rest ++ in_a_row c s ys) (still_first-false xs) in
     ap (λ (t : List ℕ). front ++ t) next ∙ sym (append_assoc front rest behind)
-
--- the first part has no separator
-pub in_a_row_first : (s : List ℕ) (xs : List (List ℕ)) → in_a_row true s xs ≡ joined s xs
-in_a_row_first s [] = refl
-in_a_row_first s (x ∷ []) = append-nil x
-in_a_row_first s (x ∷ y ∷ xs) =
-    let behind : List ℕ = in_a_row false s xs in
-    ap (λ (t : List ℕ). x ++ t) (append_assoc s y behind)
-    ∙ sym (append_assoc x s (y ++ behind))
-    ∙ ap (λ (t : List ℕ). (x ++ s) ++ t) (in_a_row_first s (y ∷ xs))
 
 all_append : {A : Type 0} (P : A → Type 0) (xs ys : List A) → AllByRecursion P xs → AllByRecursion P ys
     → AllByRecursion P (xs ++ ys)

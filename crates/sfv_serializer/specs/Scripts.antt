@@ -7,9 +7,9 @@ use Rattle.sfv_spec.specs.Calls.{Calls, described, handed, written, abandoned}
 use Rattle.sfv_spec.specs.Calls as spec
 use Rattle.sfv_text.specs.KeyText.{KeyRef, key_text}
 use Rattle.sfv_bare.specs.BareItems.{ref_value}
+use Rattle.sfv_writer.specs.Written.{in_a_row, still_first}
 use Rattle.sfv_serializer.specs.declared.parts.Parts.{Parts}
 use Rattle.sfv_serializer.specs.declared.sink.Sink.{Ghosts as Sink}
-use Rattle.sfv_serializer.specs.Written.{in_a_row, still_first}
 use Rattle.sfv_serializer.specs.Serializers.{KeepsParts, HasMoreParts, HasNextPart}
 use Rattle.sfv_serializer.specs.declared.script.ParamCall.{ParamCall}
 use Rattle.sfv_serializer.specs.declared.script.ItemCalls.{ItemCalls}

@@ -3,6 +3,7 @@ use Rattle.std.specs.Prelude.{◌≡◌, ◌++◌, ℕ, Bool, List, Result, IfOk
 use Rattle.std.specs.Borrow.{MutBor, RattleType, Fml, GName, RestsIfErr}
 use Rattle.sfv_spec.specs.Values.{Edition}
 use Rattle.sfv_bare.specs.BareItems.{edition_of}
+use Rattle.sfv_writer.specs.Written.{Extends, IsCutBack, lead}
 use Rattle.sfv_serializer.specs.declared.item_serializer.ItemSerializer.{ItemSerializer}
 use Rattle.sfv_serializer.specs.declared.parameter_serializer.ParameterSerializer.{ParameterSerializer}
 use Rattle.sfv_serializer.specs.declared.sink.Sink.{Ghosts as Sink}
@@ -10,7 +11,6 @@ use Rattle.sfv_serializer.specs.declared.kind.InnerListItems.{InnerListItems}
 use Rattle.sfv_serializer.specs.declared.parts.Parts.{Parts}
 use Rattle.sfv_serializer.specs.contracts.parts.Parts as parts
 use Rattle.sfv_serializer.specs.Texts.{Text, text_row}
-use Rattle.sfv_serializer.specs.Written.{Extends, IsCutBack, lead}
 
 -- the text that is lent to the serializer of an item
 abbrev pub item_buffer : ItemSerializer → MutBor Text

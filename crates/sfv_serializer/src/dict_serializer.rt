@@ -9,27 +9,27 @@ ghost use Rattle.sfv_spec.specs.Values.{IsBareValue};
 ghost use Rattle.sfv_spec.specs.Calls.{AllFit};
 ghost use Rattle.sfv_bare.specs.BareItems.{ref_value};
 ghost use Rattle.sfv_text.specs.KeyText.{key_text};
-ghost use Rattle.sfv_serializer.specs.Written.{keyed_text, still_first, members_text, AreMembers};
+ghost use Rattle.sfv_writer.specs.Written.{keyed_text, still_first, members_text, AreMembers};
+ghost use Rattle.sfv_writer.specs.Versions.{LooksFirst, FailsAmong, values_of_members};
 ghost use Rattle.sfv_serializer.specs.Serializers.{PartsRest, HasMoreParts, HasNextPart, KeepsParts, parts_sink};
 ghost use Rattle.sfv_serializer.specs.Serializers.{parts_edition, has_no_part, params_sink, params_name, params_edition};
 ghost use Rattle.sfv_serializer.specs.Serializers.{inner_list_name, length_before};
-ghost use Rattle.sfv_serializer.specs.Versions.{LooksFirst, FailsAmong, values_of_members};
 ghost use Rattle.sfv_serializer.specs.contracts.kind.DictMembers.{the_row as dict_members};
 
 use crate::inner_list_serializer::InnerListSerializer;
 use crate::kind::DictMembers;
-use crate::known::{is_a_key, is_a_value};
-use crate::look::look_at_bare_item;
 use crate::parameter_serializer::ParameterSerializer;
 use crate::part::{Named, NamedOpening};
 use crate::parts::Parts;
-use crate::serialize_error::SerializeError;
 use crate::sink::Sink;
 use sfv_bare::bare::RefBareItem;
 use sfv_base::error::OutOfMemory;
 use sfv_text::key::Key;
 use sfv_text::key_ref::KeyRef;
 use sfv_tree::parsed::ListEntry;
+use sfv_writer::known::{is_a_key, is_a_value};
+use sfv_writer::look::look_at_bare_item;
+use sfv_writer::serialize_error::SerializeError;
 
 /// Writes a dictionary at the end of a lent text (RFC 9651, section 4.1.2), member by member.
 ///

@@ -4,19 +4,19 @@ ghost use Rattle.std.specs.Prelude.{◌≡◌, false, IfOk, IfErr, OnOk, OnErr, 
 ghost use Rattle.std.specs.Borrow.{sem};
 ghost use Rattle.std.specs.Iterator.{IsFinite, Drains};
 ghost use Rattle.sfv_spec.specs.Calls.{AllFit};
-ghost use Rattle.sfv_serializer.specs.Written.{still_first, items_text, AreItems};
+ghost use Rattle.sfv_writer.specs.Written.{still_first, items_text, AreItems};
+ghost use Rattle.sfv_writer.specs.Versions.{FailsAmong, values_of_items};
 ghost use Rattle.sfv_serializer.specs.Serializers.{PartsRest, HasMoreParts, KeepsParts, AreCutBack, parts_sink, parts_edition};
 ghost use Rattle.sfv_serializer.specs.Serializers.{has_no_part, params_sink, params_name, params_edition, length_before};
-ghost use Rattle.sfv_serializer.specs.Versions.{FailsAmong, values_of_items};
 
 use crate::kind::InnerListItems;
 use crate::parameter_serializer::ParameterSerializer;
-use crate::part::cut_back;
 use crate::parts::Parts;
-use crate::serialize_error::SerializeError;
 use crate::sink::Sink;
 use sfv_base::error::OutOfMemory;
 use sfv_tree::parsed::Item;
+use sfv_writer::output::cut_back;
+use sfv_writer::serialize_error::SerializeError;
 
 /// Writes an inner list (RFC 9651, section 4.1.1.1), item by item, into `X`: the serializer of which it is a member.
 ///

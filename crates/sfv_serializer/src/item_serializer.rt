@@ -5,15 +5,15 @@ ghost use Rattle.std.specs.Borrow.{sem};
 ghost use Rattle.sfv_spec.specs.Values.{rfc9651, IsBareValue};
 ghost use Rattle.sfv_spec.specs.Canonical.{bare_text};
 ghost use Rattle.sfv_bare.specs.BareItems.{ref_value, edition_of};
-ghost use Rattle.sfv_serializer.specs.Versions.{LooksFirst};
+ghost use Rattle.sfv_writer.specs.Versions.{LooksFirst};
 ghost use Rattle.sfv_serializer.specs.Serializers.{TextRests, HoldsMore, item_buffer, params_sink, item_edition, params_edition};
 
-use crate::known::is_a_value;
-use crate::look::look_at_bare_item;
 use crate::parameter_serializer::ParameterSerializer;
 use crate::part::{Bare, append};
-use crate::serialize_error::SerializeError;
 use sfv_bare::bare::{RefBareItem, Version};
+use sfv_writer::known::is_a_value;
+use sfv_writer::look::look_at_bare_item;
+use sfv_writer::serialize_error::SerializeError;
 use std::string::String as StdString;
 
 /// Writes an item at the end of a lent text (RFC 9651, section 4.1.3): first its bare item, and

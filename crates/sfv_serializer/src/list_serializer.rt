@@ -4,20 +4,20 @@ ghost use Rattle.std.specs.Prelude.{◌≡◌, true, IfOk, IfErr, OnOk, OnErr, L
 ghost use Rattle.std.specs.Borrow.{sem};
 ghost use Rattle.std.specs.Iterator.{IsFinite, Drains};
 ghost use Rattle.sfv_spec.specs.Calls.{AllFit};
-ghost use Rattle.sfv_serializer.specs.Written.{still_first, entries_text, AreEntries};
+ghost use Rattle.sfv_writer.specs.Written.{still_first, entries_text, AreEntries};
+ghost use Rattle.sfv_writer.specs.Versions.{FailsAmong, values_of_entries};
 ghost use Rattle.sfv_serializer.specs.Serializers.{PartsRest, HasMoreParts, HasNextPart, KeepsParts, parts_sink};
 ghost use Rattle.sfv_serializer.specs.Serializers.{parts_edition, has_no_part, inner_list_name, length_before};
-ghost use Rattle.sfv_serializer.specs.Versions.{FailsAmong, values_of_entries};
 ghost use Rattle.sfv_serializer.specs.contracts.kind.ListMembers.{the_row as list_members};
 
 use crate::inner_list_serializer::InnerListSerializer;
 use crate::kind::ListMembers;
 use crate::part::Opening;
 use crate::parts::Parts;
-use crate::serialize_error::SerializeError;
 use crate::sink::Sink;
 use sfv_base::error::OutOfMemory;
 use sfv_tree::parsed::ListEntry;
+use sfv_writer::serialize_error::SerializeError;
 
 /// Writes a list at the end of a lent text (RFC 9651, section 4.1.1), member by member.
 ///

@@ -5,15 +5,15 @@ ghost use Rattle.sfv_spec.specs.Values.{list_field, dictionary_field};
 ghost use Rattle.sfv_spec.specs.Events.{bare_values};
 ghost use Rattle.sfv_spec.specs.Calls.{handed_member};
 ghost use Rattle.sfv_bare.specs.BareItems.{edition_of};
+ghost use Rattle.sfv_writer.specs.Versions.{LooksAt, values_of_parameters, values_of_item, values_of_member};
 ghost use Rattle.sfv_serializer.specs.Scripts.{called_param, called_item, inner_list_calls, member_calls, handed_list};
 ghost use Rattle.sfv_serializer.specs.Scripts.{handed_dictionary};
-ghost use Rattle.sfv_serializer.specs.Versions.{LooksAt, values_of_parameters, values_of_item, values_of_member};
 
-use crate::look::look_at_bare_item;
 use crate::script::{ItemCalls, MemberCalls, ParamCall};
-use crate::serialize_error::SerializeError;
 use sfv_bare::bare::Version;
 use sfv_text::key_ref::KeyRef;
+use sfv_writer::look::look_at_bare_item;
+use sfv_writer::serialize_error::SerializeError;
 
 /// Looks at parameters.
 fn look_at_param_calls(version: Version, calls: &[ParamCall<'_>]) -> Result<(), SerializeError>

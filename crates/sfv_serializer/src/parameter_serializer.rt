@@ -9,21 +9,21 @@ ghost use Rattle.sfv_spec.specs.Canonical.{parameters_text};
 ghost use Rattle.sfv_spec.specs.Calls.{AllFit};
 ghost use Rattle.sfv_bare.specs.BareItems.{ref_value, edition_of};
 ghost use Rattle.sfv_text.specs.KeyText.{key_text};
-ghost use Rattle.sfv_serializer.specs.Written.{param_text, lent_pairs};
-ghost use Rattle.sfv_serializer.specs.Versions.{LooksFirst, FailsAmong, values_of_pairs};
+ghost use Rattle.sfv_writer.specs.Written.{param_text, lent_pairs};
+ghost use Rattle.sfv_writer.specs.Versions.{LooksFirst, FailsAmong, values_of_pairs};
 ghost use Rattle.sfv_serializer.specs.Serializers.{TextRests, HoldsMore, params_sink, params_name, params_edition};
 ghost use Rattle.sfv_serializer.specs.Serializers.{PartsRest, KeepsParts, HasMoreParts, has_no_part};
 
-use crate::item::append_parameters;
-use crate::known::{is_a_key, is_a_value};
-use crate::look::look_at_bare_item;
 use crate::part::{Named, Parameter, append};
 use crate::parts::Parts;
-use crate::serialize_error::SerializeError;
 use crate::sink::Sink;
 use sfv_bare::bare::{BareItem, RefBareItem, Version};
 use sfv_text::key::Key;
 use sfv_text::key_ref::KeyRef;
+use sfv_writer::item::append_parameters;
+use sfv_writer::known::{is_a_key, is_a_value};
+use sfv_writer::look::look_at_bare_item;
+use sfv_writer::serialize_error::SerializeError;
 use std::string::String as StdString;
 
 /// Writes parameters after what they belong to (RFC 9651, section 4.1.1.2), into `X`: the text to which an item is

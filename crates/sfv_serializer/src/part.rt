@@ -1,5 +1,5 @@
 //! Parts of a field, and how one is appended whole, or not at all.
-#![tactic(auto, using(crate::proofs::Written::cut_to))]
+#![tactic(auto, using(sfv_writer::proofs::Written::cut_to))]
 
 ghost use Rattle.std.specs.Prelude.{◌++◌, ⊤, ℕ, List, OnOk, IsTrue, codes, string_bytes};
 ghost use Rattle.sfv_spec.specs.Classes.{is_key, is_token};
@@ -8,13 +8,14 @@ ghost use Rattle.sfv_spec.specs.Canonical.{bare_text};
 ghost use Rattle.sfv_bare.specs.BareItems.{ref_value};
 ghost use Rattle.sfv_text.specs.KeyText.{key_text};
 ghost use Rattle.sfv_text.specs.TokenText.{token_text};
-ghost use Rattle.sfv_serializer.specs.Written.{Appends, AppendsOrKeeps, IsCutBack, keyed_text, param_text, lead};
+ghost use Rattle.sfv_writer.specs.Written.{Appends, AppendsOrKeeps, keyed_text, param_text, lead};
 
-use crate::item::{serialize_bare_item, serialize_key, serialize_token, serialize_value};
 use sfv_bare::bare::RefBareItem;
 use sfv_base::error::OutOfMemory;
 use sfv_text::key_ref::KeyRef;
 use sfv_text::token_ref::TokenRef;
+use sfv_writer::item::{serialize_bare_item, serialize_key, serialize_token, serialize_value};
+use sfv_writer::output::{cut_back, serialize_separator};
 use std::alloc::Allocator;
 use std::string::String as StdString;
 
@@ -32,16 +33,6 @@ pub(crate) trait Part: Drop {
         ensures valid { OnOk result (is_valid self) };
 }
 
-/// Takes away what stands after the first `len` bytes, which were the whole text once.
-pub(crate) fn cut_back<A: Allocator>(len: usize, output: &mut StdString<A>)
-    ensures { IsCutBack len (string_bytes output.old) (string_bytes output.new) }
-{
-    // What was a whole text ends between two characters; to ask is cheaper than to keep the proof.
-    if output.as_str().is_char_boundary(len) {
-        output.truncate(len);
-    }
-}
-
 /// Appends a part; out of memory, the output keeps its text.
 #[inline(always)]
 pub(crate) fn append<P: Part, A: Allocator>(
@@ -55,30 +46,6 @@ pub(crate) fn append<P: Part, A: Allocator>(
     if let Err(error) = part.serialize(output) {
         cut_back(len, output);
         return Err(error);
-    }
-    Ok(())
-}
-
-/// Appends the separator that stands in front of each part but the first.
-#[inline(always)]
-pub(crate) fn serialize_separator<A: Allocator>(
-    is_first: bool,
-    separator: &str,
-    output: &mut StdString<A>,
-) -> Result<(), OutOfMemory>
-    ensures { Appends output.old output.new (lead is_first separator.now) result }
-{
-    if is_first {
-        return Ok(());
-    }
-    // Two characters that are known when this is compiled take fewer instructions than the copy of a text.
-    match separator {
-        ", " => {
-            output.push(',')?;
-            output.push(' ')?;
-        }
-        " " => output.push(' ')?,
-        _ => output.push_str(separator)?,
     }
     Ok(())
 }

@@ -11,23 +11,23 @@ ghost use Rattle.sfv_spec.specs.Values.{rfc9651, IsBareValue};
 ghost use Rattle.sfv_spec.specs.Canonical.{bare_text};
 ghost use Rattle.sfv_spec.specs.Calls.{AllFit};
 ghost use Rattle.sfv_bare.specs.BareItems.{ref_value, edition_of};
-ghost use Rattle.sfv_serializer.specs.Written.{in_a_row, still_first};
-ghost use Rattle.sfv_serializer.specs.Versions.{LooksFirst, FailsAmong};
+ghost use Rattle.sfv_writer.specs.Written.{in_a_row, still_first};
+ghost use Rattle.sfv_writer.specs.Versions.{LooksFirst, FailsAmong};
 ghost use Rattle.sfv_serializer.specs.Serializers.{SameParts, KeepsParts, HasMoreParts, HasNextPart, PartsRest, parts_sink};
 ghost use Rattle.sfv_serializer.specs.Serializers.{parts_edition, has_no_part, params_sink, params_name, params_edition};
 ghost use Rattle.sfv_serializer.specs.Serializers.{inner_list_name, length_before};
 
-use crate::element::{Element, append_each};
 use crate::inner_list_serializer::InnerListSerializer;
 use crate::kind::{InnerListItems, Kind, Members, Unnamed};
-use crate::known::is_a_value;
-use crate::look::look_at_bare_item;
 use crate::parameter_serializer::ParameterSerializer;
 use crate::part::{Bare, Part, Separated, Word, append};
-use crate::serialize_error::SerializeError;
 use crate::sink::Sink;
 use sfv_bare::bare::{GenericBareItem, RefBareItem, Version};
 use sfv_base::error::OutOfMemory;
+use sfv_writer::element::{Element, append_each};
+use sfv_writer::known::is_a_value;
+use sfv_writer::look::look_at_bare_item;
+use sfv_writer::serialize_error::SerializeError;
 use std::string::String as StdString;
 
 /// Writes parts of the kind `K` one by one, at the end of what `W` is: `ListSerializer`, `DictSerializer` and

@@ -10,10 +10,10 @@ ghost use Rattle.sfv_spec.specs.Calls.{described};
 ghost use Rattle.sfv_spec.specs.Canonical.{canonical, item_text, dictionary_member_text};
 ghost use Rattle.sfv_bare.specs.BareItems.{edition_of};
 ghost use Rattle.sfv_text.specs.KeyText.{key_text};
-ghost use Rattle.sfv_serializer.specs.Written.{Appends, AppendsOrKeeps, IsReadBack, in_a_row, still_first};
+ghost use Rattle.sfv_writer.specs.Written.{Appends, AppendsOrKeeps, IsReadBack, in_a_row, still_first};
+ghost use Rattle.sfv_writer.specs.Versions.{LooksFirst};
 ghost use Rattle.sfv_serializer.specs.Serializers.{lent_parts, HasMoreParts, HasNextPart, GrowsParts, inner_list_name, has_no_part};
 ghost use Rattle.sfv_serializer.specs.Serializers.{parts_edition};
-ghost use Rattle.sfv_serializer.specs.Versions.{LooksFirst};
 ghost use Rattle.sfv_serializer.specs.Scripts.{called_param, called_item, member_calls, list_calls, dictionary_calls};
 ghost use Rattle.sfv_serializer.specs.Scripts.{described_list, described_dictionary, handed_list, handed_dictionary};
 ghost use Rattle.sfv_serializer.specs.Scripts.{WritesInner, WritesList, WritesDictionary};
@@ -24,13 +24,14 @@ use crate::item_serializer::ItemSerializer;
 use crate::kind::{Kind, Unnamed};
 use crate::list_serializer::ListSerializer;
 use crate::look_at_calls::{look_at_dictionary_calls, look_at_item_calls, look_at_list_calls};
-use crate::part::{NamedOpening, Opening, Part, cut_back};
+use crate::part::{NamedOpening, Opening, Part};
 use crate::parts::Parts;
-use crate::serialize_error::{SerializeError, only_memory};
 use crate::sink::Sink;
 use sfv_bare::bare::{RefBareItem, Version};
 use sfv_base::error::OutOfMemory;
 use sfv_text::key_ref::KeyRef;
+use sfv_writer::output::cut_back;
+use sfv_writer::serialize_error::{SerializeError, only_memory};
 use std::string::String as StdString;
 
 /// A call of `ParameterSerializer::parameter`.
@@ -255,7 +256,7 @@ fn write_list_members<W: Sink>(
 }
 
 /// Writes a list, and returns whether a member stands.
-#[tactic(auto, using(crate::proofs::Scripts::in_a_row_first))]
+#[tactic(auto, using(sfv_writer::proofs::Rows::in_a_row_first))]
 fn write_list(text: &mut StdString, calls: &[MemberCalls<'_>]) -> Result<bool, OutOfMemory>
     ensures text { Appends text.old text.new (canonical list_field (described_list calls.now)) result }
     ensures member { IfOk result (λ stands. IsTrue stands ↔ HasMember list_field (described_list calls.now)) }
@@ -286,7 +287,7 @@ fn write_dictionary_members<W: Sink>(
 }
 
 /// Writes a dictionary, and returns whether a member stands.
-#[tactic(auto, using(crate::proofs::Scripts::in_a_row_first))]
+#[tactic(auto, using(sfv_writer::proofs::Rows::in_a_row_first))]
 fn write_dictionary(
     text: &mut StdString,
     calls: &[(KeyRef<'_>, MemberCalls<'_>)],
@@ -307,7 +308,7 @@ fn write_dictionary(
 /// # Errors
 ///
 /// `OutOfMemory`; the text is then as it was.
-#[tactic(auto, using(crate::proofs::Written::cut_to))]
+#[tactic(auto, using(sfv_writer::proofs::Written::cut_to))]
 pub fn run_item(text: &mut StdString, calls: &ItemCalls<'_>) -> Result<(), OutOfMemory>
     ensures text { AppendsOrKeeps text.old text.new (canonical item_field (called_item calls.now)) result }
     ensures value { OnOk result (IsFieldValue item_field (called_item calls.now)) }
@@ -326,7 +327,7 @@ pub fn run_item(text: &mut StdString, calls: &ItemCalls<'_>) -> Result<(), OutOf
 /// # Errors
 ///
 /// `OutOfMemory`, and only where there is a call; the text is then as it was.
-#[tactic(auto, using(crate::proofs::Written::cut_to))]
+#[tactic(auto, using(sfv_writer::proofs::Written::cut_to))]
 pub fn run_list(text: &mut StdString, calls: &[MemberCalls<'_>]) -> Result<bool, OutOfMemory>
     ensures text { AppendsOrKeeps text.old text.new (canonical list_field (described_list calls.now)) result }
     ensures member { IfOk result (λ stands. IsTrue stands ↔ HasMember list_field (described_list calls.now)) }
@@ -347,7 +348,7 @@ pub fn run_list(text: &mut StdString, calls: &[MemberCalls<'_>]) -> Result<bool,
 /// # Errors
 ///
 /// `OutOfMemory`, and only where there is a call; the text is then as it was.
-#[tactic(auto, using(crate::proofs::Written::cut_to))]
+#[tactic(auto, using(sfv_writer::proofs::Written::cut_to))]
 pub fn run_dict(
     text: &mut StdString,
     calls: &[(KeyRef<'_>, MemberCalls<'_>)],

@@ -4,9 +4,10 @@ use Rattle.std.proofs.lemmas.List.{take_all}
 use Rattle.sfv_spec.specs.Calls.{AllFit, handed_member}
 use Rattle.sfv_text.specs.KeyText.{key_text}
 use Rattle.sfv_bare.specs.BareItems.{edition_of}
+use Rattle.sfv_writer.specs.Versions.{NamesFirst, values_of_member}
+use Rattle.sfv_writer.proofs.Looks.{at_exit, slice_more, slice_stops}
 use Rattle.sfv_serializer.specs.Scripts.{member_calls, dictionary_calls}
-use Rattle.sfv_serializer.specs.Versions.{NamesFirst, values_of_member}
-use Rattle.sfv_serializer.proofs.Looks.{at_exit, slice_more, slice_stops, dictionary_handed}
+use Rattle.sfv_serializer.proofs.Handed.{dictionary_handed}
 use Rattle.sfv_serializer.proofs.look_at_calls.look_at_dictionary_calls.Goals as goal
 
 pub loop-name-preserved : goal.loop-name-preserved

@@ -2,8 +2,8 @@ use Rattle.std.proofs.Common.{take}
 use Rattle.std.specs.Prelude.{flat_map}
 use Rattle.sfv_spec.specs.Calls.{AllFit, handed_member}
 use Rattle.sfv_bare.specs.BareItems.{edition_of}
+use Rattle.sfv_writer.specs.Versions.{values_of_member}
 use Rattle.sfv_serializer.specs.Scripts.{dictionary_calls}
-use Rattle.sfv_serializer.specs.Versions.{values_of_member}
 use Rattle.sfv_serializer.proofs.look_at_calls.look_at_dictionary_calls.Given as goal
 
 abbrev pub invariant-loop-name : goal.invariant-loop-name

@@ -1,5 +1,6 @@
 use Rattle.sfv_bare.specs.BareItems.{edition_of}
-use Rattle.sfv_serializer.proofs.Looks.{at_exit, inner_names, abandoned_fit, ended_looks}
+use Rattle.sfv_writer.proofs.Looks.{at_exit}
+use Rattle.sfv_serializer.proofs.Handed.{inner_names, abandoned_fit, ended_looks}
 use Rattle.sfv_serializer.proofs.look_at_calls.look_at_inner_calls.Goals as goal
 
 pub returns-in_err-look_at_items_calls : goal.returns-in_err-look_at_items_calls

@@ -1,8 +1,8 @@
 use Rattle.std.proofs.Common.{[], ◌∷◌, map}
 use Rattle.sfv_bare.specs.BareItems.{ref_value, edition_of}
+use Rattle.sfv_writer.specs.Versions.{values_of_parameters}
+use Rattle.sfv_writer.proofs.Looks.{at_exit, names_front, looks_behind}
 use Rattle.sfv_serializer.specs.Scripts.{called_param}
-use Rattle.sfv_serializer.specs.Versions.{values_of_parameters}
-use Rattle.sfv_serializer.proofs.Looks.{at_exit, names_front, looks_behind}
 use Rattle.sfv_serializer.proofs.look_at_calls.look_at_item_calls.Goals as goal
 
 pub returns-in_err-look_at_bare_item : goal.returns-in_err-look_at_bare_item

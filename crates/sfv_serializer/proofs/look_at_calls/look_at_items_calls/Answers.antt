@@ -1,8 +1,8 @@
 use Rattle.std.proofs.Common.{◌<◌, length, rules}
 use Rattle.sfv_bare.specs.BareItems.{edition_of}
+use Rattle.sfv_writer.specs.Versions.{values_of_item}
+use Rattle.sfv_writer.proofs.Looks.{at_exit, slice_more, slice_stops}
 use Rattle.sfv_serializer.specs.Scripts.{called_item}
-use Rattle.sfv_serializer.specs.Versions.{values_of_item}
-use Rattle.sfv_serializer.proofs.Looks.{at_exit, slice_more, slice_stops}
 use Rattle.sfv_serializer.proofs.look_at_calls.look_at_items_calls.Goals as goal
 
 pub loop-calls-preserved : goal.loop-calls-preserved

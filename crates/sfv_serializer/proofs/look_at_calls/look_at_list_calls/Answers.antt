@@ -3,9 +3,10 @@ use Rattle.std.specs.Prelude.{flat_map}
 use Rattle.std.proofs.lemmas.List.{take_all}
 use Rattle.sfv_spec.specs.Calls.{AllFit, handed_member}
 use Rattle.sfv_bare.specs.BareItems.{edition_of}
+use Rattle.sfv_writer.specs.Versions.{NamesFirst, values_of_member}
+use Rattle.sfv_writer.proofs.Looks.{at_exit, slice_more, slice_stops}
 use Rattle.sfv_serializer.specs.Scripts.{member_calls}
-use Rattle.sfv_serializer.specs.Versions.{NamesFirst, values_of_member}
-use Rattle.sfv_serializer.proofs.Looks.{at_exit, slice_more, slice_stops, list_handed}
+use Rattle.sfv_serializer.proofs.Handed.{list_handed}
 use Rattle.sfv_serializer.proofs.look_at_calls.look_at_list_calls.Goals as goal
 
 pub loop-member-preserved : goal.loop-member-preserved

@@ -3,9 +3,10 @@ use Rattle.std.specs.Prelude.{flat_map}
 use Rattle.std.proofs.lemmas.List.{take_all}
 use Rattle.sfv_spec.specs.Calls.{AllFit}
 use Rattle.sfv_bare.specs.BareItems.{edition_of}
+use Rattle.sfv_writer.specs.Versions.{NamesFirst}
+use Rattle.sfv_writer.proofs.Looks.{at_exit, slice_more, slice_stops}
 use Rattle.sfv_serializer.specs.Scripts.{called_param}
-use Rattle.sfv_serializer.specs.Versions.{NamesFirst}
-use Rattle.sfv_serializer.proofs.Looks.{at_exit, slice_more, slice_stops, values_of_param, params_values}
+use Rattle.sfv_serializer.proofs.Handed.{values_of_param, params_values}
 use Rattle.sfv_serializer.proofs.look_at_calls.look_at_param_calls.Goals as goal
 
 pub loop-call-preserved : goal.loop-call-preserved

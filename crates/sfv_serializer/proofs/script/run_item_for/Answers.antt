@@ -3,10 +3,10 @@ use Rattle.sfv_spec.specs.Values.{item_field}
 use Rattle.sfv_spec.specs.Events.{bare_values}
 use Rattle.sfv_spec.specs.Calls.{AllFit}
 use Rattle.sfv_bare.specs.BareItems.{edition_of}
+use Rattle.sfv_writer.specs.Versions.{NamesFirst}
+use Rattle.sfv_writer.proofs.Looks.{item_values, look_fails, memory_fails}
+use Rattle.sfv_writer.proofs.ReadBack.{read_back}
 use Rattle.sfv_serializer.specs.Scripts.{called_item}
-use Rattle.sfv_serializer.specs.Versions.{NamesFirst}
-use Rattle.sfv_serializer.proofs.Looks.{item_values, look_fails, memory_fails}
-use Rattle.sfv_serializer.proofs.ReadBack.{read_back}
 use Rattle.sfv_serializer.proofs.script.run_item_for.Goals as goal
 
 pub returns-in_err-look_at_item_calls-clause-looks : goal.returns-in_err-look_at_item_calls-clause-looks

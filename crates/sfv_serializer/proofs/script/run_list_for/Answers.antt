@@ -1,9 +1,10 @@
 use Rattle.sfv_spec.specs.Values.{list_field}
 use Rattle.sfv_spec.proofs.Given.{described_fit}
 use Rattle.sfv_bare.specs.BareItems.{edition_of}
+use Rattle.sfv_writer.proofs.Looks.{at_exit}
+use Rattle.sfv_writer.proofs.ReadBack.{read_back}
 use Rattle.sfv_serializer.specs.Scripts.{list_calls, described_list}
-use Rattle.sfv_serializer.proofs.Looks.{at_exit, named_list}
-use Rattle.sfv_serializer.proofs.ReadBack.{read_back}
+use Rattle.sfv_serializer.proofs.Handed.{named_list}
 use Rattle.sfv_serializer.proofs.script.run_list_for.Goals as goal
 
 pub returns-clause-read_back : goal.returns-clause-read_back

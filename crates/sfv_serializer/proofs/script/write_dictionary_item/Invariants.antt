@@ -2,8 +2,8 @@ use Rattle.std.proofs.Common.{◌≡◌, ◌++◌, false, codes}
 use Rattle.sfv_spec.specs.Values.{item, IsItem, rfc9651}
 use Rattle.sfv_spec.specs.Canonical.{dictionary_member_text}
 use Rattle.sfv_text.specs.KeyText.{key_text}
+use Rattle.sfv_writer.specs.Written.{lead}
 use Rattle.sfv_serializer.proofs.Scripts.{item_so_far}
-use Rattle.sfv_serializer.specs.Written.{lead}
 use Rattle.sfv_serializer.specs.Serializers.{params_sink, params_name, params_edition, HasMoreParts, has_no_part}
 use Rattle.sfv_serializer.proofs.script.write_dictionary_item.Given as goal
 

@@ -1,9 +1,9 @@
 use Rattle.std.proofs.Common.{map, rules}
 use Rattle.std.proofs.lemmas.List.{take_all}
-use Rattle.sfv_serializer.specs.Written.{lead}
+use Rattle.sfv_writer.specs.Written.{lead}
+use Rattle.sfv_writer.proofs.Rows.{anyway}
 use Rattle.sfv_serializer.specs.Serializers.{has_no_part}
 use Rattle.sfv_serializer.specs.Scripts.{called_param, called_item}
-use Rattle.sfv_serializer.proofs.Rows.{anyway}
 use Rattle.sfv_serializer.proofs.Scripts.{begun_grown, more_grown, kept_grown, taken_away, away_grown, kept_as, more_as, of_error}
 use Rattle.sfv_serializer.proofs.Scripts.{inner_ended}
 use Rattle.sfv_serializer.proofs.script.write_inner.Goals as goal

@@ -1,9 +1,9 @@
 use Rattle.std.proofs.Common.{◌≡◌, take, map, codes, string_bytes}
 use Rattle.sfv_spec.specs.Values.{IsItem}
 use Rattle.sfv_spec.specs.Canonical.{item_text}
+use Rattle.sfv_writer.proofs.Rows.{IsLed}
 use Rattle.sfv_serializer.specs.Serializers.{SameParts, has_no_part}
 use Rattle.sfv_serializer.specs.Scripts.{called_item}
-use Rattle.sfv_serializer.proofs.Rows.{IsLed}
 use Rattle.sfv_serializer.proofs.script.write_inner_items.Given as goal
 
 abbrev pub invariant-loop-calls : goal.invariant-loop-calls

@@ -2,9 +2,9 @@ use Rattle.std.proofs.Common.{◌≡◌, take, codes, string_bytes}
 use Rattle.sfv_spec.specs.Values.{IsMember, list_field}
 use Rattle.sfv_spec.specs.Canonical.{member_text}
 use Rattle.sfv_spec.specs.Calls.{described}
+use Rattle.sfv_writer.proofs.Rows.{IsLed}
 use Rattle.sfv_serializer.specs.Serializers.{has_no_part}
 use Rattle.sfv_serializer.specs.Scripts.{list_calls}
-use Rattle.sfv_serializer.proofs.Rows.{IsLed}
 use Rattle.sfv_serializer.proofs.script.write_list_members.Given as goal
 
 abbrev pub invariant-loop-member : goal.invariant-loop-member

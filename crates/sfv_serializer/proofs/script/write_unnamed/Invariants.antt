@@ -1,8 +1,8 @@
 use Rattle.std.proofs.Common.{◌≡◌, ◌++◌, false}
 use Rattle.sfv_spec.specs.Values.{IsItem, rfc9651}
 use Rattle.sfv_spec.specs.Canonical.{item_text}
+use Rattle.sfv_writer.specs.Written.{lead}
 use Rattle.sfv_serializer.proofs.Scripts.{item_so_far}
-use Rattle.sfv_serializer.specs.Written.{lead}
 use Rattle.sfv_serializer.specs.Serializers.{params_sink, params_name, params_edition, HasMoreParts, has_no_part}
 use Rattle.sfv_serializer.proofs.script.write_unnamed.Given as goal
 

@@ -2,7 +2,7 @@ use Rattle.std.proofs.Common.{◌++◌, ◌∙◌, ap, List, ℕ}
 use Rattle.sfv_spec.specs.Values.{item_field}
 use Rattle.sfv_spec.specs.Canonical.{item_text}
 use Rattle.sfv_tree.specs.Trees.{item_tree}
-use Rattle.sfv_serializer.proofs.ReadBack.{written}
+use Rattle.sfv_writer.proofs.ReadBack.{written}
 use Rattle.sfv.proofs.field_type.ItemFieldType.serialize.Goals as goal
 
 pub returns-clause-text : goal.returns-clause-text

@@ -4,9 +4,9 @@ use Rattle.sfv_spec.specs.Events.{bare_values}
 use Rattle.sfv_spec.specs.Calls.{AllFit}
 use Rattle.sfv_bare.specs.BareItems.{edition_of}
 use Rattle.sfv_tree.specs.Trees.{item_tree}
-use Rattle.sfv_serializer.specs.Versions.{NamesFirst}
-use Rattle.sfv_serializer.proofs.Looks.{item_values, look_fails, memory_fails}
-use Rattle.sfv_serializer.proofs.ReadBack.{serialized_for}
+use Rattle.sfv_writer.specs.Versions.{NamesFirst}
+use Rattle.sfv_writer.proofs.Looks.{item_values, look_fails, memory_fails}
+use Rattle.sfv_writer.proofs.ReadBack.{serialized_for}
 use Rattle.sfv.proofs.field_type.ItemFieldType.serialize_for.Goals as goal
 
 pub returns-in_err-look_at_item-clause-looks : goal.returns-in_err-look_at_item-clause-looks

@@ -3,9 +3,9 @@ use Rattle.sfv_spec.specs.Values.{list_field, HasMember}
 use Rattle.sfv_spec.specs.Events.{bare_values}
 use Rattle.sfv_bare.specs.BareItems.{edition_of}
 use Rattle.sfv_tree.specs.Trees.{list_tree}
-use Rattle.sfv_serializer.proofs.Looks.{look_fails, memory_fails, named_has_member}
-use Rattle.sfv_serializer.proofs.ReadBack.{serialized_for}
-use Rattle.sfv_serializer.proofs.Rows.{anyway}
+use Rattle.sfv_writer.proofs.Looks.{look_fails, memory_fails, named_has_member}
+use Rattle.sfv_writer.proofs.ReadBack.{serialized_for}
+use Rattle.sfv_writer.proofs.Rows.{anyway}
 use Rattle.sfv.proofs.field_type.ListFieldType.serialize_for.Goals as goal
 
 pub returns-in_err-look_at_list-clause-looks : goal.returns-in_err-look_at_list-clause-looks

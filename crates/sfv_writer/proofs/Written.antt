@@ -1,0 +1,110 @@
+-- A text is written run by run.
+use Rattle.std.proofs.Common.{◌≡◌, ℕ, Bool, true, false, cond, not, List, [], ◌∷◌, ◌++◌, length, take, refl, sym, ap}
+use Rattle.std.proofs.Common.{subst, ◌∙◌, append_assoc, arith, inl, inr}
+use Rattle.std.specs.Prelude.{string_bytes, IsUtf8}
+use Rattle.std.specs.Str.{IsCharBoundary}
+use Rattle.std.specs.declared.string.String.{String}
+use Rattle.std.specs.List.{flat_map, list_all}
+use Rattle.std.proofs.lemmas.Bool.{and_parts, and_cases, both_ways, not-true, not-false}
+use Rattle.std.proofs.lemmas.List.{append-nil, length-append, take_at}
+use Rattle.std.proofs.lemmas.Str.{IsUtf8-string_bytes, IsCharBoundary-from_take}
+use Rattle.sfv_spec.specs.Ascii.{backslash}
+use Rattle.sfv_spec.specs.Texts.{RunOf}
+use Rattle.sfv_spec.specs.Classes.{is_string_byte}
+use Rattle.sfv_spec.specs.Strings.{is_escaped_in_string, is_plain_in_string}
+use Rattle.sfv_reading.proofs.quoted.StringSteps as in_string
+use Rattle.sfv_reading.proofs.quoted.DisplaySteps as in_display
+use Rattle.sfv_writer.specs.Written.{Extends, IsCutBack}
+use Rattle.sfv_spec.proofs.Marks.{plain_of}
+use Rattle.sfv_writer.specs.Quoted.{piece_of}
+
+flat_map_append : (f : ℕ → List ℕ) (xs ys : List ℕ) → flat_map f (xs ++ ys) ≡ flat_map f xs ++ flat_map f ys
+flat_map_append f [] ys = refl
+flat_map_append f (x ∷ xs) ys = ap (λ (l : List ℕ). f x ++ l) (flat_map_append f xs ys)
+    ∙ sym (append_assoc (f x) (flat_map f xs) (flat_map f ys))
+
+-- after the text that stood there before, the bytes are written up to the rest of them
+pub record IsWrittenUpTo (piece : ℕ → List ℕ) (before bytes rest output : List ℕ) : Type 0 where
+  pub front : List ℕ
+  pub whole : bytes ≡ front ++ rest
+  pub done : output ≡ before ++ flat_map piece front
+
+module _ (piece : ℕ → List ℕ) (before bytes : List ℕ) where
+  -- more bytes are written
+  more_written : (rest output front behind new : List ℕ) → IsWrittenUpTo piece before bytes rest output
+      → rest ≡ front ++ behind → new ≡ output ++ flat_map piece front → IsWrittenUpTo piece before bytes behind new
+  more_written rest output front behind new w e n = record {
+    front = w.front ++ front;
+    whole = w.whole ∙ ap (λ (l : List ℕ). w.front ++ l) e ∙ sym (append_assoc w.front front behind);
+    done = n ∙ ap (λ (l : List ℕ). l ++ flat_map piece front) w.done
+        ∙ append_assoc before (flat_map piece w.front) (flat_map piece front)
+        ∙ ap (λ (l : List ℕ). before ++ l) (sym (flat_map_append piece w.front front));
+  }
+
+  -- a run of bytes that are written for themselves
+  pub run_written : (plain : ℕ → Bool) → ((c : ℕ) → plain c ≡ true → piece c ≡ c ∷ [])
+      → (rest output run behind new : List ℕ)
+      → IsWrittenUpTo piece before bytes rest output → rest ≡ run ++ behind → RunOf plain run → new ≡ output ++ run
+      → IsWrittenUpTo piece before bytes behind new
+  run_written plain itself rest output run behind new w e h n =
+      more_written rest output run behind new w e (n ∙ ap (λ (l : List ℕ). output ++ l) (sym (run_itself run h)))
+    where
+      run_itself : (run : List ℕ) → RunOf plain run → flat_map piece run ≡ run
+      run_itself [] h = refl
+      run_itself (c ∷ run) h = let a = and_parts (plain c) (list_all plain run) h in
+          ap (λ (l : List ℕ). l ++ flat_map piece run) (itself c a.0) ∙ ap (λ (l : List ℕ). c ∷ l) (run_itself run a.1)
+
+  pub byte_written : (rest output behind new : List ℕ) (byte : ℕ) → IsWrittenUpTo piece before bytes rest output
+      → rest ≡ byte ∷ behind → new ≡ output ++ piece byte → IsWrittenUpTo piece before bytes behind new
+  byte_written rest output behind new byte w e n =
+      more_written rest output (byte ∷ []) behind new w e (n
+      ∙ ap (λ (l : List ℕ). output ++ l) (sym (append-nil (piece byte))))
+
+-- a plain byte is written for itself
+pub plain_itself : (display : Bool) (c : ℕ) → plain_of display c ≡ true → piece_of display c ≡ c ∷ []
+plain_itself true c e = rw e refl
+plain_itself false c e = ap (λ (b : Bool). cond b (backslash ∷ c ∷ []) (c ∷ []))
+    (not-true (is_escaped_in_string c) (and_parts (is_string_byte c) (not (is_escaped_in_string c)) e).1)
+
+pub plain_utf8 : (display : Bool) (run : List ℕ) → RunOf (plain_of display) run → IsUtf8 run
+plain_utf8 true run h = in_display.plain_utf8 run h
+plain_utf8 false run h = in_string.plain_utf8 run h
+
+-- a byte of a string that isn't plain is the quote or the backslash
+pub string_escape : (c : ℕ) → is_string_byte c ≡ true → is_plain_in_string c ≡ false → is_escaped_in_string c ≡ true
+string_escape c h e = elim (and_cases (is_string_byte c) (not (is_escaped_in_string c)) e) as (λ x.
+    is_escaped_in_string c ≡ true) [
+      | inl o ↦ absurd (both_ways (is_string_byte c) o h)
+      | inr n ↦ not-false (is_escaped_in_string c) n
+    ]
+
+-- what stood in front of a text may be cut off it
+pub front_of : (before text : List ℕ) (len : ℕ) → IsUtf8 before → IsUtf8 text → len ≡ length before
+    → Extends before text → IsCharBoundary text len × (take len text ≡ before)
+front_of before text len utf8 whole is more =
+    let front : take len text ≡ before = ap (take len) more.1 ∙ take_at before more.0 len (sym is) in
+    let long = ap (length {A = ℕ}) more.1 in (
+      IsCharBoundary-from_take text len whole (omega (arith, is, long, length-append before more.0))
+          (subst IsUtf8 (sym front) utf8),
+      front,
+    )
+
+-- cut where a character begins
+pub cut_there : (text new : List ℕ) (len : ℕ) → IsUtf8 text → new ≡ take len text → IsCutBack len text new
+cut_there text new len whole is = record {
+  back = λ before utf8 at more.
+      is ∙ (front_of before text len utf8 whole at more).1;
+}
+
+-- where none begins, no text ended
+pub cut_nowhere : (text : List ℕ) (len : ℕ) → IsUtf8 text → ¬ IsCharBoundary text len → IsCutBack len text text
+cut_nowhere text len whole none = record {
+  back = λ before utf8 at more.
+      absurd (none (front_of before text len utf8 whole at more).0);
+}
+
+-- a text that was added to and cut back is as it was
+pub cut_to : {Z : Type 0} (old more new : String Z) (len : ℕ) → len ≡ length (string_bytes old)
+    → Extends (string_bytes old) (string_bytes more) → IsCutBack len (string_bytes more) (string_bytes new)
+    → string_bytes new ≡ string_bytes old
+cut_to old more new len is grown cut = cut.back (string_bytes old) (IsUtf8-string_bytes old) is grown

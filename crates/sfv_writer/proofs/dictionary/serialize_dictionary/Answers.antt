@@ -1,0 +1,34 @@
+use Rattle.std.proofs.Common.{codes, ap, ◌∙◌}
+use Rattle.std.specs.Prelude.{IsTrue}
+use Rattle.std.specs.Map.Iter.{TakesFirst, deref_pair}
+use Rattle.sfv_spec.specs.Classes.{is_key}
+use Rattle.sfv_spec.specs.Values.{IsMember, dictionary_field}
+use Rattle.sfv_spec.specs.Ordered.{IsOrderedMember}
+use Rattle.sfv_spec.specs.Canonical.{dictionary_member_text}
+use Rattle.sfv_spec.specs.Statements.{IsValue}
+use Rattle.sfv_tree.specs.Trees.{dictionary_tree}
+use Rattle.sfv_tree.proofs.Distinct.{members_distinct}
+use Rattle.sfv_writer.specs.Written.{lent_member}
+use Rattle.sfv_writer.specs.Versions.{values_of_members}
+use Rattle.sfv_writer.proofs.Lent.{members_all}
+use Rattle.sfv_writer.proofs.Looks.{newer_fails}
+use Rattle.sfv_writer.proofs.Rows.{all_both}
+use Rattle.sfv_writer.proofs.Drained.{all_written}
+use Rattle.sfv_writer.proofs.dictionary.serialize_dictionary.Goals as goal
+
+pub only_memory-requires : goal.only_memory-requires
+only_memory-requires g c =
+    newer_fails (TakesFirst deref_pair) c.iter.result values_of_members _ c.in-Err.ensures.failed
+
+pub returns : goal.returns
+returns g c =
+    let entries = c.args.dictionary.now.entries in
+    let members = dictionary_tree entries in
+    let w = c.in_default.ensures.text in
+    let all = all_written lent_member dictionary_member_text (λ m. (IsTrue (is_key m.0) × IsMember m.1)
+    × IsOrderedMember m.1) (codes ", ") members (IsValue dictionary_field members) c.args.output.now
+    c.serialize_each-written.new.output w.0
+    (members_all c.iter.result w.0 c.iter.ensures.runs w.1 ∙ ap dictionary_tree c.iter.ensures.rest)
+    (λ good. let both = all_both (λ m. IsTrue (is_key m.0) × IsMember m.1) (λ m. IsOrderedMember m.1) members good in
+    record { parts = both.0; distinct = (members_distinct entries c.iter.ensures.unique, both.1) }) w.2 w.4 in
+    record { text = all.0; value = all.1 }

@@ -1,0 +1,52 @@
+use Rattle.std.proofs.Common.{rules, refl, Some}
+use Rattle.std.specs.List.{flat_map}
+use Rattle.std.specs.Iterator.{IsFinite, Yields}
+use Rattle.sfv_bare.specs.BareItems.{edition_of}
+use Rattle.sfv_writer.proofs.Looks.{each_more, fails_among, memory_among}
+use Rattle.sfv_writer.proofs.Rows.{in_a_row_more}
+use Rattle.sfv_writer.proofs.element.serialize_each.Goals as goal
+
+pub loop-element-preserved : goal.loop-element-preserved
+loop-element-preserved g c =
+    let written = c.in_ok-serialize.ensures in
+    let goes : g.I.Iterator.can_next c.next.new.self × IsFinite (g.I.Iterator.remaining c.next.new.self) =
+    search rules in (
+      goes.0,
+      goes.1,
+      in_a_row_more g.E.Element.text g.E.Element.is_valid c.args.separator.now _ _ _ _ _ _ _ _ c.in-Some.element
+          c.loop-element.invariant.2 refl c.in_ok-serialize_separator.ensures written.text written.valid,
+      each_more (edition_of c.args.version) g.E.Element.values c.loop-element.yielded c.in-Some.element
+          c.loop-element.invariant.3 c.in_ok-look.ensures,
+    )
+
+pub returns-in_err-look-clause-failed : goal.returns-in_err-look-clause-failed
+returns-in_err-look-clause-failed g c =
+    let steps = g.I.Iterator.next_gives in
+    let values = g.E.Element.values in
+    let ran : Yields steps c.args.elements c.loop-element.yielded c.loop-element.element-iterator = search rules in
+    let step : steps c.loop-element.element-iterator (Some c.in-Some.element) c.next.new.self = search rules in
+    fails_among steps (edition_of c.args.version) values (flat_map values) (λ _. refl) c.args.elements
+    c.loop-element.element-iterator c.next.new.self c.loop-element.yielded c.in-Some.element c.from_residual.result
+    c.in_err-look.field-0.0 c.from_residual.ensures.1 ran step c.loop-element.invariant.3 c.in_err-look.ensures
+
+pub returns-in_err-serialize_separator-clause-failed : goal.returns-in_err-serialize_separator-clause-failed
+returns-in_err-serialize_separator-clause-failed g c =
+    let steps = g.I.Iterator.next_gives in
+    let values = g.E.Element.values in
+    let ran : Yields steps c.args.elements c.loop-element.yielded c.loop-element.element-iterator = search rules in
+    let step : steps c.loop-element.element-iterator (Some c.in-Some.element) c.next.new.self = search rules in
+    memory_among steps (edition_of c.args.version) values (flat_map values) (λ _. refl) c.args.elements
+    c.loop-element.element-iterator c.next.new.self c.loop-element.yielded c.in-Some.element
+    c.from_residual-in_err-serialize_separator.result c.from_residual-in_err-serialize_separator.ensures.1 ran step
+    c.loop-element.invariant.3 c.in_ok-look.ensures
+
+pub returns-in_err-serialize-clause-failed : goal.returns-in_err-serialize-clause-failed
+returns-in_err-serialize-clause-failed g c =
+    let steps = g.I.Iterator.next_gives in
+    let values = g.E.Element.values in
+    let ran : Yields steps c.args.elements c.loop-element.yielded c.loop-element.element-iterator = search rules in
+    let step : steps c.loop-element.element-iterator (Some c.in-Some.element) c.next.new.self = search rules in
+    memory_among steps (edition_of c.args.version) values (flat_map values) (λ _. refl) c.args.elements
+    c.loop-element.element-iterator c.next.new.self c.loop-element.yielded c.in-Some.element
+    c.from_residual-in_err-serialize.result c.from_residual-in_err-serialize.ensures.1 ran step
+    c.loop-element.invariant.3 c.in_ok-look.ensures

@@ -1,0 +1,14 @@
+use Rattle.std.proofs.Common.{string_bytes}
+use Rattle.std.specs.List.{flat_map}
+use Rattle.sfv_spec.specs.Calls.{AllFit}
+use Rattle.sfv_bare.specs.BareItems.{edition_of}
+use Rattle.sfv_writer.proofs.Rows.{IsLed}
+use Rattle.sfv_writer.proofs.element.serialize_each.Given as goal
+
+abbrev pub invariant-loop-element : goal.invariant-loop-element
+invariant-loop-element g l =
+    (goal.iterator-loop-element g).can_next l.element-iterator
+    × (goal.iterator-loop-element g).is_finite l.element-iterator
+    × IsLed g.E.Element.text g.E.Element.is_valid l.fn.separator l.yielded
+    l.fn.is_first l.none (string_bytes l.fn.output) (string_bytes l.output)
+    × AllFit (edition_of l.version) (flat_map g.E.Element.values l.yielded)

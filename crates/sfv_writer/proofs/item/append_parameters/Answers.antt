@@ -1,0 +1,21 @@
+use Rattle.std.proofs.Common.{◌∷◌, Some, rules}
+use Rattle.indexmap.proofs.MapLemmas.{OnOk-map}
+use Rattle.sfv_bare.specs.BareItems.{edition_of}
+use Rattle.sfv_writer.specs.Versions.{values_of_pairs}
+use Rattle.sfv_writer.proofs.Looks.{fails_from_first, drains_from_first}
+use Rattle.sfv_writer.proofs.item.append_parameters.Goals as goal
+
+pub returns-clause-text : goal.returns-clause-text
+returns-clause-text g c =
+    let steps = g.I.Iterator.next_gives in
+    let step : steps c.args.params (Some c.in-Some.first) c.next.new.self = search rules in
+    OnOk-map c.append_first_and_rest.result _ _
+    (λ h. (c.in-Some.first ∷ h.0, drains_from_first steps c.args.params c.in-Some.first c.next.new.self h.0 step h.1, h.2, h.3, h.4))
+    c.append_first_and_rest.ensures.text
+
+pub returns-clause-failed : goal.returns-clause-failed
+returns-clause-failed g c =
+    let steps = g.I.Iterator.next_gives in
+    let step : steps c.args.params (Some c.in-Some.first) c.next.new.self = search rules in
+    fails_from_first steps c.args.params c.in-Some.first c.next.new.self values_of_pairs
+    (edition_of c.args.version) c.append_first_and_rest.result step c.append_first_and_rest.ensures.failed

@@ -1,0 +1,28 @@
+use Rattle.std.proofs.Common.{List, codes, ap, ◌∙◌}
+use Rattle.std.specs.Slice.Iter.{iter_steps}
+use Rattle.sfv_spec.specs.Values.{RawMember, IsMember, list_field}
+use Rattle.sfv_spec.specs.Ordered.{IsOrderedMember}
+use Rattle.sfv_spec.specs.Canonical.{member_text}
+use Rattle.sfv_spec.specs.Statements.{IsValue}
+use Rattle.sfv_tree.specs.Trees.{list_tree}
+use Rattle.sfv_writer.specs.Written.{lent_entry}
+use Rattle.sfv_writer.specs.Versions.{values_of_entries}
+use Rattle.sfv_writer.proofs.Lent.{entries_all}
+use Rattle.sfv_writer.proofs.Looks.{newer_fails}
+use Rattle.sfv_writer.proofs.Rows.{all_both}
+use Rattle.sfv_writer.proofs.Drained.{all_written}
+use Rattle.sfv_writer.proofs.list.serialize_list.Goals as goal
+
+pub only_memory-requires : goal.only_memory-requires
+only_memory-requires g c = newer_fails iter_steps c.iter.result values_of_entries _ c.in-Err.ensures.failed
+
+pub returns : goal.returns
+returns g c =
+    let members : List RawMember = list_tree c.args.list.now.items in
+    let w = c.in_default.ensures.text in
+    let all = all_written lent_entry member_text (λ m. IsMember m × IsOrderedMember m) (codes ", ") members
+    (IsValue list_field members) c.args.output.now c.serialize_each.new.output w.0
+    (entries_all c.iter.result w.0 w.1 ∙ ap list_tree (c.iter.ensures.rest ∙ c.deref.ensures.value))
+    (λ good. let both = all_both IsMember IsOrderedMember members good in
+    record { parts = both.0; distinct = both.1 }) w.2 w.4 in
+    record { text = all.0; value = all.1 }

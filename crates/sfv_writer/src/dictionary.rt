@@ -1,0 +1,53 @@
+//! Writing dictionaries (RFC 9651, section 4.1.2).
+
+ghost use Rattle.std.specs.Prelude.{OnOk, IfOk, IfErr};
+ghost use Rattle.sfv_spec.specs.Values.{HasMember, dictionary_field};
+ghost use Rattle.sfv_spec.specs.Canonical.{canonical};
+ghost use Rattle.sfv_spec.specs.Statements.{IsValue};
+ghost use Rattle.sfv_tree.specs.Trees.{dictionary_tree};
+ghost use Rattle.sfv_writer.specs.Written.{Appends, IsSerialized};
+
+use crate::element::serialize_each;
+use crate::serialize_error::only_memory;
+use sfv_bare::bare::Version;
+use sfv_base::error::OutOfMemory;
+use sfv_tree::parsed::Dictionary;
+use std::alloc::{Allocator, Global};
+use std::string::String as StdString;
+
+/// Appends a dictionary.
+pub(crate) fn serialize_dictionary<A: Allocator>(
+    dictionary: &Dictionary,
+    output: &mut StdString<A>,
+) -> Result<(), OutOfMemory>
+    ensures text { Appends output.old output.new
+        (canonical dictionary_field (dictionary_tree dictionary.now.entries)) result }
+    ensures value { OnOk result (IsValue dictionary_field (dictionary_tree dictionary.now.entries)) }
+{
+    let written = serialize_each(Version::Rfc9651, true, ", ", dictionary.iter(), output);
+    if let Err(error) = written {
+        return Err(only_memory(error));
+    }
+    Ok(())
+}
+
+/// Returns the text of a dictionary, with memory from `alloc`, or `None` for a dictionary without
+/// members, of which nothing is written (RFC 9651, section 4.1).
+///
+/// # Errors
+///
+/// `OutOfMemory` when out of memory.
+pub fn dictionary_text(
+    dictionary: &Dictionary,
+    alloc: Global,
+) -> Result<Option<StdString>, OutOfMemory>
+    ensures text { IfOk result (IsSerialized dictionary_field (dictionary_tree dictionary.now.entries)) }
+    ensures out_of_memory { IfErr result (λ _. HasMember dictionary_field (dictionary_tree dictionary.now.entries)) }
+{
+    if dictionary.is_empty() {
+        return Ok(None);
+    }
+    let mut text = StdString::new(alloc);
+    serialize_dictionary(dictionary, &mut text)?;
+    Ok(Some(text))
+}

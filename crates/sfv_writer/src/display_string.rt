@@ -1,0 +1,63 @@
+//! Writing display strings (RFC 9651, section 4.1.11).
+
+ghost use Rattle.std.specs.Prelude.{◌≡◌, ◌<◌, true};
+ghost use Rattle.sfv_spec.specs.Values.{display_string};
+ghost use Rattle.sfv_spec.specs.Canonical.{hexadecimal_digit, bare_text};
+ghost use Rattle.sfv_writer.specs.Written.{Appends};
+
+use crate::quoted::{Escaping, serialize_inside};
+use sfv_base::error::OutOfMemory;
+use sfv_base::runs::{PlainInDisplayString, RunClass, split_run};
+use std::alloc::{AllocError, Allocator};
+
+/// The digit of a number below 16.
+fn digit_of(value: u8) -> char
+    requires { value < 16 }
+    ensures digit { result ≡ hexadecimal_digit value }
+    ensures ascii { result < 128 }
+{
+    if value < 10 {
+        (b'0' + value) as char
+    } else {
+        (b'a' + (value - 10)) as char
+    }
+}
+
+/// The inside of a display string.
+struct DisplayEscaping;
+
+impl Escaping for DisplayEscaping {
+    ghost display = { true };
+
+    #[inline(always)]
+    fn is_plain(byte: u8) -> bool {
+        PlainInDisplayString::has(byte)
+    }
+
+    #[inline(always)]
+    fn split_plain(bytes: &[u8]) -> (&[u8], &[u8]) {
+        split_run::<PlainInDisplayString>(bytes)
+    }
+
+    #[inline(always)]
+    fn push_escape<A: Allocator>(output: &mut String<A>, byte: u8) -> Result<(), AllocError> {
+        output.push('%')?;
+        output.push(digit_of(byte / 16))?;
+        output.push(digit_of(byte % 16))
+    }
+}
+
+/// Appends a display string.
+#[inline(never)]
+#[tactic(auto, using(sfv_bare::proofs::Bytes::run_of_bytes))]
+pub(crate) fn serialize_display_string<A: Allocator>(
+    value: &str,
+    output: &mut String<A>,
+) -> Result<(), OutOfMemory>
+    ensures text { Appends output.old output.new (bare_text (display_string value.now)) result }
+{
+    output.push_str("%\"")?;
+    serialize_inside::<DisplayEscaping, A>(value.as_bytes(), output)?;
+    output.push('"')?;
+    Ok(())
+}

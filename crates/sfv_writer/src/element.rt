@@ -1,0 +1,155 @@
+//! Elements that iterators give, and how all are appended, or none.
+#![tactic(auto, using(crate::proofs::Written::cut_to))]
+
+ghost use Rattle.std.specs.Prelude.{◌≡◌, ◌++◌, ℕ, List, IfErr, IfOk, OnOk, OnErr, IsTrue, map, flat_map};
+ghost use Rattle.std.specs.Prelude.{string_bytes};
+ghost use Rattle.std.specs.List.{AllByRecursion};
+ghost use Rattle.std.specs.Iterator.{IsFinite, Drains};
+ghost use Rattle.sfv_spec.specs.Classes.{is_key};
+ghost use Rattle.sfv_spec.specs.Values.{BareValue, IsItem, IsMember};
+ghost use Rattle.sfv_spec.specs.Ordered.{IsOrderedItem, IsOrderedMember};
+ghost use Rattle.sfv_spec.specs.Canonical.{item_text, member_text, dictionary_member_text};
+ghost use Rattle.sfv_spec.specs.Calls.{AllFit};
+ghost use Rattle.sfv_bare.specs.BareItems.{edition_of};
+ghost use Rattle.sfv_tree.specs.Trees.{member_tree};
+ghost use Rattle.sfv_writer.specs.Versions.{LooksAt, FailsAmong, values_of_item, values_of_member};
+ghost use Rattle.sfv_writer.specs.Written.{Appends, Extends, in_a_row, still_first, lent_item, lent_entry, lent_member};
+
+use crate::item::serialize_item;
+use crate::look::{look_at_item, look_at_member};
+use crate::member::{serialize_dictionary_member, serialize_member};
+use crate::output::{cut_back, serialize_separator};
+use crate::serialize_error::SerializeError;
+use sfv_bare::bare::Version;
+use sfv_base::error::OutOfMemory;
+use sfv_text::key::Key;
+use sfv_tree::parsed::{Item, ListEntry};
+use std::alloc::Allocator;
+use std::string::String as StdString;
+
+/// An item of an inner list, or a member of a list or a dictionary.
+// What appends an element is inlined into the loop of each caller, but for inner lists: a member that is a token takes
+// 65 instructions in place of 90.
+pub trait Element: Copy {
+    ghost text: { Self → List ℕ };
+
+    ghost is_valid: { Self → Type 0 };
+
+    ghost values: { Self → List BareValue };
+
+    /// Looks at its values.
+    fn look(self, version: Version) -> Result<(), SerializeError>
+        ensures { LooksAt (edition_of version) (values self) result };
+
+    /// Appends it.
+    fn serialize<A: Allocator>(self, output: &mut StdString<A>) -> Result<(), OutOfMemory>
+        ensures text { Appends output.old output.new (text self) result }
+        ensures valid { OnOk result (is_valid self) };
+}
+
+impl<'m> Element for &'m Item {
+    ghost text = { λ i. item_text (lent_item i) };
+
+    ghost is_valid = { λ i. IsItem (lent_item i) × IsOrderedItem (lent_item i) };
+
+    ghost values = { λ i. values_of_item (lent_item i) };
+
+    fn look(self, version: Version) -> Result<(), SerializeError> {
+        look_at_item(version, self)
+    }
+
+    #[inline(always)]
+    fn serialize<A: Allocator>(self, output: &mut StdString<A>) -> Result<(), OutOfMemory> {
+        serialize_item(self, output)
+    }
+}
+
+impl<'m> Element for &'m ListEntry {
+    ghost text = { λ m. member_text (lent_entry m) };
+
+    ghost is_valid = { λ m. IsMember (lent_entry m) × IsOrderedMember (lent_entry m) };
+
+    ghost values = { λ m. values_of_member (lent_entry m) };
+
+    fn look(self, version: Version) -> Result<(), SerializeError> {
+        look_at_member(version, self)
+    }
+
+    #[inline(always)]
+    fn serialize<A: Allocator>(self, output: &mut StdString<A>) -> Result<(), OutOfMemory> {
+        serialize_member(self, output)
+    }
+}
+
+impl<'m> Element for (&'m Key, &'m ListEntry) {
+    ghost text = { λ m. dictionary_member_text (lent_member m) };
+
+    ghost is_valid = { λ m. (IsTrue (is_key m.0.now) × IsMember (member_tree m.1.now))
+        × IsOrderedMember (member_tree m.1.now) };
+
+    ghost values = { λ m. values_of_member (lent_member m).1 };
+
+    fn look(self, version: Version) -> Result<(), SerializeError> {
+        look_at_member(version, self.1)
+    }
+
+    #[inline(always)]
+    fn serialize<A: Allocator>(self, output: &mut StdString<A>) -> Result<(), OutOfMemory> {
+        serialize_dictionary_member(self.0, self.1, output)
+    }
+}
+
+/// Appends elements that this version has, each after the separator unless it is the first. Returns whether none stands
+/// then.
+pub(crate) fn serialize_each<E: Element, A: Allocator, I: Iterator<Item = E> + Drop>(
+    version: Version,
+    is_first: bool,
+    separator: &str,
+    elements: I,
+    output: &mut StdString<A>,
+) -> Result<bool, SerializeError>
+    requires can { I.can_next elements }
+    requires ends { IsFinite (I.remaining elements) }
+    ensures text { IfOk result (λ none. (taken : List _) × Drains I.next_gives elements taken
+        × (string_bytes output.new ≡ string_bytes output.old ++ in_a_row is_first separator.now (map E.text taken))
+        × (none ≡ still_first is_first taken) × AllByRecursion E.is_valid taken
+        × AllFit (edition_of version) (flat_map E.values taken)) }
+    ensures failed { IfErr result (FailsAmong I.next_gives elements (flat_map E.values) (edition_of version)) }
+    ensures kept { OnErr result (Extends (string_bytes output.old) (string_bytes output.new)) }
+{
+    let mut none = is_first;
+    for element in elements {
+        element.look(version)?;
+        serialize_separator(none, separator, output)?;
+        element.serialize(output)?;
+        none = false;
+    }
+    Ok(none)
+}
+
+/// Appends elements as `serialize_each` does; after an error, the output keeps its text.
+pub fn append_each<E: Element, A: Allocator, I: Iterator<Item = E> + Drop>(
+    version: Version,
+    is_first: bool,
+    separator: &str,
+    elements: I,
+    output: &mut StdString<A>,
+) -> Result<bool, SerializeError>
+    requires can { I.can_next elements }
+    requires ends { IsFinite (I.remaining elements) }
+    ensures text { IfOk result (λ none. (taken : List _) × Drains I.next_gives elements taken
+        × (string_bytes output.new ≡ string_bytes output.old ++ in_a_row is_first separator.now (map E.text taken))
+        × (none ≡ still_first is_first taken) × AllByRecursion E.is_valid taken
+        × AllFit (edition_of version) (flat_map E.values taken)) }
+    ensures failed { IfErr result (FailsAmong I.next_gives elements (flat_map E.values) (edition_of version)) }
+    ensures kept { OnErr result (string_bytes output.new ≡ string_bytes output.old) }
+{
+    let len = output.len();
+    match serialize_each(version, is_first, separator, elements, output) {
+        Ok(none) => Ok(none),
+        Err(error) => {
+            cut_back(len, output);
+            Err(error)
+        }
+    }
+}

@@ -1,0 +1,46 @@
+//! What is known of a key or a bare item that is handed over, whether it is written or not. These functions only tell
+//! it to the prover, and compile to nothing.
+
+ghost use Rattle.std.specs.Prelude.{IsTrue};
+ghost use Rattle.sfv_spec.specs.Classes.{is_key};
+ghost use Rattle.sfv_spec.specs.Texts.{RunOf};
+ghost use Rattle.sfv_spec.specs.Values.{is_byte, IsBareValue};
+ghost use Rattle.sfv_bare.specs.BareItems.{ref_value};
+ghost use Rattle.sfv_text.specs.KeyText.{key_text};
+
+use sfv_bare::bare::{GenericBareItem, RefBareItem};
+use sfv_text::key_ref::KeyRef;
+
+// The bytes of a slice are bytes. That is known of a slice that is passed, and not of one within a bare item.
+#[inline(always)]
+#[tactic(auto, using(sfv_bare::proofs::Bytes::run_of_bytes))]
+fn bytes_are_bytes(bytes: &[u8])
+    ensures { RunOf is_byte bytes.now }
+{
+    let _bytes = bytes;
+}
+
+/// A bare item is a value: each kind holds what is in its range or class.
+#[inline(always)]
+pub fn is_a_value(value: RefBareItem<'_>)
+    ensures { IsBareValue (ref_value value.entry) }
+{
+    match value {
+        GenericBareItem::Decimal(_decimal) => {}
+        GenericBareItem::Integer(_integer) => {}
+        GenericBareItem::String(_string) => {}
+        GenericBareItem::ByteSequence(bytes) => bytes_are_bytes(bytes),
+        GenericBareItem::Boolean(_boolean) => {}
+        GenericBareItem::Token(_token) => {}
+        GenericBareItem::Date(_date) => {}
+        GenericBareItem::DisplayString(_text) => {}
+    }
+}
+
+/// A key is a key: it holds a text of that class.
+#[inline(always)]
+pub fn is_a_key(key: KeyRef<'_>)
+    ensures { IsTrue (is_key (key_text key.entry)) }
+{
+    let _text = key.as_str();
+}

@@ -1,0 +1,48 @@
+//! Writing lists (RFC 9651, section 4.1.1).
+
+ghost use Rattle.std.specs.Prelude.{OnOk, IfOk, IfErr};
+ghost use Rattle.sfv_spec.specs.Values.{HasMember, list_field};
+ghost use Rattle.sfv_spec.specs.Canonical.{canonical};
+ghost use Rattle.sfv_spec.specs.Statements.{IsValue};
+ghost use Rattle.sfv_tree.specs.Trees.{list_tree};
+ghost use Rattle.sfv_writer.specs.Written.{Appends, IsSerialized};
+
+use crate::element::serialize_each;
+use crate::serialize_error::only_memory;
+use sfv_bare::bare::Version;
+use sfv_base::error::OutOfMemory;
+use sfv_tree::parsed::List;
+use std::alloc::{Allocator, Global};
+use std::string::String as StdString;
+
+/// Appends a list.
+pub(crate) fn serialize_list<A: Allocator>(
+    list: &List,
+    output: &mut StdString<A>,
+) -> Result<(), OutOfMemory>
+    ensures text { Appends output.old output.new (canonical list_field (list_tree list.now.items)) result }
+    ensures value { OnOk result (IsValue list_field (list_tree list.now.items)) }
+{
+    if let Err(error) = serialize_each(Version::Rfc9651, true, ", ", list.iter(), output) {
+        return Err(only_memory(error));
+    }
+    Ok(())
+}
+
+/// Returns the text of a list, with memory from `alloc`, or `None` for a list without members, of
+/// which nothing is written (RFC 9651, section 4.1).
+///
+/// # Errors
+///
+/// `OutOfMemory` when out of memory.
+pub fn list_text(list: &List, alloc: Global) -> Result<Option<StdString>, OutOfMemory>
+    ensures text { IfOk result (IsSerialized list_field (list_tree list.now.items)) }
+    ensures out_of_memory { IfErr result (λ _. HasMember list_field (list_tree list.now.items)) }
+{
+    if list.is_empty() {
+        return Ok(None);
+    }
+    let mut text = StdString::new(alloc);
+    serialize_list(list, &mut text)?;
+    Ok(Some(text))
+}

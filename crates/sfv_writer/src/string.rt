@@ -1,0 +1,51 @@
+//! Writing strings (RFC 9651, section 4.1.6).
+
+ghost use Rattle.std.specs.Prelude.{false};
+ghost use Rattle.sfv_spec.specs.Values.{string};
+ghost use Rattle.sfv_spec.specs.Canonical.{bare_text};
+ghost use Rattle.sfv_text.specs.StringText.{string_text};
+ghost use Rattle.sfv_writer.specs.Written.{Appends};
+
+use crate::quoted::{Escaping, serialize_inside};
+use sfv_base::error::OutOfMemory;
+use sfv_base::runs::{PlainInString, split_run};
+use sfv_base::utils::is_escaped_in_string;
+use sfv_text::string_ref::StringRef;
+use std::alloc::{AllocError, Allocator};
+
+/// The inside of a string.
+struct StringEscaping;
+
+impl Escaping for StringEscaping {
+    ghost display = { false };
+
+    #[inline(always)]
+    fn is_plain(byte: u8) -> bool {
+        !is_escaped_in_string(byte)
+    }
+
+    #[inline(always)]
+    fn split_plain(bytes: &[u8]) -> (&[u8], &[u8]) {
+        split_run::<PlainInString>(bytes)
+    }
+
+    #[inline(always)]
+    #[tactic(auto, using(crate::proofs::Written::string_escape))]
+    fn push_escape<A: Allocator>(output: &mut String<A>, byte: u8) -> Result<(), AllocError> {
+        output.push_str(if byte == b'"' { "\\\"" } else { "\\\\" })
+    }
+}
+
+/// Appends a string.
+#[inline(never)]
+pub(crate) fn serialize_string<A: Allocator>(
+    value: StringRef<'_>,
+    output: &mut String<A>,
+) -> Result<(), OutOfMemory>
+    ensures text { Appends output.old output.new (bare_text (string (string_text value.entry))) result }
+{
+    output.push('"')?;
+    serialize_inside::<StringEscaping, A>(value.as_str().as_bytes(), output)?;
+    output.push('"')?;
+    Ok(())
+}
