@@ -1,7 +1,7 @@
 //! Parts of a field, and how one is appended whole, or not at all.
 #![tactic(auto, using(sfv_writer::proofs::Written::cut_to))]
 
-ghost use Rattle.std.specs.Prelude.{◌++◌, ⊤, ℕ, List, OnOk, IsTrue, codes, string_bytes};
+ghost use Rattle.std.specs.Prelude.{◌++◌, ⊤, ℕ, List, OnOk, IsTrue, codes};
 ghost use Rattle.sfv_spec.specs.Classes.{is_key, is_token};
 ghost use Rattle.sfv_spec.specs.Values.{IsBareValue};
 ghost use Rattle.sfv_spec.specs.Canonical.{bare_text};

@@ -1,5 +1,5 @@
 -- Values that are looked at one after another.
-use Rattle.std.proofs.Common.{Bool, true, ◌≡◌, ℕ, zero, suc, ◌+◌, ◌<◌, List, [], ◌∷◌, ◌++◌, length, get_or, map, take, refl, sym, ap}
+use Rattle.std.proofs.Common.{◌≡◌, ℕ, zero, suc, ◌+◌, ◌<◌, List, [], ◌∷◌, ◌++◌, length, get_or, map, take, refl, sym, ap}
 use Rattle.std.proofs.Common.{false, subst, ◌∙◌, append_assoc, length-append, Result, Ok, Err, inl, inr, arith}
 use Rattle.std.specs.Prelude.{⊤, Option, Some, None, flat_map, filter_map, MatchResult, IfErr, IsErrAnd}
 use Rattle.std.specs.Borrow.{Bor}

@@ -38,10 +38,18 @@ pub trait Element: Copy {
     ghost values: { Self → List BareValue };
 
     /// Looks at its values.
+    ///
+    /// # Errors
+    ///
+    /// `SerializeError::Unsupported` with the kind of the first value that the version doesn't have.
     fn look(self, version: Version) -> Result<(), SerializeError>
         ensures { LooksAt (edition_of version) (values self) result };
 
     /// Appends it.
+    ///
+    /// # Errors
+    ///
+    /// `OutOfMemory` when out of memory; the old text still stands in front then.
     fn serialize<A: Allocator>(self, output: &mut StdString<A>) -> Result<(), OutOfMemory>
         ensures text { Appends output.old output.new (text self) result }
         ensures valid { OnOk result (is_valid self) };
@@ -127,7 +135,13 @@ pub(crate) fn serialize_each<E: Element, A: Allocator, I: Iterator<Item = E> + D
     Ok(none)
 }
 
-/// Appends elements as `serialize_each` does; after an error, the output keeps its text.
+/// Appends elements that this version has, each after the separator unless it is the first. Returns whether none stands
+/// then.
+///
+/// # Errors
+///
+/// `SerializeError::Unsupported` with the kind of the first value that the version doesn't have, and `OutOfMemory` when
+/// out of memory; the output keeps its text then.
 pub fn append_each<E: Element, A: Allocator, I: Iterator<Item = E> + Drop>(
     version: Version,
     is_first: bool,

@@ -33,6 +33,10 @@ use std::alloc::Allocator;
 use std::string::String as StdString;
 
 /// Appends a key.
+///
+/// # Errors
+///
+/// `OutOfMemory` when out of memory; the old text still stands in front then.
 pub fn serialize_key<A: Allocator>(
     key: KeyRef<'_>,
     output: &mut StdString<A>,
@@ -45,6 +49,10 @@ pub fn serialize_key<A: Allocator>(
 }
 
 /// Appends a token.
+///
+/// # Errors
+///
+/// `OutOfMemory` when out of memory; the old text still stands in front then.
 #[inline(always)]
 pub fn serialize_token<A: Allocator>(
     value: TokenRef<'_>,
@@ -66,7 +74,11 @@ fn serialize_bool<A: Allocator>(value: bool, output: &mut StdString<A>) -> Resul
     Ok(())
 }
 
-/// Appends a bare item.
+/// Appends a bare item (RFC 9651, section 4.1.3.1).
+///
+/// # Errors
+///
+/// `OutOfMemory` when out of memory; the old text still stands in front then.
 // Of the kinds, only a token, whose bytes are copied, is written without a call: what the others need in registers and
 // on the stack is then not paid for each item. With that an inner list of 10,000 tokens takes 1.0 times the
 // instructions of the Rust crate, in place of 1.7.
@@ -99,6 +111,10 @@ fn is_true(value: RefBareItem<'_>) -> bool
 }
 
 /// Appends what stands after a key: nothing for true, and else an equals sign and the value.
+///
+/// # Errors
+///
+/// `OutOfMemory` when out of memory; the old text still stands in front then.
 pub fn serialize_value<A: Allocator>(
     value: RefBareItem<'_>,
     output: &mut StdString<A>,
@@ -201,7 +217,12 @@ fn append_first_and_rest<'k, A: Allocator, I: Iterator<Item = (&'k Key, &'k Bare
     Ok(())
 }
 
-/// Appends parameters that this version has; after an error, the output keeps its text.
+/// Appends parameters that this version has (RFC 9651, section 4.1.1.2).
+///
+/// # Errors
+///
+/// `SerializeError::Unsupported` with the kind of the first value that the version doesn't have, and `OutOfMemory` when
+/// out of memory; the output keeps its text then.
 // Most items have none, and then don't pay for a call.
 #[inline(always)]
 pub fn append_parameters<'k, A: Allocator, I: Iterator<Item = (&'k Key, &'k BareItem)> + Drop>(

@@ -25,6 +25,10 @@ fn look_for_older(value: RefBareItem<'_>) -> Result<(), SerializeError>
 }
 
 /// Looks at a bare item.
+///
+/// # Errors
+///
+/// `SerializeError::Unsupported` with its kind if the version doesn't have it.
 #[inline(always)]
 pub fn look_at_bare_item(version: Version, value: RefBareItem<'_>) -> Result<(), SerializeError>
     ensures { LooksAt (edition_of version) (ref_value value.entry ∷ []) result }

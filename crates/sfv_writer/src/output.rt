@@ -18,6 +18,10 @@ pub fn cut_back<A: Allocator>(len: usize, output: &mut StdString<A>)
 }
 
 /// Appends the separator that stands in front of each part but the first.
+///
+/// # Errors
+///
+/// `OutOfMemory` when out of memory; the old text still stands in front then.
 #[inline(always)]
 pub fn serialize_separator<A: Allocator>(
     is_first: bool,
