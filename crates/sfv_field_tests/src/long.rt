@@ -6,25 +6,18 @@ use std::alloc::{AllocError, Global};
 use std::fmt::Write;
 use std::test::Fail;
 
-/// The canonical text of an item, a list or a dictionary, if the input is one.
-fn written(alloc: Global, field: &str, input: &str) -> Option<String> {
-    let parser = Parser::new(input.as_bytes());
-    match field {
-        "item" => parser.parse::<Item>(alloc).ok()?.serialize(alloc).ok(),
-        "list" => parser.parse::<List>(alloc).ok()?.serialize(alloc).ok()?,
-        _ => parser
-            .parse::<Dictionary>(alloc)
-            .ok()?
-            .serialize(alloc)
-            .ok()?,
-    }
+/// The canonical text of the field that the input is.
+fn written<T: FieldType>(alloc: Global, input: &str) -> Option<String> {
+    let field = Parser::new(input.as_bytes()).parse::<T>(alloc).ok()?;
+    field.serialize(alloc).ok()?.into()
 }
 
-/// Whether the field is written as it was read.
+/// Whether an item, a list or a dictionary is written as it was read.
 fn gives_itself(alloc: Global, field: &str, input: &str) -> bool {
-    match written(alloc, field, input) {
-        Some(text) => text.as_str() == input,
-        None => false,
+    match field {
+        "item" => has_text(written::<Item>(alloc, input), input),
+        "list" => has_text(written::<List>(alloc, input), input),
+        _ => has_text(written::<Dictionary>(alloc, input), input),
     }
 }
 
@@ -72,7 +65,7 @@ fn long_strings_with_escapes_give_themselves(rt: HostRuntime) -> Result<(), Fail
 }
 
 /// Kinds of bare items: what stands in front, a letter, and what stands after.
-const TEXTS: [(&str, &str, &str); 5] = [
+const TEXTS: &[(&str, &str, &str)] = &[
     ("\"", "a", "\""),
     ("\"", "\\\\", "\""),
     ("%\"", "a", "\""),
@@ -83,8 +76,8 @@ const TEXTS: [(&str, &str, &str); 5] = [
 #[test]
 fn texts_of_any_length_give_themselves(rt: HostRuntime) -> Result<(), Fail> {
     let alloc = rt.alloc();
-    for times in [31, 32, 33, 63, 64, 65, 1_001] {
-        for (front, text, end) in TEXTS {
+    for &times in &[31, 32, 33, 63, 64, 65, 1_001] {
+        for &(front, text, end) in TEXTS {
             let item = repeated(alloc, front, text, times, end)?;
             let parameter = format!(in alloc; "1;a={item};b")?;
             assert!(rt;
@@ -99,13 +92,13 @@ fn texts_of_any_length_give_themselves(rt: HostRuntime) -> Result<(), Fail> {
 #[test]
 fn a_hundred_and_one_parts_give_themselves(rt: HostRuntime) -> Result<(), Fail> {
     let alloc = rt.alloc();
-    let rows = [
+    let rows = &[
         ("list", "", "", ", ", ""),
         ("list", "(", "", " ", ")"),
         ("dict", "", "a", ", ", ""),
         ("item", "1;", "a", ";", ""),
     ];
-    for (field, begin, front, separator, end) in rows {
+    for &(field, begin, front, separator, end) in rows {
         let text = counted(alloc, begin, front, separator, end)?;
         assert!(rt; gives_itself(alloc, field, text.as_str()));
     }
@@ -121,7 +114,7 @@ fn bare_text(alloc: Global, input: &str) -> Option<String> {
 
 #[test]
 fn every_kind_is_read_as_a_bare_item(rt: HostRuntime) {
-    let rows = [
+    let rows = &[
         "1",
         "1.5",
         "\"a\\\"b\"",
@@ -131,7 +124,7 @@ fn every_kind_is_read_as_a_bare_item(rt: HostRuntime) {
         "@12",
         "%\"f%c3%bcr\"",
     ];
-    for row in rows {
+    for &row in rows {
         assert!(rt; has_text(bare_text(rt.alloc(), row), row), "{row}");
     }
 }

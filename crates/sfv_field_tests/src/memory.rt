@@ -9,7 +9,7 @@ use std::alloc::Global;
 const SIZES: std::ops::Range<usize> = 16..640;
 
 /// The canonical texts of items with a value of each kind, as their bare item and in a parameter.
-const ITEMS: [&str; 9] = [
+const ITEMS: &[&str] = &[
     "-999999999999999;a-key=-999999999999999",
     "-1234.567;a-key=-1234.567",
     "\"a \\\"long\\\" \\\\ one, with escapes\";a-key=\"a \\\"long\\\" \\\\ one, with escapes\"",
@@ -55,7 +55,7 @@ fn is_written_or_refused(alloc: Global, text: &str) -> bool {
 
 #[test]
 fn items_are_written_or_refused_and_the_old_text_stays(rt: HostRuntime) {
-    for text in ITEMS {
+    for &text in ITEMS {
         assert!(rt; is_written_or_refused(rt.alloc(), text), "{text}");
     }
 }

@@ -34,7 +34,7 @@ fn fault_of(alloc: Global, input: &[u8]) -> Option<usize> {
 
 /// Kinds of runs: what stands in front, a byte that ends the run wrongly, what stands after it, and how far after
 /// that byte the fault stands.
-const RUNS: [(&str, u8, &str, usize); 5] = [
+const RUNS: &[(&str, u8, &str, usize)] = &[
     ("\"", b'\\', "x\"", 1),
     ("%\"", b'%', "x\"", 1),
     ("a", b'"', "", 0),
@@ -44,7 +44,7 @@ const RUNS: [(&str, u8, &str, usize); 5] = [
 
 /// Whether runs of this length, with a wrong byte at this place, have their fault there.
 fn ends_at(alloc: Global, length: usize, stop: usize) -> Result<bool, AllocError> {
-    for (front, byte, ending, distance) in RUNS {
+    for &(front, byte, ending, distance) in RUNS {
         let text = text_of(alloc, front, length, stop, byte, ending)?;
         let wanted = front
             .len()
@@ -59,8 +59,8 @@ fn ends_at(alloc: Global, length: usize, stop: usize) -> Result<bool, AllocError
 
 #[test]
 fn runs_end_at_their_first_wrong_byte(rt: HostRuntime) -> Result<(), Fail> {
-    for length in [1, 8, 31, 32, 33, 44, 45, 64, 65, 1_000, 100_000] {
-        for stop in [0, 1, 11, 12, 13, 31, 32, 43, 44, 45, 63, 64, 999, 99_999] {
+    for &length in &[1, 8, 31, 32, 33, 44, 45, 64, 65, 1_000, 100_000] {
+        for &stop in &[0, 1, 11, 12, 13, 31, 32, 43, 44, 45, 63, 64, 999, 99_999] {
             if stop < length {
                 assert!(rt; ends_at(rt.alloc(), length, stop)?, "{stop} of {length}");
             }
@@ -71,11 +71,13 @@ fn runs_end_at_their_first_wrong_byte(rt: HostRuntime) -> Result<(), Fail> {
 
 /// How many bytes the bare item has, where all stand in the input as they are, or are encoded.
 fn length_of_value(alloc: Global, input: &[u8]) -> Option<usize> {
-    match Parser::new(input).parse_item::<BareItemFromInput<'_>>(alloc) {
-        Ok(GenericBareItem::String(StringFromInput::Borrowed(text))) => Some(text.as_str().len()),
-        Ok(GenericBareItem::DisplayString(CowStr::Borrowed(text))) => Some(text.len()),
-        Ok(GenericBareItem::Token(token)) => Some(token.as_str().len()),
-        Ok(GenericBareItem::ByteSequence(bytes)) => Some(bytes.len()),
+    let parser = Parser::new(input);
+    let value = parser.parse_item::<BareItemFromInput<'_>>(alloc).ok()?;
+    match &value {
+        GenericBareItem::String(StringFromInput::Borrowed(text)) => Some(text.as_str().len()),
+        GenericBareItem::DisplayString(CowStr::Borrowed(text)) => Some(text.len()),
+        GenericBareItem::Token(token) => Some(token.as_str().len()),
+        GenericBareItem::ByteSequence(bytes) => Some(bytes.len()),
         _ => None,
     }
 }
@@ -88,7 +90,7 @@ fn length_of_key(alloc: Global, input: &[u8]) -> Option<usize> {
 
 /// Kinds of runs: what stands in front and after, the length of what is read where all of 40 bytes are of its class, and
 /// the bytes of the class.
-const CLASSES: [(&str, &str, usize, &str); 5] = [
+const CLASSES: &[(&str, &str, usize, &str)] = &[
     (
         "\"",
         "\"",
@@ -118,7 +120,7 @@ const CLASSES: [(&str, &str, usize, &str); 5] = [
 
 /// Whether the byte is read as one of just those classes whose bytes have it, at this place of a run.
 fn is_of_its_classes(alloc: Global, stop: usize, byte: u8) -> Result<bool, AllocError> {
-    for (front, ending, length, bytes) in CLASSES {
+    for &(front, ending, length, bytes) in CLASSES {
         let text = text_of(alloc, front, 40, stop, byte, ending)?;
         let is_inside = length_of_value(alloc, text.as_slice()) == Some(length)
             || length_of_key(alloc, text.as_slice()) == Some(length);

@@ -79,12 +79,12 @@ fn is_list(alloc: Global, words: &str, wanted: &str) -> bool {
 
 #[test]
 fn lists_are_written_without_abandoned_inner_lists(rt: HostRuntime) {
-    let rows = [
+    let rows = &[
         ("1;?;2 x2;3 (3;?", "P=1;a;a=2, (3);a"),
         ("x1", "P="),
         ("x1 2", "P=2"),
     ];
-    for (words, wanted) in rows {
+    for &(words, wanted) in rows {
         assert!(rt; is_list(rt.alloc(), words, wanted), "{words}");
     }
 }
@@ -115,12 +115,12 @@ fn is_dictionary(alloc: Global, first: &str, second: &str, wanted: &str) -> bool
 
 #[test]
 fn dictionaries_are_written_without_abandoned_inner_lists(rt: HostRuntime) {
-    let rows = [
+    let rows = &[
         ("1;?", "(2;3", "a=1;a, b=(2);a=3"),
         ("x1", "?", "b"),
         ("x1", "x2", ""),
     ];
-    for (first, second, wanted) in rows {
+    for &(first, second, wanted) in rows {
         assert!(rt;
             is_dictionary(rt.alloc(), first, second, wanted),
             "{wanted}"

@@ -14,12 +14,12 @@ const DISPLAY: SerializeError = SerializeError::Unsupported(BareItemType::Displa
 
 #[test]
 fn errors_of_writing_print_why(rt: HostRuntime) {
-    let rows = [
+    let rows = &[
         (DATE, "RFC 8941 does not support dates"),
         (DISPLAY, "RFC 8941 does not support display strings"),
         (SerializeError::OutOfMemory, "out of memory"),
     ];
-    for (error, text) in rows {
+    for &(error, text) in rows {
         assert!(rt; has_text(error.to_string(rt.alloc()).ok(), text), "{text}");
     }
 }
@@ -32,26 +32,26 @@ fn refusal_of<T: FieldType>(alloc: Global, input: &str) -> Result<Option<Seriali
 
 #[test]
 fn fields_are_refused_at_their_first_value_that_the_version_lacks(rt: HostRuntime) {
-    let lists = [
+    let lists = &[
         ("1, @2, %\"q\"", Some(DATE)),
         ("1;a=%\"q\", @2", Some(DISPLAY)),
         ("(1 2;x=@1);y=%\"q\"", Some(DATE)),
         ("(1 2);y=%\"q\", @2", Some(DISPLAY)),
         ("1, (a;b=\"c\")", None),
     ];
-    for (input, refusal) in lists {
+    for &(input, refusal) in lists {
         assert!(rt;
             refusal_of::<List>(rt.alloc(), input) == Ok(refusal),
             "{input}"
         );
     }
-    let dictionaries = [
+    let dictionaries = &[
         ("a=1;x=%\"q\", b=@2", Some(DISPLAY)),
         ("a=1, b=(@2 %\"q\")", Some(DATE)),
         // A value that a later one took the place of isn't written.
         ("a=@1, a=2", None),
     ];
-    for (input, refusal) in dictionaries {
+    for &(input, refusal) in dictionaries {
         assert!(rt;
             refusal_of::<Dictionary>(rt.alloc(), input) == Ok(refusal),
             "{input}"

@@ -32,32 +32,32 @@ impl<'de, A: Allocator> Visitor<'de> for Teller<A> {
     ghost is_memory = { λ _. ⊤ };
 
     fn event(&mut self, event: Event<'de>) -> Result<(), AllocError> {
-        match event {
-            Event::BareItem(item) => {
-                self.text.push_str("bare ")?;
-                push_value(&mut self.text, &item)
-            }
-            Event::Parameter(key, value) => {
-                self.text.push_str(", ")?;
-                self.text.push_str(key.as_str())?;
-                self.text.push('=')?;
-                push_value(&mut self.text, &value)
-            }
-            Event::ParametersEnd => self.text.push_str(", end"),
-            Event::Entry => self.text.push_str("; entry "),
-            Event::KeyedEntry(key) => {
-                self.text.push_str("; entry ")?;
-                self.text.push_str(key.as_str())?;
-                self.text.push(' ')
-            }
-            Event::Item => self.text.push_str("item "),
-            Event::InnerList => self.text.push_str("list "),
-            Event::InnerListEnd => self.text.push_str(" list end"),
-        }
+        tell(&mut self.text, &event)
     }
 
     fn finish(self) -> Result<String<A>, AllocError> {
         Ok(self.text)
+    }
+}
+
+/// Writes an event.
+fn tell<A: Allocator>(text: &mut String<A>, event: &Event<'_>) -> Result<(), AllocError> {
+    let (front, key, end) = match event {
+        Event::BareItem(_) => ("bare ", "", ""),
+        Event::Parameter(key, _) => (", ", key.as_str(), "="),
+        Event::ParametersEnd => (", end", "", ""),
+        Event::Entry => ("; entry ", "", ""),
+        Event::KeyedEntry(key) => ("; entry ", key.as_str(), " "),
+        Event::Item => ("item ", "", ""),
+        Event::InnerList => ("list ", "", ""),
+        Event::InnerListEnd => (" list end", "", ""),
+    };
+    text.push_str(front)?;
+    text.push_str(key)?;
+    text.push_str(end)?;
+    match event {
+        Event::BareItem(value) | Event::Parameter(_, value) => push_value(text, value),
+        _ => Ok(()),
     }
 }
 
@@ -99,18 +99,9 @@ impl<'de> Visitor<'de> for Lender {
     ghost is_memory = { λ _. ⊥ };
 
     fn event(&mut self, event: Event<'de>) -> Result<(), u64> {
-        match event {
-            Event::BareItem(GenericBareItem::String(StringFromInput::Borrowed(_))) => {
-                self.is_borrowed = true;
-            }
-            Event::BareItem(GenericBareItem::DisplayString(CowStr::Borrowed(_))) => {
-                self.is_borrowed = true;
-            }
-            Event::Parameter(_, GenericBareItem::String(StringFromInput::Borrowed(_))) => {
-                self.is_borrowed = true;
-            }
-            Event::Parameter(_, GenericBareItem::DisplayString(CowStr::Borrowed(_))) => {
-                self.is_borrowed = true;
+        match &event {
+            Event::BareItem(value) | Event::Parameter(_, value) => {
+                self.is_borrowed |= is_borrowed(value);
             }
             _ => {}
         }
@@ -120,6 +111,15 @@ impl<'de> Visitor<'de> for Lender {
     fn finish(self) -> Result<bool, u64> {
         Ok(self.is_borrowed)
     }
+}
+
+/// Whether a string or a display string is borrowed.
+fn is_borrowed(value: &BareItemFromInput<'_>) -> bool {
+    matches!(
+        value,
+        GenericBareItem::String(StringFromInput::Borrowed(_))
+            | GenericBareItem::DisplayString(CowStr::Borrowed(_))
+    )
 }
 
 /// Whether the first text of an item is a slice of the input.
@@ -132,7 +132,7 @@ fn lends(alloc: Global, input: &[u8]) -> Option<bool> {
 
 #[test]
 fn texts_without_an_escape_are_borrowed(rt: HostRuntime) {
-    let rows = [
+    let rows = &[
         ("\"a%b\"", true),
         ("\"\"", true),
         ("\"a\\\\b\"", false),
@@ -144,7 +144,7 @@ fn texts_without_an_escape_are_borrowed(rt: HostRuntime) {
         ("1;a=%\"b\"", true),
         ("1;a=%\"%20\"", false),
     ];
-    for (input, is_borrowed) in rows {
+    for &(input, is_borrowed) in rows {
         assert!(rt;
             lends(rt.alloc(), input.as_bytes()) == Some(is_borrowed),
             "{input}"

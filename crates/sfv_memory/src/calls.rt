@@ -1,17 +1,30 @@
 //! The calls.
 
-use crate::reading::{Answer, Field, is_answer, read, read_into, write_for};
+use crate::reading::{Answer, is_answer, read, read_into_dictionary, read_into_list, write_for};
 use crate::{copies, scripts, writing};
 use sfv::{Dictionary, Error, ErrorKind, Item, List};
 use std::alloc::Global;
+
+/// The types of fields.
+#[derive(Clone, Copy)]
+pub enum Field {
+    /// An item.
+    Item,
+    /// A list.
+    List,
+    /// A dictionary.
+    Dictionary,
+}
 
 /// A call, or a few that lead to one.
 #[derive(Clone, Copy)]
 pub enum Call {
     /// A field is read and written again.
     Read(Field, &'static [u8], Answer),
-    /// A line is read into the value of another.
-    ReadInto(Field, &'static [u8], &'static [u8], Answer),
+    /// A line is read into the list of another.
+    ReadIntoList(&'static [u8], &'static [u8], Answer),
+    /// A line is read into the dictionary of another.
+    ReadIntoDictionary(&'static [u8], &'static [u8], Answer),
     /// A field is read and written for RFC 8941.
     WriteFor(Field, &'static str),
     /// A key is copied and cloned.
@@ -61,7 +74,7 @@ pub enum Call {
 }
 
 /// Each, with what it answers.
-pub const CALLS: [Call; 52] = [
+pub const CALLS: &[Call] = &[
     Call::Read(
         Field::Item,
         b"\"a\\\"b\";k=:aGk:;d=%\"%c3%bc\";k=tok",
@@ -92,26 +105,22 @@ pub const CALLS: [Call; 52] = [
         b"a=\"a\\\"b\", b=(:aGk:);q, a=",
         Answer::Fault(ErrorKind::ExpectedStartOfBareItem, 25),
     ),
-    Call::ReadInto(
-        Field::List,
+    Call::ReadIntoList(
         b"1, (\"a\")",
         b"\"x\\\"y\", 2",
         Answer::Text("1, (\"a\"), \"x\\\"y\", 2"),
     ),
-    Call::ReadInto(
-        Field::List,
+    Call::ReadIntoList(
         b"1, (\"a\")",
         b"\"x\\\"y\", 2,",
         Answer::Fault(ErrorKind::TrailingComma, 9),
     ),
-    Call::ReadInto(
-        Field::Dictionary,
+    Call::ReadIntoDictionary(
         b"a=1, b=2",
         b"b=\"q\\\"\";y, c",
         Answer::Text("a=1, b=\"q\\\"\";y, c"),
     ),
-    Call::ReadInto(
-        Field::Dictionary,
+    Call::ReadIntoDictionary(
         b"a=1, b=2",
         b"b=\"q\\\"\";y, c=",
         Answer::Fault(ErrorKind::ExpectedStartOfBareItem, 13),
@@ -160,14 +169,28 @@ pub const CALLS: [Call; 52] = [
     Call::RunDict(true),
 ];
 
+/// Reads a field of this type, and writes its value.
+fn read_as(alloc: Global, field: Field, input: &[u8]) -> Result<Option<String>, Error> {
+    match field {
+        Field::Item => read::<Item>(alloc, input),
+        Field::List => read::<List>(alloc, input),
+        Field::Dictionary => read::<Dictionary>(alloc, input),
+    }
+}
+
 /// Makes a call. Returns whether its answer is the one that it gives with enough memory, or that it is out of memory.
 pub fn perform(alloc: Global, call: Call) -> Result<bool, Error> {
     match call {
-        Call::Read(field, input, answer) => is_answer(read(alloc, field, input), answer),
-        Call::ReadInto(field, held, line, answer) => {
-            is_answer(read_into(alloc, field, held, line), answer)
+        Call::Read(field, input, answer) => is_answer(read_as(alloc, field, input), answer),
+        Call::ReadIntoList(held, line, answer) => {
+            is_answer(read_into_list(alloc, held, line), answer)
         }
-        Call::WriteFor(field, input) => write_for(alloc, field, input),
+        Call::ReadIntoDictionary(held, line, answer) => {
+            is_answer(read_into_dictionary(alloc, held, line), answer)
+        }
+        Call::WriteFor(Field::Item, input) => write_for::<Item>(alloc, input),
+        Call::WriteFor(Field::List, input) => write_for::<List>(alloc, input),
+        Call::WriteFor(Field::Dictionary, input) => write_for::<Dictionary>(alloc, input),
         Call::CopyKey => copies::key(alloc),
         Call::CopyToken => copies::token(alloc),
         Call::CopyString => copies::string(alloc),

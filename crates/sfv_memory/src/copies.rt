@@ -53,10 +53,19 @@ pub fn bare_item(alloc: Global, row: usize) -> Result<bool, Error> {
     is_cloned(&value.try_to_owned(alloc)?, &value.try_to_owned(alloc)?)
 }
 
+/// Whether the value is this string.
+fn is_string(value: &BareItem, text: &str) -> Result<bool, Error> {
+    Ok(
+        value
+            .as_string()
+            .is_some_and(|string| string.as_str() == text),
+    )
+}
+
 /// Copies a string as it was read.
 pub fn read_string(alloc: Global, input: &[u8], text: &str) -> Result<bool, Error> {
     match Parser::new(input).parse_item::<BareItemFromInput<'_>>(alloc) {
-        Ok(read) => Ok(read.try_into_owned(alloc)?.as_string().map(|s| s.as_str()) == Some(text)),
+        Ok(read) => is_string(&read.try_into_owned(alloc)?, text),
         Err(ParseError::Syntax(error)) => Err(error),
         Err(ParseError::Visitor(fault)) => refused_if(fault == ItemFault::OutOfMemory),
     }
@@ -70,8 +79,8 @@ pub fn field<T: FieldType + Clone + PartialEq>(alloc: Global, input: &[u8]) -> R
 
 /// Clones the first member of a list.
 pub fn member(alloc: Global, input: &[u8]) -> Result<bool, Error> {
-    let parser = Parser::new(input);
-    let (list, again) = (parser.parse::<List>(alloc)?, parser.parse::<List>(alloc)?);
+    let list = Parser::new(input).parse::<List>(alloc)?;
+    let again = Parser::new(input).parse::<List>(alloc)?;
     match (list[..].first(), again[..].first()) {
         (Some(member), Some(same)) => is_cloned(member, same),
         _ => Ok(false),
@@ -80,8 +89,8 @@ pub fn member(alloc: Global, input: &[u8]) -> Result<bool, Error> {
 
 /// Clones the inner list that is the first member of a list.
 pub fn inner_list(alloc: Global, input: &[u8]) -> Result<bool, Error> {
-    let parser = Parser::new(input);
-    let (list, again) = (parser.parse::<List>(alloc)?, parser.parse::<List>(alloc)?);
+    let list = Parser::new(input).parse::<List>(alloc)?;
+    let again = Parser::new(input).parse::<List>(alloc)?;
     match (list[..].first(), again[..].first()) {
         (Some(ListEntry::InnerList(inner)), Some(ListEntry::InnerList(same))) => {
             is_cloned(inner, same)
@@ -92,25 +101,23 @@ pub fn inner_list(alloc: Global, input: &[u8]) -> Result<bool, Error> {
 
 /// Enters a member.
 pub fn entered(alloc: Global) -> Result<bool, Error> {
+    let key = key_ref("b").to_owned(alloc)?;
     let mut dictionary: Dictionary = sfv::dictionary(alloc);
     let member = ListEntry::Item(Item::new(alloc, BareItem::from(true)));
-    let answer = insert_entry(&mut dictionary, key_ref("b").to_owned(alloc)?, member);
-    match answer {
-        Ok(old) => Ok(old.is_none() && dictionary.len() == 1),
-        Err(_) => refused_if(dictionary.is_empty()),
-    }
+    let was_new = match insert_entry(&mut dictionary, key, member) {
+        Ok(old) => old.is_none(),
+        Err(_) => return refused_if(dictionary.is_empty()),
+    };
+    Ok(was_new && dictionary.len() == 1)
 }
 
 /// Enters a parameter.
 pub fn parameter_entered(alloc: Global) -> Result<bool, Error> {
+    let key = key_ref("b").to_owned(alloc)?;
     let mut params: Parameters = sfv::parameters(alloc);
-    let answer = insert_param(
-        &mut params,
-        key_ref("b").to_owned(alloc)?,
-        BareItem::from(true),
-    );
-    match answer {
-        Ok(old) => Ok(old.is_none() && params.len() == 1),
-        Err(_) => refused_if(params.is_empty()),
-    }
+    let was_new = match insert_param(&mut params, key, BareItem::from(true)) {
+        Ok(old) => old.is_none(),
+        Err(_) => return refused_if(params.is_empty()),
+    };
+    Ok(was_new && params.len() == 1)
 }

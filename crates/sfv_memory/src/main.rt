@@ -52,7 +52,7 @@ fn main(rt: HostRuntime) -> io::Result<ExitCode> {
     let len = rt.stdin().read(&mut bytes)?;
     let named = number_of(bytes.get(..len).unwrap_or(&[]));
     let (mut made, mut refused) = (0u8, 0u8);
-    for (number, call) in CALLS.into_iter().enumerate() {
+    for (number, &call) in CALLS.iter().enumerate() {
         if named.is_none_or(|named| named == number) {
             made = made.saturating_add(1);
             match perform(alloc, call) {

@@ -3,21 +3,10 @@
 use crate::refused_if;
 use sfv::visitor::{DictionaryBuilder, ListBuilder};
 use sfv::{
-    Dictionary, Error, ErrorKind, FieldType, Item, List, OutOfMemory, ParseError, Parser,
-    SerializeError, Version,
+    Dictionary, Error, ErrorKind, FieldType, List, OutOfMemory, ParseError, Parser, SerializeError,
+    Version,
 };
 use std::alloc::Global;
-
-/// The types of fields.
-#[derive(Clone, Copy)]
-pub enum Field {
-    /// An item.
-    Item,
-    /// A list.
-    List,
-    /// A dictionary.
-    Dictionary,
-}
 
 /// What is read of an input: a value of this canonical text, or a fault.
 #[derive(Clone, Copy)]
@@ -28,10 +17,18 @@ pub enum Answer {
     Fault(ErrorKind, usize),
 }
 
+/// Whether there is a text, and it is the one that is wanted.
+fn has_text(text: Option<String>, wanted: &str) -> bool {
+    match text {
+        Some(text) => text.as_str() == wanted,
+        None => false,
+    }
+}
+
 /// Whether this is the answer.
 pub fn is_answer(read: Result<Option<String>, Error>, answer: Answer) -> Result<bool, Error> {
     match answer {
-        Answer::Text(want) => Ok(read?.as_ref().map(|text| text.as_str()) == Some(want)),
+        Answer::Text(want) => Ok(has_text(read?, want)),
         Answer::Fault(kind, index) => match read {
             Err(error) if error.kind() == kind => Ok(error.index() == Some(index)),
             Err(error) => Err(error),
@@ -41,67 +38,50 @@ pub fn is_answer(read: Result<Option<String>, Error>, answer: Answer) -> Result<
 }
 
 /// Reads a field, and writes its value.
-pub fn read(alloc: Global, field: Field, input: &[u8]) -> Result<Option<String>, Error> {
-    let parser = Parser::new(input);
-    Ok(match field {
-        Field::Item => Some(parser.parse::<Item>(alloc)?.serialize(alloc)?),
-        Field::List => parser.parse::<List>(alloc)?.serialize(alloc)?,
-        Field::Dictionary => parser.parse::<Dictionary>(alloc)?.serialize(alloc)?,
-    })
+pub fn read<T: FieldType>(alloc: Global, input: &[u8]) -> Result<Option<String>, Error> {
+    let value = Parser::new(input).parse::<T>(alloc)?;
+    Ok(value.serialize(alloc)?.into())
 }
 
 /// Reads a field of this canonical text, and writes its value for RFC 8941.
-pub fn write_for(alloc: Global, field: Field, input: &str) -> Result<bool, Error> {
-    let parser = Parser::new(input.as_bytes());
-    let version = Version::Rfc8941;
-    let answer = match field {
-        Field::Item => match parser.parse::<Item>(alloc)?.serialize_for(alloc, version) {
-            Ok(text) => Ok(Some(text)),
-            Err(error) => Err(error),
-        },
-        Field::List => parser.parse::<List>(alloc)?.serialize_for(alloc, version),
-        Field::Dictionary => parser
-            .parse::<Dictionary>(alloc)?
-            .serialize_for(alloc, version),
-    };
-    match answer {
-        Ok(text) => Ok(text.as_ref().map(|text| text.as_str()) == Some(input)),
+pub fn write_for<T: FieldType>(alloc: Global, input: &str) -> Result<bool, Error> {
+    let value = Parser::new(input.as_bytes()).parse::<T>(alloc)?;
+    match value.serialize_for(alloc, Version::Rfc8941) {
+        Ok(text) => Ok(has_text(text.into(), input)),
         Err(error) => refused_if(error == SerializeError::OutOfMemory),
     }
 }
 
-/// The error of a reading whose visitor fails for memory alone.
-fn error_of(error: ParseError<OutOfMemory>) -> Error {
-    match error {
-        ParseError::Syntax(error) => error,
-        ParseError::Visitor(error) => Error::from(error),
+/// Writes the value of a reading whose visitor fails for memory alone.
+fn written<T: FieldType>(
+    alloc: Global,
+    read: Result<T, ParseError<OutOfMemory>>,
+) -> Result<Option<String>, Error> {
+    match read {
+        Ok(value) => Ok(value.serialize(alloc)?.into()),
+        Err(ParseError::Syntax(error)) => Err(error),
+        Err(ParseError::Visitor(error)) => Err(Error::from(error)),
     }
 }
 
-/// Reads a line into the value of another, and writes the value; an item has one line.
-pub fn read_into(
+/// Reads a line into the list of another, and writes the list.
+pub fn read_into_list(alloc: Global, held: &[u8], line: &[u8]) -> Result<Option<String>, Error> {
+    let parser = Parser::new(line);
+    let held = Parser::new(held).parse::<List>(alloc)?;
+    let builder = ListBuilder::new(held, parser.hash_seed());
+    written(alloc, parser.parse_list_with_visitor(alloc, builder))
+}
+
+/// The same of a dictionary.
+pub fn read_into_dictionary(
     alloc: Global,
-    field: Field,
     held: &[u8],
     line: &[u8],
 ) -> Result<Option<String>, Error> {
-    let parser = Parser::new(line);
-    let seed = parser.hash_seed();
-    match field {
-        Field::Item => Ok(None),
-        Field::List => {
-            let builder = ListBuilder::new(Parser::new(held).parse::<List>(alloc)?, seed);
-            match parser.parse_list_with_visitor(alloc, builder) {
-                Ok(list) => Ok(list.serialize(alloc)?),
-                Err(error) => Err(error_of(error)),
-            }
-        }
-        Field::Dictionary => {
-            let builder = DictionaryBuilder::new(Parser::new(held).parse::<Dictionary>(alloc)?);
-            match parser.parse_dictionary_with_visitor(alloc, builder) {
-                Ok(dictionary) => Ok(dictionary.serialize(alloc)?),
-                Err(error) => Err(error_of(error)),
-            }
-        }
-    }
+    let held = Parser::new(held).parse::<Dictionary>(alloc)?;
+    let builder = DictionaryBuilder::new(held);
+    written(
+        alloc,
+        Parser::new(line).parse_dictionary_with_visitor(alloc, builder),
+    )
 }

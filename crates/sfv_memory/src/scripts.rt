@@ -46,15 +46,20 @@ fn named_calls<'a>(alloc: Global) -> Result<Vec<(KeyRef<'a>, MemberCalls<'a>)>, 
     Ok(vec![in alloc; item, inner_list]?)
 }
 
-/// An item, by calls that are bound to a version or not.
+/// Whether an item is refused, by calls that are bound to a version or not.
+fn is_item_refused(text: &mut String, calls: &ItemCalls<'_>, bound: bool) -> bool {
+    if bound {
+        run_item_for(Version::Rfc8941, text, calls).is_err()
+    } else {
+        run_item(text, calls).is_err()
+    }
+}
+
+/// An item, by such calls.
 pub fn item(alloc: Global, bound: bool) -> Result<bool, Error> {
     let calls = item_calls(alloc)?;
     let mut text = String::from_str(alloc, "P=")?;
-    let refused = if bound {
-        run_item_for(Version::Rfc8941, &mut text, &calls).is_err()
-    } else {
-        run_item(&mut text, &calls).is_err()
-    };
+    let refused = is_item_refused(&mut text, &calls, bound);
     is_left(
         refused,
         Some(text.as_str()),
@@ -63,28 +68,42 @@ pub fn item(alloc: Global, bound: bool) -> Result<bool, Error> {
     )
 }
 
+/// Whether a list is refused.
+fn is_list_refused(text: &mut String, calls: &[MemberCalls<'_>], bound: bool) -> bool {
+    if bound {
+        run_list_for(Version::Rfc8941, text, calls).is_err()
+    } else {
+        run_list(text, calls).is_err()
+    }
+}
+
 /// A list, by such calls.
 pub fn list(alloc: Global, bound: bool) -> Result<bool, Error> {
     let calls = member_calls(alloc)?;
     let mut text = String::from_str(alloc, "P=")?;
-    let refused = if bound {
-        run_list_for(Version::Rfc8941, &mut text, &calls[..]).is_err()
-    } else {
-        run_list(&mut text, &calls[..]).is_err()
-    };
+    let refused = is_list_refused(&mut text, calls.as_slice(), bound);
     let written = "P=\"a \\\"b\\\"\";a=?0, (\"a \\\"b\\\"\";a=?0);b=?0";
     is_left(refused, Some(text.as_str()), Some("P="), written)
+}
+
+/// Whether a dictionary is refused.
+fn is_dictionary_refused(
+    text: &mut String,
+    calls: &[(KeyRef<'_>, MemberCalls<'_>)],
+    bound: bool,
+) -> bool {
+    if bound {
+        run_dict_for(Version::Rfc8941, text, calls).is_err()
+    } else {
+        run_dict(text, calls).is_err()
+    }
 }
 
 /// A dictionary, by such calls.
 pub fn dictionary(alloc: Global, bound: bool) -> Result<bool, Error> {
     let calls = named_calls(alloc)?;
     let mut text = String::from_str(alloc, "P=")?;
-    let refused = if bound {
-        run_dict_for(Version::Rfc8941, &mut text, &calls[..]).is_err()
-    } else {
-        run_dict(&mut text, &calls[..]).is_err()
-    };
+    let refused = is_dictionary_refused(&mut text, calls.as_slice(), bound);
     let written = "P=x=\"a \\\"b\\\"\";a=?0, y=(\"a \\\"b\\\"\";a=?0);b=?0";
     is_left(refused, Some(text.as_str()), Some("P="), written)
 }

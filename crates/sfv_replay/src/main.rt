@@ -14,7 +14,7 @@ mod replay;
 
 use crate::failures::calls_of;
 use crate::positions::{is_reach, stands_at_reach};
-use crate::replay::{Field, answer_of, canonical_text, input_of, parse_line};
+use crate::replay::{Case, Field, answer_of, canonical_text, input_of, parse_line};
 use sfv::Version;
 use std::alloc::Global;
 use std::io;
@@ -47,43 +47,93 @@ impl Tries {
     }
 }
 
-fn main(rt: HostRuntime) -> io::Result<ExitCode> {
-    let alloc = rt.alloc();
-    let (mut answers, mut faults) = (Tries::default(), Tries::default());
-    let mut visits = Tries::default();
-    for line in BufReader::new(alloc, rt.reader())?.lines(alloc) {
-        let line = line?;
-        let Some(case) = parse_line(line.as_str()) else {
-            println!(rt; "can't be read: {line}")?;
-            return Ok(ExitCode::FAILURE);
-        };
-        let Some(input) = input_of(alloc, &case) else {
-            println!(rt; "has no hexadecimal: {line}")?;
-            return Ok(ExitCode::FAILURE);
-        };
-        let got = answer_of(alloc, case.field, case.version, &input)?;
-        if answers.fails(got.as_str() == case.answer) {
+/// How often the answers, the faults and the visits were tried.
+#[derive(Clone, Copy, Default)]
+struct Counts {
+    answers: Tries,
+    faults: Tries,
+    visits: Tries,
+}
+
+impl Counts {
+    /// Whether no try failed.
+    fn has_passed(&self) -> bool {
+        self.answers.failed == 0 && self.faults.failed == 0 && self.visits.failed == 0
+    }
+
+    /// Tries the case of a line, and prints the line with what failed.
+    fn try_case(
+        &mut self,
+        rt: &HostRuntime,
+        line: &str,
+        case: &Case<'_>,
+        input: &[u8],
+    ) -> io::Result<()> {
+        let (alloc, field, version) = (rt.alloc(), case.field, case.version);
+        let got = answer_of(alloc, field, version, input)?;
+        if self.answers.fails(got.as_str() == case.answer) {
             println!(rt; "differs: {line}, but got {got}")?;
         }
-        if let Some(index) = fault_at_reach(alloc, case.field, case.version, &input) {
-            if faults.fails(is_reach(alloc, case.field, case.version, &input, index)?) {
+        if let Some(index) = fault_at_reach(alloc, field, version, input) {
+            if self
+                .faults
+                .fails(is_reach(alloc, field, version, input, index)?)
+            {
                 println!(rt; "goes on elsewhere: {line}")?;
             }
         }
-        if visits.fails(calls_of(alloc, case.field, case.version, &input) == Some(case.calls)) {
+        if self
+            .visits
+            .fails(calls_of(alloc, field, version, input) == Some(case.calls))
+        {
             println!(rt; "is visited otherwise: {line}")?;
         }
+        Ok(())
     }
-    println!(rt; "{} lines, {} differ", answers.all, answers.failed)?;
-    println!(rt;
-        "{} faults at the reach, {} elsewhere",
-        faults.all, faults.failed
-    )?;
-    println!(rt;
-        "{} visited with a failure at each call, {} otherwise",
-        visits.all, visits.failed
-    )?;
-    Ok(if answers.failed == 0 && faults.failed == 0 && visits.failed == 0 {
+
+    /// Tries a line, and returns whether it is one.
+    fn try_line(&mut self, rt: &HostRuntime, line: &str) -> io::Result<bool> {
+        let Some(case) = parse_line(line) else {
+            println!(rt; "can't be read: {line}")?;
+            return Ok(false);
+        };
+        let Some(input) = input_of(rt.alloc(), &case) else {
+            println!(rt; "has no hexadecimal: {line}")?;
+            return Ok(false);
+        };
+        self.try_case(rt, line, &case, &input)?;
+        Ok(true)
+    }
+
+    /// Prints how many there were of each.
+    fn print(&self, rt: &HostRuntime) -> io::Result<()> {
+        let Counts {
+            answers,
+            faults,
+            visits,
+        } = self;
+        println!(rt; "{} lines, {} differ", answers.all, answers.failed)?;
+        println!(rt;
+            "{} faults at the reach, {} elsewhere",
+            faults.all, faults.failed
+        )?;
+        println!(rt;
+            "{} visited with a failure at each call, {} otherwise",
+            visits.all, visits.failed
+        )
+    }
+}
+
+fn main(rt: HostRuntime) -> io::Result<ExitCode> {
+    let alloc = rt.alloc();
+    let mut counts = Counts::default();
+    for line in BufReader::new(alloc, rt.reader())?.lines(alloc) {
+        if !counts.try_line(&rt, line?.as_str())? {
+            return Ok(ExitCode::FAILURE);
+        }
+    }
+    counts.print(&rt)?;
+    Ok(if counts.has_passed() {
         ExitCode::SUCCESS
     } else {
         ExitCode::FAILURE

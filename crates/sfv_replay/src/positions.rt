@@ -7,7 +7,7 @@ use std::alloc::{AllocError, Global};
 
 /// With one of these, and perhaps a closing parenthesis, each text goes on in front of a fault whose kind has no rule: an
 /// end, a digit, a key's first byte, what ends a string or is escaped in it, and what ends a byte sequence.
-const ENDINGS: [&str; 10] = ["", "1", "a", "\"", "\"\"", ":", "A:", "AA:", "=:", "==:"];
+const ENDINGS: &[&str] = &["", "1", "a", "\"", "\"\"", ":", "A:", "AA:", "=:", "==:"];
 
 /// Whether every fault of this kind stands at the reach of the text.
 pub fn stands_at_reach(kind: ErrorKind) -> bool {
@@ -31,6 +31,14 @@ pub fn stands_at_reach(kind: ErrorKind) -> bool {
     )
 }
 
+/// The text with an ending, and what closes it.
+fn text_of(alloc: Global, front: &[u8], ending: &str, close: &str) -> Result<Vec<u8>, AllocError> {
+    let mut text = Vec::from_slice(alloc, front)?;
+    text.extend_from_slice(ending.as_bytes())?;
+    text.extend_from_slice(close.as_bytes())?;
+    Ok(text)
+}
+
 /// Whether the text goes on with one of the endings.
 fn goes_on(
     alloc: Global,
@@ -38,12 +46,9 @@ fn goes_on(
     version: Version,
     front: &[u8],
 ) -> Result<bool, AllocError> {
-    for ending in ENDINGS {
-        for close in ["", ")"] {
-            let mut text = Vec::new(alloc);
-            text.extend_from_slice(front)?;
-            text.extend_from_slice(ending.as_bytes())?;
-            text.extend_from_slice(close.as_bytes())?;
+    for &ending in ENDINGS {
+        for &close in &["", ")"] {
+            let text = text_of(alloc, front, ending, close)?;
             if canonical_text(alloc, field, version, text.as_slice()).is_ok() {
                 return Ok(true);
             }

@@ -61,6 +61,12 @@ pub fn input_of(alloc: Global, case: &Case<'_>) -> Option<Vec<u8>> {
     hex::decode(alloc, digits).ok()
 }
 
+/// The canonical text of what the parser reads as a field; none of an empty list or dictionary.
+fn text_as<T: FieldType>(alloc: Global, parser: Parser<'_>) -> Result<Option<String>, Error> {
+    let field = parser.parse::<T>(alloc)?;
+    Ok(field.serialize(alloc)?.into())
+}
+
 /// The canonical text of an input as a field of this type; none of an empty list or dictionary.
 pub fn canonical_text(
     alloc: Global,
@@ -69,12 +75,11 @@ pub fn canonical_text(
     input: &[u8],
 ) -> Result<Option<String>, Error> {
     let parser = Parser::new(input).with_version(version);
-    let text = match field {
-        Field::Item => Some(parser.parse::<Item>(alloc)?.serialize(alloc)?),
-        Field::List => parser.parse::<List>(alloc)?.serialize(alloc)?,
-        Field::Dictionary => parser.parse::<Dictionary>(alloc)?.serialize(alloc)?,
-    };
-    Ok(text)
+    match field {
+        Field::Item => text_as::<Item>(alloc, parser),
+        Field::List => text_as::<List>(alloc, parser),
+        Field::Dictionary => text_as::<Dictionary>(alloc, parser),
+    }
 }
 
 /// What the library answers to an input, as a line has it.

@@ -20,7 +20,7 @@ fn has_hit(alloc: Global, input: &str, expected: Option<Option<i64>>) -> bool {
 // The examples of RFC 9211, section 3, and others.
 #[test]
 fn last_hits_are_found(rt: HostRuntime) {
-    let rows = [
+    let rows = &[
         ("ExampleCache; hit", Some(None)),
         ("ExampleCache; hit; ttl=376", Some(Some(376))),
         ("ExampleCache; hit; ttl=-412", Some(Some(-412))),
@@ -40,7 +40,7 @@ fn last_hits_are_found(rt: HostRuntime) {
         ("a; hit, (b; ttl=1); ttl=2", Some(None)),
         ("a; hit; ttl=\"\\\"\"", Some(None)),
     ];
-    for (input, expected) in rows {
+    for &(input, expected) in rows {
         assert!(rt; has_hit(rt.alloc(), input, expected));
     }
 }
@@ -55,7 +55,7 @@ fn has_fault(alloc: Global, input: &str, version: Version, kind: ErrorKind, inde
 
 #[test]
 fn faults_have_their_place(rt: HostRuntime) {
-    let rows = [
+    let rows = &[
         ("a; hit,", Version::Rfc9651, ErrorKind::TrailingComma, 6),
         (
             "a; hit, b; Hit",
@@ -70,7 +70,7 @@ fn faults_have_their_place(rt: HostRuntime) {
             15,
         ),
     ];
-    for (input, version, kind, index) in rows {
+    for &(input, version, kind, index) in rows {
         assert!(rt; has_fault(rt.alloc(), input, version, kind, index));
     }
 }

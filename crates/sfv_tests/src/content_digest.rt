@@ -61,7 +61,7 @@ fn has_fault(alloc: Global, field: &str, fault: Error) -> bool {
 
 #[test]
 fn faults_have_their_error(rt: HostRuntime) {
-    for field in ["sha-256=1", "sha-512=(:AA==:)", "sha-256=:AA==:, sha-256"] {
+    for &field in &["sha-256=1", "sha-512=(:AA==:)", "sha-256=:AA==:, sha-256"] {
         assert!(rt; is_of_wrong_type(rt.alloc(), field), "{field}");
     }
     let fault = Error::at(ErrorKind::InvalidByteSequence, 10);

@@ -51,7 +51,7 @@ fn is_answer<T: FieldType<SerializeResult = Option<String>>>(
 
 #[test]
 fn further_lines_of_a_list_go_after_the_earlier(rt: HostRuntime) {
-    let rows = [
+    let rows = &[
         (
             "11, (12 13)",
             "\"foo\",        \"bar\"",
@@ -61,7 +61,7 @@ fn further_lines_of_a_list_go_after_the_earlier(rt: HostRuntime) {
         ("", "1", "1"),
         ("1", "2,", "trailing comma at index 1"),
     ];
-    for (held, line, text) in rows {
+    for &(held, line, text) in rows {
         let (held, line) = (held.as_bytes(), line.as_bytes());
         let list = list_of_lines(rt.alloc(), HashSeed::new(1), held, line);
         assert!(rt; is_answer(rt.alloc(), list, text), "{text}");
@@ -70,14 +70,14 @@ fn further_lines_of_a_list_go_after_the_earlier(rt: HostRuntime) {
 
 #[test]
 fn further_lines_of_a_dictionary_replace_what_stood_under_a_key(rt: HostRuntime) {
-    let rows = [
+    let rows = &[
         ("a=1, b=2", "a=3", "a=3, b=2"),
         ("a=1;x, b=(1 2)", "b=3;y, c, a=4", "a=4, b=3;y, c"),
         ("a=1", "   ", "a=1"),
         ("a=1", "b=", "expected start of bare item at index 2"),
         ("", "a", "a"),
     ];
-    for (held, line, text) in rows {
+    for &(held, line, text) in rows {
         let (held, line) = (held.as_bytes(), line.as_bytes());
         let dictionary = dictionary_of_lines(rt.alloc(), HashSeed::new(1), held, line);
         assert!(rt; is_answer(rt.alloc(), dictionary, text), "{text}");

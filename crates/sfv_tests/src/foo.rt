@@ -4,9 +4,25 @@ use sfv::{Dictionary, Error, ErrorKind, ParseError, Parser, Version};
 use sfv_answers::foo::{Color, Foo, FooFault, foo_from_dictionary, read_foo};
 use std::alloc::Global;
 
-fn found(color: Color, strong: bool) -> Result<Foo, FooFault> {
-    Ok(Foo { color, strong })
-}
+const RED: Result<Foo, FooFault> = Ok(Foo {
+    color: Color::Red,
+    strong: false,
+});
+
+const STRONG_RED: Result<Foo, FooFault> = Ok(Foo {
+    color: Color::Red,
+    strong: true,
+});
+
+const BLUE: Result<Foo, FooFault> = Ok(Foo {
+    color: Color::Blue,
+    strong: false,
+});
+
+const STRONG_BLUE: Result<Foo, FooFault> = Ok(Foo {
+    color: Color::Blue,
+    strong: true,
+});
 
 /// What the visitor finds, if the input is a dictionary.
 fn by_visitor(alloc: Global, version: Version, input: &[u8]) -> Option<Result<Foo, FooFault>> {
@@ -37,25 +53,22 @@ fn is_found(
 #[test]
 fn both_ways(rt: HostRuntime) {
     let alloc = rt.alloc();
-    let rows = [
-        ("color=123;strong, color=red", found(Color::Red, false)),
-        ("color=red;strong=a;strong", found(Color::Red, true)),
-        ("x=(red), color=blue;strong", found(Color::Blue, true)),
+    let rows = &[
+        ("color=123;strong, color=red", RED),
+        ("color=red;strong=a;strong", STRONG_RED),
+        ("x=(red), color=blue;strong", STRONG_BLUE),
         ("color=(red;strong);strong", Err(FooFault::ColorWrongType)),
         ("color=green;strong=a", Err(FooFault::ColorInvalid)),
         ("color=red;strong=a", Err(FooFault::StrongWrongType)),
         ("", Err(FooFault::ColorMissing)),
         // A value stands only for itself, and a member only for its own parameters.
-        ("color=red;strong, color=blue", found(Color::Blue, false)),
+        ("color=red;strong, color=blue", BLUE),
         ("color, x=red;strong", Err(FooFault::ColorWrongType)),
         ("color=\"red\"", Err(FooFault::ColorWrongType)),
-        (
-            "color=blue;strong=?0;x, y;strong",
-            found(Color::Blue, false),
-        ),
+        ("color=blue;strong=?0;x, y;strong", BLUE),
         ("color=red, color=(blue)", Err(FooFault::ColorWrongType)),
     ];
-    for (input, expected) in rows {
+    for &(input, expected) in rows {
         let holds = is_found(alloc, Version::Rfc8941, input.as_bytes(), expected)
             && is_found(alloc, Version::Rfc9651, input.as_bytes(), expected);
         assert!(rt; holds, "{input}");
@@ -81,13 +94,13 @@ fn is_printed(alloc: Global, fault: FooFault, wanted: &str) -> bool {
 
 #[test]
 fn faults_are_printed(rt: HostRuntime) {
-    let rows = [
+    let rows = &[
         (FooFault::ColorMissing, "color missing"),
         (FooFault::ColorWrongType, "color wrong type"),
         (FooFault::ColorInvalid, "color invalid"),
         (FooFault::StrongWrongType, "strong wrong type"),
     ];
-    for (fault, text) in rows {
+    for &(fault, text) in rows {
         assert!(rt; is_printed(rt.alloc(), fault, text), "{text}");
     }
 }

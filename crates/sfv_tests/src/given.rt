@@ -96,7 +96,7 @@ fn the_first_item_is_kept(rt: HostRuntime) {
 #[test]
 fn an_item_of_another_kind_fails_with_its_kind(rt: HostRuntime) {
     let expected = BareItemType::Integer;
-    let rows = [
+    let rows = &[
         ("5.0", BareItemType::Decimal),
         ("\"a\"", BareItemType::String),
         (":AQI=:", BareItemType::ByteSequence),
@@ -106,7 +106,7 @@ fn an_item_of_another_kind_fails_with_its_kind(rt: HostRuntime) {
         ("@5", BareItemType::Date),
         ("%\"a\"", BareItemType::DisplayString),
     ];
-    for (input, got) in rows {
+    for &(input, got) in rows {
         let fault = Err(ItemFault::WrongType { expected, got });
         assert!(rt; first_of(rt.alloc(), input.as_bytes()) == fault, "{input}");
     }
@@ -226,21 +226,26 @@ fn smallness(alloc: Global, input: &[u8]) -> Result<bool, ItemFault> {
     }
 }
 
+/// The fault of a token where an integer is expected.
+const NO_INTEGER: ItemFault = ItemFault::WrongType {
+    expected: BareItemType::Integer,
+    got: BareItemType::Token,
+};
+
 #[test]
 fn functions_are_called_on_the_answer_of_a_visitor(rt: HostRuntime) {
     let alloc = rt.alloc();
     let visitor = parameter_visitor_with(Ignored, seven);
     let answer = Parser::new(b"a;b").parse_item_with_visitor(alloc, visitor);
     assert!(rt; matches!(answer, Ok(7)));
-    let (expected, got) = (BareItemType::Integer, BareItemType::Token);
-    let rows = [
+    let rows = &[
         ("4;a=5", Ok(true)),
         ("5;a=4", Ok(false)),
         ("12", Err(ItemFault::NoItem)),
         // The visitor within fails first.
-        ("abc", Err(ItemFault::WrongType { expected, got })),
+        ("abc", Err(NO_INTEGER)),
     ];
-    for (input, wanted) in rows {
+    for &(input, wanted) in rows {
         assert!(rt; smallness(alloc, input.as_bytes()) == wanted, "{input}");
     }
 }

@@ -4,13 +4,10 @@ use sfv::{Dictionary, Parser, Version};
 use sfv_fields::priority::{Priority, priority_from_dictionary, read_priority, write_priority};
 use std::alloc::Global;
 
-/// Whether the input is read as this priority, both ways.
-fn is_read(alloc: Global, input: &str, expected: Priority) -> bool {
-    let by_visitor = read_priority(alloc, input.as_bytes(), Version::Rfc9651);
+/// Whether the input is a dictionary that has this priority.
+fn is_in_dictionary(alloc: Global, input: &str, priority: Priority) -> bool {
     match Parser::new(input.as_bytes()).parse::<Dictionary>(alloc) {
-        Ok(dictionary) => {
-            by_visitor == Ok(expected) && priority_from_dictionary(&dictionary) == expected
-        }
+        Ok(dictionary) => priority_from_dictionary(&dictionary) == priority,
         Err(_) => false,
     }
 }
@@ -24,23 +21,38 @@ fn is_written(alloc: Global, priority: Priority, line: &str) -> bool {
     stands == Ok(!line.is_empty()) && text.as_str().strip_prefix("P: ") == Some(line)
 }
 
+/// Whether the input is read so, as how urgent and whether incremental, both ways, and written as this text.
+fn is_read_and_written(alloc: Global, input: &str, wanted: (u8, bool), line: &str) -> bool {
+    match read_priority(alloc, input.as_bytes(), Version::Rfc9651) {
+        Ok(priority) => {
+            (priority.urgency, priority.incremental) == wanted
+                && is_in_dictionary(alloc, input, priority)
+                && is_written(alloc, priority, line)
+        }
+        Err(_) => false,
+    }
+}
+
 #[test]
 fn priorities_are_read_and_written(rt: HostRuntime) {
-    let rows = [
-        ("u=1, i", Priority::new(1, true), "u=1, i"),
-        ("i, u=3", Priority::new(3, true), "i"),
-        ("u=5;x=1, foo=(a b), i=?0", Priority::new(5, false), "u=5"),
-        ("u=-0", Priority::new(0, false), "u=0"),
-        ("", Priority::default(), ""),
-        ("u=8, i=1", Priority::default(), ""),
-        ("u=2.0", Priority::default(), ""),
-        ("u=(1)", Priority::default(), ""),
-        ("u", Priority::default(), ""),
-        ("u=1, u=9", Priority::default(), ""),
-        ("u=1, x=@5", Priority::new(1, false), "u=1"),
+    let rows = &[
+        ("u=1, i", (1, true), "u=1, i"),
+        ("i, u=3", (3, true), "i"),
+        ("u=5;x=1, foo=(a b), i=?0", (5, false), "u=5"),
+        ("u=-0", (0, false), "u=0"),
+        ("", (3, false), ""),
+        ("u=8, i=1", (3, false), ""),
+        ("u=2.0", (3, false), ""),
+        ("u=(1)", (3, false), ""),
+        ("u", (3, false), ""),
+        ("u=1, u=9", (3, false), ""),
+        ("u=1, x=@5", (1, false), "u=1"),
     ];
-    for (input, expected, line) in rows {
-        let holds = is_read(rt.alloc(), input, expected) && is_written(rt.alloc(), expected, line);
-        assert!(rt; holds, "{input}");
+    for &(input, wanted, line) in rows {
+        assert!(rt;
+            is_read_and_written(rt.alloc(), input, wanted, line),
+            "{input}"
+        );
     }
+    assert!(rt; Priority::new(3, false) == Priority::default());
 }

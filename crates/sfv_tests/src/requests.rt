@@ -3,52 +3,42 @@
 use httparse::Status;
 use httparse::spans::{EMPTY_HEADER_SPAN, HeaderSpan};
 use sfv::{Error, ErrorKind, Version};
-use sfv_fields::priority::Priority;
 use sfv_request::{RequestFault, request_field, request_priority};
 use std::alloc::Global;
 
 const ROOM: [HeaderSpan; 4] = [EMPTY_HEADER_SPAN; 4];
 
-// Whether the request has this priority.
-fn has_priority(alloc: Global, input: &[u8], expected: Priority) -> bool {
+// Whether the request has this priority: how urgent, and whether incremental.
+fn has_priority(alloc: Global, input: &[u8], wanted: (u8, bool)) -> bool {
     let mut headers = ROOM;
     match request_priority(alloc, Version::Rfc9651, input, &mut headers) {
-        Ok(Status::Complete(priority)) => priority == expected,
+        Ok(Status::Complete(priority)) => (priority.urgency, priority.incremental) == wanted,
         _ => false,
     }
 }
 
 #[test]
 fn requests_have_their_priority(rt: HostRuntime) {
-    let rows: [(&[u8], Priority); 7] = [
-        (
-            b"GET / HTTP/1.1\r\npriority: u=1, i\r\n\r\nbody",
-            Priority::new(1, true),
-        ),
+    let rows: &[(&[u8], (u8, bool))] = &[
+        (b"GET / HTTP/1.1\r\npriority: u=1, i\r\n\r\nbody", (1, true)),
         (
             b"GET / HTTP/1.1\r\nPriority: u=1\r\nHost: a\r\nPRIORITY:i\r\n\r\n",
-            Priority::new(1, true),
+            (1, true),
         ),
         (
             b"GET / HTTP/1.1\r\npriority: u=1\r\npriority: u=5\r\n\r\n",
-            Priority::new(5, false),
+            (5, false),
         ),
-        (b"GET / HTTP/1.1\r\nHost: a\r\n\r\n", Priority::default()),
-        (
-            b"GET / HTTP/1.1\r\npriority: \t \r\n\r\n",
-            Priority::default(),
-        ),
+        (b"GET / HTTP/1.1\r\nHost: a\r\n\r\n", (3, false)),
+        (b"GET / HTTP/1.1\r\npriority: \t \r\n\r\n", (3, false)),
         (
             b"GET / HTTP/1.1\r\npriorities: u=1\r\nx-priority: u=1\r\n\r\n",
-            Priority::default(),
+            (3, false),
         ),
-        (
-            b"GET / HTTP/1.1\npriority: u=9, i=?1\n\n",
-            Priority::new(3, true),
-        ),
+        (b"GET / HTTP/1.1\npriority: u=9, i=?1\n\n", (3, true)),
     ];
-    for (input, expected) in rows {
-        assert!(rt; has_priority(rt.alloc(), input, expected));
+    for &(input, wanted) in rows {
+        assert!(rt; has_priority(rt.alloc(), input, wanted));
     }
 }
 
@@ -63,7 +53,7 @@ fn has_fault(alloc: Global, input: &[u8], kind: ErrorKind, index: usize) -> bool
 
 #[test]
 fn fields_have_their_fault(rt: HostRuntime) {
-    let rows: [(&[u8], ErrorKind, usize); 3] = [
+    let rows: &[(&[u8], ErrorKind, usize)] = &[
         (
             b"GET / HTTP/1.1\r\npriority: u=1,\r\n\r\n",
             ErrorKind::TrailingComma,
@@ -80,7 +70,7 @@ fn fields_have_their_fault(rt: HostRuntime) {
             5,
         ),
     ];
-    for (input, kind, index) in rows {
+    for &(input, kind, index) in rows {
         assert!(rt; has_fault(rt.alloc(), input, kind, index));
     }
 }
@@ -97,8 +87,8 @@ fn has_text(alloc: Global, name: &str, input: &[u8], expected: &[u8]) -> bool {
 #[test]
 fn lines_are_joined(rt: HostRuntime) {
     let head: &[u8] = b"GET / HTTP/1.1\r\nA: 1 \r\nb: 2\r\na:\r\nA:\t3\r\n\r\n";
-    let rows: [(&str, &[u8]); 3] = [("a", b"1, , 3"), ("B", b"2"), ("c", b"")];
-    for (name, expected) in rows {
+    let rows: &[(&str, &[u8])] = &[("a", b"1, , 3"), ("B", b"2"), ("c", b"")];
+    for &(name, expected) in rows {
         assert!(rt; has_text(rt.alloc(), name, head, expected));
     }
 }

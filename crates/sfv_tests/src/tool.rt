@@ -94,7 +94,7 @@ fn fails(alloc: Global, args: &str, input: &str, error: &str) -> bool {
 }
 
 /// Arguments, an input, and what is written.
-const WRITTEN: [(&str, &str, &str); 17] = [
+const WRITTEN: &[(&str, &str, &str)] = &[
     ("item 9651", "007.50;a=?1\n", "7.5;a\n"),
     ("item 9651", "007.50;a=?1", "7.5;a\n"),
     ("item 9651", "@5\n", "@5\n"),
@@ -117,7 +117,7 @@ const WRITTEN: [(&str, &str, &str); 17] = [
 // The version of writing is the third argument.
 #[test]
 fn what_is_read_is_written(rt: HostRuntime) {
-    for (args, input, output) in WRITTEN {
+    for &(args, input, output) in WRITTEN {
         assert!(rt; writes(rt.alloc(), args, input, output), "{args} {input}");
     }
 }
@@ -127,7 +127,7 @@ const NO_ITEM: &str = "error: expected start of bare item at index 0\n";
 const NO_DATE: &str = "error: RFC 8941 does not support dates\n";
 
 /// Arguments, an input, and the error that is written.
-const REFUSED: [(&str, &str, &str); 15] = [
+const REFUSED: &[(&str, &str, &str)] = &[
     (
         "item 9651",
         "1\n\n",
@@ -187,7 +187,7 @@ const REFUSED: [(&str, &str, &str); 15] = [
 
 #[test]
 fn faults_are_written_as_errors(rt: HostRuntime) {
-    for (args, input, error) in REFUSED {
+    for &(args, input, error) in REFUSED {
         assert!(rt; fails(rt.alloc(), args, input, error), "{args} {input}");
     }
 }
@@ -214,7 +214,7 @@ fn long_answers_are_written_whole(rt: HostRuntime) {
 #[test]
 fn other_arguments_have_the_usage(rt: HostRuntime) {
     let usage = "usage: sfv_tool item|list|dict 8941|9651 [8941|9651] | priority 8941|9651\n";
-    let rows = [
+    let rows = &[
         "priority",
         "priority 9651 9651",
         "",
@@ -229,7 +229,7 @@ fn other_arguments_have_the_usage(rt: HostRuntime) {
         "dict",
         "9651 item",
     ];
-    for args in rows {
+    for &args in rows {
         assert!(rt; ends(rt.alloc(), args, "1\n", ("", usage, 2)), "{args}");
     }
 }

@@ -27,12 +27,12 @@ fn is_explained(alloc: Global, input: &str, wanted: &str) -> bool {
 
 #[test]
 fn lists_are_checked(rt: HostRuntime) {
-    let rows = [
+    let rows = &[
         ("a, (b c);d", ""),
         ("a, (b c;d", "         ^ unterminated inner list"),
         ("a,,b", "  ^ expected start of bare item"),
     ];
-    for (input, line) in rows {
+    for &(input, line) in rows {
         assert!(rt; is_explained(rt.alloc(), input, line), "{input}");
     }
 }

@@ -3,7 +3,7 @@
 use crate::common::prints;
 use sfv::{
     BareItem, BareItemFromInput, Date, Decimal, Error, ErrorKind, GenericBareItem, RefBareItem,
-    StringFromInput, Version, integer, string_ref, token_ref,
+    StringFromInput, StringRef, Version, integer, string_ref, token_ref,
 };
 use std::alloc::Global;
 use std::borrow::CowStr;
@@ -79,19 +79,33 @@ fn is_seen_at(item: RefBareItem<'_>, place: usize) -> bool {
     true
 }
 
+/// Whether the item that owns its text equals its copy.
+fn equals_its_copy(owned: &BareItem) -> bool {
+    match owned.clone() {
+        Ok(copy) => copy == *owned,
+        Err(_) => false,
+    }
+}
+
+/// Whether the item that owns its text shows the same texts.
+fn is_owned_as(owned: &BareItem, item: RefBareItem<'_>) -> bool {
+    (owned.as_string() == item.as_string())
+        & (owned.as_byte_sequence() == item.as_byte_sequence())
+        & (owned.as_token() == item.as_token())
+}
+
 /// Whether the item, the one that owns its text, the copy of that, and what they lend are equal, and show the same texts.
 fn equals_its_copies(item: RefBareItem<'_>, alloc: Global) -> bool {
-    let Ok(owned) = item.try_to_owned(alloc) else {
-        return false;
-    };
-    let Ok(copy) = owned.clone() else {
-        return false;
-    };
-    let equal = (owned.as_ref_item() == item) & (copy == owned) & (item.as_ref_item() == item);
-    let seen = (owned.as_string() == item.as_string())
-        & (owned.as_byte_sequence() == item.as_byte_sequence())
-        & (owned.as_token() == item.as_token());
-    equal & seen
+    let is_lent = item.as_ref_item() == item;
+    match item.try_to_owned(alloc) {
+        Ok(owned) => {
+            is_lent
+                & (owned.as_ref_item() == item)
+                & is_owned_as(&owned, item)
+                & equals_its_copy(&owned)
+        }
+        Err(_) => false,
+    }
 }
 
 #[test]
@@ -106,7 +120,7 @@ fn bare_items_equal_their_copies_and_are_seen_as_their_kind_alone(rt: HostRuntim
         RefBareItem::from(Date::from_unix_seconds(integer(1))),
         GenericBareItem::DisplayString("d"),
     ];
-    for (row, item) in rows.into_iter().enumerate() {
+    for (row, &item) in rows.iter().enumerate() {
         let holds = is_seen_at(item, row) && equals_its_copies(item, rt.alloc());
         assert!(rt; holds, "row {row}");
     }
@@ -130,9 +144,9 @@ fn is_token_lent_and_moved(alloc: Global) -> bool {
     let Ok(owned) = token.to_owned(alloc) else {
         return false;
     };
-    let is_lent = (RefBareItem::from(&owned).as_token() == Some(token))
-        & (BareItemFromInput::from(&owned).as_token() == Some(token));
-    is_lent & (BareItem::from(owned).as_token() == Some(token))
+    let read = BareItemFromInput::from(&owned).as_token() == Some(token);
+    let is_lent = RefBareItem::from(&owned).as_token() == Some(token);
+    read & is_lent & (BareItem::from(owned).as_token() == Some(token))
 }
 
 #[test]
@@ -141,57 +155,72 @@ fn owned_texts_become_bare_items(rt: HostRuntime) {
     assert!(rt; is_token_lent_and_moved(rt.alloc()));
 }
 
-/// Whether what was read, its copy, and what becomes of the copy are this item, and show the same texts.
-fn is_read_as(alloc: Global, read: BareItemFromInput<'_>, item: RefBareItem<'_>) -> bool {
-    let Ok(copy) = read.clone() else {
-        return false;
-    };
-    let seen = (read.as_string() == item.as_string())
+/// Whether what was read is this item, and shows the same texts.
+fn is_seen_as(read: &BareItemFromInput<'_>, item: RefBareItem<'_>) -> bool {
+    (read.as_ref_item() == item)
+        & (read.as_string() == item.as_string())
         & (read.as_byte_sequence() == item.as_byte_sequence())
-        & (read.as_token() == item.as_token());
-    let equal = seen & (read.as_ref_item() == item) & (copy == read);
-    match copy.try_into_owned(alloc) {
-        Ok(owned) => equal & (owned.as_ref_item() == item),
+        & (read.as_token() == item.as_token())
+}
+
+/// Whether what was read becomes this item.
+fn becomes(alloc: Global, read: BareItemFromInput<'_>, item: RefBareItem<'_>) -> bool {
+    match read.try_into_owned(alloc) {
+        Ok(owned) => owned.as_ref_item() == item,
         Err(_) => false,
     }
 }
 
-/// Whether a string with a text of its own, and bytes, are as if they were borrowed.
-fn are_owned_as_read(alloc: Global) -> bool {
-    let (Ok(string), Ok(bytes)) = (
-        string_ref("s").to_owned(alloc),
-        Vec::from_slice(alloc, b"b"),
-    ) else {
-        return false;
-    };
-    let string = StringFromInput::Owned(string);
-    is_read_as(
-        alloc,
-        GenericBareItem::String(string),
-        RefBareItem::from(string_ref("s")),
-    ) & is_read_as(
-        alloc,
-        BareItemFromInput::from(bytes),
-        RefBareItem::from(b"b".as_slice()),
-    )
+/// Whether what was read, its copy, and what becomes of the copy are this item, and show the same texts.
+fn is_read_as(alloc: Global, read: BareItemFromInput<'_>, item: RefBareItem<'_>) -> bool {
+    match read.clone() {
+        Ok(copy) => is_seen_as(&read, item) & (copy == read) & becomes(alloc, copy, item),
+        Err(_) => false,
+    }
+}
+
+/// Whether a string with a text of its own is as if it were borrowed.
+fn is_owned_string_read_as(alloc: Global, string: StringRef<'_>) -> bool {
+    match string.to_owned(alloc) {
+        Ok(owned) => {
+            let read = GenericBareItem::String(StringFromInput::Owned(owned));
+            is_read_as(alloc, read, RefBareItem::from(string))
+        }
+        Err(_) => false,
+    }
+}
+
+/// Whether bytes are as if they were borrowed.
+fn are_bytes_read_as(alloc: Global, bytes: &[u8]) -> bool {
+    match Vec::from_slice(alloc, bytes) {
+        Ok(owned) => is_read_as(
+            alloc,
+            BareItemFromInput::from(owned),
+            RefBareItem::from(bytes),
+        ),
+        Err(_) => false,
+    }
 }
 
 #[test]
 fn bare_items_that_were_read_are_copied_and_owned(rt: HostRuntime) {
     let alloc = rt.alloc();
-    assert!(rt; are_owned_as_read(alloc));
     let (string, token) = (string_ref("s"), token_ref("t"));
-    let borrowed = GenericBareItem::String(StringFromInput::Borrowed(string));
-    assert!(rt; is_read_as(alloc, borrowed, RefBareItem::from(string)));
-    assert!(rt;
-        is_read_as(
-            alloc,
-            BareItemFromInput::from(token),
-            RefBareItem::from(token)
-        )
+    let owned = is_owned_string_read_as(alloc, string) & are_bytes_read_as(alloc, b"b");
+    let borrowed = is_read_as(
+        alloc,
+        GenericBareItem::String(StringFromInput::Borrowed(string)),
+        RefBareItem::from(string),
+    ) & is_read_as(
+        alloc,
+        BareItemFromInput::from(token),
+        RefBareItem::from(token),
+    ) & is_read_as(
+        alloc,
+        GenericBareItem::DisplayString(CowStr::Borrowed("d")),
+        GenericBareItem::DisplayString("d"),
     );
-    let shown = GenericBareItem::DisplayString(CowStr::Borrowed("d"));
-    assert!(rt; is_read_as(alloc, shown, GenericBareItem::DisplayString("d")));
+    assert!(rt; owned & borrowed);
 }
 
 /// Whether the text is borrowed.

@@ -54,7 +54,7 @@ fn list_of(alloc: Global, held: &str, letters: &str) -> Option<String> {
 #[test]
 fn lists_are_built_of_the_events_in_their_place(rt: HostRuntime) {
     let three = "6, (5;b=1);a=1, 5";
-    let rows = [
+    let rows = &[
         ("", ",i5abA;,(i5a;i6;)aA;", "5;a=2;b=1, (5;a=1 6);a=2"),
         ("6", ",(i5b;)a;,i5;", three),
         // An event that is out of its place: between the members,
@@ -71,7 +71,7 @@ fn lists_are_built_of_the_events_in_their_place(rt: HostRuntime) {
         ("6", ",(i5b;)a;,i5;,i6a", three),
         ("6", ",(i5b;)a;,i5;,(i6;i5", three),
     ];
-    for (held, letters, text) in rows {
+    for &(held, letters, text) in rows {
         assert!(rt;
             has_text(list_of(rt.alloc(), held, letters), text),
             "{letters}"
@@ -97,7 +97,7 @@ fn dictionary_of(alloc: Global, held: &str, letters: &str) -> Option<String> {
 fn dictionaries_are_built_of_the_events_in_their_place(rt: HostRuntime) {
     let two = "b=5;a=1;b=1, a=(5;a=1 6);a=2";
     let three = "c=6, a=(5;b=1);a=1, b=5";
-    let rows = [
+    let rows = &[
         ("", "li5ab;k(i5a;i6;)aA;", two),
         // A key that is there keeps its place, and takes the new member with its parameters.
         (two, "mi5;li6A;li6;", "b=6, a=(5;a=1 6);a=2, c=5"),
@@ -116,12 +116,22 @@ fn dictionaries_are_built_of_the_events_in_their_place(rt: HostRuntime) {
         ("c=6", "k(i5b;)a;li5;mi5a", three),
         ("c=6", "k(i5b;)a;li5;m(i6;i5", three),
     ];
-    for (held, letters, text) in rows {
+    for &(held, letters, text) in rows {
         assert!(rt;
             has_text(dictionary_of(rt.alloc(), held, letters), text),
             "{letters}"
         );
     }
+}
+
+/// Tells an optional builder the events, and whether it takes them.
+fn takes(builder: &mut Option<ItemBuilder>, letters: &str) -> bool {
+    for letter in letters.chars() {
+        if builder.event(event(letter)).is_err() {
+            return false;
+        }
+    }
+    true
 }
 
 /// The text of the item that a builder answers after the events, if it answers one; an optional builder, which may not be
@@ -132,23 +142,23 @@ fn item_of(alloc: Global, is_there: bool, letters: &str) -> Option<String> {
     } else {
         None
     };
-    for letter in letters.chars() {
-        if builder.event(event(letter)).is_err() {
-            return None;
-        }
+    if !takes(&mut builder, letters) {
+        return None;
     }
-    let item = builder.finish().ok()??;
-    item.serialize(alloc).ok()
+    match builder.finish() {
+        Ok(Some(item)) => item.serialize(alloc).ok(),
+        _ => None,
+    }
 }
 
 #[test]
 fn items_are_built_of_the_events_in_their_place(rt: HostRuntime) {
-    let rows = [
+    let rows = &[
         ("5aA;", "5;a=2"),
         // An event that is out of its place changes nothing.
         (";,i(ka)5b)6A;5a", "5;b=1;a=2"),
     ];
-    for (letters, text) in rows {
+    for &(letters, text) in rows {
         assert!(rt;
             has_text(item_of(rt.alloc(), true, letters), text),
             "{letters}"
@@ -159,7 +169,7 @@ fn items_are_built_of_the_events_in_their_place(rt: HostRuntime) {
 // Without its end there is no item, and of a builder that isn't there neither.
 #[test]
 fn items_that_have_not_ended_are_none(rt: HostRuntime) {
-    for (is_there, letters) in [(true, "5a"), (true, ""), (false, "5aA;"), (false, "")] {
+    for &(is_there, letters) in &[(true, "5a"), (true, ""), (false, "5aA;"), (false, "")] {
         assert!(rt;
             item_of(rt.alloc(), is_there, letters).is_none(),
             "{letters}"

@@ -59,13 +59,13 @@ fn faults_of_items_print_what_was_expected(rt: HostRuntime) {
 // The messages of the other kinds stand in the answers that the lines of `sfv_replay` have.
 #[test]
 fn kinds_that_no_field_has_print_their_message(rt: HostRuntime) {
-    let rows = [
+    let rows = &[
         (ErrorKind::OutOfMemory, "out of memory"),
         (ErrorKind::OutOfRange, "out of range"),
         (ErrorKind::Empty, "cannot be empty"),
         (ErrorKind::InvalidCharacter, "invalid character"),
     ];
-    for (kind, text) in rows {
+    for &(kind, text) in rows {
         assert!(rt; prints(rt.alloc(), &kind, text), "{text}");
     }
 }

@@ -18,7 +18,7 @@ fn are_printed(alloc: Global, number: i64, integer: &str, decimal: &str, date: &
 
 #[test]
 fn numbers_print_their_canonical_texts(rt: HostRuntime) {
-    let rows = [
+    let rows = &[
         (-5i64, "-5", "-0.005", "@-5"),
         (-50, "-50", "-0.05", "@-50"),
         (-500, "-500", "-0.5", "@-500"),
@@ -38,7 +38,7 @@ fn numbers_print_their_canonical_texts(rt: HostRuntime) {
             "@-999999999999999",
         ),
     ];
-    for (number, integer, decimal, date) in rows {
+    for &(number, integer, decimal, date) in rows {
         assert!(rt;
             are_printed(rt.alloc(), number, integer, decimal, date),
             "{number}"

@@ -175,23 +175,28 @@ fn what_is_built_has_the_seed_of_its_builder(rt: HostRuntime) {
 
 /// Whether dictionaries of one text are equal under two seeds.
 fn are_equal_under_two_seeds(alloc: Global) -> bool {
-    match (
-        Parser::new(DICTIONARY).parse::<Dictionary>(alloc),
-        parser(DICTIONARY).parse::<Dictionary>(alloc),
-    ) {
-        (Ok(known), Ok(other)) => known == other,
-        _ => false,
+    let Ok(known) = Parser::new(DICTIONARY).parse::<Dictionary>(alloc) else {
+        return false;
+    };
+    match parser(DICTIONARY).parse::<Dictionary>(alloc) {
+        Ok(other) => known == other,
+        Err(_) => false,
+    }
+}
+
+/// Whether a parameter is entered.
+fn is_entered(params: &mut Parameters) -> bool {
+    match key_ref("a").to_owned(*params.allocator()) {
+        Ok(key) => params.insert(key, true.into()).is_ok(),
+        Err(_) => false,
     }
 }
 
 /// Whether parameters under a seed are equal to those under another just as long as both are empty.
 fn are_compared_under_two_seeds(alloc: Global) -> bool {
     let mut params = Parameters::with_hasher(alloc, seed());
-    let Ok(key) = key_ref("a").to_owned(alloc) else {
-        return false;
-    };
-    let empty = params == parameters(alloc);
-    params.insert(key, true.into()).is_ok() & empty & (params != parameters(alloc))
+    let none = parameters(alloc);
+    (params == none) & is_entered(&mut params) & (params != none)
 }
 
 #[test]

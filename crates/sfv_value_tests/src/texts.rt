@@ -1,7 +1,9 @@
 //! Keys, tokens and strings: which texts are some, their order, hashes, copies and prints.
 
 use crate::common::{hash_of, is_shown, is_text, prints};
-use sfv::{Error, ErrorKind, String, StringRef, TokenRef, key_ref, string_ref, token_ref};
+use sfv::{
+    Error, ErrorKind, Key, String, StringRef, Token, TokenRef, key_ref, string_ref, token_ref,
+};
 use sfv_text::checked_text::CheckedText;
 use sfv_text::checked_text_ref::CheckedTextRef;
 use sfv_text::key::KeyClass;
@@ -45,7 +47,7 @@ fn wrong_at(index: Option<usize>) -> Option<Error> {
 #[test]
 fn texts_are_refused_at_their_first_wrong_byte(rt: HostRuntime) {
     // Where a text is no key, no token and no string.
-    let rows = [
+    let rows = &[
         ("*", None, None, None),
         ("a1_-.*", None, None, None),
         ("aB", Some(1), None, None),
@@ -60,7 +62,7 @@ fn texts_are_refused_at_their_first_wrong_byte(rt: HostRuntime) {
         ("a\u{e9}", Some(1), Some(1), Some(1)),
         ("a;\u{e9}", Some(1), Some(1), Some(2)),
     ];
-    for (row, (text, key, token, string)) in rows.into_iter().enumerate() {
+    for (row, &(text, key, token, string)) in rows.iter().enumerate() {
         let holds = is_checked::<KeyClass>(text, wrong_at(key))
             && is_checked::<TokenClass>(text, wrong_at(token))
             && is_checked::<StringClass>(text, wrong_at(string));
@@ -111,20 +113,20 @@ fn texts_hold_the_bytes_of_their_class(rt: HostRuntime) {
     }
 }
 
+/// Whether each of three texts is lent as it is.
+fn are_lent(key: Option<Key>, token: Option<Token>, string: Option<String>) -> bool {
+    key.is_some_and(|key| key.as_key_ref() == key_ref("key"))
+        & token.is_some_and(|token| token.as_token_ref() == token_ref("token"))
+        & string.is_some_and(|string| string.as_string_ref() == string_ref("a string"))
+}
+
 #[test]
 fn owned_texts_are_lent(rt: HostRuntime) {
-    let (Ok(key), Ok(token), Ok(string)) = (
-        key_ref("key").to_owned(rt.alloc()),
-        token_ref("token").to_owned(rt.alloc()),
-        string_ref("a string").to_owned(rt.alloc()),
-    ) else {
-        assert!(rt; false);
-        return;
-    };
-    let holds = is_text(key.as_key_ref().as_str(), "key")
-        & is_text(token.as_token_ref().as_str(), "token")
-        & is_text(string.as_string_ref().as_str(), "a string");
-    assert!(rt; holds);
+    let alloc = rt.alloc();
+    let key = key_ref("key").to_owned(alloc).ok();
+    let token = token_ref("token").to_owned(alloc).ok();
+    let string = string_ref("a string").to_owned(alloc).ok();
+    assert!(rt; are_lent(key, token, string));
 }
 
 /// Whether a text of the class is printed and shown, borrowed and owned.
@@ -209,13 +211,13 @@ fn is_ordered(alloc: Global, a: &str, b: &str, order: Ordering) -> bool {
 // The order is that of the bytes and not of the lengths.
 #[test]
 fn texts_are_ordered_by_their_bytes_and_hash_by_them(rt: HostRuntime) {
-    let rows = [
+    let rows = &[
         ("ab", "b", Ordering::Less),
         ("b", "ab", Ordering::Greater),
         ("a", "a", Ordering::Equal),
         ("abcdefghi", "abcdefghj", Ordering::Less),
     ];
-    for (a, b, order) in rows {
+    for &(a, b, order) in rows {
         assert!(rt; is_ordered(rt.alloc(), a, b, order), "{a} {b}");
     }
 }

@@ -2,8 +2,8 @@
 
 use crate::common::has_text;
 use sfv::{
-    BareItem, Dictionary, FieldType, InnerList, Item, KeyRef, List, ListEntry, Parser, find_entry,
-    find_param, insert_entry, insert_param, key_ref,
+    BareItem, Dictionary, FieldType, InnerList, Item, KeyRef, List, ListEntry, Parameters, Parser,
+    find_entry, find_param, insert_entry, insert_param, key_ref,
 };
 use std::alloc::Global;
 
@@ -28,14 +28,14 @@ fn are_equal<T: FieldType + PartialEq + Clone>(
 
 #[test]
 fn items_are_equal_by_their_values_and_parameters(rt: HostRuntime) {
-    let rows = [
+    let rows = &[
         ("2;b=1;a", "2;b=1;a", true),
         ("2;b=1;a", "2", false),
         ("2;b=1;a", "2;b=1", false),
         ("2;b=1", "2;b=2", false),
         ("2;b=1", "3;b=1", false),
     ];
-    for (text, other, equal) in rows {
+    for &(text, other, equal) in rows {
         assert!(rt;
             are_equal::<Item>(rt.alloc(), text, other, equal),
             "{text} {other}"
@@ -45,7 +45,7 @@ fn items_are_equal_by_their_values_and_parameters(rt: HostRuntime) {
 
 #[test]
 fn lists_are_equal_by_their_members(rt: HostRuntime) {
-    let rows = [
+    let rows = &[
         ("1;a=2, ()", "1;a=2, ()", true),
         ("1;a=2, ()", "1;a=2", false),
         ("1", "(1)", false),
@@ -53,7 +53,7 @@ fn lists_are_equal_by_their_members(rt: HostRuntime) {
         ("(1;a=2);c=5", "(1;a=2);c=5", true),
         ("(1 2)", "(1)", false),
     ];
-    for (text, other, equal) in rows {
+    for &(text, other, equal) in rows {
         assert!(rt;
             are_equal::<List>(rt.alloc(), text, other, equal),
             "{text} {other}"
@@ -61,17 +61,23 @@ fn lists_are_equal_by_their_members(rt: HostRuntime) {
     }
 }
 
-#[test]
-fn inner_lists_are_made_of_items(rt: HostRuntime) {
-    let alloc = rt.alloc();
+/// Whether an inner list that is made of no items is empty.
+fn is_made_empty(alloc: Global) -> bool {
     let list = InnerList::new(alloc, Vec::new(alloc));
-    assert!(rt; list.items.is_empty() & list.params.is_empty());
-    assert!(rt; list == InnerList::empty(alloc));
+    list.items.is_empty() & list.params.is_empty() & (list == InnerList::empty(alloc))
 }
 
-/// Enters the item of 7, and tells whether the key had a member just where this says so.
+#[test]
+fn inner_lists_are_made_of_items(rt: HostRuntime) {
+    assert!(rt; is_made_empty(rt.alloc()));
+}
+
+/// Enters the item of 7, and tells whether a member of the key was found, and given back, just where this says so.
 fn enters(members: &mut Dictionary, key: KeyRef<'_>, had: bool) -> bool {
     let alloc = *members.allocator();
+    if find_entry(members, key).is_some() != had {
+        return false;
+    }
     let Ok(name) = key.to_owned(alloc) else {
         return false;
     };
@@ -86,10 +92,11 @@ fn enters(members: &mut Dictionary, key: KeyRef<'_>, had: bool) -> bool {
 fn text_with_member(alloc: Global, key: KeyRef<'_>, had: bool) -> Option<String> {
     let parser = Parser::new(b"b=5, a=6");
     let mut members = parser.parse::<Dictionary>(alloc).ok()?;
-    if find_entry(&members, key).is_some() != had || !enters(&mut members, key, had) {
-        return None;
+    if enters(&mut members, key, had) {
+        members.serialize(alloc).unwrap_or(None)
+    } else {
+        None
     }
-    members.serialize(alloc).ok()?
 }
 
 #[test]
@@ -104,16 +111,28 @@ fn members_are_found_and_entered_where_their_key_stood_or_last(rt: HostRuntime) 
     );
 }
 
+/// Enters the number 7, and tells whether a parameter of the key was found, and given back, just where this says so.
+fn enters_param(params: &mut Parameters, key: KeyRef<'_>, had: bool) -> bool {
+    if find_param(params, key).is_some() != had {
+        return false;
+    }
+    let Ok(name) = key.to_owned(*params.allocator()) else {
+        return false;
+    };
+    match insert_param(params, name, BareItem::from(7u8)) {
+        Ok(old) => old.is_some() == had,
+        Err(_) => false,
+    }
+}
+
 /// The text of an item after the number 7 is entered as a parameter, if the key had one just where this says so.
 fn text_with_param(alloc: Global, key: KeyRef<'_>, had: bool) -> Option<String> {
     let mut item = Parser::new(b"1;b=5;a=2").parse::<Item>(alloc).ok()?;
-    let name = key.to_owned(alloc).ok()?;
-    let was_found = find_param(&item.params, key).is_some();
-    let old = insert_param(&mut item.params, name, BareItem::from(7u8)).ok()?;
-    if was_found != had || old.is_some() != had {
-        return None;
+    if enters_param(&mut item.params, key, had) {
+        item.serialize(alloc).ok()
+    } else {
+        None
     }
-    item.serialize(alloc).ok()
 }
 
 #[test]
