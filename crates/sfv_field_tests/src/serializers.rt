@@ -3,8 +3,8 @@
 use crate::common::{has_text, is_text, value};
 use sfv::{
     BareItem, DictSerializer, Dictionary, FieldType, InnerList, InnerListSerializer, Item,
-    ItemSerializer, KeyRef, List, ListEntry, ListSerializer, OutOfMemory, ParameterSerializer,
-    Parameters, Parser, Parts, SerializeError, Sink, Version, dictionary, key_ref,
+    ItemSerializer, KeyRef, List, ListEntry, ListSerializer, Parameters, Parser, SerializeError,
+    Sink, Version, dictionary, key_ref,
 };
 use std::alloc::Global;
 
@@ -48,47 +48,27 @@ fn put<X: Sink>(inner: &mut InnerListSerializer<X>, word: &str) {
     }
 }
 
-/// Ends an inner list of one item that has begun, or abandons it.
-fn put_inner<W: Sink, K>(
-    inner: Result<InnerListSerializer<&mut Parts<W, K>>, OutOfMemory>,
-    item: &str,
-    abandon: bool,
-) {
-    let Ok(mut inner) = inner else {
-        return;
-    };
-    put(&mut inner, item);
-    if abandon {
-        inner.abandon();
-    } else if let Ok(params) = inner.finish() {
-        params.finish();
-    }
-}
-
-/// Ends a member that is written, after a parameter if there is one.
-fn put_param<W: Sink, K>(
-    params: Result<ParameterSerializer<'_, Parts<W, K>>, SerializeError>,
-    param: &str,
-) {
-    if let Ok(params) = params {
-        if param.is_empty() {
-            params.finish();
-        } else {
-            let _ = params.parameter(key_ref("a"), value(param));
-        }
-    }
-}
-
 /// Writes a member of a list, if the version has it: an item, one with a parameter after `;`, or an inner list of one item
 /// after `(`, or after `x` one that is abandoned.
 fn put_member<W: Sink>(list: &mut ListSerializer<W>, word: &str) {
     if let Some(item) = word.strip_prefix('(') {
-        put_inner(list.inner_list(), item, false);
+        if let Ok(mut inner) = list.inner_list() {
+            put(&mut inner, item);
+            if let Ok(params) = inner.finish() {
+                params.finish();
+            }
+        }
     } else if let Some(item) = word.strip_prefix('x') {
-        put_inner(list.inner_list(), item, true);
-    } else {
-        let (item, param) = word.split_once(';').unwrap_or((word, ""));
-        put_param(list.bare_item(value(item)), param);
+        if let Ok(mut inner) = list.inner_list() {
+            put(&mut inner, item);
+            inner.abandon();
+        }
+    } else if let Some((item, param)) = word.split_once(';') {
+        if let Ok(params) = list.bare_item(value(item)) {
+            let _ = params.parameter(key_ref("a"), value(param));
+        }
+    } else if let Ok(params) = list.bare_item(value(word)) {
+        params.finish();
     }
 }
 
@@ -130,12 +110,23 @@ fn lists_are_written_by_single_calls(rt: HostRuntime) {
 /// Writes a member of a dictionary after its key and `=`, if the version has it, as `put_member` does.
 fn put_named<W: Sink>(dict: &mut DictSerializer<W>, name: KeyRef<'_>, word: &str) {
     if let Some(item) = word.strip_prefix('(') {
-        put_inner(dict.inner_list(name), item, false);
+        if let Ok(mut inner) = dict.inner_list(name) {
+            put(&mut inner, item);
+            if let Ok(params) = inner.finish() {
+                params.finish();
+            }
+        }
     } else if let Some(item) = word.strip_prefix('x') {
-        put_inner(dict.inner_list(name), item, true);
-    } else {
-        let (item, param) = word.split_once(';').unwrap_or((word, ""));
-        put_param(dict.bare_item(name, value(item)), param);
+        if let Ok(mut inner) = dict.inner_list(name) {
+            put(&mut inner, item);
+            inner.abandon();
+        }
+    } else if let Some((item, param)) = word.split_once(';') {
+        if let Ok(params) = dict.bare_item(name, value(item)) {
+            let _ = params.parameter(key_ref("a"), value(param));
+        }
+    } else if let Ok(params) = dict.bare_item(name, value(word)) {
+        params.finish();
     }
 }
 
