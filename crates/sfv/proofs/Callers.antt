@@ -49,6 +49,7 @@ pub use Rattle.sfv.proofs.LastRead.{read_back_either}
 -- an inner list that is taken away again, and what a text holds after what was written to it
 pub use Rattle.sfv_serializer.proofs.Scripts.{taken_away, kept_as, more_as, written_behind}
 pub use Rattle.sfv_serializer.proofs.Scripts.{inner_list_ended, named_list_ended}
+pub use Rattle.sfv_serializer.proofs.Steps.{more_behind}
 -- what a visitor did with the events of a field
 pub use Rattle.sfv_spec.proofs.Runs.{runs_fold, key_in, entry_in, keys_in_events, entries_in_events, fails_somewhere}
 -- what is kept of a field by the last of each key

@@ -106,7 +106,7 @@ calls_more {D = D} {M} given f text_of IsGood s calls n x was_first is_first is_
     (in_a_row_parts text_of IsGood s _ _ was_first is_first is_next before output new row e t good)
 
 -- what is written after other text
-extends_again : (a b c : List ℕ) → Extends a b → Extends b c → Extends a c
+pub extends_again : (a b c : List ℕ) → Extends a b → Extends b c → Extends a c
 extends_again a b c e f = (e.0 ++ f.0, f.1 ∙ ap (λ (l : List ℕ). l ++ f.0) e.1 ∙ append_assoc a e.0 f.0)
 
 -- what holds of an error that was answered

@@ -1,7 +1,14 @@
--- The digits of a fraction.
-use Rattle.std.proofs.Common.{◌≡◌, ℕ, ◌+◌, ◌/◌, ◌%◌, true, false, eqb, [], ◌∷◌, refl}
+-- The digits of a decimal.
+use Rattle.std.proofs.Common.{◌≡◌, ℕ, ◌+◌, ◌<◌, ◌/◌, ◌%◌, Bool, true, false, eqb, List, [], ◌∷◌, ◌++◌, refl, ap, subst}
+use Rattle.std.proofs.Common.{◌∙◌, arith, Result, ℤ, pos, negsuc, to_z, of_z, w64}
+use Rattle.std.specs.Prelude.{MatchResult, nat_abs, int_lt, codes, decimal as decimal_digits}
+use Rattle.std.proofs.lemmas.Bool.{ltb-true}
+use Rattle.std.proofs.lemmas.Int.{to_z-of_z}
 use Rattle.sfv_spec.specs.Ascii.{digit_zero}
-use Rattle.sfv_spec.specs.Canonical.{fraction_digits}
+use Rattle.sfv_spec.specs.Numbers.{minus_text, is_negative}
+use Rattle.sfv_spec.specs.Canonical.{fraction_digits, decimal_text}
+use Rattle.sfv_writer.specs.Written.{Extends}
+use Rattle.sfv_writer.proofs.Appended.{put, next, behind}
 
 pub fraction_one : (f : ℕ) → eqb (f % 100) 0 ≡ true → fraction_digits f ≡ (digit_zero + f / 100) ∷ []
 fraction_one f e = rw e refl
@@ -15,3 +22,39 @@ pub fraction_three : (f : ℕ) → eqb (f % 100) 0 ≡ false → eqb (f % 10) 0 
 fraction_three f e k = rw (e, k) refl
 
 pub ruleset fraction_steps = (fraction_one, fraction_two, fraction_three)
+
+-- a number that fits is the same in bits
+fits_same : (i : ℤ) → nat_abs i < 1000000000000000 → to_z w64 (of_z w64 i) ≡ i
+fits_same (pos n) h = to_z-of_z w64 (pos n) record { sfits = omega (arith, h) }
+fits_same (negsuc n) h = to_z-of_z w64 (negsuc n) record { sfits = omega (arith, h) }
+
+pub same_number : (v i z : ℤ) → (v ≡ i) × (nat_abs i < 1000000000000000) → i ≡ z → to_z w64 (of_z w64 v) ≡ z
+same_number v i z h e = ap (λ k. to_z w64 (of_z w64 k)) h.0 ∙ fits_same i h.1 ∙ e
+
+-- a minus stands before a number below zero
+pub minus_of : (v z : ℤ) (b : Bool) → v ≡ z → int_lt v (pos 0) ≡ b → minus_text (is_negative z) ≡ minus_text b
+minus_of v z b e h = ap minus_text (test z b (rw e at h))
+  where
+    test : (z : ℤ) (b : Bool) → int_lt z (pos 0) ≡ b → is_negative z ≡ b
+    test (pos n) true e = absurd (omega (arith, ltb-true n 0 e))
+    test (pos n) false e = refl
+    test (negsuc n) b e = e
+
+-- what is written in front of the digits
+pub front_of : (old text sign mid new : List ℕ) → new ≡ mid → mid ≡ old ++ text → text ≡ sign → new ≡ old ++ sign
+front_of old text sign mid new a b e = a ∙ put old text sign mid b e
+
+-- the parts of a decimal, one after another
+pub decimal_parts : {T E : Type 0} (old front digits whole dot point new : List ℕ) (z : ℤ) (m : ℕ) (r : Result T E)
+    → m ≡ nat_abs z → front ≡ old ++ minus_text (is_negative z) → digits ≡ decimal_digits (m / 1000)
+    → whole ≡ front ++ digits → dot ≡ codes "." → point ≡ whole ++ dot
+    → MatchResult r (λ _. new ≡ point ++ fraction_digits (m % 1000)) (λ _. Extends point new)
+    → MatchResult r (λ _. new ≡ old ++ decimal_text z) (λ _. Extends old new)
+decimal_parts {T} {E} old front digits whole dot point new z m r e a d b k c h =
+    let minus : List ℕ = minus_text (is_negative z) in
+    subst (λ (n : ℕ). MatchResult r (λ _. new ≡ old ++ (minus ++ decimal_digits (n / 1000) ++ codes "."
+    ++ fraction_digits (n % 1000))) (λ _. Extends old new)) e
+    (behind old (minus ++ decimal_digits (m / 1000) ++ codes ".") point _ new r
+    (next old (minus ++ decimal_digits (m / 1000)) whole (codes ".") point
+    (next old minus front (decimal_digits (m / 1000)) whole a (put front digits (decimal_digits (m / 1000)) whole b d))
+    (put whole dot (codes ".") point c k)) h)

@@ -1,3 +1,5 @@
+pub mod Appended
+pub mod Parameters
 pub mod Encoded
 pub mod ReadBack
 pub mod Decimals

@@ -1,10 +1,10 @@
 -- Parts that are written in a row, with a separator between each two.
-use Rattle.std.proofs.Common.{◌≡◌, ℕ, suc, ◌+◌, ◌<◌, Bool, true, false, cond, List, [], ◌∷◌, ◌++◌, length, get_or}
-use Rattle.std.proofs.Common.{map, take}
+use Rattle.std.proofs.Common.{◌≡◌, ℕ, suc, ◌+◌, ◌<◌, ◌≤◌, Bool, true, false, cond, List, [], ◌∷◌, ◌++◌, length}
+use Rattle.std.proofs.Common.{get_or, map, take}
 use Rattle.std.proofs.Common.{refl, sym, ap, subst, ◌∙◌, append_assoc, Result, Ok, Err, arith}
 use Rattle.std.specs.Prelude.{IfErr, OnOk}
 use Rattle.std.specs.List.{AllByRecursion}
-use Rattle.std.proofs.lemmas.List.{take_more, map-append, append-nil}
+use Rattle.std.proofs.lemmas.List.{take_more, take_all, map-append, append-nil}
 use Rattle.sfv_spec.specs.Texts.{joined}
 use Rattle.sfv_writer.specs.Written.{lead, in_a_row, still_first}
 
@@ -46,6 +46,16 @@ is_none-push : {A : Type 0} (xs : List A) (x : A) → is_none (xs ++ x ∷ []) �
 is_none-push [] x = refl
 is_none-push (y ∷ ys) x = refl
 
+-- the first part is written
+pub row_of_one : {A : Type 0} (text_of : A → List ℕ) (IsGood : A → Type 0) (s : List ℕ) (ys : List A)
+    (before new : List ℕ) (x : A) → ys ≡ x ∷ [] → new ≡ before ++ text_of x → IsGood x
+    → IsRow text_of IsGood s ys false before new
+row_of_one {A} text_of IsGood s ys before new x y n g = record {
+  first = sym (ap is_none y);
+  text = n ∙ ap (λ (zs : List A). before ++ joined s (map text_of zs)) (sym y);
+  good = subst (AllByRecursion IsGood) (sym y) (g, tt);
+}
+
 -- one more part is written
 pub row_more : {A : Type 0} (text_of : A → List ℕ)
     (IsGood : A → Type 0) (s : List ℕ) (xs ys : List A) (is_first is_next : Bool) (before output ready new : List ℕ)
@@ -83,6 +93,11 @@ pub mapped_behind : {A B : Type 0} (f : A → B) (xs : List A) (first : A) (othe
     → map f (take (suc (i + 1)) xs) ≡ map f (take (suc i) xs) ++ f x ∷ []
 mapped_behind {B = B} f xs first others i x whole lt e =
     rw whole (ap (λ (ys : List B). f first ∷ ys) (mapped_more f others i x lt e))
+
+-- all of a list, whose first was taken before
+pub all_behind : {A : Type 0} (xs : List A) (first : A) (others : List A) (i : ℕ) → xs ≡ first ∷ others
+    → length others ≤ i → take (suc i) xs ≡ xs
+all_behind {A} xs first others i whole le = rw whole (ap (λ (ys : List A). first ∷ ys) (take_all i others le))
 
 -- both of what holds of each
 pub all_both : {A : Type 0} (P Q : A → Type 0) (xs : List A) → AllByRecursion (λ x. P x × Q x) xs

@@ -1,12 +1,13 @@
 -- A text is written run by run.
 use Rattle.std.proofs.Common.{◌≡◌, ℕ, Bool, true, false, cond, not, List, [], ◌∷◌, ◌++◌, length, take, refl, sym, ap}
 use Rattle.std.proofs.Common.{subst, ◌∙◌, append_assoc, arith, inl, inr}
-use Rattle.std.specs.Prelude.{string_bytes, IsUtf8}
+use Rattle.std.specs.Prelude.{◌<◌, string_bytes, slice_index, IsUtf8}
 use Rattle.std.specs.Str.{IsCharBoundary}
 use Rattle.std.specs.declared.string.String.{String}
 use Rattle.std.specs.List.{flat_map, list_all}
 use Rattle.std.proofs.lemmas.Bool.{and_parts, and_cases, both_ways, not-true, not-false}
 use Rattle.std.proofs.lemmas.List.{append-nil, length-append, take_at}
+use Rattle.std.proofs.lemmas.List.Folds.{list_all-append}
 use Rattle.std.proofs.lemmas.Str.{IsUtf8-string_bytes, IsCharBoundary-from_take}
 use Rattle.sfv_spec.specs.Ascii.{backslash}
 use Rattle.sfv_spec.specs.Texts.{RunOf}
@@ -59,6 +60,41 @@ module _ (piece : ℕ → List ℕ) (before bytes : List ℕ) where
   byte_written rest output behind new byte w e n =
       more_written rest output (byte ∷ []) behind new w e (n
       ∙ ap (λ (l : List ℕ). output ++ l) (sym (append-nil (piece byte))))
+
+  -- none is written at the start
+  pub none_written : IsWrittenUpTo piece before bytes bytes before
+  none_written = record {
+    front = [];
+    whole = refl;
+    done = sym (append-nil before);
+  }
+
+  -- and all are when none is left
+  pub whole_written : (rest output : List ℕ) → IsWrittenUpTo piece before bytes rest output → length rest ≡ 0
+      → output ≡ before ++ flat_map piece bytes
+  whole_written [] output w e =
+      w.done ∙ ap (λ (l : List ℕ). before ++ flat_map piece l) (sym (w.whole ∙ append-nil w.front))
+  whole_written (c ∷ rest) output w e = absurd (omega (arith, e))
+
+  -- the next byte passes a test that all pass
+  pub next_held : (held : ℕ → Bool) (rest output behind : List ℕ) (byte : ℕ) → RunOf held bytes
+      → IsWrittenUpTo piece before bytes rest output → rest ≡ byte ∷ behind → held byte ≡ true
+  next_held held rest output behind byte h w e =
+      let all : RunOf held (w.front ++ byte ∷ behind) =
+      subst (RunOf held) (w.whole ∙ ap (λ (l : List ℕ). w.front ++ l) e) h in
+      let parts = and_parts (list_all held w.front) (list_all held (byte ∷ behind))
+      (sym (list_all-append held w.front (byte ∷ behind)) ∙ all) in
+      (and_parts (held byte) (list_all held behind) parts.1).0
+
+-- a run that begins with a plain byte isn't empty
+pub run_shortens : (plain : ℕ → Bool) (rest run behind others : List ℕ) (byte : ℕ) → rest ≡ run ++ behind
+    → rest ≡ byte ∷ others → plain byte ≡ true → (0 < length behind → plain (slice_index behind 0) ≡ false)
+    → length behind < length rest
+run_shortens plain rest [] behind others byte w e p ends =
+    let next = subst (λ l. 0 < length l → plain (slice_index l 0) ≡ false) (sym w ∙ e) ends (omega arith) in
+    absurd (both_ways (plain byte) next p)
+run_shortens plain rest (c ∷ run) behind others byte w e p ends =
+    omega (arith, ap (length {A = ℕ}) w, length-append run behind)
 
 -- a plain byte is written for itself
 pub plain_itself : (display : Bool) (c : ℕ) → plain_of display c ≡ true → piece_of display c ≡ c ∷ []

@@ -32,6 +32,12 @@ returns-in_err-read-clause-stopped c = err_and c.from_residual.result _ _ c.from
     c.loop-part.at c.loop-part.invariant.read h)
     _ (c.in_err-read.ensures.stopped dictionary_members))
 
+pub returns-in_err-push-clause-stopped : goal.returns-in_err-push-clause-stopped
+returns-in_err-push-clause-stopped c =
+    err_and c.from_residual-in_err-push.result _ _ c.from_residual-in_err-push.ensures.1
+    (some_left _ (flat_map keyed_events (handed_dictionary c.loop-part.members.items)) c.args.parts.now c.loop-part.at
+    c.loop-part.invariant.read c.in-Some.ensures.lookup.3.0)
+
 pub loop-part-smaller : goal.loop-part-smaller
 loop-part-smaller c = shrinks c.args.parts.now c.loop-part.at c.in_ok-read.end
     (member_events (handed_member (member_calls c.in_ok-read.read))) c.in-Some.ensures.lookup.3.0

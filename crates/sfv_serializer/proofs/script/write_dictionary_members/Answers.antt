@@ -1,12 +1,15 @@
 use Rattle.std.proofs.Common.{◌<◌, ◌∙◌, length, codes, rules}
+use Rattle.std.proofs.lemmas.List.{take_all}
 use Rattle.std.specs.Prelude.{IsTrue, option_map}
 use Rattle.sfv_spec.specs.Classes.{is_key}
 use Rattle.sfv_spec.specs.Values.{IsMember}
 use Rattle.sfv_spec.specs.Canonical.{dictionary_member_text}
 use Rattle.sfv_spec.specs.Calls.{written_member}
 use Rattle.sfv_text.specs.KeyText.{key_text}
+use Rattle.sfv_writer.proofs.Rows.{anyway}
 use Rattle.sfv_serializer.specs.Scripts.{member_calls}
 use Rattle.sfv_serializer.proofs.Scripts.{calls_more}
+use Rattle.sfv_serializer.proofs.Steps.{grown_again}
 use Rattle.sfv_serializer.proofs.script.write_dictionary_members.Goals as goal
 
 pub loop-name-preserved : goal.loop-name-preserved
@@ -21,3 +24,23 @@ loop-name-preserved g c =
       w.text.3 ∙ c.loop-name.invariant.2,
       w.text.4 ∙ c.loop-name.invariant.3,
     )
+
+pub returns-in_err-write_dictionary_member-clause-out_of_memory :
+    goal.returns-in_err-write_dictionary_member-clause-out_of_memory
+returns-in_err-write_dictionary_member-clause-out_of_memory g c =
+    let row = c.loop-name.invariant in
+    anyway _ _ (grown_again g.W.Sink g.met.W.Sink.same_again c.args.dictionary.now c.loop-name.dictionary
+    c.write_dictionary_member.new.dictionary (row.0, (_, row.1.text), row.3)
+    c.in_err-write_dictionary_member.ensures.out_of_memory)
+
+pub returns-clause-text : goal.returns-clause-text
+returns-clause-text g c =
+    let row = c.loop-name.invariant in
+    let all = rw (take_all c.loop-name.name-index c.args.calls.now c.loop-name-test.false) at row.1 in
+    (row.0, all.text, all.first, row.2, row.3)
+
+pub returns-clause-value : goal.returns-clause-value
+returns-clause-value g c =
+    let row = c.loop-name.invariant.1 in
+    let all = rw (take_all c.loop-name.name-index c.args.calls.now c.loop-name-test.false) at row in
+    all.good

@@ -1,11 +1,12 @@
-use Rattle.std.proofs.Common.{map, rules}
+use Rattle.std.proofs.Common.{[], map, ◌∙◌, subst, rules}
 use Rattle.std.proofs.lemmas.List.{take_all}
 use Rattle.sfv_writer.specs.Written.{lead}
 use Rattle.sfv_writer.proofs.Rows.{anyway}
-use Rattle.sfv_serializer.specs.Serializers.{has_no_part}
+use Rattle.sfv_serializer.specs.Serializers.{has_no_part, KeepsParts}
 use Rattle.sfv_serializer.specs.Scripts.{called_param, called_item}
-use Rattle.sfv_serializer.proofs.Scripts.{begun_grown, more_grown, kept_grown, taken_away, away_grown, kept_as, more_as, of_error}
+use Rattle.sfv_serializer.proofs.Scripts.{begun_grown, more_grown, kept_grown, taken_away, away_grown, of_error}
 use Rattle.sfv_serializer.proofs.Scripts.{inner_ended}
+use Rattle.sfv_serializer.proofs.Steps.{params_text_more, are_params_more, kept_grows, more_at, more_behind}
 use Rattle.sfv_serializer.proofs.script.write_inner.Goals as goal
 
 pub returns-in-Err-clause-out_of_memory : goal.returns-in-Err-clause-out_of_memory
@@ -22,8 +23,7 @@ returns-then-abandon-clause-text g c =
     let kept = taken_away s g.met.W.Sink.same_again c.args.parts.now c.abandon-then-abandon.new.self.0
     c.in_ok-inner.inner c.write_inner_items.new.inner _ begun.text begun.begins.1
     c.write_inner_items.ensures.grows c.abandon-then-abandon.ensures in
-    rw c.if-abandon.true (kept_as s c.args.parts.now c.abandon-then-abandon.new.self.0 _ _ _ _ kept (search rules)
-    (search rules) (search rules) (search rules))
+    rw c.if-abandon.true (subst (KeepsParts s c.args.parts.now) (search rules) kept)
 
 pub returns-in_err-ending-clause-out_of_memory : goal.returns-in_err-ending-clause-out_of_memory
 returns-in_err-ending-clause-out_of_memory g c =
@@ -56,10 +56,38 @@ returns-clause-text g c =
     let begun = c.in_ok-inner.ensures in
     let ending = c.in_ok-ending.ending.sink.now in
     let last = c.loop-call.ending.sink.now in
-    let behind = rw (take_all c.loop-call.call-index params (search rules)) at c.loop-call.invariant.1 in
+    let behind = rw (take_all c.loop-call.call-index params c.loop-call-test.false) at c.loop-call.invariant.1 in
     let whole = inner_ended s g.met.W.Sink.same_again parts ending last c.in_ok-inner.inner
     c.write_inner_items.new.inner (lead (has_no_part parts) g.K.Kind.separator) (g.P.Part.text c.args.opening)
     (map called_item c.args.items.now) (map called_param params) _ _ begun.text begun.begins.0 c.in_default.ensures.text
     c.in_ok-ending.ensures.text behind in
-    rw c.if-abandon.false (more_as s parts last _ _ _ _ _ _ whole (search rules) (search rules) (search rules)
-    (search rules))
+    rw c.if-abandon.false (more_at s parts last _ _ _ (search rules) whole)
+
+pub loop-call-preserved : goal.loop-call-preserved
+loop-call-preserved g c =
+    let more = c.in-Ok.ensures in
+    let row = c.loop-call.invariant in
+    let n = c.loop-call.call-index in
+    let params = c.args.params.now in
+    let within = c.loop-call-test.true in
+    let behind = params_text_more params n c.call-item.result within c.call-item.is [] in (
+      more.lent ∙ row.0,
+      more_behind g.W.Sink g.met.W.Sink.same_again c.in_ok-ending.ending.sink.now c.loop-call.ending.sink.now _ _ _ _ _
+          row.1 more.text behind,
+      are_params_more params n c.call-item.result within c.call-item.is row.2 more.is_key more.is_value,
+      more.version ∙ row.3,
+    )
+
+pub returns-in_err-inner-clause-out_of_memory : goal.returns-in_err-inner-clause-out_of_memory
+returns-in_err-inner-clause-out_of_memory g c =
+    anyway _ _ (kept_grows g.W.Sink c.args.parts.now c.begin.follows.lender-at-none
+    (of_error _ _ _ c.in_err-inner.was c.begin.follows.holds-at-none))
+
+pub returns-then-abandon-clause-value : goal.returns-then-abandon-clause-value
+returns-then-abandon-clause-value g c = rw c.if-abandon.true tt
+
+pub returns-clause-value : goal.returns-clause-value
+returns-clause-value g c =
+    let params = c.args.params.now in
+    let all = rw (take_all c.loop-call.call-index params c.loop-call-test.false) at c.loop-call.invariant.2 in
+    rw c.if-abandon.false (c.in_ok-inner.ensures.valid, c.in_default.ensures.value, all)

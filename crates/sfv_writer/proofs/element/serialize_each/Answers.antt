@@ -1,7 +1,9 @@
-use Rattle.std.proofs.Common.{rules, refl, Some}
+use Rattle.std.proofs.Common.{◌++◌, string_bytes, rules, refl, subst}
 use Rattle.std.specs.List.{flat_map}
 use Rattle.std.specs.Iterator.{IsFinite, Yields}
 use Rattle.sfv_bare.specs.BareItems.{edition_of}
+use Rattle.sfv_writer.specs.Written.{lead}
+use Rattle.sfv_writer.proofs.Appended.{next, unchanged, stops_grown}
 use Rattle.sfv_writer.proofs.Looks.{each_more, fails_among, memory_among}
 use Rattle.sfv_writer.proofs.Rows.{in_a_row_more}
 use Rattle.sfv_writer.proofs.element.serialize_each.Goals as goal
@@ -23,30 +25,61 @@ pub returns-in_err-look-clause-failed : goal.returns-in_err-look-clause-failed
 returns-in_err-look-clause-failed g c =
     let steps = g.I.Iterator.next_gives in
     let values = g.E.Element.values in
-    let ran : Yields steps c.args.elements c.loop-element.yielded c.loop-element.element-iterator = search rules in
-    let step : steps c.loop-element.element-iterator (Some c.in-Some.element) c.next.new.self = search rules in
+    let ran = subst (λ s. Yields steps s c.loop-element.yielded c.loop-element.element-iterator)
+    c.into_iter-element-iterator.ensures.into_iter_gives c.loop-element.yielded_by in
     fails_among steps (edition_of c.args.version) values (flat_map values) (λ _. refl) c.args.elements
     c.loop-element.element-iterator c.next.new.self c.loop-element.yielded c.in-Some.element c.from_residual.result
-    c.in_err-look.field-0.0 c.from_residual.ensures.1 ran step c.loop-element.invariant.3 c.in_err-look.ensures
+    c.in_err-look.field-0.0 c.from_residual.ensures.1 ran c.in-Some.ensures.steps c.loop-element.invariant.3
+    c.in_err-look.ensures
 
 pub returns-in_err-serialize_separator-clause-failed : goal.returns-in_err-serialize_separator-clause-failed
 returns-in_err-serialize_separator-clause-failed g c =
     let steps = g.I.Iterator.next_gives in
     let values = g.E.Element.values in
-    let ran : Yields steps c.args.elements c.loop-element.yielded c.loop-element.element-iterator = search rules in
-    let step : steps c.loop-element.element-iterator (Some c.in-Some.element) c.next.new.self = search rules in
+    let ran = subst (λ s. Yields steps s c.loop-element.yielded c.loop-element.element-iterator)
+    c.into_iter-element-iterator.ensures.into_iter_gives c.loop-element.yielded_by in
     memory_among steps (edition_of c.args.version) values (flat_map values) (λ _. refl) c.args.elements
     c.loop-element.element-iterator c.next.new.self c.loop-element.yielded c.in-Some.element
-    c.from_residual-in_err-serialize_separator.result c.from_residual-in_err-serialize_separator.ensures.1 ran step
-    c.loop-element.invariant.3 c.in_ok-look.ensures
+    c.from_residual-in_err-serialize_separator.result c.from_residual-in_err-serialize_separator.ensures.1 ran
+    c.in-Some.ensures.steps c.loop-element.invariant.3 c.in_ok-look.ensures
 
 pub returns-in_err-serialize-clause-failed : goal.returns-in_err-serialize-clause-failed
 returns-in_err-serialize-clause-failed g c =
     let steps = g.I.Iterator.next_gives in
     let values = g.E.Element.values in
-    let ran : Yields steps c.args.elements c.loop-element.yielded c.loop-element.element-iterator = search rules in
-    let step : steps c.loop-element.element-iterator (Some c.in-Some.element) c.next.new.self = search rules in
+    let ran = subst (λ s. Yields steps s c.loop-element.yielded c.loop-element.element-iterator)
+    c.into_iter-element-iterator.ensures.into_iter_gives c.loop-element.yielded_by in
     memory_among steps (edition_of c.args.version) values (flat_map values) (λ _. refl) c.args.elements
     c.loop-element.element-iterator c.next.new.self c.loop-element.yielded c.in-Some.element
-    c.from_residual-in_err-serialize.result c.from_residual-in_err-serialize.ensures.1 ran step
-    c.loop-element.invariant.3 c.in_ok-look.ensures
+    c.from_residual-in_err-serialize.result c.from_residual-in_err-serialize.ensures.1 ran
+    c.in-Some.ensures.steps c.loop-element.invariant.3 c.in_ok-look.ensures
+
+pub returns-clause-text : goal.returns-clause-text
+returns-clause-text g c =
+    let ran = subst (λ s. Yields g.I.Iterator.next_gives s c.loop-element.yielded c.loop-element.element-iterator)
+    c.into_iter-element-iterator.ensures.into_iter_gives c.loop-element.yielded_by in
+    let led = c.loop-element.invariant.2 in (
+      c.loop-element.yielded,
+      (c.next.new.self, (c.loop-element.element-iterator, ran, c.in-None.ensures.steps)),
+      led.text,
+      led.first,
+      led.good,
+      c.loop-element.invariant.3,
+    )
+
+pub returns-in_err-look-clause-kept : goal.returns-in_err-look-clause-kept
+returns-in_err-look-clause-kept g c =
+    stops_grown _ _ _ _ c.from_residual.result c.loop-element.invariant.2.text (unchanged _ _ refl)
+
+pub returns-in_err-serialize_separator-clause-kept : goal.returns-in_err-serialize_separator-clause-kept
+returns-in_err-serialize_separator-clause-kept g c =
+    stops_grown _ _ _ _ c.from_residual-in_err-serialize_separator.result c.loop-element.invariant.2.text
+    c.in_err-serialize_separator.ensures
+
+pub returns-in_err-serialize-clause-kept : goal.returns-in_err-serialize-clause-kept
+returns-in_err-serialize-clause-kept g c =
+    let more = c.in_err-serialize.ensures.text in
+    let output = string_bytes c.loop-element.output in
+    let front = lead c.loop-element.none c.args.separator.now in
+    stops_grown _ _ _ _ c.from_residual-in_err-serialize.result c.loop-element.invariant.2.text
+    (front ++ more.0, next output front _ more.0 _ c.in_ok-serialize_separator.ensures more.1)

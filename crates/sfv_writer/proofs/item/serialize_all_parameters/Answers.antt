@@ -1,4 +1,4 @@
-use Rattle.std.proofs.Common.{◌≡◌, ◌∙◌, ap, subst, sym}
+use Rattle.std.proofs.Common.{◌≡◌, ◌∙◌, length, string_bytes, ap, subst, sym, rules}
 use Rattle.sfv_spec.specs.Values.{AreParameters}
 use Rattle.sfv_tree.specs.Trees.{pairs_tree}
 use Rattle.sfv_tree.proofs.Distinct.{pairs_distinct}
@@ -7,7 +7,23 @@ use Rattle.sfv_writer.specs.Written.{lent_pairs}
 use Rattle.sfv_writer.specs.Versions.{values_of_pairs}
 use Rattle.sfv_writer.proofs.Lent.{lent_all}
 use Rattle.sfv_writer.proofs.Looks.{newer_fails}
+use Rattle.sfv_writer.proofs.Parameters.{none_written, none_valid, none_repeated}
 use Rattle.sfv_writer.proofs.item.serialize_all_parameters.Goals as goal
+
+pub returns-then-is_empty-clause-text : goal.returns-then-is_empty-clause-text
+returns-then-is_empty-clause-text g c =
+    let none : length c.args.params.now.entries ≡ 0 = search rules in
+    none_written (string_bytes c.args.output.now) c.args.params.now.entries none
+
+pub returns-then-is_empty-clause-value : goal.returns-then-is_empty-clause-value
+returns-then-is_empty-clause-value g c =
+    let none : length c.args.params.now.entries ≡ 0 = search rules in
+    none_valid c.args.params.now.entries none
+
+pub returns-then-is_empty-clause-distinct : goal.returns-then-is_empty-clause-distinct
+returns-then-is_empty-clause-distinct g c =
+    let none : length c.args.params.now.entries ≡ 0 = search rules in
+    none_repeated c.args.params.now.entries none
 
 pub returns-clause-text : goal.returns-clause-text
 returns-clause-text g c =

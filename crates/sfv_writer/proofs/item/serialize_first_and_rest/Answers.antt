@@ -1,10 +1,30 @@
-use Rattle.std.proofs.Common.{rules}
+use Rattle.std.proofs.Common.{[], ◌∷◌, subst}
+use Rattle.indexmap.proofs.MapLemmas.{OnOk-map}
+use Rattle.sfv_spec.specs.Calls.{AllFit}
 use Rattle.sfv_bare.specs.BareItems.{bare_value, edition_of}
 use Rattle.sfv_writer.specs.Versions.{values_of_pairs}
+use Rattle.sfv_writer.proofs.Appended.{next, grows_behind}
 use Rattle.sfv_writer.proofs.Looks.{fails_behind}
 use Rattle.sfv_writer.proofs.item.serialize_first_and_rest.Goals as goal
 
+pub returns-clause-text : goal.returns-clause-text
+returns-clause-text g c =
+    let fit = subst (λ b. AllFit (edition_of c.args.version) (b ∷ [])) c.as_ref_item.ensures.value
+    c.in_ok-look_at_bare_item.ensures in
+    let one = c.in_ok-serialize_parameter.ensures in
+    OnOk-map c.serialize_parameters.result _ _
+    (λ h. (h.0, h.1, next _ _ _ _ _ one.text h.2, ((one.key, one.value), h.3), (fit.0, h.4)))
+    c.serialize_parameters.ensures.text
+
 pub returns-clause-failed : goal.returns-clause-failed
 returns-clause-failed g c =
-    fails_behind g.I.Iterator.next_gives c.args.rest values_of_pairs (edition_of c.args.version)
-    (bare_value c.args.first.1.now) c.serialize_parameters.result (search rules) c.serialize_parameters.ensures.failed
+    let edition = edition_of c.args.version in
+    fails_behind g.I.Iterator.next_gives c.args.rest values_of_pairs edition (bare_value c.args.first.1.now)
+    c.serialize_parameters.result
+    (subst (λ b. AllFit edition (b ∷ [])) c.as_ref_item.ensures.value c.in_ok-look_at_bare_item.ensures)
+    c.serialize_parameters.ensures.failed
+
+pub returns-clause-grows : goal.returns-clause-grows
+returns-clause-grows g c =
+    grows_behind _ _ _ _ c.serialize_parameters.result c.in_ok-serialize_parameter.ensures.text
+    c.serialize_parameters.ensures.grows

@@ -1,31 +1,68 @@
-use Rattle.std.proofs.Common.{[], ◌∷◌, Some, subst, rules}
-use Rattle.std.specs.Iterator.{Yields}
+use Rattle.std.proofs.Common.{[], ◌∷◌, refl, subst, rules}
+use Rattle.std.specs.Iterator.{IsFinite, Yields}
 use Rattle.sfv_bare.specs.BareItems.{bare_value, edition_of}
 use Rattle.sfv_spec.specs.Calls.{AllFit}
 use Rattle.sfv_writer.specs.Versions.{NamesFirst, values_of_pairs}
+use Rattle.sfv_writer.proofs.Appended.{unchanged, stops_grown}
 use Rattle.sfv_writer.proofs.Looks.{fails_among, memory_among, singles}
+use Rattle.sfv_writer.proofs.Parameters.{text_more, valid_more, fit_more}
 use Rattle.sfv_writer.proofs.item.serialize_parameters.Goals as goal
+
+pub loop-key-preserved : goal.loop-key-preserved
+loop-key-preserved g c =
+    let fit = c.in_ok-look_at_bare_item.ensures in
+    let one = c.in_ok-serialize_parameter.ensures in
+    let goes : g.I.Iterator.can_next c.next.new.self × IsFinite (g.I.Iterator.remaining c.next.new.self) =
+    search rules in (
+      goes.0,
+      goes.1,
+      text_more c.in-Some.key c.in-Some.value _ _ _ c.loop-key.yielded c.loop-key.invariant.2 one.text,
+      valid_more c.in-Some.key c.in-Some.value c.loop-key.yielded c.loop-key.invariant.3 one.key one.value,
+      fit_more c.in-Some.key c.in-Some.value (edition_of c.args.version) c.loop-key.yielded c.loop-key.invariant.4
+          (subst (λ b. AllFit (edition_of c.args.version) (b ∷ [])) c.as_ref_item.ensures.value fit),
+    )
 
 pub returns-in_err-look_at_bare_item-clause-failed : goal.returns-in_err-look_at_bare_item-clause-failed
 returns-in_err-look_at_bare_item-clause-failed g c =
     let steps = g.I.Iterator.next_gives in
     let edition = edition_of c.args.version in
     let error = c.in_err-look_at_bare_item.field-0.0 in
-    let ran : Yields steps c.args.params c.loop-key.yielded c.loop-key.key-iterator = search rules in
-    let step : steps c.loop-key.key-iterator (Some (c.in-Some.key, c.in-Some.value)) c.next.new.self = search rules in
+    let ran = subst (λ s. Yields steps s c.loop-key.yielded c.loop-key.key-iterator)
+    c.into_iter-key-iterator.ensures.into_iter_gives c.loop-key.yielded_by in
     fails_among steps edition (λ p. bare_value p.1.now ∷ []) values_of_pairs (singles (λ p. bare_value p.1.now))
     c.args.params c.loop-key.key-iterator c.next.new.self c.loop-key.yielded (c.in-Some.key, c.in-Some.value)
-    c.from_residual.result error c.from_residual.ensures.1 ran step c.loop-key.invariant.4
+    c.from_residual.result error c.from_residual.ensures.1 ran c.in-Some.ensures.steps c.loop-key.invariant.4
     (subst (λ b. NamesFirst edition (b ∷ []) error) c.as_ref_item.ensures.value c.in_err-look_at_bare_item.ensures)
 
 pub returns-in_err-serialize_parameter-clause-failed : goal.returns-in_err-serialize_parameter-clause-failed
 returns-in_err-serialize_parameter-clause-failed g c =
     let steps = g.I.Iterator.next_gives in
     let edition = edition_of c.args.version in
-    let ran : Yields steps c.args.params c.loop-key.yielded c.loop-key.key-iterator = search rules in
-    let step : steps c.loop-key.key-iterator (Some (c.in-Some.key, c.in-Some.value)) c.next.new.self = search rules in
+    let ran = subst (λ s. Yields steps s c.loop-key.yielded c.loop-key.key-iterator)
+    c.into_iter-key-iterator.ensures.into_iter_gives c.loop-key.yielded_by in
     memory_among steps edition (λ p. bare_value p.1.now ∷ []) values_of_pairs (singles (λ p. bare_value p.1.now))
     c.args.params c.loop-key.key-iterator c.next.new.self c.loop-key.yielded (c.in-Some.key, c.in-Some.value)
-    c.from_residual-in_err-serialize_parameter.result c.from_residual-in_err-serialize_parameter.ensures.1 ran step
-    c.loop-key.invariant.4
+    c.from_residual-in_err-serialize_parameter.result c.from_residual-in_err-serialize_parameter.ensures.1 ran
+    c.in-Some.ensures.steps c.loop-key.invariant.4
     (subst (λ b. AllFit edition (b ∷ [])) c.as_ref_item.ensures.value c.in_ok-look_at_bare_item.ensures)
+
+pub returns-clause-text : goal.returns-clause-text
+returns-clause-text g c =
+    let ran = subst (λ s. Yields g.I.Iterator.next_gives s c.loop-key.yielded c.loop-key.key-iterator)
+    c.into_iter-key-iterator.ensures.into_iter_gives c.loop-key.yielded_by in
+    let written = c.loop-key.invariant in (
+      c.loop-key.yielded,
+      (c.next.new.self, (c.loop-key.key-iterator, ran, c.in-None.ensures.steps)),
+      written.2,
+      written.3,
+      written.4,
+    )
+
+pub returns-in_err-look_at_bare_item-clause-grows : goal.returns-in_err-look_at_bare_item-clause-grows
+returns-in_err-look_at_bare_item-clause-grows g c =
+    stops_grown _ _ _ _ c.from_residual.result c.loop-key.invariant.2 (unchanged _ _ refl)
+
+pub returns-in_err-serialize_parameter-clause-grows : goal.returns-in_err-serialize_parameter-clause-grows
+returns-in_err-serialize_parameter-clause-grows g c =
+    stops_grown _ _ _ _ c.from_residual-in_err-serialize_parameter.result c.loop-key.invariant.2
+    c.in_err-serialize_parameter.ensures.text

@@ -1,10 +1,22 @@
-use Rattle.std.proofs.Common.{map, subst}
+use Rattle.std.proofs.Common.{map, codes, subst, lit<}
 use Rattle.std.specs.List.{AllByRecursion}
 use Rattle.sfv_spec.specs.Values.{IsItem}
 use Rattle.sfv_spec.specs.Ordered.{IsOrderedItem}
+use Rattle.sfv_spec.specs.Texts.{joined}
+use Rattle.sfv_spec.specs.Canonical.{item_text}
 use Rattle.sfv_tree.specs.Trees.{item_tree}
+use Rattle.sfv_writer.proofs.Appended.{put, behind, between}
 use Rattle.sfv_writer.proofs.Rows.{all_both, parts_on_ok}
 use Rattle.sfv_writer.proofs.member.serialize_inner_list.Goals as goal
+
+pub returns-clause-text : goal.returns-clause-text
+returns-clause-text g c =
+    behind _ _ _ _ _ c.serialize_all_parameters.result
+    (between (λ is. joined (codes " ") (map item_text (map item_tree is))) _ _ _ _ _ _ _ _
+    (put _ _ _ _ c.in_ok-push.ensures.bytes (c.in_ok-push.ensures.ascii (lit< tt))) c.deref.ensures.value
+    c.in_ok-serialize_items.ensures.text
+    (put _ _ _ _ c.in_ok-push-2.ensures.bytes (c.in_ok-push-2.ensures.ascii (lit< tt))))
+    c.serialize_all_parameters.ensures.text
 
 pub returns-clause-value : goal.returns-clause-value
 returns-clause-value g c =

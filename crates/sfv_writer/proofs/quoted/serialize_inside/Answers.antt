@@ -1,7 +1,10 @@
-use Rattle.std.proofs.Common.{◌++◌, ◌∙◌, List, ℕ, string_bytes, ap}
+use Rattle.std.proofs.Common.{◌++◌, ◌∙◌, List, ℕ, string_bytes, sym, ap}
+use Rattle.std.specs.Prelude.{flat_map}
 use Rattle.sfv_spec.proofs.Marks.{plain_of}
-use Rattle.sfv_writer.specs.Quoted.{piece_of}
-use Rattle.sfv_writer.proofs.Written.{plain_utf8, plain_itself, run_written, byte_written}
+use Rattle.sfv_writer.specs.Quoted.{held_of, piece_of}
+use Rattle.sfv_writer.proofs.Appended.{unchanged, stops}
+use Rattle.sfv_writer.proofs.Written.{none_written, whole_written, next_held, run_shortens, plain_utf8}
+use Rattle.sfv_writer.proofs.Written.{plain_itself, run_written, byte_written}
 use Rattle.sfv_writer.proofs.quoted.serialize_inside.Goals as goal
 
 pub from_utf8_unchecked-requires : goal.from_utf8_unchecked-requires
@@ -19,3 +22,45 @@ pub loop-byte-preserved : goal.loop-byte-preserved
 loop-byte-preserved g c =
     byte_written (piece_of g.Q.Escaping.display) (string_bytes c.args.output.now) c.args.bytes.now _ _ _ _ _
     c.loop-byte.invariant c.in-Some.ensures.cases.0 c.in_ok-push_escape.ensures.text
+
+pub loop-byte-init : goal.loop-byte-init
+loop-byte-init g c = none_written (piece_of g.Q.Escaping.display) (string_bytes c.args.output.now) c.args.bytes.now
+
+pub is_plain-requires : goal.is_plain-requires
+is_plain-requires g c =
+    next_held (piece_of g.Q.Escaping.display) (string_bytes c.args.output.now) c.args.bytes.now
+    (held_of g.Q.Escaping.display) _ _ _ _ c.requires c.loop-byte.invariant c.in-Some.ensures.cases.0
+
+pub push_escape-requires-clause-held : goal.push_escape-requires-clause-held
+push_escape-requires-clause-held g c =
+    next_held (piece_of g.Q.Escaping.display) (string_bytes c.args.output.now) c.args.bytes.now
+    (held_of g.Q.Escaping.display) _ _ _ _ c.requires c.loop-byte.invariant c.in-Some.ensures.cases.0
+
+pub loop-byte-smaller-then-is_plain : goal.loop-byte-smaller-then-is_plain
+loop-byte-smaller-then-is_plain g c =
+    run_shortens (plain_of g.Q.Escaping.display) _ _ _ _ _ c.split_plain.ensures.whole c.in-Some.ensures.cases.0
+    (sym c.if-is_plain.ensures) c.split_plain.ensures.ends
+
+pub returns : goal.returns
+returns g c = record {
+  text = whole_written (piece_of g.Q.Escaping.display) (string_bytes c.args.output.now) c.args.bytes.now _ _
+      c.loop-byte.invariant c.in_default.ensures.cases;
+}
+
+pub returns-in_err-push_str : goal.returns-in_err-push_str
+returns-in_err-push_str g c =
+    let piece = piece_of g.Q.Escaping.display in
+    record {
+      text = stops (string_bytes c.args.output.now) (flat_map piece c.loop-byte.invariant.front) _ _
+          (flat_map piece c.args.bytes.now) c.from_residual.result c.from_residual.ensures.0
+          c.loop-byte.invariant.done (unchanged _ _ c.in_err-push_str.ensures.bytes);
+    }
+
+pub returns-in_err-push_escape : goal.returns-in_err-push_escape
+returns-in_err-push_escape g c =
+    let piece = piece_of g.Q.Escaping.display in
+    record {
+      text = stops (string_bytes c.args.output.now) (flat_map piece c.loop-byte.invariant.front) _ _
+          (flat_map piece c.args.bytes.now) c.from_residual-in_err-push_escape.result
+          c.from_residual-in_err-push_escape.ensures.0 c.loop-byte.invariant.done c.in_err-push_escape.ensures.text;
+    }

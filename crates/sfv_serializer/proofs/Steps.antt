@@ -1,0 +1,85 @@
+-- What is known after one more call: of the parameters that were written, and of a serializer.
+use Rattle.std.proofs.Common.{◌≡◌, ℕ, ◌+◌, ◌<◌, Bool, List, [], ◌∷◌, ◌++◌, length, get_or, map, take}
+use Rattle.std.proofs.Common.{sym, ap, subst, ◌∙◌, append_assoc}
+use Rattle.std.specs.Prelude.{IsTrue, string_bytes}
+use Rattle.std.proofs.lemmas.List.{append-nil}
+use Rattle.sfv_spec.specs.Classes.{is_key}
+use Rattle.sfv_spec.specs.Values.{BareValue, RawParameters, IsBareValue, AreParameters}
+use Rattle.sfv_spec.specs.Canonical.{parameters_text}
+use Rattle.sfv_text.specs.KeyText.{key_text}
+use Rattle.sfv_bare.specs.BareItems.{ref_value}
+use Rattle.sfv_writer.specs.Written.{param_text}
+use Rattle.sfv_writer.proofs.Rows.{mapped_more}
+use Rattle.sfv_serializer.specs.declared.script.ParamCall.{ParamCall}
+use Rattle.sfv_serializer.specs.Scripts.{called_param}
+use Rattle.sfv_serializer.specs.declared.parts.Parts.{Parts}
+use Rattle.sfv_serializer.specs.declared.sink.Sink.{Ghosts as Sink}
+use Rattle.sfv_serializer.specs.Serializers.{HasMoreParts, KeepsParts, GrowsParts, has_no_part}
+use Rattle.sfv_serializer.proofs.Scripts.{extends_again}
+
+parameters_push : (ps : RawParameters) (p : List ℕ × BareValue)
+    → parameters_text (ps ++ p ∷ []) ≡ parameters_text ps ++ param_text p.0 p.1
+parameters_push [] p = append-nil (param_text p.0 p.1)
+parameters_push (q ∷ ps) p =
+    let first : List ℕ = param_text q.0 q.1 in
+    ap (λ (t : List ℕ). first ++ t) (parameters_push ps p)
+    ∙ sym (append_assoc first (parameters_text ps) (param_text p.0 p.1))
+
+-- one more piece, behind what stands in front
+pub put_before : (front so_far new one : List ℕ) → new ≡ so_far ++ one → front ++ new ≡ (front ++ so_far) ++ one
+put_before front so_far new one e = ap (λ (t : List ℕ). front ++ t) e ∙ sym (append_assoc front so_far one)
+
+valid_push : (ps : RawParameters) (p : List ℕ × BareValue) → AreParameters ps → IsTrue (is_key p.0) → IsBareValue p.1
+    → AreParameters (ps ++ p ∷ [])
+valid_push [] p h k v = ((k, v), tt)
+valid_push (q ∷ ps) p h k v = (h.0, valid_push ps p h.1 k v)
+
+module _ (calls : List ParamCall) (n : ℕ) (x : ParamCall) (lt : n < length calls) (is : x ≡ get_or calls n x) where
+  -- the text when one more parameter is written, behind others
+  pub params_text_more : (front : List ℕ) → front ++ parameters_text (map called_param (take (n + 1) calls))
+      ≡ (front ++ parameters_text (map called_param (take n calls))) ++ param_text (key_text x.key) (ref_value x.value)
+  params_text_more front =
+      let so_far : RawParameters = map called_param (take n calls) in
+      let one : List ℕ = param_text (key_text x.key) (ref_value x.value) in
+      put_before front (parameters_text so_far) _ one
+      (ap parameters_text (mapped_more called_param calls n x lt is) ∙ parameters_push so_far (called_param x))
+
+  -- and each is one
+  pub are_params_more : AreParameters (map called_param (take n calls)) → IsTrue (is_key (key_text x.key))
+      → IsBareValue (ref_value x.value) → AreParameters (map called_param (take (n + 1) calls))
+  are_params_more h k v =
+      subst AreParameters (sym (mapped_more called_param calls n x lt is))
+      (valid_push (map called_param (take n calls)) (called_param x) h k v)
+
+module _ {W K : Type 0} (w : Sink W) where
+  -- more is written
+  pub grows : (s t : Parts W K) (more : List ℕ) (is_first : Bool) → HasMoreParts w s t more is_first → GrowsParts w s t
+  grows s t more is_first h = (h.0, (more, h.1), h.4)
+
+  -- out of memory, nothing is
+  pub kept_grows : (s t : Parts W K) → KeepsParts w s t → GrowsParts w s t
+  kept_grows s t h = (h.0, ([], h.1 ∙ sym (append-nil _)), h.4)
+
+  -- what is known of a serializer holds of the value that its loan ends at
+  pub more_at : (s v u : Parts W K) (more : List ℕ) (is_first : Bool) → v ≡ u → HasMoreParts w s v more is_first
+      → HasMoreParts w s u more is_first
+  more_at s v u more is_first e h = subst (λ (p : Parts W K). HasMoreParts w s p more is_first) e h
+
+  -- and of what is written after it
+  pub grown_again : (again : (r s t : W) → w.same r s → w.same s t → w.same r t) (s t u : Parts W K) → GrowsParts w s t
+      → GrowsParts w t u → GrowsParts w s u
+  grown_again again s t u g h = (again _ _ _ g.0 h.0, extends_again _ _ _ g.1 h.1, h.2 ∙ g.2)
+
+  -- more is written behind it
+  pub more_behind : (again : (r s t : W) → w.same r s → w.same s t → w.same r t) (s t u : Parts W K)
+      (so_far more whole : List ℕ) (is_first : Bool) → HasMoreParts w s t so_far is_first
+      → HasMoreParts w t u more (has_no_part t) → whole ≡ so_far ++ more → HasMoreParts w s u whole is_first
+  more_behind again s t u so_far more whole is_first h k e =
+      let before : List ℕ = string_bytes (w.text s.sink) in (
+        again _ _ _ h.0 k.0,
+        k.1 ∙ ap (λ (t : List ℕ). t ++ more) h.1 ∙ append_assoc before so_far more
+            ∙ ap (λ (t : List ℕ). before ++ t) (sym e),
+        k.2 ∙ h.2,
+        k.3 ∙ h.3,
+        k.4 ∙ h.4,
+      )

@@ -1,0 +1,60 @@
+-- Parameters that are written one after another, as they are lent.
+use Rattle.std.proofs.Common.{◌≡◌, ℕ, List, [], ◌∷◌, ◌++◌, length, refl, sym, ap, ◌∙◌, append_assoc, arith}
+use Rattle.std.specs.Prelude.{IsTrue}
+use Rattle.std.specs.Borrow.{Bor}
+use Rattle.std.proofs.lemmas.List.{append-nil}
+use Rattle.sfv_spec.specs.Classes.{is_key}
+use Rattle.sfv_spec.specs.Values.{Edition, IsBareValue, AreParameters}
+use Rattle.sfv_spec.specs.Ordered.{keys, no_repeats}
+use Rattle.sfv_spec.specs.Canonical.{parameters_text}
+use Rattle.sfv_spec.specs.Calls.{AllFit}
+use Rattle.sfv_bare.specs.BareItems.{bare_value}
+use Rattle.sfv_tree.specs.Trees.{OwnedBareItem, pairs_tree}
+use Rattle.sfv_writer.specs.Written.{lent_pairs, param_text}
+use Rattle.sfv_writer.specs.Versions.{values_of_pairs}
+use Rattle.sfv_writer.proofs.Appended.{next}
+
+module _ (k : Bor (List ℕ)) (v : Bor OwnedBareItem) where
+  text_behind : (ps : List (Bor (List ℕ) × Bor OwnedBareItem)) → parameters_text (lent_pairs (ps ++ (k, v) ∷ []))
+      ≡ parameters_text (lent_pairs ps) ++ param_text k.now (bare_value v.now)
+  text_behind [] = append-nil (param_text k.now (bare_value v.now))
+  text_behind (p ∷ ps) =
+      let first : List ℕ = param_text p.0.now (bare_value p.1.now) in
+      ap (λ (t : List ℕ). first ++ t) (text_behind ps)
+      ∙ sym (append_assoc first (parameters_text (lent_pairs ps)) (param_text k.now (bare_value v.now)))
+
+  -- one more is written
+  pub text_more : (old output new : List ℕ) (ps : List (Bor (List ℕ) × Bor OwnedBareItem))
+      → output ≡ old ++ parameters_text (lent_pairs ps) → new ≡ output ++ param_text k.now (bare_value v.now)
+      → new ≡ old ++ parameters_text (lent_pairs (ps ++ (k, v) ∷ []))
+  text_more old output new ps e n =
+      next old (parameters_text (lent_pairs ps)) output (param_text k.now (bare_value v.now)) new e n
+      ∙ ap (λ (t : List ℕ). old ++ t) (sym (text_behind ps))
+
+  -- and is a parameter
+  pub valid_more : (ps : List (Bor (List ℕ) × Bor OwnedBareItem)) → AreParameters (lent_pairs ps)
+      → IsTrue (is_key k.now) → IsBareValue (bare_value v.now) → AreParameters (lent_pairs (ps ++ (k, v) ∷ []))
+  valid_more [] h key value = ((key, value), tt)
+  valid_more (p ∷ ps) h key value = (h.0, valid_more ps h.1 key value)
+
+  -- whose value fits
+  pub fit_more : (edition : Edition) (ps : List (Bor (List ℕ) × Bor OwnedBareItem))
+      → AllFit edition (values_of_pairs ps) → AllFit edition (bare_value v.now ∷ [])
+      → AllFit edition (values_of_pairs (ps ++ (k, v) ∷ []))
+  fit_more edition [] h fit = fit
+  fit_more edition (p ∷ ps) h fit = (h.0, fit_more edition ps h.1 fit)
+
+-- without parameters nothing is written
+pub none_written : (old : List ℕ) (es : List (List ℕ × OwnedBareItem)) → length es ≡ 0
+    → old ≡ old ++ parameters_text (pairs_tree es)
+none_written old [] e = sym (append-nil old)
+none_written old (p ∷ es) e = absurd (omega (arith, e))
+
+pub none_valid : (es : List (List ℕ × OwnedBareItem)) → length es ≡ 0 → AreParameters (pairs_tree es)
+none_valid [] e = tt
+none_valid (p ∷ es) e = absurd (omega (arith, e))
+
+pub none_repeated : (es : List (List ℕ × OwnedBareItem)) → length es ≡ 0
+    → IsTrue (no_repeats (keys (pairs_tree es)))
+none_repeated [] e = refl
+none_repeated (p ∷ es) e = absurd (omega (arith, e))

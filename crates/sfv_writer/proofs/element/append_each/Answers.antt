@@ -1,0 +1,12 @@
+use Rattle.std.proofs.Common.{◌∙◌}
+use Rattle.sfv_writer.proofs.Written.{cut_to}
+use Rattle.sfv_writer.proofs.element.append_each.Goals as goal
+
+pub returns-in-Ok-clause-text : goal.returns-in-Ok-clause-text
+returns-in-Ok-clause-text g c = c.in-Ok.ensures.text
+
+pub returns-in-Err-clause-kept : goal.returns-in-Err-clause-kept
+returns-in-Err-clause-kept g c =
+    let old = c.args.output.now in
+    cut_to old c.serialize_each.new.output c.cut_back.new.output c.len-len.result
+    (c.len-len.ensures ∙ old.bytes.ok.0) c.in-Err.ensures.kept c.cut_back.ensures
