@@ -1,14 +1,15 @@
 -- What is known after one more call: of the parameters that were written, and of a serializer.
-use Rattle.std.proofs.Common.{◌≡◌, ℕ, ◌+◌, ◌<◌, Bool, List, [], ◌∷◌, ◌++◌, length, get_or, map, take}
+use Rattle.std.proofs.Common.{◌≡◌, ℕ, ◌+◌, ◌<◌, Bool, List, [], ◌++◌, length, get_or, map, take}
 use Rattle.std.proofs.Common.{sym, ap, subst, ◌∙◌, append_assoc}
 use Rattle.std.specs.Prelude.{IsTrue, string_bytes}
 use Rattle.std.proofs.lemmas.List.{append-nil}
 use Rattle.sfv_spec.specs.Classes.{is_key}
-use Rattle.sfv_spec.specs.Values.{BareValue, RawParameters, IsBareValue, AreParameters}
+use Rattle.sfv_spec.specs.Values.{RawParameters, IsBareValue, AreParameters}
 use Rattle.sfv_spec.specs.Canonical.{parameters_text}
 use Rattle.sfv_text.specs.KeyText.{key_text}
 use Rattle.sfv_bare.specs.BareItems.{ref_value}
 use Rattle.sfv_writer.specs.Written.{param_text}
+use Rattle.sfv_writer.proofs.Parameters.{parameters_push, valid_push}
 use Rattle.sfv_writer.proofs.Rows.{mapped_more}
 use Rattle.sfv_serializer.specs.declared.script.ParamCall.{ParamCall}
 use Rattle.sfv_serializer.specs.Scripts.{called_param}
@@ -17,22 +18,9 @@ use Rattle.sfv_serializer.specs.declared.sink.Sink.{Ghosts as Sink}
 use Rattle.sfv_serializer.specs.Serializers.{HasMoreParts, KeepsParts, GrowsParts, has_no_part}
 use Rattle.sfv_serializer.proofs.Scripts.{extends_again}
 
-parameters_push : (ps : RawParameters) (p : List ℕ × BareValue)
-    → parameters_text (ps ++ p ∷ []) ≡ parameters_text ps ++ param_text p.0 p.1
-parameters_push [] p = append-nil (param_text p.0 p.1)
-parameters_push (q ∷ ps) p =
-    let first : List ℕ = param_text q.0 q.1 in
-    ap (λ (t : List ℕ). first ++ t) (parameters_push ps p)
-    ∙ sym (append_assoc first (parameters_text ps) (param_text p.0 p.1))
-
 -- one more piece, behind what stands in front
 pub put_before : (front so_far new one : List ℕ) → new ≡ so_far ++ one → front ++ new ≡ (front ++ so_far) ++ one
 put_before front so_far new one e = ap (λ (t : List ℕ). front ++ t) e ∙ sym (append_assoc front so_far one)
-
-valid_push : (ps : RawParameters) (p : List ℕ × BareValue) → AreParameters ps → IsTrue (is_key p.0) → IsBareValue p.1
-    → AreParameters (ps ++ p ∷ [])
-valid_push [] p h k v = ((k, v), tt)
-valid_push (q ∷ ps) p h k v = (h.0, valid_push ps p h.1 k v)
 
 module _ (calls : List ParamCall) (n : ℕ) (x : ParamCall) (lt : n < length calls) (is : x ≡ get_or calls n x) where
   -- the text when one more parameter is written, behind others

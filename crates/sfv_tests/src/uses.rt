@@ -11,9 +11,9 @@ use sfv_uses::reading::{explain, integer_with_default, param_of_member, read_old
 use sfv_uses::serializing::{
     performed_and_read, write_dictionary, write_item_of_no_bytes, write_list, write_nothing,
 };
-use sfv_uses::versions::{performed_and_read_for, write_both_for};
 use sfv_uses::visiting::{TooMany, count_members, each_key};
 use sfv_uses::writing::{write_item, write_parts, written_and_read};
+use sfv_versions::{performed_and_read_for, write_both_for};
 use std::alloc::Global;
 
 /// Whether the list has this line that explains its fault, or none where there is no fault.

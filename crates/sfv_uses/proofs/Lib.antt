@@ -1,2 +1,3 @@
+mod Foos
 pub mod Parts
 pub mod Uses

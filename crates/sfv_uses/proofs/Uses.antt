@@ -1,15 +1,13 @@
 -- What the uses rest on.
-use Rattle.std.proofs.Common.{◌≡◌, ℕ, ℤ, ◌+◌, ◌<◌, ◌≤◌, List, [], ◌∷◌, ◌++◌, length, refl, sym, ap, ◌∙◌, arith}
-use Rattle.std.proofs.Common.{append_assoc, inl, inr, subst}
+use Rattle.std.proofs.Common.{◌≡◌, ℕ, ℤ, ◌+◌, ◌<◌, ◌≤◌, List, [], ◌∷◌, length, refl, sym, ap, ◌∙◌, arith}
+use Rattle.std.proofs.Common.{inl, inr, subst}
 use Rattle.std.specs.Prelude.{Option, Some, None, Result, Ok, Err, OnOk, IsSome, IfOk, IfErr, MatchResult, fold}
-use Rattle.std.specs.Prelude.{IsErrAnd}
 use Rattle.std.specs.Prelude.{filter_map}
 use Rattle.std.specs.Prelude.{option_map}
 use Rattle.std.specs.List.{cons_option}
 use Rattle.std.proofs.lemmas.List.{length-append, length-map}
-use Rattle.std.proofs.lemmas.Result.{err_from_is_err_and}
 use Rattle.std.proofs.lemmas.List.Elements.{filter_map-append}
-use Rattle.sfv.specs.Values.{Edition, rfc9651, FieldKind, item_field, list_field, dictionary_field, RawItem, BareValue, integer, decimal}
+use Rattle.sfv.specs.Values.{rfc9651, FieldKind, item_field, list_field, dictionary_field, RawItem, BareValue, integer, decimal}
 use Rattle.sfv.specs.Values.{string, token, byte_sequence}
 use Rattle.sfv.specs.Values.{boolean, date, display_string, RawMember, item, inner_list}
 use Rattle.sfv.specs.Events.{TreeEvent, entry, keyed_entry, begins_item, begins_inner_list, bare_item, parameter}
@@ -20,9 +18,7 @@ use Rattle.sfv.specs.Statements.{IsParsedAs}
 use Rattle.sfv.specs.Visiting.{RunsTo, IsVisitorError}
 use Rattle.sfv.specs.Parsers.{IsParseError, IsAnswerOf, IsSyntaxOf, IsVisitorErrorOf, VisitsFirst, IsLent, OfMade}
 use Rattle.sfv.specs.Given.{ReadBareItem, item_kept, KeepTakes, KeepFails}
-use Rattle.sfv.specs.Calls.{AllFit}
-use Rattle.sfv.specs.Versions.{IsSerializeError}
-use Rattle.sfv.specs.Types.{Error, SerializeError, ParseError, OutOfMemory, ItemFault, ExpectItem}
+use Rattle.sfv.specs.Types.{Error, ParseError, OutOfMemory, ItemFault, ExpectItem}
 use Rattle.sfv.specs.BareItems.{input_value}
 use Rattle.sfv.specs.Types.{StringFromInput}
 use Rattle.sfv.specs.Types.bare_items as bare_items
@@ -31,7 +27,7 @@ use Rattle.sfv.specs.Types.parse_errors.{Syntax, Visitor}
 use Rattle.sfv.proofs.Callers.{runs_fold, key_in, keys_in_events, member_read, last_of-collapse, expect_answers}
 use Rattle.sfv.proofs.Callers.{expect_fails, expect_first, begins_with_its, accepted_error}
 use Rattle.sfv_uses.specs.Uses.{integer_or, param_in, counts, HasMembers, IsCountError, IsExpectError, IsReadError}
-use Rattle.sfv_uses.specs.Uses.{IsPairError, IsErrorOfLines, IsLentString}
+use Rattle.sfv_uses.specs.Uses.{IsErrorOfLines, IsLentString}
 use Rattle.sfv_uses.specs.declared.visiting.MemberCounter.{MemberCounter}
 use Rattle.sfv_uses.specs.declared.visiting.TooMany.{TooMany}
 
@@ -216,38 +212,3 @@ pub read_failed : {O E : Type 0} (P Q : ParseError E → Type 0) (holds : E → 
 read_failed P Q holds kind t syntax visitor (Ok value) h k = tt
 read_failed P Q holds kind t syntax visitor (Err (Syntax e)) h k = syntax e h
 read_failed P Q holds kind t syntax visitor (Err (Visitor fault)) h k = visitor fault k
-
--- where the first or the second of two values isn't written, and a `?` returns the error
-module _ {T : Type 0} (edition : Edition) (a b : BareValue) (e : SerializeError) (r : Result T SerializeError)
-    (exit : IsErrAnd r (λ y. y ≡ e)) where
-  at_exit : IsPairError edition a b e → IfErr r (IsPairError edition a b)
-  at_exit h = let p = err_from_is_err_and r exit in rw (p.1, p.2) h
-
-  pub first_unwritten : IsSerializeError edition (a ∷ []) e → IfErr r (IsPairError edition a b)
-  first_unwritten (inl h) = at_exit (inl h)
-  first_unwritten (inr h) = at_exit (inr (
-    h.0,
-    record {
-      before = h.1.before;
-      after = h.1.after ++ b ∷ [];
-      split = ap (λ (l : List BareValue). l ++ b ∷ []) h.1.split ∙ append_assoc h.1.before (h.0 ∷ h.1.after) (b ∷ []);
-      fit = h.1.fit;
-      unfit = h.1.unfit;
-    },
-    h.2,
-  ))
-
-  pub second_unwritten : AllFit edition (a ∷ []) → IsSerializeError edition (b ∷ []) e
-      → IfErr r (IsPairError edition a b)
-  second_unwritten fit (inl h) = at_exit (inl (h.0, fit))
-  second_unwritten fit (inr h) = at_exit (inr (
-    h.0,
-    record {
-      before = a ∷ h.1.before;
-      after = h.1.after;
-      split = ap (λ (l : List BareValue). a ∷ l) h.1.split;
-      fit = (fit.0, h.1.fit);
-      unfit = h.1.unfit;
-    },
-    h.2,
-  ))

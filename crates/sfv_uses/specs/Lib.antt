@@ -1,1 +1,3 @@
+pub mod Foo
+pub mod FooSteps
 pub mod Uses

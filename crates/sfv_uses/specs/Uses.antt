@@ -5,7 +5,7 @@ use Rattle.std.specs.Borrow.{Bor}
 use Rattle.std.specs.declared.alloc.Global.{Global}
 use Rattle.std.specs.declared.string.String.{String}
 use Rattle.std.specs.List.{repeat}
-use Rattle.sfv.specs.Values.{Edition, rfc9651, FieldKind, item_field, list_field, dictionary_field, BareValue, integer}
+use Rattle.sfv.specs.Values.{rfc9651, FieldKind, item_field, list_field, dictionary_field, BareValue, integer}
 use Rattle.sfv.specs.Values.{string, token}
 use Rattle.sfv.specs.Values.{RawParameters, RawItem, RawMember}
 use Rattle.sfv.specs.Values.{item, inner_list}
@@ -15,7 +15,7 @@ use Rattle.sfv.specs.Statements.{IsParsedAs, IsSerializedAs}
 use Rattle.sfv.specs.KeyText.{KeyRef, key_text}
 use Rattle.sfv.specs.TokenText.{TokenRef, token_text}
 use Rattle.sfv.specs.StringText.{StringRef}
-use Rattle.sfv.specs.Canonical.{bare_text, item_text}
+use Rattle.sfv.specs.Canonical.{item_text}
 use Rattle.sfv.specs.BareItems.{bare_value, ref_value, read_text, is_borrowed_string}
 use Rattle.sfv.specs.Trees.{OwnedBareItem}
 use Rattle.sfv.specs.Events.{TreeEvent, keyed_entry}
@@ -28,10 +28,7 @@ use Rattle.sfv.specs.Errors.{error_kind, out_of_memory}
 use Rattle.sfv.specs.Given.{IsWrongType}
 use Rattle.sfv.specs.Types.{ItemFault}
 use Rattle.sfv.specs.Types.bare_item_types as kinds
-use Rattle.sfv.specs.Types.{SerializeError, GenericBareItem, StringFromInput}
-use Rattle.sfv.specs.Types.serialize_errors as serialize_errors
-use Rattle.sfv.specs.Calls.{AllFit}
-use Rattle.sfv.specs.Versions.{NamesFirst}
+use Rattle.sfv.specs.Types.{GenericBareItem, StringFromInput}
 use Rattle.sfv.specs.Messages.{message_of}
 
 -- the text is read as a dictionary, which is written so
@@ -95,10 +92,6 @@ LentBareItem = GenericBareItem StringRef (Bor (List ℕ)) TokenRef (Bor (List �
 -- the item of one parameter that these are
 abbrev pub one_item : LentBareItem → KeyRef → LentBareItem → RawItem
 one_item value key param = item_of_one (ref_value value) (key_text key) (ref_value param)
-
--- the members of a list that these two are
-abbrev pub two_members : LentBareItem → LentBareItem → List ℕ
-two_members first second = bare_text (ref_value first) ++ codes ", " ++ bare_text (ref_value second)
 
 -- an example of a dictionary
 abbrev pub example_dictionary : List ℕ
@@ -181,10 +174,3 @@ abbrev pub IsDictionaryOfBoth : List ℕ → List ℕ → List (List ℕ × RawM
 IsDictionaryOfBoth first second dictionary = (held : List (List ℕ × RawMember)) × (raw : List (List ℕ × RawMember))
     × IsParsedAs rfc9651 dictionary_field first held × IsFieldText rfc9651 dictionary_field raw second
     × (dictionary ≡ ordered dictionary_field (held ++ raw))
-
--- the error of writing two values one by one: out of memory where the first fits, or it names the first of both that
--- doesn't fit
-abbrev pub IsPairError : Edition → BareValue → BareValue → SerializeError → Type 0
-IsPairError edition first second error =
-    ((error ≡ serialize_errors.OutOfMemory) × AllFit edition (first ∷ []))
-    ⊎ NamesFirst edition (first ∷ second ∷ []) error

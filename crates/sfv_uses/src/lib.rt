@@ -2,10 +2,10 @@
 #![tactic(auto)]
 
 pub mod expecting;
+pub mod foo;
 pub mod reading;
 pub mod serializing;
 pub mod start;
 pub mod values;
-pub mod versions;
 pub mod visiting;
 pub mod writing;

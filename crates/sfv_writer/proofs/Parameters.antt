@@ -1,10 +1,10 @@
--- Parameters that are written one after another, as they are lent.
-use Rattle.std.proofs.Common.{◌≡◌, ℕ, List, [], ◌∷◌, ◌++◌, length, refl, sym, ap, ◌∙◌, append_assoc, arith}
+-- Parameters that are written one after another: as values, and as they are lent.
+use Rattle.std.proofs.Common.{◌≡◌, ℕ, List, [], ◌∷◌, ◌++◌, length, refl, sym, ap, subst, ◌∙◌, append_assoc, arith}
 use Rattle.std.specs.Prelude.{IsTrue}
 use Rattle.std.specs.Borrow.{Bor}
 use Rattle.std.proofs.lemmas.List.{append-nil}
 use Rattle.sfv_spec.specs.Classes.{is_key}
-use Rattle.sfv_spec.specs.Values.{Edition, IsBareValue, AreParameters}
+use Rattle.sfv_spec.specs.Values.{Edition, BareValue, RawParameters, IsBareValue, AreParameters}
 use Rattle.sfv_spec.specs.Ordered.{keys, no_repeats}
 use Rattle.sfv_spec.specs.Canonical.{parameters_text}
 use Rattle.sfv_spec.specs.Calls.{AllFit}
@@ -14,28 +14,42 @@ use Rattle.sfv_writer.specs.Written.{lent_pairs, param_text}
 use Rattle.sfv_writer.specs.Versions.{values_of_pairs}
 use Rattle.sfv_writer.proofs.Appended.{next}
 
+-- the text of one more, behind those of all before
+pub parameters_push : (ps : RawParameters) (p : List ℕ × BareValue)
+    → parameters_text (ps ++ p ∷ []) ≡ parameters_text ps ++ param_text p.0 p.1
+parameters_push [] p = append-nil (param_text p.0 p.1)
+parameters_push (q ∷ ps) p =
+    let first : List ℕ = param_text q.0 q.1 in
+    ap (λ (t : List ℕ). first ++ t) (parameters_push ps p)
+    ∙ sym (append_assoc first (parameters_text ps) (param_text p.0 p.1))
+
+-- and all are parameters
+pub valid_push : (ps : RawParameters) (p : List ℕ × BareValue) → AreParameters ps → IsTrue (is_key p.0) → IsBareValue p.1
+    → AreParameters (ps ++ p ∷ [])
+valid_push [] p h key value = ((key, value), tt)
+valid_push (q ∷ ps) p h key value = (h.0, valid_push ps p h.1 key value)
+
 module _ (k : Bor (List ℕ)) (v : Bor OwnedBareItem) where
-  text_behind : (ps : List (Bor (List ℕ) × Bor OwnedBareItem)) → parameters_text (lent_pairs (ps ++ (k, v) ∷ []))
-      ≡ parameters_text (lent_pairs ps) ++ param_text k.now (bare_value v.now)
-  text_behind [] = append-nil (param_text k.now (bare_value v.now))
-  text_behind (p ∷ ps) =
-      let first : List ℕ = param_text p.0.now (bare_value p.1.now) in
-      ap (λ (t : List ℕ). first ++ t) (text_behind ps)
-      ∙ sym (append_assoc first (parameters_text (lent_pairs ps)) (param_text k.now (bare_value v.now)))
+  lent_push : (ps : List (Bor (List ℕ) × Bor OwnedBareItem))
+      → lent_pairs (ps ++ (k, v) ∷ []) ≡ lent_pairs ps ++ (k.now, bare_value v.now) ∷ []
+  lent_push [] = refl
+  lent_push (p ∷ ps) = ap (λ (rest : RawParameters). (p.0.now, bare_value p.1.now) ∷ rest) (lent_push ps)
 
   -- one more is written
   pub text_more : (old output new : List ℕ) (ps : List (Bor (List ℕ) × Bor OwnedBareItem))
       → output ≡ old ++ parameters_text (lent_pairs ps) → new ≡ output ++ param_text k.now (bare_value v.now)
       → new ≡ old ++ parameters_text (lent_pairs (ps ++ (k, v) ∷ []))
   text_more old output new ps e n =
-      next old (parameters_text (lent_pairs ps)) output (param_text k.now (bare_value v.now)) new e n
-      ∙ ap (λ (t : List ℕ). old ++ t) (sym (text_behind ps))
+      let so_far : RawParameters = lent_pairs ps in
+      next old (parameters_text so_far) output (param_text k.now (bare_value v.now)) new e n
+      ∙ ap (λ (t : List ℕ). old ++ t) (sym (ap parameters_text (lent_push ps)
+      ∙ parameters_push so_far (k.now, bare_value v.now)))
 
   -- and is a parameter
   pub valid_more : (ps : List (Bor (List ℕ) × Bor OwnedBareItem)) → AreParameters (lent_pairs ps)
       → IsTrue (is_key k.now) → IsBareValue (bare_value v.now) → AreParameters (lent_pairs (ps ++ (k, v) ∷ []))
-  valid_more [] h key value = ((key, value), tt)
-  valid_more (p ∷ ps) h key value = (h.0, valid_more ps h.1 key value)
+  valid_more ps h key value =
+      subst AreParameters (sym (lent_push ps)) (valid_push (lent_pairs ps) (k.now, bare_value v.now) h key value)
 
   -- whose value fits
   pub fit_more : (edition : Edition) (ps : List (Bor (List ℕ) × Bor OwnedBareItem))

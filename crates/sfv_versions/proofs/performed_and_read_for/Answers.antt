@@ -8,7 +8,7 @@ use Rattle.sfv.specs.Parsers.{IsParseError}
 use Rattle.sfv.specs.Trees.{list_tree}
 use Rattle.sfv.specs.Scripts.{described_list}
 use Rattle.sfv.proofs.Callers.{one_value, accepted_error}
-use Rattle.sfv_uses.proofs.versions.performed_and_read_for.Goals as goal
+use Rattle.sfv_versions.proofs.performed_and_read_for.Goals as goal
 
 pub returns-in-Ok-clause-read : goal.returns-in-Ok-clause-read
 returns-in-Ok-clause-read c =

@@ -3,8 +3,8 @@ use Rattle.sfv.specs.Values.{Edition}
 use Rattle.sfv.specs.BareItems.{ref_value}
 use Rattle.sfv.specs.Serializers.{parts_edition}
 use Rattle.sfv.specs.Versions.{IsSerializeError}
-use Rattle.sfv_uses.proofs.Uses.{first_unwritten, second_unwritten}
-use Rattle.sfv_uses.proofs.versions.write_both.Goals as goal
+use Rattle.sfv_versions.proofs.Pairs.{first_unwritten, second_unwritten}
+use Rattle.sfv_versions.proofs.write_both.Goals as goal
 
 pub returns-in_err-list-clause-failed : goal.returns-in_err-list-clause-failed
 returns-in_err-list-clause-failed g c =

@@ -1,11 +1,11 @@
 -- What the visitor of the example does with an event.
 use Rattle.std.specs.Prelude.{Bool, true, false, Result, Ok, Err, ◌&&◌, bytes_eq, if◌then◌else◌}
 use Rattle.sfv.specs.Events.{TreeEvent, keyed_entry, begins_inner_list, bare_item, parameter}
-use Rattle.sfv_answers.specs.declared.foo.Foo.{Foo}
-use Rattle.sfv_answers.specs.declared.foo.FooFault.{FooFault}
-use Rattle.sfv_answers.specs.declared.foo.FooFault.TheVariants as faults
-use Rattle.sfv_answers.specs.declared.foo.FooVisitor.{FooVisitor}
-use Rattle.sfv_answers.specs.Foo.{color_key, strong_key, color_in, strong_in, foo_of}
+use Rattle.sfv_uses.specs.declared.foo.Foo.{Foo}
+use Rattle.sfv_uses.specs.declared.foo.FooFault.{FooFault}
+use Rattle.sfv_uses.specs.declared.foo.FooFault.TheVariants as faults
+use Rattle.sfv_uses.specs.declared.foo.FooVisitor.{FooVisitor}
+use Rattle.sfv_uses.specs.Foo.{color_key, strong_key, color_in, strong_in, foo_of}
 
 -- before any part
 abbrev pub unread : FooVisitor

@@ -14,14 +14,14 @@ use Rattle.sfv.specs.Types.{ParseError}
 use Rattle.sfv.specs.Types.parse_errors.{Syntax, Visitor}
 use Rattle.sfv.proofs.Callers.{runs_fold, last_kept, fold_parameters, last_of-collapse, parsed_as, accepted_or_not}
 use Rattle.sfv.proofs.Callers.{IsIdle, member_passed, inner_list_passed, last_read}
-use Rattle.sfv_answers.specs.declared.foo.Color.{Color}
-use Rattle.sfv_answers.specs.declared.foo.Foo.{Foo}
-use Rattle.sfv_answers.specs.declared.foo.FooFault.{FooFault}
-use Rattle.sfv_answers.specs.declared.foo.FooFault.TheVariants as faults
-use Rattle.sfv_answers.specs.declared.foo.FooVisitor.{FooVisitor}
-use Rattle.sfv_answers.specs.Foo.{color_key, strong_key, color_in, strong_in, strong_of, foo_of, foo_in, foo, IsFooOf}
-use Rattle.sfv_answers.specs.Foo.{IsFooError}
-use Rattle.sfv_answers.specs.FooSteps.{unread, begun, foo_step, foo_found}
+use Rattle.sfv_uses.specs.declared.foo.Color.{Color}
+use Rattle.sfv_uses.specs.declared.foo.Foo.{Foo}
+use Rattle.sfv_uses.specs.declared.foo.FooFault.{FooFault}
+use Rattle.sfv_uses.specs.declared.foo.FooFault.TheVariants as faults
+use Rattle.sfv_uses.specs.declared.foo.FooVisitor.{FooVisitor}
+use Rattle.sfv_uses.specs.Foo.{color_key, strong_key, color_in, strong_in, strong_of, foo_of, foo_in, foo, IsFooOf}
+use Rattle.sfv_uses.specs.Foo.{IsFooError}
+use Rattle.sfv_uses.specs.FooSteps.{unread, begun, foo_step, foo_found}
 
 -- outside of the item `color` no part of a member is looked at
 idle : (s : FooVisitor) → s.in_color ≡ false → IsIdle foo_step s

@@ -1,6 +1,6 @@
 use Rattle.sfv.specs.BareItems.{edition_of}
-use Rattle.sfv_answers.proofs.Foos.{foo_read, foo_failed}
-use Rattle.sfv_answers.proofs.foo.read_foo.Goals as goal
+use Rattle.sfv_uses.proofs.Foos.{foo_read, foo_failed}
+use Rattle.sfv_uses.proofs.foo.read_foo.Goals as goal
 
 pub returns-clause-read : goal.returns-clause-read
 returns-clause-read c = foo_read (edition_of c.args.version) c.args.input.now c.parse_dictionary_with_visitor.result

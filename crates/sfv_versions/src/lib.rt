@@ -1,6 +1,7 @@
 //! Writing that is bound to a version, and reading under that same version.
+#![tactic(auto)]
 
-ghost use Rattle.std.specs.Prelude.{◌≡◌, ◌∷◌, [], false, OnOk, IfOk, IfErr, codes};
+ghost use Rattle.std.specs.Prelude.{◌≡◌, ◌∷◌, ◌++◌, [], false, OnOk, IfOk, IfErr, codes, string_bytes};
 ghost use Rattle.sfv.specs.Values.{list_field};
 ghost use Rattle.sfv.specs.Ordered.{ordered};
 ghost use Rattle.sfv.specs.Events.{bare_values};
@@ -10,7 +11,7 @@ ghost use Rattle.sfv.specs.Trees.{list_tree};
 ghost use Rattle.sfv.specs.Scripts.{described_list, handed_list};
 ghost use Rattle.sfv.specs.Serializers.{HasNextPart, parts_edition};
 ghost use Rattle.sfv.specs.Versions.{LooksFirst};
-ghost use Rattle.sfv_uses.specs.Uses.{two_members, Adds, IsPairError};
+ghost use Rattle.sfv_versions.specs.Pairs.{two_members, IsPairError};
 
 use sfv::script::{MemberCalls, run_list_for};
 use sfv::{List, ListSerializer, Parser, RefBareItem, SerializeError, Sink, Version};
@@ -27,7 +28,8 @@ pub fn write_both<W: Sink>(
     second: RefBareItem<'_>,
 ) -> Result<(), SerializeError>
     ensures text { OnOk result
-        (HasNextPart W.Sink (codes ", ") list.old list.new (two_members first.entry second.entry) false) }
+        (HasNextPart W.Sink (codes ", ") list.old list.new
+        (two_members (ref_value first.entry) (ref_value second.entry)) false) }
     ensures fit { OnOk result
         (AllFit (parts_edition list.old) (ref_value first.entry ∷ ref_value second.entry ∷ [])) }
     ensures failed { IfErr result
@@ -49,7 +51,8 @@ pub fn write_both_for(
     first: RefBareItem<'_>,
     second: RefBareItem<'_>,
 ) -> Result<(), SerializeError>
-    ensures text { OnOk result (Adds text.old text.new (two_members first.entry second.entry)) }
+    ensures text { OnOk result (string_bytes text.new
+        ≡ string_bytes text.old ++ two_members (ref_value first.entry) (ref_value second.entry)) }
     ensures fit { OnOk result (AllFit (edition_of version) (ref_value first.entry ∷ ref_value second.entry ∷ [])) }
     ensures failed { IfErr result (IsPairError (edition_of version) (ref_value first.entry) (ref_value second.entry)) }
 {

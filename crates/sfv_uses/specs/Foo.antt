@@ -8,11 +8,11 @@ use Rattle.sfv.specs.Statements.{IsParsedAs}
 use Rattle.sfv.specs.Parsers.{IsParseError}
 use Rattle.sfv.specs.Types.{ParseError}
 use Rattle.sfv.specs.Types.parse_errors.{Syntax, Visitor}
-use Rattle.sfv_answers.specs.declared.foo.Color.{Color}
-use Rattle.sfv_answers.specs.declared.foo.Color.TheVariants as colors
-use Rattle.sfv_answers.specs.declared.foo.Foo.{Foo}
-use Rattle.sfv_answers.specs.declared.foo.FooFault.{FooFault}
-use Rattle.sfv_answers.specs.declared.foo.FooFault.TheVariants as faults
+use Rattle.sfv_uses.specs.declared.foo.Color.{Color}
+use Rattle.sfv_uses.specs.declared.foo.Color.TheVariants as colors
+use Rattle.sfv_uses.specs.declared.foo.Foo.{Foo}
+use Rattle.sfv_uses.specs.declared.foo.FooFault.{FooFault}
+use Rattle.sfv_uses.specs.declared.foo.FooFault.TheVariants as faults
 
 -- a fault in words
 abbrev pub fault_text : FooFault → List ℕ
