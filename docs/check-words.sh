@@ -7,7 +7,8 @@
 # `pub fn`, or at a method of a public trait or of an impl of a trait, and each `ghost` line of these, outside the crates
 # of tests.
 # Left out are the laws of `sfv_reading`, which nobody has to believe, the modules `runs` and `utils` of `sfv_base`,
-# which `sfv` doesn't export, and the callers of `sfv_uses`, `sfv_versions`, `sfv_fields`, `sfv_request` and `sfv_mobile_hint`.
+# which `sfv` doesn't export, and the callers: `sfv_uses`, `sfv_versions`, `sfv_fields`, `sfv_request`, `sfv_mobile_hint`,
+# `sfv_proxy_status` and `sfv_cdn_cache_control`.
 cd "$(dirname "$0")/.." || exit 2
 page=docs/DEFINITIONS.md
 room=$(mktemp -d) || exit 2
@@ -19,7 +20,7 @@ words_of() {
 }
 
 # The names in public contracts that their file imports by `ghost use`, or that stand in an imported module.
-find crates/*/src -name '*.rt' ! -path '*tests/src/*' ! -path '*/sfv_reading/*' ! -path '*/sfv_uses/*' ! -path '*/sfv_versions/*' ! -path '*/sfv_fields/*' ! -path '*/sfv_request/*' ! -path '*/sfv_mobile_hint/*' \
+find crates/*/src -name '*.rt' ! -path '*tests/src/*' ! -path '*/sfv_reading/*' ! -path '*/sfv_uses/*' ! -path '*/sfv_versions/*' ! -path '*/sfv_fields/*' ! -path '*/sfv_request/*' ! -path '*/sfv_mobile_hint/*' ! -path '*/sfv_proxy_status/*' ! -path '*/sfv_cdn_cache_control/*' \
     ! -path '*/sfv_base/src/runs.rt' ! -path '*/sfv_base/src/utils.rt' -exec awk '
     FNR == 1 { split("", imported); in_trait = is_public = in_clause = in_ghost = 0 }
     /^ *\/\// { next }

@@ -34,6 +34,7 @@ made() {
             [ "$crate" = sfv_spec ] || part "Rattle.sfv.specs.${name:-$file}" "crates/$crate/specs/$file.antt"
         done
     for file in Memory Parsers; do part "Rattle.sfv.specs.$file" "crates/sfv/specs/$file.antt"; done
+    part Rattle.sfv_field.specs.Field crates/sfv_field/specs/Words.antt
     part Rattle.sfv_fields.specs.Priority crates/sfv_fields/specs/Priority.antt
     for crate in sfv_answers sfv_c; do
         for file in "crates/$crate"/specs/*.antt; do

@@ -73,11 +73,11 @@ fn long() -> Vec<Case> {
 
 fn refusals() -> Vec<Case> {
     vec![
-        refused("refused at the first byte: list", LIST, "}"),
-        refused("refused at the first byte: dictionary", DICTIONARY, "}"),
-        refused("refused at the first byte: item", ITEM, "}"),
-        refused("refused at the end: `u=1, i=`", DICTIONARY, "u=1, i="),
-        refused("refused at the end: `42 x`", ITEM, "42 x"),
+        refused("rejected at the first byte: list", LIST, "}"),
+        refused("rejected at the first byte: dictionary", DICTIONARY, "}"),
+        refused("rejected at the first byte: item", ITEM, "}"),
+        refused("rejected at the end: `u=1, i=`", DICTIONARY, "u=1, i="),
+        refused("rejected at the end: `42 x`", ITEM, "42 x"),
         refused("string of 100 KB that isn't closed", ITEM, format!("\"{}", "a".repeat(102_400))),
     ]
 }

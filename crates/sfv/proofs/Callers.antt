@@ -2,6 +2,12 @@
 -- field, and from what was written to what is read.
 use Rattle.std.proofs.Common.{◌≡◌, ℕ, List, [], ◌∷◌, ◌++◌, true, cond, Result, Ok, Err, refl, sym, ◌∙◌, ap, subst}
 use Rattle.std.proofs.Common.{inl, inr}
+use Rattle.std.specs.Prelude.{fold}
+use Rattle.sfv_spec.specs.Events.{TreeEvent, events}
+use Rattle.sfv_spec.specs.Visiting.{IsVisitorError, IsEarlyVisitorError}
+use Rattle.sfv_base.specs.declared.error.ParseError.TheVariants as parse_errors
+use Rattle.sfv.specs.Parsers.{IsSyntaxOf, IsVisitorErrorOf}
+use Rattle.sfv_spec.proofs.Runs.{runs_fold}
 use Rattle.std.specs.Prelude.{bytes_eq, option_map, Some, None, IfOk, IfErr, ◌⊎◌}
 use Rattle.std.specs.declared.alloc.Global.{Global}
 use Rattle.std.specs.declared.vec.Vec.{Vec}
@@ -20,6 +26,8 @@ use Rattle.sfv_base.specs.declared.error.Error.{Error}
 use Rattle.sfv_base.specs.Errors.{index_of, kind_of, error_kind, out_of_memory}
 use Rattle.sfv_tree.specs.Trees.{list_tree, dictionary_tree}
 use Rattle.sfv_visitor.specs.Builders.{between, between_pairs, list_place, list_step, list_members, dictionary_place}
+use Rattle.sfv_visitor.specs.Builders.{KeepsListSeed, ListAnswersSeeded, KeepsDictionarySeed, DictionaryAnswersSeeded}
+use Rattle.sfv_tree.specs.declared.hash_seed.HashSeed.{HashSeed}
 use Rattle.sfv_visitor.specs.Builders.{dictionary_step, dictionary_members}
 use Rattle.sfv_tree.specs.declared.parsed.ListEntry.{ListEntry}
 use Rattle.sfv_visitor.specs.declared.visitor.list_builder.ListBuilder.{ListBuilder}
@@ -47,23 +55,31 @@ pub use Rattle.sfv_writer.proofs.ReadBack.{read_back, value_read_back}
 pub use Rattle.sfv_spec.proofs.Fields.{all_fit_newer}
 pub use Rattle.sfv.proofs.LastRead.{read_back_either}
 -- an inner list that is taken away again, and what a text holds after what was written to it
-pub use Rattle.sfv_serializer.proofs.Scripts.{taken_away, kept_as, more_as, written_behind}
+pub use Rattle.sfv_serializer.proofs.Scripts.{taken_away, kept_as, more_as, written_behind, no_less}
 pub use Rattle.sfv_serializer.proofs.Scripts.{inner_list_ended, named_list_ended}
 pub use Rattle.sfv_serializer.proofs.Steps.{more_behind}
+-- room: after the calls before, and for the elements of a slice or a map; under RFC 9651 a call fails only for lack of it
+pub use Rattle.sfv_writer.proofs.Room.{len_of, room_behind, room_before}
+pub use Rattle.sfv_writer.proofs.Lacks.{parameters_lack, front_lacks}
+pub use Rattle.sfv_writer.proofs.Lent.{pairs_front, members_front, entries_front}
+pub use Rattle.sfv_writer.proofs.Looks.{newer_fails}
 -- what a visitor did with the events of a field
 pub use Rattle.sfv_spec.proofs.Runs.{runs_fold, key_in, entry_in, keys_in_events, entries_in_events, fails_somewhere}
 -- what is kept of a field by the last of each key
 pub use Rattle.sfv_spec.proofs.Kept.{last_kept, fold_members, fold_parameters, idle_within}
 pub use Rattle.sfv_spec.proofs.Runs.{IsInside, member_inside}
 pub use Rattle.sfv.proofs.LastRead.{on_ok, fold_entries, IsIdle, member_passed, item_passed, inner_list_passed, last_read}
+-- from a visitor's result to the clause of a field crate in one step
+pub use Rattle.sfv.proofs.Fields.{of_pushed, state_kept, parameters_kept, written_is_read}
+pub use Rattle.sfv.proofs.Fields.{last_set, idle_by, list_read, member_looked, answer_read, fits_unless, fits_either}
 -- what a visitor that expects one bare item says of the field
 pub use Rattle.sfv.proofs.Expected.{expect_answers, expect_fails, expect_first, expect_only, expect_read}
 -- an accepted item has the bare item that stands first in its text
 pub use Rattle.sfv.proofs.visits.First.{begins_with_its}
 -- what the builders answer is the value of the text
-pub use Rattle.sfv.proofs.built.Items.{built as item_built, built_fails as item_built_fails}
-pub use Rattle.sfv.proofs.built.Lists.{built_list as list_built}
-pub use Rattle.sfv.proofs.built.Dictionaries.{built_dictionary as dictionary_built}
+pub use Rattle.sfv.proofs.built.Items.{built as item_built, built_fails as item_built_fails, item_seeded}
+pub use Rattle.sfv.proofs.built.Lists.{built_list as list_built, list_seeded}
+pub use Rattle.sfv.proofs.built.Dictionaries.{built_dictionary as dictionary_built, dictionary_seeded}
 
 -- the member of a key in a dictionary that was read is the last of the text, its parameters ordered
 pub member_read : (edition : Edition) (t : List ℕ) (value : List (List ℕ × RawMember)) (key : List ℕ)
@@ -100,6 +116,46 @@ parsed_as edition kind t raw accepted = record {
   only = λ other k. one_field_lem edition kind t other raw k accepted;
   ordered_value = refl;
 }
+
+-- If the visitor's view goes by steps and it fails only in `finish`, its error is a function of the value to which the
+-- text parses. A syntax error is one of `parse`.
+module _ {V S F X : Type 0} {finish_fails : V → F → Type 0} {from : V} (view : V → S) (step : S → TreeEvent → S) (look : S → X) (shown : F → X)
+    (kind : FieldKind) (of : RawField kind → X) (start : S) (members : ¬ (kind ≡ item_field))
+    (finished : (s : V) (fault : F) → finish_fails s fault → shown fault ≡ look (view s))
+    (all : (raw : RawField kind) → look (fold step start (events kind raw)) ≡ of (ordered kind raw))
+    (begun : view from ≡ start) where
+  abbrev TakesStep : V → TreeEvent → V → Type 0
+  TakesStep s e after = view after ≡ step (view s) e
+
+  abbrev NeverAt : V → TreeEvent → F → Type 0
+  NeverAt s e fault = ⊥
+
+  last_found : (fault : F) (raw : RawField kind) → IsVisitorError TakesStep NeverAt finish_fails from (events kind raw) fault
+      → shown fault ≡ of (ordered kind raw)
+  last_found fault raw (inl h) = absurd h.6
+  last_found fault raw (inr h) = finished h.0 fault h.2 ∙ ap look (runs_fold view step (events kind raw) from h.0 h.1
+      ∙ ap (λ (s : S). fold step s (events kind raw)) begun) ∙ all raw
+
+  never_early : (fault : F) → IsEarlyVisitorError TakesStep NeverAt finish_fails kind from fault → ⊥
+  never_early fault (inl h) = h.5
+  never_early fault (inr h) = members h.0
+
+  pub failure_read : {O : Type 0} (finishes : V → O → Type 0) (edition : Edition) (t : List ℕ) (r : Result O (ParseError F))
+      → IfErr r (IsSyntaxOf TakesStep finishes edition kind t from)
+      → IfErr r (IsVisitorErrorOf TakesStep NeverAt finish_fails edition kind t from)
+      → (P : ParseError F → Type 0) → ((e : Error) → IsParseError edition kind t e → P (parse_errors.Syntax e))
+      → ((fault : F) → (value : RawField kind) × IsParsedAs edition kind t value × (shown fault ≡ of value)
+      → P (parse_errors.Visitor fault)) → IfErr r P
+  failure_read {O} finishes edition t r h k P syntax visitor = cases r h k
+    where
+      cases : (r : Result O (ParseError F)) → IfErr r (IsSyntaxOf TakesStep finishes edition kind t from)
+          → IfErr r (IsVisitorErrorOf TakesStep NeverAt finish_fails edition kind t from) → IfErr r P
+      cases (Ok out) h k = tt
+      cases (Err (parse_errors.Syntax e)) h k = syntax e h.0
+      cases (Err (parse_errors.Visitor fault)) h k = elim (accepted_or_not edition kind t) [
+        | inl a ↦ visitor fault (ordered kind a.0, parsed_as edition kind t a.0 a.1, last_found fault a.0 (k.0 a.0 a.1))
+        | inr n ↦ absurd (never_early fault (k.1 (inr (λ raw a. n (raw, a)))))
+      ]
 
 -- what was read is a value: each part is in its range or class, and no key stands twice
 pub read_is_value : (edition : Edition) (kind : FieldKind) (t : List ℕ) (value : RawField kind)
@@ -154,20 +210,20 @@ located_error edition kind t e index (inr h) here =
 -- a further line of a list: its members stand after those that the builder was given
 pub list_behind : {E : Type 0} (edition : Edition) (t : List ℕ) (held : List RawMember) (from : ListBuilder)
     (r : Result (Vec ListEntry Global) E) → list_place from ≡ between held
-    → IfOk r (IsAnswerOf (λ (s : ListBuilder) e after. list_place after ≡ list_step (list_place s) e)
-    (λ s (list : Vec ListEntry Global). list_tree list.items ≡ list_members (list_place s)) edition list_field t from)
+    → IfOk r (IsAnswerOf (λ (s : ListBuilder) e after. (list_place after ≡ list_step (list_place s) e) × KeepsListSeed s after)
+    (λ s (list : Vec ListEntry Global). (list_tree list.items ≡ list_members (list_place s)) × ListAnswersSeeded s list.items) edition list_field t from)
     → IfOk r (λ list. (raw : List RawMember) × IsFieldText edition list_field raw t
     × (list_tree list.items ≡ held ++ ordered list_field raw))
 list_behind edition t held from r here = IfOk-weaker r _ _ (λ list h.
     let whole = built_list_behind edition t held from list here h in (whole.0, whole.1, whole.3))
 
 -- a further line of a dictionary: as if its members stood after those that the builder was given
-pub dictionary_behind : {S E : Type 0} (edition : Edition) (t : List ℕ) (held : List (List ℕ × RawMember))
-    (from : DictionaryBuilder) (r : Result (IndexMap (List ℕ) ListEntry S) E) → IsOrdered dictionary_field held
+pub dictionary_behind : {E : Type 0} (edition : Edition) (t : List ℕ) (held : List (List ℕ × RawMember))
+    (from : DictionaryBuilder) (r : Result (IndexMap (List ℕ) ListEntry HashSeed) E) → IsOrdered dictionary_field held
     → dictionary_place from ≡ between_pairs held
-    → IfOk r (IsAnswerOf (λ (s : DictionaryBuilder) e after. dictionary_place after
-    ≡ dictionary_step (dictionary_place s) e) (λ s (dictionary : IndexMap (List ℕ) ListEntry S).
-    dictionary_tree dictionary.entries ≡ dictionary_members (dictionary_place s)) edition dictionary_field t from)
+    → IfOk r (IsAnswerOf (λ (s : DictionaryBuilder) e after. (dictionary_place after
+    ≡ dictionary_step (dictionary_place s) e) × KeepsDictionarySeed s after) (λ s (dictionary : IndexMap (List ℕ) ListEntry HashSeed).
+    (dictionary_tree dictionary.entries ≡ dictionary_members (dictionary_place s)) × DictionaryAnswersSeeded s dictionary) edition dictionary_field t from)
     → IfOk r (λ dictionary. (raw : List (List ℕ × RawMember)) × IsFieldText edition dictionary_field raw t
     × (dictionary_tree dictionary.entries ≡ ordered dictionary_field (held ++ raw)))
 dictionary_behind edition t held from r distinct here = IfOk-weaker r _ _ (λ dictionary h.

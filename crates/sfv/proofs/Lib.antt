@@ -5,5 +5,6 @@ pub mod Parsed
 pub mod Memory
 pub mod Expected
 pub mod LastRead
+pub mod Fields
 mod Beginnings
 pub mod Callers

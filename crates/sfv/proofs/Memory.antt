@@ -19,6 +19,7 @@ use Rattle.sfv_base.specs.declared.error.ParseError.{ParseError}
 use Rattle.sfv_base.specs.declared.error.ParseError.TheVariants.{Syntax, Visitor}
 use Rattle.sfv_base.specs.declared.error.OutOfMemory.{OutOfMemory}
 use Rattle.sfv_visitor.specs.Builders.{item_place, item_step, at_end, takes_memory, list_place, list_step}
+use Rattle.sfv_visitor.specs.Builders.{KeepsItemSeed, KeepsListSeed, KeepsDictionarySeed}
 use Rattle.sfv_visitor.specs.Builders.{list_takes_memory, dictionary_place, dictionary_step, dictionary_takes_memory}
 use Rattle.sfv_visitor.specs.declared.visitor.ItemFault.{ItemFault}
 use Rattle.sfv_visitor.specs.declared.visitor.ItemFault.TheVariants as faults
@@ -98,7 +99,7 @@ first_more takes fails finish_fails edition t from fault h =
 -- ---- builders: what each does with an event, and where it fails
 
 abbrev ItemSteps : ItemBuilder → TreeEvent → ItemBuilder → Type 0
-ItemSteps s e after = item_place after ≡ item_step (item_place s) e
+ItemSteps s e after = (item_place after ≡ item_step (item_place s) e) × KeepsItemSeed s after
 
 abbrev ItemFails : ItemBuilder → TreeEvent → ItemFault → Type 0
 ItemFails s e fault = (fault ≡ faults.OutOfMemory) × IsTrue (takes_memory (item_place s) e)
@@ -111,7 +112,7 @@ pub item_more : (edition : Edition) (t : List ℕ) (from : ItemBuilder) (fault :
 item_more edition t from fault h = first_more ItemSteps ItemFails ItemEndFails edition t from fault h
 
 abbrev ListSteps : ListBuilder → TreeEvent → ListBuilder → Type 0
-ListSteps s e after = list_place after ≡ list_step (list_place s) e
+ListSteps s e after = (list_place after ≡ list_step (list_place s) e) × KeepsListSeed s after
 
 abbrev ListFails : ListBuilder → TreeEvent → OutOfMemory → Type 0
 ListFails s e fault = IsTrue (list_takes_memory (list_place s) e)
@@ -122,7 +123,7 @@ list_more edition t from fault h = failed_more ListSteps ListFails (λ _ _. ⊥)
     (λ blank. blank) refl (λ s never. never) h
 
 abbrev DictionarySteps : DictionaryBuilder → TreeEvent → DictionaryBuilder → Type 0
-DictionarySteps s e after = dictionary_place after ≡ dictionary_step (dictionary_place s) e
+DictionarySteps s e after = (dictionary_place after ≡ dictionary_step (dictionary_place s) e) × KeepsDictionarySeed s after
 
 abbrev DictionaryFails : DictionaryBuilder → TreeEvent → OutOfMemory → Type 0
 DictionaryFails s e fault = IsTrue (dictionary_takes_memory (dictionary_place s) e)

@@ -1,4 +1,5 @@
 -- What the builders hold after all events of a tree.
+pub mod Seeded
 pub mod Items
 pub mod Members
 pub mod Lists

@@ -1,10 +1,11 @@
--- What users import of this crate's own: the types of public values, and what a parser reads.
+-- Definitions of this crate for callers: the types of public values, and the results of parsers.
 pub mod Types
 pub mod Memory
 pub mod Parsers
--- What they don't.
+pub mod Field
+-- Definitions of private contracts.
 pub mod parser
--- The words of lower crates, and of the map, that public clauses use: a caller's clauses need no crate but this one.
+-- The definitions of lower crates, and of the map, that public clauses use. So a caller imports from this crate only.
 pub use Rattle.sfv_spec.specs.Ascii
 pub use Rattle.sfv_spec.specs.Base64
 pub use Rattle.sfv_spec.specs.Calls
@@ -38,6 +39,7 @@ pub use Rattle.sfv_bare.specs.Kinds
 pub use Rattle.sfv_visitor.specs.Builders
 pub use Rattle.sfv_visitor.specs.Events as EventValues
 pub use Rattle.sfv_tree.specs.HashSeeds
+pub use Rattle.sfv_tree.specs.Seeds
 pub use Rattle.sfv_visitor.specs.ItemFaults
 pub use Rattle.sfv_tree.specs.Trees
 pub use Rattle.sfv_visitor.specs.Given

@@ -1,4 +1,4 @@
--- The texts for which a reading asks for memory.
+-- The texts for which the parser allocates memory.
 use Rattle.std.specs.Prelude.{◌≡◌, ⊤, ℕ, List, ◌⊎◌}
 use Rattle.std.specs.List.{Contains}
 use Rattle.sfv_spec.specs.Ascii.{backslash, percent_sign, colon, space}
@@ -8,23 +8,23 @@ use Rattle.sfv_base.specs.declared.error.ParseError.{ParseError}
 use Rattle.sfv_base.specs.declared.error.ParseError.TheVariants as parse_errors
 use Rattle.sfv_base.specs.Errors.{kind_of, out_of_memory}
 
--- a backslash, a percent sign or a colon stands in the text
+-- the text contains a backslash, a percent sign or a colon
 abbrev pub HoldsMark : List ℕ → Type 0
 HoldsMark t = Contains t backslash ⊎ (Contains t percent_sign ⊎ Contains t colon)
 
--- a byte that isn't a space stands in the text
+-- the text contains a byte other than a space
 abbrev pub HasMoreThanSpaces : List ℕ → Type 0
 HasMoreThanSpaces t = (c : ℕ) × Contains t c × ¬ (c ≡ space)
 
--- the error is want of memory only of a text with such a mark
+-- the error is out of memory only if the text contains such a byte
 abbrev pub NeedsMark : {E : Type 0} → List ℕ → ParseError E → Type 0
 NeedsMark t (parse_errors.Syntax e) = e ≡ out_of_memory → HoldsMark t
 NeedsMark t (parse_errors.Visitor fault) = ⊤
 
--- the error is want of memory only of a text with more than spaces
+-- the error is out of memory only if the text contains more than spaces
 abbrev pub NeedsMoreThanSpaces : List ℕ → Error → Type 0
 NeedsMoreThanSpaces t e = e ≡ out_of_memory → HasMoreThanSpaces t
 
--- memory was refused, of a text with such a mark
+-- the error is out of memory, and the text contains such a byte
 abbrev pub IsRefusal : List ℕ → Error → Type 0
 IsRefusal t e = (kind_of e ≡ OutOfMemory) × HoldsMark t

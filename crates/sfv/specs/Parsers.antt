@@ -1,5 +1,5 @@
--- What a parser reads, and what it answers with an error.
-use Rattle.std.specs.Prelude.{◌≡◌, ◌≤◌, ⊤, ℕ, List, ◌∷◌, length, take, Some, Result, ◌⊎◌, MatchResult, IfOk, IfErr}
+-- The input and the results of a parser.
+use Rattle.std.specs.Prelude.{◌≡◌, ◌≤◌, ⊤, ℕ, List, ◌∷◌, ◌++◌, codes, length, take, Some, Result, ◌⊎◌, MatchResult, IfOk, IfErr}
 use Rattle.std.specs.Prelude.{◌↔◌, ◌==◌, IsTrue, not}
 use Rattle.std.specs.Borrow.{Bor}
 use Rattle.sfv_spec.specs.Values.{Edition, FieldKind, item_field, list_field, dictionary_field, RawField}
@@ -10,7 +10,7 @@ use Rattle.sfv_spec.specs.Grammar.{IsFieldText, IsAccepted, StandsFirst, BeginsW
 use Rattle.sfv_spec.specs.Reach.{IsReach}
 use Rattle.sfv_spec.specs.Events.{TreeEvent, bare_item, parameters_events, item_events, events}
 use Rattle.sfv_spec.specs.Visiting.{NeverFails, RunsTo, IsVisited, IsVisitorError, IsEarlyVisitorError}
-use Rattle.sfv_spec.specs.Visiting.{IsVisitorErrorFrom}
+use Rattle.sfv_spec.specs.Visiting.{IsVisitorErrorFrom, BeginsEventsAfter}
 use Rattle.sfv_spec.specs.Faults.{SyntaxFault, trailing_characters_after_parsed_value, IsFaultAt}
 use Rattle.sfv_base.specs.declared.error.Error.{Error}
 use Rattle.sfv_base.specs.declared.error.ParseError.{ParseError}
@@ -27,7 +27,7 @@ use Rattle.sfv_visitor.specs.Given.{ReadBareItem}
 use Rattle.sfv.specs.declared.parser.Parser.{Parser}
 use Rattle.sfv.specs.Memory.{NeedsMark}
 
--- the parser of this input under this version, which builds maps under this seed
+-- the parser with this input, version and hash seed
 abbrev pub parser_of : Bor (List ℕ) → Version → HashSeed → Parser
 parser_of input version seed = record { input = input; version = version; seed = seed }
 
@@ -38,7 +38,7 @@ input_of p = p.input.now
 abbrev pub parser_edition : Parser → Edition
 parser_edition p = edition_of p.version
 
--- the text isn't accepted, and this is its fault, with its kind and its index
+-- The text is rejected, and `e` has the kind and the index of its fault.
 pub record IsSyntaxError (edition : Edition) (kind : FieldKind) (t : List ℕ) (e : Error) : Type 0 where
   pub fault : SyntaxFault
   pub index : ℕ
@@ -47,11 +47,11 @@ pub record IsSyntaxError (edition : Edition) (kind : FieldKind) (t : List ℕ) (
   pub within : index ≤ length t
   pub located : IsFaultAt edition kind t fault index
 
--- out of memory, or a fault of the text
+-- out of memory, or a syntax error of the text
 abbrev pub IsParseError : Edition → FieldKind → List ℕ → Error → Type 0
 IsParseError edition kind t e = (e ≡ out_of_memory) ⊎ IsSyntaxError edition kind t e
 
--- the text is accepted, as this tree and no other, and the answer is the visitor's after all its events
+-- The grammar gives the text exactly one tree, and the visitor returned this result after all events of the tree.
 pub record IsAnswerOf {S O : Type 0} (takes : S → TreeEvent → S → Type 0) (finishes : S → O → Type 0)
     (edition : Edition) (kind : FieldKind) (t : List ℕ) (from : S) (out : O) : Type 0 where
   pub raw : RawField kind
@@ -59,21 +59,21 @@ pub record IsAnswerOf {S O : Type 0} (takes : S → TreeEvent → S → Type 0) 
   pub only : (other : RawField kind) → IsFieldText edition kind other t → other ≡ raw
   pub visited : IsVisited takes finishes from (events kind raw) out
 
--- a string stands there without an escape, and a display string
+-- a string without an escape begins here; a display string without an escape does
 abbrev pub IsPlainString : List ℕ → Type 0
 IsPlainString t = (s : List ℕ) × (t ≡ double_quote ∷ s) × RunOf (λ c. not (c == backslash)) s
 
 abbrev pub IsPlainDisplay : List ℕ → Type 0
 IsPlainDisplay t = (s : List ℕ) × (t ≡ percent_sign ∷ double_quote ∷ s) × RunOf (λ c. not (c == percent_sign)) s
 
--- a string or a display string that was read of this text is borrowed from it exactly if it has no escape there
+-- A parsed string or display string is borrowed from the text if and only if it has no escape there.
 abbrev pub IsLent : ReadBareItem → List ℕ → Type 0
 IsLent (bare.String text) t = IsTrue (is_borrowed_string text) ↔ IsPlainString t
 IsLent (bare.DisplayString text) t = IsTrue (is_borrowed_text text) ↔ IsPlainDisplay t
 IsLent item t = ⊤
 
--- the text is accepted as an item, whose bare item the visitor took as it was read, borrowed unless it is escaped; and
--- the answer is the visitor's after the parameters
+-- The text is an item. The visitor received its bare item as parsed, borrowed unless it has escapes, and returned
+-- this result after the parameters.
 pub record AnswersAsRead {S O : Type 0} (takes : S → TreeEvent → S → Type 0) (takes_read : S → Event → S → Type 0)
     (finishes : S → O → Type 0) (edition : Edition) (t : List ℕ) (from : S) (out : O) : Type 0 where
   pub read : ReadBareItem
@@ -87,13 +87,13 @@ pub record AnswersAsRead {S O : Type 0} (takes : S → TreeEvent → S → Type 
   pub ran : RunsTo takes middle (parameters_events parameters) last
   pub answered : finishes last out
 
--- out of memory, as the parser's error or as the visitor's
+-- out of memory, as the parser's error or the visitor's
 abbrev pub IsMemoryError : {E : Type 0} → (E → Type 0) → ParseError E → Type 0
 IsMemoryError is_memory (parse_errors.Syntax e) = e ≡ out_of_memory
 IsMemoryError is_memory (parse_errors.Visitor fault) = is_memory fault
 
--- Of an accepted text a visitor that never fails takes all events of the tree, and the answer is what it finishes with
--- there; or memory was refused.
+-- On an accepted text, a visitor that never fails receives all events of the tree and returns its result after them;
+-- or memory ran out.
 abbrev pub VisitsAccepted : {S O E : Type 0} → (S → TreeEvent → S → Type 0) → (S → TreeEvent → E → Type 0)
     → (S → O → Type 0) → (S → E → Type 0) → (E → Type 0) → Edition → FieldKind → List ℕ → S → Result O (ParseError E)
     → Type 0
@@ -101,12 +101,12 @@ VisitsAccepted takes fails finishes finish_fails is_memory edition kind t from r
     NeverFails takes fails finish_fails is_memory kind from → (raw : RawField kind) → IsFieldText edition kind raw t
     → MatchResult result (IsVisited takes finishes from (events kind raw)) (IsMemoryError is_memory)
 
--- more stands after a whole field, from the index on
+-- characters follow a whole field, from this index on
 abbrev pub trailing_error : ℕ → Error
 trailing_error index = error_of (error_kind trailing_characters_after_parsed_value) (Some index)
 
--- What stands after an item is looked at after the visitor's answer: an error there comes only where the text in front
--- of it is an item, of which the visitor has taken all events and has answered. After members there is no such error.
+-- An error for characters after an item comes only after the visitor has finished. The text before the index is an
+-- item; the visitor received all its events, and it returned a result. Lists and dictionaries do not have this error.
 abbrev pub IsFinishedFirst : {S O : Type 0} → (S → TreeEvent → S → Type 0) → (S → O → Type 0) → Edition → FieldKind
     → List ℕ → S → Error → Type 0
 IsFinishedFirst {S} {O} takes finishes edition item_field t from e = (index : ℕ) → e ≡ trailing_error index
@@ -114,16 +114,35 @@ IsFinishedFirst {S} {O} takes finishes edition item_field t from e = (index : �
 IsFinishedFirst takes finishes edition list_field t from e = (index : ℕ) → ¬ (e ≡ trailing_error index)
 IsFinishedFirst takes finishes edition dictionary_field t from e = (index : ℕ) → ¬ (e ≡ trailing_error index)
 
--- An error of the text is what `parse` returns, and what stands after an item is looked at after the visitor's answer.
+-- A syntax error is one that `parse` returns. An error for characters after an item comes after the visitor has
+-- finished.
 abbrev pub IsSyntaxOf : {S O E : Type 0} → (S → TreeEvent → S → Type 0) → (S → O → Type 0) → Edition → FieldKind
     → List ℕ → S → ParseError E → Type 0
 IsSyntaxOf takes finishes edition kind t from (parse_errors.Syntax e) = IsParseError edition kind t e
     × IsFinishedFirst takes finishes edition kind t from e
 IsSyntaxOf takes finishes edition kind t from (parse_errors.Visitor fault) = ⊤
 
--- The visitor's error comes on an accepted text after exactly the events before it; on a text that isn't accepted,
--- and for an item on every text, after those of some field; and on one that isn't accepted, of a field that begins as
--- the text does up to its reach.
+-- The visitor received these events. On a rejected text, they begin the events of some field that begins with the
+-- bytes before the reach. If a field is followed by a comma in the text, all events of that field are among them.
+pub record TakesUpTo {S : Type 0} (takes : S → TreeEvent → S → Type 0) (edition : Edition) (kind : FieldKind)
+    (t : List ℕ) (from : S) : Type 0 where
+  pub es : List TreeEvent
+  pub to : S
+  pub taken : RunsTo takes from es to
+  pub begins : (n : ℕ) → IsReach edition kind t n → BeginsEventsAfter edition kind (take n t) es
+  pub whole : (raw : RawField kind) (front rest : List ℕ) → t ≡ front ++ codes "," ++ rest
+      → IsFieldText edition kind raw front → (others : List TreeEvent) × (es ≡ events kind raw ++ others)
+
+-- A syntax error comes only after the visitor has received the events before it. If the visitor fails at one of
+-- them, parsing ends with the visitor's error.
+abbrev pub TookBeforeFault : {S E : Type 0} → (S → TreeEvent → S → Type 0) → Edition → FieldKind → List ℕ → S
+    → ParseError E → Type 0
+TookBeforeFault takes edition kind t from (parse_errors.Syntax e) = (e ≡ out_of_memory) ⊎ TakesUpTo takes edition kind t from
+TookBeforeFault takes edition kind t from (parse_errors.Visitor fault) = ⊤
+
+-- On an accepted text, the visitor's error comes after exactly the events before it. On a rejected text, and for an
+-- item on every text, it comes at an event of some field. On a rejected text, that field begins with the bytes
+-- before the reach.
 abbrev pub IsVisitorErrorOf : {S E : Type 0} → (S → TreeEvent → S → Type 0) → (S → TreeEvent → E → Type 0)
     → (S → E → Type 0) → Edition → FieldKind → List ℕ → S → ParseError E → Type 0
 IsVisitorErrorOf takes fails finish_fails edition kind t from (parse_errors.Syntax e) = ⊤
@@ -135,9 +154,8 @@ IsVisitorErrorOf takes fails finish_fails edition kind t from (parse_errors.Visi
     × (¬ IsAccepted edition kind t → (n : ℕ) → IsReach edition kind t n
     → IsVisitorErrorFrom takes fails finish_fails edition kind (take n t) from fault)
 
--- A bare item that stands first in the text of an item, and ends there, is visited before any fault of what follows it:
--- an error of the text comes after the visitor has taken it. An error of the visitor is one on some item whose bare item
--- stands first, and is that one if it ends there.
+-- If a complete bare item comes first in the text, the visitor receives it before any later syntax error. An error
+-- of the visitor is one on an item with the first bare item of the text, which is the complete one if there is one.
 abbrev pub VisitsFirst : {S E : Type 0} → (S → TreeEvent → S → Type 0) → (S → TreeEvent → E → Type 0)
     → (S → E → Type 0) → Edition → List ℕ → S → ParseError E → Type 0
 VisitsFirst {S} takes fails finish_fails edition t from (parse_errors.Syntax e) =
@@ -148,7 +166,7 @@ VisitsFirst takes fails finish_fails edition t from (parse_errors.Visitor fault)
     × ((value : BareValue) → BeginsWithBareItem edition value t → raw.bare ≡ value)
     × IsVisitorError takes fails finish_fails from (item_events raw) fault
 
--- the same of what a parser reads, with a visitor that is given by its ghost members
+-- the same for a parser, and a visitor as the record of its ghost members
 module _ {S O E : Type 0} (v : Visitor S O E) (p : Parser) where
   abbrev pub IsAnswerBy : FieldKind → S → O → Type 0
   IsAnswerBy kind from out = IsAnswerOf v.takes v.finishes (parser_edition p) kind (input_of p) from out
@@ -158,6 +176,9 @@ module _ {S O E : Type 0} (v : Visitor S O E) (p : Parser) where
 
   abbrev pub IsSyntaxBy : FieldKind → S → ParseError E → Type 0
   IsSyntaxBy kind from error = IsSyntaxOf v.takes v.finishes (parser_edition p) kind (input_of p) from error
+
+  abbrev pub TookBeforeFaultBy : FieldKind → S → ParseError E → Type 0
+  TookBeforeFaultBy kind from error = TookBeforeFault v.takes (parser_edition p) kind (input_of p) from error
 
   abbrev pub IsVisitorErrorBy : FieldKind → S → ParseError E → Type 0
   IsVisitorErrorBy kind from error =
@@ -170,23 +191,24 @@ module _ {S O E : Type 0} (v : Visitor S O E) (p : Parser) where
   abbrev pub VisitsFirstBy : S → ParseError E → Type 0
   VisitsFirstBy from error = VisitsFirst v.takes v.fails v.finish_fails (parser_edition p) (input_of p) from error
 
--- what a reading of a field of this type returns, all of it with one visitor: its answer, an error of the text, its own
--- error, that it answers on an accepted text if it never fails, and that memory is refused only where it is asked for
+-- The clauses of `parse_.._with_visitor` for one visitor: its result, a syntax error, its own error, the result on
+-- accepted texts if it never fails, and the texts for which memory is allocated.
 pub record ReadsBy {S O E : Type 0} (v : Visitor S O E) (p : Parser) (kind : FieldKind) (from : S)
     (result : Result O (ParseError E)) : Type 0 where
   pub visited : IfOk result (IsAnswerBy v p kind from)
   pub syntax : IfErr result (IsSyntaxBy v p kind from)
+  pub taken : IfErr result (TookBeforeFaultBy v p kind from)
   pub visitor : IfErr result (IsVisitorErrorBy v p kind from)
   pub accepted : VisitsAcceptedBy v p kind from result
   pub memory : IfErr result (NeedsMark (input_of p))
 
--- the same of an item, whose bare item is visited first, and as it was read
+-- The same for an item. In addition, the visitor receives the bare item first, and as parsed.
 pub record ReadsItemBy {S O E : Type 0} (v : Visitor S O E) (p : Parser) (from : S) (result : Result O (ParseError E))
     : Type 0 where
   pub all : ReadsBy v p item_field from result
   pub first : IfErr result (VisitsFirstBy v p from)
   pub lent : IfOk result (AnswersAsReadBy v p from)
 
--- it is so of some visitor that is as it was made
+-- `P` holds of `x` and of some visitor in its initial state
 abbrev pub OfMade : {S X : Type 0} → (S → Type 0) → (S → X → Type 0) → X → Type 0
 OfMade {S} is_made P x = (from : S) × is_made from × P from x

@@ -1,4 +1,4 @@
--- The types of public values, by their names in specs, with their variants.
+-- The types of public values with their variants, by their names in specs.
 pub use Rattle.sfv_base.specs.declared.date.Date.{Date}
 pub use Rattle.sfv_base.specs.declared.decimal.Decimal.{Decimal}
 pub use Rattle.sfv_base.specs.declared.integer.Integer.{Integer}

@@ -1,4 +1,4 @@
--- Words of the private contracts of the parser.
+-- Definitions of the parser's private contracts.
 pub mod Values
 pub mod Cursor
 pub mod Base64

@@ -1,4 +1,4 @@
-//! The types of fields.
+//! The field types: items, lists and dictionaries.
 
 ghost use Rattle.std.specs.Prelude.{◌≡◌, ℕ, List, Option, Some, option_map, IfOk, IfErr, string_bytes};
 ghost use Rattle.std.proofs.Common.{ap};
@@ -9,6 +9,8 @@ ghost use Rattle.sfv_spec.specs.Events.{bare_values};
 ghost use Rattle.sfv_spec.specs.Statements.{IsParsedAs, IsSerializedAs};
 ghost use Rattle.sfv_bare.specs.BareItems.{edition_of};
 ghost use Rattle.sfv_tree.specs.Trees.{item_tree, list_tree, dictionary_tree};
+ghost use Rattle.sfv_tree.specs.Seeds.{ItemHasSeed, ListHasSeed, DictionaryHasSeed};
+ghost use Rattle.sfv_tree.specs.declared.hash_seed.HashSeed.{HashSeed};
 ghost use Rattle.sfv_writer.specs.Versions.{LooksFirst};
 ghost use Rattle.sfv.specs.Parsers.{input_of, parser_edition, IsParseError};
 ghost use Rattle.sfv.specs.Memory.{NeedsMoreThanSpaces};
@@ -35,47 +37,54 @@ mod sealed {
     impl Sealed for sfv_tree::parsed::Dictionary {}
 }
 
-/// A type of field: `Item`, `List` or `Dictionary`.
+/// A field type: `Item`, `List` or `Dictionary`. This trait is sealed.
 ///
-/// A contract sees a value as its tree, by the kind of field that it is.
+/// Contracts view a value as its tree (`tree`), in the type's kind of field (`kind`).
 pub trait FieldType: sealed::Sealed + Drop {
-    /// What `serialize` returns: a text, of a list or a dictionary only if it has a member.
+    /// The result of `serialize`: a `String` for an item, and an `Option<String>` for a list or a dictionary.
     type SerializeResult: Drop + Into<Option<StdString>>;
 
     ghost kind: { FieldKind };
 
     ghost tree: { Self → RawField kind };
 
+    /// Each map of the value hashes under this seed.
+    ghost has_seed: { HashSeed → Self → Type 0 };
+
     ghost written: { Self.SerializeResult → Option (List ℕ) };
 
-    /// Reads a field of this type (RFC 9651, section 4.2), as `Parser::parse` does.
+    /// Parses a field of this type, as `Parser::parse` does (RFC 9651, section 4.2).
     ///
     /// # Errors
     ///
-    /// That of `Parser::parse`.
+    /// Returns the errors of `Parser::parse`.
     fn parse(alloc: Global, parser: Parser<'_>) -> Result<Self, Error>
         ensures read { IfOk result (λ value.
             IsParsedAs (parser_edition parser.entry) kind (input_of parser.entry) (tree value)) }
+        ensures seed { IfOk result (has_seed parser.entry.seed) }
         ensures rejected { IfErr result (IsParseError (parser_edition parser.entry) kind (input_of parser.entry)) }
         ensures memory { IfErr result (NeedsMoreThanSpaces (input_of parser.entry)) };
 
-    /// Returns the canonical text (RFC 9651, section 4.1), with memory from `alloc`, which RFC 9651 reads back. For a list
-    /// or a dictionary without members it returns `None`, and asks for no memory.
+    /// Returns the canonical text (RFC 9651, section 4.1), allocated from `alloc`.
+    ///
+    /// The text parses back to the same value under RFC 9651. An empty list or dictionary returns `None` and does not
+    /// allocate.
     ///
     /// # Errors
     ///
-    /// `OutOfMemory` when out of memory.
+    /// Returns `OutOfMemory` if memory runs out.
     fn serialize(&self, alloc: Global) -> Result<Self::SerializeResult, OutOfMemory>
         ensures text { IfOk result (λ text. IsSerializedAs rfc9651 kind (tree self.now) (written text)) }
         ensures out_of_memory { IfErr result (λ _. HasMember kind (tree self.now)) };
 
-    /// Returns the canonical text if this version has all values, as `serialize` does, and this version reads it back.
-    /// The whole value is looked at before memory is asked for.
+    /// Returns the canonical text, as `serialize` does, if `version` has every value (RFC 9651, section 4.1).
+    ///
+    /// The text parses back to the same value under `version`. The whole value is checked before memory is allocated.
     ///
     /// # Errors
     ///
-    /// `Unsupported` with the kind of the first value that the version doesn't have, in the order of the text, and
-    /// `OutOfMemory` when out of memory.
+    /// Returns `Unsupported` with the kind of the first value, in the order of the text, that `version` lacks.
+    /// Returns `OutOfMemory` if memory runs out.
     fn serialize_for(
         &self,
         alloc: Global,
@@ -97,6 +106,8 @@ impl FieldType for Item {
 
     ghost tree = { item_tree };
 
+    ghost has_seed = { ItemHasSeed };
+
     ghost written = { λ text. Some (string_bytes text) };
 
     ghost into_written = { λ result text same. ap (option_map string_bytes) same };
@@ -107,7 +118,7 @@ impl FieldType for Item {
         match parser.parse_item_with_visitor(alloc, builder) {
             Ok(item) => Ok(item),
             Err(ParseError::Syntax(error)) => Err(error),
-            // The builder fails for memory alone, since an item that was read is whole.
+            // The item is complete, so the builder fails only if memory runs out.
             Err(ParseError::Visitor(_)) => Err(Error::from(OutOfMemory)),
         }
     }
@@ -131,6 +142,8 @@ impl FieldType for List {
     ghost kind = { list_field };
 
     ghost tree = { λ list. list_tree list.items };
+
+    ghost has_seed = { λ seed list. ListHasSeed seed list.items };
 
     ghost written = { option_map string_bytes };
 
@@ -167,6 +180,8 @@ impl FieldType for Dictionary {
     ghost kind = { dictionary_field };
 
     ghost tree = { λ dictionary. dictionary_tree dictionary.entries };
+
+    ghost has_seed = { DictionaryHasSeed };
 
     ghost written = { option_map string_bytes };
 

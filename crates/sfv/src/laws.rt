@@ -1,9 +1,12 @@
-//! The laws of the definitions, for proofs: a caller cites one by calling the function, which does nothing, and taking
-//! what it ensures.
+//! The laws of the definitions. To use a law in a proof, call its function, which does nothing, and cite its
+//! contract.
 //!
-//! Those of whole fields are, in this order: `equal_texts`, two values have one text exactly if they are the same;
-//! `text_again`, what is read, written and read is written the same; `older_reads_back`, a value without dates and display
-//! strings is read back under RFC 8941 too; `newer_accepts`, what RFC 8941 accepts, RFC 9651 reads as the same.
+//! `docs/DEFINITIONS.md` explains each law. Four concern whole fields:
+//!
+//! - `equal_texts`: two values have the same text if and only if they are equal;
+//! - `text_again`: the text of a parsed field parses to the same value and serializes to the same text;
+//! - `older_reads_back`: a value without dates and display strings parses back under RFC 8941, too;
+//! - `newer_accepts`: RFC 9651 accepts every text that RFC 8941 accepts, as the same field.
 
 pub use sfv_reading::{
     fault_rejects, field_or_fault, one_fault, ruled_or_at_reach, true_is_wanted,

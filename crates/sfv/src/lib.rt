@@ -1,7 +1,7 @@
-//! Structured Field Values for HTTP (RFC 9651, and RFC 8941 by a version switch).
+//! Structured Field Values for HTTP (RFC 9651, and RFC 8941 as an older version).
 //!
-//! A field is read by `Parser`, into a value that owns its parts, and written by
-//! `FieldType::serialize`, as its one canonical text.
+//! `Parser` parses a field into a value that owns its parts. `FieldType::serialize` returns the canonical text of a
+//! value. `visitor` and the serializers work part by part, without a tree.
 #![tactic(auto)]
 
 mod field_type;

@@ -1,4 +1,4 @@
-//! Reading fields (RFC 9651, section 4.2).
+//! The parser of fields (RFC 9651, section 4.2).
 
 ghost use Rattle.std.specs.Prelude.{◌≡◌, IfOk, IfErr};
 ghost use Rattle.sfv_spec.specs.Values.{item_field, list_field, dictionary_field};
@@ -35,7 +35,9 @@ pub(crate) use beginning::{look_for_dictionary, look_for_item, look_for_list};
 use field::{parse_item_field, parse_members_field};
 use member::{Entry, KeyedEntry};
 
-/// Reads an input as a field, under one version of the standard.
+/// A parser for one input, under one version of the standard.
+///
+/// A parser has no position: each call parses the whole input.
 #[derive(Clone, Copy, Debug)]
 pub struct Parser<'de> {
     input: &'de [u8],
@@ -45,11 +47,11 @@ pub struct Parser<'de> {
 
 impl<'de> Parser<'de> {
     ghost use Rattle.sfv.specs.Parsers.{parser_of, input_of, parser_edition, IsParseError, IsAnswerBy, IsSyntaxBy};
-    ghost use Rattle.sfv.specs.Parsers.{IsVisitorErrorBy, VisitsAcceptedBy, VisitsFirstBy, AnswersAsReadBy, OfMade};
+    ghost use Rattle.sfv.specs.Parsers.{IsVisitorErrorBy, VisitsAcceptedBy, VisitsFirstBy, AnswersAsReadBy, OfMade, TookBeforeFaultBy};
     ghost use Rattle.sfv.specs.Parsers.{ReadsBy, ReadsItemBy};
     ghost use Rattle.sfv.specs.Memory.{NeedsMark, NeedsMoreThanSpaces};
 
-    /// Reads this input, under RFC 9651 and the library's seed.
+    /// Creates a parser for `input` under RFC 9651, with the library's hash seed.
     pub fn new(input: &'de [u8]) -> Parser<'de>
         ensures { result ≡ parser_of input.entry versions.Rfc9651 library_seed }
     {
@@ -60,7 +62,7 @@ impl<'de> Parser<'de> {
         }
     }
 
-    /// Reads the same input under this version.
+    /// Sets the version of the standard.
     pub fn with_version(mut self, version: Version) -> Parser<'de>
         ensures { result ≡ parser_of self.entry.input version self.entry.seed }
     {
@@ -68,7 +70,7 @@ impl<'de> Parser<'de> {
         self
     }
 
-    /// Reads the same input under the same version, and builds dictionaries and parameters under this seed.
+    /// Sets the hash seed of the dictionaries and parameters that the parser builds.
     pub fn with_hash_seed(mut self, seed: HashSeed) -> Parser<'de>
         ensures { result ≡ parser_of self.entry.input self.entry.version seed }
     {
@@ -76,45 +78,46 @@ impl<'de> Parser<'de> {
         self
     }
 
-    /// Returns the seed under which dictionaries and parameters are built.
+    /// Returns the hash seed of the dictionaries and parameters that the parser builds.
     pub fn hash_seed(&self) -> HashSeed
         ensures { result ≡ self.now.seed }
     {
         self.seed
     }
 
-    /// Reads the input as a field of this type (RFC 9651, section 4.2), with memory from `alloc`.
+    /// Parses the input as a field of type `T` (RFC 9651, section 4.2), with memory from `alloc`.
     ///
-    /// Returns the value exactly if the input is such a field, or fails as out of memory: of a repeated key
-    /// the last value stands, at the place of the first.
+    /// Succeeds if and only if the input is such a field, unless memory runs out. A repeated key keeps its first
+    /// position and takes its last value.
     ///
-    /// As measured, the time of a reading grows with the length of the input under a seed that was drawn
-    /// (`with_hash_seed`). Under the library's one can search for keys of a dictionary or of parameters that fall
-    /// together: 64 KB of them take a hundred times as long, and the factor grows with the length. So draw a seed, once
-    /// for each run of a program, where others send the field, or read it with a visitor, which has no map.
+    /// In measurements, the time is linear in the length of the input under a random seed (`with_hash_seed`). With
+    /// the library's seed, an attacker can choose colliding keys: 64 KB of them take a hundred times as long, and the
+    /// factor grows with the length. For untrusted input, set a random seed once per run of the program, or use a
+    /// visitor, which has no map.
     ///
     /// # Errors
     ///
-    /// The kind of the first fault from the left, and its index, a zero-based offset in bytes which is at most the
-    /// input's length. Out of memory the kind is `OutOfMemory`, without index.
+    /// Returns the kind and the index of the first syntax error. The index is a zero-based byte offset, at most the
+    /// length of the input. Returns the kind `OutOfMemory`, without index, if memory runs out.
     pub fn parse<T: FieldType>(self, alloc: Global) -> Result<T, Error>
         ensures read { IfOk result
             (λ value. IsParsedAs (parser_edition self.entry) T.kind (input_of self.entry) (T.tree value)) }
+        ensures seed { IfOk result (T.has_seed self.entry.seed) }
         ensures rejected { IfErr result (IsParseError (parser_edition self.entry) T.kind (input_of self.entry)) }
         ensures memory { IfErr result (NeedsMoreThanSpaces (input_of self.entry)) }
     {
         T::parse(alloc, self)
     }
 
-    /// Reads the input as an item of this type (RFC 9651, section 4.2) with the visitor that the type makes, and memory
-    /// from `alloc`.
+    /// Parses the input as an item (RFC 9651, section 4.2), with the visitor of `T` and memory from `alloc`.
     ///
-    /// An `Item` is read whole; a type of one kind (`Integer`, `TokenRef`, ..) is the bare item of that kind, whatever
-    /// its parameters; `BareItem` and `BareItemFromInput` are the bare item of every kind.
+    /// For `Item` the result is the whole item. For a type of one kind (`Integer`, `TokenRef`, ..) it is the bare
+    /// item, which must have that kind. For `BareItem` and `BareItemFromInput` it is the bare item of any kind. All
+    /// types except `Item` ignore parameters.
     ///
     /// # Errors
     ///
-    /// Those of `parse_item_with_visitor`.
+    /// Returns the errors of `parse_item_with_visitor`.
     pub fn parse_item<T: MakeItemVisitor<'de>>(
         self,
         alloc: Global,
@@ -125,14 +128,13 @@ impl<'de> Parser<'de> {
         self.parse_item_with_visitor(alloc, visitor)
     }
 
-    /// Reads the input as a list of this type (RFC 9651, section 4.2) with the visitor that the type makes, and memory
-    /// from `alloc`.
+    /// Parses the input as a list (RFC 9651, section 4.2), with the visitor of `T` and memory from `alloc`.
     ///
-    /// For a `List` that is what `parse` returns.
+    /// For `List`, this is `parse`.
     ///
     /// # Errors
     ///
-    /// Those of `parse_list_with_visitor`.
+    /// Returns the errors of `parse_list_with_visitor`.
     pub fn parse_list<T: MakeListVisitor<'de>>(
         self,
         alloc: Global,
@@ -143,14 +145,13 @@ impl<'de> Parser<'de> {
         self.parse_list_with_visitor(alloc, visitor)
     }
 
-    /// Reads the input as a dictionary of this type (RFC 9651, section 4.2) with the visitor that the type makes, and
-    /// memory from `alloc`.
+    /// Parses the input as a dictionary (RFC 9651, section 4.2), with the visitor of `T` and memory from `alloc`.
     ///
-    /// For a `Dictionary` that is what `parse` returns.
+    /// For `Dictionary`, this is `parse`.
     ///
     /// # Errors
     ///
-    /// Those of `parse_dictionary_with_visitor`.
+    /// Returns the errors of `parse_dictionary_with_visitor`.
     pub fn parse_dictionary<T: MakeDictionaryVisitor<'de>>(
         self,
         alloc: Global,
@@ -161,17 +162,16 @@ impl<'de> Parser<'de> {
         self.parse_dictionary_with_visitor(alloc, visitor)
     }
 
-    /// Reads the input as an item (RFC 9651, section 4.2), and visits its parts from left to right. Memory for texts
-    /// with escapes and for byte sequences is asked of `alloc`.
+    /// Parses the input as an item (RFC 9651, section 4.2), and passes its parts to `visitor` from left to right.
     ///
-    /// For an item it returns what the visitor returns after all parts: `BareItem`, a `Parameter` for each parameter,
-    /// repeated keys too, and `ParametersEnd`.
+    /// The events are `BareItem`, a `Parameter` for each parameter, repeated keys included, and `ParametersEnd`.
+    /// Returns the result of `Visitor::finish`. Texts with escapes, and byte sequences, are allocated from `alloc`.
     ///
     /// # Errors
     ///
-    /// Where the visitor fails, the reading ends with its error (`ParseError::Visitor`). Else the error
-    /// (`ParseError::Syntax`) is that of `parse`. The visitor is finished before it is known whether anything stands
-    /// after the item, so its error wins.
+    /// Returns `ParseError::Visitor` if the visitor fails; parsing then ends. Otherwise returns `ParseError::Syntax`
+    /// with the errors of `parse`. `finish` runs before the check for characters after the item, so its error takes
+    /// precedence.
     pub fn parse_item_with_visitor<V: Visitor<'de>>(
         self,
         alloc: Global,
@@ -180,6 +180,7 @@ impl<'de> Parser<'de> {
         requires { V.is_ready visitor }
         ensures visited { IfOk result (IsAnswerBy V.Visitor self.entry item_field visitor) }
         ensures syntax { IfErr result (IsSyntaxBy V.Visitor self.entry item_field visitor) }
+        ensures taken { IfErr result (TookBeforeFaultBy V.Visitor self.entry item_field visitor) }
         ensures visitor { IfErr result (IsVisitorErrorBy V.Visitor self.entry item_field visitor) }
         ensures accepted { VisitsAcceptedBy V.Visitor self.entry item_field visitor result }
         ensures memory { IfErr result (NeedsMark (input_of self.entry)) }
@@ -189,18 +190,16 @@ impl<'de> Parser<'de> {
         parse_item_field(self, alloc, visitor)
     }
 
-    /// Reads the input as a list (RFC 9651, section 4.2), and visits its parts from left to right. Memory for texts
-    /// with escapes and for byte sequences is asked of `alloc`.
+    /// Parses the input as a list (RFC 9651, section 4.2), and passes its parts to `visitor` from left to right.
     ///
-    /// For a list it returns what the visitor returns after the parts of all members: `Entry`, and then those of an
-    /// item or an inner list. `Entry` is visited where a byte stands where a member is wanted, before that byte is
-    /// looked at.
+    /// Each member begins with `Entry`; then follow the events of an item or an inner list. The visitor receives
+    /// `Entry` when input remains for a member, before the member is parsed. Returns the result of `Visitor::finish`.
+    /// Texts with escapes, and byte sequences, are allocated from `alloc`.
     ///
     /// # Errors
     ///
-    /// Where the visitor fails, the reading ends with its error (`ParseError::Visitor`). Else the error
-    /// (`ParseError::Syntax`) is that of `parse`. The visitor is finished only where the input has ended without a
-    /// fault.
+    /// Returns `ParseError::Visitor` if the visitor fails; parsing then ends. Otherwise returns `ParseError::Syntax`
+    /// with the errors of `parse`. `finish` runs only if the whole input has been parsed without an error.
     pub fn parse_list_with_visitor<V: Visitor<'de>>(
         self,
         alloc: Global,
@@ -209,6 +208,7 @@ impl<'de> Parser<'de> {
         requires { V.is_ready visitor }
         ensures visited { IfOk result (IsAnswerBy V.Visitor self.entry list_field visitor) }
         ensures syntax { IfErr result (IsSyntaxBy V.Visitor self.entry list_field visitor) }
+        ensures taken { IfErr result (TookBeforeFaultBy V.Visitor self.entry list_field visitor) }
         ensures visitor { IfErr result (IsVisitorErrorBy V.Visitor self.entry list_field visitor) }
         ensures accepted { VisitsAcceptedBy V.Visitor self.entry list_field visitor result }
         ensures memory { IfErr result (NeedsMark (input_of self.entry)) }
@@ -216,18 +216,17 @@ impl<'de> Parser<'de> {
         parse_members_field::<Entry, V>(self, alloc, visitor)
     }
 
-    /// Reads the input as a dictionary (RFC 9651, section 4.2), and visits its parts from left to right. Memory for
-    /// texts with escapes and for byte sequences is asked of `alloc`.
+    /// Parses the input as a dictionary (RFC 9651, section 4.2), and passes its parts to `visitor` from left to
+    /// right.
     ///
-    /// For a dictionary it returns what the visitor returns after the parts of all members, those of a repeated key
-    /// too: `KeyedEntry` once the key has been read, and then the parts of an item or an inner list. A member without
-    /// `=` is the item true.
+    /// Each member begins with `KeyedEntry`, after its key is parsed; then follow the events of an item or an inner
+    /// list. Every occurrence of a repeated key is passed. A member without `=` is the item true. Returns the result
+    /// of `Visitor::finish`. Texts with escapes, and byte sequences, are allocated from `alloc`.
     ///
     /// # Errors
     ///
-    /// Where the visitor fails, the reading ends with its error (`ParseError::Visitor`). Else the error
-    /// (`ParseError::Syntax`) is that of `parse`. The visitor is finished only where the input has ended without a
-    /// fault.
+    /// Returns `ParseError::Visitor` if the visitor fails; parsing then ends. Otherwise returns `ParseError::Syntax`
+    /// with the errors of `parse`. `finish` runs only if the whole input has been parsed without an error.
     pub fn parse_dictionary_with_visitor<V: Visitor<'de>>(
         self,
         alloc: Global,
@@ -236,6 +235,7 @@ impl<'de> Parser<'de> {
         requires { V.is_ready visitor }
         ensures visited { IfOk result (IsAnswerBy V.Visitor self.entry dictionary_field visitor) }
         ensures syntax { IfErr result (IsSyntaxBy V.Visitor self.entry dictionary_field visitor) }
+        ensures taken { IfErr result (TookBeforeFaultBy V.Visitor self.entry dictionary_field visitor) }
         ensures visitor { IfErr result (IsVisitorErrorBy V.Visitor self.entry dictionary_field visitor) }
         ensures accepted { VisitsAcceptedBy V.Visitor self.entry dictionary_field visitor result }
         ensures memory { IfErr result (NeedsMark (input_of self.entry)) }

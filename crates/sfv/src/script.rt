@@ -1,4 +1,4 @@
-//! Lists of calls of the serializers: what they describe is written at once, or not at all.
+//! Lists of serializer calls, which are written completely or not at all.
 
 pub use sfv_serializer::script::{
     ItemCalls, MemberCalls, ParamCall, run_dict, run_dict_for, run_item, run_item_for, run_list,

@@ -1,5 +1,5 @@
-//! Visitors of fields, which visit each part of a field while it is read, and those that are given. `Visitor` says what
-//! one has to do about repeated keys.
+//! Visitors, which receive the parts of a field during parsing, and the provided visitors. `Visitor` explains how to
+//! handle repeated keys.
 
 pub use sfv_visitor::expect_item::{ExpectItem, ExpectedItem};
 pub use sfv_visitor::ignored::Ignored;

@@ -1,4 +1,4 @@
--- What the program answers.
+-- The output of the program.
 use Rattle.std.specs.Prelude.{◌≡◌, ℕ, ◌-◌, ◌++◌, ◌==◌, List, [], length, take, slice_index, if◌then◌else◌, codes}
 use Rattle.std.specs.Prelude.{string_bytes, Option, Some, None}
 use Rattle.std.specs.declared.alloc.Global.{Global}
@@ -20,41 +20,41 @@ use Rattle.sfv_answers.specs.declared.answer.ToolFault.TheVariants as faults
 use Rattle.sfv_answers.specs.declared.answer.Field.{Field}
 use Rattle.sfv_answers.specs.declared.answer.Field.TheVariants as field
 
--- the kind of field
+-- the type of field in the definitions
 abbrev pub kind_of_field : Field → FieldKind
 kind_of_field field.Item = item_field
 kind_of_field field.List = list_field
 kind_of_field field.Dict = dictionary_field
 
--- the input without one closing newline byte, if there is one
+-- the input without one final newline, if there is one
 abbrev pub without_newline : List ℕ → List ℕ
 without_newline t = if slice_index t (length t - 1) == 0x0a then take (length t - 1) t else t
 
--- what was written, if anything was
+-- the written text, or the empty text
 abbrev pub text_or_empty : Option (String Global) → List ℕ
 text_or_empty None = []
 text_or_empty (Some text) = string_bytes text
 
--- the canonical text of the ordered value that the input is read as by the one edition and that fits the other, and a
--- newline
+-- The input parses to an ordered value under the one edition, and the other has it: its canonical text, and a
+-- newline.
 pub record IsAnswer (reading writing : Edition) (kind : FieldKind) (input text : List ℕ) : Type 0 where
   pub value : RawField kind
   pub parsed : IsParsedAs reading kind input value
   pub fits : Fits writing kind value
   pub written : text ≡ canonical kind value ++ codes "\n"
 
--- what a fault prints
+-- the printed text of a fault
 abbrev pub tool_fault_text : ToolFault → List ℕ
 tool_fault_text (faults.Read error) = error_text error
 tool_fault_text (faults.Write error) = serialize_error_text error
 
--- the input isn't read, or it is read as a value that isn't written
+-- the input is rejected, or its value is not written
 abbrev pub IsToolFault : Edition → Edition → FieldKind → List ℕ → ToolFault → Type 0
 IsToolFault reading writing kind t (faults.Read error) = IsParseError reading kind t error
 IsToolFault reading writing kind t (faults.Write error) =
     (value : RawField kind) × IsParsedAs reading kind t value × IsSerializeError writing (bare_values kind value) error
 
--- the same of what is asked for: one closing newline byte of the input is no part of the field
+-- the same for a request, which ignores one final newline of the input
 abbrev pub IsAnswerTo : Field → Version → Version → List ℕ → List ℕ → Type 0
 IsAnswerTo field reading writing input text =
     IsAnswer (edition_of reading) (edition_of writing) (kind_of_field field) (without_newline input) text
@@ -63,13 +63,13 @@ abbrev pub IsFaultFor : Field → Version → Version → List ℕ → ToolFault
 IsFaultFor field reading writing input fault =
     IsToolFault (edition_of reading) (edition_of writing) (kind_of_field field) (without_newline input) fault
 
--- the text of the priority that the input has, and a newline
+-- the text of the input's priority, and a newline
 pub record IsPriorityAnswer (version : Version) (input text : List ℕ) : Type 0 where
   pub value : PriorityValue
   pub read : IsPriorityOf (edition_of version) (without_newline input) value
   pub written : text ≡ priority_text value ++ codes "\n"
 
--- the input isn't read, or memory ran out
+-- the input is rejected, or memory ran out
 abbrev pub IsPriorityFault : Version → List ℕ → ToolFault → Type 0
 IsPriorityFault version input (faults.Read error) =
     IsParseError (edition_of version) dictionary_field (without_newline input) error

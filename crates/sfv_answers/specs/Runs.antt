@@ -1,4 +1,4 @@
--- What the program is asked for, and what a run of it leaves.
+-- The requests of the program, and the results of a run.
 use Rattle.std.specs.Prelude.{◌≡◌, ℕ, List, [], ◌∷◌, ◌⊎◌, Option, IfSome, codes}
 use Rattle.std.specs.Io.KnownBytes.{Keeps, Appends}
 use Rattle.sfv.specs.Types.{Version}
@@ -9,29 +9,28 @@ use Rattle.sfv_answers.specs.declared.run.Request.{Request}
 use Rattle.sfv_answers.specs.declared.run.Request.TheVariants as request
 use Rattle.sfv_answers.specs.Answers.{IsAnswerTo, IsPriorityAnswer}
 
--- the word of a type of field
+-- the argument for a field type
 abbrev pub field_word : Field → List ℕ
 field_word field.Item = codes "item"
 field_word field.List = codes "list"
 field_word field.Dict = codes "dict"
 
--- the word of a version
+-- the argument for a version
 abbrev pub version_word : Version → List ℕ
 version_word version.Rfc8941 = codes "8941"
 version_word version.Rfc9651 = codes "9651"
 
--- the words are those of this type of field, of the version of reading and of that of writing, which is RFC 9651 where
--- none stands
+-- The arguments name this field type, the version to parse, and the version to write, which defaults to RFC 9651.
 abbrev pub NamesField : List (List ℕ) → Field → Version → Version → Type 0
 NamesField words field reading writing =
     (words ≡ field_word field ∷ version_word reading ∷ version_word writing ∷ [])
     ⊎ ((words ≡ field_word field ∷ version_word reading ∷ []) × (writing ≡ version.Rfc9651))
 
--- the word of the Priority field
+-- the argument for the Priority field
 abbrev pub priority_word : List ℕ
 priority_word = codes "priority"
 
--- the words are it and that of the version of reading
+-- the arguments name the Priority field and the version to parse
 abbrev pub NamesPriority : List (List ℕ) → Version → Type 0
 NamesPriority words version = words ≡ priority_word ∷ version_word version ∷ []
 
@@ -39,37 +38,37 @@ abbrev pub Names : List (List ℕ) → Request → Type 0
 Names words (request.Field field reading writing) = NamesField words field reading writing
 Names words (request.Priority version) = NamesPriority words version
 
--- what is answered to the request for this input
+-- the output for the request and this input
 abbrev pub IsAnswerFor : Request → List ℕ → List ℕ → Type 0
 IsAnswerFor (request.Field field reading writing) input text = IsAnswerTo field reading writing input text
 IsAnswerFor (request.Priority version) input text = IsPriorityAnswer version input text
 
--- A run to its end: the answer to the input stands after what the output held, and nothing was written to the errors.
+-- A successful run: the output is appended, and nothing is written to the errors.
 pub record IsAnswered (request : Request) (input output output' errors errors' : Option (List ℕ)) : Type 0 where
   pub answer : IfSome input (λ bytes. (text : List ℕ)
       × IsAnswerFor request bytes text
       × Appends output output' text)
   pub quiet : Keeps errors errors'
 
--- A run that failed: the output is as it was, unless there is an answer, which may have been written in part.
+-- A failed run: the output is unchanged, unless there was an output to write, which may have been written in part.
 abbrev pub IsFailed : Request → Option (List ℕ) → Option (List ℕ) → Option (List ℕ) → Type 0
 IsFailed request input output output' =
     Keeps output output'
     ⊎ IfSome input (λ bytes. (text : List ℕ)
     × IsAnswerFor request bytes text)
 
--- the words name a request of which this holds
+-- the arguments name a request, and this holds of it
 abbrev pub Requests : List (List ℕ) → (Request → Type 0) → Type 0
 Requests words P = (request : Request) × Names words request × P request
 
--- the words name no type of field with its versions
+-- the arguments name no field type with its versions
 abbrev pub NamesNoField : List (List ℕ) → Type 0
 NamesNoField words = (field : Field) (reading writing : Version) → ¬ NamesField words field reading writing
 
--- the words aren't those of the Priority field with a version
+-- the arguments do not name the Priority field with a version
 abbrev pub NamesNoPriority : List (List ℕ) → Type 0
 NamesNoPriority words = (version : Version) → ¬ NamesPriority words version
 
--- the words name nothing
+-- the arguments name no request
 abbrev pub NamesNothing : List (List ℕ) → Type 0
 NamesNothing words = (request : Request) → ¬ Names words request

@@ -1,4 +1,4 @@
-//! What the program `sfv_tool` returns for an input.
+//! The results of the program `sfv_tool` for an input.
 
 ghost use Rattle.std.specs.Prelude.{◌≡◌, ◌++◌, Some, IfOk, IfErr, codes, string_bytes};
 ghost use Rattle.sfv.specs.BareItems.{edition_of};
@@ -15,7 +15,7 @@ use sfv_fields::priority::{read_priority, write_priority};
 use std::alloc::Global;
 use std::fmt;
 
-/// The types of fields that the program reads.
+/// A field type that the program parses.
 #[derive(Clone, Copy, Debug, PartialEq, Eq)]
 pub enum Field {
     /// An item.
@@ -26,12 +26,12 @@ pub enum Field {
     Dict,
 }
 
-/// Why there is no answer.
+/// The error of the program for an input.
 #[derive(Clone, Copy, Debug, PartialEq, Eq)]
 pub enum ToolFault {
-    /// The input isn't read.
+    /// The input has a syntax error, or memory ran out while it was parsed.
     Read(Error),
-    /// What was read isn't written.
+    /// The version lacks a value of the field, or memory ran out while it was serialized.
     Write(SerializeError),
 }
 
@@ -72,7 +72,7 @@ impl From<OutOfMemory> for ToolFault {
     }
 }
 
-/// The input without one closing newline byte, if there is one.
+/// Returns the input without its final newline, if there is one.
 fn without_newline(input: &[u8]) -> &[u8]
     ensures { result.now ≡ without_newline input.now }
 {
@@ -82,7 +82,7 @@ fn without_newline(input: &[u8]) -> &[u8]
     }
 }
 
-/// The line of a field's text, which is empty where nothing was written.
+/// Returns the text and a newline. The text is empty if nothing was serialized.
 fn line(alloc: Global, text: Option<String>) -> Result<String, SerializeError>
     ensures line { IfOk result (λ line. string_bytes line ≡ text_or_empty text ++ codes "\n") }
     ensures out_of_memory { IfErr result (λ error. error ≡ serialize_errors.OutOfMemory) }
@@ -97,8 +97,8 @@ fn line(alloc: Global, text: Option<String>) -> Result<String, SerializeError>
     Ok(line)
 }
 
-/// Reads the input as a field of this type under the one version, and returns its canonical text for the other, and a
-/// newline.
+/// Parses the input as a field of type `T` under the version `reading`. Returns its canonical text under the version
+/// `writing`, and a newline.
 fn answer_as<T: FieldType>(
     alloc: Global,
     seed: HashSeed,
@@ -118,13 +118,15 @@ fn answer_as<T: FieldType>(
     Ok(line(alloc, text.into())?)
 }
 
-/// Reads the input, without one closing newline byte, as a field of this type under the one version, and returns its
-/// canonical text for the other and a newline, for a list or a dictionary without members the newline alone. Maps are
-/// built under `seed`.
+/// Parses the input as a field of this type under the version `reading`. Returns its canonical text under the version
+/// `writing`, and a newline.
+///
+/// One final newline of the input is ignored. An empty list or dictionary returns only the newline. Maps are built
+/// under `seed`.
 ///
 /// # Errors
 ///
-/// `Read` with the error of `Parser::parse`, and `Write` with that of `FieldType::serialize_for`.
+/// Returns `Read` with the error of `Parser::parse`, or `Write` with the error of `FieldType::serialize_for`.
 pub fn answer(
     alloc: Global,
     seed: HashSeed,
@@ -144,12 +146,13 @@ pub fn answer(
     }
 }
 
-/// Reads the input, without one closing newline byte, as a Priority field under this version, and returns the text of its
-/// priority and a newline, of the default the newline alone.
+/// Parses the input as a Priority field under `version`. Returns the text of its priority, and a newline.
+///
+/// One final newline of the input is ignored. The default priority returns only the newline.
 ///
 /// # Errors
 ///
-/// `Read` with the error of `Parser::parse`, and `Write` with want of memory.
+/// Returns `Read` with the error of `Parser::parse`, or `Write` if memory runs out.
 pub fn answer_priority(alloc: Global, version: Version, input: &[u8]) -> Result<String, ToolFault>
     ensures accepted { IfOk result (λ text. IsPriorityAnswer version input.now (string_bytes text)) }
     ensures failed { IfErr result (IsPriorityFault version input.now) }

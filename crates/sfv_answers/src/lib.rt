@@ -1,5 +1,4 @@
-//! What the program `sfv_tool` answers: the canonical text of a structured field, and of the Priority field what isn't the
-//! default.
+//! The results of the program `sfv_tool`: the canonical text of a structured field, or of a Priority field.
 #![tactic(auto)]
 
 pub mod answer;

@@ -1,4 +1,4 @@
-//! The run of the program `sfv_tool`.
+//! A run of the program `sfv_tool`.
 
 ghost use Rattle.std.specs.Prelude.{◌≡◌, ◌≤◌, ◌↔◌, IfSome, IfNone, IfOk, OnOk, IsTrue, map, string_bytes};
 ghost use Rattle.std.specs.Io.KnownBytes.{Appends};
@@ -11,32 +11,32 @@ use std::alloc::Global;
 use std::io;
 use std::io::{Read, Write};
 
-/// The exit status where the answer is written.
+/// The exit status after the result is written.
 pub const DONE: u8 = 0;
 
-/// The exit status where something is wrong.
+/// The exit status after an error.
 pub const FAILED: u8 = 1;
 
-/// The exit status for other arguments.
+/// The exit status for wrong arguments.
 pub const WRONG_ARGUMENTS: u8 = 2;
 
-/// What the program is asked for.
+/// The command that the arguments name.
 #[derive(Clone, Copy)]
 pub enum Request {
-    /// A field of this type.
+    /// A field of this type, to convert between versions.
     Field {
-        /// The type.
+        /// The field type.
         field: Field,
-        /// The version of reading.
+        /// The version to parse under.
         reading: Version,
-        /// The version of writing.
+        /// The version to serialize under.
         writing: Version,
     },
-    /// The Priority field, read under this version.
+    /// The Priority field, parsed under this version.
     Priority(Version),
 }
 
-/// Returns the field that the argument names.
+/// Returns the field type that the argument names.
 fn field_of(arg: &str) -> Option<Field>
     ensures named { IfSome result (λ field. arg.now ≡ field_word field) }
     ensures none { IfNone result ((field : Field) → ¬ (arg.now ≡ field_word field)) }
@@ -61,7 +61,7 @@ fn version_of(arg: &str) -> Option<Version>
     }
 }
 
-/// Returns the type of field and the versions that the arguments name: without a version of writing, RFC 9651.
+/// Returns the command of a field, or `None` for other arguments. Without a version to serialize under, it is RFC 9651.
 fn field_requested(args: &[String]) -> Option<Request>
     ensures named { IfSome result (Names (map string_bytes args.now)) }
     ensures none { IfNone result (NamesNoField (map string_bytes args.now)) }
@@ -78,14 +78,14 @@ fn field_requested(args: &[String]) -> Option<Request>
     })
 }
 
-/// Whether the argument is the word of the Priority field.
+/// Returns `true` if the argument is `priority`.
 fn is_priority(arg: &str) -> bool
     ensures { IsTrue result ↔ (arg.now ≡ priority_word) }
 {
     arg == "priority"
 }
 
-/// Returns the version under which the arguments ask for the Priority field.
+/// Returns the version of the command `priority`, or `None` for other arguments.
 fn priority_requested(args: &[String]) -> Option<Version>
     ensures named { IfSome result (NamesPriority (map string_bytes args.now)) }
     ensures none { IfNone result (NamesNoPriority (map string_bytes args.now)) }
@@ -100,7 +100,7 @@ fn priority_requested(args: &[String]) -> Option<Version>
     Some(version)
 }
 
-/// Returns what the arguments ask for.
+/// Returns the command that the arguments name, or `None` for wrong arguments.
 #[tactic(auto, using(crate::proofs::Requests::names_nothing))]
 fn requested(args: &[String]) -> Option<Request>
     ensures named { IfSome result (Names (map string_bytes args.now)) }
@@ -112,7 +112,7 @@ fn requested(args: &[String]) -> Option<Request>
     field_requested(args)
 }
 
-/// Returns what is answered to the request for the input. Maps are built under `seed`.
+/// Returns the result of a command for the input. Maps are built under `seed`.
 fn answer_to(
     alloc: Global,
     seed: HashSeed,
@@ -131,7 +131,7 @@ fn answer_to(
     }
 }
 
-/// Writes all of the text, and flushes it.
+/// Writes the whole text, and flushes it.
 fn print<W: Write>(text: &str, output: &mut W) -> io::Result<()>
     ensures { OnOk result (Appends (W.contents output.old) (W.contents output.new) text.now) }
 {
@@ -139,7 +139,7 @@ fn print<W: Write>(text: &str, output: &mut W) -> io::Result<()>
     output.flush()
 }
 
-/// Reads all of the input, and writes the answer to `output`, or what is wrong to `errors`. Returns the exit status.
+/// Reads all of `input`, and writes the result to `output`, or an error to `errors`. Returns the exit status.
 fn convert<R: Read, W: Write, E: Write>(
     alloc: Global,
     seed: HashSeed,
@@ -174,9 +174,11 @@ fn convert<R: Read, W: Write, E: Write>(
     }
 }
 
-/// Looks at the arguments, reads all of the input, and writes the answer to `output`, or what is wrong to `errors`.
-/// Returns the exit status: `DONE`, `FAILED` where something is wrong, `WRONG_ARGUMENTS` for other arguments. If `errors`
-/// can't be written the status stays. Maps are built under `seed`.
+/// Checks the arguments, reads all of `input`, and writes the result to `output`, or an error to `errors`. Maps are
+/// built under `seed`.
+///
+/// Returns the exit status: `DONE`, `FAILED` after an error, or `WRONG_ARGUMENTS`. A failed write to `errors` does not
+/// change the status.
 pub fn run<R: Read, W: Write, E: Write>(
     alloc: Global,
     seed: HashSeed,

@@ -1,4 +1,4 @@
--- The values of bare items, whatever owns their texts.
+-- The values of bare items, whatever type owns their texts.
 use Rattle.std.specs.Prelude.{◌≡◌, ⊤, ℕ, ℤ, List, Bool, true, false, Option, MatchOption, string_bytes, codes}
 use Rattle.std.specs.Borrow.{Bor}
 use Rattle.std.specs.declared.alloc.Global.{Global}
@@ -19,7 +19,7 @@ use Rattle.sfv_bare.specs.declared.bare.StringFromInput.TheVariants as input
 use Rattle.sfv_bare.specs.declared.bare.Version.{Version}
 use Rattle.sfv_bare.specs.declared.bare.Version.TheVariants as version
 
--- the value of a bare item, given the bytes of its texts
+-- the value of a bare item, where the first arguments give the bytes of its texts
 abbrev pub value_by :
     {S B T D : Type 0} → (S → List ℕ) → (B → List ℕ) → (T → List ℕ) → (D → List ℕ)
     → GenericBareItem S B T D → BareValue
@@ -36,15 +36,15 @@ value_by s b t d (bare.DisplayString x) = values.display_string (d x)
 abbrev pub IsInteger : {S B T D : Type 0} → ℤ → GenericBareItem S B T D → Type 0
 IsInteger z item = (n : Integer) × (item ≡ bare.Integer n) × (integer_of n ≡ z)
 
--- the value of a bare item that owns its text
+-- the value of a bare item with owned text
 abbrev pub bare_value : GenericBareItem (List ℕ) (Vec ℕ Global) (List ℕ) (std_string.String Global) → BareValue
 bare_value item = value_by (λ s. s) (λ b. b.items) (λ t. t) string_bytes item
 
--- the value of a bare item whose text is borrowed
+-- the value of a bare item with borrowed text
 abbrev pub ref_value : GenericBareItem StringRef (Bor (List ℕ)) TokenRef (Bor (List ℕ)) → BareValue
 ref_value item = value_by string_text (λ b. b.now) token_text (λ d. d.now) item
 
--- the bytes of a string that was read
+-- the bytes of a parsed string
 abbrev pub read_text : StringFromInput → List ℕ
 read_text (input.Borrowed s) = string_text s
 read_text (input.Owned s) = s
@@ -53,40 +53,40 @@ abbrev pub cow_text : CowStr Global → List ℕ
 cow_text (cow.Borrowed s) = s.now
 cow_text (cow.Owned s) = string_bytes s
 
--- the value of a bare item that was read
+-- the value of a parsed bare item
 abbrev pub input_value : GenericBareItem StringFromInput (Vec ℕ Global) TokenRef (CowStr Global) → BareValue
 input_value item = value_by read_text (λ b. b.items) token_text cow_text item
 
--- a value that is a text
+-- the value is a text
 abbrev pub is_text : BareValue → Bool
 is_text (values.string s) = true
 is_text (values.token t) = true
 is_text (values.display_string d) = true
 is_text v = false
 
--- a value that is a text or a byte sequence
+-- the value is a text or a byte sequence
 abbrev pub holds_bytes : BareValue → Bool
 holds_bytes (values.byte_sequence b) = true
 holds_bytes v = is_text v
 
--- a string that was read is borrowed from the input
+-- the parsed string is borrowed from the input
 abbrev pub is_borrowed_string : StringFromInput → Bool
 is_borrowed_string (input.Borrowed s) = true
 is_borrowed_string (input.Owned s) = false
 
--- a text that was read is borrowed from the input
+-- the parsed display string is borrowed from the input
 abbrev pub is_borrowed_text : CowStr Global → Bool
 is_borrowed_text (cow.Borrowed s) = true
 is_borrowed_text (cow.Owned s) = false
 
--- the text of a bare item that was read is borrowed from the input
+-- the text of the parsed bare item is borrowed from the input
 abbrev pub is_borrowed : GenericBareItem StringFromInput (Vec ℕ Global) TokenRef (CowStr Global) → Bool
 is_borrowed (bare.String s) = is_borrowed_string s
 is_borrowed (bare.Token t) = true
 is_borrowed (bare.DisplayString d) = is_borrowed_text d
 is_borrowed item = false
 
--- a copy is of the same kind, and what it holds is a copy as its type makes one
+-- The copy has the same kind, and its content is a copy as the content's type defines it.
 abbrev pub IsCopyBy :
     {S B T D : Type 0} → (S → S → Type 0) → (B → B → Type 0) → (T → T → Type 0) → (D → D → Type 0)
     → GenericBareItem S B T D → GenericBareItem S B T D → Type 0
@@ -99,7 +99,7 @@ IsCopyBy {S} {B} {T} s b t d (bare.Token x) copy = (y : T) × t x y × (copy ≡
 IsCopyBy s b t d (bare.Date z) copy = copy ≡ bare.Date z
 IsCopyBy {S} {B} {T} {D} s b t d (bare.DisplayString x) copy = (y : D) × d x y × (copy ≡ bare.DisplayString y)
 
--- a copy takes no memory: of a number or a boolean, and of a text or bytes that are copied without memory
+-- Copying does not allocate: for numbers and booleans, and for texts or bytes whose copy does not allocate.
 abbrev pub TakesNoMemoryBy :
     {S B T D : Type 0} → (S → Type 0) → (B → Type 0) → (T → Type 0) → (D → Type 0)
     → GenericBareItem S B T D → Type 0
@@ -109,22 +109,22 @@ TakesNoMemoryBy s b t d (bare.Token x) = t x
 TakesNoMemoryBy s b t d (bare.DisplayString x) = d x
 TakesNoMemoryBy s b t d item = ⊤
 
--- what a value of this kind holds, and nothing from a value of another kind
+-- `Some` content for a value of this kind, and `None` for every other value
 abbrev pub GivesPart : {A V P : Type 0} → (A → V) → (P → A) → V → Option P → Type 0
 GivesPart {A} kind content value r = MatchOption r ((x : A) → ¬ (value ≡ kind x)) (λ p. value ≡ kind (content p))
 
--- the same of a bare item's value, whatever its texts are
+-- the same for a bare item's value, whatever type owns its texts
 abbrev pub GivesPartBy : {S B T D A P : Type 0} → (A → BareValue) → (P → A) → GenericBareItem S B T D → Option P → Type 0
 GivesPartBy {S} {B} {T} {D} kind content item r =
     (s : S → List ℕ) (b : B → List ℕ) (t : T → List ℕ) (d : D → List ℕ)
     → GivesPart kind content (value_by s b t d item) r
 
--- the edition that a version stands for
+-- the edition of a version
 abbrev pub edition_of : Version → Edition
 edition_of version.Rfc8941 = rfc8941
 edition_of version.Rfc9651 = rfc9651
 
--- what a version prints
+-- the printed text of a version
 abbrev pub version_text : Version → List ℕ
 version_text version.Rfc8941 = codes "RFC 8941"
 version_text version.Rfc9651 = codes "RFC 9651"

@@ -5,7 +5,7 @@ use Rattle.sfv_spec.specs.Values as values
 use Rattle.sfv_bare.specs.declared.bare.BareItemType.{BareItemType}
 use Rattle.sfv_bare.specs.declared.bare.BareItemType.TheVariants as kinds
 
--- what a kind of bare item prints
+-- the printed text of a kind of bare item
 abbrev pub kind_text : BareItemType → List ℕ
 kind_text kinds.Decimal = codes "decimal"
 kind_text kinds.Integer = codes "integer"

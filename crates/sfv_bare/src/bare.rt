@@ -24,16 +24,16 @@ use std::borrow::CowStr;
 use std::fmt;
 use std::string::String as StdString;
 
-/// A bare item over the types of its texts (RFC 9651, section 3.3).
+/// A bare item, generic in the types of its texts and bytes (RFC 9651, section 3.3).
 ///
-/// `BareItem` owns its text, `RefBareItem` borrows it, and `BareItemFromInput` borrows what of it
-/// stands in the input. Each is compared by its value, and a copy has the same value; what is borrowed stays
-/// borrowed. A copy of a number, a boolean or a borrowed text takes no memory (of a display string that was read no
-/// clause says so).
+/// `BareItem` owns its text. `RefBareItem` borrows it. `BareItemFromInput` borrows text from the input where it has no
+/// escape. `==` compares values. A clone has the same value, and borrowed text stays borrowed.
 ///
-/// `From` gives the bare item of its kind, and `From` a number the integer of the same number. `TryFrom` a
-/// number fails with `ErrorKind::OutOfRange` and no index, exactly if an integer (section 3.3.1) doesn't hold
-/// it.
+/// To clone a number, a boolean or borrowed text does not allocate. For a borrowed display string of
+/// `BareItemFromInput`, no clause states this.
+///
+/// `From` a value returns the bare item of that kind, and `From` a number the integer. `TryFrom` a number fails with
+/// `ErrorKind::OutOfRange`, without index, if and only if the number is out of the range of integers (section 3.3.1).
 #[derive(Copy, Debug, PartialEq, Eq, Drop)]
 pub enum GenericBareItem<S, B, T, D> {
     /// A decimal (section 3.3.2).
@@ -54,13 +54,13 @@ pub enum GenericBareItem<S, B, T, D> {
     DisplayString(D),
 }
 
-/// A bare item that owns its text.
+/// A bare item with owned text.
 pub type BareItem = GenericBareItem<String, Vec<u8>, Token, StdString>;
 
-/// A bare item whose text is borrowed.
+/// A bare item with borrowed text.
 pub type RefBareItem<'a> = GenericBareItem<StringRef<'a>, &'a [u8], TokenRef<'a>, &'a str>;
 
-/// A bare item that was read: its text is borrowed from the input where it stands there as it is.
+/// A parsed bare item: a token, and a string or display string without escapes, borrow from the input.
 pub type BareItemFromInput<'a> = GenericBareItem<
     StringFromInput<'a>,
     Vec<u8>,
@@ -68,18 +68,19 @@ pub type BareItemFromInput<'a> = GenericBareItem<
     CowStr<'a>,
 >;
 
-/// A string that was read (RFC 9651, section 3.3.3): borrowed from the input exactly if it has no escape there.
+/// A parsed string (RFC 9651, section 3.3.3): borrowed from the input if and only if it has no escape there.
 ///
-/// It is compared by its text. A copy has the same text, and what is borrowed stays borrowed.
+/// `==` compares texts. A clone has the same text, and borrowed text stays borrowed.
 #[derive(Debug, Drop)]
 pub enum StringFromInput<'a> {
-    /// The string stands in the input as it is.
+    /// A string without escapes: a slice of the input.
     Borrowed(StringRef<'a>),
-    /// The string is written with escapes.
+    /// A string with escapes, decoded.
     Owned(String),
 }
 
-// Returns the same bytes. That each is one is known of a slice that is passed, and not of one within a bare item.
+// Returns the same bytes. The prover knows that a slice contains bytes if it is an argument, but not if it is inside a
+// bare item.
 #[inline(always)]
 #[tactic(auto, using(crate::proofs::Bytes::run_of_bytes))]
 fn lent(bytes: &[u8]) -> &[u8]
@@ -111,14 +112,13 @@ impl<S: Clone, B: Clone, T: Clone, D: Clone> Clone for GenericBareItem<S, B, T, 
 /// A version of the standard.
 #[derive(Clone, Copy, Debug, PartialEq, Eq)]
 pub enum Version {
-    /// RFC 8941, which has neither dates nor display strings.
+    /// RFC 8941. It lacks dates and display strings.
     Rfc8941,
     /// RFC 9651.
     Rfc9651,
 }
 
 impl Version {
-    /// Returns the name of the version.
     fn name(self) -> &'static str
         ensures { result.now ≡ version_text self }
     {
@@ -159,7 +159,6 @@ pub enum BareItemType {
 }
 
 impl BareItemType {
-    // Returns the name of the kind.
     fn name(self) -> &'static str
         ensures { result.now ≡ kind_text self }
     {

@@ -1,15 +1,15 @@
--- What a conversion of a number gives.
+-- The results of conversions of numbers.
 use Rattle.std.specs.Prelude.{◌≡◌, ℕ, ◌-◌, ◌<◌, ◌^◌, None, Result, MatchResult}
 use Rattle.std.specs.Prelude.{ℤ, pos, neg_ℤ, nat_abs, ◌*ℤ◌, ◌≤ℤ◌, ◌<ℤ◌}
 use Rattle.sfv_base.specs.declared.error.Error.{Error}
 use Rattle.sfv_base.specs.declared.error.ErrorKind.TheVariants.{OutOfRange}
 use Rattle.sfv_base.specs.Errors.{error_of}
 
--- what a signed type of so many bits holds
+-- the number is in the range of a signed type with this many bits
 abbrev pub IsSigned : ℕ → ℤ → Type 0
 IsSigned bits z = (neg_ℤ (pos (2 ^ (bits - 1))) ≤ℤ z) × (z <ℤ pos (2 ^ (bits - 1)))
 
--- what an unsigned type of so many bits holds
+-- the number is in the range of an unsigned type with this many bits
 abbrev pub IsUnsigned : ℕ → ℤ → Type 0
 IsUnsigned bits z = (pos 0 ≤ℤ z) × (z <ℤ pos (2 ^ bits))
 
@@ -17,10 +17,10 @@ IsUnsigned bits z = (pos 0 ≤ℤ z) × (z <ℤ pos (2 ^ bits))
 abbrev pub IsWhole : ℤ → Type 0
 IsWhole z = nat_abs z < 10 ^ 12
 
--- a decimal is held in thousandths
+-- the thousandths of a whole number
 abbrev pub in_thousandths : ℤ → ℤ
 in_thousandths z = z *ℤ pos 1000
 
--- a value of which this holds exactly if the number fits, and else that it is out of range
+-- a value with this property if the number fits, otherwise the error that it is out of range
 abbrev pub GivesIf : {A : Type 0} → Type 0 → (A → Type 0) → Result A Error → Type 0
 GivesIf fits Is r = MatchResult r (λ x. Is x × fits) (λ e. (e ≡ error_of OutOfRange None) × ¬ fits)

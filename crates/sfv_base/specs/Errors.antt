@@ -1,4 +1,4 @@
--- An error is a kind, and the place in the input where there is one.
+-- An error is a kind, and an index in the input if there is one.
 use Rattle.std.specs.Prelude.{ℕ, List, [], ◌++◌, Option, Some, None, codes, decimal as decimal_digits}
 use Rattle.sfv_spec.specs.Faults as faults
 use Rattle.sfv_base.specs.declared.error.Error.{Error}
@@ -6,7 +6,7 @@ use Rattle.sfv_base.specs.declared.error.ErrorKind.{ErrorKind}
 use Rattle.sfv_base.specs.declared.error.ErrorKind.TheVariants as kinds
 use Rattle.sfv_base.specs.Messages.{message_of}
 
--- the error of this kind, at this index of the input
+-- the error with this kind and this index
 abbrev pub error_of : ErrorKind → Option ℕ → Error
 error_of kind index = record { kind = kind; index = index }
 
@@ -20,16 +20,16 @@ index_of e = e.index
 abbrev pub out_of_memory : Error
 out_of_memory = error_of kinds.OutOfMemory None
 
--- where the error is, as it is printed
+-- the printed index of an error
 abbrev pub place_text : Option ℕ → List ℕ
 place_text None = []
 place_text (Some index) = codes " at index " ++ decimal_digits index
 
--- what an error prints
+-- the printed text of an error
 abbrev pub error_text : Error → List ℕ
 error_text e = message_of (kind_of e) ++ place_text (index_of e)
 
--- the kind of error that a fault of a text is answered with
+-- the kind of error for a fault of a text
 abbrev pub error_kind : faults.SyntaxFault → ErrorKind
 error_kind faults.trailing_characters_after_member = kinds.TrailingCharactersAfterMember
 error_kind faults.trailing_comma = kinds.TrailingComma

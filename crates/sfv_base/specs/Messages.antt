@@ -17,7 +17,7 @@ use Rattle.sfv_base.specs.declared.error.ErrorKind.TheVariants.{ExpectedQuote, I
 use Rattle.sfv_base.specs.declared.error.ErrorKind.TheVariants.{InvalidDisplayStringCharacter}
 use Rattle.sfv_base.specs.declared.error.ErrorKind.TheVariants.{UnterminatedDisplayString, ExpectedStartOfKey}
 
--- what a kind of error prints
+-- the printed text of a kind of error
 abbrev pub message_of : ErrorKind → List ℕ
 message_of OutOfMemory = codes "out of memory"
 message_of OutOfRange = codes "out of range"

@@ -1,15 +1,15 @@
--- An error of a text, or the error of a visitor.
+-- An error of parsing: a syntax error, or the error of a visitor.
 use Rattle.std.specs.Prelude.{ℕ, List, Option, Some, None}
 use Rattle.sfv_base.specs.declared.error.ParseError.{ParseError}
 use Rattle.sfv_base.specs.declared.error.ParseError.TheVariants.{Syntax, Visitor}
 use Rattle.sfv_base.specs.Errors.{index_of, error_text}
 
--- where the text is wrong
+-- the index of a syntax error
 abbrev pub parse_index : {E : Type 0} → ParseError E → Option ℕ
 parse_index (Syntax e) = index_of e
 parse_index (Visitor _) = None
 
--- what it prints, where the error of the visitor prints by output
+-- the printed text of an error; `output` is the printed text of a visitor's error
 abbrev pub parse_output : {E : Type 0} → (E → Option (List ℕ)) → ParseError E → Option (List ℕ)
 parse_output output (Syntax e) = Some (error_text e)
 parse_output output (Visitor e) = output e

@@ -1,4 +1,4 @@
-//! The classes of bytes of which runs are read, as one table.
+//! One table of the classes of bytes that runs consist of.
 
 ghost use Rattle.std.specs.Prelude.{◌≡◌};
 ghost use Rattle.sfv_base.specs.Rows.{row_of};
@@ -15,7 +15,7 @@ pub(crate) const INNER_KEY: u8 = 16;
 
 pub(crate) const SYMBOL: u8 = 32;
 
-/// The sum of the classes of each byte.
+/// For each byte, the sum of the classes that contain it.
 #[rattlefmt::skip]
 static ROWS: [u8; 256] = [
     0, 0, 0, 0, 0, 0, 0, 0, 0, 0, 0, 0, 0, 0, 0, 0,
@@ -36,7 +36,7 @@ static ROWS: [u8; 256] = [
     0, 0, 0, 0, 0, 0, 0, 0, 0, 0, 0, 0, 0, 0, 0, 0,
 ];
 
-/// The sum of the classes of the byte.
+/// Returns the sum of the classes that contain the byte.
 #[inline(always)]
 pub(crate) fn row(byte: u8) -> u8
     ensures { result ≡ row_of byte }

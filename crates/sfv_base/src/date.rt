@@ -8,10 +8,11 @@ ghost use Rattle.sfv_base.specs.Numbers.{integer_of, seconds_of};
 use crate::integer::Integer;
 use std::fmt;
 
-/// A point in time, in whole seconds from the Unix epoch (RFC 9651, section 3.3.7). RFC 8941 has none.
-/// `Default` is the epoch, comparisons and `Hash` go by the seconds, and `Display` prints the canonical text.
+/// A point in time, in whole seconds from the Unix epoch (RFC 9651, section 3.3.7). RFC 8941 lacks dates.
 ///
-/// A contract speaks of its seconds as `seconds_of`.
+/// `Default` is the epoch. Comparisons and `Hash` use the seconds. `Display` prints the canonical text.
+///
+/// Contracts name the seconds `seconds_of`.
 #[derive(Clone, Copy, Debug, PartialEq, Eq, PartialOrd, Ord, Hash)]
 pub struct Date {
     seconds: Integer,
@@ -40,7 +41,7 @@ impl Date {
         self.seconds
     }
 
-    /// Returns the date of so many seconds from the Unix epoch.
+    /// Returns the date that is `v` seconds from the Unix epoch.
     pub fn from_unix_seconds(v: Integer) -> Date
         ensures { seconds_of result ≡ integer_of v }
     {

@@ -11,13 +11,13 @@ use crate::error::Error;
 use crate::integer::Integer;
 use std::fmt;
 
-/// A number of at most twelve digits before its point and three after it (RFC 9651, section 3.3.2).
+/// A number with at most twelve digits before its point and three after it (RFC 9651, section 3.3.2).
 ///
-/// A conversion from a whole number gives the same number. One that may fail fails with
-/// `ErrorKind::OutOfRange`, exactly if the number has more than twelve digits.
-/// `Default` is zero, comparisons and `Hash` go by the number, and `Display` prints its canonical text.
+/// A conversion from a whole number keeps the number. `TryFrom` fails with `ErrorKind::OutOfRange` if and only if the
+/// number has more than twelve digits. `Default` is zero. Comparisons and `Hash` use the number. `Display` prints the
+/// canonical text.
 ///
-/// A contract speaks of its thousandths as `thousandths_of`.
+/// Contracts name the thousandths `thousandths_of`.
 #[derive(Clone, Copy, Debug, PartialEq, Eq, PartialOrd, Ord, Hash)]
 pub struct Decimal {
     thousandths: Integer,
@@ -34,7 +34,7 @@ impl Decimal {
         thousandths: Integer::MAX,
     };
 
-    /// `0.0`.
+    /// Zero, which is written `0.0`.
     pub const ZERO: Decimal = Decimal {
         thousandths: Integer::ZERO,
     };
@@ -46,7 +46,7 @@ impl Decimal {
         self.thousandths
     }
 
-    /// Returns the decimal of so many thousandths.
+    /// Returns the decimal of `v` thousandths.
     pub fn from_integer_scaled_1000(v: Integer) -> Decimal
         ensures { thousandths_of result ≡ integer_of v }
     {
@@ -63,7 +63,7 @@ impl Decimal {
         }
     }
 
-    // Returns what is printed before the digits.
+    // Returns `-` for a negative number, and otherwise nothing.
     fn sign(&self) -> &'static str
         ensures { result.now ≡ minus_text (is_negative (thousandths_of self.now)) }
     {
@@ -74,7 +74,7 @@ impl Decimal {
         }
     }
 
-    // Returns the thousandths without their sign.
+    // Returns the absolute value in thousandths.
     fn magnitude(&self) -> u64
         ensures { result ≡ nat_abs (thousandths_of self.now) }
     {

@@ -1,4 +1,4 @@
-//! What is wrong with an input, and where.
+//! The errors of the library.
 
 ghost use Rattle.std.specs.Prelude.{◌≡◌, ◌++◌, ◌↔◌, ℕ, List, [], Some, None, IsTrue, codes};
 ghost use Rattle.sfv_base.specs.Messages.{message_of};
@@ -7,77 +7,84 @@ ghost use Rattle.sfv_base.specs.Errors.{error_of, kind_of, index_of, out_of_memo
 use std::alloc::{AllocError, AllocFailed};
 use std::fmt;
 
-/// What kind of thing is wrong.
+/// The kind of an error.
 ///
-/// Each kind says at which index its error stands: a zero-based offset in bytes into the input. `OutOfMemory`,
-/// `OutOfRange` and `Empty` have none. `Display` prints the kind's text.
+/// Each kind says at which index its error is: a zero-based offset in bytes into the input. `OutOfMemory`, `OutOfRange`
+/// and `Empty` have no index. `Display` prints `message`.
 #[derive(Clone, Copy, Debug, PartialEq, Eq)]
 pub enum ErrorKind {
-    /// Out of memory.
+    /// Memory ran out.
     OutOfMemory,
-    /// A number isn't in the range of its type.
+    /// A number is out of the range of its type.
     OutOfRange,
-    /// A key or a token is made from an empty text.
+    /// An empty text is converted to a key or a token.
     Empty,
-    /// A key, a token or a string is made from a text with a byte that isn't of its class: at the first such byte.
+    /// A text that is converted to a key, a token or a string has a byte that is not allowed there. The error is at the
+    /// first such byte.
     InvalidCharacter,
-    /// After a member, and spaces and tabs, stands a byte other than a comma: at that byte.
+    /// A member, and spaces and tabs, are followed by a byte other than a comma. The error is at that byte.
     TrailingCharactersAfterMember,
-    /// After a comma, and spaces and tabs, the input ends: at the comma.
+    /// The input ends after a comma, and spaces and tabs. The error is at the comma.
     TrailingComma,
-    /// After an item and spaces stands a byte: at that byte.
+    /// An item and spaces are followed by another byte. The error is at that byte.
     TrailingCharactersAfterParsedValue,
-    /// After an item of an inner list stands a byte other than a space or `)`: at that byte.
+    /// An item of an inner list is followed by a byte other than a space or `)`. The error is at that byte.
     ExpectedInnerListDelimiter,
-    /// The input ends directly after the `(` of an inner list or after one of its items: at the end.
+    /// The input ends directly after the `(` of an inner list or after one of its items. The error is at the end of the
+    /// input.
     UnterminatedInnerList,
-    /// No bare item begins where one is wanted: there, or at the end.
+    /// A bare item is expected, and none begins. The error is at the next byte, or at the end of the input.
     ExpectedStartOfBareItem,
-    /// After `?` stands neither `0` nor `1`: there, or at the end.
+    /// A `?` is followed by neither `0` nor `1`. The error is at the byte after it, or at the end of the input.
     ExpectedBoolean,
-    /// A string holds a byte that isn't printable ASCII, not directly after a backslash that escapes: at that byte.
+    /// A string has a byte that is not printable ASCII. The byte is not directly after the backslash of an escape. The
+    /// error is at that byte.
     InvalidStringCharacter,
-    /// The input ends in a string, not directly after a backslash that escapes: at the end.
+    /// The input ends in a string, but not directly after the backslash of an escape. The error is at the end of the
+    /// input.
     UnterminatedString,
-    /// The input ends in an escape of a string or a display string: at the end.
+    /// The input ends in an escape of a string or a display string. The error is at the end of the input.
     UnterminatedEscapeSequence,
-    /// An escape of a string or a display string is malformed: at its first byte that is wrong.
+    /// An escape of a string or a display string is malformed. The error is at its first wrong byte.
     InvalidEscapeSequence,
-    /// No colon closes a byte sequence: at the end.
+    /// No colon closes a byte sequence. The error is at the end of the input.
     UnterminatedByteSequence,
-    /// The content of a byte sequence is no Base64: at the first byte past the longest beginning of the content
-    /// that some Base64 text continues, or at the last byte of the content where there is none.
+    /// The content of a byte sequence is not Base64. The error is at the first byte after the longest prefix that some
+    /// Base64 text extends. If that prefix is the whole content, the error is at the last byte of the content.
     InvalidByteSequence,
-    /// No digit stands where a number's digits begin: there, or at the end.
+    /// The digits of a number are expected, and none follows. The error is at the next byte, or at the end of the
+    /// input.
     ExpectedDigit,
-    /// A number has a sixteenth digit before any point: at that digit.
+    /// A number has a sixteenth digit before any point. The error is at the digit.
     TooManyDigits,
-    /// A decimal has more than twelve digits before its point: at the point.
+    /// A decimal has more than twelve digits before its point. The error is at the point.
     TooManyDigitsBeforeDecimalPoint,
-    /// A decimal has more than three digits after its point: at the fourth.
+    /// A decimal has more than three digits after its point. The error is at the fourth.
     TooManyDigitsAfterDecimalPoint,
-    /// No digit stands after the point of a decimal: at the point.
+    /// The point of a decimal is followed by no digit. The error is at the point.
     TrailingDecimalPoint,
-    /// A date stands in a field under RFC 8941: at its `@`.
+    /// A field under RFC 8941 has a date. The error is at its `@`.
     Rfc8941Date,
-    /// A decimal stands where a date has its seconds: at the `@`.
+    /// The seconds of a date are a decimal. The error is at the `@`.
     NonIntegerDate,
-    /// A display string stands in a field under RFC 8941: at its `%`.
+    /// A field under RFC 8941 has a display string. The error is at its `%`.
     Rfc8941DisplayString,
-    /// No quote opens a display string after its `%`: there, or at the end.
+    /// The `%` of a display string is not followed by a quote. The error is at the byte after it, or at the end of the
+    /// input.
     ExpectedQuote,
-    /// The bytes of a display string aren't UTF-8: where the first byte past their longest valid beginning is written.
+    /// The bytes of a display string are not UTF-8. The error is where the first byte after their longest valid prefix
+    /// is written.
     InvalidUtf8InDisplayString,
-    /// A display string holds a byte that isn't printable ASCII, outside an escape: at that byte.
+    /// A display string has a byte that is not printable ASCII, outside an escape. The error is at that byte.
     InvalidDisplayStringCharacter,
-    /// The input ends in a display string, outside an escape: at the end.
+    /// The input ends in a display string, outside an escape. The error is at the end of the input.
     UnterminatedDisplayString,
-    /// No key begins where one is wanted: there, or at the end.
+    /// A key is expected, and none begins. The error is at the next byte, or at the end of the input.
     ExpectedStartOfKey,
 }
 
 impl ErrorKind {
-    /// Returns the text of the kind.
+    /// Returns the text of the kind, in English.
     pub fn message(self) -> &'static str
         ensures { result.now ≡ message_of self }
     {
@@ -126,10 +133,10 @@ impl fmt::Display for ErrorKind {
     }
 }
 
-/// An error of this library: its kind and, where it has one, its place.
+/// An error of the library: a kind, and the index of most kinds.
 ///
-/// `Display` prints the text of its kind, and ` at index N` after it where it has an index N. `OutOfMemory` and the
-/// allocator's own errors become the kind `OutOfMemory` without an index.
+/// `Display` prints the text of the kind, and ` at index N` if there is an index. `OutOfMemory` and the allocator's
+/// errors convert to the kind `OutOfMemory`, without index.
 #[derive(Clone, Copy, Debug, PartialEq, Eq)]
 pub struct Error {
     kind: ErrorKind,
@@ -139,34 +146,34 @@ pub struct Error {
 impl Error {
     ghost use Rattle.sfv_base.specs.Errors.{error_of, kind_of, index_of, out_of_memory};
 
-    // A number that its type doesn't hold has no place in an input.
+    // A number that is out of range has no index.
     pub(crate) const OUT_OF_RANGE: Error = Error {
         kind: ErrorKind::OutOfRange,
         index: None,
     };
 
-    /// Returns the error of this kind, at this zero-based offset in bytes into the input if it has one.
+    /// Creates an error of this kind. The index is a zero-based offset in bytes into the input.
     pub fn with_kind(kind: ErrorKind, index: Option<usize>) -> Error
         ensures { result ≡ error_of kind index }
     {
         Error { kind, index }
     }
 
-    /// Returns the error of this kind at this zero-based offset in bytes into the input.
+    /// Creates an error of this kind at this zero-based offset in bytes into the input.
     pub fn at(kind: ErrorKind, index: usize) -> Error
         ensures { result ≡ error_of kind (Some index) }
     {
         Error::with_kind(kind, Some(index))
     }
 
-    /// Returns what kind of thing is wrong.
+    /// Returns the kind of the error.
     pub fn kind(&self) -> ErrorKind
         ensures { result ≡ kind_of self.now }
     {
         self.kind
     }
 
-    /// Returns the zero-based offset in bytes into the input at which the error stands, if it has one.
+    /// Returns the index of the error: a zero-based offset in bytes into the input, or `None`.
     pub fn index(&self) -> Option<usize>
         ensures { result ≡ index_of self.now }
     {
@@ -180,7 +187,7 @@ impl Error {
         self.kind.message()
     }
 
-    /// Returns whether the kind is `OutOfMemory`.
+    /// Returns `true` if the kind is `OutOfMemory`.
     pub fn is_out_of_memory(&self) -> bool
         ensures { IsTrue result ↔ (kind_of self.now ≡ ErrorKind.OutOfMemory) }
     {
@@ -202,7 +209,7 @@ impl fmt::Display for Error {
 
 impl std::error::Error for Error {}
 
-/// Out of memory, which is also what `Display` prints.
+/// The error that memory ran out.
 #[derive(Clone, Copy, Debug, PartialEq, Eq)]
 pub struct OutOfMemory;
 
@@ -252,21 +259,20 @@ impl<T: Drop> From<AllocFailed<T>> for Error {
     }
 }
 
-/// Why a text was not read: it is rejected, or its visitor, whose errors are of type `E`, failed.
-/// `Display` prints what it holds.
+/// An error of parsing with a visitor, whose errors have the type `E`. `Display` prints the error that it contains.
 #[derive(Debug, Drop)]
 pub enum ParseError<E> {
-    /// The text is malformed, or memory ran out.
+    /// The input is malformed, or memory ran out.
     Syntax(Error),
-    /// The visitor's own error.
+    /// The visitor failed.
     Visitor(E),
 }
 
 impl<E> ParseError<E> {
     ghost use Rattle.sfv_base.specs.ParseErrors.{parse_index};
 
-    /// Returns the zero-based offset in bytes into the input at which the error stands, if it has one. A
-    /// visitor's error has none.
+    /// Returns the index of a syntax error: a zero-based offset in bytes into the input, or `None`. A visitor's error
+    /// has no index.
     pub fn index(&self) -> Option<usize>
         ensures { result ≡ parse_index self.now }
     {

@@ -9,12 +9,12 @@ use std::fmt;
 
 /// An integer of at most fifteen digits (RFC 9651, section 3.3.1).
 ///
-/// A conversion from or to another number gives the same number. One that may fail fails with
-/// `ErrorKind::OutOfRange`, exactly if the number isn't in the range of the type that it goes to. Those to a type of
-/// `std` are in scope where this crate is listed; `to_i64` is everywhere.
-/// `Default` is zero, comparisons and `Hash` go by the number, and `Display` prints its canonical text.
+/// A conversion from or to another type keeps the number. `TryFrom` fails with `ErrorKind::OutOfRange` if and only if
+/// the number is out of the range of the target type. The conversions to types of `std` exist in a crate that depends
+/// on this crate directly; `to_i64` exists everywhere. `Default` is zero. Comparisons and `Hash` use the number.
+/// `Display` prints the canonical text.
 ///
-/// A contract speaks of its number as `integer_of`.
+/// Contracts name the number `integer_of`.
 #[derive(Clone, Copy, Debug, PartialEq, Eq, PartialOrd, Ord, Hash)]
 pub struct Integer {
     value: i64,
@@ -39,7 +39,7 @@ impl Integer {
     /// Zero.
     pub const ZERO: Integer = Integer { value: 0 };
 
-    // Takes a number that is known to be in range.
+    // Wraps a number without a check.
     pub(crate) fn from_validated_i64(v: i64) -> Integer
         requires { IsInRange v }
         ensures { integer_of result ≡ v }
@@ -47,7 +47,7 @@ impl Integer {
         Integer { value: v }
     }
 
-    /// Returns the integer of a number from -999999999999999 to 999999999999999.
+    /// Returns the integer of a number from -999999999999999 to 999999999999999. The caller proves the range.
     pub fn constant(v: i64) -> Integer
         requires { IsInRange v }
         ensures { integer_of result ≡ v }
@@ -63,7 +63,7 @@ impl Integer {
         self.value
     }
 
-    // Tests the range.
+    // Converts a number in range, and fails with `OUT_OF_RANGE` otherwise.
     fn in_range(v: i128) -> Result<Integer, Error>
         ensures { GivesIf (IsInRange v) (λ n. integer_of n ≡ v) result }
     {

@@ -1,6 +1,7 @@
-//! Classes of bytes by the halves of a byte: a table has, at each low half, a bit for each high half
-//! that goes with it. So one look-up for each half tells whether a byte is of the class, for 32
-//! bytes at once.
+//! Classes of bytes by table look-ups, for 32 bytes at once.
+//!
+//! For each low half of a byte, the table of a class has the bits of the high halves that complete a byte of the class.
+//! So one look-up for each half says whether a byte is of the class.
 
 ghost use Rattle.std.specs.Prelude.{◌≡◌, ◌<◌, map, slice_index};
 ghost use Rattle.std.specs.Simd.Lanes.{Each1};
@@ -10,10 +11,10 @@ use std::simd::prelude::*;
 
 pub(crate) const LANES: usize = 32;
 
-// The bit of each high half of a byte. No class has a byte of 0x80 or more.
+// For each high half of a byte, its bit. No class contains a byte of 0x80 or more.
 const HIGH: [u8; 16] = [1, 2, 4, 8, 16, 32, 64, 128, 0, 0, 0, 0, 0, 0, 0, 0];
 
-// What the table has at each place.
+// Returns the entries of the table at these indices.
 #[inline(always)]
 fn looked_up(table: &[u8; 16], places: u8x32) -> u8x32
     requires { Each1 (λ j. j < 16) places }
@@ -26,8 +27,7 @@ fn looked_up(table: &[u8; 16], places: u8x32) -> u8x32
     twice.swizzle_dyn_within::<16>(places)
 }
 
-/// The bytes outside the class of which this is the table, as bits, of which the lowest stands for
-/// the first byte.
+/// Returns a mask of the bytes outside the class of this table. Bit 0 is for the first byte.
 #[inline(always)]
 pub(crate) fn unmarked(low: &[u8; 16], lanes: u8x32) -> u64
     ensures { result ≡ outside_mask (is_marked low.now) lanes }

@@ -1,5 +1,4 @@
-//! The values that other values of structured fields (RFC 9651) are made of: faults, numbers, and
-//! classes of bytes and where runs of them end.
+//! The base of structured fields (RFC 9651): errors, numbers, classes of bytes, and searches for the end of a run.
 #![tactic(auto)]
 
 mod classes;

@@ -1,4 +1,4 @@
-//! Where runs of bytes of a class end.
+//! Searches for the end of a run of bytes of one class.
 
 ghost use Rattle.std.specs.Prelude.{◌≡◌, ◌++◌, ◌≤◌, ◌<◌, ℕ, Bool, IsTrue, IsFalse, length, take, slice_index};
 ghost use Rattle.std.specs.Prelude.{slice_range};
@@ -15,21 +15,21 @@ use crate::classes::{
 use crate::lanes::{LANES, unmarked};
 use std::simd::prelude::*;
 
-/// A class of bytes, of which runs are read. No byte of it is above 0x7f.
+/// A class of bytes for runs. It contains no byte of 0x80 or more.
 pub trait RunClass {
     ghost class: { ℕ → Bool };
 
-    /// The class as a table: at the low half of a byte, a bit for each high half that makes a byte
-    /// of the class with it.
+    /// Returns the table of the class: for each low half of a byte, the bits of the high halves that complete a byte of
+    /// the class.
     fn table() -> &'static [u8; 16]
         ensures { IsTrue (is_table_of class result.now) };
 
-    /// Whether the byte is of the class.
+    /// Returns `true` if the byte is of the class.
     fn has(byte: u8) -> bool
         ensures { result ≡ class byte };
 }
 
-/// The bytes that a string may hold: printable ASCII, from 0x20 to 0x7e.
+/// The bytes that a string may contain: printable ASCII, from 0x20 to 0x7e.
 pub struct StringByte;
 
 impl RunClass for StringByte {
@@ -49,7 +49,7 @@ impl RunClass for StringByte {
     }
 }
 
-/// The bytes that a string writes for themselves: its bytes other than the quote and the backslash.
+/// The bytes of a string that are written without an escape: all except the quote and the backslash.
 pub struct PlainInString;
 
 impl RunClass for PlainInString {
@@ -69,8 +69,8 @@ impl RunClass for PlainInString {
     }
 }
 
-/// The bytes that a display string writes for themselves: printable ASCII other than the quote and
-/// the percent sign.
+/// The bytes of a display string that are written without an escape: printable ASCII except the quote and the percent
+/// sign.
 pub struct PlainInDisplayString;
 
 impl RunClass for PlainInDisplayString {
@@ -90,7 +90,7 @@ impl RunClass for PlainInDisplayString {
     }
 }
 
-/// The bytes that may stand in a token after its first.
+/// The bytes that a token may contain after its first.
 pub struct InnerToken;
 
 impl RunClass for InnerToken {
@@ -110,7 +110,7 @@ impl RunClass for InnerToken {
     }
 }
 
-/// The bytes that may stand in a key after its first.
+/// The bytes that a key may contain after its first.
 pub struct InnerKey;
 
 impl RunClass for InnerKey {
@@ -130,7 +130,7 @@ impl RunClass for InnerKey {
     }
 }
 
-/// The symbols of Base64.
+/// The symbols of Base64, without the padding.
 pub struct Symbol;
 
 impl RunClass for Symbol {
@@ -151,7 +151,7 @@ impl RunClass for Symbol {
     }
 }
 
-// The bytes that aren't of the class, as bits, of which the lowest stands for the first.
+// Returns a mask of the bytes outside the class. Bit 0 is for the first byte.
 #[inline(always)]
 fn outside<C: RunClass>(lanes: u8x32) -> u64
     ensures { result ≡ outside_mask C.class lanes }
@@ -159,10 +159,10 @@ fn outside<C: RunClass>(lanes: u8x32) -> u64
     unmarked(C::table(), lanes)
 }
 
-// How many bytes of a long text are looked at one by one before blocks are. Most runs are shorter.
+// How many bytes of a long text are tested one at a time, before blocks are. Most runs are shorter.
 const NEAR: usize = 12;
 
-// Where the run ends, byte by byte.
+// Finds the end of the run, byte by byte.
 #[inline(always)]
 fn byte_end<C: RunClass>(bytes: &[u8]) -> usize
     ensures { result ≡ prefix_len C.class bytes.now }
@@ -174,7 +174,7 @@ fn byte_end<C: RunClass>(bytes: &[u8]) -> usize
     end
 }
 
-// Where the run ends, by blocks.
+// Finds the end of the run, block by block.
 #[inline(never)]
 fn block_end<C: RunClass>(bytes: &[u8]) -> usize
     ensures { result ≡ prefix_len C.class bytes.now }
@@ -191,8 +191,7 @@ fn block_end<C: RunClass>(bytes: &[u8]) -> usize
     end + byte_end::<C>(rest)
 }
 
-/// Where the run of the class that the bytes begin with ends: at the first byte outside the class,
-/// or at the end of the bytes.
+/// Returns the length of the longest run of the class at the start of `bytes`.
 #[inline]
 #[tactic(auto, using(crate::proofs::RunEnds::end_within, crate::proofs::RunEnds::end_each, crate::proofs::RunEnds::end_stops))]
 pub fn run_end<C: RunClass>(bytes: &[u8]) -> usize
@@ -212,8 +211,7 @@ pub fn run_end<C: RunClass>(bytes: &[u8]) -> usize
     block_end::<C>(bytes)
 }
 
-/// Where the run of the class that the bytes begin with ends, as `run_end` has it: by blocks from the first byte on, for a
-/// class whose runs are mostly long.
+/// Returns the same as `run_end`. Tests blocks from the first byte on, which is faster for a class with long runs.
 #[inline(always)]
 #[tactic(auto, using(crate::proofs::RunEnds::end_within, crate::proofs::RunEnds::end_each, crate::proofs::RunEnds::end_stops))]
 pub fn long_run_end<C: RunClass>(bytes: &[u8]) -> usize
@@ -225,7 +223,7 @@ pub fn long_run_end<C: RunClass>(bytes: &[u8]) -> usize
     block_end::<C>(bytes)
 }
 
-/// Where the run of the class that begins at `start` ends.
+/// Returns the index at which the longest run of the class from `start` on ends.
 #[inline]
 pub fn run_end_from<C: RunClass>(bytes: &[u8], start: usize) -> usize
     requires { start ≤ length bytes.now }
@@ -237,7 +235,7 @@ pub fn run_end_from<C: RunClass>(bytes: &[u8], start: usize) -> usize
     start + run_end::<C>(&bytes[start..])
 }
 
-/// Splits the bytes where the run of the class that they begin with ends.
+/// Splits `bytes` after the longest run of the class at its start.
 #[inline]
 pub fn split_run<C: RunClass>(bytes: &[u8]) -> (&[u8], &[u8])
     ensures whole { bytes.now ≡ result.0.now ++ result.1.now }

@@ -1,4 +1,4 @@
-//! Functions that make a value in short.
+//! Short names for constructors.
 
 ghost use Rattle.std.specs.Prelude.{◌≡◌};
 ghost use Rattle.sfv_spec.specs.Values.{IsInRange};
@@ -6,7 +6,7 @@ ghost use Rattle.sfv_base.specs.Numbers.{integer_of};
 
 use crate::integer::Integer;
 
-/// Returns the integer of this number, which is from -999999999999999 to 999999999999999: `Integer::constant` in short.
+/// Returns the integer of a number from -999999999999999 to 999999999999999: short for `Integer::constant`.
 pub fn integer(v: i64) -> Integer
     requires { IsInRange v }
     ensures { integer_of result ≡ v }

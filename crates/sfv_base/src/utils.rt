@@ -5,7 +5,7 @@ ghost use Rattle.sfv_spec.specs.Classes.{is_token_start, is_key_start};
 ghost use Rattle.sfv_spec.specs.Strings.{is_escaped_in_string};
 ghost use Rattle.sfv_base.specs.Digits.{digit_row, digit_value};
 
-/// Whether a string writes the byte after a backslash.
+/// Returns `true` if a string has this byte only after a backslash.
 #[inline(always)]
 pub fn is_escaped_in_string(c: u8) -> bool
     ensures { result ≡ is_escaped_in_string c }
@@ -13,7 +13,7 @@ pub fn is_escaped_in_string(c: u8) -> bool
     matches!(c, b'"' | b'\\')
 }
 
-/// Whether a token may begin with the byte.
+/// Returns `true` if the byte may begin a token.
 #[inline(always)]
 pub fn is_allowed_start_token_char(c: u8) -> bool
     ensures { result ≡ is_token_start c }
@@ -21,7 +21,7 @@ pub fn is_allowed_start_token_char(c: u8) -> bool
     matches!(c, b'A'..=b'Z' | b'a'..=b'z' | b'*')
 }
 
-/// Whether a key may begin with the byte.
+/// Returns `true` if the byte may begin a key.
 #[inline(always)]
 pub fn is_allowed_start_key_char(c: u8) -> bool
     ensures { result ≡ is_key_start c }
@@ -29,10 +29,10 @@ pub fn is_allowed_start_key_char(c: u8) -> bool
     matches!(c, b'a'..=b'z' | b'*')
 }
 
-// The number of values of a digit, which stands for no digit in the table.
+// The base of the digits. In the table it marks a byte that is not a digit.
 const BASE: u8 = 16;
 
-/// The value of each byte as a digit of an escape.
+/// For each byte, its value as a digit of an escape, or `BASE`.
 #[rattlefmt::skip]
 static DIGITS: [u8; 256] = [
     16, 16, 16, 16, 16, 16, 16, 16, 16, 16, 16, 16, 16, 16, 16, 16,
@@ -53,7 +53,7 @@ static DIGITS: [u8; 256] = [
     16, 16, 16, 16, 16, 16, 16, 16, 16, 16, 16, 16, 16, 16, 16, 16,
 ];
 
-// The row of the byte.
+// Returns the entry of the byte in `DIGITS`.
 #[inline(always)]
 fn digit_at(byte: u8) -> u8
     ensures { result ≡ digit_row byte }
@@ -61,7 +61,7 @@ fn digit_at(byte: u8) -> u8
     DIGITS[usize::from(byte)]
 }
 
-/// The value of the byte as a digit of an escape in a display string, or `None` where it is none.
+/// Returns the value of a lower-case hexadecimal digit, or `None` for any other byte.
 #[inline(always)]
 pub fn escape_digit_value(c: u8) -> Option<u8>
     ensures { result ≡ digit_value c }

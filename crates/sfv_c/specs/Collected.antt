@@ -1,4 +1,4 @@
--- Events that are collected, and then put into lent memory, whole or not at all.
+-- Events that are collected first, and then copied into the caller's memory, all or none.
 use Rattle.std.specs.Prelude.{◌≡◌, ℕ, List, [], ◌∷◌, length, drop, ◌++◌, Result, Ok, Err, nat_le, ◌&&◌}
 use Rattle.std.specs.Prelude.{if◌then◌else◌, fold}
 use Rattle.sfv.specs.Values.{Edition, FieldKind, RawField}
@@ -24,7 +24,7 @@ collected_of s = record { rows = s.rows.items; bytes = s.bytes.items }
 abbrev pub nothing : Collected
 nothing = record { rows = []; bytes = [] }
 
--- an event more: its row, and the bytes of its key and of its value
+-- one more event: its row, and the bytes of its key and its value
 abbrev pub collect_parts : Collected → Parts → Collected
 collect_parts m p = record {
   rows = m.rows ++ row_of (length m.bytes) (length (m.bytes ++ p.key)) p ∷ [];
@@ -41,7 +41,7 @@ pub record AreEvents (edition : Edition) (kind : FieldKind) (input : List ℕ) (
   pub only : (other : RawField kind) → IsFieldText edition kind other input → other ≡ raw
   pub collected : m ≡ fold collect nothing (events kind raw)
 
--- what is left in the buffers, and the answer: both are written where both are long enough, and else neither is
+-- the buffers and the result: both buffers are written if both are large enough, otherwise neither is
 abbrev pub copied : Collected → List Row → List ℕ → List Row × List ℕ × Answer
 copied m rows bytes =
     if nat_le (length m.rows) (length rows) && nat_le (length m.bytes) (length bytes)
@@ -52,21 +52,21 @@ copied m rows bytes =
     )
     else (rows, bytes, answer 2 0 0 (length m.bytes) (length m.rows))
 
--- both buffers as they were, and the answer of an argument that names nothing
+-- both buffers unchanged, and the result for an argument without a meaning
 abbrev pub left_alone : List Row → List ℕ → List Row × List ℕ × Answer
 left_alone rows bytes = (rows, bytes, bad_argument)
 
--- what a reading comes to: the events that are collected, or its error
+-- the outcome of parsing: the collected events, or the error
 abbrev pub IsReading : Edition → FieldKind → List ℕ → Result Collected Error → Type 0
 IsReading edition kind input (Ok m) = AreEvents edition kind input m
 IsReading edition kind input (Err e) = IsParseError edition kind input e
 
--- both buffers and the answer after it: where it has an error, both are as they were
+-- both buffers and the result after this outcome; an error leaves both unchanged
 abbrev pub put_of : List Row → List ℕ → Result Collected Error → List Row × List ℕ × Answer
 put_of rows bytes (Ok m) = copied m rows bytes
 put_of rows bytes (Err e) = (rows, bytes, refusal e)
 
--- what a reading leaves in the buffers, and answers: the events of the only field, if there is room; or its error
+-- the buffers and the result after parsing: the events of the only field, if they fit; or the error
 pub record PutsEvents (edition : Edition) (kind : FieldKind) (input : List ℕ) (rows : List Row) (bytes : List ℕ)
     (left : List Row × List ℕ × Answer) : Type 0 where
   pub outcome : Result Collected Error

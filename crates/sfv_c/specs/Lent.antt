@@ -1,4 +1,4 @@
--- Events that are written into lent memory, as far as there is room.
+-- Events that are written into the caller's memory during parsing, as far as they fit.
 use Rattle.std.specs.Prelude.{◌≡◌, ℕ, ◌+◌, ◌-◌, ◌^◌, min, List, length, take, drop, ◌++◌, Result, Ok, Err, nat_lt, nat_le, ◌&&◌}
 use Rattle.std.specs.Prelude.{if◌then◌else◌, slice_set, fold}
 use Rattle.sfv.specs.Values.{Edition, FieldKind, RawField}
@@ -14,7 +14,7 @@ use Rattle.sfv_c.specs.declared.lent.Visited.TheVariants as visited
 use Rattle.sfv_c.specs.Answers.{answer, refusal, IsReadingError}
 use Rattle.sfv_c.specs.Rows.{Parts, parts_of, row_of}
 
--- lent memory: its rows and how many are wanted so far, its bytes and how many are wanted so far
+-- the caller's memory: its rows and the number needed so far, its bytes and the number needed so far
 pub record Memory : Type 0 where
   pub rows : List Row
   pub count : ℕ
@@ -24,15 +24,15 @@ pub record Memory : Type 0 where
 abbrev pub memory_of : LentRows → Memory
 memory_of s = record { rows = s.rows.now; count = s.count; bytes = s.bytes.now; used = s.used }
 
--- memory as it is lent: nothing is wanted yet
+-- the memory at the start: nothing is needed yet
 abbrev pub lent_memory : List Row → List ℕ → Memory
 lent_memory rows bytes = record { rows = rows; count = 0; bytes = bytes; used = 0 }
 
--- a sum as it is counted: it ends at the largest number of 64 bits
+-- a saturating sum, at most the largest 64-bit number
 abbrev pub counted : ℕ → ℕ
 counted n = min n (2 ^ 64 - 1)
 
--- the bytes with the text there, if there is room
+-- the bytes with this text at this place, if it fits
 abbrev pub put_bytes : List ℕ → ℕ → List ℕ → List ℕ
 put_bytes bytes at text =
     if nat_le (at + length text) (length bytes) then take at bytes ++ (text ++ drop (at + length text) bytes) else bytes
@@ -46,7 +46,7 @@ keep_bytes m text = record {
   used = counted (m.used + length text);
 }
 
--- the rows with the row there, if there is room
+-- the rows with this row at this place, if it fits
 abbrev pub put_row : List Row → ℕ → Row → List Row
 put_row rows at row = if nat_lt at (length rows) then slice_set rows at row else rows
 
@@ -59,26 +59,26 @@ keep_row m row = record {
   used = m.used;
 }
 
--- the memory after an event: its key, its value's bytes and then its row
+-- the memory after an event: its key, the bytes of its value, and then its row
 abbrev pub keep_parts : Memory → Parts → Memory
 keep_parts m p = keep_row (keep_bytes (keep_bytes m p.key) p.value.bytes) (row_of m.used (counted (m.used + length p.key)) p)
 
 abbrev pub keep_event : Memory → TreeEvent → Memory
 keep_event m e = keep_parts m (parts_of e)
 
--- these are the events of the only field that the grammar gives the input, kept in order
+-- the memory after the events of the only field that the grammar gives the input, in order
 pub record AreKept (edition : Edition) (kind : FieldKind) (input : List ℕ) (from to : Memory) : Type 0 where
   pub raw : RawField kind
   pub accepted : IsFieldText edition kind raw input
   pub only : (other : RawField kind) → IsFieldText edition kind other input → other ≡ raw
   pub memory : to ≡ fold keep_event from (events kind raw)
 
--- so they were; or the input has this error
+-- the same, or the input has this error
 abbrev pub IsVisitedAs : Edition → FieldKind → List ℕ → LentRows → Visited → Type 0
 IsVisitedAs edition kind input s (visited.Done t) = AreKept edition kind input (memory_of s) (memory_of t)
 IsVisitedAs edition kind input s (visited.Failed e) = IsReadingError edition kind input e
 
--- so many events and bytes are wanted of memory that is lent so
+-- this memory needs so many rows and bytes for the events
 pub record AreCounted (edition : Edition) (kind : FieldKind) (input : List ℕ) (rows : List Row) (bytes : List ℕ)
     (counts : Counts) : Type 0 where
   pub last : Memory
@@ -86,18 +86,18 @@ pub record AreCounted (edition : Edition) (kind : FieldKind) (input : List ℕ) 
   pub events_wanted : counts.events ≡ last.count
   pub bytes_wanted : counts.bytes ≡ last.used
 
--- what a reading into memory that is lent so comes to: these counts, or its error
+-- the outcome of parsing into this memory: these sizes, or the error
 abbrev pub IsCounting : Edition → FieldKind → List ℕ → List Row → List ℕ → Result Counts Error → Type 0
 IsCounting edition kind input rows bytes (Ok counts) = AreCounted edition kind input rows bytes counts
 IsCounting edition kind input rows bytes (Err e) = IsReadingError edition kind input e
 
--- the sizes that are wanted, with 0 where both buffers are long enough, and else with 2; or the error
+-- the result: the needed sizes with status 0 if both buffers are large enough, otherwise with status 2; or the error
 abbrev pub counted_answer : ℕ → ℕ → Result Counts Error → Answer
 counted_answer rows bytes (Ok counts) =
     answer (if nat_le counts.events rows && nat_le counts.bytes bytes then 0 else 2) 0 0 counts.bytes counts.events
 counted_answer rows bytes (Err e) = refusal e
 
--- the events of the only field are counted, or the input isn't read; and the answer is that in numbers
+-- The events of the only field are counted, or the input is rejected. The result encodes this.
 pub record IsEvents (edition : Edition) (kind : FieldKind) (input : List ℕ) (rows : List Row) (bytes : List ℕ)
     (a : Answer) : Type 0 where
   pub outcome : Result Counts Error

@@ -1,4 +1,4 @@
--- The numbers by which C names types of fields, versions and kinds.
+-- The numbers of field types, versions and kinds in C.
 use Rattle.std.specs.Prelude.{◌≡◌, ℕ, Option, Some, None, ◌==◌, if◌then◌else◌}
 use Rattle.sfv.specs.Values.{Edition, FieldKind, item_field, list_field, dictionary_field}
 use Rattle.sfv.specs.BareItems.{edition_of}
@@ -15,7 +15,7 @@ kind_of_field field.Item = item_field
 kind_of_field field.List = list_field
 kind_of_field field.Dictionary = dictionary_field
 
--- the type of field of this number: 1, 2 and 3 are items, lists and dictionaries
+-- the field type with this number: 1 is an item, 2 a list, 3 a dictionary
 abbrev pub named_field : ℕ → Option Field
 named_field n =
     if n == 1 then Some field.Item
@@ -23,19 +23,19 @@ named_field n =
     else if n == 3 then Some field.Dictionary
     else None
 
--- the version of this number, which is that of its RFC
+-- the version with this number, the number of its RFC
 abbrev pub named_version : ℕ → Option Version
 named_version n =
     if n == 8941 then Some versions.Rfc8941
     else if n == 9651 then Some versions.Rfc9651
     else None
 
--- where the numbers name a type of field and a version, this holds of them
+-- this holds of the field type and the version with these numbers, if there are such
 abbrev pub Names : ℕ → ℕ → (FieldKind → Edition → Type 0) → Type 0
 Names field version P = (f : Field) (v : Version) → named_field field ≡ Some f → named_version version ≡ Some v
     → P (kind_of_field f) (edition_of v)
 
--- where the numbers name a type of field, a version of reading and one of writing, this holds of them
+-- this holds of the field type, the version to parse and the version to write with these numbers, if there are such
 abbrev pub NamesThree : ℕ → ℕ → ℕ → (FieldKind → Edition → Edition → Type 0) → Type 0
 NamesThree field reading writing P = (f : Field) (r w : Version) → named_field field ≡ Some f
     → named_version reading ≡ Some r → named_version writing ≡ Some w
@@ -85,7 +85,7 @@ kind_number kinds.InvalidDisplayStringCharacter = 28
 kind_number kinds.UnterminatedDisplayString = 29
 kind_number kinds.ExpectedStartOfKey = 30
 
--- the kind of error of this number, and none where no kind has it
+-- the kind of error with this number, or none
 abbrev pub IsKindOf : ℕ → Option ErrorKind → Type 0
 IsKindOf n (Some kind) = kind_number kind ≡ n
 IsKindOf n None = (kind : ErrorKind) → ¬ (kind_number kind ≡ n)

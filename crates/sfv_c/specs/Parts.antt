@@ -1,4 +1,4 @@
--- Events that rows hold, and what may follow what.
+-- The events of rows, and their order.
 use Rattle.std.specs.Prelude.{◌≡◌, MatchOption, ⊤, ℕ, ◌-◌, ◌<◌, List, [], ◌∷◌, length, drop, map, Bool, true, false, IsTrue, Option, Some, None}
 use Rattle.std.specs.Prelude.{if◌then◌else◌, Result, Ok, Err, option_map, string_bytes}
 use Rattle.std.specs.Borrow.{Bor}
@@ -30,7 +30,7 @@ use Rattle.sfv_c.specs.declared.calls.Stop.TheVariants as stop
 abbrev pub RefItem : Type 0
 RefItem = GenericBareItem StringRef (Bor (List ℕ)) TokenRef (Bor (List ℕ))
 
--- the event that a part is
+-- the event of a part
 abbrev pub part_event : Part → TreeEvent
 part_event parts.Entry = entry
 part_event (parts.KeyedEntry key) = keyed_entry (key_text key)
@@ -44,51 +44,51 @@ part_event parts.InnerListEnd = inner_list_end
 abbrev pub events_in : List Part → List TreeEvent
 events_in ps = map part_event ps
 
--- those from this one on
+-- the events from this index on
 abbrev pub events_from : ℕ → List Part → List TreeEvent
 events_from at ps = events_in (drop at ps)
 
--- its key is one, and its value
+-- its key is a key, and its value is in its range or class
 abbrev pub IsValidEvent : TreeEvent → Type 0
 IsValidEvent (keyed_entry key) = IsTrue (is_key key)
 IsValidEvent (bare_item value) = IsBareValue value
 IsValidEvent (parameter key value) = IsTrue (is_key key) × IsBareValue value
 IsValidEvent e = ⊤
 
--- the item of these parts, or none has them
+-- `Some` item of these parts, or no item has them
 abbrev pub GivesItem : ValueParts → Option RefItem → Type 0
 GivesItem p r = MatchOption r ((v : BareValue) → IsBareValue v → ¬ (value_parts (Some v) ≡ p))
     (λ item. IsBareValue (ref_value item) × (value_parts (Some (ref_value item)) ≡ p))
 
--- the event of these parts, or none has them
+-- `Some` event of these parts, or no event has them
 abbrev pub GivesPart : Parts → Option Part → Type 0
 GivesPart p r = MatchOption r ((e : TreeEvent) → IsValidEvent e → ¬ (parts_of e ≡ p))
     (λ part. IsValidEvent (part_event part) × (parts_of (part_event part) ≡ p))
 
--- the event of this row, or it is the row of none
+-- `Some` event of this row, or no event has it
 abbrev pub GivesEvent : List ℕ → Row → Option Part → Type 0
 GivesEvent bytes row r = MatchOption r ((e : TreeEvent) → IsValidEvent e → ¬ IsRowOf bytes row e)
     (λ part. IsValidEvent (part_event part) × IsRowOf bytes row (part_event part))
 
--- these are the events of the rows, as far as each is that of one
+-- these are the events of the rows, up to the first row without an event
 abbrev pub AreEventsOf : List ℕ → List Row → List TreeEvent → Type 0
 AreEventsOf bytes [] [] = ⊤
 AreEventsOf bytes [] (e ∷ es) = ⊥
 AreEventsOf bytes (row ∷ rows) [] = (e : TreeEvent) → IsValidEvent e → ¬ IsRowOf bytes row e
 AreEventsOf bytes (row ∷ rows) (e ∷ es) = IsValidEvent e × IsRowOf bytes row e × AreEventsOf bytes rows es
 
--- what may come next, and what after that
+-- the events that may come next
 pub data Place : Type 0 where
   ended list_members dictionary_members : Place
   member value parameters items : Place → Place
 
--- the place at which a field begins
+-- the place at the start of a field
 abbrev pub beginning : FieldKind → Place
 beginning item_field = value ended
 beginning list_field = list_members
 beginning dictionary_field = dictionary_members
 
--- the place after an event, if it may come here
+-- the place after an event, if the event may come here
 abbrev pub after : Place → TreeEvent → Option Place
 after list_members entry = Some (member list_members)
 after dictionary_members (keyed_entry key) = Some (member dictionary_members)
@@ -108,36 +108,36 @@ may_end list_members = true
 may_end dictionary_members = true
 may_end p = false
 
--- how many events are left where they can't go on, or where they end too early
+-- the number of events left at the first wrong one, or at an early end
 abbrev pub stops : Place → List TreeEvent → Option ℕ
 stops p [] = if may_end p then None else Some 0
 stops p (e ∷ es) = elim (after p e) [ None ↦ Some (length (e ∷ es)) | Some next ↦ stops next es ]
 
--- why reading stopped: so many events are left, or memory was refused, which is asked for only where there is an event
+-- the reason to stop: so many events are left, or memory ran out, which requires an event
 abbrev pub IsStop : Place → List TreeEvent → Stop → Type 0
 IsStop p es (stop.At left) = stops p es ≡ Some left
 IsStop p es stop.Memory = 0 < length es
 
--- the events are those of a field that fits the edition, and this is what is written of it
+-- the edition has the field of these events, and this is its text
 pub record IsTextOf (edition : Edition) (kind : FieldKind) (es : List TreeEvent) (text : Option (List ℕ)) : Type 0 where
   pub raw : RawField kind
   pub events_of : es ≡ events kind raw
   pub fits : Fits edition kind raw
   pub written : IsScriptText edition kind raw text
 
--- the events are those of a field that holds a value of this kind, which the edition doesn't have
+-- the field of these events has a value of this kind, which the edition lacks
 pub record IsUnsupported (edition : Edition) (kind : FieldKind) (es : List TreeEvent) (unfit : BareItemType) : Type 0
   where
     pub raw : RawField kind
     pub events_of : es ≡ events kind raw
     pub error : IsSerializeError edition (bare_values kind raw) (errors.Unsupported unfit)
 
--- so many events may come where they stand: those up to where reading stops, or all, though there is something behind them
+-- So many events are in order: those up to the first wrong one, or all, if more rows follow.
 abbrev pub IsWrongAfter : Option ℕ → List TreeEvent → Bool → ℕ → Type 0
 IsWrongAfter (Some left) es whole n = n ≡ length es - left
 IsWrongAfter None es whole n = (whole ≡ false) × (n ≡ length es)
 
--- why no text is made of the events, of which there may be more
+-- the reason why the events, which may be incomplete, give no text
 abbrev pub IsTextFault : Edition → FieldKind → List TreeEvent → Bool → Fault → Type 0
 IsTextFault edition kind es whole (faults.Read e) = ⊥
 IsTextFault edition kind es whole (faults.Write errors.OutOfMemory) = 0 < length es

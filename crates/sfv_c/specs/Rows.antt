@@ -1,4 +1,4 @@
--- Events in numbers.
+-- Events encoded as numbers.
 use Rattle.std.specs.Prelude.{ℕ, ℤ, pos, List, [], length, Bool, true, false, Option, Some, None}
 use Rattle.sfv.specs.Values.{BareValue, integer, decimal, string, token, byte_sequence, boolean, date, display_string}
 use Rattle.sfv.specs.Events.{TreeEvent, entry, keyed_entry, begins_item, begins_inner_list, bare_item, parameter}
@@ -20,7 +20,7 @@ tag_of (parameter key value) = 6
 tag_of parameters_end = 7
 tag_of inner_list_end = 8
 
--- the key of an event, empty where it has none
+-- the key of an event, or the empty text
 abbrev pub key_of : TreeEvent → List ℕ
 key_of (keyed_entry key) = key
 key_of (parameter key value) = key
@@ -31,7 +31,7 @@ abbrev pub number_of_bool : Bool → ℤ
 number_of_bool true = pos 1
 number_of_bool false = pos 0
 
--- the number of a value: decimals in thousandths, dates in seconds, true as 1, and texts as 0
+-- the number of a value: decimals in thousandths, dates in seconds, true as 1, texts as 0
 abbrev pub number_of_value : BareValue → ℤ
 number_of_value (integer z) = z
 number_of_value (decimal z) = z
@@ -39,7 +39,7 @@ number_of_value (boolean b) = number_of_bool b
 number_of_value (date z) = z
 number_of_value v = pos 0
 
--- the bytes of a value, none of a number
+-- the bytes of a value; numbers have none
 abbrev pub bytes_of_value : BareValue → List ℕ
 bytes_of_value (string s) = s
 bytes_of_value (token t) = t
@@ -47,13 +47,13 @@ bytes_of_value (byte_sequence b) = b
 bytes_of_value (display_string s) = s
 bytes_of_value v = []
 
--- a value in numbers: its kind, its number and its bytes
+-- an encoded value: its kind, its number and its bytes
 pub record ValueParts : Type 0 where
   pub kind : ℕ
   pub number : ℤ
   pub bytes : List ℕ
 
--- the number of the kind of a value, its number and its bytes; all nothing where there is no value
+-- the number of a value's kind, its number and its bytes; zeros and no bytes if there is no value
 abbrev pub value_parts : Option BareValue → ValueParts
 value_parts None = record { kind = 0; number = pos 0; bytes = [] }
 value_parts (Some v) = record {
@@ -62,7 +62,7 @@ value_parts (Some v) = record {
   bytes = bytes_of_value v;
 }
 
--- an event in numbers: its tag, its key and its value
+-- an encoded event: its tag, its key and its value
 pub record Parts : Type 0 where
   pub tag : ℕ
   pub key : List ℕ
@@ -71,14 +71,14 @@ pub record Parts : Type 0 where
 abbrev pub parts_of : TreeEvent → Parts
 parts_of e = record { tag = tag_of e; key = key_of e; value = value_parts (value_in e) }
 
--- the value, and the event, that the code holds in numbers
+-- the encoded value and event, as borrowed by the code
 abbrev pub lent_value : Value → ValueParts
 lent_value v = record { kind = v.kind; number = v.number; bytes = v.bytes.now }
 
 abbrev pub lent_parts : EventParts → Parts
 lent_parts p = record { tag = p.tag; key = p.key.now; value = lent_value p.value }
 
--- the row of these parts, whose key stands at the one place and whose value's bytes at the other
+-- the row of these parts, with its key at the one place and the bytes of its value at the other
 abbrev pub row_of : ℕ → ℕ → Parts → Row
 row_of key bytes p = record {
   tag = p.tag;

@@ -19,12 +19,12 @@ use Rattle.sfv_c.specs.declared.answer.Fault.TheVariants as faults
 use Rattle.sfv_c.specs.declared.rows.Row.{Row}
 use Rattle.sfv_c.specs.Rows.{Parts, parts_of, row_of}
 
--- the text stands at this place of the bytes, of this length
+-- the bytes contain the text at this place, with this length
 pub record IsAt (bytes : List ℕ) (at size : ℕ) (text : List ℕ) : Type 0 where
   pub within : at + size ≤ length bytes
   pub text_there : take size (drop at bytes) ≡ text
 
--- the row is that of these parts, whose texts stand at its own places
+-- the row is the row of these parts, with the texts at the row's own places
 pub record IsRowOfParts (bytes : List ℕ) (row : Row) (p : Parts) : Type 0 where
   pub in_numbers : row ≡ row_of row.key row.bytes p
   pub key : IsAt bytes row.key row.key_length p.key
@@ -33,37 +33,37 @@ pub record IsRowOfParts (bytes : List ℕ) (row : Row) (p : Parts) : Type 0 wher
 abbrev pub IsRowOf : List ℕ → Row → TreeEvent → Type 0
 IsRowOf bytes row e = IsRowOfParts bytes row (parts_of e)
 
--- a row of each event, in order
+-- one row for each event, in order
 abbrev pub AreRowsOf : List ℕ → List Row → List TreeEvent → Type 0
 AreRowsOf bytes rows es = AllZip (IsRowOf bytes) rows es
 
--- the rows are those of this field, in which keys may be repeated
+-- the rows are the rows of this field, which may repeat keys
 pub record AreRowsOfField (kind : FieldKind) (rows : List Row) (bytes : List ℕ) (raw : RawField kind) : Type 0 where
   pub value : IsFieldValue kind raw
   pub in_rows : AreRowsOf bytes rows (events kind raw)
 
--- the rows are the first of some field's, or all of them
+-- the rows are a prefix of the rows of some field
 pub record BeginRowsOfField (kind : FieldKind) (rows : List Row) (bytes : List ℕ) : Type 0 where
   pub es : List TreeEvent
   pub in_rows : AreRowsOf bytes rows es
   pub begins : BeginsEvents kind es
 
--- the rows are those of no field, and this is the index of the first that no field has there: those before it are the first
--- of some field's, and with it they aren't; or it is their number, and more are wanted
+-- The rows are not the rows of a field. The index is the first wrong row: the rows before it are a prefix of some
+-- field's, and with it they are not. Or the index is the number of rows, and more are needed.
 pub record AreWrongAt (kind : FieldKind) (rows : List Row) (bytes : List ℕ) (n : ℕ) : Type 0 where
   pub within : n ≤ length rows
   pub begun : BeginRowsOfField kind (take n rows) bytes
   pub wrong : n < length rows → ¬ BeginRowsOfField kind (take (n + 1) rows) bytes
   pub no_field : (raw : RawField kind) → ¬ AreRowsOfField kind rows bytes raw
 
--- what is written of a field: nothing of a list or dictionary without members, and else its canonical text, a repeated
--- key each time, which is read back as the field's ordered value
+-- The text of a field: nothing for an empty list or dictionary, otherwise its canonical text, repeated keys
+-- included, which parses to the field's ordered value.
 abbrev pub IsScriptText : Edition → (kind : FieldKind) → RawField kind → Option (List ℕ) → Type 0
 IsScriptText edition kind raw None = ¬ HasMember kind raw
 IsScriptText edition kind raw (Some t) =
     HasMember kind raw × (t ≡ canonical kind raw) × IsParsedAs edition kind t (ordered kind raw)
 
--- the rows are those of a field that fits the edition, and what is written of it was put into the buffer
+-- the rows are the rows of a field that the edition has, and its text is in the buffer
 pub record PutsRows (edition : Edition) (kind : FieldKind) (rows : List Row) (bytes old new : List ℕ) (w : Written)
     : Type 0 where
   pub raw : RawField kind
@@ -73,15 +73,15 @@ pub record PutsRows (edition : Edition) (kind : FieldKind) (rows : List Row) (by
   pub written : IsScriptText edition kind raw text
   pub put : PutsText text old new w
 
--- the rows are those of a field of which the first value that the edition doesn't have is of this kind
+-- the rows are the rows of a field, and the first value that the edition lacks has this kind
 pub record HoldsUnfit (edition : Edition) (kind : FieldKind) (rows : List Row) (bytes : List ℕ) (unfit : BareItemType)
     : Type 0 where
   pub raw : RawField kind
   pub rows_of : AreRowsOfField kind rows bytes raw
   pub error : IsSerializeError edition (bare_values kind raw) (errors.Unsupported unfit)
 
--- why rows aren't written: memory is asked for only where there is a row, and rows are refused only if they are those of
--- no field, with the index at which they go wrong
+-- The reason why rows are not written. Writing allocates only if there is a row. Rows are invalid only if no field
+-- has them; the index is then the first wrong row, or their number.
 abbrev pub IsWriteFault : Edition → FieldKind → List Row → List ℕ → Fault → Type 0
 IsWriteFault edition kind rows bytes (faults.Read e) = ⊥
 IsWriteFault edition kind rows bytes (faults.Write errors.OutOfMemory) = 0 < length rows
@@ -92,7 +92,7 @@ abbrev pub IsWriteOutcome : Edition → FieldKind → List Row → List ℕ → 
 IsWriteOutcome edition kind rows bytes old new (Ok w) = PutsRows edition kind rows bytes old new w
 IsWriteOutcome edition kind rows bytes old new (Err fault) = IsWriteFault edition kind rows bytes fault × (new ≡ old)
 
--- the rows are written, or they aren't; and the answer is that in numbers
+-- The rows are written, or not. The result encodes this.
 pub record IsWrite (edition : Edition) (kind : FieldKind) (rows : List Row) (bytes old new : List ℕ) (a : Answer)
     : Type 0 where
   pub outcome : Result Written Fault

@@ -1,4 +1,4 @@
-//! What calls answer.
+//! The results of the exported calls.
 
 ghost use Rattle.std.specs.Prelude.{◌≡◌, option_map, string_bytes};
 ghost use Rattle.sfv_c.specs.Answers.{answer, refusal, fault_answer, written_answer, bad_argument, Puts, PutsText};
@@ -71,7 +71,7 @@ pub(crate) enum Fault {
     Read(Error),
     /// What was read isn't written.
     Write(SerializeError),
-    /// The rows are those of no field: this one can't stand there, or so many are too few.
+    /// The rows are not those of a field: the index of the first wrong row, or their number if more are needed.
     Rows(usize),
 }
 

@@ -1,13 +1,13 @@
-//! What tests ask of texts, and values that words stand for.
+//! Checks of texts, and the values that words denote.
 
 use sfv::{Date, RefBareItem, integer};
 
-/// Whether the text is the one that is wanted.
+/// Returns `true` if the text is `wanted`.
 pub fn is_text(text: &str, wanted: &str) -> bool {
     text == wanted
 }
 
-/// Whether there is a text, and it is the one that is wanted.
+/// Returns `true` if there is a text, and it is `wanted`.
 pub fn has_text(text: Option<String>, wanted: &str) -> bool {
     match text {
         Some(text) => text.as_str() == wanted,
@@ -15,7 +15,7 @@ pub fn has_text(text: Option<String>, wanted: &str) -> bool {
     }
 }
 
-/// The value of a word: a date for `@`, what is true for `?`, and else a number.
+/// Returns the value of a word: a date for `@`, true for `?`, and otherwise a number.
 pub fn value<'a>(word: &str) -> RefBareItem<'a> {
     match word {
         "@" => RefBareItem::from(Date::from_unix_seconds(integer(1))),

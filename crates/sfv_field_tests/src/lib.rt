@@ -1,5 +1,5 @@
-//! Tests of reading and of writing: long fields, visitors, runs of bytes; whole fields, single calls, scripts, versions, and
-//! want of memory. There is no code.
+//! Tests of parsing and serialization: long fields, visitors, runs of bytes, whole fields, single calls, scripts,
+//! versions, and failed allocations. There is no code.
 #![tactic(auto)]
 
 #[cfg(test)]

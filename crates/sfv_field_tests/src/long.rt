@@ -1,4 +1,4 @@
-//! Long fields, and long texts that a serializer is lent.
+//! Long fields, and long texts in the buffer of a serializer.
 
 use crate::common::{has_text, is_text};
 use sfv::{BareItem, Dictionary, FieldType, Item, List, ListSerializer, Parser, RefBareItem};
@@ -6,13 +6,13 @@ use std::alloc::{AllocError, Global};
 use std::fmt::Write;
 use std::test::Fail;
 
-/// The canonical text of the field that the input is.
+/// Returns the canonical text of the field that the input parses to.
 fn written<T: FieldType>(alloc: Global, input: &str) -> Option<String> {
     let field = Parser::new(input.as_bytes()).parse::<T>(alloc).ok()?;
     field.serialize(alloc).ok()?.into()
 }
 
-/// Whether an item, a list or a dictionary is written as it was read.
+/// Returns `true` if the input is the canonical text of its item, list or dictionary.
 fn gives_itself(alloc: Global, field: &str, input: &str) -> bool {
     match field {
         "item" => has_text(written::<Item>(alloc, input), input),
@@ -21,7 +21,7 @@ fn gives_itself(alloc: Global, field: &str, input: &str) -> bool {
     }
 }
 
-/// A text between two others, so many times.
+/// Repeats a text between two others.
 fn repeated(
     alloc: Global,
     front: &str,
@@ -37,7 +37,7 @@ fn repeated(
     Ok(all)
 }
 
-/// Parts that count, each after a front, with a separator between two.
+/// Returns numbered parts, each after `front`, with a separator between neighbours.
 fn counted(
     alloc: Global,
     begin: &str,
@@ -64,7 +64,7 @@ fn long_strings_with_escapes_give_themselves(rt: HostRuntime) -> Result<(), Fail
     Ok(())
 }
 
-/// Kinds of bare items: what stands in front, a letter, and what stands after.
+/// Kinds of bare items: the text before a letter, the letter, and the text after it.
 const TEXTS: &[(&str, &str, &str)] = &[
     ("\"", "a", "\""),
     ("\"", "\\\\", "\""),
@@ -105,7 +105,7 @@ fn a_hundred_and_one_parts_give_themselves(rt: HostRuntime) -> Result<(), Fail> 
     Ok(())
 }
 
-/// The canonical text of the bare item that the input is.
+/// Returns the canonical text of the bare item that the input parses to.
 fn bare_text(alloc: Global, input: &str) -> Option<String> {
     let parser = Parser::new(input.as_bytes());
     let bare_item = parser.parse_item::<BareItem>(alloc).ok()?;
@@ -129,7 +129,7 @@ fn every_kind_is_read_as_a_bare_item(rt: HostRuntime) {
     }
 }
 
-/// Whether `finish` answers a long text that was lent, and leaves it as it is.
+/// Returns `true` if `finish` returns a long text, and does not modify it.
 fn is_left_by_finish(alloc: Global) -> bool {
     let Ok(mut text) = repeated(alloc, "Example: ", "abc, ", 100, "") else {
         return false;

@@ -1,14 +1,14 @@
-//! Want of memory while something is written: what stands in the text then.
+//! Failed allocations during serialization, and the text after them.
 
 use linked_list_allocator::LocalHeap;
 use sfv::{Item, OutOfMemory, Parser};
 use sfv_writer::serialize_item;
 use std::alloc::Global;
 
-/// Sizes of a heap, from none to enough for each text below, so that each request fails at some size.
+/// Sizes of a heap, from none to enough for each text below. So each allocation fails at some size.
 const SIZES: std::ops::Range<usize> = 16..640;
 
-/// The canonical texts of items with a value of each kind, as their bare item and in a parameter.
+/// The canonical texts of items with a value of each kind, as the bare item and in a parameter.
 const ITEMS: &[&str] = &[
     "-999999999999999;a-key=-999999999999999",
     "-1234.567;a-key=-1234.567",
@@ -21,8 +21,8 @@ const ITEMS: &[&str] = &[
     "%\"50%25 %22%c3%bcber%22%7f\\, and more of it\";a-key=%\"50%25 %22%c3%bcber%22%7f\\, and more of it\"",
 ];
 
-/// Whether a heap of this size holds the item's text after another, if it holds that one; no answer, where what stands
-/// there is neither the whole text nor one that the other begins.
+/// Writes the item after another text, on a heap of this size. Returns whether it fits. Returns `None` if the result is
+/// neither the whole text nor a text that begins with the other one.
 fn holds(alloc: Global, size: usize, item: &Item, wanted: &str) -> Option<bool> {
     let heap = LocalHeap::new(alloc, size).ok()?;
     let Ok(mut text) = String::from_str(&heap, "X: ") else {
@@ -37,7 +37,7 @@ fn holds(alloc: Global, size: usize, item: &Item, wanted: &str) -> Option<bool> 
     }
 }
 
-/// Whether the item of this text is written in a large heap, and in a small one refused.
+/// Returns `true` if the item of this text is written on a large heap, and fails on a small one.
 fn is_written_or_refused(alloc: Global, text: &str) -> bool {
     let Ok(item) = Parser::new(text.as_bytes()).parse::<Item>(alloc) else {
         return false;

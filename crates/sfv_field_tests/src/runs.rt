@@ -1,4 +1,4 @@
-//! Long runs of bytes of a class, of which many are looked at at once: where they end, and which bytes end them.
+//! Long runs of bytes of a class, which are tested block by block: where they end, and which bytes end them.
 
 use sfv::visitor::Ignored;
 use sfv::{BareItemFromInput, GenericBareItem, Item, ParseError, Parser, StringFromInput};
@@ -6,7 +6,7 @@ use std::alloc::{AllocError, Global};
 use std::borrow::CowStr;
 use std::test::Fail;
 
-/// A text of a front, a run of one letter with one other byte in it, and an ending.
+/// Returns a text of `front`, a run of one letter with another byte at `stop`, and an ending.
 fn text_of(
     alloc: Global,
     front: &str,
@@ -24,7 +24,7 @@ fn text_of(
     Ok(text)
 }
 
-/// The index of the fault of an item.
+/// Returns the index of the syntax error of an item.
 fn fault_of(alloc: Global, input: &[u8]) -> Option<usize> {
     match Parser::new(input).parse_item_with_visitor(alloc, Ignored) {
         Err(ParseError::Syntax(error)) => error.index(),
@@ -32,8 +32,8 @@ fn fault_of(alloc: Global, input: &[u8]) -> Option<usize> {
     }
 }
 
-/// Kinds of runs: what stands in front, a byte that ends the run wrongly, what stands after it, and how far after
-/// that byte the fault stands.
+/// Kinds of runs: the text before the run, a wrong byte that ends it, the text after it, and the distance from that
+/// byte to the index of the error.
 const RUNS: &[(&str, u8, &str, usize)] = &[
     ("\"", b'\\', "x\"", 1),
     ("%\"", b'%', "x\"", 1),
@@ -42,7 +42,7 @@ const RUNS: &[(&str, u8, &str, usize)] = &[
     (":", b'!', ":", 0),
 ];
 
-/// Whether runs of this length, with a wrong byte at this place, have their fault there.
+/// Returns `true` if runs of this length with a wrong byte at this place have their error there.
 fn ends_at(alloc: Global, length: usize, stop: usize) -> Result<bool, AllocError> {
     for &(front, byte, ending, distance) in RUNS {
         let text = text_of(alloc, front, length, stop, byte, ending)?;
@@ -69,7 +69,7 @@ fn runs_end_at_their_first_wrong_byte(rt: HostRuntime) -> Result<(), Fail> {
     Ok(())
 }
 
-/// How many bytes the bare item has, where all stand in the input as they are, or are encoded.
+/// Returns the length of a string or display string without escapes, a token, or a byte sequence.
 fn length_of_value(alloc: Global, input: &[u8]) -> Option<usize> {
     let parser = Parser::new(input);
     let value = parser.parse_item::<BareItemFromInput<'_>>(alloc).ok()?;
@@ -82,14 +82,14 @@ fn length_of_value(alloc: Global, input: &[u8]) -> Option<usize> {
     }
 }
 
-/// How many bytes the first key of an item's parameters has.
+/// Returns the length of the first key of an item's parameters.
 fn length_of_key(alloc: Global, input: &[u8]) -> Option<usize> {
     let item = Parser::new(input).parse::<Item>(alloc).ok()?;
     item.params.keys().next().map(|key| key.as_str().len())
 }
 
-/// Kinds of runs: what stands in front and after, the length of what is read where all of 40 bytes are of its class, and
-/// the bytes of the class.
+/// Kinds of runs: the texts before and after the run, the length of the value if all 40 bytes are of its class, and the
+/// bytes of the class.
 const CLASSES: &[(&str, &str, usize, &str)] = &[
     (
         "\"",
@@ -118,7 +118,7 @@ const CLASSES: &[(&str, &str, usize, &str)] = &[
     ),
 ];
 
-/// Whether the byte is read as one of just those classes whose bytes have it, at this place of a run.
+/// Returns `true` if the byte, at this place of a run, is accepted by exactly the classes that contain it.
 fn is_of_its_classes(alloc: Global, stop: usize, byte: u8) -> Result<bool, AllocError> {
     for &(front, ending, length, bytes) in CLASSES {
         let text = text_of(alloc, front, 40, stop, byte, ending)?;

@@ -1,4 +1,4 @@
-//! Lists of calls of the serializers, performed at once.
+//! Scripts: lists of calls of the serializers.
 
 use crate::common::{is_text, value};
 use sfv::script::{
@@ -11,7 +11,7 @@ use std::alloc::Global;
 
 const DATE: SerializeError = SerializeError::Unsupported(BareItemType::Date);
 
-/// The calls that write parameters: each has the value of a word, under the same key.
+/// Returns the calls that write parameters: each has the value of a word, under the same key.
 fn params<'a>(alloc: Global, words: &str) -> Option<Vec<ParamCall<'a>>> {
     let mut params = Vec::new(alloc);
     for word in words.split(';') {
@@ -23,7 +23,7 @@ fn params<'a>(alloc: Global, words: &str) -> Option<Vec<ParamCall<'a>>> {
     Some(params)
 }
 
-/// The calls that write an item of a word, with the parameters of the words.
+/// Returns the calls that write an item with the value of a word, and parameters with the values of the words.
 fn item<'a>(alloc: Global, word: &str, words: &str) -> Option<ItemCalls<'a>> {
     let params = params(alloc, words)?;
     Some(ItemCalls {
@@ -32,7 +32,7 @@ fn item<'a>(alloc: Global, word: &str, words: &str) -> Option<ItemCalls<'a>> {
     })
 }
 
-/// The calls that write an inner list of the item of a word, with the parameters of the words, or abandon it.
+/// Returns the calls that write an inner list with one item and parameters, or abandon it.
 fn inner_list<'a>(
     alloc: Global,
     word: &str,
@@ -46,8 +46,8 @@ fn inner_list<'a>(
     })
 }
 
-/// The calls that write a member: an item with its parameters after `;`, or an inner list of one item after `(`, or after
-/// `x` one that is abandoned.
+/// Returns the calls that write a member: an item with its parameters after `;`, an inner list with one item after `(`,
+/// or an abandoned one after `x`.
 fn member<'a>(alloc: Global, word: &str) -> Option<MemberCalls<'a>> {
     let (head, words) = word.split_once(';').unwrap_or((word, ""));
     if let Some(head) = head.strip_prefix('(') {
@@ -59,7 +59,7 @@ fn member<'a>(alloc: Global, word: &str) -> Option<MemberCalls<'a>> {
     Some(MemberCalls::Item(item(alloc, head, words)?))
 }
 
-/// The calls that write the members of the words.
+/// Returns the calls that write the members of the words.
 fn members<'a>(alloc: Global, words: &str) -> Option<Vec<MemberCalls<'a>>> {
     let mut calls = Vec::new(alloc);
     for word in words.split(' ') {
@@ -68,7 +68,7 @@ fn members<'a>(alloc: Global, words: &str) -> Option<Vec<MemberCalls<'a>>> {
     Some(calls)
 }
 
-/// Whether the members are written after a text so, and any stands just where it is said so.
+/// Returns `true` if the members are appended as this text, and the result says whether there is one.
 fn is_list(alloc: Global, words: &str, wanted: &str) -> bool {
     let (Some(calls), Ok(mut text)) = (members(alloc, words), String::from_str(alloc, "P=")) else {
         return false;
@@ -89,7 +89,7 @@ fn lists_are_written_without_abandoned_inner_lists(rt: HostRuntime) {
     }
 }
 
-/// The calls that write a member under each of two keys.
+/// Returns the calls that write a member under each of two keys.
 fn named<'a>(
     alloc: Global,
     first: &str,
@@ -99,7 +99,7 @@ fn named<'a>(
     vec![in alloc; (key_ref("a"), a), (key_ref("b"), b)].ok()
 }
 
-/// Whether the two members are written so by both versions, and any stands just where it is said so.
+/// Returns `true` if both versions write the two members as this text, and the result says whether there is one.
 fn is_dictionary(alloc: Global, first: &str, second: &str, wanted: &str) -> bool {
     let Some(calls) = named(alloc, first, second) else {
         return false;
@@ -128,7 +128,7 @@ fn dictionaries_are_written_without_abandoned_inner_lists(rt: HostRuntime) {
     }
 }
 
-/// Whether the item is written by RFC 9651, and refused by RFC 8941, which leaves the text.
+/// Returns `true` if RFC 9651 writes the item, and RFC 8941 fails and leaves the text unchanged.
 fn is_refused_item(alloc: Global, word: &str, words: &str, wanted: &str) -> bool {
     let Some(calls) = item(alloc, word, words) else {
         return false;
@@ -146,14 +146,14 @@ fn items_are_written_or_refused_where_the_version_lacks_a_value(rt: HostRuntime)
     assert!(rt; is_refused_item(rt.alloc(), "1", "2;@", "1;a=2;a=@1"));
 }
 
-/// What RFC 8941 answers to the calls of a list.
+/// Returns the result of the calls of a list for RFC 8941.
 fn answer_for(alloc: Global, words: &str) -> Option<Result<bool, SerializeError>> {
     let calls = members(alloc, words)?;
     let mut text = String::new(alloc);
     Some(run_list_for(Version::Rfc8941, &mut text, &calls[..]))
 }
 
-// The items of an abandoned inner list are given, and its parameters aren't.
+// The items of an abandoned inner list are written, and its parameters are not.
 #[test]
 fn scripts_of_lists_are_refused_for_an_item_of_an_abandoned_inner_list(rt: HostRuntime) {
     assert!(rt; answer_for(rt.alloc(), "x@ 2") == Some(Err(DATE)));

@@ -1,4 +1,4 @@
-//! Items, lists and dictionaries that are written whole, or part by part by single calls.
+//! Items, lists and dictionaries that are written whole, or part by part with single calls.
 
 use crate::common::{has_text, is_text, value};
 use sfv::{
@@ -8,13 +8,13 @@ use sfv::{
 };
 use std::alloc::Global;
 
-/// The parameters `;a;b=?0`.
+/// Returns the parameters `;a;b=?0`.
 fn yes_and_no(alloc: Global) -> Option<Parameters> {
     let item = Parser::new(b"1;a;b=?0").parse::<Item>(alloc).ok()?;
     Some(item.params)
 }
 
-/// The inner list `(?1 2;a;b=?0);a;b=?0`.
+/// Returns the inner list `(?1 2;a;b=?0);a;b=?0`.
 fn inner_list(alloc: Global) -> Option<InnerList> {
     let first = Item::new(alloc, BareItem::from(true));
     let second = Item::with_params(BareItem::from(2u8), yes_and_no(alloc)?);
@@ -22,7 +22,7 @@ fn inner_list(alloc: Global) -> Option<InnerList> {
     Some(InnerList::with_params(items, yes_and_no(alloc)?))
 }
 
-/// The text of a list of members that are made one by one.
+/// Returns the text of a list whose members are created one at a time.
 fn text_of_members(alloc: Global) -> Option<String> {
     let members: List = vec![in alloc;
         ListEntry::from(Item::new(alloc, BareItem::from(false))),
@@ -48,8 +48,8 @@ fn put<X: Sink>(inner: &mut InnerListSerializer<X>, word: &str) {
     }
 }
 
-/// Writes a member of a list, if the version has it: an item, one with a parameter after `;`, or an inner list of one item
-/// after `(`, or after `x` one that is abandoned.
+/// Writes a list member, if the version has it. It is an item, which may have a parameter after `;`, or an inner list
+/// with one item after `(`, or an abandoned one after `x`.
 fn put_member<W: Sink>(list: &mut ListSerializer<W>, word: &str) {
     if let Some(item) = word.strip_prefix('(') {
         if let Ok(mut inner) = list.inner_list() {
@@ -72,7 +72,7 @@ fn put_member<W: Sink>(list: &mut ListSerializer<W>, word: &str) {
     }
 }
 
-/// Whether the members of these words are written after a text so, and any stands just where it is said so.
+/// Returns `true` if the members of these words are appended as this text, and `has_member` says whether there is one.
 fn is_list(alloc: Global, front: &str, words: &str, wanted: &str) -> bool {
     let Ok(mut text) = String::from_str(alloc, front) else {
         return false;
@@ -92,11 +92,11 @@ fn lists_are_written_by_single_calls(rt: HostRuntime) {
         ("X: ", "1 ?", "X: 1, ?1"),
         ("", "1;2 3;?", "1;a=2, 3;a"),
         ("", "(1 2", "(1), 2"),
-        // An abandoned inner list leaves no member, no separator, and the text as it was.
+        // An abandoned inner list leaves no member and no separator, and the text is unchanged.
         ("", "x2 3", "3"),
         ("", "1 x2 3", "1, 3"),
         ("Z", "x1", "Z"),
-        // RFC 8941 has no date: what is refused leaves the list, the inner list and the item.
+        // RFC 8941 has no dates. A failed call leaves the list, the inner list and the item unchanged.
         ("X", "1 @ 3", "X1, 3"),
         ("", "(@ 2", "(), 2"),
         ("", "1;@ 2", "1, 2"),
@@ -107,7 +107,7 @@ fn lists_are_written_by_single_calls(rt: HostRuntime) {
     }
 }
 
-/// Writes a member of a dictionary after its key and `=`, if the version has it, as `put_member` does.
+/// Writes a dictionary member after its key and `=`, as `put_member` does, if the version has it.
 fn put_named<W: Sink>(dict: &mut DictSerializer<W>, name: KeyRef<'_>, word: &str) {
     if let Some(item) = word.strip_prefix('(') {
         if let Ok(mut inner) = dict.inner_list(name) {
@@ -130,8 +130,8 @@ fn put_named<W: Sink>(dict: &mut DictSerializer<W>, name: KeyRef<'_>, word: &str
     }
 }
 
-/// Whether the members of these words, under keys from `a` on, are written after a text so, and any stands just where it
-/// is said so.
+/// Returns `true` if the members of these words, under keys from `a` on, are appended as this text, and `has_member`
+/// says whether there is one.
 fn is_dictionary(alloc: Global, front: &str, words: &str, wanted: &str) -> bool {
     let Ok(mut text) = String::from_str(alloc, front) else {
         return false;
@@ -173,7 +173,7 @@ fn serializers_may_be_let_go(rt: HostRuntime) {
     assert!(rt; is_empty & is_text(&text, "1"));
 }
 
-/// What is written of the members of a list.
+/// Returns the text of the members of a list.
 fn list_again(alloc: Global, input: &str) -> Option<String> {
     let list = Parser::new(input.as_bytes()).parse::<List>(alloc).ok()?;
     let mut text = String::new(alloc);
@@ -190,7 +190,7 @@ fn members_of_a_list_are_written(rt: HostRuntime) {
     assert!(rt; list_again(rt.alloc(), "").is_none());
 }
 
-/// What is written of the members of a dictionary.
+/// Returns the text of the members of a dictionary.
 fn dictionary_again(alloc: Global, input: &str) -> Option<String> {
     let parser = Parser::new(input.as_bytes());
     let dictionary = parser.parse::<Dictionary>(alloc).ok()?;
@@ -211,7 +211,7 @@ fn members_of_a_dictionary_are_written(rt: HostRuntime) {
     assert!(rt; has_text(text, "a, b=2;x, c=(1), a, b=2;x, c=(1)"));
 }
 
-/// Writes an inner list of 1, the items of a list and its parameters.
+/// Writes an inner list of 1 and the items of a list, with the list's parameters.
 fn put_all<W: Sink>(
     serializer: &mut ListSerializer<W>,
     list: &InnerList,
@@ -226,7 +226,7 @@ fn put_all<W: Sink>(
     Ok(())
 }
 
-/// What is written of the items of an inner list after another, and of its parameters.
+/// Returns the text of an inner list's items after another item, with its parameters.
 fn inner_list_again(alloc: Global) -> Option<String> {
     let list = inner_list(alloc)?;
     let mut text = String::new(alloc);
@@ -240,7 +240,7 @@ fn items_of_an_inner_list_are_written(rt: HostRuntime) {
     assert!(rt; has_text(inner_list_again(rt.alloc()), "(1 ?1 2;a;b=?0);a;b=?0"));
 }
 
-/// Whether a list goes on after an inner list that is ended, or as if that had not begun.
+/// Returns `true` if a list continues after a finished inner list, or as if a failed one had not begun.
 fn goes_on(alloc: Global) -> bool {
     let Ok(mut text) = String::with_capacity(alloc, "1, (2".len()) else {
         return false;
@@ -265,8 +265,8 @@ fn goes_on(alloc: Global) -> bool {
     list.finish() == Some(wanted)
 }
 
-// Where the second allocation fails (`rt try --test --fail-alloc 2`), it is that of the closing parenthesis: the list is
-// then as it was before the inner list began, and goes on.
+// The second allocation (`rt try --test --fail-alloc 2`) is for the closing parenthesis. If it fails, the list is as
+// before the inner list, and can continue.
 #[test]
 fn an_inner_list_is_ended_or_taken_away(rt: HostRuntime) {
     assert!(rt; goes_on(rt.alloc()));

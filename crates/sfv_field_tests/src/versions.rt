@@ -1,4 +1,4 @@
-//! Writing that is bound to a version.
+//! Serialization for a version.
 
 use crate::common::{has_text, is_text, value};
 use sfv::visitor::BareItemType;
@@ -24,7 +24,7 @@ fn errors_of_writing_print_why(rt: HostRuntime) {
     }
 }
 
-/// Why the older version refuses a field, if it does.
+/// Returns the error of RFC 8941 for a field, if there is one.
 fn refusal_of<T: FieldType>(alloc: Global, input: &str) -> Result<Option<SerializeError>, Error> {
     let value = Parser::new(input.as_bytes()).parse::<T>(alloc)?;
     Ok(value.serialize_for(alloc, Version::Rfc8941).err())
@@ -48,7 +48,7 @@ fn fields_are_refused_at_their_first_value_that_the_version_lacks(rt: HostRuntim
     let dictionaries = &[
         ("a=1;x=%\"q\", b=@2", Some(DISPLAY)),
         ("a=1, b=(@2 %\"q\")", Some(DATE)),
-        // A value that a later one took the place of isn't written.
+        // A value that a later one replaced is not written.
         ("a=@1, a=2", None),
     ];
     for &(input, refusal) in dictionaries {
@@ -59,7 +59,7 @@ fn fields_are_refused_at_their_first_value_that_the_version_lacks(rt: HostRuntim
     }
 }
 
-/// Whether a refused item leaves the text.
+/// Returns `true` if a failed item leaves the text unchanged.
 fn is_left_by_item(alloc: Global) -> bool {
     let Ok(mut text) = String::from_str(alloc, "X") else {
         return false;
@@ -69,7 +69,7 @@ fn is_left_by_item(alloc: Global) -> bool {
     is_refused & is_text(&text, "X")
 }
 
-/// Whether members that are refused leave the list, which goes on.
+/// Returns `true` if failed members leave the list unchanged, and it can continue.
 fn is_left_by_members(alloc: Global) -> bool {
     let Ok(list) = Parser::new(b"1, (2 3;a=@4), 5").parse::<List>(alloc) else {
         return false;

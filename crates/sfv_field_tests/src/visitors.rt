@@ -1,4 +1,4 @@
-//! Visitors: what they visit, and what their failures do.
+//! Visitors: the events that they receive, and the effects of their errors.
 
 use crate::common::has_text;
 use linked_list_allocator::LocalHeap;
@@ -8,7 +8,7 @@ use std::alloc::{AllocError, Allocator, Global};
 use std::borrow::CowStr;
 use std::fmt::Write;
 
-/// Writes each of its events into a text; out of memory is its error.
+/// A visitor that writes each event into a text. Its error is out of memory.
 #[derive(Drop)]
 struct Teller<A: Allocator> {
     text: String<A>,
@@ -75,7 +75,7 @@ fn push_value<A: Allocator>(
     }
 }
 
-/// Says whether a string or a display string that it visits is a slice of the input.
+/// A visitor that records whether a string or a display string is a slice of the input.
 #[derive(Drop)]
 struct Lender {
     is_borrowed: bool,
@@ -113,7 +113,7 @@ impl<'de> Visitor<'de> for Lender {
     }
 }
 
-/// Whether a string or a display string is borrowed.
+/// Returns `true` if a string or a display string is borrowed.
 fn is_borrowed(value: &BareItemFromInput<'_>) -> bool {
     matches!(
         value,
@@ -122,7 +122,7 @@ fn is_borrowed(value: &BareItemFromInput<'_>) -> bool {
     )
 }
 
-/// Whether the first text of an item is a slice of the input.
+/// Returns `true` if the first text of an item is a slice of the input.
 fn lends(alloc: Global, input: &[u8]) -> Option<bool> {
     let lender = Lender { is_borrowed: false };
     Parser::new(input)
@@ -152,7 +152,7 @@ fn texts_without_an_escape_are_borrowed(rt: HostRuntime) {
     }
 }
 
-/// A visitor that tells events into a text of its own.
+/// Creates a visitor that writes events into a new text.
 fn new_teller(alloc: Global) -> Teller<Global> {
     Teller {
         text: String::new(alloc),
@@ -180,7 +180,7 @@ fn events_stand_in_their_order(rt: HostRuntime) {
     assert!(rt; holds);
 }
 
-/// What a visitor on a heap of this size answers: whether it told all events, or was out of memory.
+/// Returns the result of a visitor on a heap of this size: `true` if it wrote all events, `false` if memory ran out.
 fn told_on_heap(alloc: Global, size: usize) -> Option<bool> {
     let heap = LocalHeap::new(alloc, size).ok()?;
     let text = String::new(&heap);

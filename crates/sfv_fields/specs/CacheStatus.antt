@@ -1,4 +1,4 @@
--- The Cache-Status field (RFC 9211, section 2): a List, of which each member is an item that names a cache.
+-- The Cache-Status field (RFC 9211, section 2): a List. Each member is an item that names a cache.
 use Rattle.std.specs.Prelude.{◌≡◌, ℕ, ℤ, List, Bool, false, Option, Some, None, option_map, fold, codes, if◌then◌else◌}
 use Rattle.std.specs.Option.{option_or}
 use Rattle.sfv.specs.Values.{Edition, list_field, BareValue, integer, boolean, RawMember, item, inner_list}
@@ -7,7 +7,7 @@ use Rattle.sfv.specs.NumberValues.{integer_of}
 use Rattle.sfv.specs.Statements.{IsParsedAs}
 use Rattle.sfv_fields.specs.declared.cache_status.Hit.{Hit}
 
--- the Boolean true
+-- the value is the Boolean true
 abbrev pub is_true : Option BareValue → Bool
 is_true (Some (boolean b)) = b
 is_true v = false
@@ -16,20 +16,20 @@ abbrev pub integer_in : Option BareValue → Option ℤ
 integer_in (Some (integer z)) = Some z
 integer_in v = None
 
--- the `ttl` of a cache that had the response (section 2.1)
+-- the `ttl` of a member with a hit, if there is one (section 2.1)
 abbrev pub hit_of : RawMember → Option (Option ℤ)
 hit_of (item i) =
     if is_true (last_of (codes "hit") i.parameters) then Some (integer_in (last_of (codes "ttl") i.parameters)) else None
 hit_of (inner_list l) = None
 
--- the last of them
+-- the last hit of a list
 abbrev pub last_hit_of : List RawMember → Option (Option ℤ)
 last_hit_of members = fold (λ found m. option_or (hit_of m) found) None members
 
 abbrev pub hit_value : Option Hit → Option (Option ℤ)
 hit_value found = option_map (λ hit. option_map integer_of hit.ttl) found
 
--- the text is read as a list of which this is the last hit
+-- the text parses to a list with this last hit
 abbrev pub IsLastHitOf : Edition → List ℕ → Option (Option ℤ) → Type 0
 IsLastHitOf edition t found = (value : List RawMember) × IsParsedAs edition list_field t value
     × (found ≡ last_hit_of value)

@@ -1,35 +1,24 @@
--- What the visitor does, event by event.
-use Rattle.std.specs.Prelude.{ℤ, Bool, true, false, Option, Some, None, option_map, bytes_eq, codes, if◌then◌else◌, ◌&&◌}
-use Rattle.sfv.specs.NumberValues.{integer_of}
-use Rattle.sfv.specs.Events.{TreeEvent, entry, begins_inner_list, parameter, parameters_end}
-use Rattle.sfv_fields.specs.declared.cache_status.HitVisitor.{HitVisitor}
-use Rattle.sfv_fields.specs.CacheStatus.{is_true, integer_in, hit_value}
+-- The state of one member.
+use Rattle.sfv_field.specs.Field.{ℤ, Bool, true, false, Option, option_map, codes, integer_of, RawParameters, last_of}
+use Rattle.sfv_field.specs.Field.{Head, of_item, of_inner_list}
+use Rattle.sfv_fields.specs.declared.cache_status.Cache.{Cache}
+use Rattle.sfv_fields.specs.CacheStatus.{is_true, integer_in}
 
-pub record HitPlace : Type 0 where
-  pub in_item : Bool
+pub record CacheValue : Type 0 where
+  pub is_item : Bool
   pub hit : Bool
   pub ttl : Option ℤ
-  pub found : Option (Option ℤ)
 
-abbrev pub place : HitVisitor → HitPlace
-place s = record { in_item = s.in_item; hit = s.hit; ttl = option_map integer_of s.ttl; found = hit_value s.found }
+abbrev pub is_item : Head → Bool
+is_item (of_item b) = true
+is_item (of_inner_list xs) = false
 
-abbrev pub unread : HitPlace
-unread = record { in_item = false; hit = false; ttl = None; found = None }
-
-abbrev pub hit_step : HitPlace → TreeEvent → HitPlace
-hit_step p entry = record { in_item = true; hit = false; ttl = None; found = p.found }
-hit_step p begins_inner_list = record { in_item = false; hit = p.hit; ttl = p.ttl; found = p.found }
-hit_step p (parameter key b) = if p.in_item then record {
-  in_item = p.in_item;
-  hit = if bytes_eq (codes "hit") key then is_true (Some b) else p.hit;
-  ttl = if bytes_eq (codes "ttl") key then integer_in (Some b) else p.ttl;
-  found = p.found;
-} else p
-hit_step p parameters_end = record {
-  in_item = p.in_item;
-  hit = p.hit;
-  ttl = p.ttl;
-  found = if p.in_item && p.hit then Some p.ttl else p.found;
+abbrev pub kept_of : Head → RawParameters → CacheValue
+kept_of head ps = record {
+  is_item = is_item head;
+  hit = is_true (last_of (codes "hit") ps);
+  ttl = integer_in (last_of (codes "ttl") ps);
 }
-hit_step p e = p
+
+abbrev pub kept_value : Cache → CacheValue
+kept_value c = record { is_item = c.is_item; hit = c.hit; ttl = option_map integer_of c.ttl }

@@ -1,5 +1,5 @@
--- The Content-Digest field (RFC 9530, section 2): a Dictionary, in which a key names a hashing algorithm and its value
--- is the digest by this algorithm, as a Byte Sequence.
+-- The Content-Digest field (RFC 9530, section 2): a Dictionary. A key names a hash algorithm, and its value is the
+-- digest by this algorithm, as a Byte Sequence.
 use Rattle.std.specs.Prelude.{◌≡◌, ℕ, List, [], ◌∷◌, ◌++◌, ◌⊎◌, codes, Option, Some, None, option_map}
 use Rattle.std.specs.Prelude.{Result, MatchResult, MatchOption}
 use Rattle.std.specs.declared.alloc.Global.{Global}
@@ -13,32 +13,32 @@ use Rattle.sfv_fields.specs.declared.content_digest.ContentDigest.{ContentDigest
 use Rattle.sfv_fields.specs.declared.content_digest.DigestError.{DigestError}
 use Rattle.sfv_fields.specs.declared.content_digest.DigestError.TheVariants as errors
 
--- the members of a dictionary's text, in order, a repeated key each time
+-- the members of a dictionary in the order of the text, repeated keys included
 abbrev pub Members : Type 0
 Members = List (List ℕ × RawMember)
 
--- the algorithms (section 5)
+-- the keys of the two algorithms (section 5)
 abbrev pub sha_256_key : List ℕ
 sha_256_key = codes "sha-256"
 
 abbrev pub sha_512_key : List ℕ
 sha_512_key = codes "sha-512"
 
--- the bytes of a byte sequence; nothing of another kind
+-- the bytes of a byte sequence, and `None` for another kind
 abbrev pub bare_bytes : BareValue → Option (List ℕ)
 bare_bytes (byte_sequence bytes) = Some bytes
 bare_bytes value = None
 
--- the bytes of a member that is a byte sequence, whatever its parameters
+-- the bytes of a member that is a byte sequence, with any parameters
 abbrev pub bytes_in : RawMember → Option (List ℕ)
 bytes_in (item i) = bare_bytes i.bare
 bytes_in (inner_list l) = None
 
--- what a key's last member holds: `None` where the key has no member, `Some None` where its last is no byte sequence
+-- the bytes of a key's last member: `None` without a member, `Some None` if the last is not a byte sequence
 abbrev pub last_bytes : List ℕ → Members → Option (Option (List ℕ))
 last_bytes key members = option_map bytes_in (last_of key members)
 
--- a digest by each algorithm, or none
+-- for each algorithm, a digest or none
 pub record Digests : Type 0 where
   pub sha_256 : Option (List ℕ)
   pub sha_512 : Option (List ℕ)
@@ -53,17 +53,16 @@ digest_bytes digest = option_map (λ bytes. bytes.items) digest
 abbrev pub digests_in : ContentDigest → Digests
 digests_in d = record { sha_256 = digest_bytes d.sha_256; sha_512 = digest_bytes d.sha_512 }
 
--- a digest is what its key's last member holds, and there is none where the key has no member; other keys are passed
--- over
+-- Each digest is the bytes of its key's last member. Without such a member, there is no digest. Other keys are ignored.
 pub record AreDigests (members : Members) (digests : Digests) : Type 0 where
   pub sha_256 : last_bytes sha_256_key members ≡ option_map Some digests.sha_256
   pub sha_512 : last_bytes sha_512_key members ≡ option_map Some digests.sha_512
 
--- the last member of one of the keys is no byte sequence
+-- the last member of one of the keys is not a byte sequence
 abbrev pub HasWrongType : Members → Type 0
 HasWrongType members = (last_bytes sha_256_key members ≡ Some None) ⊎ (last_bytes sha_512_key members ≡ Some None)
 
--- the text is a dictionary with members of which P holds
+-- the text is a dictionary, and `P` holds of its members
 pub record IsDictionary (text : List ℕ) (P : Members → Type 0) : Type 0 where
   pub members : Members
   pub accepted : IsFieldText rfc9651 dictionary_field members text
@@ -76,23 +75,23 @@ IsContentDigest text digests = IsDictionary text (λ members. AreDigests members
 abbrev pub HasDigests : List ℕ → ContentDigest → Type 0
 HasDigests text digest = IsContentDigest text (digests_in digest)
 
--- the text is no dictionary, or out of memory; or it is a dictionary in which the last member of one of the keys is no
--- byte sequence
+-- The text is not a dictionary, or memory ran out. Or it is a dictionary, but the last member of one of the keys is not
+-- a byte sequence.
 abbrev pub IsDigestError : List ℕ → DigestError → Type 0
 IsDigestError text (errors.Field e) = IsParseError rfc9651 dictionary_field text e
 IsDigestError text errors.WrongType = IsDictionary text HasWrongType
 
--- of a text with digests these are returned, unless memory was refused
+-- if the text has digests, these are returned, unless memory ran out
 abbrev pub ReturnsDigests : List ℕ → Result ContentDigest DigestError → Type 0
 ReturnsDigests text result = (digests : Digests) → IsContentDigest text digests
     → MatchResult result (λ digest. digests_in digest ≡ digests) (λ e. e ≡ errors.Field out_of_memory)
 
--- the same digests again, or nothing where there are none
+-- the same digests, or `None` if there are none
 abbrev pub AreSameDigests : ContentDigest → Option ContentDigest → Type 0
 AreSameDigests digest again =
     MatchOption again (digests_in digest ≡ no_digests) (λ d. digests_in d ≡ digests_in digest)
 
--- a byte sequence without parameters
+-- the member for a digest: a byte sequence without parameters
 abbrev pub bytes_member : List ℕ → RawMember
 bytes_member bytes = item (record { bare = byte_sequence bytes; parameters = [] })
 
@@ -101,6 +100,6 @@ abbrev pub digest_member : List ℕ → Option (List ℕ) → Members
 digest_member key None = []
 digest_member key (Some bytes) = (key, bytes_member bytes) ∷ []
 
--- the dictionary of digests
+-- the dictionary for these digests
 abbrev pub digest_members : Digests → Members
 digest_members d = digest_member sha_256_key d.sha_256 ++ digest_member sha_512_key d.sha_512

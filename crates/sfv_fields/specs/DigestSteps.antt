@@ -1,4 +1,4 @@
--- What the private functions of the Content-Digest field do, on members.
+-- The results of the private functions of the Content-Digest field.
 use Rattle.std.specs.Prelude.{◌≡◌, ◌⊎◌, ℕ, List, Option, Some, None, option_map, bytes_eq, Result, MatchResult}
 use Rattle.std.specs.declared.alloc.Global.{Global}
 use Rattle.std.specs.declared.vec.Vec.{Vec}
@@ -9,17 +9,17 @@ use Rattle.sfv_fields.specs.declared.content_digest.ContentDigest.{ContentDigest
 use Rattle.sfv_fields.specs.declared.content_digest.DigestError.{DigestError}
 use Rattle.sfv_fields.specs.declared.content_digest.DigestError.TheVariants as errors
 
--- what a key's last member gives: its digest, or an error exactly for want of memory or of a byte sequence
+-- The digest of a key's last member. The only errors are out of memory, and a member that is not a byte sequence.
 abbrev pub GivesDigest : Option (Option (List ℕ)) → Result (Option (Vec ℕ Global)) DigestError → Type 0
 GivesDigest held result = MatchResult result (λ digest. held ≡ option_map Some (digest_bytes digest))
     (λ e. (e ≡ errors.Field out_of_memory) ⊎ ((e ≡ errors.WrongType) × (held ≡ Some None)))
 
--- what members give: their digests, or such an error
+-- The digests of these members, or such an error.
 abbrev pub GivesDigests : Members → Result ContentDigest DigestError → Type 0
 GivesDigests members result = MatchResult result (λ digest. AreDigests members (digests_in digest))
     (λ e. (e ≡ errors.Field out_of_memory) ⊎ ((e ≡ errors.WrongType) × HasWrongType members))
 
--- the members with a digest entered, if there is one
+-- the members with a digest inserted, if there is one
 abbrev pub entered : Members → List ℕ → Option (List ℕ) → Members
 entered members key None = members
 entered members key (Some bytes) = insert_entry bytes_eq members key (bytes_member bytes)

@@ -8,7 +8,7 @@ use Rattle.sfv.specs.Ordered.{last_of}
 use Rattle.sfv.specs.Statements.{IsParsedAs}
 use Rattle.sfv_fields.specs.declared.priority.value.Priority.{Priority}
 
--- an Integer from 0 to 7, or else 3
+-- an Integer from 0 to 7, otherwise 3
 abbrev pub urgency_in : BareValue → ℕ
 urgency_in (integer (pos n)) = if nat_le n 7 then n else 3
 urgency_in b = 3
@@ -17,7 +17,7 @@ abbrev pub urgency_of : Option RawMember → ℕ
 urgency_of (Some (item i)) = urgency_in i.bare
 urgency_of m = 3
 
--- a Boolean, or else false
+-- a Boolean, otherwise false
 abbrev pub incremental_in : BareValue → Bool
 incremental_in (boolean b) = b
 incremental_in b = false
@@ -26,8 +26,8 @@ abbrev pub incremental_of : Option RawMember → Bool
 incremental_of (Some (item i)) = incremental_in i.bare
 incremental_of m = false
 
--- The urgency, and whether a response is used as it arrives. That an urgency is at most 7 is the invariant of `Priority`,
--- of which contracts speak by `value_of`; and `priority` gives no other.
+-- The urgency, and whether a response may be used as it arrives. By the invariant of `Priority`, an urgency is at
+-- most 7; contracts use `value_of`, and `priority` gives no other urgency.
 pub record PriorityValue : Type 0 where
   pub urgency : ℕ
   pub incremental : Bool
@@ -38,7 +38,7 @@ priority members = record {
   incremental = incremental_of (last_of (codes "i") members);
 }
 
--- what is written of an urgency from 0 to 7: no default
+-- the text for an urgency from 0 to 7, without defaults
 abbrev pub priority_text : PriorityValue → List ℕ
 priority_text p = joined (codes ", ")
     ((if p.urgency == 3 then [] else (codes "u=" ++ (digit_zero + p.urgency) ∷ []) ∷ [])
@@ -47,7 +47,7 @@ priority_text p = joined (codes ", ")
 abbrev pub value_of : Priority → PriorityValue
 value_of p = record { urgency = p.urgency; incremental = p.incremental }
 
--- the text is read as a dictionary that has this priority
+-- the text parses to a dictionary with this priority
 abbrev pub IsPriorityOf : Edition → List ℕ → PriorityValue → Type 0
 IsPriorityOf edition t p = (value : List (List ℕ × RawMember)) × IsParsedAs edition dictionary_field t value
     × (p ≡ priority value)

@@ -1,4 +1,4 @@
-//! The Content-Digest field: digests of a content, by hashing algorithm (RFC 9530, section 2).
+//! The Content-Digest field: digests of a content, by hash algorithm (RFC 9530, section 2).
 
 ghost use Rattle.std.specs.Prelude.{◌≡◌, ◌≢◌, ◌↔◌, None, IfOk, IfErr, IfSome, OnOk, OnErr};
 ghost use Rattle.std.specs.Prelude.{option_copied, string_bytes};
@@ -19,21 +19,21 @@ use sfv::{
 };
 use std::alloc::{AllocError, Global};
 
-/// The digests of a content by the algorithms in use.
+/// The digests of a content, for the two supported algorithms.
 #[derive(Debug, Drop)]
 pub struct ContentDigest {
-    /// The digest by SHA-256.
+    /// The SHA-256 digest.
     pub sha_256: Option<Vec<u8>>,
-    /// The digest by SHA-512.
+    /// The SHA-512 digest.
     pub sha_512: Option<Vec<u8>>,
 }
 
-/// Why digests aren't read.
+/// The error of parsing digests.
 #[derive(Debug, Drop)]
 pub enum DigestError {
-    /// The field is no dictionary, or out of memory.
+    /// The field is not a dictionary, or memory ran out.
     Field(Error),
-    /// The field is a dictionary in which the last member of an algorithm is no byte sequence.
+    /// The field is a dictionary, but the last member of an algorithm is not a byte sequence.
     WrongType,
 }
 
@@ -61,7 +61,7 @@ impl From<AllocError> for DigestError {
     }
 }
 
-// Returns the bytes of a member that is a byte sequence.
+// Returns the bytes of a member, or `None` if it is not a byte sequence.
 fn bytes_of(member: &ListEntry) -> Option<&[u8]>
     ensures { option_copied result ≡ bytes_in (member_tree member.now) }
 {
@@ -71,7 +71,7 @@ fn bytes_of(member: &ListEntry) -> Option<&[u8]>
     }
 }
 
-// Returns a copy of the digest under the key of an algorithm.
+// Copies the digest of an algorithm, if there is one.
 fn digest_of(
     alloc: Global,
     dictionary: &Dictionary,
@@ -89,7 +89,7 @@ fn digest_of(
     Ok(Some(digest))
 }
 
-// Returns copies of the digests of a dictionary.
+// Copies the digests of a dictionary.
 fn digests_of(alloc: Global, dictionary: &Dictionary) -> Result<ContentDigest, DigestError>
     ensures { GivesDigests (dictionary_tree dictionary.now.entries) result }
 {
@@ -98,13 +98,13 @@ fn digests_of(alloc: Global, dictionary: &Dictionary) -> Result<ContentDigest, D
     Ok(ContentDigest { sha_256, sha_512 })
 }
 
-/// Reads a Content-Digest field (RFC 9530, section 2): under each algorithm the last digest. Parameters and other
-/// algorithms are passed over.
+/// Parses a Content-Digest field (RFC 9530, section 2). For a repeated algorithm, the last digest counts. Ignores
+/// parameters and other algorithms.
 ///
 /// # Errors
 ///
-/// `Field` with the parser's error where the input is no dictionary, or out of memory; `WrongType` where it is one in
-/// which the last member of an algorithm is no byte sequence.
+/// Returns `Field` with the error of `Parser::parse` if the input is not a dictionary, or if memory runs out. Returns
+/// `WrongType` if it is a dictionary, but the last member of an algorithm is not a byte sequence.
 #[tactic(auto, using(crate::proofs::Digests::reading))]
 pub fn read(alloc: Global, input: &[u8]) -> Result<ContentDigest, DigestError>
     ensures read { IfOk result (HasDigests input.now) }
@@ -115,7 +115,7 @@ pub fn read(alloc: Global, input: &[u8]) -> Result<ContentDigest, DigestError>
     digests_of(alloc, &dictionary)
 }
 
-// Returns the member of a digest, without parameters.
+// Returns the member for a digest, without parameters.
 fn member_of(alloc: Global, digest: &[u8]) -> Result<ListEntry, OutOfMemory>
     ensures { IfOk result (λ member. member_tree member ≡ bytes_member digest.now) }
 {
@@ -123,7 +123,7 @@ fn member_of(alloc: Global, digest: &[u8]) -> Result<ListEntry, OutOfMemory>
     Ok(ListEntry::from(Item::new(alloc, BareItem::from(copy))))
 }
 
-// Enters a digest, if there is one, under the key of its algorithm.
+// Inserts a digest under the key of its algorithm, if there is one.
 fn put(
     alloc: Global,
     dictionary: &mut Dictionary,
@@ -142,7 +142,7 @@ fn put(
     Ok(())
 }
 
-// Returns the dictionary of digests.
+// Converts digests to a dictionary, with SHA-256 first.
 fn dictionary_of(alloc: Global, digest: &ContentDigest) -> Result<Dictionary, OutOfMemory>
     ensures members { IfOk result (λ dictionary.
         dictionary_tree dictionary.entries ≡ digest_members (digests_in digest.now)) }
@@ -154,12 +154,11 @@ fn dictionary_of(alloc: Global, digest: &ContentDigest) -> Result<Dictionary, Ou
     Ok(dictionary)
 }
 
-/// Writes a Content-Digest field (RFC 9530, section 2): the canonical text, SHA-256 first, or `None` where there is no
-/// digest.
+/// Serializes a Content-Digest field (RFC 9530, section 2), with SHA-256 first. Returns `None` if there is no digest.
 ///
 /// # Errors
 ///
-/// Out of memory, only where there is a digest.
+/// Returns `OutOfMemory` if memory runs out, which requires a digest.
 pub fn write(alloc: Global, digest: &ContentDigest) -> Result<Option<String>, OutOfMemory>
     ensures text { IfOk result (IsSerialized dictionary_field (digest_members (digests_in digest.now))) }
     ensures read_back { IfOk result (λ text. IfSome text (λ text. HasDigests (string_bytes text) digest.now)) }
@@ -170,11 +169,11 @@ pub fn write(alloc: Global, digest: &ContentDigest) -> Result<Option<String>, Ou
     dictionary.serialize(alloc)
 }
 
-/// Writes digests and reads the text again: the same digests, or `None` where there is no digest.
+/// Serializes digests and parses the text: returns the same digests, or `None` if there is no digest.
 ///
 /// # Errors
 ///
-/// `Field` with out of memory.
+/// Returns `Field` with the kind `OutOfMemory` if memory runs out. There is no other error.
 pub fn reread(alloc: Global, digest: &ContentDigest) -> Result<Option<ContentDigest>, DigestError>
     ensures same { IfOk result (AreSameDigests digest.now) }
     ensures failed { IfErr result (λ error. error ≡ errors.Field out_of_memory) }

@@ -1,4 +1,4 @@
-//! Fields that are defined elsewhere, read by the library and proved from its public contracts.
+//! Fields of other standards, with code that is proved from the library's public contracts.
 #![tactic(auto)]
 
 pub mod cache_status;

@@ -1,33 +1,31 @@
-//! The Priority field (RFC 9218): how urgent a response is, and whether it is used as it arrives.
+//! The Priority field (RFC 9218): the urgency of a response, and whether it is processed incrementally.
 //!
-//! It is a dictionary. The urgency is its member `u`, an Integer from 0 to 7, and 3 if there is no such member; whether a
-//! response is used as it arrives is its member `i`, a Boolean, and false if there is no such member. Parameters and other
-//! members are ignored.
+//! The field is a dictionary. The urgency is the member `u` if it is an Integer from 0 to 7, and otherwise 3. The
+//! member `i` is the flag if it is a Boolean, which is otherwise false. Parameters and other members are ignored.
 
-ghost use Rattle.std.specs.Prelude.{◌≡◌, ◌≢◌, ◌≤◌, ◌↔◌, [], IfOk, OnOk, IsTrue, option_copied, option_map};
-ghost use Rattle.sfv.specs.Values.{Edition, item};
-ghost use Rattle.sfv.specs.Calls.{written};
-ghost use Rattle.sfv.specs.Builders.{plain_item};
+ghost use Rattle.std.specs.Prelude.{◌≡◌, ◌≢◌, ◌≤◌, ◌↔◌, ◌++◌, [], false, length, codes, IfOk, OnOk, OnErr, IsTrue};
+ghost use Rattle.std.specs.Prelude.{option_copied, option_map};
+ghost use Rattle.sfv.specs.Values.{Edition, rfc9651};
 ghost use Rattle.sfv.specs.BareItems.{ref_value};
+ghost use Rattle.sfv.specs.KeyText.{key_text};
 ghost use Rattle.sfv.specs.Trees.{member_tree, dictionary_tree};
-ghost use Rattle.sfv.specs.Scripts.{member_calls, described_dictionary};
-ghost use Rattle.sfv.specs.Written.{AppendsOrKeeps};
+ghost use Rattle.sfv.specs.Serializers.{HasMoreParts, HasNextPart, has_no_part, parts_edition, parts_sink};
+ghost use Rattle.sfv.specs.Written.{AppendsOrKeeps, AsksForRoom, LacksRoom, keyed_text, lead, in_a_row, still_first};
 ghost use Rattle.sfv_fields.specs.Priority.{priority, urgency_in, urgency_of, incremental_in, incremental_of};
 ghost use Rattle.sfv_fields.specs.Priority.{priority_text, value_of, IsPriorityOf};
-ghost use Rattle.sfv_fields.specs.PrioritySteps.{members_of};
+ghost use Rattle.sfv_fields.specs.PrioritySteps.{urgency_texts, incremental_texts};
 
 mod value;
 mod visiting;
 
-use sfv::script::{ItemCalls, MemberCalls, run_dict};
 use sfv::{
-    Dictionary, GenericBareItem, KeyRef, ListEntry, OutOfMemory, RefBareItem, find_entry, key_ref,
+    DictSerializer, Dictionary, GenericBareItem, KeyRef, ListEntry, OutOfMemory, RefBareItem, Sink,
+    find_entry, key_ref,
 };
-use std::alloc::Global;
 pub use value::Priority;
-pub use visiting::{PriorityVisitor, read_priority};
+pub use visiting::{Member, read_priority};
 
-// Returns the urgency that a bare item is, or else 3.
+// Returns the urgency of a bare item: an integer from 0 to 7, or 3 for any other value.
 pub(crate) fn urgency_of_item(value: RefBareItem<'_>) -> u8
     ensures value { result ≡ urgency_in (ref_value value.entry) }
     ensures range { result ≤ 7 }
@@ -41,14 +39,14 @@ pub(crate) fn urgency_of_item(value: RefBareItem<'_>) -> u8
     }
 }
 
-// Returns the Boolean that a bare item is, or else false.
+// Returns the Boolean of a bare item, or `false` for another kind.
 pub(crate) fn incremental_of_item(value: RefBareItem<'_>) -> bool
     ensures { result ≡ incremental_in (ref_value value.entry) }
 {
     value.as_boolean().unwrap_or(false)
 }
 
-// Returns the urgency that a member is.
+// Returns the urgency of the member `u`, if there is one.
 fn urgency_of_member(member: Option<&ListEntry>) -> u8
     ensures value { result ≡ urgency_of (option_map member_tree (option_copied member.entry)) }
     ensures range { result ≤ 7 }
@@ -59,7 +57,7 @@ fn urgency_of_member(member: Option<&ListEntry>) -> u8
     }
 }
 
-// Returns the Boolean that a member is.
+// Returns the Boolean of the member `i`, if there is one.
 fn incremental_of_member(member: Option<&ListEntry>) -> bool
     ensures { result ≡ incremental_of (option_map member_tree (option_copied member.entry)) }
 {
@@ -69,7 +67,7 @@ fn incremental_of_member(member: Option<&ListEntry>) -> bool
     }
 }
 
-/// Returns the priority that a dictionary holds.
+/// Returns the priority of a dictionary.
 pub fn priority_from_dictionary(dictionary: &Dictionary) -> Priority
     ensures { value_of result ≡ priority (dictionary_tree dictionary.now.entries) }
 {
@@ -78,47 +76,90 @@ pub fn priority_from_dictionary(dictionary: &Dictionary) -> Priority
     Priority::new(urgency, incremental)
 }
 
-// The calls of a member without parameters.
-fn plain(alloc: Global, value: RefBareItem<'static>) -> MemberCalls<'static>
-    ensures { member_calls result ≡ written (item (plain_item (ref_value value.entry))) }
+// Writes a member without parameters.
+fn write_member<W: Sink>(
+    members: &mut DictSerializer<W>,
+    name: KeyRef<'static>,
+    value: RefBareItem<'static>,
+) -> Result<(), OutOfMemory>
+    requires { parts_edition members.old ≡ rfc9651 }
+    ensures text { OnOk result (HasNextPart W.Sink (codes ", ") members.old members.new
+        (keyed_text (key_text name.entry) (ref_value value.entry)) false) }
+    ensures room { OnErr result (LacksRoom (W.text (parts_sink members.old))
+        (lead (has_no_part members.old) (codes ", ") ++ keyed_text (key_text name.entry) (ref_value value.entry))) }
 {
-    MemberCalls::Item(ItemCalls {
-        value,
-        params: Vec::new(alloc),
-    })
+    match members.bare_item(name, value) {
+        Ok(params) => {
+            params.finish();
+            Ok(())
+        }
+        Err(_) => Err(OutOfMemory),
+    }
 }
 
-// The calls that write the field: of what isn't the default.
-fn calls_of(
-    alloc: Global,
-    priority: Priority,
-) -> Result<Vec<(KeyRef<'static>, MemberCalls<'static>)>, OutOfMemory>
-    ensures { IfOk result (λ calls. described_dictionary calls.items ≡ members_of (value_of priority)) }
+// Writes the urgency, unless it is the default.
+#[tactic(auto, using(std::proofs::lemmas::Fmt::decimal_digit))]
+fn write_urgency<W: Sink>(members: &mut DictSerializer<W>, urgency: u8) -> Result<(), OutOfMemory>
+    requires edition { parts_edition members.old ≡ rfc9651 }
+    requires range { urgency ≤ 7 }
+    ensures text { OnOk result (HasMoreParts W.Sink members.old members.new
+        (in_a_row (has_no_part members.old) (codes ", ") (urgency_texts urgency))
+        (still_first (has_no_part members.old) (urgency_texts urgency))) }
+    ensures room { OnErr result (LacksRoom (W.text (parts_sink members.old))
+        (in_a_row (has_no_part members.old) (codes ", ") (urgency_texts urgency))) }
 {
-    let mut calls = Vec::new(alloc);
-    if priority.urgency != 3 {
-        let urgency = GenericBareItem::from(priority.urgency);
-        calls.push((key_ref("u"), plain(alloc, urgency)))?;
+    if urgency == 3 {
+        return Ok(());
     }
-    if priority.incremental {
-        let incremental = GenericBareItem::from(true);
-        calls.push((key_ref("i"), plain(alloc, incremental)))?;
-    }
-    Ok(calls)
+    write_member(members, key_ref("u"), GenericBareItem::from(urgency))
 }
 
-/// Writes the field at the end of a text: what isn't the default. Returns whether anything is written. What is written is
-/// read as the same priority, under both versions.
+// Writes the member `i`, unless it is the default.
+fn write_incremental<W: Sink>(
+    members: &mut DictSerializer<W>,
+    incremental: bool,
+) -> Result<(), OutOfMemory>
+    requires { parts_edition members.old ≡ rfc9651 }
+    ensures text { OnOk result (HasMoreParts W.Sink members.old members.new
+        (in_a_row (has_no_part members.old) (codes ", ") (incremental_texts incremental))
+        (still_first (has_no_part members.old) (incremental_texts incremental))) }
+    ensures room { OnErr result (LacksRoom (W.text (parts_sink members.old))
+        (in_a_row (has_no_part members.old) (codes ", ") (incremental_texts incremental))) }
+{
+    if !incremental {
+        return Ok(());
+    }
+    write_member(members, key_ref("i"), GenericBareItem::from(true))
+}
+
+// Returns the length of a priority's text.
+fn text_len(priority: Priority) -> usize
+    ensures { result ≡ length (priority_text (value_of priority)) }
+{
+    if priority.urgency == 3 {
+        return usize::from(priority.incremental);
+    }
+    if priority.incremental { 6 } else { 3 }
+}
+
+/// Appends the field to `text`, and returns `true` if anything was written. Members with their default values are
+/// omitted. The text parses to the same priority under both versions.
 ///
 /// # Errors
 ///
-/// `OutOfMemory`; the text is then as it was.
+/// Returns `OutOfMemory` if memory runs out, which happens only if `text` has no room for the field. `text` is then
+/// unchanged.
 pub fn write_priority(text: &mut String, priority: Priority) -> Result<bool, OutOfMemory>
     ensures text { AppendsOrKeeps text.old text.new (priority_text (value_of priority)) result }
+    ensures room { AsksForRoom text.old text.new (priority_text (value_of priority)) result }
     ensures stands { IfOk result (λ stands. IsTrue stands ↔ (priority_text (value_of priority) ≢ [])) }
     ensures read_back { OnOk result ((edition : Edition)
         → IsPriorityOf edition (priority_text (value_of priority)) (value_of priority)) }
 {
-    let calls = calls_of(*text.allocator(), priority)?;
-    run_dict(text, calls.as_slice())
+    // With room for the whole text no call fails, so nothing has to be removed.
+    text.reserve(text_len(priority))?;
+    let mut members = DictSerializer::with_buffer(text);
+    write_urgency(&mut members, priority.urgency)?;
+    write_incremental(&mut members, priority.incremental)?;
+    Ok(members.has_member())
 }

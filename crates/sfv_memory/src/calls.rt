@@ -1,11 +1,11 @@
-//! The calls.
+//! The calls of the program.
 
 use crate::reading::{Answer, is_answer, read, read_into_dictionary, read_into_list, write_for};
 use crate::{copies, scripts, writing};
 use sfv::{Dictionary, Error, ErrorKind, Item, List};
 use std::alloc::Global;
 
-/// The types of fields.
+/// A field type.
 #[derive(Clone, Copy)]
 pub enum Field {
     /// An item.
@@ -16,64 +16,64 @@ pub enum Field {
     Dictionary,
 }
 
-/// A call, or a few that lead to one.
+/// A call, or a few calls that prepare one.
 #[derive(Clone, Copy)]
 pub enum Call {
-    /// A field is read and written again.
+    /// Parses a field and serializes it.
     Read(Field, &'static [u8], Answer),
-    /// A line is read into the list of another.
+    /// Parses a further line of a list.
     ReadIntoList(&'static [u8], &'static [u8], Answer),
-    /// A line is read into the dictionary of another.
+    /// Parses a further line of a dictionary.
     ReadIntoDictionary(&'static [u8], &'static [u8], Answer),
-    /// A field is read and written for RFC 8941.
+    /// Parses a field and serializes it for RFC 8941.
     WriteFor(Field, &'static str),
-    /// A key is copied and cloned.
+    /// Copies a key, and clones it.
     CopyKey,
-    /// A token is copied and cloned.
+    /// Copies a token, and clones it.
     CopyToken,
-    /// A string is copied and cloned.
+    /// Copies a string, and clones it.
     CopyString,
-    /// A bare item is copied and cloned.
+    /// Copies a bare item, and clones it.
     CopyBareItem(usize),
-    /// A string that was read is copied.
+    /// Copies a parsed string.
     CopyRead(&'static [u8], &'static str),
-    /// A field is cloned.
+    /// Clones a field.
     Copy(Field, &'static [u8]),
-    /// The first member of a list is cloned.
+    /// Clones the first member of a list.
     CopyMember(&'static [u8]),
-    /// The inner list that is the first member of a list is cloned.
+    /// Clones the first member of a list, which is an inner list.
     CopyInnerList(&'static [u8]),
-    /// A member is entered into a dictionary.
+    /// Inserts a member into a dictionary.
     Enter,
-    /// A parameter is entered.
+    /// Inserts a parameter.
     EnterParameter,
-    /// An item is written into a list.
+    /// Writes an item of a list.
     ListItem,
-    /// An inner list is written into a list, where the text has this room, and perhaps an item after it.
+    /// Writes an inner list of a list, in a buffer with room for this text, and perhaps an item after it.
     InnerList(&'static str, bool),
-    /// An item is written into an inner list, and perhaps another one where it is refused.
+    /// Writes an item of an inner list, and perhaps another one if it fails.
     InnerItem(bool),
-    /// Members are written, perhaps once more where they are refused.
+    /// Writes members, and perhaps again if they fail.
     Members(bool),
-    /// A parameter is written, and perhaps a member after it.
+    /// Writes a parameter, and perhaps a member after it.
     Parameter(bool),
-    /// Members of a dictionary are written.
+    /// Writes members of a dictionary.
     NamedMembers,
-    /// An inner list of a dictionary is begun.
+    /// Begins an inner list of a dictionary.
     NamedInnerList,
-    /// Items of an inner list are written.
+    /// Writes items of an inner list.
     Items,
-    /// An item is written with its parameters, where the text has this room.
+    /// Writes an item with its parameters, in a buffer with room for this text.
     Item(&'static str),
-    /// The calls that write an item are performed, bound to a version or not.
+    /// Performs the calls of an item, for a version or not.
     RunItem(bool),
-    /// The same of a list.
+    /// Performs the calls of a list, for a version or not.
     RunList(bool),
-    /// The same of a dictionary.
+    /// Performs the calls of a dictionary, for a version or not.
     RunDict(bool),
 }
 
-/// Each, with what it answers.
+/// All calls, with their results.
 pub const CALLS: &[Call] = &[
     Call::Read(
         Field::Item,
@@ -169,7 +169,7 @@ pub const CALLS: &[Call] = &[
     Call::RunDict(true),
 ];
 
-/// Reads a field of this type, and writes its value.
+/// Parses a field of this type, and serializes it.
 fn read_as(alloc: Global, field: Field, input: &[u8]) -> Result<Option<String>, Error> {
     match field {
         Field::Item => read::<Item>(alloc, input),
@@ -178,7 +178,8 @@ fn read_as(alloc: Global, field: Field, input: &[u8]) -> Result<Option<String>, 
     }
 }
 
-/// Makes a call. Returns whether its answer is the one that it gives with enough memory, or that it is out of memory.
+/// Makes a call. Returns `true` if its result is the expected one with enough memory. Fails with out of memory if
+/// memory ran out and the arguments are then as the contract states.
 pub fn perform(alloc: Global, call: Call) -> Result<bool, Error> {
     match call {
         Call::Read(field, input, answer) => is_answer(read_as(alloc, field, input), answer),

@@ -1,4 +1,4 @@
-//! Owned copies, clones and insertions: where one is refused, what it is made of or made into stays.
+//! Owned copies, clones and insertions. If one fails, its argument is unchanged.
 
 use crate::refused_if;
 use sfv::visitor::ItemFault;
@@ -9,7 +9,7 @@ use sfv::{
 };
 use std::alloc::Global;
 
-/// Clones a value, where this one is equal to it.
+/// Clones a value, and compares the value and the clone with `same`.
 fn is_cloned<T: Clone + PartialEq>(value: &T, same: &T) -> Result<bool, Error> {
     let copy: Result<_, _> = value.clone();
     let stays = *value == *same;
@@ -25,19 +25,19 @@ pub fn key(alloc: Global) -> Result<bool, Error> {
     is_cloned(&key.to_owned(alloc)?, &key.to_owned(alloc)?)
 }
 
-/// The same of a token.
+/// Copies a token, and clones the copy.
 pub fn token(alloc: Global) -> Result<bool, Error> {
     let token = token_ref("a/b");
     is_cloned(&token.to_owned(alloc)?, &token.to_owned(alloc)?)
 }
 
-/// The same of a string.
+/// Copies a string, and clones the copy.
 pub fn string(alloc: Global) -> Result<bool, Error> {
     let string = string_ref("a b");
     is_cloned(&string.to_owned(alloc)?, &string.to_owned(alloc)?)
 }
 
-/// The value of a row.
+/// Returns the value of a row.
 fn value_of<'a>(row: usize) -> RefBareItem<'a> {
     match row {
         0 => GenericBareItem::String(string_ref("a b")),
@@ -47,13 +47,13 @@ fn value_of<'a>(row: usize) -> RefBareItem<'a> {
     }
 }
 
-/// The same of a value.
+/// Copies a bare item, and clones the copy.
 pub fn bare_item(alloc: Global, row: usize) -> Result<bool, Error> {
     let value = value_of(row);
     is_cloned(&value.try_to_owned(alloc)?, &value.try_to_owned(alloc)?)
 }
 
-/// Whether the value is this string.
+/// Returns `true` if the value is this string.
 fn is_string(value: &BareItem, text: &str) -> Result<bool, Error> {
     Ok(
         value
@@ -62,7 +62,7 @@ fn is_string(value: &BareItem, text: &str) -> Result<bool, Error> {
     )
 }
 
-/// Copies a string as it was read.
+/// Copies a parsed string.
 pub fn read_string(alloc: Global, input: &[u8], text: &str) -> Result<bool, Error> {
     match Parser::new(input).parse_item::<BareItemFromInput<'_>>(alloc) {
         Ok(read) => is_string(&read.try_into_owned(alloc)?, text),
@@ -71,7 +71,7 @@ pub fn read_string(alloc: Global, input: &[u8], text: &str) -> Result<bool, Erro
     }
 }
 
-/// Clones a field that is read.
+/// Clones a parsed field.
 pub fn field<T: FieldType + Clone + PartialEq>(alloc: Global, input: &[u8]) -> Result<bool, Error> {
     let parser = Parser::new(input);
     is_cloned(&parser.parse::<T>(alloc)?, &parser.parse::<T>(alloc)?)
@@ -87,7 +87,7 @@ pub fn member(alloc: Global, input: &[u8]) -> Result<bool, Error> {
     }
 }
 
-/// Clones the inner list that is the first member of a list.
+/// Clones the first member of a list, which is an inner list.
 pub fn inner_list(alloc: Global, input: &[u8]) -> Result<bool, Error> {
     let list = Parser::new(input).parse::<List>(alloc)?;
     let again = Parser::new(input).parse::<List>(alloc)?;
@@ -99,7 +99,7 @@ pub fn inner_list(alloc: Global, input: &[u8]) -> Result<bool, Error> {
     }
 }
 
-/// Enters a member.
+/// Inserts a member.
 pub fn entered(alloc: Global) -> Result<bool, Error> {
     let key = key_ref("b").to_owned(alloc)?;
     let mut dictionary: Dictionary = sfv::dictionary(alloc);
@@ -111,7 +111,7 @@ pub fn entered(alloc: Global) -> Result<bool, Error> {
     Ok(was_new && dictionary.len() == 1)
 }
 
-/// Enters a parameter.
+/// Inserts a parameter.
 pub fn parameter_entered(alloc: Global) -> Result<bool, Error> {
     let key = key_ref("b").to_owned(alloc)?;
     let mut params: Parameters = sfv::parameters(alloc);

@@ -1,9 +1,9 @@
-//! Calls that ask for memory, each with the answer that it gives where there is enough.
+//! Calls that allocate, each with its result if there is enough memory.
 //!
-//! Standard input may name one of them by its number, from 0 to 99; else each is made. Where a request is refused
-//! (`rt try --fail-alloc N`), a call is out of memory, and what it was lent is as its contract says: then the status is 1.
-//! Any other answer is a line of its own, and the status is 0. `docs/check-memory.sh` refuses the first request of each
-//! call, the second, and so on.
+//! Standard input may contain the number of one call, from 0 to 99; otherwise each call is made. If an allocation fails
+//! (`rt try --fail-alloc N`), the call returns that memory ran out, and its arguments are as its contract states. The
+//! status is then 1. Any other result is printed as a line, and the status is 0. `docs/check-memory.sh` fails the first
+//! allocation of each call, the second, and so on.
 #![tactic(auto)]
 
 mod calls;
@@ -18,7 +18,7 @@ use std::io;
 use std::io::Read;
 use std::process::ExitCode;
 
-/// Out of memory, if what is left is as it should be then; else another answer.
+/// Fails with out of memory if the arguments are as they should be after a failed call. Otherwise returns `false`.
 fn refused_if(is_left_so: bool) -> Result<bool, Error> {
     if is_left_so {
         Err(Error::from(OutOfMemory))
@@ -27,7 +27,7 @@ fn refused_if(is_left_so: bool) -> Result<bool, Error> {
     }
 }
 
-/// Whether a refused call left this text, or a call that was made wrote the other.
+/// Checks the text: it is `left` after a failed call, and `written` after a successful one.
 fn is_left(
     is_refused: bool,
     text: Option<&str>,
@@ -41,7 +41,7 @@ fn is_left(
     }
 }
 
-/// The number that the bytes name, if they do.
+/// Parses a decimal number.
 fn number_of(bytes: &[u8]) -> Option<usize> {
     str::from_utf8(bytes).ok()?.parse().ok()
 }

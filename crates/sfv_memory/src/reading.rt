@@ -1,4 +1,4 @@
-//! Fields that are read, and written again; and further lines that are read into a value.
+//! Fields that are parsed and serialized, and further lines of a field.
 
 use crate::refused_if;
 use sfv::visitor::{DictionaryBuilder, ListBuilder};
@@ -8,16 +8,16 @@ use sfv::{
 };
 use std::alloc::Global;
 
-/// What is read of an input: a value of this canonical text, or a fault.
+/// The result of parsing an input: a value with this canonical text, or an error.
 #[derive(Clone, Copy)]
 pub enum Answer {
-    /// This text.
+    /// A value with this canonical text.
     Text(&'static str),
-    /// A fault of this kind at this index.
+    /// An error of this kind at this index.
     Fault(ErrorKind, usize),
 }
 
-/// Whether there is a text, and it is the one that is wanted.
+/// Returns `true` if there is a text, and it is `wanted`.
 fn has_text(text: Option<String>, wanted: &str) -> bool {
     match text {
         Some(text) => text.as_str() == wanted,
@@ -25,7 +25,7 @@ fn has_text(text: Option<String>, wanted: &str) -> bool {
     }
 }
 
-/// Whether this is the answer.
+/// Returns `true` if the result is `answer`.
 pub fn is_answer(read: Result<Option<String>, Error>, answer: Answer) -> Result<bool, Error> {
     match answer {
         Answer::Text(want) => Ok(has_text(read?, want)),
@@ -37,13 +37,13 @@ pub fn is_answer(read: Result<Option<String>, Error>, answer: Answer) -> Result<
     }
 }
 
-/// Reads a field, and writes its value.
+/// Parses a field, and serializes it.
 pub fn read<T: FieldType>(alloc: Global, input: &[u8]) -> Result<Option<String>, Error> {
     let value = Parser::new(input).parse::<T>(alloc)?;
     Ok(value.serialize(alloc)?.into())
 }
 
-/// Reads a field of this canonical text, and writes its value for RFC 8941.
+/// Parses a field from its canonical text, and serializes it for RFC 8941.
 pub fn write_for<T: FieldType>(alloc: Global, input: &str) -> Result<bool, Error> {
     let value = Parser::new(input.as_bytes()).parse::<T>(alloc)?;
     match value.serialize_for(alloc, Version::Rfc8941) {
@@ -52,7 +52,7 @@ pub fn write_for<T: FieldType>(alloc: Global, input: &str) -> Result<bool, Error
     }
 }
 
-/// Writes the value of a reading whose visitor fails for memory alone.
+/// Serializes a value that was parsed with a visitor. The visitor fails only if memory runs out.
 fn written<T: FieldType>(
     alloc: Global,
     read: Result<T, ParseError<OutOfMemory>>,
@@ -64,7 +64,7 @@ fn written<T: FieldType>(
     }
 }
 
-/// Reads a line into the list of another, and writes the list.
+/// Parses a further line of a list, and serializes the list.
 pub fn read_into_list(alloc: Global, held: &[u8], line: &[u8]) -> Result<Option<String>, Error> {
     let parser = Parser::new(line);
     let held = Parser::new(held).parse::<List>(alloc)?;
@@ -72,7 +72,7 @@ pub fn read_into_list(alloc: Global, held: &[u8], line: &[u8]) -> Result<Option<
     written(alloc, parser.parse_list_with_visitor(alloc, builder))
 }
 
-/// The same of a dictionary.
+/// Parses a further line of a dictionary, and serializes the dictionary.
 pub fn read_into_dictionary(
     alloc: Global,
     held: &[u8],

@@ -1,4 +1,4 @@
-//! Lists of calls that are performed at once, and values that are written under a version.
+//! Scripts of calls, and serialization for a version.
 
 use crate::is_left;
 use sfv::script::{
@@ -8,20 +8,20 @@ use sfv::script::{
 use sfv::{Error, GenericBareItem, KeyRef, Version, key_ref, string_ref};
 use std::alloc::Global;
 
-/// The call that writes the parameter of this key.
+/// Returns the call that writes the parameter with this key.
 fn param_calls<'a>(alloc: Global, key: KeyRef<'a>) -> Result<Vec<ParamCall<'a>>, Error> {
     let value = GenericBareItem::Boolean(false);
     Ok(vec![in alloc; ParamCall { key, value }]?)
 }
 
-/// The calls that write `"a \"b\"";a=?0`.
+/// Returns the calls that write `"a \"b\"";a=?0`.
 fn item_calls<'a>(alloc: Global) -> Result<ItemCalls<'a>, Error> {
     let value = GenericBareItem::String(string_ref("a \"b\""));
     let params = param_calls(alloc, key_ref("a"))?;
     Ok(ItemCalls { value, params })
 }
 
-/// The calls that write an inner list of this item.
+/// Returns the calls that write an inner list with this item.
 fn inner_list_calls<'a>(alloc: Global) -> Result<MemberCalls<'a>, Error> {
     let items = vec![in alloc; item_calls(alloc)?]?;
     let params = param_calls(alloc, key_ref("b"))?;
@@ -32,21 +32,21 @@ fn inner_list_calls<'a>(alloc: Global) -> Result<MemberCalls<'a>, Error> {
     })
 }
 
-/// The calls that write the item, and the inner list.
+/// Returns the calls that write the item and the inner list as list members.
 fn member_calls<'a>(alloc: Global) -> Result<Vec<MemberCalls<'a>>, Error> {
     let item = MemberCalls::Item(item_calls(alloc)?);
     let inner_list = inner_list_calls(alloc)?;
     Ok(vec![in alloc; item, inner_list]?)
 }
 
-/// The same of a dictionary.
+/// Returns the calls that write the item and the inner list as dictionary members.
 fn named_calls<'a>(alloc: Global) -> Result<Vec<(KeyRef<'a>, MemberCalls<'a>)>, Error> {
     let item = (key_ref("x"), MemberCalls::Item(item_calls(alloc)?));
     let inner_list = (key_ref("y"), inner_list_calls(alloc)?);
     Ok(vec![in alloc; item, inner_list]?)
 }
 
-/// Whether an item is refused, by calls that are bound to a version or not.
+/// Performs the calls of an item, for a version if `bound` is true, and returns `true` if they fail.
 fn is_item_refused(text: &mut String, calls: &ItemCalls<'_>, bound: bool) -> bool {
     if bound {
         run_item_for(Version::Rfc8941, text, calls).is_err()
@@ -55,7 +55,7 @@ fn is_item_refused(text: &mut String, calls: &ItemCalls<'_>, bound: bool) -> boo
     }
 }
 
-/// An item, by such calls.
+/// Writes an item by its calls.
 pub fn item(alloc: Global, bound: bool) -> Result<bool, Error> {
     let calls = item_calls(alloc)?;
     let mut text = String::from_str(alloc, "P=")?;
@@ -68,7 +68,7 @@ pub fn item(alloc: Global, bound: bool) -> Result<bool, Error> {
     )
 }
 
-/// Whether a list is refused.
+/// Performs the calls of a list, for a version if `bound` is true, and returns `true` if they fail.
 fn is_list_refused(text: &mut String, calls: &[MemberCalls<'_>], bound: bool) -> bool {
     if bound {
         run_list_for(Version::Rfc8941, text, calls).is_err()
@@ -77,7 +77,7 @@ fn is_list_refused(text: &mut String, calls: &[MemberCalls<'_>], bound: bool) ->
     }
 }
 
-/// A list, by such calls.
+/// Writes a list by its calls.
 pub fn list(alloc: Global, bound: bool) -> Result<bool, Error> {
     let calls = member_calls(alloc)?;
     let mut text = String::from_str(alloc, "P=")?;
@@ -86,7 +86,7 @@ pub fn list(alloc: Global, bound: bool) -> Result<bool, Error> {
     is_left(refused, Some(text.as_str()), Some("P="), written)
 }
 
-/// Whether a dictionary is refused.
+/// Performs the calls of a dictionary, for a version if `bound` is true, and returns `true` if they fail.
 fn is_dictionary_refused(
     text: &mut String,
     calls: &[(KeyRef<'_>, MemberCalls<'_>)],
@@ -99,7 +99,7 @@ fn is_dictionary_refused(
     }
 }
 
-/// A dictionary, by such calls.
+/// Writes a dictionary by its calls.
 pub fn dictionary(alloc: Global, bound: bool) -> Result<bool, Error> {
     let calls = named_calls(alloc)?;
     let mut text = String::from_str(alloc, "P=")?;

@@ -1,4 +1,4 @@
-//! Single calls of the serializers: a call that is refused leaves the text as it stood, and whether a member stands.
+//! Single calls of the serializers. After a failed call, the text and `has_member` are unchanged.
 
 ghost use Rattle.std.specs.Prelude.{neg_ℤ, pos, ◌≤ℤ◌};
 
@@ -17,7 +17,7 @@ fn number<'a>(n: i64) -> RefBareItem<'a>
     GenericBareItem::Integer(integer(n))
 }
 
-/// A text with just the room that this one needs, which begins as it does.
+/// Returns a text that begins with `X: ` and has capacity for `room`.
 fn lent(alloc: Global, room: &str) -> Result<String, Error> {
     let mut text = String::with_capacity(alloc, room.len())?;
     text.push_str("X: ")?;
@@ -42,13 +42,13 @@ fn put_inner<X: Sink>(
     Ok(())
 }
 
-/// Ends an inner list: where its parenthesis is refused, it is taken away.
+/// Finishes an inner list. If its parenthesis does not fit, the inner list is removed.
 fn end<W: Sink>(inner: InnerListSerializer<&mut ListSerializer<W>>) -> Result<(), OutOfMemory> {
     inner.finish()?.finish();
     Ok(())
 }
 
-/// Writes `a`, with a parameter.
+/// Writes `a` with a parameter.
 fn put_parameter<W: Sink>(dict: &mut DictSerializer<W>) -> Result<(), SerializeError> {
     let params = dict.bare_item(key_ref("a"), GenericBareItem::Boolean(true))?;
     params.parameter(key_ref("b"), number(2))?.finish();
@@ -61,7 +61,7 @@ fn put_member<W: Sink>(dict: &mut DictSerializer<W>) -> Result<(), SerializeErro
     Ok(())
 }
 
-/// An item of a list into `X: `.
+/// Writes an item of a list after `X: `.
 pub fn first_item(alloc: Global) -> Result<bool, Error> {
     let mut text = lent(alloc, "X: ")?;
     let mut list = ListSerializer::with_buffer(&mut text);
@@ -69,7 +69,7 @@ pub fn first_item(alloc: Global) -> Result<bool, Error> {
     is_left(!made, list.finish(), None, "X: 1")
 }
 
-/// Writes `(5)` whole, or nothing.
+/// Writes `(5)` completely, or nothing.
 fn is_inner_list_made<W: Sink>(list: &mut ListSerializer<W>) -> bool {
     match list.inner_list() {
         Ok(mut inner) => {
@@ -84,7 +84,7 @@ fn is_inner_list_made<W: Sink>(list: &mut ListSerializer<W>) -> bool {
     }
 }
 
-/// An inner list after 1 and before 2, where the text has this room.
+/// Writes an inner list after 1, and before 2 if `goes_on` is true, in a buffer with this room.
 pub fn inner_list(alloc: Global, room: &str, goes_on: bool) -> Result<bool, Error> {
     let mut text = lent(alloc, room)?;
     let mut list = ListSerializer::with_buffer(&mut text);
@@ -103,7 +103,8 @@ pub fn inner_list(alloc: Global, room: &str, goes_on: bool) -> Result<bool, Erro
     }
 }
 
-/// Writes `(5`, 6 if it is made, 7 if it isn't and it is to go on, and the end. Returns whether 6 is made, and the end.
+/// Writes `(5`, then 6, then 7 if 6 failed and `goes_on` is true, and the end. Returns whether 6 was written, and
+/// whether the end was.
 fn write_second<W: Sink>(list: &mut ListSerializer<W>, goes_on: bool) -> (bool, bool) {
     match list.inner_list() {
         Ok(mut inner) => {
@@ -118,7 +119,7 @@ fn write_second<W: Sink>(list: &mut ListSerializer<W>, goes_on: bool) -> (bool, 
     }
 }
 
-/// An item of an inner list, which ends or goes on with another one where this is refused.
+/// Writes an item of an inner list. If it fails, the inner list ends, or continues with another item.
 pub fn inner_item(alloc: Global, goes_on: bool) -> Result<bool, Error> {
     let mut text = lent(alloc, "X: (5")?;
     let mut list = ListSerializer::with_buffer(&mut text);
@@ -133,7 +134,7 @@ pub fn inner_item(alloc: Global, goes_on: bool) -> Result<bool, Error> {
     is_left(!second || !ended, list.finish(), left, "X: (5 6)")
 }
 
-/// The members of a list, once more where they are refused.
+/// Writes the members of a list, and again if they fail.
 pub fn members(alloc: Global, goes_on: bool) -> Result<bool, Error> {
     let value = Parser::new(b"1, (2 3)").parse::<List>(alloc)?;
     let mut text = lent(alloc, "X: ")?;
@@ -144,7 +145,7 @@ pub fn members(alloc: Global, goes_on: bool) -> Result<bool, Error> {
     is_left(!made, list.finish(), left, "X: 1, (2 3)")
 }
 
-/// A parameter of a member of a dictionary, and then another member.
+/// Writes a parameter of a dictionary member, and then another member.
 pub fn parameter(alloc: Global, goes_on: bool) -> Result<bool, Error> {
     let mut text = lent(alloc, "X: a")?;
     let mut dict = DictSerializer::with_buffer(&mut text);
@@ -160,7 +161,7 @@ pub fn parameter(alloc: Global, goes_on: bool) -> Result<bool, Error> {
     }
 }
 
-/// The members of a dictionary.
+/// Writes the members of a dictionary.
 pub fn named_members(alloc: Global) -> Result<bool, Error> {
     let value = Parser::new(b"a=1, b=(2 3);c").parse::<Dictionary>(alloc)?;
     let mut text = lent(alloc, "X: ")?;
@@ -169,7 +170,7 @@ pub fn named_members(alloc: Global) -> Result<bool, Error> {
     is_left(!made, dict.finish(), None, "X: a=1, b=(2 3);c")
 }
 
-/// A named inner list, begun and abandoned.
+/// Begins an inner list of a dictionary, and abandons it.
 pub fn named_inner_list(alloc: Global) -> Result<bool, Error> {
     let mut text = lent(alloc, "X: ")?;
     let mut dict = DictSerializer::with_buffer(&mut text);
@@ -184,7 +185,7 @@ pub fn named_inner_list(alloc: Global) -> Result<bool, Error> {
     if made { Ok(stays) } else { refused_if(stays) }
 }
 
-/// Writes the items of an inner list, and returns whether they are made, and the end.
+/// Writes an inner list with these items. Returns whether the items were written, and whether the end was.
 fn write_items<W: Sink>(list: &mut ListSerializer<W>, items: &[Item]) -> (bool, bool) {
     match list.inner_list() {
         Ok(mut inner) => {
@@ -195,7 +196,7 @@ fn write_items<W: Sink>(list: &mut ListSerializer<W>, items: &[Item]) -> (bool, 
     }
 }
 
-/// The items of an inner list.
+/// Writes the items of an inner list.
 pub fn items(alloc: Global) -> Result<bool, Error> {
     let value = Parser::new(b"(2;a 3)").parse::<List>(alloc)?;
     let Some(ListEntry::InnerList(inner)) = value[..].first() else {
@@ -208,7 +209,7 @@ pub fn items(alloc: Global) -> Result<bool, Error> {
     is_left(!made || !ended, list.finish(), left, "X: (2;a 3)")
 }
 
-/// Writes 1 with the parameters of this item, and tells whether 1 is made.
+/// Writes 1 with the parameters of this item, and records whether 1 was written.
 fn write_item(text: &mut String, item: &Item, is_begun: &mut bool) -> Result<(), SerializeError> {
     let params = ItemSerializer::with_buffer(text).bare_item(number(1))?;
     *is_begun = true;
@@ -216,7 +217,7 @@ fn write_item(text: &mut String, item: &Item, is_begun: &mut bool) -> Result<(),
     Ok(())
 }
 
-/// An item, with its parameters.
+/// Writes an item with its parameters.
 pub fn item(alloc: Global, room: &str) -> Result<bool, Error> {
     let value = Parser::new(b"1;a=2;b").parse::<Item>(alloc)?;
     let mut text = lent(alloc, room)?;

@@ -1,4 +1,4 @@
-//! The field Sec-CH-UA-Mobile (User-Agent Client Hints): whether the user agent wants a page for a mobile device.
+//! The field Sec-CH-UA-Mobile (User-Agent Client Hints): the user agent prefers a page for a mobile device.
 #![tactic(auto)]
 
 ghost use Rattle.std.specs.Prelude.{IfOk, IfErr};
@@ -9,11 +9,11 @@ ghost use Rattle.sfv_mobile_hint.specs.MobileHint.{IsMobileHint};
 use sfv::{Error, Item, Parser};
 use std::alloc::Global;
 
-/// Reads the field: the boolean that it is, whatever its parameters. An item of another kind is false.
+/// Parses the field. Returns its Boolean, or `false` for an item of another kind. Ignores parameters.
 ///
 /// # Errors
 ///
-/// That of `Parser::parse`: the input is no item, or out of memory.
+/// Returns the error of `Parser::parse` if the input is not an item, or if memory runs out.
 pub fn is_mobile(alloc: Global, input: &[u8]) -> Result<bool, Error>
     ensures read { IfOk result (IsMobileHint input.now) }
     ensures rejected { IfErr result (IsParseError rfc9651 item_field input.now) }

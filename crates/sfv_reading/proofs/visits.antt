@@ -5,3 +5,4 @@ pub mod Early
 pub mod Told
 pub mod Leaf
 pub mod Reached
+pub mod Before

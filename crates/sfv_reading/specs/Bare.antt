@@ -1,4 +1,4 @@
--- Reading bare items.
+-- Readers of bare items.
 use Rattle.std.specs.Prelude.{ℕ, ◌+◌, ◌-◌, ◌*◌, ◌^◌, Bool, true, false, ◌||◌, List, ◌∷◌, length, Option, Some, None}
 use Rattle.std.specs.Prelude.{nat_lt, ◌==◌, if◌then◌else◌}
 use Rattle.sfv_spec.specs.Ascii.{double_quote, percent_sign, digit_zero, colon}
@@ -16,15 +16,15 @@ use Rattle.sfv_reading.specs.Reader.{Reader, give, fail, ruled, ◌>>=◌, branc
 use Rattle.sfv_reading.specs.Content.{bytes_at}
 use Rattle.sfv_reading.specs.Quoted.{string_at, display_at}
 
--- a minus sign, or none
+-- `true` for a minus sign, `false` for none
 unfoldable pub sign_at : Reader Bool
 sign_at = branch (byte minus_sign) (λ _. give true) (give false)
 
--- a fourth digit after the point; in a Date the place has a rule of its own
+-- a fourth digit after the point: at the reach, and in a Date by a rule
 unfoldable pub long_at : Bool → Reader (Option BareValue)
 long_at dated = if dated then ruled too_many_digits_after_decimal_point else fail too_many_digits_after_decimal_point
 
--- the Decimal of these digits, and nothing if none stands after the point
+-- the Decimal of these digits, or `None` without a digit after the point
 unfoldable pub decimal_at : Bool → Bool → List ℕ → List ℕ → Reader (Option BareValue)
 decimal_at dated negative whole fraction =
     if length fraction == 0 then give None else
@@ -36,12 +36,12 @@ decimal_at dated negative whole fraction =
 unfoldable pub fraction_at : Bool → Bool → List ℕ → Reader (Option BareValue)
 fraction_at dated negative whole = up_to is_digit 3 >>= λ fraction. decimal_at dated negative whole fraction
 
--- at the point
+-- the point and the digits after it
 unfoldable pub point_at : Bool → Bool → List ℕ → Reader BareValue
 point_at dated negative whole = back trailing_decimal_point
     (branch (byte dot) (λ _. fraction_at dated negative whole) (give None))
 
--- after the first digits, of which there are fifteen at most
+-- the rest of a number after its first digits, at most fifteen
 unfoldable pub whole_at : Bool → Bool → List ℕ → Reader BareValue
 whole_at dated negative whole =
     if length whole == 0 then fail expected_digit else
@@ -50,32 +50,32 @@ whole_at dated negative whole =
     (if nat_lt 12 (length whole) then fail too_many_digits_before_decimal_point else point_at dated negative whole)
     (give (integer (signed negative (place_value whole)))))
 
--- a number, by itself or as a Date
+-- a number: a bare item, or the seconds of a Date
 unfoldable pub number_at : Bool → Reader BareValue
 number_at dated = sign_at >>= λ negative. up_to is_digit 15 >>= λ whole. whole_at dated negative whole
 
--- after the question mark
+-- a Boolean after its question mark
 unfoldable pub boolean_at : Reader BareValue
 boolean_at = branch (byte digit_zero) (λ _. give (boolean false))
     (branch (byte digit_one) (λ _. give (boolean true)) (fail expected_boolean))
 
--- a token, or no bare item at all
+-- a Token; otherwise no bare item begins here
 unfoldable pub token_at : Reader BareValue
 token_at = branch is_token_start (λ c. span is_token_inner >>= λ cs. give (token (c ∷ cs)))
     (fail expected_start_of_bare_item)
 
--- a Decimal is no Date
+-- the Date of an Integer, and none of a Decimal
 abbrev pub as_date : BareValue → Option BareValue
 as_date (integer z) = Some (date z)
 as_date _ = None
 
--- at the sign "@", which only RFC 9651 knows
+-- a Date, which RFC 8941 lacks
 unfoldable pub date_at : Edition → Reader BareValue
 date_at rfc8941 = fail rfc8941_date
 date_at rfc9651 = back non_integer_date
     (branch (byte at_sign) (λ _. number_at true >>= λ v. give (as_date v)) (give None))
 
--- at the percent sign, which only RFC 9651 knows
+-- a Display String, which RFC 8941 lacks
 unfoldable pub quoted_at : Edition → Reader BareValue
 quoted_at rfc8941 = fail rfc8941_display_string
 quoted_at rfc9651 = branch (byte percent_sign)
@@ -86,7 +86,7 @@ quoted_at rfc9651 = branch (byte percent_sign)
 abbrev pub is_number_start : ℕ → Bool
 is_number_start b = is_digit b || (b == minus_sign)
 
--- a bare item, whose kind the first byte decides
+-- a bare item; its first byte decides the kind
 unfoldable pub bare_at : Edition → Reader BareValue
 bare_at edition =
     branch (byte question_mark) (λ _. boolean_at)

@@ -1,4 +1,4 @@
--- What the readers of fields have to do with the grammar.
+-- The theorems on readers and the grammar.
 use Rattle.std.specs.Prelude.{◌≡◌, ◌↔◌, ℕ, ◌+◌, ◌≤◌, ◌%◌, List, [], ◌∷◌, ◌++◌, length, take, drop, true, false}
 use Rattle.std.specs.Prelude.{Some, None, Ok, Err, ◌⊎◌, codes}
 use Rattle.sfv_spec.specs.Ascii.{colon}
@@ -18,38 +18,38 @@ use Rattle.sfv_reading.specs.Content.{bytes_at}
 use Rattle.sfv_reading.specs.Bare.{bare_at}
 use Rattle.sfv_reading.specs.Fields.{whole_field_at, read_field}
 
--- A fault stands at the reach, or its place has a rule; what was visited begins some field's events.
+-- A fault is at the reach, or its index has a rule. The events before it are a prefix of the events of some field.
 pub record IsPlacedFault (edition : Edition) (kind : FieldKind) (t : List ℕ) (e : Fault) : Type 0 where
   pub told : BeginsEvents kind e.events
   pub exact : e.exact ≡ true → (n : ℕ) × (drop n t ≡ e.rest) × IsReach edition kind t n
   pub ruled : e.exact ≡ false → has_rule e.kind ≡ true
 
--- a field is read as the grammar accepts it
+-- the reader of a field accepts a text if and only if the grammar does, with the same value
 abbrev pub ReadIsAccepted : Type 0
 ReadIsAccepted = (edition : Edition) (kind : FieldKind) (t : List ℕ) (raw : RawField kind)
     → (read_field edition kind t ≡ Ok raw) ↔ IsFieldText edition kind raw t
 
--- each fault of a field stands where it should
+-- each fault of a field is at its index
 abbrev pub FaultIsPlaced : Type 0
 FaultIsPlaced = (edition : Edition) (kind : FieldKind) (t : List ℕ) (e : Fault) → read_field edition kind t ≡ Err e
     → IsPlacedFault edition kind t e
 
--- what is visited by an answer, a success or a fault, begins some field's events
+-- the events of a result, a success or a fault, are a prefix of the events of some field
 abbrev pub VisitedBegins : Type 0
 VisitedBegins = (edition : Edition) (kind : FieldKind) (t : List ℕ)
     → BeginsEvents kind (visited (events kind) (whole_field_at edition kind t))
 
--- what was visited before a fault begins the events of a field whose text begins with all bytes up to the reach
+-- the events before a fault are a prefix of the events of a field whose text begins with all bytes up to the reach
 abbrev pub EventsReach : Type 0
 EventsReach = (edition : Edition) (kind : FieldKind) (t : List ℕ) (e : Fault) → read_field edition kind t ≡ Err e
     → (n : ℕ) → IsReach edition kind t n → BeginsEventsAfter edition kind (take n t) e.events
 
--- so does what a visitor took before it rejected, with what it rejected
+-- so are the events before an event at which a visitor fails, and that event
 abbrev pub FailedBegins : Type 0
 FailedBegins = (kind : FieldKind) (es before : List TreeEvent) (e : TreeEvent) (after : List TreeEvent)
     → BeginsEvents kind es → es ≡ before ++ e ∷ after → BeginsEvents kind (before ++ e ∷ [])
 
--- a comma and blanks at the end, after a field with a member
+-- the fault of a field with a member, a comma, and blanks up to the end
 abbrev pub CommaRow : Type 0
 CommaRow = (edition : Edition) (kind : FieldKind) (t : List ℕ) (index : ℕ) → IsTrailingComma edition kind t index
     → (raw : RawField kind)
@@ -66,7 +66,7 @@ CommaRow = (edition : Edition) (kind : FieldKind) (t : List ℕ) (index : ℕ) �
 abbrev pub IsSomeBareText : Edition → List ℕ → Type 0
 IsSomeBareText edition t = (value : BareValue) × IsBareText edition value t
 
--- t is the longest text of any value that it begins with, which has this value alone, and the rest
+-- `front` is the longest text of a bare value at the start of `t`; it has this value only, and `rest` follows
 pub record BeginsWithBare (edition : Edition) (t : List ℕ) (value : BareValue) (rest : List ℕ) : Type 0 where
   pub front : List ℕ
   pub text : t ≡ front ++ rest
@@ -75,7 +75,7 @@ pub record BeginsWithBare (edition : Edition) (t : List ℕ) (value : BareValue)
   pub longest : (longer behind : List ℕ) → t ≡ longer ++ behind → IsSomeBareText edition longer
       → length longer ≤ length front
 
--- what is read is the longest text; where nothing is read, no text of a value stands there and is ended
+-- the reader consumes the longest text; if it fails, `IsEnded` holds after no text of a bare value at the start
 abbrev pub BareIsExact : Type 0
 BareIsExact =
     ((edition : Edition) (t : List ℕ) (value : BareValue) (rest : List ℕ) → bare_at edition t ≡ Ok (value, rest)
@@ -85,24 +85,24 @@ BareIsExact =
 
 -- ---- the insides of byte sequences
 
--- a content is Base64 of the bytes that `bytes_of` gives, and of no others
+-- a content is Base64 of the bytes that `bytes_of` returns, and of no others
 abbrev pub GivesTheBytes : Type 0
 GivesTheBytes = (content bytes : List ℕ) → IsBase64Text bytes content ↔ (bytes_of content ≡ Some bytes)
 
--- a content that is at fault at its end is symbols, of which one is left over
+-- a content with its fault at the last byte consists of symbols, one more than a multiple of four
 abbrev pub LeavesOneOver : Type 0
 LeavesOneOver = (content : List ℕ) → bytes_of content ≡ None
     → (valid_from 0 content ≡ length content) ↔ (RunOf (is_one_of symbols) content × (length content % 4 ≡ 1))
 
--- no colon follows, or the content in front of the first one is no Base64
+-- no colon follows, or the content before the first colon is not Base64
 abbrev pub IsBytesFault : List ℕ → Fault → Type 0
 IsBytesFault t e =
     (HasNoColon t × (e ≡ by_rule unterminated_byte_sequence []))
     ⊎ ((content : List ℕ) × (rest : List ℕ) × (t ≡ content ++ colon ∷ rest) × HasNoColon content
     × (bytes_of content ≡ None) × (e ≡ content_fault content (drop (fault_place content) t)))
 
--- In a text in which a bare item is wanted after before, and a Byte Sequence begins there, the reader gives
--- this fault by its rule, where so much of the whole is left.
+-- In `whole`, a bare item may follow `before`, and a Byte Sequence begins there. The reader has the fault `k` by a
+-- rule, at `index`.
 pub record IsFaultOfBytes (edition : Edition) (kind : FieldKind) (whole : List ℕ) (k : SyntaxFault)
     (index : ℕ) : Type 0 where
   pub before : List ℕ
@@ -112,7 +112,7 @@ pub record IsFaultOfBytes (edition : Edition) (kind : FieldKind) (whole : List �
   pub fault : bytes_at inside ≡ Err (by_rule k there)
   pub here : index + length there ≡ length whole
 
--- the faults of a Byte Sequence that have rules are those of these rules, each at its place
+-- the two rules for Byte Sequences give the reader's faults, at the same index
 abbrev pub BytesRules : Type 0
 BytesRules =
     ((edition : Edition) (kind : FieldKind) (whole : List ℕ) (index : ℕ)

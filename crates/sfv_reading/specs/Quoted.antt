@@ -1,4 +1,4 @@
--- Reading Strings and Display Strings: what stands after the opening quote, from left to right.
+-- Readers of Strings and Display Strings after the opening quote, from left to right.
 use Rattle.std.specs.Prelude.{◌≡◌, ℕ, zero, suc, ◌≤◌, ◌+◌, ◌*◌, Bool, true, false, List, [], ◌∷◌, ◌++◌, length, drop}
 use Rattle.std.specs.Prelude.{Ok, Err, IsFalse, IsUtf8, ◌==◌, if◌then◌else◌, codes}
 use Rattle.std.specs.List.{concat, AllZip}
@@ -22,14 +22,14 @@ IsStringEnd s t = (IsStringContent s ⨾ Exactly (codes "\"")) t
 abbrev pub IsDisplayEnd : List ℕ → List ℕ → Type 0
 IsDisplayEnd s t = (IsDisplayContent s ⨾ Exactly (codes "\"")) t
 
--- an answer after bytes that were read before
+-- the result with these bytes before its bytes
 abbrev pub behind_bytes : List ℕ → Answer (List ℕ) → Answer (List ℕ)
 behind_bytes bytes (Ok x) = Ok (bytes ++ x.0, x.1)
 behind_bytes bytes (Err e) = Err e
 
--- ---- a String, also after a backslash
+-- ---- a String, outside an escape and after a backslash
 
--- the bytes up to the closing quote; true: the next byte is escaped
+-- the bytes up to the closing quote; `true` after a backslash
 unfoldable pub string_from : Bool → Reader (List ℕ)
 string_from false [] = Err (at_reach unterminated_string [])
 string_from false (c ∷ r) =
@@ -42,18 +42,18 @@ string_from true (c ∷ r) =
     if is_escaped_in_string c then behind_bytes (c ∷ []) (string_from false r)
     else Err (at_reach invalid_escape_sequence (c ∷ r))
 
--- after the opening quote, with the closing one
+-- a String after its opening quote, with the closing one
 abbrev pub string_at : Reader (List ℕ)
 string_at = string_from false
 
--- ---- a Display String, also after a percent sign, and after that and a digit
+-- ---- a Display String, outside an escape, after a percent sign, and after its first digit
 
--- where in a Display String the next byte stands
+-- the place in a Display String before the next byte
 pub data Place : Type 0 where
   outside percent : Place
   digit : ℕ → Place
 
--- its bytes, be they UTF-8 or not
+-- the bytes up to the closing quote, without a check of UTF-8
 unfoldable pub pieces_from : Place → Reader (List ℕ)
 pieces_from outside [] = Err (by_rule unterminated_display_string [])
 pieces_from outside (c ∷ r) =
@@ -71,25 +71,25 @@ pieces_from (digit h) (c ∷ r) =
     then behind_bytes ((16 * hexadecimal_value h + hexadecimal_value c) ∷ []) (pieces_from outside r)
     else Err (by_rule invalid_escape_sequence (c ∷ r))
 
--- what stands after n pieces
+-- the text after `n` pieces
 abbrev pub behind_pieces : ℕ → List ℕ → List ℕ
 behind_pieces zero t = t
 behind_pieces (suc n) [] = []
 behind_pieces (suc n) (c ∷ r) = behind_pieces n (if c == percent_sign then drop 2 r else r)
 
--- the bytes must be UTF-8
+-- fails if the bytes are not UTF-8
 abbrev pub checked : List ℕ → Answer (List ℕ) → Answer (List ℕ)
 checked t (Ok x) = if is_utf8 x.0 then Ok x
     else Err (by_rule invalid_utf8_in_display_string (behind_pieces (utf8_valid_len x.0) t))
 checked t (Err e) = Err e
 
--- after the opening quote, with the closing one
+-- a Display String after its opening quote, with the closing one
 unfoldable pub display_at : Reader (List ℕ)
 display_at t = checked t (pieces_from outside t)
 
--- ---- where the pieces end, but for the closing quote: this is left, and the fault stands there
+-- ---- where the pieces end without a closing quote: `left` follows them, and the fault is at `there`
 
--- a String's inside stops so
+-- the pieces of a String end with this fault
 abbrev pub StringStops : SyntaxFault → List ℕ → List ℕ → Type 0
 StringStops unterminated_string left there = (left ≡ []) × (there ≡ [])
 StringStops unterminated_escape_sequence left there = (left ≡ backslash ∷ []) × (there ≡ [])
@@ -99,7 +99,7 @@ StringStops invalid_string_character left there = (wrong : ℕ) × (more : List 
     × (there ≡ wrong ∷ more) × IsFalse (is_string_byte wrong)
 StringStops _ left there = ⊥
 
--- a Display String's inside stops so
+-- the pieces of a Display String end with this fault
 abbrev pub DisplayStops : SyntaxFault → List ℕ → List ℕ → Type 0
 DisplayStops unterminated_display_string left there = (left ≡ []) × (there ≡ [])
 DisplayStops unterminated_escape_sequence left there = (digits : List ℕ) × (left ≡ percent_sign ∷ digits) × (there ≡ [])
@@ -111,7 +111,7 @@ DisplayStops invalid_display_string_character left there = (wrong : ℕ) × (mor
     × (there ≡ wrong ∷ more) × IsFalse (is_string_byte wrong)
 DisplayStops _ left there = ⊥
 
--- The pieces that are read, one for each byte, and what is left after them.
+-- `t` is pieces, one for each byte, and the rest `left` after them.
 pub record Traced (P : ℕ → List ℕ → Type 0) (t : List ℕ) (Ends : List ℕ → List ℕ → Type 0) : Type 0 where
   pub bytes : List ℕ
   pub pieces : List (List ℕ)
@@ -120,11 +120,11 @@ pub record Traced (P : ℕ → List ℕ → Type 0) (t : List ℕ) (Ends : List 
   pub content : AllZip P bytes pieces
   pub ends : Ends bytes left
 
--- the faults of a String whose inside is t
+-- the faults of a String with the inside `t`
 abbrev pub IsStringFault : List ℕ → SyntaxFault → List ℕ → Type 0
 IsStringFault t kind there = Traced IsStringPiece t (λ bytes left. StringStops kind left there)
 
--- the faults of a Display String whose inside is t: all but that of UTF-8 stop the pieces
+-- the faults of a Display String with the inside `t`; all except invalid UTF-8 end the pieces
 abbrev pub IsDisplayFault : List ℕ → SyntaxFault → List ℕ → Type 0
 IsDisplayFault t invalid_utf8_in_display_string there =
     Traced IsDisplayPiece t (λ bytes left. (rest : List ℕ) × (left ≡ double_quote ∷ rest) × (¬ IsUtf8 bytes)

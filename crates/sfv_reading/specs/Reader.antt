@@ -1,4 +1,4 @@
--- Readers: functions on lists that give a value and the rest, or a fault.
+-- Readers: parsers over lists. A reader returns a value and the rest, or a fault.
 use Rattle.std.specs.Prelude.{◌≡◌, ℕ, zero, suc, Bool, true, false, List, [], ◌∷◌, ◌++◌, length, Option, Some, None}
 use Rattle.std.specs.Prelude.{Result, Ok, Err, if◌then◌else◌, ◌==◌}
 use Rattle.sfv_spec.specs.Events.{TreeEvent}
@@ -8,7 +8,7 @@ use Rattle.sfv_spec.specs.Faults.{invalid_byte_sequence}
 use Rattle.sfv_spec.specs.Faults.{unterminated_display_string, unterminated_escape_sequence, invalid_escape_sequence}
 use Rattle.sfv_spec.specs.Faults.{invalid_display_string_character, invalid_utf8_in_display_string}
 
--- the kinds of fault that a rule of their own may place
+-- the kinds of fault with their own rule for the index
 abbrev pub has_rule : SyntaxFault → Bool
 has_rule trailing_comma = true
 has_rule trailing_decimal_point = true
@@ -23,51 +23,51 @@ has_rule invalid_display_string_character = true
 has_rule invalid_utf8_in_display_string = true
 has_rule _ = false
 
--- What is met first that isn't of the grammar. Where it is exact, the rest begins at the first byte after
--- which no text of the grammar goes on; the events are those that were visited before.
+-- The first fault of a text. `rest` is the text from the fault on, and `events` are the events before it. For an exact
+-- fault, the text before `rest` is a prefix of a text of the grammar, and no longer prefix is.
 pub record Fault : Type 0 where
   pub kind : SyntaxFault
   pub exact : Bool
   pub rest : List ℕ
   pub events : List TreeEvent
 
--- a fault of which nothing was visited before
+-- a fault without events
 abbrev pub placed : Bool → SyntaxFault → List ℕ → Fault
 placed exact k t = record { kind = k; exact = exact; rest = t; events = [] }
 
--- one that stands at the reach
+-- a fault at the reach
 abbrev pub at_reach : SyntaxFault → List ℕ → Fault
 at_reach k t = placed true k t
 
--- one whose place has a rule of its own
+-- a fault whose index has its own rule
 abbrev pub by_rule : SyntaxFault → List ℕ → Fault
 by_rule k t = placed false k t
 
--- a value and the rest of the text, or a fault
+-- the result of a reader: a value and the rest of the text, or a fault
 abbrev pub Answer : Type 0 → Type 0
 Answer A = Result (A × List ℕ) Fault
 
--- what is read of a text
+-- a parser over lists
 abbrev pub Reader : Type 0 → Type 0
 Reader A = List ℕ → Answer A
 
--- after events that were visited before
+-- the fault with these events before its events
 abbrev pub behind_events : List TreeEvent → Fault → Fault
 behind_events es e = record { kind = e.kind; exact = e.exact; rest = e.rest; events = es ++ e.events }
 
--- the value, and nothing read
+-- returns the value, and consumes nothing
 unfoldable pub give : {A : Type 0} → A → Reader A
 give v t = Ok (v, t)
 
--- a fault here, at the reach
+-- fails here, at the reach
 unfoldable pub fail : {A : Type 0} → SyntaxFault → Reader A
 fail k t = Err (at_reach k t)
 
--- a fault here, where its own rule places it
+-- fails here, where a rule has its own index
 unfoldable pub ruled : {A : Type 0} → SyntaxFault → Reader A
 ruled k t = Err (by_rule k t)
 
--- goes on after an answer, if it is no fault
+-- continues after a success, and keeps a fault
 abbrev pub and_then : {A B : Type 0} → Answer A → (A → Reader B) → Answer B
 and_then (Ok x) g = g x.0 x.1
 and_then (Err e) g = Err e
@@ -80,60 +80,60 @@ infixl 10 ◌>>=◌
 abbrev pub ◌>>=◌ : {A B : Type 0} → Reader A → (A → Reader B) → Reader B
 f >>= g = bind f g
 
--- an answer after these events
+-- the result with these events before the events of its fault
 abbrev pub led_answer : {A : Type 0} → List TreeEvent → Answer A → Answer A
 led_answer es (Ok x) = Ok x
 led_answer es (Err e) = Err (behind_events es e)
 
--- hands out these events, and goes on
+-- emits these events, and continues
 unfoldable pub led : {A : Type 0} → List TreeEvent → Reader A → Reader A
 led es f t = led_answer es (f t)
 
--- takes a byte of the class, or goes on without it
+-- consumes a byte of the class, or continues without it
 unfoldable pub branch : {A : Type 0} → (ℕ → Bool) → (ℕ → Reader A) → Reader A → Reader A
 branch class taken other [] = other []
 branch class taken other (c ∷ r) = if class c then taken c r else other (c ∷ r)
 
--- goes on by what the next byte is, and leaves it
+-- chooses by the next byte, and does not consume it
 unfoldable pub ahead : {A : Type 0} → (ℕ → Bool) → Reader A → Reader A → Reader A
 ahead class taken other [] = other []
 ahead class taken other (c ∷ r) = if class c then taken (c ∷ r) else other (c ∷ r)
 
--- a fault at the start of t in place of nothing
+-- turns `None` into a fault at the start of `t`
 abbrev pub at_start : {A : Type 0} → SyntaxFault → List ℕ → Answer (Option A) → Answer A
 at_start k t (Ok (Some v, r)) = Ok (v, r)
 at_start k t (Ok (None, r)) = Err (record { kind = k; exact = false; rest = t; events = [] })
 at_start k t (Err e) = Err e
 
--- a fault at the start, by a rule of its own, where f gives nothing
+-- fails at the start, by a rule, if `f` returns `None`
 unfoldable pub back : {A : Type 0} → SyntaxFault → Reader (Option A) → Reader A
 back k f t = at_start k t (f t)
 
--- at most so many bytes of the class
+-- consumes at most this many bytes of the class
 unfoldable pub up_to : (ℕ → Bool) → ℕ → Reader (List ℕ)
 up_to class zero = give []
 up_to class (suc n) = branch class (λ c. up_to class n >>= λ cs. give (c ∷ cs)) (give [])
 
--- the bytes of the class, as many as there are
+-- consumes the longest run of bytes of the class
 unfoldable pub span : (ℕ → Bool) → Reader (List ℕ)
 span class [] = Ok ([], [])
 span class (c ∷ r) = if class c then and_then (span class r) (λ cs. give (c ∷ cs)) else Ok ([], c ∷ r)
 
--- after a step: more of them, or the end
+-- after a step: the rest of the list, or its end
 abbrev pub go_on : {A : Type 0} → (A → List TreeEvent) → Reader (List A) → Option A → Reader (List A)
 go_on parts more None = give []
 go_on parts more (Some a) = led (parts a) (more >>= λ vs. give (a ∷ vs))
 
--- so many steps; want of more never shows, since `many` has enough
+-- at most this many steps; the fault at zero never occurs, because `many` allows enough steps
 unfoldable pub many_within : {A : Type 0} → (A → List TreeEvent) → ℕ → Reader (Option A) → Reader (List A)
 many_within parts zero step = ruled unterminated_byte_sequence
 many_within parts (suc n) step = step >>= go_on parts (many_within parts n step)
 
--- step after step, until one gives nothing; each takes a byte, and hands out the events of its value
+-- repeats a step until it returns `None`; each step consumes a byte, and emits the events of its value
 unfoldable pub many : {A : Type 0} → (A → List TreeEvent) → Reader (Option A) → Reader (List A)
 many parts step t = many_within parts (suc (length t)) step t
 
--- one, and what the steps after it give
+-- one value, and the values of the steps after it
 abbrev pub one_and_more : {A : Type 0} → (A → List TreeEvent) → Reader A → Reader (Option A) → Reader (List A)
 one_and_more parts one next = one >>= λ v. led (parts v) (many parts next >>= λ vs. give (v ∷ vs))
 
@@ -145,16 +145,16 @@ byte c b = b == c
 abbrev pub any : ℕ → Bool
 any _ = true
 
--- what was visited by an answer
+-- the events of a result
 abbrev pub visited : {A : Type 0} → (A → List TreeEvent) → Answer A → List TreeEvent
 visited parts (Ok x) = parts x.0
 visited parts (Err e) = e.events
 
--- the byte that stands next
+-- the next byte
 abbrev pub first : List ℕ → Option ℕ
 first [] = None
 first (c ∷ r) = Some c
 
--- no byte of the class stands next
+-- the next byte is not of the class, or there is none
 pub record Apart (class : ℕ → Bool) (t : List ℕ) : Type 0 where
   pub apart : (c : ℕ) → first t ≡ Some c → class c ≡ false

@@ -1,20 +1,20 @@
-//! Where a visitor fails, the reading ends: it is called no further.
+//! A check that parsing ends where a visitor fails, and that the visitor is not called again.
 
 use crate::replay::Field;
 use sfv::visitor::{Event, Visitor};
 use sfv::{ParseError, Parser, Version};
 use std::alloc::Global;
 
-/// Counts its calls in a place that outlives it, and fails at one of them.
+/// A visitor that counts its calls in a borrowed counter, and fails at one of them.
 #[derive(Drop)]
 struct Watched<'a> {
     calls: &'a mut u64,
-    /// The call at which it fails, from 1; 0 for none.
+    /// The call that fails, from 1; 0 for none.
     failing_call: u64,
 }
 
 impl Watched<'_> {
-    /// Counts a call, and fails with its number if it is the one.
+    /// Counts a call, and fails with its number if it is the failing call.
     fn call(&mut self) -> Result<(), u64> {
         *self.calls = self.calls.saturating_add(1);
         if *self.calls == self.failing_call {
@@ -50,7 +50,7 @@ impl<'de, 'a> Visitor<'de> for Watched<'a> {
     }
 }
 
-/// Reads with a visitor that counts its calls there.
+/// Parses with a visitor that counts its calls in `calls`.
 fn read_with_counter(
     alloc: Global,
     parser: Parser<'_>,
@@ -69,15 +69,16 @@ fn read_with_counter(
     }
 }
 
-/// Whether a visitor that fails at this call ends the reading there: its failure is returned, and it is called no
-/// further.
+/// Returns `true` if parsing ends at the failing call: it returns the visitor's error, and does not call the visitor
+/// again.
 fn ends_at(alloc: Global, parser: Parser<'_>, field: Field, failing_call: u64) -> bool {
     let mut calls = 0;
     let answer = read_with_counter(alloc, parser, field, &mut calls, failing_call);
     calls == failing_call && matches!(answer, Err(ParseError::Visitor(n)) if n == failing_call)
 }
 
-/// How often a visitor that never fails is called, if each that fails at one of these calls ends the reading there.
+/// Returns the number of calls of a visitor that never fails. Returns `None` unless, for each of these calls, a visitor
+/// that fails there ends parsing.
 pub fn calls_of(alloc: Global, field: Field, version: Version, input: &[u8]) -> Option<u64> {
     let parser = Parser::new(input).with_version(version);
     let mut total = 0;

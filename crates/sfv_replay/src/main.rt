@@ -1,11 +1,13 @@
-//! Replays a list of inputs with their answers.
+//! Replays a list of inputs with known results.
 //!
-//! Each line of standard input is `TYPE VERSION HEX CALLS ANSWER`: the type of field, the version, the input in
-//! hexadecimal (`-` for no bytes), how often a visitor is called, and `ok HEX` of the canonical text, `ok none` of an
-//! empty list or dictionary, or `err MESSAGE`. The program prints each line whose answer is another one, and how many
-//! there were. Of the faults whose kind has no rule for its place it tries whether the text goes on like an accepted one
-//! just up to there (`positions`); and of each line whether a visitor is called so often, and with a failure at each
-//! call no further (`failures`).
+//! Each line of standard input is `TYPE VERSION HEX CALLS ANSWER`: the field type, the version, the input in
+//! hexadecimal (`-` for no bytes), the number of calls of a visitor, and the result. The result is `ok HEX` with the
+//! canonical text, `ok none` for an empty list or dictionary, or `err MESSAGE`. The program prints each line with
+//! another result, and the numbers of lines.
+//!
+//! For an error without a rule for its index, the program checks that the text before the index can be completed to an
+//! accepted text. With one byte more, it cannot (`positions`). For each line, it checks the number of calls of a
+//! visitor, and that a visitor that fails at one of these calls is not called again (`failures`).
 #![tactic(auto)]
 
 mod failures;
@@ -21,7 +23,7 @@ use std::io;
 use std::io::{BufRead, BufReader};
 use std::process::ExitCode;
 
-/// The fault of an input, if all faults of its kind stand at the reach of the text.
+/// Returns the index of the error of an input, if errors of this kind are always at the reach of the text.
 fn fault_at_reach(alloc: Global, field: Field, version: Version, input: &[u8]) -> Option<usize> {
     match canonical_text(alloc, field, version, input) {
         Err(error) if stands_at_reach(error.kind()) => error.index(),
@@ -29,7 +31,7 @@ fn fault_at_reach(alloc: Global, field: Field, version: Version, input: &[u8]) -
     }
 }
 
-/// How often something was tried, and how often it failed.
+/// The number of checks, and of failed checks.
 #[derive(Clone, Copy, Default)]
 struct Tries {
     all: u64,
@@ -37,7 +39,7 @@ struct Tries {
 }
 
 impl Tries {
-    /// Counts a try, and returns whether it failed.
+    /// Counts a check, and returns `true` if it failed.
     fn fails(&mut self, passed: bool) -> bool {
         self.all = self.all.saturating_add(1);
         if !passed {
@@ -47,7 +49,7 @@ impl Tries {
     }
 }
 
-/// How often the answers, the faults and the visits were tried.
+/// The checks of results, of indexes and of calls.
 #[derive(Clone, Copy, Default)]
 struct Counts {
     answers: Tries,
@@ -56,12 +58,12 @@ struct Counts {
 }
 
 impl Counts {
-    /// Whether no try failed.
+    /// Returns `true` if no check failed.
     fn has_passed(&self) -> bool {
         self.answers.failed == 0 && self.faults.failed == 0 && self.visits.failed == 0
     }
 
-    /// Tries the case of a line, and prints the line with what failed.
+    /// Checks the case of a line, and prints the line for each failed check.
     fn try_case(
         &mut self,
         rt: &HostRuntime,
@@ -91,7 +93,7 @@ impl Counts {
         Ok(())
     }
 
-    /// Tries a line, and returns whether it is one.
+    /// Checks a line. Returns `false` if it is malformed.
     fn try_line(&mut self, rt: &HostRuntime, line: &str) -> io::Result<bool> {
         let Some(case) = parse_line(line) else {
             println!(rt; "can't be read: {line}")?;
@@ -105,7 +107,7 @@ impl Counts {
         Ok(true)
     }
 
-    /// Prints how many there were of each.
+    /// Prints the numbers of checks.
     fn print(&self, rt: &HostRuntime) -> io::Result<()> {
         let Counts {
             answers,

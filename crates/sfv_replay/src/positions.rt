@@ -1,15 +1,16 @@
-//! Whether a fault stands where its text can't go on: the text in front of it goes on with one of a few endings like an
-//! accepted one, and with one byte more with none of them.
+//! A check that an error is where its text cannot continue. With one of a few endings, the text before the index is
+//! accepted. With one byte more, it is accepted with none of them.
 
 use crate::replay::{Field, canonical_text};
 use sfv::{ErrorKind, Version};
 use std::alloc::{AllocError, Global};
 
-/// With one of these, and perhaps a closing parenthesis, each text goes on in front of a fault whose kind has no rule: an
-/// end, a digit, a key's first byte, what ends a string or is escaped in it, and what ends a byte sequence.
+/// Endings: nothing, a digit, the first byte of a key, the end of a string or an escaped byte, and the end of a byte
+/// sequence. If the kind of an error has no rule, one of them completes the text before it, perhaps with a closing
+/// parenthesis.
 const ENDINGS: &[&str] = &["", "1", "a", "\"", "\"\"", ":", "A:", "AA:", "=:", "==:"];
 
-/// Whether every fault of this kind stands at the reach of the text.
+/// Returns `true` if every error of this kind is at the reach of the text.
 pub fn stands_at_reach(kind: ErrorKind) -> bool {
     matches!(
         kind,
@@ -31,7 +32,7 @@ pub fn stands_at_reach(kind: ErrorKind) -> bool {
     )
 }
 
-/// The text with an ending, and what closes it.
+/// Returns the text with an ending, and with what closes it.
 fn text_of(alloc: Global, front: &[u8], ending: &str, close: &str) -> Result<Vec<u8>, AllocError> {
     let mut text = Vec::from_slice(alloc, front)?;
     text.extend_from_slice(ending.as_bytes())?;
@@ -39,7 +40,7 @@ fn text_of(alloc: Global, front: &[u8], ending: &str, close: &str) -> Result<Vec
     Ok(text)
 }
 
-/// Whether the text goes on with one of the endings.
+/// Returns `true` if one of the endings completes the text.
 fn goes_on(
     alloc: Global,
     field: Field,
@@ -57,7 +58,7 @@ fn goes_on(
     Ok(false)
 }
 
-/// Whether the text goes on up to the index, and no further.
+/// Returns `true` if the text up to the index can be completed, and with one byte more it cannot.
 pub fn is_reach(
     alloc: Global,
     field: Field,

@@ -1,9 +1,9 @@
-//! One line of a list, and the answer of the library to it.
+//! One line of a list, and the library's result for it.
 
 use sfv::{Dictionary, Error, FieldType, Item, List, Parser, Version};
 use std::alloc::{AllocError, Global};
 
-/// The types of fields.
+/// A field type.
 #[derive(Clone, Copy)]
 pub enum Field {
     /// An item.
@@ -14,22 +14,22 @@ pub enum Field {
     Dictionary,
 }
 
-/// An input with the answer that is wanted.
+/// An input with the expected result.
 #[derive(Clone, Copy)]
 pub struct Case<'a> {
-    /// The type of field that the input is read as.
+    /// The field type to parse.
     pub field: Field,
-    /// The version that the input is read under.
+    /// The version to parse under.
     pub version: Version,
     /// The input in hexadecimal, or `-` for no bytes.
     pub input: &'a str,
-    /// How often a visitor is called that never fails.
+    /// The number of calls of a visitor that never fails.
     pub calls: u64,
-    /// The answer that is wanted.
+    /// The expected result.
     pub answer: &'a str,
 }
 
-/// The case of a line, if it is one.
+/// Parses a line to its case.
 pub fn parse_line(line: &str) -> Option<Case<'_>> {
     let (field, rest) = line.split_once(' ')?;
     let field = match field {
@@ -55,19 +55,19 @@ pub fn parse_line(line: &str) -> Option<Case<'_>> {
     })
 }
 
-/// The bytes of a case's input, or `None` if they aren't in hexadecimal or for want of memory.
+/// Returns the input of a case, or `None` if it is not hexadecimal or memory runs out.
 pub fn input_of(alloc: Global, case: &Case<'_>) -> Option<Vec<u8>> {
     let digits = if case.input == "-" { "" } else { case.input };
     hex::decode(alloc, digits).ok()
 }
 
-/// The canonical text of what the parser reads as a field; none of an empty list or dictionary.
+/// Parses a field and returns its canonical text, or `None` for an empty list or dictionary.
 fn text_as<T: FieldType>(alloc: Global, parser: Parser<'_>) -> Result<Option<String>, Error> {
     let field = parser.parse::<T>(alloc)?;
     Ok(field.serialize(alloc)?.into())
 }
 
-/// The canonical text of an input as a field of this type; none of an empty list or dictionary.
+/// Returns the canonical text of an input as a field of this type, or `None` for an empty list or dictionary.
 pub fn canonical_text(
     alloc: Global,
     field: Field,
@@ -82,7 +82,7 @@ pub fn canonical_text(
     }
 }
 
-/// What the library answers to an input, as a line has it.
+/// Returns the library's result for an input, as a line has it.
 pub fn answer_of(
     alloc: Global,
     field: Field,

@@ -1,4 +1,4 @@
-//! What is wrong with a request.
+//! The errors of this crate.
 
 ghost use Rattle.std.specs.Prelude.{◌≡◌};
 ghost use Rattle.sfv.specs.Errors.{out_of_memory};
@@ -8,12 +8,12 @@ ghost use Rattle.sfv_request.specs.declared.fault.RequestFault.TheVariants as fa
 use std::alloc::AllocError;
 use std::fmt;
 
-/// Why nothing is read from a request.
+/// The error of parsing a field of a request.
 #[derive(Clone, Copy, Debug, PartialEq, Eq)]
 pub enum RequestFault {
-    /// The input begins no head of a request, or one that has more fields than there is room for.
+    /// The input does not begin with the head of a request, or the head has more fields than the buffer for headers.
     Head(httparse::Error),
-    /// The field isn't read, or out of memory.
+    /// The field has a syntax error, or memory ran out.
     Field(sfv::Error),
 }
 

@@ -1,5 +1,5 @@
-//! A structured field of a request, from the bytes of its head: the head is one of HTTP/1.1 as `httparse` reads it, and the
-//! lines of the field are joined to one text (RFC 9110, section 5.2).
+//! Structured fields from the bytes of a request's head (HTTP/1.1). `httparse` parses the head. The lines of a field
+//! are joined to one text (RFC 9110, section 5.2).
 #![tactic(auto)]
 
 pub mod fault;
@@ -20,14 +20,18 @@ use sfv::Version;
 use sfv_fields::priority::{Priority, read_priority};
 use std::alloc::Global;
 
-/// Returns the text of a field of a request: the values of its lines, without the white space around them, in their order,
-/// joined by a comma and a space. It is empty where the head has no such line. Upper and lower case of the name are the
-/// same. The head's fields go to `headers`. `Partial` where the head isn't complete, but may become so.
+/// Returns the text of the field `name` of a request: the values of its lines, joined by a comma and a space.
+///
+/// The values have no white space around them. The case of the name is ignored. The text is empty if the head has no
+/// such line. `headers` receives the fields of the head.
+///
+/// Returns `Partial` if the head is incomplete: more bytes can complete it, or the input ends in the request target,
+/// whose bytes are checked at its end.
 ///
 /// # Errors
 ///
-/// `Head` where the input begins no head of a request, or one that has more fields than `headers` has room for; `Field` when
-/// out of memory.
+/// Returns `Head` if the input does not begin with the head of a request, or if the head has more fields than
+/// `headers`. Returns `Field` if memory runs out.
 pub fn request_field(
     alloc: Global,
     name: &str,
@@ -48,12 +52,13 @@ pub fn request_field(
     }
 }
 
-/// Returns the priority of a request (RFC 9218): what its field `priority` is read as under a version, the default where the
-/// head has no such line. `Partial` where the head isn't complete, but may become so.
+/// Parses the field `priority` of a request (RFC 9218) under `version`. Returns the default if the head has no such
+/// line, and `Partial` if the head is incomplete, as for `request_field`.
 ///
 /// # Errors
 ///
-/// Those of `request_field`; and `Field` with the error of `Parser::parse` where the joined lines are no dictionary.
+/// Returns the errors of `request_field`, and `Field` with the error of `Parser::parse` if the joined lines are not a
+/// dictionary.
 pub fn request_priority(
     alloc: Global,
     version: Version,

@@ -8,7 +8,7 @@ ghost use Rattle.sfv_request.specs.Lines.{text_of_lines};
 use httparse::spans::HeaderSpan;
 use std::alloc::{AllocError, Global};
 
-// Whether the name of a line is this one.
+// Returns `true` if the line has this name, in any case.
 fn is_named(line: &[u8], name: &str) -> bool
     ensures { result ≡ str_eq_ignore_ascii_case line.now name.now }
 {
@@ -25,7 +25,7 @@ fn append_line(text: &mut Vec<u8>, is_first: bool, value: &[u8]) -> Result<(), A
     text.extend_from_slice(value)
 }
 
-// Returns the joined values of the lines that have this name.
+// Returns the joined values of the lines with this name.
 pub(crate) fn joined_lines(
     alloc: Global,
     name: &str,

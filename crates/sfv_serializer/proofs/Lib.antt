@@ -1,3 +1,5 @@
 pub mod Handed
 pub mod Scripts
 pub mod Steps
+mod WhereFit
+pub mod Room

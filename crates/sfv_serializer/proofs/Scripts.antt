@@ -1,7 +1,7 @@
 -- Members are written call by call.
-use Rattle.std.proofs.Common.{◌≡◌, ℕ, ◌+◌, ◌<◌, Bool, true, false, List, [], ◌∷◌, ◌++◌, length, get_or, map, take}
+use Rattle.std.proofs.Common.{◌≡◌, ◌≤◌, ℕ, ◌+◌, ◌<◌, Bool, true, false, List, [], ◌∷◌, ◌++◌, length, get_or, map, take}
 use Rattle.std.proofs.Common.{refl, sym, ap, subst, ◌∙◌, codes}
-use Rattle.std.proofs.Common.{append_assoc}
+use Rattle.std.proofs.Common.{append_assoc, arith, string_capacity}
 use Rattle.std.specs.Prelude.{Option, filter_map, Result, Ok, Err, OnOk, OnErr, string_bytes, string_len}
 use Rattle.std.specs.Borrow.{MutBor}
 use Rattle.std.specs.List.{AllByRecursion}
@@ -31,12 +31,12 @@ still_first-append : {A : Type 0} (b : Bool) (xs ys : List A)
 still_first-append b [] ys = refl
 still_first-append b (x ∷ xs) ys = sym (still_first-false ys)
 
-still_first-map : {A B : Type 0} (f : A → B) (b : Bool) (xs : List A) → still_first b (map f xs) ≡ still_first b xs
+pub still_first-map : {A B : Type 0} (f : A → B) (b : Bool) (xs : List A) → still_first b (map f xs) ≡ still_first b xs
 still_first-map f b [] = refl
 still_first-map f b (x ∷ xs) = refl
 
 -- parts in a row after others
-in_a_row_append : (s : List ℕ) (b : Bool) (xs ys : List (List ℕ))
+pub in_a_row_append : (s : List ℕ) (b : Bool) (xs ys : List (List ℕ))
     → in_a_row b s (xs ++ ys) ≡ in_a_row b s xs ++ in_a_row (still_first b xs) s ys
 in_a_row_append s b [] ys = refl
 in_a_row_append s b (x ∷ xs) ys =
@@ -109,6 +109,10 @@ calls_more {D = D} {M} given f text_of IsGood s calls n x was_first is_first is_
 pub extends_again : (a b c : List ℕ) → Extends a b → Extends b c → Extends a c
 extends_again a b c e f = (e.0 ++ f.0, f.1 ∙ ap (λ (l : List ℕ). l ++ f.0) e.1 ∙ append_assoc a e.0 f.0)
 
+-- room that does not shrink in two steps does not shrink
+pub no_less : {a b c : ℕ} → a ≤ b → b ≤ c → a ≤ c
+no_less h k = omega (arith, h, k)
+
 -- what holds of an error that was answered
 pub of_error : {A E : Type 0} (r : Result A E) (e : E) (P : Type 0) → r ≡ Err e → OnErr r P → P
 of_error r e P is h = subst (λ (r : Result _ _). OnErr r P) is h
@@ -118,33 +122,35 @@ module _ {W K : Type 0} (w : Sink W) where
   pub kept_as : (s v : Parts W K) (b : W) (f : Bool) (r : Version) (k : K) → KeepsParts w s v → b ≡ v.sink
       → f ≡ v.is_first → r ≡ v.version → k ≡ v.kind
       → w.same s.sink b × (string_bytes (w.text b) ≡ string_bytes (w.text s.sink)) × (f ≡ s.is_first) × (r ≡ s.version)
-      × (k ≡ s.kind)
-  kept_as s v b f r k h e i l q = (rw e h.0, rw e h.1, i ∙ h.2, l ∙ h.3, q ∙ h.4)
+      × (k ≡ s.kind) × (string_capacity (w.text s.sink) ≤ string_capacity (w.text b))
+  kept_as s v b f r k h e i l q = (rw e h.0, rw e h.1, i ∙ h.2, l ∙ h.3, q ∙ h.4, rw e h.5)
 
   pub more_as : (s v : Parts W K) (b : W) (f : Bool) (r : Version) (k : K) (more : List ℕ) (is_first : Bool)
       → HasMoreParts w s v more is_first → b ≡ v.sink → f ≡ v.is_first → r ≡ v.version → k ≡ v.kind
       → w.same s.sink b × (string_bytes (w.text b) ≡ string_bytes (w.text s.sink) ++ more) × (f ≡ is_first)
-      × (r ≡ s.version) × (k ≡ s.kind)
-  more_as s v b f r k more is_first h e i l q = (rw e h.0, rw e h.1, i ∙ h.2, l ∙ h.3, q ∙ h.4)
+      × (r ≡ s.version) × (k ≡ s.kind) × (string_capacity (w.text s.sink) ≤ string_capacity (w.text b))
+  more_as s v b f r k more is_first h e i l q = (rw e h.0, rw e h.1, i ∙ h.2, l ∙ h.3, q ∙ h.4, rw e h.5)
 
 module _ {W K : Type 0} (w : Sink W) (again : (r s t : W) → w.same r s → w.same s t → w.same r t) where
   -- more is written after it
   pub more_grown : (s t u : Parts W K) (more : List ℕ) (is_first : Bool) → GrowsParts w s t
       → HasMoreParts w t u more is_first → GrowsParts w s u
-  more_grown s t u more is_first g h = (again _ _ _ g.0 h.0, extends_again _ _ _ g.1 (more, h.1), h.4 ∙ g.2)
+  more_grown s t u more is_first g h =
+      (again _ _ _ g.0 h.0, extends_again _ _ _ g.1 (more, h.1), h.4 ∙ g.2, no_less g.3 h.5)
 
   -- an inner list was begun, and its items were written
   pub begun_grown : (s : Parts W K) (t u : Parts (MutBor (Parts W K)) InnerListItems)
       (more : List ℕ) (is_first : Bool) → HasMoreParts w s (parts_sink t).now more is_first
       → GrowsParts (lent_parts w) t u → GrowsParts w s (parts_sink u).now
   begun_grown s t u more is_first h g =
-      (again _ _ _ h.0 g.0.1, extends_again _ _ _ (more, h.1) g.1, g.0.4 ∙ h.4)
+      (again _ _ _ h.0 g.0.1, extends_again _ _ _ (more, h.1) g.1, g.0.4 ∙ h.4, no_less h.5 g.3)
 
   -- the next call was out of memory
   pub kept_grown : (s t u : Parts W K) (b : W) (k : K) → GrowsParts w s t → KeepsParts w t u → b ≡ u.sink → k ≡ u.kind
       → w.same s.sink b × Extends (string_bytes (w.text s.sink)) (string_bytes (w.text b)) × (k ≡ s.kind)
+      × (string_capacity (w.text s.sink) ≤ string_capacity (w.text b))
   kept_grown s t u b k g h e q =
-      rw e (again _ _ _ g.0 h.0, extends_again _ _ _ g.1 ([], h.1 ∙ sym (append-nil _)), q ∙ h.4 ∙ g.2)
+      rw e (again _ _ _ g.0 h.0, extends_again _ _ _ g.1 ([], h.1 ∙ sym (append-nil _)), q ∙ h.4 ∙ g.2, no_less g.3 h.5)
 
   -- an inner list was begun, and was taken away again
   pub taken_away : (s v : Parts W K) (t u : Parts (MutBor (Parts W K)) InnerListItems) (more : List ℕ)
@@ -160,6 +166,7 @@ module _ {W K : Type 0} (w : Sink W) (again : (r s t : W) → w.same r s → w.s
         cut.2 ∙ grown.0.2 ∙ begun.2,
         cut.3 ∙ grown.0.3 ∙ begun.3,
         cut.4 ∙ grown.0.4 ∙ begun.4,
+        no_less begun.5 (no_less grown.3 cut.5),
       )
 
   -- and nothing is left of it
@@ -168,8 +175,9 @@ module _ {W K : Type 0} (w : Sink W) (again : (r s t : W) → w.same r s → w.s
       → length_before t ≡ string_len (w.text (parts_sink s)) → GrowsParts (lent_parts w) t u
       → AreCutBack w (length_before u) (parts_sink u).now v → b ≡ v.sink → k ≡ v.kind
       → w.same s.sink b × Extends (string_bytes (w.text s.sink)) (string_bytes (w.text b)) × (k ≡ s.kind)
+      × (string_capacity (w.text s.sink) ≤ string_capacity (w.text b))
   away_grown s v t u more b k itself begun long grown cut e q =
-      kept_grown s s v b k (itself s.sink, ([], sym (append-nil _)), refl) (taken_away s v t u more begun long grown cut) e q
+      kept_grown s s v b k (itself s.sink, ([], sym (append-nil _)), refl, omega arith) (taken_away s v t u more begun long grown cut) e q
 
 -- a piece is written after another
 pub written_behind : (before now new front piece more : List ℕ) → now ≡ before ++ (front ++ piece) → new ≡ now ++ more
@@ -206,10 +214,11 @@ module _ {W K : Type 0} (w : Sink W) (again : (r s t : W) → w.same r s → w.s
     behind.2,
     behind.3 ∙ ended.3 ∙ row.0.3 ∙ begun.3,
     behind.4 ∙ ended.4 ∙ row.0.4 ∙ begun.4,
+    no_less begun.5 (no_less row.5 (no_less ended.5 behind.5)),
   )
 
 -- an inner list that begins with a key and an equals sign
-named_inner : (key : List ℕ) (items : List RawItem) (params : RawParameters)
+pub named_inner : (key : List ℕ) (items : List RawItem) (params : RawParameters)
     → ended_text (key ++ codes "=(") items params
     ≡ dictionary_member_text (key, inner_list (record { items = items; parameters = params }))
 named_inner key items params = simp append_assoc (ap (λ (t : List ℕ). key ++ (codes "=(" ++ t))
@@ -234,14 +243,14 @@ module _ {W K : Type 0} (w : Sink W) (s t : Parts W K) where
   list_inner : (items : List ItemCalls) (params : List ParamCall) (abandon : Bool)
       → WritesInner w s t (codes ", ") (codes "(") (map called_item items) (map called_param params) abandon
       → WritesList w s t (inner_list_calls items params abandon ∷ [])
-  list_inner items params true h = (h.0, h.1 ∙ sym (append-nil _), h.2, h.3, h.4)
+  list_inner items params true h = (h.0, h.1 ∙ sym (append-nil _), h.2, h.3, h.4, h.5)
   list_inner items params false h =
-      (h.0, h.1 ∙ ap (λ (l : List ℕ). string_bytes (w.text s.sink) ++ l) (sym (append-nil _)), h.2, h.3, h.4)
+      (h.0, h.1 ∙ ap (λ (l : List ℕ). string_bytes (w.text s.sink) ++ l) (sym (append-nil _)), h.2, h.3, h.4, h.5)
 
   dictionary_inner : (key : List ℕ) (items : List ItemCalls) (params : List ParamCall) (abandon : Bool)
       → WritesInner w s t (codes ", ") (key ++ codes "=(") (map called_item items) (map called_param params) abandon
       → WritesDictionary w s t ((key, inner_list_calls items params abandon) ∷ [])
-  dictionary_inner key items params true h = (h.0, h.1 ∙ sym (append-nil _), h.2, h.3, h.4)
+  dictionary_inner key items params true h = (h.0, h.1 ∙ sym (append-nil _), h.2, h.3, h.4, h.5)
   dictionary_inner key items params false h =
       let front : List ℕ = lead (has_no_part s) (codes ", ") in
       let named = named_inner key (map called_item items) (map called_param params) in (
@@ -251,6 +260,7 @@ module _ {W K : Type 0} (w : Sink W) (s t : Parts W K) where
         h.2,
         h.3,
         h.4,
+        h.5,
       )
 
   -- the calls of a member that is an inner list were performed

@@ -16,7 +16,7 @@ use Rattle.sfv_serializer.specs.Scripts.{called_param}
 use Rattle.sfv_serializer.specs.declared.parts.Parts.{Parts}
 use Rattle.sfv_serializer.specs.declared.sink.Sink.{Ghosts as Sink}
 use Rattle.sfv_serializer.specs.Serializers.{HasMoreParts, KeepsParts, GrowsParts, has_no_part}
-use Rattle.sfv_serializer.proofs.Scripts.{extends_again}
+use Rattle.sfv_serializer.proofs.Scripts.{extends_again, no_less}
 
 -- one more piece, behind what stands in front
 pub put_before : (front so_far new one : List ℕ) → new ≡ so_far ++ one → front ++ new ≡ (front ++ so_far) ++ one
@@ -42,11 +42,11 @@ module _ (calls : List ParamCall) (n : ℕ) (x : ParamCall) (lt : n < length cal
 module _ {W K : Type 0} (w : Sink W) where
   -- more is written
   pub grows : (s t : Parts W K) (more : List ℕ) (is_first : Bool) → HasMoreParts w s t more is_first → GrowsParts w s t
-  grows s t more is_first h = (h.0, (more, h.1), h.4)
+  grows s t more is_first h = (h.0, (more, h.1), h.4, h.5)
 
   -- out of memory, nothing is
   pub kept_grows : (s t : Parts W K) → KeepsParts w s t → GrowsParts w s t
-  kept_grows s t h = (h.0, ([], h.1 ∙ sym (append-nil _)), h.4)
+  kept_grows s t h = (h.0, ([], h.1 ∙ sym (append-nil _)), h.4, h.5)
 
   -- what is known of a serializer holds of the value that its loan ends at
   pub more_at : (s v u : Parts W K) (more : List ℕ) (is_first : Bool) → v ≡ u → HasMoreParts w s v more is_first
@@ -56,7 +56,7 @@ module _ {W K : Type 0} (w : Sink W) where
   -- and of what is written after it
   pub grown_again : (again : (r s t : W) → w.same r s → w.same s t → w.same r t) (s t u : Parts W K) → GrowsParts w s t
       → GrowsParts w t u → GrowsParts w s u
-  grown_again again s t u g h = (again _ _ _ g.0 h.0, extends_again _ _ _ g.1 h.1, h.2 ∙ g.2)
+  grown_again again s t u g h = (again _ _ _ g.0 h.0, extends_again _ _ _ g.1 h.1, h.2 ∙ g.2, no_less g.3 h.3)
 
   -- more is written behind it
   pub more_behind : (again : (r s t : W) → w.same r s → w.same s t → w.same r t) (s t u : Parts W K)
@@ -70,4 +70,5 @@ module _ {W K : Type 0} (w : Sink W) where
         k.2 ∙ h.2,
         k.3 ∙ h.3,
         k.4 ∙ h.4,
+        no_less h.5 k.5,
       )

@@ -1,13 +1,15 @@
--- What lists of calls describe.
-use Rattle.std.specs.Prelude.{◌++◌, ℕ, Bool, false, List, map, codes, if◌then◌else◌, MatchBool}
+-- The fields that lists of calls describe.
+use Rattle.std.specs.Prelude.{◌++◌, ℕ, Bool, false, List, map, take, drop, codes, if◌then◌else◌, MatchBool}
+use Rattle.std.specs.declared.string.String.{String}
 use Rattle.sfv_spec.specs.Texts.{joined}
 use Rattle.sfv_spec.specs.Values.{BareValue, RawParameters, RawItem, RawField, list_field, dictionary_field, item, inner_list}
 use Rattle.sfv_spec.specs.Canonical.{item_text, parameters_text, member_text, dictionary_member_text}
-use Rattle.sfv_spec.specs.Calls.{Calls, described, handed, written, abandoned}
+use Rattle.sfv_spec.specs.Values.{Edition, FieldKind}
+use Rattle.sfv_spec.specs.Calls.{Calls, Fits, described, handed, written, abandoned}
 use Rattle.sfv_spec.specs.Calls as spec
 use Rattle.sfv_text.specs.KeyText.{KeyRef, key_text}
 use Rattle.sfv_bare.specs.BareItems.{ref_value}
-use Rattle.sfv_writer.specs.Written.{in_a_row, still_first}
+use Rattle.sfv_writer.specs.Written.{IsReadBack, LacksRoom, in_a_row, still_first}
 use Rattle.sfv_serializer.specs.declared.parts.Parts.{Parts}
 use Rattle.sfv_serializer.specs.declared.sink.Sink.{Ghosts as Sink}
 use Rattle.sfv_serializer.specs.Serializers.{KeepsParts, HasMoreParts, HasNextPart}
@@ -16,7 +18,7 @@ use Rattle.sfv_serializer.specs.declared.script.ItemCalls.{ItemCalls}
 use Rattle.sfv_serializer.specs.declared.script.MemberCalls.{MemberCalls}
 use Rattle.sfv_serializer.specs.declared.script.MemberCalls.TheVariants as calls
 
--- the key and the value that a call hands over
+-- the key and the value of a call
 abbrev pub called_param : ParamCall → List ℕ × BareValue
 called_param c = (key_text c.key, ref_value c.value)
 
@@ -24,12 +26,12 @@ called_param c = (key_text c.key, ref_value c.value)
 abbrev pub called_item : ItemCalls → RawItem
 called_item c = record { bare = ref_value c.value; parameters = map called_param c.params.items }
 
--- an inner list that was begun like this, with its items and its parameters
+-- the text of an inner list with this beginning, its items and its parameters
 abbrev pub ended_text : List ℕ → List RawItem → RawParameters → List ℕ
 ended_text opening items parameters =
     opening ++ joined (codes " ") (map item_text items) ++ codes ")" ++ parameters_text parameters
 
--- the calls of an inner list, which is abandoned after its items, or ended with its parameters
+-- the calls of an inner list: abandoned after its items, or finished with its parameters
 abbrev pub inner_list_calls : List ItemCalls → List ParamCall → Bool → spec.MemberCalls
 inner_list_calls items params abandon =
     if abandon then abandoned (map called_item items)
@@ -48,21 +50,44 @@ list_calls members = map member_calls members
 abbrev pub dictionary_calls : List (KeyRef × MemberCalls) → Calls dictionary_field
 dictionary_calls members = map (λ m. (key_text m.0, member_calls m.1)) members
 
--- what the calls describe
+-- the field that the calls describe
 abbrev pub described_list : List MemberCalls → RawField list_field
 described_list members = described list_field (list_calls members)
 
 abbrev pub described_dictionary : List (KeyRef × MemberCalls) → RawField dictionary_field
 described_dictionary members = described dictionary_field (dictionary_calls members)
 
--- what they hand over, abandoned inner lists too
+-- the field of all values of the calls, abandoned inner lists included
 abbrev pub handed_list : List MemberCalls → RawField list_field
 handed_list members = handed list_field (list_calls members)
 
 abbrev pub handed_dictionary : List (KeyRef × MemberCalls) → RawField dictionary_field
 handed_dictionary members = handed dictionary_field (dictionary_calls members)
 
--- what calls write, after members or as the first of a list or a dictionary
+-- the text that the calls of a member append; an abandoned inner list is not closed
+abbrev pub added_text : spec.MemberCalls → List ℕ
+added_text (written m) = member_text m
+added_text (abandoned items) = codes "(" ++ joined (codes " ") (map item_text items)
+
+abbrev pub added_text_of_pair : List ℕ × spec.MemberCalls → List ℕ
+added_text_of_pair (key, written m) = dictionary_member_text (key, m)
+added_text_of_pair (key, abandoned items) = key ++ codes "=(" ++ joined (codes " ") (map item_text items)
+
+-- the texts of the members before call number `n`, and the text that this call appends
+abbrev pub tried_list : List MemberCalls → ℕ → List (List ℕ)
+tried_list members n =
+    map member_text (described_list (take n members)) ++ map added_text (list_calls (take 1 (drop n members)))
+
+abbrev pub tried_dictionary : List (KeyRef × MemberCalls) → ℕ → List (List ℕ)
+tried_dictionary members n =
+    map dictionary_member_text (described_dictionary (take n members))
+    ++ map added_text_of_pair (dictionary_calls (take 1 (drop n members)))
+
+-- a text has no room for the text of some call after the calls before it
+abbrev pub LacksForCall : {Z : Type 0} → String Z → (ℕ → List (List ℕ)) → Type 0
+LacksForCall old tried = (n : ℕ) × LacksRoom old (joined (codes ", ") (tried n))
+
+-- the text that the calls append, after other members or as the first of a list or a dictionary
 abbrev pub list_text : Bool → Calls list_field → List ℕ
 list_text is_first calls = in_a_row is_first (codes ", ") (map member_text (described list_field calls))
 
@@ -70,14 +95,18 @@ abbrev pub dictionary_text : Bool → Calls dictionary_field → List ℕ
 dictionary_text is_first calls =
     in_a_row is_first (codes ", ") (map dictionary_member_text (described dictionary_field calls))
 
+-- the text of the field parses back under each edition that has all its values
+abbrev pub IsReadBackWhereFit : (kind : FieldKind) → RawField kind → Type 0
+IsReadBackWhereFit kind raw = (edition : Edition) → Fits edition kind raw → IsReadBack edition kind raw
+
 module _ {W : Type 0} (w : Sink W) where
-  -- an inner list was written after its opening, or abandoned
+  -- an inner list was written after its beginning, or abandoned
   abbrev pub WritesInner : {K : Type 0} → Parts W K → Parts W K → List ℕ → List ℕ → List RawItem → RawParameters → Bool
       → Type 0
   WritesInner s t separator opening items parameters abandon = MatchBool abandon (KeepsParts w s t)
       (HasNextPart w separator s t (ended_text opening items parameters) false)
 
-  -- the calls were performed
+  -- the calls were performed: their text is appended
   abbrev pub WritesList : {K : Type 0} → Parts W K → Parts W K → Calls list_field → Type 0
   WritesList s t calls = HasMoreParts w s t (list_text s.is_first calls)
       (still_first s.is_first (described list_field calls))

@@ -1,4 +1,4 @@
--- Texts that are lent.
+-- Borrowed texts.
 use Rattle.std.specs.Borrow.{MutBor, RattleType}
 use Rattle.std.specs.declared.alloc.Global.{Global}
 use Rattle.std.specs.declared.string.String.{String}
@@ -6,14 +6,14 @@ use Rattle.std.specs.contracts.string.String as text
 use Rattle.std.specs.contracts.alloc.Global as heap
 use Rattle.std.specs.contracts.impls.GlobalAllocator.TheImpl.{ghosts}
 
--- a text that can be lent
+-- a text that serializers borrow
 abbrev pub Text : Type 0
 Text = String Global
 
--- a text, as the logic of borrows names its type
+-- the type of such a text in the logic of borrows
 abbrev pub text_row : RattleType
 text_row = text.the_row heap.the_row ghosts
 
--- the same loan, of another text
+-- the same borrow with another text
 abbrev pub with_lent : MutBor Text → Text → MutBor Text
 with_lent s t = record s { now = t }

@@ -1,4 +1,4 @@
-//! Writing a dictionary member by member (RFC 9651, section 4.1.2).
+//! The serializer of dictionaries (RFC 9651, section 4.1.2).
 
 ghost use Rattle.std.specs.Prelude.{◌≡◌, ◌∷◌, ◌++◌, [], true, false, IfOk, IfErr, OnOk, OnErr, List, IsTrue, codes};
 ghost use Rattle.std.specs.Prelude.{string_len};
@@ -9,8 +9,8 @@ ghost use Rattle.sfv_spec.specs.Values.{IsBareValue};
 ghost use Rattle.sfv_spec.specs.Calls.{AllFit};
 ghost use Rattle.sfv_bare.specs.BareItems.{ref_value};
 ghost use Rattle.sfv_text.specs.KeyText.{key_text};
-ghost use Rattle.sfv_writer.specs.Written.{keyed_text, still_first, members_text, AreMembers};
-ghost use Rattle.sfv_writer.specs.Versions.{LooksFirst, FailsAmong, values_of_members};
+ghost use Rattle.sfv_writer.specs.Written.{LacksRoom, lead, keyed_text, still_first, members_text, AreMembers};
+ghost use Rattle.sfv_writer.specs.Versions.{LacksWhereRefused, LooksFirst, FailsAmong, LacksAmong, values_of_members};
 ghost use Rattle.sfv_serializer.specs.Serializers.{PartsRest, HasMoreParts, HasNextPart, KeepsParts, parts_sink};
 ghost use Rattle.sfv_serializer.specs.Serializers.{parts_edition, has_no_part, params_sink, params_name, params_edition};
 ghost use Rattle.sfv_serializer.specs.Serializers.{inner_list_name, length_before};
@@ -31,20 +31,21 @@ use sfv_writer::known::{is_a_key, is_a_value};
 use sfv_writer::look::look_at_bare_item;
 use sfv_writer::serialize_error::SerializeError;
 
-/// Writes a dictionary at the end of a lent text (RFC 9651, section 4.1.2), member by member.
+/// A serializer that appends a dictionary to a `String`, member by member (RFC 9651, section 4.1.2).
 ///
-/// A key that is given twice is written twice. While a serializer holds the text, nobody else can read it. A serializer
-/// that is dropped leaves what was written.
+/// A repeated key is written twice. The serializer borrows the text mutably. Dropping it keeps the written text.
 pub type DictSerializer<W> = Parts<W, DictMembers>;
 
 impl<W: Sink> Parts<W, DictMembers> {
-    /// Writes a member that is an item: its key and, unless the value is true, an equals sign and the value, after the
-    /// separator unless it is the first (RFC 9651, section 4.1.2). Returns the serializer of its parameters.
+    /// Appends a member that is an item, and returns the serializer of its parameters (RFC 9651, section 4.1.2).
+    ///
+    /// Writes the key and, unless the value is true, an equals sign and the value. A separator comes first, except
+    /// for the first member.
     ///
     /// # Errors
     ///
-    /// `Unsupported` if the version doesn't have the value, else `OutOfMemory`; the text, and whether a member stands, are
-    /// then as they were.
+    /// Returns `Unsupported` if the version lacks the value, and `OutOfMemory` if memory runs out. After an error,
+    /// the text and `has_member` are unchanged.
     #[inline(always)]
     pub fn bare_item(
         &mut self,
@@ -57,6 +58,8 @@ impl<W: Sink> Parts<W, DictMembers> {
         ensures looks { LooksFirst (parts_edition self.old) (ref_value value.entry ∷ []) result }
         ensures text { IfOk result (λ p. HasNextPart W.Sink (codes ", ") self.old (params_sink p).now
             (keyed_text (key_text name.entry) (ref_value value.entry)) false) }
+        ensures room { LacksWhereRefused (W.text (parts_sink self.old))
+            (lead (has_no_part self.old) (codes ", ") ++ keyed_text (key_text name.entry) (ref_value value.entry)) result }
         ensures is_key { IsTrue (is_key (key_text name.entry)) }
         ensures is_value { IsBareValue (ref_value value.entry) }
     {
@@ -69,12 +72,14 @@ impl<W: Sink> Parts<W, DictMembers> {
         Ok(ParameterSerializer::new(self, version))
     }
 
-    /// Begins a member that is an inner list: its key and an equals sign, after the separator unless it is the first
-    /// (RFC 9651, section 4.1.2). Returns the serializer of its items, which is ended by its `finish` or `abandon`.
+    /// Begins a member that is an inner list, and returns the serializer of its items (RFC 9651, section 4.1.2).
+    ///
+    /// Writes the key, an equals sign and an opening parenthesis. A separator comes first, except for the first
+    /// member. You must call `finish` or `abandon` on the result.
     ///
     /// # Errors
     ///
-    /// `OutOfMemory`; the text, and whether a member stands, are then as they were.
+    /// Returns `OutOfMemory` if memory runs out. The text and `has_member` are then unchanged.
     pub fn inner_list(
         &mut self,
         name: KeyRef<'_>,
@@ -87,18 +92,20 @@ impl<W: Sink> Parts<W, DictMembers> {
             (key_text name.entry ++ codes "=(") (has_no_part self.old)) }
         ensures begins { IfOk result (λ s. (has_no_part s ≡ true)
             × (length_before s ≡ string_len (W.text (parts_sink self.old)))) }
+        ensures room { OnErr result (LacksRoom (W.text (parts_sink self.old))
+            (lead (has_no_part self.old) (codes ", ") ++ key_text name.entry ++ codes "=(")) }
         ensures is_key { IsTrue (is_key (key_text name.entry)) }
     {
         is_a_key(name);
         self.begin(NamedOpening { name })
     }
 
-    /// Writes members with their keys, in their order, as `FieldType::serialize` writes them (RFC 9651, section 4.1.2).
+    /// Appends members in order, as `FieldType::serialize` writes them (RFC 9651, section 4.1.2).
     ///
     /// # Errors
     ///
-    /// `Unsupported` at the first value that the version doesn't have, or `OutOfMemory`, and neither where no member is
-    /// given; the text, and whether a member stands, are then as they were.
+    /// Returns `Unsupported` at the first value that the version lacks, and `OutOfMemory` if memory runs out. An
+    /// empty iterator causes no error. After an error, the text and `has_member` are unchanged.
     pub fn members<'m, I: Iterator<Item = (&'m Key, &'m ListEntry)> + Drop>(
         &mut self,
         members: I,
@@ -110,6 +117,8 @@ impl<W: Sink> Parts<W, DictMembers> {
             (still_first (has_no_part self.old) taken)
             × AreMembers taken × AllFit (parts_edition self.old) (values_of_members taken)) }
         ensures failed { IfErr result (FailsAmong I.next_gives members values_of_members (parts_edition self.old)) }
+        ensures room { IfErr result (LacksAmong I.next_gives members values_of_members (parts_edition self.old)
+            (W.text (parts_sink self.old)) (members_text (has_no_part self.old))) }
         ensures kept { OnErr result (KeepsParts W.Sink self.old self.new) }
     {
         self.append_each(members)

@@ -1,11 +1,11 @@
-//! Writing an item part by part (RFC 9651, section 4.1.3).
+//! The serializer of items (RFC 9651, section 4.1.3).
 
-ghost use Rattle.std.specs.Prelude.{◌≡◌, ◌∷◌, [], IfOk, string_bytes};
+ghost use Rattle.std.specs.Prelude.{◌≡◌, ◌≤◌, ◌∷◌, [], IfOk, string_bytes, string_capacity};
 ghost use Rattle.std.specs.Borrow.{sem};
 ghost use Rattle.sfv_spec.specs.Values.{rfc9651, IsBareValue};
 ghost use Rattle.sfv_spec.specs.Canonical.{bare_text};
 ghost use Rattle.sfv_bare.specs.BareItems.{ref_value, edition_of};
-ghost use Rattle.sfv_writer.specs.Versions.{LooksFirst};
+ghost use Rattle.sfv_writer.specs.Versions.{LacksWhereRefused, LooksFirst};
 ghost use Rattle.sfv_serializer.specs.Serializers.{TextRests, HoldsMore, item_buffer, params_sink, item_edition, params_edition};
 
 use crate::parameter_serializer::ParameterSerializer;
@@ -16,10 +16,10 @@ use sfv_writer::look::look_at_bare_item;
 use sfv_writer::serialize_error::SerializeError;
 use std::string::String as StdString;
 
-/// Writes an item at the end of a lent text (RFC 9651, section 4.1.3): first its bare item, and
-/// then its parameters.
+/// A serializer that appends an item to a `String`: first its bare item, then its parameters (RFC 9651, section
+/// 4.1.3).
 ///
-/// While a serializer holds the text, nobody else can read it.
+/// The serializer borrows the text mutably.
 #[derive(Drop)]
 pub struct ItemSerializer<'a> {
     buffer: &'a mut StdString,
@@ -27,31 +27,34 @@ pub struct ItemSerializer<'a> {
 }
 
 impl<'a> ItemSerializer<'a> {
-    /// Returns a serializer that writes after what stands in the text, under RFC 9651.
+    /// Creates a serializer that appends to `buffer`, under RFC 9651.
     #[inline(always)]
     pub fn with_buffer(buffer: &'a mut StdString) -> ItemSerializer<'a>
         ensures lent { (item_buffer result).ghost_name ≡ buffer.entry.ghost_name }
         ensures text { string_bytes (item_buffer result).now ≡ string_bytes buffer.old }
+        ensures room { string_capacity (item_buffer result).now ≡ string_capacity buffer.old }
         ensures version { item_edition result ≡ rfc9651 }
     {
         ItemSerializer::with_buffer_for(buffer, Version::Rfc9651)
     }
 
-    /// Returns a serializer that writes after what stands in the text, and only values that this version has.
+    /// Creates a serializer that appends to `buffer`, and accepts only values of `version`.
     #[inline(always)]
     pub fn with_buffer_for(buffer: &'a mut StdString, version: Version) -> ItemSerializer<'a>
         ensures lent { (item_buffer result).ghost_name ≡ buffer.entry.ghost_name }
         ensures text { string_bytes (item_buffer result).now ≡ string_bytes buffer.old }
+        ensures room { string_capacity (item_buffer result).now ≡ string_capacity buffer.old }
         ensures version { item_edition result ≡ edition_of version }
     {
         ItemSerializer { buffer, version }
     }
 
-    /// Writes the item's bare item, and returns the serializer of its parameters.
+    /// Appends the bare item, and returns the serializer of its parameters (RFC 9651, section 4.1.3.1).
     ///
     /// # Errors
     ///
-    /// `Unsupported` if the version doesn't have the value, else `OutOfMemory`; the text is then as it was.
+    /// Returns `Unsupported` if the version lacks the value, and `OutOfMemory` if memory runs out. After an error,
+    /// the text is unchanged.
     #[inline(always)]
     pub fn bare_item(
         self,
@@ -62,6 +65,8 @@ impl<'a> ItemSerializer<'a> {
         ensures version { IfOk result (λ p. params_edition p ≡ item_edition self.entry) }
         ensures looks { LooksFirst (item_edition self.entry) (ref_value bare_item.entry ∷ []) result }
         ensures text { HoldsMore (item_buffer self.entry) (bare_text (ref_value bare_item.entry)) result }
+        ensures room { LacksWhereRefused (item_buffer self.entry).now (bare_text (ref_value bare_item.entry)) result }
+        ensures stays { IfOk result (λ p. string_capacity (item_buffer self.entry).now ≤ string_capacity (params_sink p).now) }
         ensures is_value { IsBareValue (ref_value bare_item.entry) }
     {
         let ItemSerializer { buffer, version } = self;

@@ -1,4 +1,4 @@
-//! Which parts stand in a row, and what stands between each two.
+//! The kinds of serializers, and their separators.
 
 ghost use Rattle.std.specs.Prelude.{◌≡◌, ℕ, List, codes};
 
@@ -12,24 +12,27 @@ mod sealed {
     impl Sealed for super::InnerListItems {}
 }
 
-/// A kind of parts that stand in a row, with a separator between each two: the members of a list, those of a dictionary,
-/// or the items of an inner list. It is sealed, as the traits below it are.
+/// The kind of parts that a serializer writes: list members, dictionary members, or items of an inner list.
+///
+/// The kind determines the separator. This trait is sealed, and so are the traits below it.
 pub trait Kind: sealed::Sealed {
     ghost separator: { List ℕ };
 
-    /// Returns the separator.
+    /// Returns the separator between two parts.
     fn separator() -> &'static str
         ensures { result.now ≡ separator };
 }
 
-/// Parts without a key: the members of a list, or the items of an inner list. Code that writes items into either takes
-/// `Parts<W, K>` with `K: Unnamed`.
+/// A kind of parts without keys: list members, or items of an inner list.
+///
+/// Code that writes items into either takes `Parts<W, K>` with `K: Unnamed`.
 pub trait Unnamed: Kind {}
 
-/// The members of a field: of a list or of a dictionary. Code that asks either whether a member stands takes `Parts<W, K>`
-/// with `K: Members`.
+/// A kind of members: list members or dictionary members.
+///
+/// Code that calls `has_member` on either takes `Parts<W, K>` with `K: Members`.
 pub trait Members: Kind + Drop {
-    /// Returns the kind.
+    /// Creates a value of this kind.
     fn kind() -> Self;
 }
 
@@ -53,7 +56,7 @@ impl Members for ListMembers {
     }
 }
 
-/// The members of a dictionary, each with its key.
+/// The members of a dictionary, each with a key.
 #[derive(Drop)]
 pub struct DictMembers {}
 
@@ -71,9 +74,9 @@ impl Members for DictMembers {
     }
 }
 
-/// The items of an inner list. They can't be dropped: the inner list has to be ended, or abandoned.
+/// The items of an inner list. This type is not `Drop`, so an inner list must be finished or abandoned.
 pub struct InnerListItems {
-    // How long the text was before the inner list, its separator and its key.
+    // The length of the text before the inner list with its separator and key.
     pub(crate) len_before: usize,
 }
 

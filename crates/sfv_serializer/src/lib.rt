@@ -1,4 +1,4 @@
-//! Writing structured fields part by part, and by lists of calls (RFC 9651, section 4.1).
+//! Serializers that write structured fields part by part, and lists of their calls (RFC 9651, section 4.1).
 #![tactic(auto)]
 
 mod dict_serializer;

@@ -1,4 +1,4 @@
-//! Looking at the values that calls of a script hand over, before the calls are performed.
+//! Checks, before the calls of a script are performed, that a version has their values.
 
 ghost use Rattle.std.specs.Prelude.{map, flat_map};
 ghost use Rattle.sfv_spec.specs.Values.{list_field, dictionary_field};
@@ -15,7 +15,7 @@ use sfv_text::key_ref::KeyRef;
 use sfv_writer::look::look_at_bare_item;
 use sfv_writer::serialize_error::SerializeError;
 
-/// Looks at parameters.
+/// Checks that `version` has the values of all parameters.
 fn look_at_param_calls(version: Version, calls: &[ParamCall<'_>]) -> Result<(), SerializeError>
     ensures { LooksAt (edition_of version) (values_of_parameters (map called_param calls.now)) result }
 {
@@ -25,7 +25,7 @@ fn look_at_param_calls(version: Version, calls: &[ParamCall<'_>]) -> Result<(), 
     Ok(())
 }
 
-/// Looks at an item, and then at its parameters.
+/// Checks that `version` has every value of an item: first the bare item, then the parameters.
 pub(crate) fn look_at_item_calls(
     version: Version,
     calls: &ItemCalls<'_>,
@@ -36,7 +36,7 @@ pub(crate) fn look_at_item_calls(
     look_at_param_calls(version, &calls.params)
 }
 
-/// Looks at the items of an inner list.
+/// Checks that `version` has every value of the items of an inner list.
 fn look_at_items_calls(version: Version, items: &[ItemCalls<'_>]) -> Result<(), SerializeError>
     ensures { LooksAt (edition_of version) (flat_map values_of_item (map called_item items.now)) result }
 {
@@ -46,7 +46,7 @@ fn look_at_items_calls(version: Version, items: &[ItemCalls<'_>]) -> Result<(), 
     Ok(())
 }
 
-/// Looks at an inner list: if it is abandoned, its parameters aren't handed over.
+/// Checks that `version` has every value of an inner list. An abandoned inner list has no parameters.
 fn look_at_inner_calls(
     version: Version,
     items: &[ItemCalls<'_>],
@@ -63,7 +63,7 @@ fn look_at_inner_calls(
     look_at_param_calls(version, params)
 }
 
-/// Looks at a member.
+/// Checks that `version` has every value of a member.
 fn look_at_member_calls(version: Version, member: &MemberCalls<'_>) -> Result<(), SerializeError>
     ensures { LooksAt (edition_of version) (values_of_member (handed_member (member_calls member.now))) result }
 {
@@ -77,7 +77,7 @@ fn look_at_member_calls(version: Version, member: &MemberCalls<'_>) -> Result<()
     }
 }
 
-/// Looks at the members of a list.
+/// Checks that `version` has every value of a list.
 pub(crate) fn look_at_list_calls(
     version: Version,
     calls: &[MemberCalls<'_>],
@@ -90,7 +90,7 @@ pub(crate) fn look_at_list_calls(
     Ok(())
 }
 
-/// Looks at the members of a dictionary.
+/// Checks that `version` has every value of a dictionary.
 pub(crate) fn look_at_dictionary_calls(
     version: Version,
     calls: &[(KeyRef<'_>, MemberCalls<'_>)],

@@ -1,6 +1,6 @@
-//! Writing parameters one by one (RFC 9651, section 4.1.1.2).
+//! The serializer of parameters (RFC 9651, section 4.1.1.2).
 
-ghost use Rattle.std.specs.Prelude.{◌≡◌, ◌∷◌, ◌++◌, [], List, IfOk, IfErr, IsTrue, string_bytes};
+ghost use Rattle.std.specs.Prelude.{◌≡◌, ◌≤◌, ◌∷◌, ◌++◌, [], List, IfOk, IfErr, IsTrue, string_bytes, string_capacity};
 ghost use Rattle.std.specs.Borrow.{sem};
 ghost use Rattle.std.specs.Iterator.{IsFinite, Drains};
 ghost use Rattle.sfv_spec.specs.Classes.{is_key};
@@ -10,13 +10,13 @@ ghost use Rattle.sfv_spec.specs.Calls.{AllFit};
 ghost use Rattle.sfv_bare.specs.BareItems.{ref_value, edition_of};
 ghost use Rattle.sfv_text.specs.KeyText.{key_text};
 ghost use Rattle.sfv_writer.specs.Written.{param_text, lent_pairs};
-ghost use Rattle.sfv_writer.specs.Versions.{LooksFirst, FailsAmong, values_of_pairs};
+ghost use Rattle.sfv_writer.specs.Versions.{LacksWhereRefused, LooksFirst, FailsAmong, LacksAmong, values_of_pairs};
 ghost use Rattle.sfv_serializer.specs.Serializers.{TextRests, HoldsMore, params_sink, params_name, params_edition};
-ghost use Rattle.sfv_serializer.specs.Serializers.{PartsRest, KeepsParts, HasMoreParts, has_no_part};
+ghost use Rattle.sfv_serializer.specs.Serializers.{PartsRest, KeepsParts, HasMoreParts, has_no_part, parts_sink};
 
 use crate::part::{Named, Parameter, append};
 use crate::parts::Parts;
-use crate::sink::Sink;
+use crate::sink::{OPENER, Sink};
 use sfv_bare::bare::{BareItem, RefBareItem, Version};
 use sfv_text::key::Key;
 use sfv_text::key_ref::KeyRef;
@@ -26,10 +26,10 @@ use sfv_writer::look::look_at_bare_item;
 use sfv_writer::serialize_error::SerializeError;
 use std::string::String as StdString;
 
-/// Writes parameters after what they belong to (RFC 9651, section 4.1.1.2), into `X`: the text to which an item is
-/// written, or the serializer of which the item or the inner list is a part.
+/// A serializer that appends parameters to `X` (RFC 9651, section 4.1.1.2).
 ///
-/// A key that is given twice is written twice. The serializer may be let go without `finish`.
+/// `X` is the text of an item, or the serializer that contains the item or the inner list. A repeated key is written
+/// twice. You may drop the serializer without `finish`.
 #[derive(Drop)]
 pub struct ParameterSerializer<'s, X> {
     sink: &'s mut X,
@@ -37,7 +37,7 @@ pub struct ParameterSerializer<'s, X> {
 }
 
 impl<'s, X> ParameterSerializer<'s, X> {
-    /// Returns a serializer that writes after what stands there, and only values that this version has.
+    /// Creates a serializer that appends to `sink`, and accepts only values of `version`.
     #[inline(always)]
     pub(crate) fn new(sink: &'s mut X, version: Version) -> ParameterSerializer<'s, X>
         ensures lent { (params_sink result).ghost_name ≡ sink.entry.ghost_name }
@@ -47,7 +47,7 @@ impl<'s, X> ParameterSerializer<'s, X> {
         ParameterSerializer { sink, version }
     }
 
-    /// Ends the writing: whoever lent the text has it back.
+    /// Finishes the parameters, and ends the borrow of `X`.
     #[inline(always)]
     pub fn finish(self)
         ensures { self.exit.0.now ≡ (params_sink self.entry).now }
@@ -60,13 +60,12 @@ impl<'s, X> ParameterSerializer<'s, X> {
 }
 
 impl<'s> ParameterSerializer<'s, StdString> {
-    /// Writes a parameter: a semicolon and the key, and unless the value is true an equals sign
-    /// and the value.
+    /// Appends a parameter: a semicolon, the key and, unless the value is true, an equals sign and the value.
     ///
     /// # Errors
     ///
-    /// `Unsupported` if the version doesn't have the value, else `OutOfMemory`; the text is then as it was before this
-    /// call.
+    /// Returns `Unsupported` if the version lacks the value, and `OutOfMemory` if memory runs out. After an error,
+    /// the text is unchanged.
     #[inline(always)]
     pub fn parameter(
         self,
@@ -79,6 +78,9 @@ impl<'s> ParameterSerializer<'s, StdString> {
         ensures text { HoldsMore (params_sink self.entry)
             (param_text (key_text name.entry) (ref_value value.entry)) result }
         ensures looks { LooksFirst (params_edition self.entry) (ref_value value.entry ∷ []) result }
+        ensures room { LacksWhereRefused (params_sink self.entry).now
+            (param_text (key_text name.entry) (ref_value value.entry)) result }
+        ensures stays { IfOk result (λ p. string_capacity (params_sink self.entry).now ≤ string_capacity (params_sink p).now) }
         ensures is_key { IsTrue (is_key (key_text name.entry)) }
         ensures is_value { IsBareValue (ref_value value.entry) }
     {
@@ -91,12 +93,12 @@ impl<'s> ParameterSerializer<'s, StdString> {
         Ok(ParameterSerializer { sink, version })
     }
 
-    /// Writes parameters, in their order.
+    /// Appends parameters in order.
     ///
     /// # Errors
     ///
-    /// `Unsupported` at the first value that the version doesn't have, or `OutOfMemory`, and neither where no parameter
-    /// is given; the text is then as it was before this call.
+    /// Returns `Unsupported` at the first value that the version lacks, and `OutOfMemory` if memory runs out. An
+    /// empty iterator causes no error. After an error, the text is unchanged.
     #[inline(always)]
     pub fn parameters<'k, I: Iterator<Item = (&'k Key, &'k BareItem)> + Drop>(
         self,
@@ -112,6 +114,9 @@ impl<'s> ParameterSerializer<'s, StdString> {
             ≡ string_bytes (params_sink self.entry).now ++ parameters_text (lent_pairs pairs))
             × AreParameters (lent_pairs pairs) × AllFit (params_edition self.entry) (values_of_pairs pairs)) }
         ensures failed { IfErr result (FailsAmong I.next_gives params values_of_pairs (params_edition self.entry)) }
+        ensures room { IfErr result (LacksAmong I.next_gives params values_of_pairs (params_edition self.entry)
+            (params_sink self.entry).now (λ taken. parameters_text (lent_pairs taken))) }
+        ensures stays { IfOk result (λ p. string_capacity (params_sink self.entry).now ≤ string_capacity (params_sink p).now) }
     {
         let ParameterSerializer { sink, version } = self;
         append_parameters(version, params, sink)?;
@@ -120,13 +125,12 @@ impl<'s> ParameterSerializer<'s, StdString> {
 }
 
 impl<'s, W: Sink, K> ParameterSerializer<'s, Parts<W, K>> {
-    /// Writes a parameter: a semicolon and the key, and unless the value is true an equals sign
-    /// and the value.
+    /// Appends a parameter: a semicolon, the key and, unless the value is true, an equals sign and the value.
     ///
     /// # Errors
     ///
-    /// `Unsupported` if the version doesn't have the value, else `OutOfMemory`; the text is then as it was before this
-    /// call.
+    /// Returns `Unsupported` if the version lacks the value, and `OutOfMemory` if memory runs out. After an error,
+    /// the text is unchanged.
     #[inline(always)]
     pub fn parameter(
         self,
@@ -139,6 +143,8 @@ impl<'s, W: Sink, K> ParameterSerializer<'s, Parts<W, K>> {
         ensures text { IfOk result (λ p. HasMoreParts W.Sink (params_sink self.entry).now (params_sink p).now
             (param_text (key_text name.entry) (ref_value value.entry)) (has_no_part (params_sink self.entry).now)) }
         ensures looks { LooksFirst (params_edition self.entry) (ref_value value.entry ∷ []) result }
+        ensures room { LacksWhereRefused (W.text (parts_sink (params_sink self.entry).now))
+            (param_text (key_text name.entry) (ref_value value.entry)) result }
         ensures is_key { IsTrue (is_key (key_text name.entry)) }
         ensures is_value { IsBareValue (ref_value value.entry) }
     {
@@ -147,16 +153,16 @@ impl<'s, W: Sink, K> ParameterSerializer<'s, Parts<W, K>> {
         is_a_value(value);
         look_at_bare_item(version, value)?;
         let named = Named { name, value };
-        append(Parameter { named }, sink.sink.text_mut())?;
+        append(Parameter { named }, sink.sink.text_mut(OPENER))?;
         Ok(ParameterSerializer { sink, version })
     }
 
-    /// Writes parameters, in their order.
+    /// Appends parameters in order.
     ///
     /// # Errors
     ///
-    /// `Unsupported` at the first value that the version doesn't have, or `OutOfMemory`, and neither where no parameter
-    /// is given; the text is then as it was before this call.
+    /// Returns `Unsupported` at the first value that the version lacks, and `OutOfMemory` if memory runs out. An
+    /// empty iterator causes no error. After an error, the text is unchanged.
     #[inline(always)]
     pub fn parameters<'k, I: Iterator<Item = (&'k Key, &'k BareItem)> + Drop>(
         self,
@@ -172,9 +178,11 @@ impl<'s, W: Sink, K> ParameterSerializer<'s, Parts<W, K>> {
             (has_no_part (params_sink self.entry).now)
             × AreParameters (lent_pairs pairs) × AllFit (params_edition self.entry) (values_of_pairs pairs)) }
         ensures failed { IfErr result (FailsAmong I.next_gives params values_of_pairs (params_edition self.entry)) }
+        ensures room { IfErr result (LacksAmong I.next_gives params values_of_pairs (params_edition self.entry)
+            (W.text (parts_sink (params_sink self.entry).now)) (λ taken. parameters_text (lent_pairs taken))) }
     {
         let ParameterSerializer { sink, version } = self;
-        append_parameters(version, params, sink.sink.text_mut())?;
+        append_parameters(version, params, sink.sink.text_mut(OPENER))?;
         Ok(ParameterSerializer { sink, version })
     }
 }

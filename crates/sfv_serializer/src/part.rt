@@ -1,4 +1,4 @@
-//! Parts of a field, and how one is appended whole, or not at all.
+//! Fragments of a field that are appended completely or not at all.
 #![tactic(auto, using(sfv_writer::proofs::Written::cut_to))]
 
 ghost use Rattle.std.specs.Prelude.{◌++◌, ⊤, ℕ, List, OnOk, IsTrue, codes};
@@ -8,7 +8,7 @@ ghost use Rattle.sfv_spec.specs.Canonical.{bare_text};
 ghost use Rattle.sfv_bare.specs.BareItems.{ref_value};
 ghost use Rattle.sfv_text.specs.KeyText.{key_text};
 ghost use Rattle.sfv_text.specs.TokenText.{token_text};
-ghost use Rattle.sfv_writer.specs.Written.{Appends, AppendsOrKeeps, keyed_text, param_text, lead};
+ghost use Rattle.sfv_writer.specs.Written.{AsksForRoom, Appends, AppendsOrKeeps, keyed_text, param_text, lead};
 
 use sfv_bare::bare::RefBareItem;
 use sfv_base::error::OutOfMemory;
@@ -19,27 +19,30 @@ use sfv_writer::output::{cut_back, serialize_separator};
 use std::alloc::Allocator;
 use std::string::String as StdString;
 
-/// What is appended at once.
-// All that appends a part is inlined, from the serializer's call to the text, but for the kinds of bare item that
-// `serialize_bare_item` calls: the part is then never put together in memory, and a member takes 40 instructions less.
+/// A fragment that is appended at once.
+// Everything that appends a fragment is inlined, from the serializer's call to the text, except the kinds of bare item
+// that `serialize_bare_item` calls. The fragment is then never built in memory, and a member takes 40 instructions
+// less.
 pub(crate) trait Part: Drop {
     ghost text: { Self → List ℕ };
 
     ghost is_valid: { Self → Type 0 };
 
-    /// Appends it.
+    /// Appends the fragment to `output`.
     fn serialize<A: Allocator>(self, output: &mut StdString<A>) -> Result<(), OutOfMemory>
         ensures text { Appends output.old output.new (text self) result }
+        ensures room { AsksForRoom output.old output.new (text self) result }
         ensures valid { OnOk result (is_valid self) };
 }
 
-/// Appends a part; out of memory, the output keeps its text.
+/// Appends a fragment. If memory runs out, `output` is unchanged.
 #[inline(always)]
 pub(crate) fn append<P: Part, A: Allocator>(
     part: P,
     output: &mut StdString<A>,
 ) -> Result<(), OutOfMemory>
     ensures text { AppendsOrKeeps output.old output.new (P.text part) result }
+    ensures room { AsksForRoom output.old output.new (P.text part) result }
     ensures valid { OnOk result (P.is_valid part) }
 {
     let len = output.len();
@@ -50,7 +53,7 @@ pub(crate) fn append<P: Part, A: Allocator>(
     Ok(())
 }
 
-/// A part, after the separator unless it is the first.
+/// A fragment after a separator, except if it is the first.
 #[derive(Drop)]
 pub(crate) struct Separated<P> {
     pub(crate) is_first: bool,
@@ -141,7 +144,7 @@ impl<'a> Part for Parameter<'a> {
     }
 }
 
-/// The beginning of an inner list in a list.
+/// The start of an inner list in a list.
 #[derive(Drop)]
 pub(crate) struct Opening {}
 
@@ -157,7 +160,7 @@ impl Part for Opening {
     }
 }
 
-/// The beginning of an inner list in a dictionary.
+/// The start of an inner list in a dictionary.
 #[derive(Drop)]
 pub(crate) struct NamedOpening<'a> {
     pub(crate) name: KeyRef<'a>,

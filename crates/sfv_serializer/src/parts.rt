@@ -1,8 +1,8 @@
-//! Writing parts one by one: the members of a list or a dictionary, or the items of an inner list (RFC 9651, sections
-//! 4.1.1, 4.1.1.1 and 4.1.2).
+//! The common serializer of list members, dictionary members and items of inner lists (RFC 9651, sections 4.1.1,
+//! 4.1.1.1 and 4.1.2).
 
-ghost use Rattle.std.specs.Prelude.{◌≡◌, ◌∷◌, ◌↔◌, [], true, false, not, IsTrue, IsNone, IfSome, IfOk, IfErr, OnOk};
-ghost use Rattle.std.specs.Prelude.{OnErr, List, map, flat_map, string_bytes, string_len};
+ghost use Rattle.std.specs.Prelude.{◌≡◌, ◌++◌, ◌∷◌, ◌↔◌, [], true, false, not, IsTrue, IsNone, IfSome, IfOk, IfErr, OnOk};
+ghost use Rattle.std.specs.Prelude.{OnErr, List, map, flat_map, string_bytes, string_len, string_capacity};
 ghost use Rattle.std.specs.List.{AllByRecursion};
 ghost use Rattle.std.specs.Borrow.{sem};
 ghost use Rattle.std.specs.Iterator.{IsFinite, Drains};
@@ -11,8 +11,8 @@ ghost use Rattle.sfv_spec.specs.Values.{rfc9651, IsBareValue};
 ghost use Rattle.sfv_spec.specs.Canonical.{bare_text};
 ghost use Rattle.sfv_spec.specs.Calls.{AllFit};
 ghost use Rattle.sfv_bare.specs.BareItems.{ref_value, edition_of};
-ghost use Rattle.sfv_writer.specs.Written.{in_a_row, still_first};
-ghost use Rattle.sfv_writer.specs.Versions.{LooksFirst, FailsAmong};
+ghost use Rattle.sfv_writer.specs.Written.{LacksRoom, lead, in_a_row, still_first};
+ghost use Rattle.sfv_writer.specs.Versions.{LacksWhereRefused, LooksFirst, FailsAmong, LacksAmong};
 ghost use Rattle.sfv_serializer.specs.Serializers.{SameParts, KeepsParts, HasMoreParts, HasNextPart, PartsRest, parts_sink};
 ghost use Rattle.sfv_serializer.specs.Serializers.{parts_edition, has_no_part, params_sink, params_name, params_edition};
 ghost use Rattle.sfv_serializer.specs.Serializers.{inner_list_name, length_before};
@@ -21,7 +21,7 @@ use crate::inner_list_serializer::InnerListSerializer;
 use crate::kind::{InnerListItems, Kind, Members, Unnamed};
 use crate::parameter_serializer::ParameterSerializer;
 use crate::part::{Bare, Part, Separated, Word, append};
-use crate::sink::Sink;
+use crate::sink::{OPENER, Opener, Sink};
 use sfv_bare::bare::{GenericBareItem, RefBareItem, Version};
 use sfv_base::error::OutOfMemory;
 use sfv_writer::element::{Element, append_each};
@@ -30,11 +30,11 @@ use sfv_writer::look::look_at_bare_item;
 use sfv_writer::serialize_error::SerializeError;
 use std::string::String as StdString;
 
-/// Writes parts of the kind `K` one by one, at the end of what `W` is: `ListSerializer`, `DictSerializer` and
-/// `InnerListSerializer` are its names.
+/// A serializer that appends parts of kind `K` to `W`. Use it by the names `ListSerializer`, `DictSerializer` and
+/// `InnerListSerializer`.
 ///
-/// While a serializer holds a text, nobody else can read it. A serializer of a list or a dictionary that is dropped
-/// leaves what was written; that of an inner list can't be dropped.
+/// The serializer borrows its text mutably. You can drop the serializer of a list or a dictionary, which keeps the
+/// written text. You cannot drop the serializer of an inner list.
 #[derive(Drop)]
 pub struct Parts<W, K> {
     pub(crate) sink: W,
@@ -44,23 +44,25 @@ pub struct Parts<W, K> {
 }
 
 impl<'a, K: Members> Parts<&'a mut StdString, K> {
-    /// Returns a serializer that writes after what stands in the text, under RFC 9651.
+    /// Creates a serializer that appends to `buffer`, under RFC 9651.
     pub fn with_buffer(buffer: &'a mut StdString) -> Parts<&'a mut StdString, K>
         ensures lent { (parts_sink result).ghost_name ≡ buffer.entry.ghost_name }
         ensures text { string_bytes (parts_sink result).now ≡ string_bytes buffer.old }
+        ensures room { string_capacity (parts_sink result).now ≡ string_capacity buffer.old }
         ensures none { has_no_part result ≡ true }
         ensures version { parts_edition result ≡ rfc9651 }
     {
         Parts::with_buffer_for(buffer, Version::Rfc9651)
     }
 
-    /// Returns a serializer that writes after what stands in the text, and only values that this version has.
+    /// Creates a serializer that appends to `buffer`, and accepts only values of `version`.
     pub fn with_buffer_for(
         buffer: &'a mut StdString,
         version: Version,
     ) -> Parts<&'a mut StdString, K>
         ensures lent { (parts_sink result).ghost_name ≡ buffer.entry.ghost_name }
         ensures text { string_bytes (parts_sink result).now ≡ string_bytes buffer.old }
+        ensures room { string_capacity (parts_sink result).now ≡ string_capacity buffer.old }
         ensures none { has_no_part result ≡ true }
         ensures version { parts_edition result ≡ edition_of version }
     {
@@ -72,11 +74,11 @@ impl<'a, K: Members> Parts<&'a mut StdString, K> {
         }
     }
 
-    /// Ends the writing, and returns the whole text that was lent, or `None` if no member stands: nothing is then to be
-    /// sent (RFC 9651, section 4.1).
+    /// Finishes the field and returns the whole text of the buffer, or `None` if there is no member. Do not send a
+    /// field without members (RFC 9651, section 4.1).
     ///
-    /// The text is left as it is. No clause says so, since none can be stated of a text that is returned as long as it
-    /// was lent: where a proof goes on with the text, it asks `has_member`, and lets the serializer go.
+    /// Does not modify the text, but no clause states this (`docs/DECISIONS.md`). If a proof needs the text
+    /// afterwards, call `has_member` and drop the serializer.
     pub fn finish(self) -> Option<&'a str>
         ensures none { IsNone result ↔ IsTrue (has_no_part self.entry) }
         ensures text { IfSome result (λ text. text.now ≡ string_bytes (parts_sink self.entry).now) }
@@ -95,7 +97,7 @@ impl<'a, K: Members> Parts<&'a mut StdString, K> {
 }
 
 impl<W, K: Members> Parts<W, K> {
-    /// Returns whether a member stands, written by this serializer.
+    /// Returns `true` if this serializer has written a member.
     pub fn has_member(&self) -> bool
         ensures { result ≡ not (has_no_part self.now) }
     {
@@ -104,11 +106,13 @@ impl<W, K: Members> Parts<W, K> {
 }
 
 impl<W: Sink, K: Kind> Parts<W, K> {
-    /// Appends a part, after the separator unless it is the first; out of memory, all is as it was.
+    /// Appends a fragment, after the separator unless it is the first. If memory runs out, nothing changes.
     #[inline(always)]
     pub(crate) fn append<P: Part>(&mut self, part: P) -> Result<(), OutOfMemory>
         ensures text { OnOk result
             (HasNextPart W.Sink K.separator self.old self.new (P.text part) (has_no_part self.old)) }
+        ensures room { OnErr result (LacksRoom (W.text (parts_sink self.old))
+            (lead (has_no_part self.old) K.separator ++ P.text part)) }
         ensures valid { OnOk result (P.is_valid part) }
         ensures kept { OnErr result (KeepsParts W.Sink self.old self.new) }
     {
@@ -117,10 +121,10 @@ impl<W: Sink, K: Kind> Parts<W, K> {
             separator: K::separator(),
             part,
         };
-        append(part, self.sink.text_mut())
+        append(part, self.sink.text_mut(OPENER))
     }
 
-    /// Appends the elements that an iterator gives and the version has; after an error, all is as it was.
+    /// Appends the elements of an iterator, if the version has them. After an error, nothing changes.
     pub(crate) fn append_each<E: Element, I: Iterator<Item = E> + Drop>(
         &mut self,
         elements: I,
@@ -132,6 +136,8 @@ impl<W: Sink, K: Kind> Parts<W, K> {
             (still_first (has_no_part self.old) taken)
             × AllByRecursion E.is_valid taken × AllFit (parts_edition self.old) (flat_map E.values taken)) }
         ensures failed { IfErr result (FailsAmong I.next_gives elements (flat_map E.values) (parts_edition self.old)) }
+        ensures room { IfErr result (LacksAmong I.next_gives elements (flat_map E.values) (parts_edition self.old)
+            (W.text (parts_sink self.old)) (λ taken. in_a_row (has_no_part self.old) K.separator (map E.text taken))) }
         ensures kept { OnErr result (KeepsParts W.Sink self.old self.new) }
     {
         let separator = K::separator();
@@ -140,13 +146,13 @@ impl<W: Sink, K: Kind> Parts<W, K> {
             self.is_first,
             separator,
             elements,
-            self.sink.text_mut(),
+            self.sink.text_mut(OPENER),
         )?;
         self.is_first = none;
         Ok(())
     }
 
-    /// Begins an inner list.
+    /// Begins an inner list with this opening, after a separator if it is not the first part.
     pub(crate) fn begin<P: Part>(
         &mut self,
         opening: P,
@@ -156,11 +162,13 @@ impl<W: Sink, K: Kind> Parts<W, K> {
         ensures version { IfOk result (λ s. parts_edition s ≡ parts_edition self.old) }
         ensures text { IfOk result (λ s. HasNextPart W.Sink K.separator self.old (parts_sink s).now
             (P.text opening) (has_no_part self.old)) }
+        ensures room { OnErr result (LacksRoom (W.text (parts_sink self.old))
+            (lead (has_no_part self.old) K.separator ++ P.text opening)) }
         ensures begins { IfOk result (λ s. (has_no_part s ≡ true)
             × (length_before s ≡ string_len (W.text (parts_sink self.old)))) }
         ensures valid { OnOk result (P.is_valid opening) }
     {
-        let len_before = self.sink.text_mut().len();
+        let len_before = self.sink.text_mut(OPENER).len();
         self.append(opening)?;
         let version = self.version;
         Ok(Parts {
@@ -173,13 +181,15 @@ impl<W: Sink, K: Kind> Parts<W, K> {
 }
 
 impl<W: Sink, K: Unnamed> Parts<W, K> {
-    /// Writes a member or an item of an inner list that is an item: its bare item, after the separator unless it is the
-    /// first (RFC 9651, section 4.1.3). Returns the serializer of its parameters.
+    /// Appends an item as a list member or as an item of an inner list, and returns the serializer of its parameters
+    /// (RFC 9651, section 4.1.3).
+    ///
+    /// A separator comes first, except for the first part.
     ///
     /// # Errors
     ///
-    /// `Unsupported` if the version doesn't have the value, else `OutOfMemory`; the text, and whether a part stands, are
-    /// then as they were.
+    /// Returns `Unsupported` if the version lacks the value, and `OutOfMemory` if memory runs out. After an error,
+    /// the text and `has_member` are unchanged.
     #[inline(always)]
     pub fn bare_item(
         &mut self,
@@ -191,11 +201,13 @@ impl<W: Sink, K: Unnamed> Parts<W, K> {
         ensures looks { LooksFirst (parts_edition self.old) (ref_value bare_item.entry ∷ []) result }
         ensures text { IfOk result (λ p. HasNextPart W.Sink K.separator self.old (params_sink p).now
             (bare_text (ref_value bare_item.entry)) false) }
+        ensures room { LacksWhereRefused (W.text (parts_sink self.old))
+            (lead (has_no_part self.old) K.separator ++ bare_text (ref_value bare_item.entry)) result }
         ensures is_value { IsBareValue (ref_value bare_item.entry) }
     {
         is_a_value(bare_item);
         look_at_bare_item(self.version, bare_item)?;
-        // A token has a part of its own, so that its kind is asked for once.
+        // A token has a separate fragment, so its kind is tested once.
         match bare_item {
             GenericBareItem::Token(token) => self.append(Word { token })?,
             _ => self.append(Bare { value: bare_item })?,
@@ -214,8 +226,8 @@ impl<'s, W: Sink, K> Sink for &'s mut Parts<W, K> {
     ghost same = { SameParts W.Sink };
 
     #[inline(always)]
-    fn text_mut(&mut self) -> &mut StdString {
-        self.sink.text_mut()
+    fn text_mut(&mut self, opener: Opener) -> &mut StdString {
+        self.sink.text_mut(opener)
     }
 
     ghost text_of_with = { λ s t. W.text_of_with s.now.sink t };

@@ -1,8 +1,10 @@
-//! Lists of calls of the serializers, which are performed in order (RFC 9651, section 4.1).
+//! Lists of serializer calls, which are performed in order (RFC 9651, section 4.1).
 
-ghost use Rattle.std.specs.Prelude.{◌≡◌, ◌<◌, ◌↔◌, ◌∷◌, [], false, length, ⊤, IfOk, OnOk, OnErr, IsTrue, MatchBool, map, codes};
+ghost use Rattle.std.specs.Prelude.{◌≡◌, ◌≤◌, ◌<◌, ◌↔◌, ◌∷◌, ◌++◌, [], ℕ, false, length, ⊤, IfOk, IfErr, OnOk, OnErr, IsTrue, MatchBool, map};
+ghost use Rattle.std.specs.Prelude.{codes, if◌then◌else◌, string_capacity};
 ghost use Rattle.std.specs.List.{AllByRecursion};
 ghost use Rattle.sfv_spec.specs.Classes.{is_key};
+ghost use Rattle.sfv_spec.specs.Texts.{joined};
 ghost use Rattle.sfv_spec.specs.Values.{item, item_field, list_field, dictionary_field};
 ghost use Rattle.sfv_spec.specs.Values.{rfc9651, IsItem, AreParameters, IsFieldValue, HasMember};
 ghost use Rattle.sfv_spec.specs.Events.{bare_values};
@@ -10,13 +12,15 @@ ghost use Rattle.sfv_spec.specs.Calls.{described};
 ghost use Rattle.sfv_spec.specs.Canonical.{canonical, item_text, dictionary_member_text};
 ghost use Rattle.sfv_bare.specs.BareItems.{edition_of};
 ghost use Rattle.sfv_text.specs.KeyText.{key_text};
-ghost use Rattle.sfv_writer.specs.Written.{Appends, AppendsOrKeeps, IsReadBack, in_a_row, still_first};
-ghost use Rattle.sfv_writer.specs.Versions.{LooksFirst};
+ghost use Rattle.sfv_writer.specs.Written.{Appends, AppendsOrKeeps, AsksForRoom, LacksRoom, IsReadBack, lead, in_a_row, still_first};
+ghost use Rattle.sfv_writer.specs.Versions.{LacksWhereRefused, LooksFirst};
+ghost use Rattle.sfv_writer.specs.declared.serialize_error.SerializeError.TheVariants as errors;
 ghost use Rattle.sfv_serializer.specs.Serializers.{lent_parts, HasMoreParts, HasNextPart, GrowsParts, inner_list_name, has_no_part};
-ghost use Rattle.sfv_serializer.specs.Serializers.{parts_edition};
+ghost use Rattle.sfv_serializer.specs.Serializers.{parts_edition, parts_sink};
 ghost use Rattle.sfv_serializer.specs.Scripts.{called_param, called_item, member_calls, list_calls, dictionary_calls};
-ghost use Rattle.sfv_serializer.specs.Scripts.{described_list, described_dictionary, handed_list, handed_dictionary};
-ghost use Rattle.sfv_serializer.specs.Scripts.{WritesInner, WritesList, WritesDictionary};
+ghost use Rattle.sfv_serializer.specs.Scripts.{described_list, described_dictionary, handed_list, handed_dictionary, tried_list, tried_dictionary};
+ghost use Rattle.sfv_serializer.specs.Scripts.{LacksForCall, added_text, added_text_of_pair, ended_text, WritesInner};
+ghost use Rattle.sfv_serializer.specs.Scripts.{WritesList, WritesDictionary, IsReadBackWhereFit};
 
 use crate::dict_serializer::DictSerializer;
 use crate::inner_list_serializer::InnerListSerializer;
@@ -37,18 +41,18 @@ use std::string::String as StdString;
 /// A call of `ParameterSerializer::parameter`.
 #[derive(Drop)]
 pub struct ParamCall<'a> {
-    /// The parameter's key.
+    /// The key.
     pub key: KeyRef<'a>,
-    /// The parameter's value.
+    /// The value.
     pub value: RefBareItem<'a>,
 }
 
-/// The calls that write an item: its bare item, and its parameters.
+/// The calls that write an item: its bare item and its parameters.
 #[derive(Drop)]
 pub struct ItemCalls<'a> {
-    /// The bare item.
+    /// The value.
     pub value: RefBareItem<'a>,
-    /// The parameters, in the order of their calls.
+    /// The parameters, in order.
     pub params: Vec<ParamCall<'a>>,
 }
 
@@ -59,18 +63,19 @@ pub enum MemberCalls<'a> {
     Item(ItemCalls<'a>),
     /// A member that is an inner list.
     InnerList {
-        /// The items, in the order of their calls.
+        /// The items, in order.
         items: Vec<ItemCalls<'a>>,
-        /// The inner list's parameters, which aren't written if it is abandoned.
+        /// The parameters of the inner list, which an abandoned inner list does not write.
         params: Vec<ParamCall<'a>>,
-        /// Whether the inner list is abandoned after its items, and not finished.
+        /// If `true`, the inner list is abandoned after its items. Otherwise it is finished.
         abandon: bool,
     },
 }
 
-/// Writes an item.
+/// Performs the calls of an item.
 fn write_item(text: &mut StdString, calls: &ItemCalls<'_>) -> Result<(), OutOfMemory>
     ensures text { Appends text.old text.new (item_text (called_item calls.now)) result }
+    ensures room { AsksForRoom text.old text.new (item_text (called_item calls.now)) result }
     ensures value { OnOk result (IsItem (called_item calls.now)) }
 {
     let mut params = match ItemSerializer::with_buffer(text).bare_item(calls.value) {
@@ -87,7 +92,7 @@ fn write_item(text: &mut StdString, calls: &ItemCalls<'_>) -> Result<(), OutOfMe
     Ok(())
 }
 
-/// Writes a member of a list that is an item, or an item of an inner list.
+/// Performs the calls of an item without a key: a list member, or an item of an inner list.
 fn write_unnamed<W: Sink, K: Unnamed>(
     parts: &mut Parts<W, K>,
     calls: &ItemCalls<'_>,
@@ -95,6 +100,8 @@ fn write_unnamed<W: Sink, K: Unnamed>(
     requires { parts_edition parts.old ≡ rfc9651 }
     ensures text { OnOk result (HasNextPart W.Sink K.separator parts.old parts.new
         (item_text (called_item calls.now)) false) }
+    ensures room { OnErr result (LacksRoom (W.text (parts_sink parts.old))
+        (lead (has_no_part parts.old) K.separator ++ item_text (called_item calls.now))) }
     ensures value { OnOk result (IsItem (called_item calls.now)) }
     ensures out_of_memory { OnErr result (GrowsParts W.Sink parts.old parts.new) }
 {
@@ -112,7 +119,7 @@ fn write_unnamed<W: Sink, K: Unnamed>(
     Ok(())
 }
 
-/// Writes a member of a dictionary that is an item.
+/// Performs the calls of a dictionary member that is an item.
 fn write_dictionary_item<W: Sink>(
     dictionary: &mut DictSerializer<W>,
     name: KeyRef<'_>,
@@ -121,6 +128,8 @@ fn write_dictionary_item<W: Sink>(
     requires { parts_edition dictionary.old ≡ rfc9651 }
     ensures text { OnOk result (HasNextPart W.Sink (codes ", ") dictionary.old dictionary.new
         (dictionary_member_text (key_text name.entry, item (called_item calls.now))) false) }
+    ensures room { OnErr result (LacksRoom (W.text (parts_sink dictionary.old)) (lead (has_no_part dictionary.old) (codes ", ")
+        ++ dictionary_member_text (key_text name.entry, item (called_item calls.now)))) }
     ensures key { OnOk result (IsTrue (is_key (key_text name.entry))) }
     ensures value { OnOk result (IsItem (called_item calls.now)) }
     ensures out_of_memory { OnErr result (GrowsParts W.Sink dictionary.old dictionary.new) }
@@ -139,7 +148,7 @@ fn write_dictionary_item<W: Sink>(
     Ok(())
 }
 
-/// Writes items of an inner list.
+/// Performs the calls of the items of an inner list.
 fn write_inner_items<W: Sink, K>(
     inner: &mut InnerListSerializer<&mut Parts<W, K>>,
     items: &[ItemCalls<'_>],
@@ -149,6 +158,8 @@ fn write_inner_items<W: Sink, K>(
     ensures text { OnOk result (HasMoreParts (lent_parts W.Sink) inner.old inner.new
         (in_a_row (has_no_part inner.old) (codes " ") (map item_text (map called_item items.now)))
         (still_first (has_no_part inner.old) (map called_item items.now))) }
+    ensures room { OnErr result (LacksRoom (W.text (parts_sink (parts_sink inner.old).now))
+        (in_a_row (has_no_part inner.old) (codes " ") (map item_text (map called_item items.now)))) }
     ensures value { OnOk result (AllByRecursion IsItem (map called_item items.now)) }
     ensures grows { GrowsParts (lent_parts W.Sink) inner.old inner.new }
 {
@@ -158,7 +169,7 @@ fn write_inner_items<W: Sink, K>(
     Ok(())
 }
 
-/// Writes a member that is an inner list, after its opening, or abandons it.
+/// Performs the calls of a member that is an inner list: writes it after its opening, or abandons it.
 fn write_inner<W: Sink, K: Kind, P: Part>(
     parts: &mut Parts<W, K>,
     opening: P,
@@ -169,6 +180,9 @@ fn write_inner<W: Sink, K: Kind, P: Part>(
     requires { parts_edition parts.old ≡ rfc9651 }
     ensures text { OnOk result (WritesInner W.Sink parts.old parts.new K.separator (P.text opening)
         (map called_item items.now) (map called_param params.now) abandon) }
+    ensures room { OnErr result (LacksRoom (W.text (parts_sink parts.old)) (lead (has_no_part parts.old) K.separator
+        ++ (if abandon then P.text opening ++ joined (codes " ") (map item_text (map called_item items.now))
+        else ended_text (P.text opening) (map called_item items.now) (map called_param params.now)))) }
     ensures value { OnOk result (MatchBool abandon ⊤ (P.is_valid opening
         × AllByRecursion IsItem (map called_item items.now) × AreParameters (map called_param params.now))) }
     ensures out_of_memory { OnErr result (GrowsParts W.Sink parts.old parts.new) }
@@ -193,7 +207,7 @@ fn write_inner<W: Sink, K: Kind, P: Part>(
     Ok(())
 }
 
-/// Writes a member of a list.
+/// Performs the calls of a list member.
 fn write_list_member<W: Sink>(
     list: &mut ListSerializer<W>,
     member: &MemberCalls<'_>,
@@ -201,6 +215,8 @@ fn write_list_member<W: Sink>(
     requires { parts_edition list.old ≡ rfc9651 }
     ensures text { OnOk result (WritesList W.Sink list.old list.new
         (member_calls member.now ∷ [])) }
+    ensures room { OnErr result (LacksRoom (W.text (parts_sink list.old))
+        (in_a_row (has_no_part list.old) (codes ", ") (added_text (member_calls member.now) ∷ []))) }
     ensures value { OnOk result (IsFieldValue list_field (described list_field (member_calls member.now ∷ []))) }
     ensures out_of_memory { OnErr result (GrowsParts W.Sink list.old list.new) }
 {
@@ -214,7 +230,7 @@ fn write_list_member<W: Sink>(
     }
 }
 
-/// Writes a member of a dictionary.
+/// Performs the calls of a dictionary member.
 fn write_dictionary_member<W: Sink>(
     dictionary: &mut DictSerializer<W>,
     name: KeyRef<'_>,
@@ -223,6 +239,9 @@ fn write_dictionary_member<W: Sink>(
     requires { parts_edition dictionary.old ≡ rfc9651 }
     ensures text { OnOk result (WritesDictionary W.Sink dictionary.old dictionary.new
         ((key_text name.entry, member_calls member.now) ∷ [])) }
+    ensures room { OnErr result (LacksRoom (W.text (parts_sink dictionary.old))
+        (in_a_row (has_no_part dictionary.old) (codes ", ")
+        (added_text_of_pair (key_text name.entry, member_calls member.now) ∷ []))) }
     ensures value { OnOk result (IsFieldValue dictionary_field
         (described dictionary_field ((key_text name.entry, member_calls member.now) ∷ []))) }
     ensures out_of_memory { OnErr result (GrowsParts W.Sink dictionary.old dictionary.new) }
@@ -237,7 +256,7 @@ fn write_dictionary_member<W: Sink>(
     }
 }
 
-/// Writes the members of a list.
+/// Performs the calls of all list members.
 fn write_list_members<W: Sink>(
     list: &mut ListSerializer<W>,
     calls: &[MemberCalls<'_>],
@@ -245,6 +264,8 @@ fn write_list_members<W: Sink>(
     requires { parts_edition list.old ≡ rfc9651 }
     ensures text { OnOk result (WritesList W.Sink list.old list.new
         (list_calls calls.now)) }
+    ensures room { OnErr result ((n : ℕ) × LacksRoom (W.text (parts_sink list.old))
+        (in_a_row (has_no_part list.old) (codes ", ") (tried_list calls.now n))) }
     ensures value { OnOk result (IsFieldValue list_field (described_list calls.now)) }
     ensures out_of_memory { OnErr result (GrowsParts W.Sink list.old list.new) }
     ensures some { OnErr result (0 < length calls.now) }
@@ -255,10 +276,12 @@ fn write_list_members<W: Sink>(
     Ok(())
 }
 
-/// Writes a list, and returns whether a member stands.
+/// Performs the calls of a list, and returns `true` if it has a member.
 #[tactic(auto, using(sfv_writer::proofs::Rows::in_a_row_first))]
 fn write_list(text: &mut StdString, calls: &[MemberCalls<'_>]) -> Result<bool, OutOfMemory>
     ensures text { Appends text.old text.new (canonical list_field (described_list calls.now)) result }
+    ensures room { OnErr result (LacksForCall text.old (tried_list calls.now)) }
+    ensures stays { string_capacity text.old ≤ string_capacity text.new }
     ensures member { IfOk result (λ stands. IsTrue stands ↔ HasMember list_field (described_list calls.now)) }
     ensures value { OnOk result (IsFieldValue list_field (described_list calls.now)) }
     ensures some { OnErr result (0 < length calls.now) }
@@ -268,7 +291,7 @@ fn write_list(text: &mut StdString, calls: &[MemberCalls<'_>]) -> Result<bool, O
     Ok(list.has_member())
 }
 
-/// Writes the members of a dictionary.
+/// Performs the calls of all dictionary members.
 fn write_dictionary_members<W: Sink>(
     dictionary: &mut DictSerializer<W>,
     calls: &[(KeyRef<'_>, MemberCalls<'_>)],
@@ -276,6 +299,8 @@ fn write_dictionary_members<W: Sink>(
     requires { parts_edition dictionary.old ≡ rfc9651 }
     ensures text { OnOk result (WritesDictionary W.Sink dictionary.old dictionary.new
         (dictionary_calls calls.now)) }
+    ensures room { OnErr result ((n : ℕ) × LacksRoom (W.text (parts_sink dictionary.old))
+        (in_a_row (has_no_part dictionary.old) (codes ", ") (tried_dictionary calls.now n))) }
     ensures value { OnOk result (IsFieldValue dictionary_field (described_dictionary calls.now)) }
     ensures out_of_memory { OnErr result (GrowsParts W.Sink dictionary.old dictionary.new) }
     ensures some { OnErr result (0 < length calls.now) }
@@ -286,13 +311,15 @@ fn write_dictionary_members<W: Sink>(
     Ok(())
 }
 
-/// Writes a dictionary, and returns whether a member stands.
+/// Performs the calls of a dictionary, and returns `true` if it has a member.
 #[tactic(auto, using(sfv_writer::proofs::Rows::in_a_row_first))]
 fn write_dictionary(
     text: &mut StdString,
     calls: &[(KeyRef<'_>, MemberCalls<'_>)],
 ) -> Result<bool, OutOfMemory>
     ensures text { Appends text.old text.new (canonical dictionary_field (described_dictionary calls.now)) result }
+    ensures room { OnErr result (LacksForCall text.old (tried_dictionary calls.now)) }
+    ensures stays { string_capacity text.old ≤ string_capacity text.new }
     ensures member { IfOk result (λ stands. IsTrue stands
         ↔ HasMember dictionary_field (described_dictionary calls.now)) }
     ensures value { OnOk result (IsFieldValue dictionary_field (described_dictionary calls.now)) }
@@ -303,15 +330,17 @@ fn write_dictionary(
     Ok(dictionary.has_member())
 }
 
-/// Writes an item at the end of a text (RFC 9651, section 4.1.3), by the calls of `ItemSerializer`.
+/// Appends an item to `text` by calls of `ItemSerializer` (RFC 9651, section 4.1.3).
 ///
 /// # Errors
 ///
-/// `OutOfMemory`; the text is then as it was.
-#[tactic(auto, using(sfv_writer::proofs::Written::cut_to))]
+/// Returns `OutOfMemory` if memory runs out. The text is then unchanged.
+#[tactic(auto, using(sfv_writer::proofs::Written::cut_to, crate::proofs::WhereFit::read_back_where_fit))]
 pub fn run_item(text: &mut StdString, calls: &ItemCalls<'_>) -> Result<(), OutOfMemory>
     ensures text { AppendsOrKeeps text.old text.new (canonical item_field (called_item calls.now)) result }
+    ensures room { AsksForRoom text.old text.new (canonical item_field (called_item calls.now)) result }
     ensures value { OnOk result (IsFieldValue item_field (called_item calls.now)) }
+    ensures read_back { OnOk result (IsReadBackWhereFit item_field (called_item calls.now)) }
 {
     let len = text.len();
     let written = write_item(text, calls);
@@ -321,17 +350,21 @@ pub fn run_item(text: &mut StdString, calls: &ItemCalls<'_>) -> Result<(), OutOf
     written
 }
 
-/// Writes a list at the end of a text (RFC 9651, section 4.1.1), by the calls of `ListSerializer`. Returns whether a
-/// member stands: without one nothing is written.
+/// Appends a list to `text` by calls of `ListSerializer` (RFC 9651, section 4.1.1).
+///
+/// Returns `true` if the list has a member. Otherwise nothing is written.
 ///
 /// # Errors
 ///
-/// `OutOfMemory`, and only where there is a call; the text is then as it was.
-#[tactic(auto, using(sfv_writer::proofs::Written::cut_to))]
+/// Returns `OutOfMemory` if memory runs out, which requires at least one call. The text is then unchanged.
+#[tactic(auto, using(sfv_writer::proofs::Written::cut_to, crate::proofs::WhereFit::read_back_where_fit))]
 pub fn run_list(text: &mut StdString, calls: &[MemberCalls<'_>]) -> Result<bool, OutOfMemory>
     ensures text { AppendsOrKeeps text.old text.new (canonical list_field (described_list calls.now)) result }
+    ensures room { OnErr result (LacksForCall text.old (tried_list calls.now)) }
+    ensures stays { string_capacity text.old ≤ string_capacity text.new }
     ensures member { IfOk result (λ stands. IsTrue stands ↔ HasMember list_field (described_list calls.now)) }
     ensures value { OnOk result (IsFieldValue list_field (described_list calls.now)) }
+    ensures read_back { OnOk result (IsReadBackWhereFit list_field (described_list calls.now)) }
     ensures some { OnErr result (0 < length calls.now) }
 {
     let len = text.len();
@@ -342,22 +375,27 @@ pub fn run_list(text: &mut StdString, calls: &[MemberCalls<'_>]) -> Result<bool,
     written
 }
 
-/// Writes a dictionary at the end of a text (RFC 9651, section 4.1.2), by the calls of `DictSerializer`: a key that
-/// stands twice is written twice. Returns whether a member stands: without one nothing is written.
+/// Appends a dictionary to `text` by calls of `DictSerializer` (RFC 9651, section 4.1.2). A repeated key is written
+/// twice.
+///
+/// Returns `true` if the dictionary has a member. Otherwise nothing is written.
 ///
 /// # Errors
 ///
-/// `OutOfMemory`, and only where there is a call; the text is then as it was.
-#[tactic(auto, using(sfv_writer::proofs::Written::cut_to))]
+/// Returns `OutOfMemory` if memory runs out, which requires at least one call. The text is then unchanged.
+#[tactic(auto, using(sfv_writer::proofs::Written::cut_to, crate::proofs::WhereFit::read_back_where_fit))]
 pub fn run_dict(
     text: &mut StdString,
     calls: &[(KeyRef<'_>, MemberCalls<'_>)],
 ) -> Result<bool, OutOfMemory>
     ensures text { AppendsOrKeeps text.old text.new
         (canonical dictionary_field (described_dictionary calls.now)) result }
+    ensures room { OnErr result (LacksForCall text.old (tried_dictionary calls.now)) }
+    ensures stays { string_capacity text.old ≤ string_capacity text.new }
     ensures member { IfOk result (λ stands. IsTrue stands
         ↔ HasMember dictionary_field (described_dictionary calls.now)) }
     ensures value { OnOk result (IsFieldValue dictionary_field (described_dictionary calls.now)) }
+    ensures read_back { OnOk result (IsReadBackWhereFit dictionary_field (described_dictionary calls.now)) }
     ensures some { OnErr result (0 < length calls.now) }
 {
     let len = text.len();
@@ -368,18 +406,20 @@ pub fn run_dict(
     written
 }
 
-/// Writes an item at the end of a text, as `run_item` does, if this version has all values that the calls hand over.
+/// Appends an item to `text`, as `run_item` does, if `version` has every value of the calls.
 ///
 /// # Errors
 ///
-/// `Unsupported` with the kind of the first value that the version doesn't have, else `OutOfMemory`; the text is then as
-/// it was.
+/// Returns `Unsupported` with the kind of the first value that `version` lacks, and `OutOfMemory` if memory runs out.
+/// After an error, the text is unchanged.
 pub fn run_item_for(
     version: Version,
     text: &mut StdString,
     calls: &ItemCalls<'_>,
 ) -> Result<(), SerializeError>
     ensures text { AppendsOrKeeps text.old text.new (canonical item_field (called_item calls.now)) result }
+    ensures room { LacksWhereRefused text.old (canonical item_field (called_item calls.now)) result }
+    ensures stays { string_capacity text.old ≤ string_capacity text.new }
     ensures value { OnOk result (IsFieldValue item_field (called_item calls.now)) }
     ensures looks { LooksFirst (edition_of version) (bare_values item_field (called_item calls.now)) result }
     ensures read_back { OnOk result (IsReadBack (edition_of version) item_field (called_item calls.now)) }
@@ -389,19 +429,24 @@ pub fn run_item_for(
     Ok(())
 }
 
-/// Writes a list at the end of a text, as `run_list` does, if this version has all values that the calls hand over, those
-/// of abandoned inner lists too. Returns whether a member stands.
+/// Appends a list to `text`, as `run_list` does, if `version` has every value of the calls, abandoned inner lists
+/// included.
+///
+/// Returns `true` if the list has a member.
 ///
 /// # Errors
 ///
-/// `Unsupported` with the kind of the first value that the version doesn't have, else `OutOfMemory`, and only where there
-/// is a call; the text is then as it was.
+/// Returns `Unsupported` with the kind of the first value that `version` lacks, and `OutOfMemory` if memory runs out.
+/// Both require at least one call. After an error, the text is unchanged.
 pub fn run_list_for(
     version: Version,
     text: &mut StdString,
     calls: &[MemberCalls<'_>],
 ) -> Result<bool, SerializeError>
     ensures text { AppendsOrKeeps text.old text.new (canonical list_field (described_list calls.now)) result }
+    ensures room { IfErr result (λ e. e ≡ errors.OutOfMemory
+        → LacksForCall text.old (tried_list calls.now)) }
+    ensures stays { string_capacity text.old ≤ string_capacity text.new }
     ensures member { IfOk result (λ stands. IsTrue stands ↔ HasMember list_field (described_list calls.now)) }
     ensures value { OnOk result (IsFieldValue list_field (described_list calls.now)) }
     ensures looks { LooksFirst (edition_of version) (bare_values list_field (handed_list calls.now)) result }
@@ -413,13 +458,15 @@ pub fn run_list_for(
     Ok(stands)
 }
 
-/// Writes a dictionary at the end of a text, as `run_dict` does, if this version has all values that the calls hand over,
-/// those of abandoned inner lists too. Returns whether a member stands.
+/// Appends a dictionary to `text`, as `run_dict` does, if `version` has every value of the calls, abandoned inner
+/// lists included.
+///
+/// Returns `true` if the dictionary has a member.
 ///
 /// # Errors
 ///
-/// `Unsupported` with the kind of the first value that the version doesn't have, else `OutOfMemory`, and only where there
-/// is a call; the text is then as it was.
+/// Returns `Unsupported` with the kind of the first value that `version` lacks, and `OutOfMemory` if memory runs out.
+/// Both require at least one call. After an error, the text is unchanged.
 pub fn run_dict_for(
     version: Version,
     text: &mut StdString,
@@ -427,6 +474,9 @@ pub fn run_dict_for(
 ) -> Result<bool, SerializeError>
     ensures text { AppendsOrKeeps text.old text.new
         (canonical dictionary_field (described_dictionary calls.now)) result }
+    ensures room { IfErr result (λ e. e ≡ errors.OutOfMemory
+        → LacksForCall text.old (tried_dictionary calls.now)) }
+    ensures stays { string_capacity text.old ≤ string_capacity text.new }
     ensures member { IfOk result (λ stands. IsTrue stands
         ↔ HasMember dictionary_field (described_dictionary calls.now)) }
     ensures value { OnOk result (IsFieldValue dictionary_field (described_dictionary calls.now)) }

@@ -1,4 +1,4 @@
-//! What a serializer writes into.
+//! The outputs of serializers.
 
 ghost use Rattle.std.specs.Prelude.{◌≡◌};
 ghost use Rattle.std.specs.Borrow.{sem, Lends};
@@ -7,21 +7,32 @@ ghost use Rattle.sfv_serializer.specs.Texts.{Text, text_row, with_lent};
 
 use std::string::String as StdString;
 
-/// What a serializer writes into: a lent text, or a serializer that holds one.
+/// A token that a call of [`Sink::text_mut`] takes.
+///
+/// The token has no public path, and only this crate makes one. So no other crate calls `Sink::text_mut` or writes an
+/// `impl` of `Sink`.
+#[derive(Clone, Copy, Drop)]
+pub struct Opener {
+    opens: (),
+}
+
+pub(crate) const OPENER: Opener = Opener { opens: () };
+
+/// An output of a serializer: a `&mut String`, or a serializer that holds one. The trait is sealed.
 ///
 /// Code that writes members with the calls of a serializer takes `W: Sink`.
 pub trait Sink: Drop {
-    // The text that is written to.
+    // The text of the output.
     ghost text: { Self → Text };
 
-    // The same place, when its text was replaced.
+    // The same output with another text.
     ghost with_text: { Self → Text → Self };
 
-    // Both write to the same place.
+    // Two states are of the same output.
     ghost same: { Self → Self → Type 0 };
 
-    /// Returns the text that is written to.
-    fn text_mut(&mut self) -> &mut StdString
+    /// Borrows the text. Only this crate can call it.
+    fn text_mut(&mut self, opener: Opener) -> &mut StdString
         ensures* lends { sem 𝓛 (Lends Self.row text_row self.entry result (with_text self.old)) }
         ensures text { result.now ≡ text self.old };
 
@@ -42,7 +53,7 @@ impl<'a> Sink for &'a mut StdString {
     ghost same = { λ s t. t.ghost_name ≡ s.ghost_name };
 
     #[inline(always)]
-    fn text_mut(&mut self) -> &mut StdString {
+    fn text_mut(&mut self, _opener: Opener) -> &mut StdString {
         *self
     }
 

@@ -1,4 +1,4 @@
--- The bytes that definitions name, by their characters in ASCII. `Marks` of the proofs has those that readers alone name.
+-- The bytes that definitions name, by their ASCII characters. `proofs/Marks` has the bytes that only readers name.
 use Rattle.std.specs.Prelude.{ℕ}
 
 -- b'\t'

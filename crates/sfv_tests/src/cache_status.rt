@@ -4,12 +4,12 @@ use sfv::{ErrorKind, Version};
 use sfv_fields::cache_status::last_hit;
 use std::alloc::Global;
 
-// The nearest to the user last: one that had the response, and two that asked on.
+// The nearest to the user is last: one cache that had the response, and two that forwarded the request.
 const THREE_CACHES: &str =
     "ReverseProxyCache; hit, ForwardProxyCache; fwd=uri-miss; collapsed; stored, \
     BrowserCache; fwd=uri-miss";
 
-// Whether the last hit of the field is this one: its `ttl`, if it has one.
+// Returns `true` if the last hit of the field is this one, with its `ttl`, if it has one.
 fn has_hit(alloc: Global, input: &str, expected: Option<Option<i64>>) -> bool {
     match last_hit(alloc, input.as_bytes(), Version::Rfc9651) {
         Ok(found) => found.map(|hit| hit.ttl.map(|ttl| ttl.to_i64())) == expected,
@@ -45,7 +45,7 @@ fn last_hits_are_found(rt: HostRuntime) {
     }
 }
 
-// Whether the field isn't read, with this kind at this index.
+// Returns `true` if the field has an error of this kind at this index.
 fn has_fault(alloc: Global, input: &str, version: Version, kind: ErrorKind, index: usize) -> bool {
     match last_hit(alloc, input.as_bytes(), version) {
         Ok(_) => false,

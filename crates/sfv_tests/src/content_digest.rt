@@ -1,4 +1,4 @@
-//! The Content-Digest field, a field crate on the library.
+//! The Content-Digest field.
 
 use crate::common::has_text;
 use sfv::{Error, ErrorKind};
@@ -10,7 +10,7 @@ const FIELD: &[u8] = b"sha-256=:AAAA:, md5=1, \
     sha-512=:YMAam51Jz/jOATT6/zvHrLVgOYTGFy1d6GJiOHTohq4yP+pgk4vf2aCsyRZOtw8MjkM7iw7yZ/WkppmM44T3qg==:, \
     sha-256=:d435Qo+nKZ+gLcUHn7GQtQ72hiBVAgqoLsZnZPiTGPk=:;x";
 
-// What is written of them.
+// The text of these digests.
 const TEXT: &str = "sha-256=:d435Qo+nKZ+gLcUHn7GQtQ72hiBVAgqoLsZnZPiTGPk=:, \
     sha-512=:YMAam51Jz/jOATT6/zvHrLVgOYTGFy1d6GJiOHTohq4yP+pgk4vf2aCsyRZOtw8MjkM7iw7yZ/WkppmM44T3qg==:";
 
@@ -19,12 +19,12 @@ const NONE: ContentDigest = ContentDigest {
     sha_512: None,
 };
 
-/// Whether the bytes are the digest of SHA-256 in the field.
+/// Returns `true` if the bytes are the SHA-256 digest of the field.
 fn is_sha_256(bytes: &[u8]) -> bool {
     bytes.len() == 32 && bytes.first() == Some(&0x77) && bytes.last() == Some(&0xf9)
 }
 
-/// Whether the field has both digests.
+/// Returns `true` if the field has both digests.
 fn has_both(alloc: Global) -> bool {
     let Ok(digest) = read(alloc, FIELD) else {
         return false;
@@ -35,7 +35,7 @@ fn has_both(alloc: Global) -> bool {
     }
 }
 
-/// Whether the field has no digest.
+/// Returns `true` if the field has no digest.
 fn has_none(alloc: Global, field: &[u8]) -> bool {
     match read(alloc, field) {
         Ok(digest) => digest.sha_256.is_none() & digest.sha_512.is_none(),
@@ -49,12 +49,12 @@ fn digests_are_read(rt: HostRuntime) {
     assert!(rt; has_none(rt.alloc(), b"md5=1"));
 }
 
-/// Whether the field has a member of another kind.
+/// Returns `true` if the field has a member of another kind.
 fn is_of_wrong_type(alloc: Global, field: &str) -> bool {
     matches!(read(alloc, field.as_bytes()), Err(DigestError::WrongType))
 }
 
-/// Whether the field is none, with this error.
+/// Returns `true` if the field has this syntax error.
 fn has_fault(alloc: Global, field: &str, fault: Error) -> bool {
     matches!(read(alloc, field.as_bytes()), Err(DigestError::Field(error)) if error == fault)
 }
@@ -68,7 +68,7 @@ fn faults_have_their_error(rt: HostRuntime) {
     assert!(rt; has_fault(rt.alloc(), "sha-256=:A?:", fault));
 }
 
-/// The text of the digests of the field.
+/// Returns the text of the digests of the field.
 fn written(alloc: Global) -> Option<String> {
     let digest = read(alloc, FIELD).ok()?;
     write(alloc, &digest).ok()?
@@ -80,7 +80,7 @@ fn digests_are_written(rt: HostRuntime) {
     assert!(rt; matches!(write(rt.alloc(), &NONE), Ok(None)));
 }
 
-/// Whether both digests come back.
+/// Returns `true` if both digests parse back.
 fn come_back(alloc: Global) -> bool {
     let Ok(digest) = read(alloc, FIELD) else {
         return false;

@@ -1,4 +1,4 @@
-//! What the values of a field are, and further lines of a field.
+//! The values of fields, and further lines of a field.
 
 use sfv::{
     FieldType, GenericBareItem, HashSeed, Item, OutOfMemory, ParseError, Parser, RefBareItem,
@@ -7,7 +7,7 @@ use sfv::{
 use sfv_uses::reading::{dictionary_of_lines, list_of_lines};
 use std::alloc::Global;
 
-/// Whether the input is an item of this value.
+/// Returns `true` if the input is an item with this value.
 fn is_value(alloc: Global, input: &[u8], value: RefBareItem<'_>) -> bool {
     match Parser::new(input).parse::<Item>(alloc) {
         Ok(item) => item.bare_item.as_ref_item() == value,
@@ -33,7 +33,7 @@ fn values_are_those_of_the_text(rt: HostRuntime) {
     assert!(rt; holds);
 }
 
-/// Whether the field of both lines has this text, or the second line this error.
+/// Returns `true` if the field of both lines has this text, or the second line has this error.
 fn is_answer<T: FieldType<SerializeResult = Option<String>>>(
     alloc: Global,
     field: Result<T, ParseError<OutOfMemory>>,

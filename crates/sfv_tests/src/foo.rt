@@ -1,4 +1,4 @@
-//! The example of a field, read both ways.
+//! The example field, with and without a tree.
 
 use sfv::{Dictionary, Error, ErrorKind, ParseError, Parser, Version};
 use sfv_uses::foo::{Color, Foo, FooFault, foo_from_dictionary, read_foo};
@@ -24,7 +24,7 @@ const STRONG_BLUE: Result<Foo, FooFault> = Ok(Foo {
     strong: true,
 });
 
-/// What the visitor finds, if the input is a dictionary.
+/// Returns the result of the visitor, if the input is a dictionary.
 fn by_visitor(alloc: Global, version: Version, input: &[u8]) -> Option<Result<Foo, FooFault>> {
     match read_foo(alloc, version, input) {
         Ok(foo) => Some(Ok(foo)),
@@ -33,7 +33,7 @@ fn by_visitor(alloc: Global, version: Version, input: &[u8]) -> Option<Result<Fo
     }
 }
 
-/// Whether both ways find this under the version.
+/// Returns `true` if both ways have this result under the version.
 fn is_found(
     alloc: Global,
     version: Version,
@@ -61,7 +61,7 @@ fn both_ways(rt: HostRuntime) {
         ("color=green;strong=a", Err(FooFault::ColorInvalid)),
         ("color=red;strong=a", Err(FooFault::StrongWrongType)),
         ("", Err(FooFault::ColorMissing)),
-        // A value stands only for itself, and a member only for its own parameters.
+        // A value is not combined with earlier ones, and a member has only its own parameters.
         ("color=red;strong, color=blue", BLUE),
         ("color, x=red;strong", Err(FooFault::ColorWrongType)),
         ("color=\"red\"", Err(FooFault::ColorWrongType)),
@@ -84,7 +84,7 @@ fn a_text_that_is_no_dictionary(rt: HostRuntime) {
     assert!(rt; fault == Some(Error::with_kind(ErrorKind::TrailingComma, Some(9))));
 }
 
-/// Whether the fault is printed so.
+/// Returns `true` if the error prints as this text.
 fn is_printed(alloc: Global, fault: FooFault, wanted: &str) -> bool {
     match fault.to_string(alloc) {
         Ok(text) => text.as_str() == wanted,

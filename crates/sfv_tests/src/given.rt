@@ -1,4 +1,4 @@
-//! The given visitors, and reading a field into the type that is expected.
+//! The provided visitors, and parsing of a field to the expected type.
 
 ghost use Rattle.std.specs.Prelude.{⊤};
 
@@ -38,7 +38,7 @@ fn items_are_expected_to_be_of_a_kind(rt: HostRuntime) {
     assert!(rt; numbers & tokens);
 }
 
-/// Whether the input is an item that is this string.
+/// Returns `true` if the input is an item with this string.
 fn is_string(alloc: Global, input: &[u8], wanted: &str) -> bool {
     match string(alloc, input) {
         Ok(text) => text.as_string_ref().as_str() == wanted,
@@ -46,7 +46,7 @@ fn is_string(alloc: Global, input: &[u8], wanted: &str) -> bool {
     }
 }
 
-/// Whether the input is an item that is these bytes.
+/// Returns `true` if the input is an item with these bytes.
 fn is_bytes(alloc: Global, input: &[u8], wanted: &[u8]) -> bool {
     match expect::<Vec<u8>>(alloc, input) {
         Ok(bytes) => bytes.as_slice() == wanted,
@@ -54,7 +54,7 @@ fn is_bytes(alloc: Global, input: &[u8], wanted: &[u8]) -> bool {
     }
 }
 
-/// Whether the input is an item that is a display string.
+/// Returns `true` if the input is an item with a display string.
 fn is_display_string(alloc: Global, input: &[u8]) -> bool {
     matches!(
         expect::<BareItemFromInput<'_>>(alloc, input),
@@ -70,7 +70,7 @@ fn items_are_expected_to_be_texts_or_of_any_kind(rt: HostRuntime) {
     assert!(rt; is_display_string(alloc, b"%\"a\""));
 }
 
-/// The first integer of a list, or what stands in its place.
+/// Returns the first integer of a list, or the visitor's error.
 fn first_of(alloc: Global, input: &[u8]) -> Result<Integer, ItemFault> {
     let visitor: ExpectItem<Integer> = ExpectItem::new(alloc);
     match Parser::new(input).parse_list_with_visitor(alloc, visitor) {
@@ -92,7 +92,7 @@ fn the_first_item_is_kept(rt: HostRuntime) {
     }
 }
 
-// It fails before what stands after it.
+// The visitor fails before a later syntax error.
 #[test]
 fn an_item_of_another_kind_fails_with_its_kind(rt: HostRuntime) {
     let expected = BareItemType::Integer;
@@ -120,7 +120,7 @@ fn fields_are_made_visitors(rt: HostRuntime) {
     assert!(rt; dictionary(alloc, b"a=1,b,a=2").is_ok());
 }
 
-/// What a visitor answers that may be left out.
+/// Returns the result of an optional visitor.
 fn answer_of(alloc: Global, input: &[u8], is_there: bool) -> Option<Option<Integer>> {
     let visitor = if is_there {
         Some(Integer::make_item_visitor(alloc, HashSeed::default()))
@@ -147,17 +147,17 @@ fn a_visitor_may_be_left_out(rt: HostRuntime) {
     }
 }
 
-/// Answers seven, whatever it is called on.
+/// Returns seven for any argument.
 fn seven(_answer: ()) -> Result<u64, Infallible> {
     Ok(7)
 }
 
-/// Answers an integer, or fails.
+/// Returns an integer, or fails.
 fn integer_of(value: BareItemFromInput<'_>) -> Result<Integer, ItemFault> {
     value.as_integer().ok_or(ItemFault::NoItem)
 }
 
-/// What a function answers that is called on the first item of a list.
+/// Returns the result of a function that is called on the first item of a list.
 fn called_on_first(alloc: Global, input: &[u8]) -> Option<Option<Integer>> {
     let visitor = item_visitor_with(integer_of);
     Parser::new(input)
@@ -206,7 +206,7 @@ fn closures_are_called_on_the_first_item(rt: HostRuntime) {
     assert!(rt; taken & seen & (answer == Some(Some(integer(5)))));
 }
 
-/// Whether a number is below five, of those below ten.
+/// Returns `true` if a number is below five. Fails for ten and above.
 fn is_small(number: Integer) -> Result<bool, ItemFault> {
     if number < integer(10) {
         Ok(number < integer(5))
@@ -215,7 +215,7 @@ fn is_small(number: Integer) -> Result<bool, ItemFault> {
     }
 }
 
-/// What is answered of the first number of an item.
+/// Returns the result of `is_small` for the first number of an item.
 fn smallness(alloc: Global, input: &[u8]) -> Result<bool, ItemFault> {
     let expected: ExpectItem<Integer> = ExpectItem::new(alloc);
     let visitor = parameter_visitor_with(expected, is_small);
@@ -226,7 +226,7 @@ fn smallness(alloc: Global, input: &[u8]) -> Result<bool, ItemFault> {
     }
 }
 
-/// The fault of a token where an integer is expected.
+/// The error of a token where an integer is expected.
 const NO_INTEGER: ItemFault = ItemFault::WrongType {
     expected: BareItemType::Integer,
     got: BareItemType::Token,
@@ -242,7 +242,7 @@ fn functions_are_called_on_the_answer_of_a_visitor(rt: HostRuntime) {
         ("4;a=5", Ok(true)),
         ("5;a=4", Ok(false)),
         ("12", Err(ItemFault::NoItem)),
-        // The visitor within fails first.
+        // The inner visitor fails first.
         ("abc", Err(NO_INTEGER)),
     ];
     for &(input, wanted) in rows {

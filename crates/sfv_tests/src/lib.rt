@@ -1,4 +1,4 @@
-//! Tests of what the callers of the library answer, and the given visitors with them. There is no code.
+//! Tests of the library's callers, and of the provided visitors with them. There is no code.
 #![tactic(auto)]
 
 #[cfg(test)]
@@ -15,6 +15,8 @@ mod foo;
 mod given;
 #[cfg(test)]
 mod priority;
+#[cfg(test)]
+mod readers;
 #[cfg(test)]
 mod requests;
 #[cfg(test)]

@@ -1,10 +1,10 @@
-//! The Priority field, read both ways and written.
+//! The Priority field, with and without a tree, and its text.
 
 use sfv::{Dictionary, Parser, Version};
 use sfv_fields::priority::{Priority, priority_from_dictionary, read_priority, write_priority};
 use std::alloc::Global;
 
-/// Whether the input is a dictionary that has this priority.
+/// Returns `true` if the input is a dictionary with this priority.
 fn is_in_dictionary(alloc: Global, input: &str, priority: Priority) -> bool {
     match Parser::new(input.as_bytes()).parse::<Dictionary>(alloc) {
         Ok(dictionary) => priority_from_dictionary(&dictionary) == priority,
@@ -12,7 +12,7 @@ fn is_in_dictionary(alloc: Global, input: &str, priority: Priority) -> bool {
     }
 }
 
-/// Whether the priority is written as this text after what stood there, or as none.
+/// Returns `true` if the priority is appended as this text, which may be empty.
 fn is_written(alloc: Global, priority: Priority, line: &str) -> bool {
     let Ok(mut text) = String::from_str(alloc, "P: ") else {
         return false;
@@ -21,7 +21,7 @@ fn is_written(alloc: Global, priority: Priority, line: &str) -> bool {
     stands == Ok(!line.is_empty()) && text.as_str().strip_prefix("P: ") == Some(line)
 }
 
-/// Whether the input is read so, as how urgent and whether incremental, both ways, and written as this text.
+/// Returns `true` if the input has this urgency and flag, with and without a tree, and is written as this text.
 fn is_read_and_written(alloc: Global, input: &str, wanted: (u8, bool), line: &str) -> bool {
     match read_priority(alloc, input.as_bytes(), Version::Rfc9651) {
         Ok(priority) => {

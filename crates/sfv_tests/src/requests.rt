@@ -1,4 +1,4 @@
-//! Heads of requests, and the priority that each has.
+//! Heads of requests, and their priorities.
 
 use httparse::Status;
 use httparse::spans::{EMPTY_HEADER_SPAN, HeaderSpan};
@@ -8,7 +8,7 @@ use std::alloc::Global;
 
 const ROOM: [HeaderSpan; 4] = [EMPTY_HEADER_SPAN; 4];
 
-// Whether the request has this priority: how urgent, and whether incremental.
+// Returns `true` if the request has this urgency and flag.
 fn has_priority(alloc: Global, input: &[u8], wanted: (u8, bool)) -> bool {
     let mut headers = ROOM;
     match request_priority(alloc, Version::Rfc9651, input, &mut headers) {
@@ -42,7 +42,7 @@ fn requests_have_their_priority(rt: HostRuntime) {
     }
 }
 
-// Whether the field of the request isn't read, with this kind at this index of the joined text.
+// Returns `true` if the field of the request has an error of this kind at this index of the joined text.
 fn has_fault(alloc: Global, input: &[u8], kind: ErrorKind, index: usize) -> bool {
     let mut headers = ROOM;
     match request_priority(alloc, Version::Rfc9651, input, &mut headers) {
@@ -75,7 +75,7 @@ fn fields_have_their_fault(rt: HostRuntime) {
     }
 }
 
-// Whether the text of a field of the request is this one.
+// Returns `true` if the field of the request has this text.
 fn has_text(alloc: Global, name: &str, input: &[u8], expected: &[u8]) -> bool {
     let mut headers = ROOM;
     match request_field(alloc, name, input, &mut headers) {
@@ -106,7 +106,7 @@ fn heads_may_be_none(rt: HostRuntime) {
     assert!(rt; answer == Err(RequestFault::Head(httparse::Error::TooManyHeaders)));
 }
 
-// Whether the fault is printed so.
+// Returns `true` if the error prints as this text.
 fn is_printed(alloc: Global, fault: RequestFault, wanted: &str) -> bool {
     match fault.to_string(alloc) {
         Ok(text) => text.as_str() == wanted,

@@ -21,7 +21,7 @@ impl Read for Broken<'_> {
     }
 }
 
-/// A writer that takes nothing.
+/// A writer whose `write` fails.
 #[derive(Drop)]
 struct Full;
 
@@ -35,7 +35,7 @@ impl Write for Full {
     }
 }
 
-/// A writer that can't be flushed.
+/// A writer whose `flush` fails.
 #[derive(Drop)]
 struct Unflushed;
 
@@ -49,7 +49,7 @@ impl Write for Unflushed {
     }
 }
 
-/// The arguments, which spaces part.
+/// Splits the arguments at spaces.
 fn arguments(alloc: Global, args: &str) -> Option<Vec<String>> {
     let mut all = Vec::new(alloc);
     for arg in args.split(' ') {
@@ -60,7 +60,7 @@ fn arguments(alloc: Global, args: &str) -> Option<Vec<String>> {
     Some(all)
 }
 
-/// The status with which a run over these ends.
+/// Returns the exit status of a run with these arguments, input and outputs.
 fn status_of<R: Read, W: Write, E: Write>(
     alloc: Global,
     args: &str,
@@ -73,7 +73,7 @@ fn status_of<R: Read, W: Write, E: Write>(
     Some(run(alloc, seed, args.as_slice(), input, output, errors))
 }
 
-/// Whether a run over memory writes just this, and ends with this status.
+/// Returns `true` if a run over memory writes exactly these texts, and has this status.
 fn ends(alloc: Global, args: &str, input: &str, wanted: (&str, &str, u8)) -> bool {
     let (mut output, mut errors) = (Vec::new(alloc), Vec::new(alloc));
     let mut input = input.as_bytes();
@@ -83,17 +83,17 @@ fn ends(alloc: Global, args: &str, input: &str, wanted: (&str, &str, u8)) -> boo
         && status == Some(wanted.2)
 }
 
-/// Whether a run over memory writes this output and no error.
+/// Returns `true` if a run over memory writes this output and no error.
 fn writes(alloc: Global, args: &str, input: &str, output: &str) -> bool {
     ends(alloc, args, input, (output, "", 0))
 }
 
-/// Whether a run over memory writes this error and no output.
+/// Returns `true` if a run over memory writes this error and no output.
 fn fails(alloc: Global, args: &str, input: &str, error: &str) -> bool {
     ends(alloc, args, input, ("", error, 1))
 }
 
-/// Arguments, an input, and what is written.
+/// Arguments, an input, and the output.
 const WRITTEN: &[(&str, &str, &str)] = &[
     ("item 9651", "007.50;a=?1\n", "7.5;a\n"),
     ("item 9651", "007.50;a=?1", "7.5;a\n"),
@@ -114,7 +114,7 @@ const WRITTEN: &[(&str, &str, &str)] = &[
     ("priority 9651", "u=1, x=@5\n", "u=1\n"),
 ];
 
-// The version of writing is the third argument.
+// The third argument is the version to serialize under.
 #[test]
 fn what_is_read_is_written(rt: HostRuntime) {
     for &(args, input, output) in WRITTEN {
@@ -126,7 +126,7 @@ const NO_ITEM: &str = "error: expected start of bare item at index 0\n";
 
 const NO_DATE: &str = "error: RFC 8941 does not support dates\n";
 
-/// Arguments, an input, and the error that is written.
+/// Arguments, an input, and the error.
 const REFUSED: &[(&str, &str, &str)] = &[
     (
         "item 9651",
@@ -192,7 +192,7 @@ fn faults_are_written_as_errors(rt: HostRuntime) {
     }
 }
 
-/// Whether an answer of more than 64 KB, which no one call of the system writes as a whole, is written whole.
+/// Returns `true` if a result of more than 64 KB is written completely. No single system call writes this much.
 fn is_long_answer_whole(alloc: Global) -> bool {
     let mut text = String::new(alloc);
     for _ in 0..30_000 {
@@ -234,7 +234,7 @@ fn other_arguments_have_the_usage(rt: HostRuntime) {
     }
 }
 
-/// Whether the run over this input, and errors into memory, ends with this error.
+/// Returns `true` if a run over this input, with errors into memory, ends with this error.
 fn is_unreadable<R: Read>(alloc: Global, input: &mut R) -> bool {
     let (mut output, mut errors) = (Vec::new(alloc), Vec::new(alloc));
     let status = status_of(alloc, "item 9651", input, &mut output, &mut errors);
@@ -243,7 +243,7 @@ fn is_unreadable<R: Read>(alloc: Global, input: &mut R) -> bool {
         && errors.as_slice() == b"error: cannot read input\n".as_slice()
 }
 
-/// Whether the run over this output says that it can't be written, with status 1.
+/// Returns `true` if a run over this output reports that it cannot be written, with status 1.
 fn is_unwritable<W: Write>(alloc: Global, output: &mut W) -> bool {
     let mut errors = Vec::new(alloc);
     let mut input = b"1\n".as_slice();
@@ -251,7 +251,7 @@ fn is_unwritable<W: Write>(alloc: Global, output: &mut W) -> bool {
     status == Some(1) && errors.as_slice() == b"error: cannot write output\n".as_slice()
 }
 
-/// The status of a run whose errors can't be written.
+/// Returns the status of a run whose errors cannot be written.
 fn status_with_full_errors(alloc: Global, args: &str) -> Option<u8> {
     let mut output = Vec::new(alloc);
     let mut input = b"1,\n".as_slice();
@@ -263,7 +263,7 @@ fn status_with_full_errors(alloc: Global, args: &str) -> Option<u8> {
     }
 }
 
-// Where the errors can't be written, the status stays.
+// If the errors cannot be written, the status is the same.
 #[test]
 fn readers_and_writers_may_fail(rt: HostRuntime) {
     let alloc = rt.alloc();

@@ -1,4 +1,4 @@
-//! The callers of the library that are proved, the ones that its page for callers shows too.
+//! The proved callers of the library, including the examples of `CALLING.md`.
 
 use crate::common::{is_refused, is_text};
 use sfv::script::{ItemCalls, MemberCalls};
@@ -16,7 +16,7 @@ use sfv_uses::writing::{write_item, write_parts, written_and_read};
 use sfv_versions::{performed_and_read_for, write_both_for};
 use std::alloc::Global;
 
-/// Whether the list has this line that explains its fault, or none where there is no fault.
+/// Returns `true` if the list has this line that explains its error, or no line without an error.
 fn is_explained(alloc: Global, input: &str, wanted: &str) -> bool {
     match explain(alloc, input.as_bytes()) {
         Ok(Some(line)) => line.as_str() == wanted,
@@ -50,7 +50,7 @@ fn integers_have_a_default(rt: HostRuntime) {
     }
 }
 
-/// The number of a member's parameter, if there is one.
+/// Returns the number of a member's parameter, if there is one.
 fn number_of(alloc: Global, member: KeyRef<'_>, param: KeyRef<'_>) -> Option<Integer> {
     let input = b"a=1;x=1, b=(1 2);x=2;x=3, a=2;x=4;y";
     match param_of_member(alloc, input, member, param) {
@@ -93,7 +93,7 @@ fn word<'a>() -> RefBareItem<'a> {
     GenericBareItem::Token(token_ref("w"))
 }
 
-/// Whether an item is written, and after it another part by part.
+/// Returns `true` if an item is written, and then another one part by part.
 fn are_items_written(alloc: Global) -> bool {
     let Ok(item) = Parser::new(b"1.50;a;b=%\"%c3%bc\"").parse::<Item>(alloc) else {
         return false;
@@ -104,7 +104,7 @@ fn are_items_written(alloc: Global) -> bool {
     first & second & is_text(&text, "w;k=?01.5;a;b=%\"%c3%bc\"")
 }
 
-/// Whether an item is written and read again.
+/// Returns `true` if an item is written and parses back.
 fn is_read_again(alloc: Global) -> bool {
     match written_and_read(alloc, word(), key_ref("k"), NO) {
         Ok(item) => item.params.len() == 1,
@@ -147,7 +147,7 @@ fn date<'a>() -> RefBareItem<'a> {
 
 const DATE: SerializeError = SerializeError::Unsupported(BareItemType::Date);
 
-/// The text of a list of a number and this value.
+/// Returns the text of a list with a number and this value.
 fn pair_for<'a>(
     alloc: Global,
     version: Version,
@@ -158,7 +158,7 @@ fn pair_for<'a>(
     Ok(text)
 }
 
-/// Whether the list is written so.
+/// Returns `true` if the list has this text.
 fn is_pair_written(pair: Result<String, SerializeError>, wanted: &str) -> bool {
     match pair {
         Ok(text) => text.as_str() == wanted,
@@ -174,7 +174,7 @@ fn values_are_written_for_a_version(rt: HostRuntime) {
     assert!(rt; is_refused(pair_for(alloc, Version::Rfc8941, date()).err(), DATE));
 }
 
-/// The calls that write an item without parameters.
+/// Returns the calls that write an item without parameters.
 fn calls<'a>(alloc: Global, value: RefBareItem<'a>) -> MemberCalls<'a> {
     MemberCalls::Item(ItemCalls {
         value,
@@ -182,7 +182,7 @@ fn calls<'a>(alloc: Global, value: RefBareItem<'a>) -> MemberCalls<'a> {
     })
 }
 
-/// Whether a list was read that has so many members.
+/// Returns `true` if the result is a list with this many members.
 fn has_length<E: Drop>(list: Result<List, E>, length: usize) -> bool {
     match list {
         Ok(list) => list.len() == length,

@@ -1,4 +1,4 @@
--- Texts of a class, and what comes of a text that one is made from.
+-- Texts of a class, and the results of their constructors.
 use Rattle.std.specs.Prelude.{◌≡◌, ℕ, Bool, List, IsTrue, Result, MatchResult, string_bytes}
 use Rattle.std.specs.declared.alloc.Global.{Global}
 use Rattle.std.specs.declared.string.String as std_string
@@ -10,16 +10,16 @@ use Rattle.sfv_text.specs.declared.checked_text_ref.CheckedTextRef.{CheckedTextR
 abbrev pub text_of : {C : Type 0} {class : Ghosts C} → CheckedTextRef C class → List ℕ
 text_of k = k.text.now
 
--- the borrowed text of exactly these bytes if they are of its class, and else what is wrong with them
+-- the borrowed text of exactly these bytes if they are of its class, otherwise the error
 abbrev pub GivesTextRef : {C : Type 0} {class : Ghosts C} → List ℕ → Result (CheckedTextRef C class) Error → Type 0
 GivesTextRef {class = class} t r =
     MatchResult r (λ k. (text_of k ≡ t) × IsTrue (class.is_valid t)) (class.IsInvalid t)
 
--- the text of exactly these bytes if they are of the class, and else what is wrong with them
+-- the owned text of exactly these bytes if they are of its class, otherwise the error
 abbrev pub GivesText : (List ℕ → Bool) → (List ℕ → Error → Type 0) → List ℕ → Result (List ℕ) Error → Type 0
 GivesText is_valid IsInvalid t r = MatchResult r (λ k. (k ≡ t) × IsTrue (is_valid t)) (IsInvalid t)
 
--- the same of a text, which comes back if it isn't of the class
+-- the same for an owned argument, which is returned if it is not of the class
 abbrev pub GivesTextOrInput :
     (List ℕ → Bool) → (List ℕ → Error → Type 0) → std_string.String Global
     → Result (List ℕ) (Error × std_string.String Global) → Type 0

@@ -1,4 +1,4 @@
-//! Texts of a class that own their bytes.
+//! Text of a class that owns its bytes.
 
 ghost use Rattle.std.specs.Prelude.{◌≡◌, Some, refl, nat_eq, string_bytes, IsTrue};
 ghost use Rattle.std.specs.Fmt.{debug_variant, debug_str};
@@ -21,13 +21,13 @@ use std::hash::{Hash, Hasher};
 use std::marker::{Model, PhantomData};
 use std::string::String as StdString;
 
-/// A text of a class that owns its bytes: what `Key`, `Token` and `String` are.
+/// An owned text of the class `C`. `Key`, `Token` and `String` are such types.
 ///
-/// `TryFrom` of a text is `from_string` without the text in its error. Comparisons, `Hash` and `Display` go
-/// by the text. It becomes its text by `into_string`, and by `From` where this crate is listed. `clone` returns
-/// `AllocError` when out of memory.
+/// `TryFrom` converts a text as `from_string` does, but drops it after an error. Comparisons, `Hash` and `Display` use
+/// the text. `into_string` returns the text; so does `From`, in a crate that depends on this crate directly. `clone`
+/// returns `AllocError` if memory runs out.
 ///
-/// A contract sees it as its bytes.
+/// Contracts view a value as its bytes.
 #[derive(Drop)]
 pub struct CheckedText<C: TextClass> {
     text: StdString,
@@ -45,7 +45,7 @@ impl<C: TextClass> Model for CheckedText<C> {
 }
 
 impl<C: TextClass> CheckedText<C> {
-    /// Takes a text that is known to be of the class.
+    /// Wraps a text of the class, without a check.
     pub(crate) fn from_validated_string(text: StdString) -> CheckedText<C>
         requires { IsTrue (C.is_valid (string_bytes text)) }
         ensures { result ≡ string_bytes text }
@@ -56,13 +56,13 @@ impl<C: TextClass> CheckedText<C> {
         }
     }
 
-    /// Takes a text.
+    /// Checks and wraps a text, without a copy.
     ///
     /// # Errors
     ///
-    /// If the text isn't of the class, the error says why, and the text comes back beside it. For keys and tokens
-    /// it is `ErrorKind::Empty` with no index if the text is empty, and otherwise `ErrorKind::InvalidCharacter` at
-    /// the index of the first byte that may not stand there.
+    /// Returns an error and the text if the text is not of the class. For an empty key or token, the error is
+    /// `ErrorKind::Empty` without index. Otherwise it is `ErrorKind::InvalidCharacter` at the first byte that the class
+    /// does not allow there.
     pub fn from_string(v: StdString) -> Result<CheckedText<C>, (Error, StdString)>
         ensures { GivesTextOrInput C.is_valid C.IsInvalid v result }
     {
@@ -80,7 +80,7 @@ impl<C: TextClass> CheckedText<C> {
         self.text.as_str()
     }
 
-    /// Takes the text out.
+    /// Returns the text, without a copy.
     pub fn into_string(self) -> StdString
         ensures text { string_bytes result ≡ self }
         ensures valid { IsTrue (C.is_valid self) }
@@ -88,7 +88,7 @@ impl<C: TextClass> CheckedText<C> {
         self.text
     }
 
-    /// Lends the text.
+    /// Borrows the text.
     pub(crate) fn lend(&self) -> CheckedTextRef<'_, C>
         ensures { text_of result ≡ self.now }
     {

@@ -1,4 +1,4 @@
-//! Borrowed texts of a class.
+//! Borrowed text of a class.
 
 ghost use Rattle.std.specs.Prelude.{IsTrue};
 
@@ -11,9 +11,9 @@ use std::hash::{DefaultHasher, Hash, Hasher};
 use std::marker::PhantomData;
 use std::string::String as StdString;
 
-/// A borrowed text of a class: what `KeyRef`, `TokenRef` and `StringRef` are.
+/// A borrowed text of the class `C`. `KeyRef`, `TokenRef` and `StringRef` are such types.
 ///
-/// `TryFrom` of a text and of bytes are `from_str` and `from_bytes`. Comparisons, `Hash` and `Display` go by
+/// `TryFrom` converts a `str` as `from_str` does, and bytes as `from_bytes` does. Comparisons, `Hash` and `Display` use
 /// the text.
 #[derive_where(PartialEq, Eq, PartialOrd, Ord)]
 pub struct CheckedTextRef<'a, C: TextClass> {
@@ -46,9 +46,10 @@ impl<C: TextClass> Hash for CheckedTextRef<'_, C> {
 
     ghost respects_eq = { Prim.search (hashing, rules) };
 
-    // Keys come from whoever sends a field. For the hash of the maps, long keys of one hash are easily found, so these
-    // are hashed by SipHash first: 10,000 of them made a dictionary take a hundred times as long. Short keys, of which
-    // some thousand have one hash of 32 bits, are spared it, since it takes a tenth of the time of a dictionary.
+    // An attacker can choose the keys of a field. Long keys that collide under the maps' own hash are easy to find:
+    // 10,000 of them made a dictionary take a hundred times as long. So keys of more than eight bytes are hashed by
+    // SipHash first. Among the shorter keys, only some thousands share a 32-bit hash. They skip SipHash, because it
+    // takes a tenth of the time of a dictionary.
     fn hash<H: Hasher>(&self, state: &mut H) {
         let text = self.as_str();
         if text.len() > 8 {
@@ -65,7 +66,7 @@ impl<'a, C: TextClass> CheckedTextRef<'a, C> {
     ghost use Rattle.std.specs.Prelude.{◌≡◌, IfOk};
     ghost use Rattle.sfv_text.specs.CheckedTexts.{text_of, GivesTextRef};
 
-    /// Takes a text that is known to be of the class.
+    /// Wraps a text of the class, without a check.
     pub(crate) fn from_validated_str(text: &'a str) -> CheckedTextRef<'a, C>
         requires { IsTrue (C.is_valid text.now) }
         ensures { text_of result ≡ text.now }
@@ -76,7 +77,7 @@ impl<'a, C: TextClass> CheckedTextRef<'a, C> {
         }
     }
 
-    /// Takes a text that is of the class.
+    /// Wraps a text of the class, without a check: the caller proves that it is of the class.
     pub fn constant(v: &'a str) -> CheckedTextRef<'a, C>
         requires { IsTrue (C.is_valid v.now) }
         ensures { text_of result ≡ v.now }
@@ -84,13 +85,13 @@ impl<'a, C: TextClass> CheckedTextRef<'a, C> {
         CheckedTextRef::from_validated_str(v)
     }
 
-    /// Takes a text.
+    /// Checks and wraps a text.
     ///
     /// # Errors
     ///
-    /// If the text isn't of the class, the error says why. For keys and tokens it is `ErrorKind::Empty` with no
-    /// index if the text is empty, and otherwise `ErrorKind::InvalidCharacter` at the index of the first byte that
-    /// may not stand there.
+    /// Returns an error if the text is not of the class. For an empty key or token, the error is `ErrorKind::Empty`
+    /// without index. Otherwise it is `ErrorKind::InvalidCharacter` at the first byte that the class does not allow
+    /// there.
     pub fn from_str(v: &'a str) -> Result<CheckedTextRef<'a, C>, Error>
         ensures { GivesTextRef v.now result }
     {
@@ -98,16 +99,16 @@ impl<'a, C: TextClass> CheckedTextRef<'a, C> {
         Ok(CheckedTextRef::from_validated_str(v))
     }
 
-    /// Takes the text of these bytes.
+    /// Checks and wraps bytes.
     ///
     /// # Errors
     ///
-    /// As `from_str`.
+    /// Returns the errors of `from_str`. Bytes that are not UTF-8 are of no class.
     pub fn from_bytes(v: &'a [u8]) -> Result<CheckedTextRef<'a, C>, Error>
         ensures { GivesTextRef v.now result }
     {
         C::check(v)?;
-        // The bytes of each class are ASCII, so they are a text as they stand.
+        // SAFETY: texts of every class are ASCII.
         let text = unsafe { std::str::from_utf8_unchecked(v) };
         Ok(CheckedTextRef::from_validated_str(text))
     }
@@ -120,11 +121,11 @@ impl<'a, C: TextClass> CheckedTextRef<'a, C> {
         self.text
     }
 
-    /// Returns a copy that owns its text.
+    /// Returns an owned copy of the text, allocated from `alloc`.
     ///
     /// # Errors
     ///
-    /// `OutOfMemory` when out of memory.
+    /// Returns `OutOfMemory` if memory runs out.
     pub fn to_owned(&self, alloc: Global) -> Result<CheckedText<C>, OutOfMemory>
         ensures { IfOk result (λ t. t ≡ text_of self.now) }
     {

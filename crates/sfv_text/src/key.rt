@@ -1,4 +1,4 @@
-//! Keys that own their text (RFC 9651, section 3.1.2).
+//! Owned keys (RFC 9651, section 3.1.2).
 
 ghost use Rattle.std.specs.Prelude.{codes};
 ghost use Rattle.sfv_spec.specs.Classes.{is_key};
@@ -31,17 +31,17 @@ impl TextClass for KeyClass {
     }
 }
 
-/// A key that owns its text (RFC 9651, section 3.1.2).
+/// An owned key (RFC 9651, section 3.1.2).
 ///
-/// `from_string` rejects an empty text with `ErrorKind::Empty` and no index, and another text that is no key with
-/// `ErrorKind::InvalidCharacter` at the index of the first byte that may not stand there.
+/// `from_string` rejects an empty text with `ErrorKind::Empty` without index. It rejects any other text that is not a
+/// key with `ErrorKind::InvalidCharacter` at the first byte that a key does not allow there.
 pub type Key = CheckedText<KeyClass>;
 
 impl Key {
     ghost use Rattle.std.specs.Prelude.{◌≡◌};
     ghost use Rattle.sfv_text.specs.KeyText.{key_text};
 
-    /// Lends the key.
+    /// Borrows the key.
     pub fn as_key_ref(&self) -> KeyRef<'_>
         ensures { key_text result ≡ self.now }
     {

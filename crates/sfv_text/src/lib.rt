@@ -1,4 +1,4 @@
-//! The texts that structured fields (RFC 9651) are made of.
+//! The texts of structured fields (RFC 9651): keys, tokens and strings.
 #![tactic(auto)]
 
 pub mod checked_text;

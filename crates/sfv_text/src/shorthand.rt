@@ -1,4 +1,4 @@
-//! Functions that make a value in short.
+//! Short names for constructors.
 
 ghost use Rattle.std.specs.Prelude.{◌≡◌, IsTrue};
 ghost use Rattle.std.specs.List.{list_all};
@@ -11,7 +11,7 @@ use crate::key_ref::KeyRef;
 use crate::string_ref::StringRef;
 use crate::token_ref::TokenRef;
 
-/// Returns the key of this text, which is one: `KeyRef::constant` in short.
+/// Returns the key with this text: short for `KeyRef::constant`. The caller proves that the text is a key.
 pub fn key_ref(v: &str) -> KeyRef<'_>
     requires { IsTrue (is_key v.now) }
     ensures { key_text result ≡ v.now }
@@ -19,7 +19,7 @@ pub fn key_ref(v: &str) -> KeyRef<'_>
     KeyRef::constant(v)
 }
 
-/// Returns the token of this text, which is one: `TokenRef::constant` in short.
+/// Returns the token with this text: short for `TokenRef::constant`. The caller proves that the text is a token.
 pub fn token_ref(v: &str) -> TokenRef<'_>
     requires { IsTrue (is_token v.now) }
     ensures { token_text result ≡ v.now }
@@ -27,7 +27,8 @@ pub fn token_ref(v: &str) -> TokenRef<'_>
     TokenRef::constant(v)
 }
 
-/// Returns the string of this text, which is one: `StringRef::constant` in short.
+/// Returns the string with this text: short for `StringRef::constant`. The caller proves that the text is printable
+/// ASCII.
 pub fn string_ref(v: &str) -> StringRef<'_>
     requires { IsTrue (list_all is_string_byte v.now) }
     ensures { string_text result ≡ v.now }

@@ -1,4 +1,4 @@
-//! Strings that own their text (RFC 9651, section 3.3.3).
+//! Owned strings (RFC 9651, section 3.3.3).
 
 ghost use Rattle.std.specs.Prelude.{codes};
 ghost use Rattle.std.specs.List.{list_all};
@@ -34,10 +34,9 @@ impl TextClass for StringClass {
     }
 }
 
-/// A string that owns its text (RFC 9651, section 3.3.3).
+/// An owned string (RFC 9651, section 3.3.3).
 ///
-/// `from_string` rejects a text with `ErrorKind::InvalidCharacter` at the index of the first byte that a string may not
-/// hold, which is one that isn't printable ASCII.
+/// `from_string` rejects a text with `ErrorKind::InvalidCharacter` at the first byte that is not printable ASCII.
 pub type String = CheckedText<StringClass>;
 
 impl String {
@@ -46,7 +45,7 @@ impl String {
     ghost use Rattle.sfv_spec.specs.Classes.{is_string_byte};
     ghost use Rattle.sfv_text.specs.StringText.{string_text};
 
-    /// Takes a text that is a string.
+    /// Wraps a text without a check: the caller proves that it is printable ASCII.
     pub fn constant(text: StdString) -> String
         requires { IsTrue (list_all is_string_byte (string_bytes text)) }
         ensures { result ≡ string_bytes text }
@@ -54,14 +53,14 @@ impl String {
         String::from_validated_string(text)
     }
 
-    /// Returns the empty string, which takes no memory.
+    /// Returns the empty string, without allocation.
     pub fn empty(alloc: Global) -> String
         ensures { result ≡ [] }
     {
         String::from_validated_string(StdString::new(alloc))
     }
 
-    /// Lends the string.
+    /// Borrows the string.
     pub fn as_string_ref(&self) -> StringRef<'_>
         ensures { string_text result ≡ self.now }
     {

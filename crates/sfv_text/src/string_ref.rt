@@ -4,10 +4,10 @@ use crate::checked_text_ref::CheckedTextRef;
 use crate::string::StringClass;
 use std::marker::PhantomData;
 
-/// A string whose text is borrowed (RFC 9651, section 3.3.3).
+/// A borrowed string (RFC 9651, section 3.3.3). `Default` is the empty string.
 ///
-/// `from_str` and `from_bytes` reject a text with `ErrorKind::InvalidCharacter` at the index of the first byte that a
-/// string may not hold, which is one that isn't printable ASCII. `Default` is the empty string.
+/// `from_str` and `from_bytes` reject a text with `ErrorKind::InvalidCharacter` at the first byte that is not printable
+/// ASCII.
 pub type StringRef<'a> = CheckedTextRef<'a, StringClass>;
 
 impl StringRef<'_> {

@@ -16,10 +16,10 @@ mod sealed {
     impl Sealed for crate::string::StringClass {}
 }
 
-/// A class of texts: that of keys, of tokens or of strings.
+/// A class of texts: keys, tokens or strings.
 ///
-/// In contracts `is_valid` says which bytes are a text of the class, `IsInvalid` which error says why bytes are none,
-/// and `name` is what `Debug` calls a text of the class.
+/// In contracts, `is_valid` says which bytes are a text of the class. `IsInvalid` says which error other bytes have.
+/// `name` is the name that `Debug` prints.
 pub trait TextClass: sealed::Sealed + Drop {
     ghost is_valid: { List ℕ → Bool };
 
@@ -27,16 +27,16 @@ pub trait TextClass: sealed::Sealed + Drop {
 
     ghost name: { List ℕ };
 
-    /// Tests whether the bytes are a text of the class.
+    /// Checks that the bytes are a text of the class.
     ///
     /// # Errors
     ///
-    /// What is wrong with them, at the first byte outside the class.
+    /// Returns the error at the first byte that the class does not allow there, or `ErrorKind::Empty`.
     fn check(bytes: &[u8]) -> Result<(), Error>
         ensures checked { MatchResult result (λ _. IsTrue (is_valid bytes.now)) (IsInvalid bytes.now) }
         ensures utf8 { IfOk result (λ _. IsUtf8 bytes.now) };
 
-    /// Returns the name of the type of texts of the class.
+    /// Returns the name of the type of owned texts of the class.
     fn name() -> &'static str
         ensures { result.now ≡ name };
 }

@@ -1,4 +1,4 @@
-//! Tokens that own their text (RFC 9651, section 3.3.4).
+//! Owned tokens (RFC 9651, section 3.3.4).
 
 ghost use Rattle.std.specs.Prelude.{codes};
 ghost use Rattle.sfv_spec.specs.Classes.{is_token};
@@ -31,17 +31,17 @@ impl TextClass for TokenClass {
     }
 }
 
-/// A token that owns its text (RFC 9651, section 3.3.4).
+/// An owned token (RFC 9651, section 3.3.4).
 ///
-/// `from_string` rejects an empty text with `ErrorKind::Empty` and no index, and another text that is no token with
-/// `ErrorKind::InvalidCharacter` at the index of the first byte that may not stand there.
+/// `from_string` rejects an empty text with `ErrorKind::Empty` without index. It rejects any other text that is not a
+/// token with `ErrorKind::InvalidCharacter` at the first byte that a token does not allow there.
 pub type Token = CheckedText<TokenClass>;
 
 impl Token {
     ghost use Rattle.std.specs.Prelude.{◌≡◌};
     ghost use Rattle.sfv_text.specs.TokenText.{token_text};
 
-    /// Lends the token.
+    /// Borrows the token.
     pub fn as_token_ref(&self) -> TokenRef<'_>
         ensures { token_text result ≡ self.now }
     {

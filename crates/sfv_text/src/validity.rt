@@ -1,4 +1,4 @@
-//! What makes a text a key, a token or a string.
+//! Checks that bytes are a key, a token or a string.
 
 ghost use Rattle.std.specs.Prelude.{◌≡◌, IsTrue, MatchResult, not, position};
 ghost use Rattle.std.specs.List.{list_all};
@@ -18,7 +18,7 @@ fn first_outside<C: RunClass>(bytes: &[u8]) -> Option<usize>
     if end < bytes.len() { Some(end) } else { None }
 }
 
-/// Tests whether the bytes are a key, or returns why they are none.
+/// Checks that the bytes are a key.
 #[tactic(auto, using(crate::proofs::Outside::all_from_position))]
 pub(crate) fn check_key(bytes: &[u8]) -> Result<(), Error>
     ensures { MatchResult result (λ _. IsTrue (is_key bytes.now)) (IsInvalidKey bytes.now) }
@@ -35,7 +35,7 @@ pub(crate) fn check_key(bytes: &[u8]) -> Result<(), Error>
     }
 }
 
-/// Tests whether the bytes are a token, or returns why they are none.
+/// Checks that the bytes are a token.
 #[tactic(auto, using(crate::proofs::Outside::all_from_position))]
 pub(crate) fn check_token(bytes: &[u8]) -> Result<(), Error>
     ensures { MatchResult result (λ _. IsTrue (is_token bytes.now)) (IsInvalidToken bytes.now) }
@@ -52,7 +52,7 @@ pub(crate) fn check_token(bytes: &[u8]) -> Result<(), Error>
     }
 }
 
-/// Tests whether the bytes are a string, or returns why they are none.
+/// Checks that the bytes are a string.
 #[tactic(auto, using(crate::proofs::Outside::all_from_position))]
 pub(crate) fn check_string(bytes: &[u8]) -> Result<(), Error>
     ensures { MatchResult result

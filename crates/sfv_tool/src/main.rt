@@ -1,5 +1,5 @@
-//! The program `sfv_tool`: reads a structured field, and prints its canonical text; of the Priority field what isn't the
-//! default.
+//! The program `sfv_tool`: parses a structured field and prints its canonical text. For a Priority field, it prints the
+//! members without their default value.
 #![tactic(auto)]
 
 use sfv::HashSeed;
@@ -11,7 +11,7 @@ use std::process::ExitCode;
 use std::random::RandomSource;
 use std::{env, io};
 
-/// The arguments after the name of the program.
+/// Returns the arguments after the name of the program.
 fn arguments<R: Env + AllocGlobal>(rt: &R) -> io::Result<Vec<String>> {
     let mut args = Vec::new(rt.alloc());
     for arg in env::args(rt)?.skip(1) {
@@ -20,7 +20,7 @@ fn arguments<R: Env + AllocGlobal>(rt: &R) -> io::Result<Vec<String>> {
     Ok(args)
 }
 
-/// A seed of the hash of keys that nobody knows.
+/// Returns a random hash seed.
 fn drawn_seed(rt: &impl RandomSource) -> io::Result<HashSeed> {
     let mut bytes = [0; 8];
     rt.fill_bytes(&mut bytes)?;
@@ -32,7 +32,7 @@ fn main(rt: HostRuntime) -> ExitCode {
         let _ = rt.stderr().write_all(b"error: cannot draw a seed\n");
         return ExitCode::FAILURE;
     };
-    // Arguments that can't be had, since they aren't UTF-8 or for want of memory, are wrong arguments.
+    // Arguments that are not UTF-8, or for which memory runs out, are wrong arguments.
     let args = arguments(&rt).unwrap_or(Vec::new(rt.alloc()));
     let status = run(
         rt.alloc(),

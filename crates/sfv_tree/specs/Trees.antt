@@ -13,7 +13,7 @@ use Rattle.sfv_tree.specs.declared.parsed.InnerList.{InnerList}
 use Rattle.sfv_tree.specs.declared.parsed.ListEntry.{ListEntry}
 use Rattle.sfv_tree.specs.declared.parsed.ListEntry.TheVariants as entries
 
--- a `BareItem`, since antt has no name for an alias
+-- `BareItem`; antt has no name for an alias
 abbrev pub OwnedBareItem : Type 0
 OwnedBareItem = GenericBareItem (List ℕ) (Vec ℕ Global) (List ℕ) (String Global)
 
@@ -25,7 +25,7 @@ pair_tree p = (p.0, bare_value p.1)
 abbrev pub pairs_tree : List (List ℕ × OwnedBareItem) → RawParameters
 pairs_tree pairs = map pair_tree pairs
 
--- the item of this value with these parameters
+-- the item with this value and these parameters
 abbrev pub item_with : OwnedBareItem → List (List ℕ × OwnedBareItem) → RawItem
 item_with value params = record { bare = bare_value value; parameters = pairs_tree params }
 
@@ -33,7 +33,7 @@ item_with value params = record { bare = bare_value value; parameters = pairs_tr
 abbrev pub item_tree : Item → RawItem
 item_tree i = item_with i.bare_item i.params.entries
 
--- the inner list of these items with these parameters
+-- the inner list with these items and these parameters
 abbrev pub inner_list_with : List Item → List (List ℕ × OwnedBareItem) → RawInnerList
 inner_list_with items params = record { items = map item_tree items; parameters = pairs_tree params }
 
@@ -58,14 +58,14 @@ entry_tree p = (p.0, member_tree p.1)
 abbrev pub dictionary_tree : List (List ℕ × ListEntry) → List (List ℕ × RawMember)
 dictionary_tree entries = map entry_tree entries
 
--- the value of what was found by its key
+-- the value that a look-up by key returned
 abbrev pub found_member : Option (Bor ListEntry) → Option RawMember
 found_member found = option_map member_tree (option_copied found)
 
 abbrev pub found_value : Option (Bor OwnedBareItem) → Option BareValue
 found_value found = option_map bare_value (option_copied found)
 
--- the pairs into which another was entered: a key that is there keeps its place, a new one goes last
+-- the pairs after an insertion: an existing key keeps its place, and a new key goes last
 abbrev pub with_member : List (List ℕ × ListEntry) → List ℕ → ListEntry → List (List ℕ × RawMember)
 with_member entries key member = insert_entry bytes_eq (dictionary_tree entries) key (member_tree member)
 

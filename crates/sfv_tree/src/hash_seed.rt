@@ -1,4 +1,4 @@
-//! The seed of the hash of keys.
+//! The seed of the maps' hash.
 
 ghost use Rattle.std.specs.Prelude.{◌≡◌};
 ghost use Rattle.sfv_tree.specs.HashSeeds.{library_seed, seed_of};
@@ -6,21 +6,21 @@ ghost use Rattle.sfv_tree.specs.HashSeeds.{library_seed, seed_of};
 use std::fmt;
 use std::hash::{BuildHasher, FoldHasher, Hasher};
 
-/// A seed of the hash by which dictionaries and parameters find their keys.
+/// The seed of the hash maps in dictionaries and parameters.
 ///
-/// Who knows the seed can search for keys that fall together, and a map of these is slow. So let a program that reads
-/// the fields of others draw one number as it starts, and tell nobody. `Default` is the seed of the library, which
-/// everybody knows.
+/// An attacker who knows the seed can choose colliding keys and make a map slow. A program that parses untrusted
+/// fields should choose one random seed at start, and keep it secret. `Default` is the library's seed, which is
+/// public.
 ///
-/// No order and no text depends on it, and maps of two seeds are compared as any others.
+/// The seed affects neither the order of the keys nor any text. Maps with different seeds compare as others.
 #[derive(Clone, Copy)]
 pub struct HashSeed {
-    // A hasher that has taken the number, which each key begins with.
+    // The state of the hasher before a key: after the number, or initial for the library's seed.
     initial: FoldHasher,
 }
 
 impl HashSeed {
-    /// Returns the seed of this number.
+    /// Creates the seed of this number.
     pub fn new(number: u64) -> HashSeed
         ensures { result ≡ seed_of number }
     {
@@ -40,7 +40,7 @@ impl Default for HashSeed {
     }
 }
 
-/// It prints no number.
+/// Does not print the number.
 impl fmt::Debug for HashSeed {
     fn fmt<W: fmt::Write>(&self, f: &mut fmt::Formatter<W>) -> fmt::Result {
         f.debug_struct("HashSeed").finish_non_exhaustive()

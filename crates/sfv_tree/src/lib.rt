@@ -1,4 +1,4 @@
-//! The values of structured fields (RFC 9651) as trees that own their parts.
+//! Trees that own their parts: the values of structured fields (RFC 9651).
 #![tactic(auto)]
 
 pub mod hash_seed;

@@ -24,18 +24,18 @@ pub type Parameters = IndexMap<Key, BareItem, HashSeed>;
 
 /// An item (RFC 9651, section 3.3): a bare item with its parameters.
 ///
-/// Two items are equal if their values are and each key has the same value in both, in whatever order. A copy
-/// has the same value and the same parameters in their order.
+/// Two items are equal if their bare items are equal and each key has equal values in both, in any order. A clone has
+/// the same bare item, and the same parameters in the same order.
 #[derive(Debug, PartialEq, Drop)]
 pub struct Item {
-    /// The item's value.
+    /// The bare item.
     pub bare_item: BareItem,
-    /// The item's parameters.
+    /// The parameters of the item.
     pub params: Parameters,
 }
 
 impl Item {
-    /// Returns the item of this value, without parameters.
+    /// Creates an item without parameters. Does not allocate; later parameters are allocated from `alloc`.
     pub fn new(alloc: Global, bare_item: BareItem) -> Item
         ensures value { result.bare_item ≡ bare_item }
         ensures params { result.params.entries ≡ [] }
@@ -48,7 +48,7 @@ impl Item {
         }
     }
 
-    /// Returns the item of this value, with these parameters.
+    /// Creates an item with parameters.
     pub fn with_params(bare_item: BareItem, params: Parameters) -> Item
         ensures value { result.bare_item ≡ bare_item }
         ensures params { result.params ≡ params }
@@ -58,7 +58,7 @@ impl Item {
     }
 }
 
-// Returns the same parameters, in the same order.
+// Clones the parameters, in the same order.
 fn copy_params(params: &Parameters) -> Result<Parameters, AllocError>
     ensures { IfOk result (λ copy. pairs_tree copy.entries ≡ pairs_tree params.now.entries) }
 {
@@ -76,17 +76,18 @@ impl Clone for Item {
     }
 }
 
-/// An inner list (RFC 9651, section 3.1.1): items in order, with parameters of its own.
+/// An inner list (RFC 9651, section 3.1.1): items in order, with their parameters, and the parameters of the inner
+/// list.
 #[derive(Debug, PartialEq, Drop)]
 pub struct InnerList {
     /// The items.
     pub items: Vec<Item>,
-    /// The parameters of the inner list itself.
+    /// The parameters of the inner list.
     pub params: Parameters,
 }
 
 impl InnerList {
-    /// Returns the inner list of these items, without parameters.
+    /// Creates an inner list without parameters. Does not allocate; later parameters are allocated from `alloc`.
     pub fn new(alloc: Global, items: Vec<Item>) -> InnerList
         ensures items { result.items ≡ items }
         ensures params { result.params.entries ≡ [] }
@@ -96,7 +97,7 @@ impl InnerList {
         InnerList::with_params(items, parameters(alloc))
     }
 
-    /// Returns the inner list of these items, with these parameters.
+    /// Creates an inner list with parameters.
     pub fn with_params(items: Vec<Item>, params: Parameters) -> InnerList
         ensures items { result.items ≡ items }
         ensures params { result.params ≡ params }
@@ -105,7 +106,7 @@ impl InnerList {
         InnerList { items, params }
     }
 
-    /// Returns the inner list without items and without parameters. It takes no memory.
+    /// Creates an inner list without items and parameters. Does not allocate.
     pub fn empty(alloc: Global) -> InnerList
         ensures items { result.items.items ≡ [] }
         ensures params { result.params.entries ≡ [] }
@@ -116,7 +117,7 @@ impl InnerList {
     }
 }
 
-// Returns the same items, in the same order.
+// Clones the items, in the same order.
 fn copy_items(items: &Vec<Item>) -> Result<Vec<Item>, AllocError>
     ensures { IfOk result (λ copy. map item_tree copy.items ≡ map item_tree items.now.items) }
 {
@@ -181,8 +182,9 @@ impl Clone for ListEntry {
     }
 }
 
-/// Returns the member of this key in a dictionary (RFC 9651, section 3.2), or `None` if there is none. It takes no
-/// memory.
+/// Returns the member of a key in a dictionary (RFC 9651, section 3.2), or `None`. Does not allocate.
+///
+/// Compares the keys in order: the time is linear in the number of members.
 pub fn find_entry<'a>(dictionary: &'a Dictionary, key: KeyRef<'_>) -> Option<&'a ListEntry>
     ensures value { option_copied result ≡ get bytes_eq dictionary.now (key_text key.entry) }
     ensures last { found_member result ≡ last_of (key_text key.entry) (dictionary_tree dictionary.now.entries) }
@@ -195,8 +197,9 @@ pub fn find_entry<'a>(dictionary: &'a Dictionary, key: KeyRef<'_>) -> Option<&'a
     None
 }
 
-/// Returns the value of the parameter of this key (RFC 9651, section 3.1.2), or `None` if there is none. It takes no
-/// memory.
+/// Returns the value of a parameter (RFC 9651, section 3.1.2), or `None`. Does not allocate.
+///
+/// Compares the keys in order: the time is linear in the number of parameters.
 pub fn find_param<'a>(params: &'a Parameters, key: KeyRef<'_>) -> Option<&'a BareItem>
     ensures value { option_copied result ≡ get bytes_eq params.now (key_text key.entry) }
     ensures last { found_value result ≡ last_of (key_text key.entry) (pairs_tree params.now.entries) }
@@ -209,12 +212,13 @@ pub fn find_param<'a>(params: &'a Parameters, key: KeyRef<'_>) -> Option<&'a Bar
     None
 }
 
-/// Enters a member into a dictionary (RFC 9651, section 3.2), and returns the member that the key had, or `None` if it
-/// had none. A key that is there keeps its place and takes the new member whole; a new key goes last.
+/// Inserts a member into a dictionary (RFC 9651, section 3.2), and returns the old member of the key, or `None`.
+///
+/// An existing key keeps its place, and its member is replaced. A new key goes last.
 ///
 /// # Errors
 ///
-/// `AllocError` when out of memory, which only a new key takes; the dictionary is then as it was.
+/// Returns `AllocError` if memory runs out. Only a new key allocates. The dictionary is then unchanged.
 pub fn insert_entry(
     dictionary: &mut Dictionary,
     key: Key,
@@ -232,17 +236,18 @@ pub fn insert_entry(
     ensures spare { spare dictionary.old ≤ spare dictionary.new + 1 }
     ensures distinct { IsTrue (no_repeats (keys (dictionary_tree dictionary.new.entries))) }
 {
-    // `len` is called for its clause that no key stands twice, which the proof cites.
+    // The proof cites the clause of this call that no key occurs twice.
     let _len = dictionary.len();
     Ok(dictionary.insert(key, member)?)
 }
 
-/// Enters a parameter (RFC 9651, section 3.1.2), and returns the value that the key had, or `None` if it had none. A
-/// key that is there keeps its place and takes the new value; a new key goes last.
+/// Inserts a parameter (RFC 9651, section 3.1.2), and returns the old value of the key, or `None`.
+///
+/// An existing key keeps its place, and its value is replaced. A new key goes last.
 ///
 /// # Errors
 ///
-/// `AllocError` when out of memory, which only a new key takes; the parameters are then as they were.
+/// Returns `AllocError` if memory runs out. Only a new key allocates. The parameters are then unchanged.
 pub fn insert_param(
     params: &mut Parameters,
     key: Key,
@@ -259,7 +264,7 @@ pub fn insert_param(
     ensures spare { spare params.old ≤ spare params.new + 1 }
     ensures distinct { IsTrue (no_repeats (keys (pairs_tree params.new.entries))) }
 {
-    // `len` is called for its clause that no key stands twice, which the proof cites.
+    // The proof cites the clause of this call that no key occurs twice.
     let _len = params.len();
     Ok(params.insert(key, value)?)
 }

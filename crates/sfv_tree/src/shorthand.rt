@@ -1,4 +1,4 @@
-//! Functions that make a value in short.
+//! Short names for constructors.
 
 ghost use Rattle.std.specs.Prelude.{◌≡◌, []};
 ghost use Rattle.indexmap.specs.IndexMap.{hasher_of};
@@ -8,8 +8,7 @@ use crate::hash_seed::HashSeed;
 use crate::parsed::{Dictionary, Parameters};
 use std::alloc::Global;
 
-/// Returns a dictionary without members, under the seed of the library: `Dictionary::with_hasher` in short. It takes no
-/// memory.
+/// Returns an empty dictionary under the library's seed: short for `Dictionary::with_hasher`. Does not allocate.
 pub fn dictionary(alloc: Global) -> Dictionary
     ensures empty { result.entries ≡ [] }
     ensures seed { hasher_of result ≡ library_seed }
@@ -17,7 +16,7 @@ pub fn dictionary(alloc: Global) -> Dictionary
     Dictionary::with_hasher(alloc, HashSeed::default())
 }
 
-/// Returns parameters without any, under the seed of the library: `Parameters::with_hasher` in short. It takes no memory.
+/// Returns empty parameters under the library's seed: short for `Parameters::with_hasher`. Does not allocate.
 pub fn parameters(alloc: Global) -> Parameters
     ensures empty { result.entries ≡ [] }
     ensures seed { hasher_of result ≡ library_seed }

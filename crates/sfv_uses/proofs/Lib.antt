@@ -1,3 +1,3 @@
-mod Foos
 pub mod Parts
 pub mod Uses
+mod RowItems

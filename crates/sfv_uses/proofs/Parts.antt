@@ -1,12 +1,13 @@
 -- What is written call by call after a serializer.
-use Rattle.std.proofs.Common.{◌≡◌, ℕ, Bool, List, [], ◌++◌, Result, Err, sym, ap, ◌∙◌, subst, append_assoc}
-use Rattle.std.proofs.Common.{string_bytes}
+use Rattle.std.proofs.Common.{◌≡◌, ◌≤◌, ℕ, Bool, List, [], ◌++◌, Result, Err, sym, ap, ◌∙◌, subst, append_assoc}
+use Rattle.std.proofs.Common.{string_bytes, string_capacity}
 use Rattle.std.specs.Prelude.{OnErr}
 use Rattle.std.proofs.lemmas.List.{append-nil}
 use Rattle.sfv.specs.declared.Parts.{Parts}
 use Rattle.sfv.specs.declared.Sink.{Ghosts as Sink}
 use Rattle.sfv.specs.Serializers.{HasMoreParts, KeepsParts}
 use Rattle.sfv.specs.Written.{Extends}
+use Rattle.sfv.proofs.Callers.{no_less}
 
 -- a part and its one parameter
 pub with_param : (front part param : List ℕ) → front ++ (part ++ (param ++ [])) ≡ (front ++ part) ++ param
@@ -17,7 +18,8 @@ module _ {W K : Type 0} (w : Sink W) where
   pub grown_as : (s t : Parts W K) (b : W) (k : K) (more : List ℕ) (is_first : Bool) → HasMoreParts w s t more is_first
       → b ≡ t.sink → k ≡ t.kind
       → w.same s.sink b × Extends (string_bytes (w.text s.sink)) (string_bytes (w.text b)) × (k ≡ s.kind)
-  grown_as s t b k more is_first h last kind = rw last (h.0, (more, h.1), kind ∙ h.4)
+      × (string_capacity (w.text s.sink) ≤ string_capacity (w.text b))
+  grown_as s t b k more is_first h last kind = rw last (h.0, (more, h.1), kind ∙ h.4, h.5)
 
 module _ {W K : Type 0} (w : Sink W) (again : (r s t : W) → w.same r s → w.same s t → w.same r t) where
   -- more was written, and the next call failed
@@ -25,6 +27,12 @@ module _ {W K : Type 0} (w : Sink W) (again : (r s t : W) → w.same r s → w.s
       (r : Result A E) (e : E) → HasMoreParts w s t more is_first → r ≡ Err e → OnErr r (KeepsParts w t u)
       → b ≡ u.sink → k ≡ u.kind
       → w.same s.sink b × Extends (string_bytes (w.text s.sink)) (string_bytes (w.text b)) × (k ≡ s.kind)
+      × (string_capacity (w.text s.sink) ≤ string_capacity (w.text b))
   grown_rests s t u b k more is_first r e begun is h last kind =
       let kept : KeepsParts w t u = subst (λ (r : Result _ _). OnErr r (KeepsParts w t u)) is h in
-      rw last (again _ _ _ begun.0 kept.0, (more, kept.1 ∙ begun.1), kind ∙ kept.4 ∙ begun.4)
+      rw last (
+        again _ _ _ begun.0 kept.0,
+        (more, kept.1 ∙ begun.1),
+        kind ∙ kept.4 ∙ begun.4,
+        no_less begun.5 kept.5,
+      )

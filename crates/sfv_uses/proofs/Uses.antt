@@ -7,7 +7,7 @@ use Rattle.std.specs.Prelude.{option_map}
 use Rattle.std.specs.List.{cons_option}
 use Rattle.std.proofs.lemmas.List.{length-append, length-map}
 use Rattle.std.proofs.lemmas.List.Elements.{filter_map-append}
-use Rattle.sfv.specs.Values.{rfc9651, FieldKind, item_field, list_field, dictionary_field, RawItem, BareValue, integer, decimal}
+use Rattle.sfv.specs.Values.{rfc9651, FieldKind, item_field, dictionary_field, RawItem, BareValue, integer, decimal}
 use Rattle.sfv.specs.Values.{string, token, byte_sequence}
 use Rattle.sfv.specs.Values.{boolean, date, display_string, RawMember, item, inner_list}
 use Rattle.sfv.specs.Events.{TreeEvent, entry, keyed_entry, begins_item, begins_inner_list, bare_item, parameter}
@@ -60,13 +60,12 @@ param_read t value key param h =
     go (Some (inner_list l)) = last_of-collapse param l.parameters
 
 -- the second of two lines fails as `parse` does, or for memory
-pub second_fails : {S O T : Type 0} (takes : S → TreeEvent → S → Type 0) (finishes : S → O → Type 0)
-    (first second : List ℕ) (from : S) (r : Result T (ParseError OutOfMemory)) → IsAccepted rfc9651 list_field first
-    → IfErr r (IsSyntaxOf takes finishes rfc9651 list_field second from)
-    → IfErr r (IsErrorOfLines list_field first second)
-second_fails takes finishes first second from (Ok x) a h = tt
-second_fails takes finishes first second from (Err (Syntax e)) a h = inr (a, h.0)
-second_fails takes finishes first second from (Err (Visitor fault)) a h = a
+pub second_fails : {S O T : Type 0} (kind : FieldKind) (takes : S → TreeEvent → S → Type 0) (finishes : S → O → Type 0)
+    (first second : List ℕ) (from : S) (r : Result T (ParseError OutOfMemory)) → IsAccepted rfc9651 kind first
+    → IfErr r (IsSyntaxOf takes finishes rfc9651 kind second from) → IfErr r (IsErrorOfLines kind first second)
+second_fails kind takes finishes first second from (Ok x) a h = tt
+second_fails kind takes finishes first second from (Err (Syntax e)) a h = inr (a, h.0)
+second_fails kind takes finishes first second from (Err (Visitor fault)) a h = a
 
 -- the keys among some events
 abbrev keys_among : List TreeEvent → ℕ

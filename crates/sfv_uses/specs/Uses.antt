@@ -1,4 +1,4 @@
--- What the uses answer.
+-- The results of the examples.
 use Rattle.std.specs.Prelude.{◌≡◌, ◌⊎◌, ℕ, ℤ, ◌+◌, ◌<◌, ◌≤◌, List, [], ◌∷◌, ◌++◌, length, Option, Some, None, codes}
 use Rattle.std.specs.Prelude.{Result, MatchResult, IsTrue, ◌↔◌, option_map, string_bytes}
 use Rattle.std.specs.Borrow.{Bor}
@@ -31,25 +31,25 @@ use Rattle.sfv.specs.Types.bare_item_types as kinds
 use Rattle.sfv.specs.Types.{GenericBareItem, StringFromInput}
 use Rattle.sfv.specs.Messages.{message_of}
 
--- the text is read as a dictionary, which is written so
+-- the text parses to a dictionary, and the line is its serialization
 abbrev pub IsWrittenAgain : List ℕ → Option (String Global) → Type 0
 IsWrittenAgain t line = (value : List (List ℕ × RawMember)) × IsParsedAs rfc9651 dictionary_field t value
     × IsSerializedAs rfc9651 dictionary_field value (option_map string_bytes line)
 
--- a caret under the place of the first fault, and its message
+-- a caret at the index of the syntax error, and its message
 pub record IsExplained (t text : List ℕ) : Type 0 where
   pub fault : SyntaxFault
   pub index : ℕ
   pub located : IsFaultAt rfc9651 list_field t fault index
   pub text_is : text ≡ repeat index (codes " ") ++ codes "^ " ++ message_of (error_kind fault)
 
--- the error of `parse` for the first of two lines that isn't accepted, or out of memory
+-- the error of `parse` for the first of two lines that is rejected, or out of memory
 abbrev pub IsErrorOfLines : FieldKind → List ℕ → List ℕ → ParseError OutOfMemory → Type 0
 IsErrorOfLines kind first second (Syntax e) = IsParseError rfc9651 kind first e
     ⊎ (IsAccepted rfc9651 kind first × IsParseError rfc9651 kind second e)
 IsErrorOfLines kind first second (Visitor fault) = IsAccepted rfc9651 kind first
 
--- an integer, or else the default
+-- the value of an integer, and the default for another kind
 abbrev pub integer_or : ℤ → BareValue → ℤ
 integer_or default (integer z) = z
 integer_or default b = default
@@ -58,54 +58,54 @@ abbrev pub parameters_of : RawMember → RawParameters
 parameters_of (item i) = i.parameters
 parameters_of (inner_list l) = l.parameters
 
--- the last value of a parameter of this key, if there is a member and it has one
+-- the last value of this parameter of a member; `None` without a member or a parameter
 abbrev pub param_in : List ℕ → Option RawMember → Option BareValue
 param_in key None = None
 param_in key (Some m) = last_of key (parameters_of m)
 
--- one member more at each key, and the same limit
+-- each key adds a member; the limit is unchanged
 abbrev pub counts : ℕ × ℕ → TreeEvent → ℕ × ℕ
 counts (members, limit) (keyed_entry key) = (members + 1, limit)
 counts place e = place
 
--- the text is a dictionary of so many members, repeated keys too, and no more than wanted
+-- the text is a dictionary with `n` members, repeated keys included, and `n` is at most `limit`
 pub record HasMembers (t : List ℕ) (limit n : ℕ) : Type 0 where
   pub raw : List (List ℕ × RawMember)
   pub accepted : IsFieldText rfc9651 dictionary_field raw t
   pub count : n ≡ length raw
   pub within : n ≤ limit
 
--- an error of the text is the parser's; of a dictionary the count fails only where it has more members than wanted
+-- A syntax error is the parser's. If the text is a dictionary, `TooMany` means that it has more members than `limit`.
 abbrev pub IsCountError : List ℕ → ℕ → ParseError TooMany → Type 0
 IsCountError t limit (Syntax e) = IsParseError rfc9651 dictionary_field t e
 IsCountError t limit (Visitor fault) = (raw : List (List ℕ × RawMember)) → IsFieldText rfc9651 dictionary_field raw t
     → limit < length raw
 
--- an item of one parameter
+-- an item with one parameter
 abbrev pub item_of_one : BareValue → List ℕ → BareValue → RawItem
 item_of_one value key param = record { bare = value; parameters = (key, param) ∷ [] }
 
--- a `RefBareItem`, since antt has no name for an alias
+-- `RefBareItem`; antt has no name for an alias
 abbrev pub LentBareItem : Type 0
 LentBareItem = GenericBareItem StringRef (Bor (List ℕ)) TokenRef (Bor (List ℕ))
 
--- the item of one parameter that these are
+-- the item with this value and this parameter
 abbrev pub one_item : LentBareItem → KeyRef → LentBareItem → RawItem
 one_item value key param = item_of_one (ref_value value) (key_text key) (ref_value param)
 
--- an example of a dictionary
+-- the text of the example dictionary
 abbrev pub example_dictionary : List ℕ
 example_dictionary = codes "member1=11;foo, member2=(abc;abc_param=?0 def);bar=\"val\", member3=12.346"
 
--- this stands after what stood in the text
+-- the text is appended
 abbrev pub Adds : String Global → String Global → List ℕ → Type 0
 Adds old new more = string_bytes new ≡ string_bytes old ++ more
 
--- nothing is added, or this
+-- the text is appended, or nothing is
 abbrev pub AddsAtMost : String Global → String Global → List ℕ → Type 0
 AddsAtMost old new more = (string_bytes new ≡ string_bytes old) ⊎ Adds old new more
 
--- what is written of the item is read as this item
+-- the text of the item parses to this item
 abbrev pub IsReadAsItself : RawItem → Type 0
 IsReadAsItself raw = IsParsedAs rfc9651 item_field (item_text raw) raw
 
@@ -113,63 +113,63 @@ IsReadAsItself raw = IsParsedAs rfc9651 item_field (item_text raw) raw
 abbrev pub pair_of : BareValue → List ℕ → BareValue → BareValue → List RawItem
 pair_of first key param second = item_of_one first key param ∷ record { bare = second; parameters = [] } ∷ []
 
--- an item of two parameters of one key
+-- an item with two parameters of one key
 abbrev pub item_of_two : BareValue → List ℕ → BareValue → BareValue → RawItem
 item_of_two value key first second = record { bare = value; parameters = (key, first) ∷ (key, second) ∷ [] }
 
--- the text is an item of this bare value, whatever its parameters
+-- the text is an item with this bare item and any parameters
 abbrev pub HasBareItem : List ℕ → BareValue → Type 0
 HasBareItem t value = (raw : RawItem) × IsFieldText rfc9651 item_field raw t × (value ≡ raw.bare)
 
--- an error of the text is that of `parse`, and of the visitor's this holds
+-- a syntax error is the error of `parse`, and `holds` is true of a visitor's error
 abbrev pub IsReadError : {E : Type 0} → (E → Type 0) → FieldKind → List ℕ → ParseError E → Type 0
 IsReadError holds kind t (Syntax e) = IsParseError rfc9651 kind t e
 IsReadError holds kind t (Visitor fault) = holds fault
 
--- the type doesn't hold the bare item that stands first
+-- a bare item comes first in the text, and the type rejects it with this error
 abbrev pub FailsAtFirst : (BareValue → ItemFault → Type 0) → List ℕ → ItemFault → Type 0
 FailsAtFirst fails t fault = (value : BareValue) × StandsFirst rfc9651 value t × fails value fault
 
--- out of memory, or the type doesn't hold the value
+-- memory ran out, or the type rejects the value with this error
 abbrev pub IsExpectError : (BareValue → ItemFault → Type 0) → BareValue → ParseError ItemFault → Type 0
 IsExpectError fails value (Syntax e) = e ≡ out_of_memory
 IsExpectError fails value (Visitor fault) = fails value fault
 
--- the same of a token
+-- the same for a token
 abbrev pub IsTokenError : BareValue → ParseError ItemFault → Type 0
 IsTokenError = IsExpectError (IsWrongType kinds.Token)
 
--- the token that this bare value is, or such an error
+-- the token with this value, or such an error
 abbrev pub GivesToken : BareValue → Result TokenRef (ParseError ItemFault) → Type 0
 GivesToken value result = MatchResult result (λ name. token (token_text name) ≡ value) (IsTokenError value)
 
--- such an error, if the bare value is no token
+-- such an error, if the value is not a token
 abbrev pub RefusesOther : BareValue → Result TokenRef (ParseError ItemFault) → Type 0
 RefusesOther value result =
     ((name : List ℕ) → ¬ (token name ≡ value)) → MatchResult result (λ _. ⊥) (IsTokenError value)
 
--- the string stands first in the text, and is borrowed from it exactly if it is written there without an escape
+-- the string comes first in the text, and is borrowed from it if and only if it has no escape there
 abbrev pub IsLentString : StringFromInput → List ℕ → Type 0
 IsLentString text t = (stands : StandsFirst rfc9651 (string (read_text text)) t)
     × (IsTrue (is_borrowed_string text) ↔ IsPlainString stands.first.front)
 
--- the text is read as an item: the integer that it is, or else the default
+-- the text parses to an item: its integer, or the default for another kind
 abbrev pub HasIntegerOr : ℤ → List ℕ → ℤ → Type 0
 HasIntegerOr default t z =
     (value : RawItem) × IsParsedAs rfc9651 item_field t value × (z ≡ integer_or default value.bare)
 
--- the text is a dictionary, in which the last member of the first key has this parameter of the second
+-- the text is a dictionary; the last member with the key `member` has this last value of the parameter `param`
 abbrev pub HasParam : List ℕ → KeyRef → KeyRef → Option OwnedBareItem → Type 0
 HasParam t member param found = (raw : List (List ℕ × RawMember)) × IsFieldText rfc9651 dictionary_field raw t
     × (option_map bare_value found ≡ param_in (key_text param) (last_of (key_text member) raw))
 
--- both texts are lists, and this is the list of the members of both
+-- both texts are lists, and `list` has the members of both
 abbrev pub IsListOfBoth : List ℕ → List ℕ → List RawMember → Type 0
 IsListOfBoth first second list = (held : List RawMember) × (raw : List RawMember)
     × IsParsedAs rfc9651 list_field first held × IsFieldText rfc9651 list_field raw second
     × (list ≡ held ++ ordered list_field raw)
 
--- the same of dictionaries, where the second text's member of a key takes the place of the first's
+-- the same for dictionaries; a member of the second text replaces the member with the same key
 abbrev pub IsDictionaryOfBoth : List ℕ → List ℕ → List (List ℕ × RawMember) → Type 0
 IsDictionaryOfBoth first second dictionary = (held : List (List ℕ × RawMember)) × (raw : List (List ℕ × RawMember))
     × IsParsedAs rfc9651 dictionary_field first held × IsFieldText rfc9651 dictionary_field raw second

@@ -1,10 +1,12 @@
-//! Reading a field into the type that is expected.
+//! Parsing of a field to the expected type.
 
 ghost use Rattle.std.specs.Prelude.{◌≡◌, ⊤, IfOk, IfErr, MatchResult};
 ghost use Rattle.sfv.specs.Values.{rfc9651, item_field, list_field, dictionary_field, BareValue, RawItem};
 ghost use Rattle.sfv.specs.Grammar.{IsFieldText, BeginsWithBareItem};
 ghost use Rattle.sfv.specs.Statements.{IsParsedAs};
 ghost use Rattle.sfv.specs.Trees.{item_tree, list_tree, dictionary_tree};
+ghost use Rattle.sfv.specs.HashSeeds.{library_seed};
+ghost use Rattle.sfv.specs.Seeds.{ItemHasSeed, ListHasSeed, DictionaryHasSeed};
 ghost use Rattle.sfv.specs.Types.item_faults as item_faults;
 ghost use Rattle.sfv_uses.specs.Uses.{HasBareItem, FailsAtFirst, IsReadError, IsExpectError, GivesToken, RefusesOther};
 ghost use Rattle.sfv_uses.specs.Uses.{IsLentString};
@@ -13,12 +15,12 @@ use sfv::visitor::{ExpectedItem, ItemFault};
 use sfv::{Dictionary, Item, List, OutOfMemory, ParseError, Parser, StringFromInput, TokenRef};
 use std::alloc::Global;
 
-/// Reads an item as a type that holds bare items, whatever its parameters: of one kind, or of every kind.
+/// Parses an item to a type of bare items, of one kind or of every kind. Ignores parameters.
 ///
 /// # Errors
 ///
-/// Where a bare item of another kind stands first, and nowhere else: that it is of another kind, whatever stands after
-/// it, or out of memory. Of any other input that is no item that of `Parser::parse`.
+/// If a complete bare item comes first and `T` rejects it, returns the error of `T`, or out of memory, whatever follows
+/// the bare item. Otherwise, if the input is not an item, returns the error of `Parser::parse`.
 pub fn expect<'de, T: ExpectedItem<'de>>(
     alloc: Global,
     input: &'de [u8],
@@ -33,12 +35,12 @@ pub fn expect<'de, T: ExpectedItem<'de>>(
     Parser::new(input).parse_item::<T>(alloc)
 }
 
-/// Reads an item that is a token, whatever its parameters.
+/// Parses an item that is a token. Ignores parameters.
 ///
 /// # Errors
 ///
-/// Where a bare item stands first: `ItemFault::WrongType` exactly where it is no token, with its kind, whatever stands after
-/// it, or out of memory.
+/// If a complete bare item of another kind comes first, returns `ItemFault::WrongType` with its kind, or out of memory,
+/// whatever follows the bare item. Otherwise, if the input is not an item, returns the error of `Parser::parse`.
 pub fn token<'de>(alloc: Global, input: &'de [u8]) -> Result<TokenRef<'de>, ParseError<ItemFault>>
     ensures of_an_item { (raw : RawItem) → IsFieldText rfc9651 item_field raw input.now → GivesToken raw.bare result }
     ensures of_another_kind { (value : BareValue) → BeginsWithBareItem rfc9651 value input.now → RefusesOther value result }
@@ -46,12 +48,12 @@ pub fn token<'de>(alloc: Global, input: &'de [u8]) -> Result<TokenRef<'de>, Pars
     expect::<TokenRef>(alloc, input)
 }
 
-/// Reads an item that is a string, whatever its parameters. The string is borrowed from the input exactly if it is written
-/// there without an escape.
+/// Parses an item that is a string. Ignores parameters. The string is borrowed from the input if and only if it has no
+/// escape there.
 ///
 /// # Errors
 ///
-/// As those of `expect`.
+/// Returns the errors of `expect`.
 pub fn string<'de>(
     alloc: Global,
     input: &'de [u8],
@@ -61,37 +63,40 @@ pub fn string<'de>(
     Parser::new(input).parse_item::<StringFromInput>(alloc)
 }
 
-/// Reads an item, as `Parser::parse` does.
+/// Parses an item, as `Parser::parse` does.
 ///
 /// # Errors
 ///
-/// That of `Parser::parse`, and `ItemFault::OutOfMemory` when out of memory.
+/// Returns the errors of `Parser::parse`, or `ItemFault::OutOfMemory` if memory runs out.
 pub fn item(alloc: Global, input: &[u8]) -> Result<Item, ParseError<ItemFault>>
     ensures read { IfOk result (λ item. IsParsedAs rfc9651 item_field input.now (item_tree item)) }
+    ensures seed { IfOk result (ItemHasSeed library_seed) }
     ensures rejected { IfErr result (IsReadError (λ fault. fault ≡ item_faults.OutOfMemory) item_field input.now) }
 {
     Parser::new(input).parse_item::<Item>(alloc)
 }
 
-/// Reads a list, as `Parser::parse` does.
+/// Parses a list, as `Parser::parse` does.
 ///
 /// # Errors
 ///
-/// That of `Parser::parse`.
+/// Returns the errors of `Parser::parse`.
 pub fn list(alloc: Global, input: &[u8]) -> Result<List, ParseError<OutOfMemory>>
     ensures read { IfOk result (λ list. IsParsedAs rfc9651 list_field input.now (list_tree list.items)) }
+    ensures seed { IfOk result (λ list. ListHasSeed library_seed list.items) }
     ensures rejected { IfErr result (IsReadError (λ _. ⊤) list_field input.now) }
 {
     Parser::new(input).parse_list::<List>(alloc)
 }
 
-/// Reads a dictionary, as `Parser::parse` does.
+/// Parses a dictionary, as `Parser::parse` does.
 ///
 /// # Errors
 ///
-/// That of `Parser::parse`.
+/// Returns the errors of `Parser::parse`.
 pub fn dictionary(alloc: Global, input: &[u8]) -> Result<Dictionary, ParseError<OutOfMemory>>
     ensures read { IfOk result (λ value. IsParsedAs rfc9651 dictionary_field input.now (dictionary_tree value.entries)) }
+    ensures seed { IfOk result (DictionaryHasSeed library_seed) }
     ensures rejected { IfErr result (IsReadError (λ _. ⊤) dictionary_field input.now) }
 {
     Parser::new(input).parse_dictionary::<Dictionary>(alloc)

@@ -1,19 +1,17 @@
-//! A field read by a visitor, without a map: a color, and whether it is strong, as in `color=red;strong`.
+//! A field that a reader parses without a map: a color and a flag, as in `color=red;strong`.
 //!
-//! It is the member `color` of a dictionary, a token `red` or `blue`; whether it is strong is its parameter `strong`, a
-//! Boolean, false if it is absent. Other members and parameters are ignored.
+//! The field is a dictionary. Its member `color` is the token `red` or `blue`. The parameter `strong` of this member is
+//! a Boolean, and false if it is absent. Other members and parameters are ignored.
 
-ghost use Rattle.std.specs.Prelude.{◌≡◌, Some, Ok, Err, IfOk, IfErr};
-ghost use Rattle.sfv.specs.BareItems.{ref_value, edition_of};
-ghost use Rattle.sfv.specs.Trees.{dictionary_tree};
-ghost use Rattle.sfv_uses.specs.Foo.{fault_text, foo, color_in, strong_in, IsFooOf, IsFooError};
-ghost use Rattle.sfv_uses.specs.FooSteps.{unread, begun, foo_step, foo_found};
+ghost use Rattle.sfv_field.specs.Field.{◌≡◌, Some, Ok, Err, IfOk, IfErr, ref_value, edition_of, dictionary_tree};
+ghost use Rattle.sfv_field.specs.Field.{last_of};
+ghost use Rattle.sfv_uses.specs.Foo.{fault_text, foo, foo_of, color_key, color_in, strong_in, IsFooOf, IsFooError};
 
-use sfv::visitor::{Event, Visitor};
 use sfv::{
-    Dictionary, ListEntry, ParseError, Parser, RefBareItem, Version, find_entry, find_param,
-    key_ref,
+    BareItemFromInput, Dictionary, KeyRef, ListEntry, ParseError, RefBareItem, Version, find_entry,
+    find_param, key_ref,
 };
+use sfv_field::{DictionaryReader, IgnoredItems, read_dictionary};
 use std::alloc::Global;
 use std::fmt;
 
@@ -26,30 +24,30 @@ pub enum Color {
     Blue,
 }
 
-/// The field.
+/// The value of the field.
 #[derive(Clone, Copy, Debug, PartialEq, Eq)]
 pub struct Foo {
     /// The member `color`.
     pub color: Color,
-    /// Its parameter `strong`.
+    /// The parameter `strong` of the member `color`.
     pub strong: bool,
 }
 
-/// What is wrong with a dictionary that isn't such a field.
+/// The error of a dictionary that is not such a field.
 #[derive(Clone, Copy, Debug, PartialEq, Eq)]
 pub enum FooFault {
     /// There is no member `color`.
     ColorMissing,
-    /// It isn't an item of a token.
+    /// The member `color` is not an item with a token.
     ColorWrongType,
-    /// The token is no color.
+    /// The token names no color.
     ColorInvalid,
-    /// Its parameter `strong` isn't a Boolean.
+    /// The parameter `strong` is not a Boolean.
     StrongWrongType,
 }
 
 impl FooFault {
-    // The fault in words.
+    // Returns the text of the error.
     fn message(self) -> &'static str
         ensures { result.now ≡ fault_text self }
     {
@@ -86,7 +84,7 @@ fn color_of(item: RefBareItem<'_>) -> Result<Color, FooFault>
     }
 }
 
-// Returns the Boolean that a bare item is.
+// Returns the Boolean of a bare item.
 fn strong_of(item: RefBareItem<'_>) -> Result<bool, FooFault>
     ensures { result ≡ strong_in (ref_value item.entry) }
 {
@@ -96,11 +94,12 @@ fn strong_of(item: RefBareItem<'_>) -> Result<bool, FooFault>
     Ok(strong)
 }
 
-/// Returns the field that a dictionary holds.
+/// Converts a dictionary to the field.
 ///
 /// # Errors
 ///
-/// The first fault: of the member `color`, of its kind, of its token, of its parameter `strong`.
+/// Returns the first error, in this order: the member `color` is absent, it is not a token, the token names no color,
+/// the parameter `strong` is not a Boolean.
 pub fn foo_from_dictionary(dictionary: &Dictionary) -> Result<Foo, FooFault>
     ensures { result ≡ foo (dictionary_tree dictionary.now.entries) }
 {
@@ -118,74 +117,19 @@ pub fn foo_from_dictionary(dictionary: &Dictionary) -> Result<Foo, FooFault>
     Ok(Foo { color, strong })
 }
 
-/// Reads the field from the parts of a dictionary, and takes no memory. Of a key that is repeated the last one counts, so
-/// nothing is wrong with a part before all are known: it fails at no part, but in the end.
+/// A reader that keeps the member `color` and its parameter `strong`. It keeps an error instead of failing: a later
+/// member with the same key may replace a wrong one.
 #[derive(Clone, Copy, Debug)]
-pub struct FooVisitor {
-    // Whether the parts visited are those of the item `color`.
-    in_color: bool,
+struct FooReader {
     color: Result<Color, FooFault>,
     strong: Result<bool, FooFault>,
 }
 
-impl FooVisitor {
-    /// Returns the visitor before any part.
-    pub fn new() -> FooVisitor
-        ensures { result ≡ unread }
+impl FooReader {
+    // Returns the field, or its first error.
+    fn foo(self) -> Result<Foo, FooFault>
+        ensures { result ≡ foo_of self.color self.strong }
     {
-        FooVisitor {
-            in_color: false,
-            color: Err(FooFault::ColorMissing),
-            strong: Ok(false),
-        }
-    }
-
-    // Begins a member.
-    fn begin(&mut self, in_color: bool)
-        ensures { self.new ≡ begun self.old in_color }
-    {
-        self.in_color = in_color;
-        if in_color {
-            self.color = Err(FooFault::ColorWrongType);
-            self.strong = Ok(false);
-        }
-    }
-}
-
-impl<'de> Visitor<'de> for FooVisitor {
-    type Out = Foo;
-
-    type Error = FooFault;
-
-    ghost takes = { λ s e after. after ≡ foo_step s e };
-
-    ghost fails = { λ _ _ _. ⊥ };
-
-    ghost finishes = { λ s found. foo_found s ≡ Ok found };
-
-    ghost finish_fails = { λ s fault. foo_found s ≡ Err fault };
-
-    #[inline(always)]
-    fn event(&mut self, event: Event<'de>) -> Result<(), FooFault> {
-        match event {
-            Event::KeyedEntry(key) => self.begin(key.as_str() == "color"),
-            Event::InnerList => self.in_color = false,
-            Event::BareItem(item) => {
-                if self.in_color {
-                    self.color = color_of(item.as_ref_item());
-                }
-            }
-            Event::Parameter(key, value) => {
-                if self.in_color && key.as_str() == "strong" {
-                    self.strong = strong_of(value.as_ref_item());
-                }
-            }
-            _ => {}
-        }
-        Ok(())
-    }
-
-    fn finish(self) -> Result<Foo, FooFault> {
         Ok(Foo {
             color: self.color?,
             strong: self.strong?,
@@ -193,17 +137,66 @@ impl<'de> Visitor<'de> for FooVisitor {
     }
 }
 
-/// Reads the field from a dictionary under a version (RFC 9651, section 4.2), which isn't built. Memory is asked of
-/// `alloc` for texts with escapes and for byte sequences alone.
+#[tactic(auto, using(sfv_field::proofs::Puts::last_of_put), unfolding(sfv_field::specs::Field::last_of))]
+impl<'de> DictionaryReader<'de> for FooReader {
+    ghost use Rattle.sfv_uses.specs.FooSteps.{kept, kept_of};
+
+    type Key = ();
+
+    type Items = IgnoredItems;
+
+    ghost text = { λ _. color_key };
+
+    ghost reads = { λ s members. kept s ≡ kept_of (last_of color_key members) };
+
+    fn key(key: KeyRef<'de>) -> Option<()> {
+        if key.as_str() == "color" {
+            Some(())
+        } else {
+            None
+        }
+    }
+
+    fn item(&mut self, _key: (), item: BareItemFromInput<'de>) {
+        self.color = color_of(item.as_ref_item());
+        self.strong = Ok(false);
+    }
+
+    fn inner_list(&mut self, _key: (), _items: IgnoredItems) {
+        self.color = Err(FooFault::ColorWrongType);
+        self.strong = Ok(false);
+    }
+
+    fn parameter(&mut self, _key: (), name: KeyRef<'de>, value: BareItemFromInput<'de>) {
+        if name.as_str() == "strong" {
+            self.strong = strong_of(value.as_ref_item());
+        }
+    }
+}
+
+/// Parses the field under `version`, without a map (RFC 9651, section 4.2). Only texts with escapes, and byte
+/// sequences, are allocated from `alloc`.
 ///
 /// # Errors
 ///
-/// `ParseError::Syntax` with the error of `Parser::parse` if the input is no dictionary, or out of memory; and
-/// `ParseError::Visitor` with the fault that `foo_from_dictionary` would return if it is one.
+/// Returns `ParseError::Syntax` with the error of `Parser::parse` if the input is not a dictionary, or if memory runs
+/// out. Returns `ParseError::Visitor` with the error of `foo_from_dictionary` if it is a dictionary, but not this
+/// field.
+#[tactic(auto, unfolding(sfv_field::specs::Field::last_of))]
 pub fn read_foo(alloc: Global, version: Version, input: &[u8]) -> Result<Foo, ParseError<FooFault>>
     ensures read { IfOk result (λ found. IsFooOf (edition_of version) input.now (Ok found)) }
     ensures failed { IfErr result (IsFooError (edition_of version) input.now) }
 {
-    let parser = Parser::new(input).with_version(version);
-    parser.parse_dictionary_with_visitor(alloc, FooVisitor::new())
+    let unread = FooReader {
+        color: Err(FooFault::ColorMissing),
+        strong: Ok(false),
+    };
+    let read = match read_dictionary(alloc, input, version, unread) {
+        Ok(read) => read,
+        Err(error) => return Err(ParseError::Syntax(error)),
+    };
+    match read.foo() {
+        Ok(found) => Ok(found),
+        Err(fault) => Err(ParseError::Visitor(fault)),
+    }
 }

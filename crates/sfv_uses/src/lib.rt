@@ -1,9 +1,10 @@
-//! Uses of the library, each proved from its public contracts.
+//! Examples for callers, each proved from the public contracts of the library.
 #![tactic(auto)]
 
 pub mod expecting;
 pub mod foo;
 pub mod reading;
+pub mod rows;
 pub mod serializing;
 pub mod start;
 pub mod values;

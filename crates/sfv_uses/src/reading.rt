@@ -1,4 +1,4 @@
-//! Reading a field into a value.
+//! Parsing of a field to a value.
 
 ghost use Rattle.std.specs.Prelude.{◌≡◌, IsNone, IfOk, IfErr, IfSome, option_copied, option_map, string_bytes};
 ghost use Rattle.sfv.specs.Values.{rfc9651, rfc8941, item_field, list_field, dictionary_field};
@@ -10,6 +10,7 @@ ghost use Rattle.sfv.specs.BareItems.{bare_value};
 ghost use Rattle.sfv.specs.KeyText.{key_text};
 ghost use Rattle.sfv.specs.Parsers.{IsParseError};
 ghost use Rattle.sfv.specs.NumberValues.{integer_of};
+ghost use Rattle.sfv.specs.Seeds.{ListHasSeed, DictionaryHasSeed};
 ghost use Rattle.sfv_uses.specs.Uses.{IsExplained, HasIntegerOr, parameters_of, param_in, HasParam};
 ghost use Rattle.sfv_uses.specs.Uses.{IsListOfBoth, IsDictionaryOfBoth, IsErrorOfLines};
 
@@ -20,11 +21,11 @@ use sfv::{
 };
 use std::alloc::Global;
 
-/// Reads a list under RFC 8941, the older version.
+/// Parses a list under RFC 8941, the older version.
 ///
 /// # Errors
 ///
-/// That of `Parser::parse`.
+/// Returns the errors of `Parser::parse`.
 pub fn read_older_list(alloc: Global, input: &[u8]) -> Result<List, Error>
     ensures read { IfOk result (λ list. IsParsedAs rfc8941 list_field input.now (list_tree list.items)) }
     ensures rejected { IfErr result (IsParseError rfc8941 list_field input.now) }
@@ -34,12 +35,12 @@ pub fn read_older_list(alloc: Global, input: &[u8]) -> Result<List, Error>
         .parse::<List>(alloc)
 }
 
-/// Checks that a text is a list. Returns `None` if it is, and else a line for a person: a caret under the first fault,
-/// and what is wrong there.
+/// Checks that a text is a list. Returns `None` if it is. Otherwise returns a line for a person: a caret at the index
+/// of the syntax error, and its message.
 ///
 /// # Errors
 ///
-/// `OutOfMemory` when out of memory.
+/// Returns `OutOfMemory` if memory runs out.
 pub fn explain(alloc: Global, input: &[u8]) -> Result<Option<String>, OutOfMemory>
     ensures accepted { IfOk result (λ line. IsNone line → IsAccepted rfc9651 list_field input.now) }
     ensures explained { IfOk result (λ line. IfSome line (λ text. IsExplained input.now (string_bytes text))) }
@@ -56,11 +57,11 @@ pub fn explain(alloc: Global, input: &[u8]) -> Result<Option<String>, OutOfMemor
     Ok(Some(line))
 }
 
-/// Returns the integer that an item is, whatever its parameters, or the default where it is of another kind.
+/// Parses an item and returns its integer, or `default` if its bare item has another kind. Ignores parameters.
 ///
 /// # Errors
 ///
-/// That of `Parser::parse`.
+/// Returns the errors of `Parser::parse`.
 pub fn integer_with_default(alloc: Global, input: &[u8], default: Integer) -> Result<Integer, Error>
     ensures integer { IfOk result (λ z. HasIntegerOr (integer_of default) input.now (integer_of z)) }
     ensures rejected { IfErr result (IsParseError rfc9651 item_field input.now) }
@@ -82,7 +83,7 @@ fn params_of(member: &ListEntry) -> &Parameters
     }
 }
 
-/// Returns the parameter of a dictionary's member.
+/// Returns the value of a parameter of a dictionary member.
 fn param_of<'a>(
     dictionary: &'a Dictionary,
     member: KeyRef<'_>,
@@ -95,12 +96,12 @@ fn param_of<'a>(
     find_param(params_of(entry), param)
 }
 
-/// Reads a dictionary and returns the parameter of a member: the last of its key, of the last member of its own.
-/// `None` if there is no such member, or it has no such parameter.
+/// Parses a dictionary and returns the value of a parameter of a member. For repeated keys, it is the last such
+/// parameter of the last such member. Returns `None` if there is no such member or parameter.
 ///
 /// # Errors
 ///
-/// That of `Parser::parse`.
+/// Returns the errors of `Parser::parse`.
 pub fn param_of_member(
     alloc: Global,
     input: &[u8],
@@ -118,12 +119,12 @@ pub fn param_of_member(
     Ok(Some(copy))
 }
 
-/// Reads a list that comes in two lines: the members of the second stand after those of the first. The parameters of
-/// both have this seed.
+/// Parses a list that comes in two lines: the second line's members follow the first line's. All parameters have this
+/// seed.
 ///
 /// # Errors
 ///
-/// That of `Parser::parse` for the first line that isn't a list.
+/// Returns the error of `Parser::parse` for the first line that is not a list.
 pub fn list_of_lines(
     alloc: Global,
     seed: HashSeed,
@@ -131,6 +132,7 @@ pub fn list_of_lines(
     second: &[u8],
 ) -> Result<List, ParseError<OutOfMemory>>
     ensures joined { IfOk result (λ list. IsListOfBoth first.now second.now (list_tree list.items)) }
+    ensures seed { IfOk result (λ list. ListHasSeed seed list.items) }
     ensures rejected { IfErr result (IsErrorOfLines list_field first.now second.now) }
 {
     let parser = Parser::new(first).with_hash_seed(seed);
@@ -139,12 +141,12 @@ pub fn list_of_lines(
     Parser::new(second).parse_list_with_visitor(alloc, builder)
 }
 
-/// Reads a dictionary that comes in two lines, as if its members stood in one: each key is there once, at its first
-/// place, with the whole member of its last occurrence. The dictionary and all parameters have this seed.
+/// Parses a dictionary that comes in two lines, as if they were one. Each key keeps its first position and takes its
+/// last member. The dictionary and all parameters have this seed.
 ///
 /// # Errors
 ///
-/// That of `Parser::parse` for the first line that isn't a dictionary.
+/// Returns the error of `Parser::parse` for the first line that is not a dictionary.
 pub fn dictionary_of_lines(
     alloc: Global,
     seed: HashSeed,
@@ -153,6 +155,7 @@ pub fn dictionary_of_lines(
 ) -> Result<Dictionary, ParseError<OutOfMemory>>
     ensures joined { IfOk result
         (λ dictionary. IsDictionaryOfBoth first.now second.now (dictionary_tree dictionary.entries)) }
+    ensures seed { IfOk result (DictionaryHasSeed seed) }
     ensures rejected { IfErr result (IsErrorOfLines dictionary_field first.now second.now) }
 {
     let parser = Parser::new(first).with_hash_seed(seed);

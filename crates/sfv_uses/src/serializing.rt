@@ -1,4 +1,4 @@
-//! Writing lists and dictionaries member by member.
+//! Serialization of lists and dictionaries, member by member.
 
 ghost use Rattle.std.specs.Prelude.{◌≡◌, ◌++◌, ◌∷◌, [], true, false, OnOk, IfOk, IfErr, map, codes, string_bytes};
 ghost use Rattle.sfv.specs.Canonical.{bare_text, item_text, inner_list_text, dictionary_member_text};
@@ -23,11 +23,11 @@ use sfv::{
 };
 use std::alloc::Global;
 
-/// Writes a member with a parameter that is given twice.
+/// Writes a member with two parameters of the same key.
 ///
 /// # Errors
 ///
-/// Those of the serializer.
+/// Returns the errors of the serializer.
 pub fn write_member<W: Sink>(
     list: &mut ListSerializer<W>,
     value: RefBareItem<'_>,
@@ -47,7 +47,7 @@ pub fn write_member<W: Sink>(
     Ok(())
 }
 
-/// Writes an item of an inner list, whatever this is a member of.
+/// Writes an item of any inner list.
 fn put<X: Sink>(
     inner: &mut InnerListSerializer<X>,
     value: RefBareItem<'_>,
@@ -60,7 +60,7 @@ fn put<X: Sink>(
     Ok(())
 }
 
-/// Writes an item of an inner list, with a parameter.
+/// Writes an item with a parameter, in any inner list.
 fn put_with<X: Sink>(
     inner: &mut InnerListSerializer<X>,
     value: RefBareItem<'_>,
@@ -81,7 +81,7 @@ fn put_with<X: Sink>(
 ///
 /// # Errors
 ///
-/// Those of the serializer.
+/// Returns the errors of the serializer.
 pub fn write_inner<W: Sink, K>(
     inner: &mut InnerListSerializer<&mut Parts<W, K>>,
     value: RefBareItem<'_>,
@@ -94,11 +94,11 @@ pub fn write_inner<W: Sink, K>(
     put(inner, value)
 }
 
-/// Begins an inner list, and abandons it: nothing is left of it.
+/// Begins an inner list, and abandons it: the text and `has_member` are unchanged.
 ///
 /// # Errors
 ///
-/// Those of the serializer.
+/// Returns the errors of the serializer.
 pub fn abandon_one<W: Sink>(
     list: &mut ListSerializer<W>,
     value: RefBareItem<'_>,
@@ -111,11 +111,11 @@ pub fn abandon_one<W: Sink>(
     written
 }
 
-/// Writes an inner list without items, which has a parameter.
+/// Writes an empty inner list with a parameter.
 ///
 /// # Errors
 ///
-/// Those of the serializer.
+/// Returns the errors of the serializer.
 pub fn write_empty<W: Sink>(
     list: &mut ListSerializer<W>,
     key: KeyRef<'_>,
@@ -151,7 +151,7 @@ fn write_none<W: Sink>(list: &mut ListSerializer<W>) -> Result<(), SerializeErro
     Ok(())
 }
 
-/// Writes both, with an inner list in between that is abandoned.
+/// Writes both members, with an abandoned inner list between them.
 fn write_members<W: Sink>(list: &mut ListSerializer<W>) -> Result<(), SerializeError>
     ensures { OnOk result (HasNextPart W.Sink (codes ", ") list.old list.new
         (codes "1;a;a=2, ();b=?0") false) }
@@ -163,11 +163,11 @@ fn write_members<W: Sink>(list: &mut ListSerializer<W>) -> Result<(), SerializeE
     Ok(())
 }
 
-/// Writes a list at the end of a text, and returns whether a member stands.
+/// Appends a list to `text`, and returns `true` if it has a member.
 ///
 /// # Errors
 ///
-/// Those of the serializer.
+/// Returns the errors of the serializer.
 pub fn write_list(text: &mut String) -> Result<bool, SerializeError>
     ensures text { OnOk result (string_bytes text.new ≡ string_bytes text.old ++ codes "1;a;a=2, ();b=?0") }
     ensures stands { IfOk result (λ stands. stands ≡ true) }
@@ -177,7 +177,7 @@ pub fn write_list(text: &mut String) -> Result<bool, SerializeError>
     Ok(list.has_member())
 }
 
-/// Begins an inner list of a dictionary, and abandons it: nothing is left of it.
+/// Begins an inner list of a dictionary, and abandons it: the text and `has_member` are unchanged.
 fn abandon_named<W: Sink>(
     dictionary: &mut DictSerializer<W>,
     name: KeyRef<'_>,
@@ -189,11 +189,11 @@ fn abandon_named<W: Sink>(
     Ok(())
 }
 
-/// Writes a dictionary whose only member is abandoned: the text is as it was, and no member stands.
+/// Begins a dictionary and abandons its only member: the text is unchanged, and there is no member.
 ///
 /// # Errors
 ///
-/// Those of the serializer.
+/// Returns the errors of the serializer.
 pub fn write_nothing(text: &mut String) -> Result<bool, SerializeError>
     ensures text { OnOk result (string_bytes text.new ≡ string_bytes text.old) }
     ensures stands { IfOk result (λ stands. stands ≡ false) }
@@ -203,11 +203,11 @@ pub fn write_nothing(text: &mut String) -> Result<bool, SerializeError>
     Ok(dictionary.has_member())
 }
 
-/// Writes an item at the end of a text: true, with a parameter of no bytes.
+/// Appends the item true to `text`, with a parameter that is an empty byte sequence.
 ///
 /// # Errors
 ///
-/// Those of the serializer.
+/// Returns the errors of the serializer.
 pub fn write_item_of_no_bytes(text: &mut String) -> Result<(), SerializeError>
     ensures { OnOk result (string_bytes text.new ≡ string_bytes text.old ++ codes "?1;x=::") }
 {
@@ -217,11 +217,11 @@ pub fn write_item_of_no_bytes(text: &mut String) -> Result<(), SerializeError>
     Ok(())
 }
 
-/// Writes a member with a parameter.
+/// Writes a dictionary member with a parameter.
 ///
 /// # Errors
 ///
-/// Those of the serializer.
+/// Returns the errors of the serializer.
 pub fn write_named<W: Sink>(
     dictionary: &mut DictSerializer<W>,
     name: KeyRef<'_>,
@@ -240,11 +240,11 @@ pub fn write_named<W: Sink>(
     Ok(())
 }
 
-/// Writes a member without parameters.
+/// Writes a dictionary member without parameters.
 ///
 /// # Errors
 ///
-/// Those of the serializer.
+/// Returns the errors of the serializer.
 pub fn write_bare<W: Sink>(
     dictionary: &mut DictSerializer<W>,
     name: KeyRef<'_>,
@@ -274,7 +274,7 @@ fn write_pair<W: Sink, K>(
     write_inner(inner, second)
 }
 
-/// Writes a member that is an inner list of two items, with parameters.
+/// Writes a dictionary member that is an inner list of two items, with a parameter.
 fn write_named_pair<W: Sink>(
     dictionary: &mut DictSerializer<W>,
     name: KeyRef<'_>,
@@ -341,7 +341,7 @@ fn write_third<W: Sink>(dictionary: &mut DictSerializer<W>) -> Result<(), Serial
     Ok(())
 }
 
-/// Writes the three members.
+/// Writes the three members, in this order.
 fn write_three<W: Sink>(dictionary: &mut DictSerializer<W>) -> Result<(), SerializeError>
     ensures { OnOk result (HasNextPart W.Sink (codes ", ") dictionary.old dictionary.new
         example_dictionary false) }
@@ -352,11 +352,11 @@ fn write_three<W: Sink>(dictionary: &mut DictSerializer<W>) -> Result<(), Serial
     Ok(())
 }
 
-/// Writes a dictionary at the end of a text, and returns whether a member stands.
+/// Appends a dictionary to `text`, and returns `true` if it has a member.
 ///
 /// # Errors
 ///
-/// Those of the serializer.
+/// Returns the errors of the serializer.
 pub fn write_dictionary(text: &mut String) -> Result<bool, SerializeError>
     ensures text { OnOk result (Adds text.old text.new example_dictionary) }
     ensures stands { IfOk result (λ stands. stands ≡ true) }
@@ -366,12 +366,12 @@ pub fn write_dictionary(text: &mut String) -> Result<bool, SerializeError>
     Ok(dictionary.has_member())
 }
 
-/// Performs the calls of a list, and reads the text: the list that they describe, without abandoned inner lists, and with
-/// a repeated key of parameters once.
+/// Performs the calls of a list, and parses the text. The result is the list that the calls describe, without abandoned
+/// inner lists, and with each repeated key of parameters once.
 ///
 /// # Errors
 ///
-/// Of kind `OutOfMemory` when out of memory.
+/// Returns the kind `OutOfMemory` if memory runs out. There is no other error.
 pub fn performed_and_read(alloc: Global, calls: &[MemberCalls<'_>]) -> Result<List, Error>
     ensures read { IfOk result (λ list. list_tree list.items ≡ ordered list_field (described_list calls.now)) }
     ensures out_of_memory { IfErr result (λ error. error ≡ out_of_memory) }

@@ -1,4 +1,4 @@
-//! What the README begins with.
+//! The first example of the README.
 
 ghost use Rattle.std.specs.Prelude.{IfOk};
 ghost use Rattle.sfv_uses.specs.Uses.{IsWrittenAgain};
@@ -6,11 +6,11 @@ ghost use Rattle.sfv_uses.specs.Uses.{IsWrittenAgain};
 use sfv::{Dictionary, FieldType, OutOfMemory, ParseError, Parser};
 use std::alloc::Global;
 
-/// Reads a dictionary and writes it again: of `a=1;x, b=2, a=3` it returns `a=3, b=2`, and `None` where no member is.
+/// Parses a dictionary and serializes it: `a=1;x, b=2, a=3` becomes `a=3, b=2`. Returns `None` if it is empty.
 ///
 /// # Errors
 ///
-/// `ParseError::Syntax`: the input is no dictionary, or out of memory.
+/// Returns `ParseError::Syntax` if the input is not a dictionary, or if memory runs out.
 pub fn write_again(alloc: Global, input: &[u8]) -> Result<Option<String>, ParseError<OutOfMemory>>
     ensures { IfOk result (IsWrittenAgain input.now) }
 {

@@ -1,4 +1,4 @@
-//! Values: the ends of their ranges, what they are made of, their copies, and how they compare.
+//! Values: the ends of their ranges, their conversions, their clones, and their comparisons.
 
 ghost use Rattle.std.specs.Prelude.{◌≡◌, ◌↔◌, [], pos, neg_ℤ, IfOk, IsTrue};
 ghost use Rattle.std.specs.Cmp.Lexicographic.{slice_cmp};
@@ -17,7 +17,7 @@ use sfv::{
 use std::alloc::AllocError;
 use std::cmp::Ordering;
 
-/// The least and the greatest integer are of fifteen digits, and zero is zero.
+/// The least and the greatest integer have fifteen digits. `ZERO` is zero.
 pub fn integers() -> (Integer, Integer, Integer)
     ensures least { integer_of result.0 ≡ neg_ℤ (pos 999999999999999) }
     ensures greatest { integer_of result.1 ≡ pos 999999999999999 }
@@ -26,7 +26,7 @@ pub fn integers() -> (Integer, Integer, Integer)
     (Integer::MIN, Integer::MAX, Integer::ZERO)
 }
 
-/// The least and the greatest decimal are of fifteen digits, three of them after the point, and zero is zero.
+/// The least and the greatest decimal have fifteen digits, three of them after the point. `ZERO` is zero.
 pub fn decimals() -> (Decimal, Decimal, Decimal)
     ensures least { thousandths_of result.0 ≡ neg_ℤ (pos 999999999999999) }
     ensures greatest { thousandths_of result.1 ≡ pos 999999999999999 }
@@ -35,7 +35,7 @@ pub fn decimals() -> (Decimal, Decimal, Decimal)
     (Decimal::MIN, Decimal::MAX, Decimal::ZERO)
 }
 
-/// The first and the last date are of fifteen digits, and the epoch is at second zero.
+/// The first and the last date have fifteen digits. The epoch is second zero.
 pub fn dates() -> (Date, Date, Date)
     ensures first { seconds_of result.0 ≡ neg_ℤ (pos 999999999999999) }
     ensures last { seconds_of result.1 ≡ pos 999999999999999 }
@@ -44,69 +44,69 @@ pub fn dates() -> (Date, Date, Date)
     (Date::MIN, Date::MAX, Date::UNIX_EPOCH)
 }
 
-/// The empty string has no text.
+/// The empty string has an empty text.
 pub fn empty_string() -> StringRef<'static>
     ensures { string_text result ≡ [] }
 {
     StringRef::EMPTY
 }
 
-/// The bare item of a number has its value.
+/// The bare item of a number is the integer of the same number.
 pub fn item_of_byte(v: u8) -> RefBareItem<'static>
     ensures { ref_value result ≡ integer (pos v) }
 {
     RefBareItem::from(v)
 }
 
-/// The bare item of a number has its value, if it has one.
+/// The bare item of a number in range is the integer of the same number.
 ///
 /// # Errors
 ///
-/// The number is out of range.
+/// Returns an error if the number is out of range.
 pub fn item_of_number(v: i64) -> Result<RefBareItem<'static>, Error>
     ensures { IfOk result (λ item. ref_value item ≡ integer v) }
 {
     RefBareItem::try_from(v)
 }
 
-/// A copy has the same value.
+/// A clone has the same value.
 ///
 /// # Errors
 ///
-/// Out of memory.
+/// Returns `AllocError` if memory runs out.
 pub fn copy_of(item: &BareItem) -> Result<BareItem, AllocError>
     ensures { IfOk result (λ copy. bare_value copy ≡ bare_value item.now) }
 {
     item.clone()
 }
 
-/// A copy of an item that was read has the same value.
+/// A clone of a parsed bare item has the same value.
 ///
 /// # Errors
 ///
-/// Out of memory.
+/// Returns `AllocError` if memory runs out.
 pub fn copy_of_read<'a>(item: &BareItemFromInput<'a>) -> Result<BareItemFromInput<'a>, AllocError>
     ensures { IfOk result (λ copy. input_value copy ≡ input_value item.now) }
 {
     item.clone()
 }
 
-/// What is borrowed stays borrowed.
+/// A clone of a parsed string is borrowed if the string is.
 ///
 /// # Errors
 ///
-/// Out of memory.
+/// Returns `AllocError` if memory runs out.
 pub fn copy_of_string<'a>(text: &StringFromInput<'a>) -> Result<StringFromInput<'a>, AllocError>
     ensures { IfOk result (λ copy. copy ≡ text.now) }
 {
     text.clone()
 }
 
-/// A copy of an item has the same value.
+/// A clone of an item has the same value and parameters.
 ///
 /// # Errors
 ///
-/// Out of memory.
+/// Returns `AllocError` if memory runs out.
 pub fn copy_of_item(item: &Item) -> Result<Item, AllocError>
     ensures { IfOk result (λ copy. item_tree copy ≡ item_tree item.now) }
 {
@@ -127,14 +127,14 @@ pub fn same_borrowed(a: RefBareItem<'_>, b: RefBareItem<'_>) -> bool
     a == b
 }
 
-/// Bare items that were read compare by value, whether a text in them is borrowed or owned.
+/// Parsed bare items compare by value, whether their text is borrowed or owned.
 pub fn same_read(a: &BareItemFromInput<'_>, b: &BareItemFromInput<'_>) -> bool
     ensures { IsTrue result ↔ (input_value a.now ≡ input_value b.now) }
 {
     *a == *b
 }
 
-/// Strings that were read compare by their text.
+/// Parsed strings compare by their text.
 pub fn same_string(a: &StringFromInput<'_>, b: &StringFromInput<'_>) -> bool
     ensures { IsTrue result ↔ (read_text a.now ≡ read_text b.now) }
 {
@@ -155,7 +155,7 @@ pub fn order_of_keys(a: KeyRef<'_>, b: KeyRef<'_>) -> Ordering
     a.cmp(&b)
 }
 
-/// Numbers compare by their value.
+/// Integers compare by their number.
 pub fn same_number(a: Integer, b: Integer) -> bool
     ensures { IsTrue result ↔ (integer_of a ≡ integer_of b) }
 {
@@ -176,7 +176,7 @@ pub fn same_date(a: Date, b: Date) -> bool
     a == b
 }
 
-/// Numbers are ordered by their value.
+/// Integers are ordered by their number.
 pub fn order_of_numbers(a: Integer, b: Integer) -> Ordering
     ensures { result ≡ int_cmp (integer_of a) (integer_of b) }
 {

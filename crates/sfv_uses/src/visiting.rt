@@ -1,4 +1,4 @@
-//! Reading a field by a visitor, which builds no value.
+//! Parsing of a field with a visitor, without a value.
 
 ghost use Rattle.std.specs.Prelude.{◌≡◌, ⊤, ◌≤◌, IsSome, IfOk, IfErr, OnOk};
 ghost use Rattle.sfv.specs.Values.{rfc9651, item_field, dictionary_field};
@@ -12,7 +12,7 @@ use sfv::{BareItemFromInput, OutOfMemory, ParseError, Parser};
 use std::alloc::Global;
 use std::convert::Infallible;
 
-/// Calls a function with each key.
+/// A visitor that calls a function with each key.
 #[derive(Drop)]
 struct EachKey<F> {
     visit: F,
@@ -45,11 +45,11 @@ impl<'de, F: FnMut(&str) + Drop> Visitor<'de> for EachKey<F> {
     }
 }
 
-/// Calls `visit` with each key of a dictionary, with a repeated one each time.
+/// Calls `visit` with each key of a dictionary. A repeated key is passed each time.
 ///
 /// # Errors
 ///
-/// That of `Parser::parse_dictionary_with_visitor`; of a dictionary only out of memory.
+/// Returns the errors of `Parser::parse_dictionary_with_visitor`. For a dictionary, the only error is out of memory.
 pub fn each_key<F: FnMut(&str) + Drop>(
     alloc: Global,
     input: &[u8],
@@ -62,7 +62,7 @@ pub fn each_key<F: FnMut(&str) + Drop>(
     Parser::new(input).parse_dictionary_with_visitor(alloc, EachKey { visit })
 }
 
-/// The error says only that memory was refused.
+/// A classification of errors: `OutOfMemory`, the function's error, always means out of memory.
 #[derive(Drop)]
 struct OnlyMemory;
 
@@ -70,11 +70,11 @@ impl MemoryErrors<OutOfMemory> for OnlyMemory {
     ghost is_memory = { λ _. ⊤ };
 }
 
-/// Calls a function, which fails only when out of memory, on the bare item of an item.
+/// Calls a function with the bare item of an item. The function fails only if memory runs out.
 ///
 /// # Errors
 ///
-/// That of `Parser::parse_item_with_visitor`; of an item only out of memory.
+/// Returns the errors of `Parser::parse_item_with_visitor`. For an item, the only error is out of memory.
 pub fn with_bare_item<
     'de,
     T: Drop,
@@ -88,11 +88,11 @@ pub fn with_bare_item<
     Parser::new(input).parse_item_with_visitor(alloc, visitor)
 }
 
-/// A dictionary has more members than are wanted.
+/// The error that a dictionary has more members than the limit.
 #[derive(Clone, Copy, Debug, PartialEq, Eq)]
 pub struct TooMany;
 
-/// Counts the members of a dictionary, up to a limit.
+/// A visitor that counts the members of a dictionary, up to a limit.
 #[derive(Drop)]
 struct MemberCounter {
     members: u64,
@@ -129,11 +129,11 @@ impl<'de> Visitor<'de> for MemberCounter {
     }
 }
 
-/// Returns how many members a dictionary has, repeated keys too, if they are no more than `limit`.
+/// Counts the members of a dictionary, repeated keys included, up to `limit`.
 ///
 /// # Errors
 ///
-/// `TooMany`, or that of `Parser::parse_dictionary_with_visitor`.
+/// Returns `TooMany` if there are more, and otherwise the errors of `Parser::parse_dictionary_with_visitor`.
 pub fn count_members(alloc: Global, input: &[u8], limit: u64) -> Result<u64, ParseError<TooMany>>
     ensures counted { IfOk result (HasMembers input.now limit) }
     ensures failed { IfErr result (IsCountError input.now limit) }

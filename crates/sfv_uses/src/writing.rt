@@ -1,21 +1,22 @@
-//! Writing an item part by part, and reading it back.
+//! Serialization of an item part by part, and parsing of its text.
 
 ghost use Rattle.std.specs.Prelude.{◌≡◌, ◌++◌, IfOk, IfErr, OnOk, OnErr, string_bytes};
 ghost use Rattle.sfv.specs.Canonical.{bare_text, item_text};
 ghost use Rattle.sfv.specs.BareItems.{ref_value};
 ghost use Rattle.sfv.specs.Errors.{out_of_memory};
 ghost use Rattle.sfv.specs.Trees.{item_tree};
+ghost use Rattle.sfv.specs.Written.{LacksRoom};
 ghost use Rattle.sfv.specs.Types.serialize_errors as errors;
 ghost use Rattle.sfv_uses.specs.Uses.{one_item, Adds, AddsAtMost, IsReadAsItself};
 
 use sfv::{Error, Item, ItemSerializer, KeyRef, OutOfMemory, Parser, RefBareItem, SerializeError};
 use std::alloc::Global;
 
-/// Writes an item of one parameter at the end of a text.
+/// Appends an item with one parameter to `text`.
 ///
 /// # Errors
 ///
-/// `OutOfMemory` when out of memory: nothing is written then, or the bare item alone.
+/// Returns `SerializeError::OutOfMemory` if memory runs out. Then nothing was appended, or only the bare item.
 pub fn write_item(
     text: &mut String,
     value: RefBareItem<'_>,
@@ -25,6 +26,7 @@ pub fn write_item(
     ensures written { OnOk result (Adds text.old text.new (item_text (one_item value.entry key.entry param.entry))) }
     ensures read_back { OnOk result (IsReadAsItself (one_item value.entry key.entry param.entry)) }
     ensures out_of_memory { OnErr result (AddsAtMost text.old text.new (bare_text (ref_value value.entry))) }
+    ensures room { OnErr result (LacksRoom text.old (item_text (one_item value.entry key.entry param.entry))) }
     ensures failed { IfErr result (λ error. error ≡ errors.OutOfMemory) }
 {
     let params = ItemSerializer::with_buffer(text).bare_item(value)?;
@@ -32,7 +34,7 @@ pub fn write_item(
     Ok(())
 }
 
-/// Writes an item whose parameter has the same value: a value that borrows its text is copied.
+/// Appends an item with a parameter of the same value. A `RefBareItem` is `Copy`.
 pub fn write_twice(
     text: &mut String,
     value: RefBareItem<'_>,
@@ -43,11 +45,11 @@ pub fn write_twice(
     write_item(text, value, key, value)
 }
 
-/// Writes an item of one parameter and reads the text: the same item.
+/// Writes an item with one parameter, and parses the text to the same item.
 ///
 /// # Errors
 ///
-/// Of kind `OutOfMemory` when out of memory.
+/// Returns the kind `OutOfMemory` if memory runs out. There is no other error.
 pub fn written_and_read(
     alloc: Global,
     value: RefBareItem<'_>,
@@ -66,13 +68,14 @@ pub fn written_and_read(
     }
 }
 
-/// Writes the parts of an item at the end of a text: its canonical text.
+/// Appends an item to `text` part by part: its canonical text.
 ///
 /// # Errors
 ///
-/// `OutOfMemory` when out of memory.
+/// Returns `SerializeError::OutOfMemory` if memory runs out.
 pub fn write_parts(text: &mut String, item: &Item) -> Result<(), SerializeError>
     ensures text { OnOk result (string_bytes text.new ≡ string_bytes text.old ++ item_text (item_tree item.now)) }
+    ensures room { OnErr result (LacksRoom text.old (item_text (item_tree item.now))) }
     ensures failed { IfErr result (λ error. error ≡ errors.OutOfMemory) }
 {
     let value = item.bare_item.as_ref_item();

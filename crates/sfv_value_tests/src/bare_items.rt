@@ -1,4 +1,4 @@
-//! Bare items that own, borrow or were read: what they are made of, what is seen of them, and their copies.
+//! Owned, borrowed and parsed bare items: their conversions, accessors and copies.
 
 use crate::common::prints;
 use sfv::{
@@ -14,7 +14,7 @@ fn versions_print_their_names(rt: HostRuntime) {
     assert!(rt; prints(rt.alloc(), &Version::Rfc9651, "RFC 9651"));
 }
 
-/// Whether the item is the integer of this number.
+/// Returns `true` if the item is the integer of this number.
 fn is_number(item: RefBareItem<'_>, number: i64) -> bool {
     match item {
         GenericBareItem::Integer(integer) => i64::from(integer) == number,
@@ -34,7 +34,7 @@ fn numbers_of_other_types_become_bare_items(rt: HostRuntime) {
     assert!(rt; holds);
 }
 
-/// Whether the item is the integer of this number, or there is none.
+/// Returns `true` if the item is the integer of this number, or both are absent.
 fn is_made(made: Result<RefBareItem<'_>, Error>, number: Option<i64>) -> bool {
     match (made, number) {
         (Ok(item), Some(number)) => is_number(item, number),
@@ -55,7 +55,7 @@ fn numbers_in_range_become_bare_items(rt: HostRuntime) {
     assert!(rt; holds);
 }
 
-/// Which calls see the item as their kind.
+/// Returns, for each accessor, whether it returns a value.
 fn views(item: RefBareItem<'_>) -> [bool; 8] {
     [
         item.as_decimal().is_some(),
@@ -69,7 +69,7 @@ fn views(item: RefBareItem<'_>) -> [bool; 8] {
     ]
 }
 
-/// Whether the item is seen as its kind alone, which has this place among the kinds.
+/// Returns `true` if only the accessor of this number returns a value.
 fn is_seen_at(item: RefBareItem<'_>, place: usize) -> bool {
     for (row, is_seen) in views(item).into_iter().enumerate() {
         if is_seen != (row == place) {
@@ -79,7 +79,7 @@ fn is_seen_at(item: RefBareItem<'_>, place: usize) -> bool {
     true
 }
 
-/// Whether the item that owns its text equals its copy.
+/// Returns `true` if the owned item equals its clone.
 fn equals_its_copy(owned: &BareItem) -> bool {
     match owned.clone() {
         Ok(copy) => copy == *owned,
@@ -87,14 +87,15 @@ fn equals_its_copy(owned: &BareItem) -> bool {
     }
 }
 
-/// Whether the item that owns its text shows the same texts.
+/// Returns `true` if the accessors of the owned item return the same texts.
 fn is_owned_as(owned: &BareItem, item: RefBareItem<'_>) -> bool {
     (owned.as_string() == item.as_string())
         & (owned.as_byte_sequence() == item.as_byte_sequence())
         & (owned.as_token() == item.as_token())
 }
 
-/// Whether the item, the one that owns its text, the copy of that, and what they lend are equal, and show the same texts.
+/// Returns `true` if the item, its owned copy, the copy's clone, and their borrowed forms are equal, and their
+/// accessors return the same texts.
 fn equals_its_copies(item: RefBareItem<'_>, alloc: Global) -> bool {
     let is_lent = item.as_ref_item() == item;
     match item.try_to_owned(alloc) {
@@ -128,7 +129,7 @@ fn bare_items_equal_their_copies_and_are_seen_as_their_kind_alone(rt: HostRuntim
     assert!(rt; RefBareItem::from(7u8) != RefBareItem::from(8u8));
 }
 
-/// Whether a string that owns its text is lent and moved as it is.
+/// Returns `true` if an owned string is borrowed and moved unchanged.
 fn is_string_lent_and_moved(alloc: Global) -> bool {
     let string = string_ref("s");
     let Ok(owned) = string.to_owned(alloc) else {
@@ -138,7 +139,7 @@ fn is_string_lent_and_moved(alloc: Global) -> bool {
     is_lent & (BareItem::from(owned).as_string() == Some(string))
 }
 
-/// Whether a token that owns its text is lent and moved as it is.
+/// Returns `true` if an owned token is borrowed and moved unchanged.
 fn is_token_lent_and_moved(alloc: Global) -> bool {
     let token = token_ref("t");
     let Ok(owned) = token.to_owned(alloc) else {
@@ -155,7 +156,7 @@ fn owned_texts_become_bare_items(rt: HostRuntime) {
     assert!(rt; is_token_lent_and_moved(rt.alloc()));
 }
 
-/// Whether what was read is this item, and shows the same texts.
+/// Returns `true` if the parsed bare item equals this item, and its accessors return the same texts.
 fn is_seen_as(read: &BareItemFromInput<'_>, item: RefBareItem<'_>) -> bool {
     (read.as_ref_item() == item)
         & (read.as_string() == item.as_string())
@@ -163,7 +164,7 @@ fn is_seen_as(read: &BareItemFromInput<'_>, item: RefBareItem<'_>) -> bool {
         & (read.as_token() == item.as_token())
 }
 
-/// Whether what was read becomes this item.
+/// Returns `true` if the parsed bare item converts to this owned item.
 fn becomes(alloc: Global, read: BareItemFromInput<'_>, item: RefBareItem<'_>) -> bool {
     match read.try_into_owned(alloc) {
         Ok(owned) => owned.as_ref_item() == item,
@@ -171,7 +172,8 @@ fn becomes(alloc: Global, read: BareItemFromInput<'_>, item: RefBareItem<'_>) ->
     }
 }
 
-/// Whether what was read, its copy, and what becomes of the copy are this item, and show the same texts.
+/// Returns `true` if the parsed bare item, its clone, and the clone's owned form equal this item, and their accessors
+/// return the same texts.
 fn is_read_as(alloc: Global, read: BareItemFromInput<'_>, item: RefBareItem<'_>) -> bool {
     match read.clone() {
         Ok(copy) => is_seen_as(&read, item) & (copy == read) & becomes(alloc, copy, item),
@@ -179,7 +181,7 @@ fn is_read_as(alloc: Global, read: BareItemFromInput<'_>, item: RefBareItem<'_>)
     }
 }
 
-/// Whether a string with a text of its own is as if it were borrowed.
+/// Returns `true` if a parsed string with owned text equals the borrowed one.
 fn is_owned_string_read_as(alloc: Global, string: StringRef<'_>) -> bool {
     match string.to_owned(alloc) {
         Ok(owned) => {
@@ -190,7 +192,7 @@ fn is_owned_string_read_as(alloc: Global, string: StringRef<'_>) -> bool {
     }
 }
 
-/// Whether bytes are as if they were borrowed.
+/// Returns `true` if a parsed byte sequence equals the borrowed one.
 fn are_bytes_read_as(alloc: Global, bytes: &[u8]) -> bool {
     match Vec::from_slice(alloc, bytes) {
         Ok(owned) => is_read_as(
@@ -223,7 +225,7 @@ fn bare_items_that_were_read_are_copied_and_owned(rt: HostRuntime) {
     assert!(rt; owned & borrowed);
 }
 
-/// Whether the text is borrowed.
+/// Returns `true` if the text is borrowed.
 fn is_borrowed(read: &BareItemFromInput<'_>) -> bool {
     matches!(
         read,
@@ -232,7 +234,7 @@ fn is_borrowed(read: &BareItemFromInput<'_>) -> bool {
     )
 }
 
-/// Whether the text of the copy is borrowed.
+/// Returns `true` if the text of the clone is borrowed.
 fn is_borrowed_copy(read: BareItemFromInput<'_>) -> bool {
     match read.clone() {
         Ok(copy) => is_borrowed(&copy),

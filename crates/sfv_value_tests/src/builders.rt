@@ -1,4 +1,4 @@
-//! The visitors that build trees, told of events one by one: each event in its place, and out of it.
+//! The builders of trees, with single events: in sequence, and out of it.
 
 use crate::common::has_text;
 use sfv::visitor::{DictionaryBuilder, Event, ItemBuilder, ListBuilder, Visitor};
@@ -9,7 +9,7 @@ fn param(key: KeyRef<'static>, value: u8) -> Event<'static> {
     Event::Parameter(key, BareItemFromInput::from(value))
 }
 
-/// The event of a letter.
+/// Returns the event of a letter.
 fn event(letter: char) -> Event<'static> {
     match letter {
         ',' => Event::Entry,
@@ -28,7 +28,7 @@ fn event(letter: char) -> Event<'static> {
     }
 }
 
-/// The text of a list or a dictionary that was built, if it has a member.
+/// Returns the text of a list or a dictionary that was built, if it has a member.
 fn written<T: FieldType<SerializeResult = Option<String>>, E: Drop>(
     alloc: Global,
     built: Result<T, E>,
@@ -39,7 +39,7 @@ fn written<T: FieldType<SerializeResult = Option<String>>, E: Drop>(
     }
 }
 
-/// The text of what is built of the events after a list of this text.
+/// Returns the text of the list that is built from the events, beginning with the list `held`.
 fn list_of(alloc: Global, held: &str, letters: &str) -> Option<String> {
     let list = Parser::new(held.as_bytes()).parse::<List>(alloc).ok()?;
     let mut builder = ListBuilder::new(list, HashSeed::default());
@@ -57,9 +57,9 @@ fn lists_are_built_of_the_events_in_their_place(rt: HostRuntime) {
     let rows = &[
         ("", ",i5abA;,(i5a;i6;)aA;", "5;a=2;b=1, (5;a=1 6);a=2"),
         ("6", ",(i5b;)a;,i5;", three),
-        // An event that is out of its place: between the members,
+        // An event out of sequence: between the members,
         ("6", "i5a;()k,(i5b;)a;,i5;", three),
-        // before what says what the member is,
+        // before the start of an item or an inner list,
         ("6", ",,k5a;)(i5b;)a;,5;i5;", three),
         // among the items of an inner list,
         ("6", ",(,k(5a;i5b;)a;,i5;", three),
@@ -79,7 +79,7 @@ fn lists_are_built_of_the_events_in_their_place(rt: HostRuntime) {
     }
 }
 
-/// The text of what is built of the events after a dictionary of this text.
+/// Returns the text of the dictionary that is built from the events, beginning with the dictionary `held`.
 fn dictionary_of(alloc: Global, held: &str, letters: &str) -> Option<String> {
     let dictionary = Parser::new(held.as_bytes())
         .parse::<Dictionary>(alloc)
@@ -99,12 +99,12 @@ fn dictionaries_are_built_of_the_events_in_their_place(rt: HostRuntime) {
     let three = "c=6, a=(5;b=1);a=1, b=5";
     let rows = &[
         ("", "li5ab;k(i5a;i6;)aA;", two),
-        // A key that is there keeps its place, and takes the new member with its parameters.
+        // An existing key keeps its place, and takes the new member with its parameters.
         (two, "mi5;li6A;li6;", "b=6, a=(5;a=1 6);a=2, c=5"),
         ("c=6", "k(i5b;)a;li5;", three),
-        // An event that is out of its place: between the members,
+        // An event out of sequence: between the members,
         ("c=6", "i5a;(),k(i5b;)a;li5;", three),
-        // before what says what the member is,
+        // before the start of an item or an inner list,
         ("c=6", "k,l5a;)(i5b;)a;l5;i5;", three),
         // among the items of an inner list,
         ("c=6", "k(,l(5a;i5b;)a;li5;", three),
@@ -124,7 +124,7 @@ fn dictionaries_are_built_of_the_events_in_their_place(rt: HostRuntime) {
     }
 }
 
-/// Tells an optional builder the events, and whether it takes them.
+/// Passes the events to an optional builder, and returns `true` if it accepts them.
 fn takes(builder: &mut Option<ItemBuilder>, letters: &str) -> bool {
     for letter in letters.chars() {
         if builder.event(event(letter)).is_err() {
@@ -134,8 +134,7 @@ fn takes(builder: &mut Option<ItemBuilder>, letters: &str) -> bool {
     true
 }
 
-/// The text of the item that a builder answers after the events, if it answers one; an optional builder, which may not be
-/// there.
+/// Returns the text of the item that an optional builder returns after the events, if it returns one.
 fn item_of(alloc: Global, is_there: bool, letters: &str) -> Option<String> {
     let mut builder = if is_there {
         Some(ItemBuilder::new(alloc, HashSeed::default()))
@@ -155,7 +154,7 @@ fn item_of(alloc: Global, is_there: bool, letters: &str) -> Option<String> {
 fn items_are_built_of_the_events_in_their_place(rt: HostRuntime) {
     let rows = &[
         ("5aA;", "5;a=2"),
-        // An event that is out of its place changes nothing.
+        // An event out of sequence changes nothing.
         (";,i(ka)5b)6A;5a", "5;b=1;a=2"),
     ];
     for &(letters, text) in rows {
@@ -166,7 +165,7 @@ fn items_are_built_of_the_events_in_their_place(rt: HostRuntime) {
     }
 }
 
-// Without its end there is no item, and of a builder that isn't there neither.
+// Without its end there is no item. Without a builder there is none, either.
 #[test]
 fn items_that_have_not_ended_are_none(rt: HostRuntime) {
     for &(is_there, letters) in &[(true, "5a"), (true, ""), (false, "5aA;"), (false, "")] {

@@ -1,4 +1,4 @@
-//! What other numbers become of integers and decimals, and what integers become.
+//! Conversions of integers and decimals from and to other types of numbers.
 
 use sfv::{Decimal, Error, ErrorKind, Integer, integer};
 
@@ -6,7 +6,7 @@ fn out_of_range() -> Error {
     Error::with_kind(ErrorKind::OutOfRange, None)
 }
 
-/// Whether signed numbers become integers, which become the same numbers.
+/// Returns `true` if signed numbers convert to integers and back.
 fn are_signed_given_back() -> bool {
     let least = Integer::try_from(-999_999_999_999_999i128).unwrap_or(Integer::ZERO);
     let seven = Integer::try_from(-7isize).unwrap_or(Integer::ZERO);
@@ -19,7 +19,7 @@ fn are_signed_given_back() -> bool {
         & (i64::from(eight) == -8)
 }
 
-/// Whether unsigned numbers become integers, which become the same numbers.
+/// Returns `true` if unsigned numbers convert to integers and back.
 fn are_unsigned_given_back() -> bool {
     let greatest = Integer::try_from(999_999_999_999_999u64).unwrap_or(Integer::ZERO);
     let seven = Integer::try_from(7u128).unwrap_or(Integer::ZERO);
@@ -45,12 +45,12 @@ fn numbers_out_of_range_are_refused(rt: HostRuntime) {
     assert!(rt; Decimal::try_from(1_000_000_000_000i64) == Err(out_of_range()));
 }
 
-/// Whether a decimal has so many thousandths.
+/// Returns `true` if a decimal has this many thousandths.
 fn has_thousandths(decimal: Decimal, thousandths: i64) -> bool {
     i64::from(decimal.as_integer_scaled_1000()) == thousandths
 }
 
-/// Whether a decimal of a number in range has so many thousandths.
+/// Returns `true` if the result is a decimal with this many thousandths.
 fn is_decimal(made: Result<Decimal, Error>, thousandths: i64) -> bool {
     match made {
         Ok(decimal) => has_thousandths(decimal, thousandths),

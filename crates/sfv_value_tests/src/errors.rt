@@ -1,4 +1,4 @@
-//! Errors: their kinds, places and texts.
+//! Errors: their kinds, indexes and texts.
 
 use crate::common::{is_text, prints};
 use sfv::visitor::{BareItemType, ItemFault};
@@ -56,7 +56,7 @@ fn faults_of_items_print_what_was_expected(rt: HostRuntime) {
     assert!(rt; holds);
 }
 
-// The messages of the other kinds stand in the answers that the lines of `sfv_replay` have.
+// The messages of the other kinds are in the lines of `sfv_replay`.
 #[test]
 fn kinds_that_no_field_has_print_their_message(rt: HostRuntime) {
     let rows = &[

@@ -1,4 +1,4 @@
-//! Tests of the values of structured fields, and of the trees that are made of them. There is no code.
+//! Tests of the values of structured fields, and of their trees. There is no code.
 #![tactic(auto)]
 
 #[cfg(test)]

@@ -6,7 +6,8 @@ use std::alloc::Global;
 use std::cmp::Ordering;
 use std::hash::Hash;
 
-/// Whether the integer of the number, the decimal of so many thousandths and the date of so many seconds have these texts.
+/// Returns `true` if the integer, the decimal with this many thousandths, and the date with this many seconds print
+/// these texts.
 fn are_printed(alloc: Global, number: i64, integer: &str, decimal: &str, date: &str) -> bool {
     let Ok(number) = Integer::try_from(number) else {
         return false;
@@ -61,13 +62,15 @@ fn constants_are_the_ends_of_the_ranges_and_zero(rt: HostRuntime) {
     assert!(rt; integers & decimals & dates);
 }
 
-/// Whether two values are ordered so, and are equal and hash alike just if they stand together.
+/// Returns `true` if two values have this order, and are equal and have equal hashes if and only if the order is
+/// `Equal`.
 fn is_ordered<T: Ord + Hash>(a: &T, b: &T, order: Ordering) -> bool {
     let equal = order == Ordering::Equal;
     a.cmp(b) == order && (a == b) == equal && (hash_of(a) == hash_of(b)) == equal
 }
 
-/// Whether the integers, the decimals of so many thousandths and the dates of so many seconds are ordered so.
+/// Returns `true` if the integers, the decimals with these thousandths, and the dates with these seconds have this
+/// order.
 fn are_ordered(a: Integer, b: Integer, order: Ordering) -> bool {
     let (c, d) = (
         Decimal::from_integer_scaled_1000(a),

@@ -1,4 +1,4 @@
-//! Which seed the maps of a value have: that of the parser that read it.
+//! The seeds of a value's maps, which are the seed of its parser.
 
 use crate::common::is_shown;
 use sfv::visitor::{DictionaryBuilder, ItemBuilder, ListBuilder};
@@ -16,29 +16,29 @@ const LIST: &[u8] = b"1;x, (2;y 3);z, 4, ()";
 
 const DICTIONARY: &[u8] = b"a=1;x, b=(2;y 3);z, c;w, d=4, a=(5;x)";
 
-/// A seed that isn't the library's.
+/// Returns a seed other than the library's.
 fn seed() -> HashSeed {
     HashSeed::new(1)
 }
 
-/// The parser of a text, under that seed.
+/// Returns the parser of a text under that seed.
 fn parser(text: &[u8]) -> Parser<'_> {
     Parser::new(text)
         .with_hash_seed(seed())
         .with_version(Version::Rfc8941)
 }
 
-/// Whether the seeds hash alike.
+/// Returns `true` if both seeds give the same hash.
 fn is_seed(one: &HashSeed, other: HashSeed) -> bool {
     one.hash_one(7u64) == other.hash_one(7u64)
 }
 
-/// Whether the parameters of an item have that seed.
+/// Returns `true` if the parameters of an item have that seed.
 fn item_has_seed(item: &Item) -> bool {
     is_seed(item.params.hasher(), seed())
 }
 
-/// Whether the parameters of an inner list have it, and those of its items.
+/// Returns `true` if the parameters of an inner list and of its items have that seed.
 fn inner_list_has_seed(list: &InnerList) -> bool {
     for item in &list.items {
         if !item_has_seed(item) {
@@ -48,7 +48,7 @@ fn inner_list_has_seed(list: &InnerList) -> bool {
     is_seed(list.params.hasher(), seed())
 }
 
-/// Whether all maps of a member have it.
+/// Returns `true` if all maps of a member have that seed.
 fn member_has_seed(member: &ListEntry) -> bool {
     match member {
         ListEntry::Item(item) => item_has_seed(item),
@@ -56,7 +56,7 @@ fn member_has_seed(member: &ListEntry) -> bool {
     }
 }
 
-/// Whether all maps of a list have it.
+/// Returns `true` if all maps of a list have that seed.
 fn list_has_seed(list: &List) -> bool {
     for member in list {
         if !member_has_seed(member) {
@@ -66,7 +66,7 @@ fn list_has_seed(list: &List) -> bool {
     true
 }
 
-/// Whether a dictionary has it, and all maps of its members.
+/// Returns `true` if a dictionary and all maps of its members have that seed.
 fn dictionary_has_seed(dictionary: &Dictionary) -> bool {
     for (_, member) in dictionary.iter() {
         if !member_has_seed(member) {
@@ -85,7 +85,7 @@ fn seeds_are_told_apart(rt: HostRuntime) {
     assert!(rt; apart & given & is_shown(rt.alloc(), &other, "HashSeed { .. }"));
 }
 
-/// Whether all maps of an item that was read have that seed, and those of its copy.
+/// Returns `true` if all maps of a parsed item and of its clone have that seed.
 fn is_item_seeded<E: Drop>(read: Result<Item, E>) -> bool {
     let Ok(item) = read else {
         return false;
@@ -96,7 +96,7 @@ fn is_item_seeded<E: Drop>(read: Result<Item, E>) -> bool {
     }
 }
 
-/// Whether all maps of a list that was read have it, and those of its copy.
+/// Returns `true` if all maps of a parsed list and of its clone have that seed.
 fn is_list_seeded<E: Drop>(read: Result<List, E>, length: usize) -> bool {
     let Ok(list) = read else {
         return false;
@@ -107,7 +107,7 @@ fn is_list_seeded<E: Drop>(read: Result<List, E>, length: usize) -> bool {
     }
 }
 
-/// Whether all maps of a dictionary that was read have it, and those of its copy.
+/// Returns `true` if all maps of a parsed dictionary and of its clone have that seed.
 fn is_dictionary_seeded<E: Drop>(read: Result<Dictionary, E>, length: usize) -> bool {
     let Ok(dictionary) = read else {
         return false;
@@ -138,15 +138,15 @@ fn fields_of_made_visitors_have_the_seed_of_their_parser(rt: HostRuntime) {
     assert!(rt; is_dictionary_seeded(parser(DICTIONARY).parse_dictionary::<Dictionary>(alloc), 4));
 }
 
-// The parsers have the library's seed: the builders don't ask for it.
+// The parsers below have the library's seed, and builders do not use it.
 
-/// Whether an item that is built has the seed of its builder.
+/// Returns `true` if a built item has the seed of its builder.
 fn is_built_item_seeded(alloc: Global) -> bool {
     let builder = ItemBuilder::new(alloc, seed());
     is_item_seeded(Parser::new(ITEM).parse_item_with_visitor(alloc, builder))
 }
 
-/// Whether a list that is built after another has the seed of its builder.
+/// Returns `true` if a list that is built after another has the seed of its builder.
 fn is_built_list_seeded(alloc: Global) -> bool {
     let Ok(held) = parser(LIST).parse::<List>(alloc) else {
         return false;
@@ -155,7 +155,7 @@ fn is_built_list_seeded(alloc: Global) -> bool {
     is_list_seeded(Parser::new(LIST).parse_list_with_visitor(alloc, builder), 8)
 }
 
-/// Whether a dictionary that is built after another has the seed of that one.
+/// Returns `true` if a dictionary that is built after another has the seed of the other.
 fn is_built_dictionary_seeded(alloc: Global) -> bool {
     let Ok(held) = parser(DICTIONARY).parse::<Dictionary>(alloc) else {
         return false;
@@ -173,7 +173,7 @@ fn what_is_built_has_the_seed_of_its_builder(rt: HostRuntime) {
     assert!(rt; is_built_dictionary_seeded(alloc));
 }
 
-/// Whether dictionaries of one text are equal under two seeds.
+/// Returns `true` if dictionaries of one text are equal under two seeds.
 fn are_equal_under_two_seeds(alloc: Global) -> bool {
     let Ok(known) = Parser::new(DICTIONARY).parse::<Dictionary>(alloc) else {
         return false;
@@ -184,7 +184,7 @@ fn are_equal_under_two_seeds(alloc: Global) -> bool {
     }
 }
 
-/// Whether a parameter is entered.
+/// Returns `true` if the insertion of a parameter succeeds.
 fn is_entered(params: &mut Parameters) -> bool {
     match key_ref("a").to_owned(*params.allocator()) {
         Ok(key) => params.insert(key, true.into()).is_ok(),
@@ -192,7 +192,7 @@ fn is_entered(params: &mut Parameters) -> bool {
     }
 }
 
-/// Whether parameters under a seed are equal to those under another just as long as both are empty.
+/// Returns `true` if parameters under two seeds are equal while both are empty, and different after an insertion.
 fn are_compared_under_two_seeds(alloc: Global) -> bool {
     let mut params = Parameters::with_hasher(alloc, seed());
     let none = parameters(alloc);
@@ -205,7 +205,7 @@ fn maps_of_two_seeds_are_compared(rt: HostRuntime) {
     assert!(rt; are_compared_under_two_seeds(rt.alloc()));
 }
 
-/// Where a map of 1,024 groups first looks for a key: its tag, and a stretch of 16 groups.
+/// Returns where a map of 1,024 groups begins its search for a key: the tag, and a stretch of 16 groups.
 fn place(seed: HashSeed, key: &[u8]) -> Result<u64, Fail> {
     let hash = seed.hash_one(KeyRef::from_bytes(key)?);
     Ok((hash ^ hash >> 32) & 0xff00_03f0)
@@ -231,7 +231,7 @@ fn keys_that_fall_together_are_ordinary_under_another_seed(rt: HostRuntime) -> R
         }
     }
     assert!(rt; found > 10);
-    // The key itself, and at most one more.
+    // The key itself, and at most one other.
     assert!(rt; together <= 2);
     Ok(())
 }

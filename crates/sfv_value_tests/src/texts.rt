@@ -1,4 +1,4 @@
-//! Keys, tokens and strings: which texts are some, their order, hashes, copies and prints.
+//! Keys, tokens and strings: their texts, order, hashes, clones and prints.
 
 use crate::common::{hash_of, is_shown, is_text, prints};
 use sfv::{
@@ -14,7 +14,7 @@ use std::alloc::Global;
 use std::cmp::Ordering;
 use std::string::String as StdString;
 
-/// Whether the answer is this text, or this fault where there is one.
+/// Returns `true` if the result is this text, or this error if there is one.
 fn is_answer<C: TextClass>(
     answer: Result<CheckedTextRef<'_, C>, Error>,
     text: &str,
@@ -27,7 +27,7 @@ fn is_answer<C: TextClass>(
     }
 }
 
-/// Whether all calls that check a text give this answer.
+/// Returns `true` if all constructors of borrowed texts have this result.
 fn is_checked<C: TextClass>(text: &str, fault: Option<Error>) -> bool {
     let bytes = text.as_bytes();
     is_answer(CheckedTextRef::<C>::from_str(text), text, fault)
@@ -36,7 +36,7 @@ fn is_checked<C: TextClass>(text: &str, fault: Option<Error>) -> bool {
         && is_answer(CheckedTextRef::<C>::try_from(bytes), text, fault)
 }
 
-/// What a text is refused for that has a wrong byte there, if it has one.
+/// Returns the error for a wrong byte at this index, if there is one.
 fn wrong_at(index: Option<usize>) -> Option<Error> {
     match index {
         Some(_) => Some(Error::with_kind(ErrorKind::InvalidCharacter, index)),
@@ -46,7 +46,7 @@ fn wrong_at(index: Option<usize>) -> Option<Error> {
 
 #[test]
 fn texts_are_refused_at_their_first_wrong_byte(rt: HostRuntime) {
-    // Where a text is no key, no token and no string.
+    // Where a text is not a key, not a token and not a string.
     let rows = &[
         ("*", None, None, None),
         ("a1_-.*", None, None, None),
@@ -82,7 +82,7 @@ fn no_text_is_a_string_and_no_key_or_token(rt: HostRuntime) {
     assert!(rt; checked & given);
 }
 
-/// Whether a byte may begin a text of the class, and whether it may stand in one that the other byte begins.
+/// Returns whether a byte may begin a text of the class, and whether it may follow the byte `first`.
 fn places_of<C: TextClass>(byte: u8, first: u8) -> (bool, bool) {
     let begins = CheckedTextRef::<C>::from_bytes(&[byte]).is_ok();
     let follows = CheckedTextRef::<C>::from_bytes(&[first, byte]).is_ok();
@@ -113,7 +113,7 @@ fn texts_hold_the_bytes_of_their_class(rt: HostRuntime) {
     }
 }
 
-/// Whether each of three texts is lent as it is.
+/// Returns `true` if each of three texts is borrowed unchanged.
 fn are_lent(key: Option<Key>, token: Option<Token>, string: Option<String>) -> bool {
     key.is_some_and(|key| key.as_key_ref() == key_ref("key"))
         & token.is_some_and(|token| token.as_token_ref() == token_ref("token"))
@@ -129,7 +129,7 @@ fn owned_texts_are_lent(rt: HostRuntime) {
     assert!(rt; are_lent(key, token, string));
 }
 
-/// Whether a text of the class is printed and shown, borrowed and owned.
+/// Returns `true` if `Display` and `Debug` print a text of the class, borrowed and owned, as these texts.
 fn is_printed<C: TextClass>(alloc: Global, text: &str, shown_ref: &str, shown: &str) -> bool {
     let Ok(borrowed) = CheckedTextRef::<C>::from_str(text) else {
         return false;
@@ -152,8 +152,8 @@ fn texts_print_as_they_are_and_show_their_type(rt: HostRuntime) {
     assert!(rt; holds);
 }
 
-/// Whether the text becomes one of the class, which is equal to its copy and gives the text back; or comes back itself, with
-/// the fault at this index.
+/// Returns `true` if `from_string` accepts the text, its clone is equal, and it converts back; or if `from_string`
+/// returns the text with the error at this index.
 fn comes_back<C: TextClass>(alloc: Global, text: &str, fault: Option<usize>) -> bool {
     let Ok(owned) = StdString::from_str(alloc, text) else {
         return false;
@@ -170,7 +170,7 @@ fn comes_back<C: TextClass>(alloc: Global, text: &str, fault: Option<usize>) -> 
     }
 }
 
-/// Whether the text is taken without coming back.
+/// Returns `true` if `try_from` accepts the text.
 fn is_taken<C: TextClass>(alloc: Global, text: &str) -> bool {
     let Ok(owned) = StdString::from_str(alloc, text) else {
         return false;
@@ -193,7 +193,8 @@ fn texts_become_owned_and_are_given_back(rt: HostRuntime) {
     assert!(rt; taken & refused & is_taken::<TokenClass>(alloc, "a"));
 }
 
-/// Whether two tokens, borrowed and owned, are ordered so, and are equal and hash alike just if they stand together.
+/// Returns `true` if two tokens, borrowed and owned, have this order, and are equal and have equal hashes if and only
+/// if the order is `Equal`.
 fn is_ordered(alloc: Global, a: &str, b: &str, order: Ordering) -> bool {
     let equal = order == Ordering::Equal;
     let (Ok(a), Ok(b)) = (TokenRef::from_str(a), TokenRef::from_str(b)) else {
@@ -208,7 +209,7 @@ fn is_ordered(alloc: Global, a: &str, b: &str, order: Ordering) -> bool {
     borrowed & owned & hashed & (hash_of(&a) == hash_of(&c))
 }
 
-// The order is that of the bytes and not of the lengths.
+// Texts are ordered by bytes, not by length.
 #[test]
 fn texts_are_ordered_by_their_bytes_and_hash_by_them(rt: HostRuntime) {
     let rows = &[

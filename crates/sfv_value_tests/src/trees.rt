@@ -1,4 +1,4 @@
-//! Items, inner lists, lists and dictionaries: how they are made, changed, copied and compared.
+//! Items, inner lists, lists and dictionaries: their constructors, insertions, clones and comparisons.
 
 use crate::common::has_text;
 use sfv::{
@@ -7,7 +7,7 @@ use sfv::{
 };
 use std::alloc::Global;
 
-/// Whether the field equals its copy, and the other one just if this says so.
+/// Returns `true` if the field equals its clone, and the other field if and only if `equal` is true.
 fn are_equal<T: FieldType + PartialEq + Clone>(
     alloc: Global,
     text: &str,
@@ -61,7 +61,7 @@ fn lists_are_equal_by_their_members(rt: HostRuntime) {
     }
 }
 
-/// Whether an inner list that is made of no items is empty.
+/// Returns `true` if an inner list without items is empty.
 fn is_made_empty(alloc: Global) -> bool {
     let list = InnerList::new(alloc, Vec::new(alloc));
     list.items.is_empty() & list.params.is_empty() & (list == InnerList::empty(alloc))
@@ -72,7 +72,7 @@ fn inner_lists_are_made_of_items(rt: HostRuntime) {
     assert!(rt; is_made_empty(rt.alloc()));
 }
 
-/// Enters the item of 7, and tells whether a member of the key was found, and given back, just where this says so.
+/// Inserts the item 7. Returns `true` if the old member of the key is found and returned if and only if `had` is true.
 fn enters(members: &mut Dictionary, key: KeyRef<'_>, had: bool) -> bool {
     let alloc = *members.allocator();
     if find_entry(members, key).is_some() != had {
@@ -88,7 +88,7 @@ fn enters(members: &mut Dictionary, key: KeyRef<'_>, had: bool) -> bool {
     }
 }
 
-/// The text of a dictionary after the item of 7 is entered, if the key had a member just where this says so.
+/// Returns the text of a dictionary after the insertion of the item 7, if `had` says whether the key had a member.
 fn text_with_member(alloc: Global, key: KeyRef<'_>, had: bool) -> Option<String> {
     let parser = Parser::new(b"b=5, a=6");
     let mut members = parser.parse::<Dictionary>(alloc).ok()?;
@@ -111,7 +111,7 @@ fn members_are_found_and_entered_where_their_key_stood_or_last(rt: HostRuntime) 
     );
 }
 
-/// Enters the number 7, and tells whether a parameter of the key was found, and given back, just where this says so.
+/// Inserts the number 7. Returns `true` if the old value of the key is found and returned if and only if `had` is true.
 fn enters_param(params: &mut Parameters, key: KeyRef<'_>, had: bool) -> bool {
     if find_param(params, key).is_some() != had {
         return false;
@@ -125,7 +125,7 @@ fn enters_param(params: &mut Parameters, key: KeyRef<'_>, had: bool) -> bool {
     }
 }
 
-/// The text of an item after the number 7 is entered as a parameter, if the key had one just where this says so.
+/// Returns the text of an item after the insertion of the parameter 7, if `had` says whether the key had a value.
 fn text_with_param(alloc: Global, key: KeyRef<'_>, had: bool) -> Option<String> {
     let mut item = Parser::new(b"1;b=5;a=2").parse::<Item>(alloc).ok()?;
     if enters_param(&mut item.params, key, had) {

@@ -1,4 +1,4 @@
--- What is written of two values, and why they aren't.
+-- The text of two members, and the errors of writing them.
 use Rattle.std.specs.Prelude.{◌≡◌, ◌⊎◌, ℕ, List, [], ◌∷◌, ◌++◌, codes}
 use Rattle.sfv.specs.Values.{Edition, BareValue}
 use Rattle.sfv.specs.Canonical.{bare_text}
@@ -7,12 +7,12 @@ use Rattle.sfv.specs.Versions.{NamesFirst}
 use Rattle.sfv.specs.Types.{SerializeError}
 use Rattle.sfv.specs.Types.serialize_errors as errors
 
--- the members of a list that these two are
+-- the text of a list with these two members
 abbrev pub two_members : BareValue → BareValue → List ℕ
 two_members first second = bare_text first ++ codes ", " ++ bare_text second
 
--- the error of writing two values one by one: out of memory where the first fits, or it names the first of both that
--- doesn't fit
+-- The error of writing two values in order: out of memory if the version has the first, or the kind of the first value
+-- that it lacks.
 abbrev pub IsPairError : Edition → BareValue → BareValue → SerializeError → Type 0
 IsPairError edition first second error =
     ((error ≡ errors.OutOfMemory) × AllFit edition (first ∷ []))

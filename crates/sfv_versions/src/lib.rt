@@ -1,4 +1,4 @@
-//! Writing that is bound to a version, and reading under that same version.
+//! Serialization for a version, and parsing under the same version.
 #![tactic(auto)]
 
 ghost use Rattle.std.specs.Prelude.{◌≡◌, ◌∷◌, ◌++◌, [], false, OnOk, IfOk, IfErr, codes, string_bytes};
@@ -17,11 +17,11 @@ use sfv::script::{MemberCalls, run_list_for};
 use sfv::{List, ListSerializer, Parser, RefBareItem, SerializeError, Sink, Version};
 use std::alloc::Global;
 
-/// Writes two members of a list that is bound to a version: both are values of this version then.
+/// Writes two list members for the version of the serializer. On success, the version has both values.
 ///
 /// # Errors
 ///
-/// Those of the serializer.
+/// Returns the errors of the serializer.
 pub fn write_both<W: Sink>(
     list: &mut ListSerializer<W>,
     first: RefBareItem<'_>,
@@ -40,11 +40,11 @@ pub fn write_both<W: Sink>(
     Ok(())
 }
 
-/// Writes a list of two members at the end of a text, for a version: both are values of this version then.
+/// Appends a list of two members to `text`, for a version. On success, the version has both values.
 ///
 /// # Errors
 ///
-/// Those of the serializer.
+/// Returns the errors of the serializer.
 pub fn write_both_for(
     text: &mut String,
     version: Version,
@@ -60,11 +60,12 @@ pub fn write_both_for(
     write_both(&mut list, first, second)
 }
 
-/// Performs the calls of a list for a version, and reads the text under that same version: the list that they describe.
+/// Performs the calls of a list for a version, and parses the text under the same version. The result is the list that
+/// the calls describe.
 ///
 /// # Errors
 ///
-/// `Unsupported` with the kind of the first value that the version doesn't have, else `OutOfMemory`.
+/// Returns `Unsupported` with the kind of the first value that `version` lacks, or `OutOfMemory` if memory runs out.
 pub fn performed_and_read_for(
     alloc: Global,
     version: Version,
@@ -79,7 +80,7 @@ pub fn performed_and_read_for(
     match parser.parse::<List>(alloc) {
         Ok(list) => Ok(list),
         Err(error) if error.is_out_of_memory() => Err(SerializeError::OutOfMemory),
-        // What is written for a version is read under it.
+        // A text that is written for a version parses under it.
         Err(_) => unreachable!(),
     }
 }

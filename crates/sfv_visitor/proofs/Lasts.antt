@@ -93,6 +93,14 @@ items_push es e =
 pub items_whole : (es : List Item) (e : Item) → map item_tree (es ++ e ∷ []) ≡ map item_tree es ++ item_tree e ∷ []
 items_whole es e = map-append item_tree es (e ∷ [])
 
+-- another in the place of the last that is seen as the last was seen
+pub map_last : {X Y : Type 0} (f : X → Y) (xs : List X) (n : ℕ) (x z : X) → IsLast xs n x → f z ≡ f x
+    → map f (slice_set xs (n - 1) z) ≡ map f xs
+map_last {X} {Y} f xs n x z last same =
+    ap (λ (ys : List X). map f ys) (last.2 z) ∙ map-append f last.0 (z ∷ [])
+    ∙ ap (λ (y : Y). map f last.0 ++ y ∷ []) same ∙ sym (map-append f last.0 (x ∷ []))
+    ∙ ap (λ (ys : List X). map f ys) (sym last.1)
+
 -- the parameters of the last member end, and with them the member
 params_end : (ms : List RawMember) (o : Option (List RawMember × RawMember)) → split_last ms ≡ o
     → list_step (at_last (place_in parts.Params) o) parameters_end ≡ between ms

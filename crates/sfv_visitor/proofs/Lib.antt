@@ -1,2 +1,3 @@
 pub mod Lasts
 mod Pairs
+pub mod Seeded

@@ -1,4 +1,4 @@
--- The events of a reading as those of the definitions.
+-- Events as the events of the definitions.
 use Rattle.std.specs.Prelude.{Bool, false, not}
 use Rattle.sfv_spec.specs.Events.{TreeEvent}
 use Rattle.sfv_spec.specs.Events as tree
@@ -7,7 +7,7 @@ use Rattle.sfv_bare.specs.BareItems.{input_value, is_borrowed}
 use Rattle.sfv_visitor.specs.declared.visitor.Event.{Event}
 use Rattle.sfv_visitor.specs.declared.visitor.Event.TheVariants as event
 
--- an event by its value, whether its texts are borrowed or owned
+-- the event in the definitions, whether its text is borrowed or owned
 abbrev pub event_of : Event → TreeEvent
 event_of event.Entry = tree.entry
 event_of (event.KeyedEntry key) = tree.keyed_entry (key_text key)
@@ -18,7 +18,7 @@ event_of (event.Parameter key value) = tree.parameter (key_text key) (input_valu
 event_of event.ParametersEnd = tree.parameters_end
 event_of event.InnerListEnd = tree.inner_list_end
 
--- the event is a bare item without a text that is borrowed: it is moved into a tree as it is
+-- the event is a bare item without borrowed text: a builder moves it into a tree
 abbrev pub is_moved : Event → Bool
 is_moved (event.BareItem value) = not (is_borrowed value)
 is_moved e = false

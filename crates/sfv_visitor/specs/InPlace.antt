@@ -1,7 +1,10 @@
--- Steps in the last member of a list, which is read where it stays. Only private contracts speak of them.
+-- Steps in the last member of a list, which is built in its place. Only private contracts use these definitions.
 use Rattle.std.specs.Prelude.{◌≡◌, ℕ, List, [], ◌∷◌, ◌++◌, Bool, true, false, Option, Some, None, IsTrue, is_none, is_some}
 use Rattle.sfv_spec.specs.Values.{BareValue, RawItem, RawMember, inner_list}
 use Rattle.sfv_spec.specs.Events.{TreeEvent, bare_item, parameter, parameters_end}
+use Rattle.sfv_tree.specs.Seeds.{MemberHasSeed}
+use Rattle.sfv_tree.specs.declared.hash_seed.HashSeed.{HashSeed}
+use Rattle.sfv_tree.specs.declared.parsed.ListEntry.{ListEntry}
 use Rattle.sfv_visitor.specs.Builders.{MemberPlace, ListPlace, between, within, ended, enters, list_step, list_takes_memory, split_last}
 use Rattle.sfv_visitor.specs.Builders.{place_in, held_place, with_last}
 use Rattle.sfv_visitor.specs.declared.visitor.list_builder.Stage.{Stage}
@@ -9,12 +12,12 @@ use Rattle.sfv_visitor.specs.declared.visitor.list_builder.Stage.TheVariants as 
 use Rattle.sfv_visitor.specs.declared.visitor.part.Part.{Part}
 use Rattle.sfv_visitor.specs.declared.visitor.part.Part.TheVariants as parts
 
--- the last item of an inner list is to be read, and there is none
+-- an inner list expects a parameter of its last item, but has no item
 abbrev pub lacks_item_in : Part → RawMember → Bool
 lacks_item_in parts.InnerParams (inner_list l) = is_none (split_last l.items)
 lacks_item_in p m = false
 
--- a parameter is entered into the last item, if there is one
+-- the items with this parameter inserted into the last one, if there is one
 abbrev pub enters_last : Option (List RawItem × RawItem) → List ℕ → BareValue → List RawItem
 enters_last None key value = []
 enters_last (Some (is, i)) key value = is ++ enters i key value ∷ []
@@ -22,15 +25,15 @@ enters_last (Some (is, i)) key value = is ++ enters i key value ∷ []
 abbrev pub EntersLast : List RawItem → List ℕ → BareValue → List RawItem → Type 0
 EntersLast is key value js = js ≡ enters_last (split_last is) key value
 
--- after whatever members: from the one place in the last member to the other
+-- after any members: from this state in the last member to the other
 abbrev pub LeadsIn : (ListPlace → ListPlace) → Option MemberPlace → RawMember → Option MemberPlace → RawMember → Type 0
 LeadsIn f p m q n = (ms : List RawMember) → with_last ms n q ≡ f (with_last ms m p)
 
--- a parameter is entered in the last member
+-- a parameter is inserted in the last member
 abbrev pub Enters : (RawMember → Option MemberPlace) → RawMember → List ℕ → BareValue → RawMember → Type 0
 Enters place m key value n = LeadsIn (λ p. list_step p (parameter key value)) (place m) m (place n) n
 
--- the place of an item of an inner list after its bare item: it was put, or its bare item is held
+-- the state of an inner list after an item's bare item: the item was appended, or its bare item is held
 abbrev pub put_place : Bool → Option BareValue → RawMember → Option MemberPlace
 put_place true held m = place_in parts.InnerParams m
 put_place false held m = held_place held m
@@ -39,15 +42,19 @@ abbrev pub PutsItem : RawMember → BareValue → Bool → Option BareValue → 
 PutsItem m value is_put held n =
     LeadsIn (λ p. list_step p (bare_item value)) (place_in parts.InnerHead m) m (put_place is_put held n) n
 
--- an item of an inner list is put whose bare item was held
+-- what is under a seed stays under it
+abbrev pub KeepsSeed : ListEntry → ListEntry → Type 0
+KeepsSeed m n = (seed : HashSeed) → MemberHasSeed seed m → MemberHasSeed seed n
+
+-- the item of the held bare item is appended to an inner list
 abbrev pub PlacesItem : BareValue → RawMember → RawMember → Type 0
 PlacesItem value m n = LeadsIn (λ p. p) (held_place (Some value) m) m (place_in parts.InnerParams n) n
 
--- after whatever members: the event takes memory
+-- after any members, the event allocates
 abbrev pub TakesMemoryIn : Option MemberPlace → RawMember → TreeEvent → Type 0
 TakesMemoryIn p m e = (ms : List RawMember) → IsTrue (list_takes_memory (with_last ms m p) e)
 
--- a parameter takes memory, and so does the end of parameters
+-- the end of parameters allocates, and so does every parameter
 abbrev pub EndTakesMemory : ListPlace → Type 0
 EndTakesMemory p = IsTrue (list_takes_memory p parameters_end)
     × ((key : List ℕ) (value : BareValue) → IsTrue (list_takes_memory p (parameter key value)))
@@ -61,7 +68,7 @@ is_held stages.Held = true
 is_held stages.InnerHeld = true
 is_held s = false
 
--- the last member is being read
+-- the last member is incomplete
 abbrev pub is_open_at : (RawMember → Option MemberPlace) → Option (List RawMember × RawMember) → Bool
 is_open_at place None = false
 is_open_at place (Some (ms, m)) = is_some (place m)
@@ -79,19 +86,19 @@ abbrev pub lacks_item : Stage → List RawMember → Bool
 lacks_item (stages.Within p) ms = lacks_item_at p (split_last ms)
 lacks_item s ms = false
 
--- a member is being read
+-- the state is inside a member
 abbrev pub is_reading : ListPlace → Bool
 is_reading (between ms) = false
 is_reading (within ms (ended m)) = false
 is_reading (within ms p) = true
 
--- the end of parameters ends the last member
+-- the end of parameters ends the last member of the list
 abbrev pub ends_last : Stage → Bool
 ends_last (stages.Within parts.Params) = true
 ends_last (stages.Within parts.ListParams) = true
 ends_last s = false
 
--- the end of parameters ends a member
+-- the end of parameters ends a member, which may be a held bare item
 abbrev pub ends_member : Stage → Bool
 ends_member stages.Held = true
 ends_member s = ends_last s

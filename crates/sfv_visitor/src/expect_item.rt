@@ -1,4 +1,4 @@
-//! A visitor that keeps a bare item of one type.
+//! A visitor that returns a bare item of one type.
 
 ghost use Rattle.std.specs.Prelude.{◌≡◌, ⊤, Some, None, IfOk, IfErr, IsTrue};
 ghost use Rattle.sfv_spec.specs.Values as values;
@@ -23,25 +23,25 @@ use sfv_base::integer::Integer;
 use sfv_text::token_ref::TokenRef;
 use std::alloc::Global;
 
-/// A type that holds a bare item, of one kind or of every kind.
+/// A type of bare items, of one kind or of every kind.
 pub trait ExpectedItem<'de>: Drop {
-    /// The bare value that it holds.
+    /// `holds value`: the bare value of `value`.
     ghost holds: { Self → BareValue };
 
-    /// It may fail at a bare item of this value, with this fault.
+    /// `fails value fault`: the conversion of `value` may fail with `fault`.
     ghost fails: { BareValue → ItemFault → Type 0 };
 
-    /// It is what is made of this bare item, of which a text may be borrowed or owned.
+    /// `is_of value item`: `value` is the conversion of `item`, including whether its text is borrowed.
     ghost is_of: { Self → ReadBareItem → Type 0 };
 
-    /// It may fail at this bare item, with this fault. It says no more than `fails`, where nothing else is said.
+    /// As `fails`, for a bare item with borrowed or owned text. Default: no further constraint.
     ghost fails_read: { ReadBareItem → ItemFault → Type 0 } = { λ _ _. ⊤ };
 
-    /// Returns the type's value that holds the bare item. What is copied of it takes memory from `alloc`.
+    /// Converts `item` to this type. Copies are allocated from `alloc`.
     ///
     /// # Errors
     ///
-    /// `ItemFault::WrongType` if the type is for another kind, and `ItemFault::OutOfMemory` when out of memory.
+    /// Returns `ItemFault::WrongType` if the item has another kind, and `ItemFault::OutOfMemory` if memory runs out.
     fn from_bare_item(item: BareItemFromInput<'de>, alloc: Global) -> Result<Self, ItemFault>
         ensures held { IfOk result (λ kept. holds kept ≡ input_value item.entry) }
         ensures same { IfOk result (λ kept. is_of kept item.entry) }
@@ -49,7 +49,6 @@ pub trait ExpectedItem<'de>: Drop {
         ensures failed_read { IfErr result (λ fault. fails_read item.entry fault) };
 }
 
-// Returns the kind of the bare item.
 fn type_of(item: &BareItemFromInput<'_>) -> BareItemType
     ensures { result ≡ kind_of_value (input_value item.now) }
 {
@@ -65,7 +64,7 @@ fn type_of(item: &BareItemFromInput<'_>) -> BareItemType
     }
 }
 
-// Returns the fault of a bare item that is of another kind.
+// Returns the error for a bare item of another kind.
 fn wrong_type(expected: BareItemType, item: &BareItemFromInput<'_>) -> ItemFault
     ensures { result ≡ faults.WrongType expected (kind_of_value (input_value item.now)) }
 {
@@ -218,13 +217,13 @@ impl<'de> ExpectedItem<'de> for BareItem {
     }
 }
 
-/// Keeps the first bare item, and answers it.
+/// A visitor that returns the first bare item, if it has the type `T`.
 ///
-/// It fails at the first bare item with `ItemFault::WrongType` if that is of another kind than `T`'s, and with
-/// `ItemFault::OutOfMemory` where a `BareItem` copies a text that is borrowed and is out of memory. It fails at the end
-/// with `ItemFault::NoItem` if no bare item came. Every other event changes nothing.
+/// Fails at the first bare item with `ItemFault::WrongType` if it has another kind, and with `ItemFault::OutOfMemory`
+/// if a `BareItem` copies borrowed text and memory runs out. Fails at the end with `ItemFault::NoItem` if there was
+/// no bare item. Ignores every other event.
 ///
-/// It is for one item: of a list or a dictionary it keeps the first bare item of all.
+/// Use it for items. In a list or a dictionary it keeps the first bare item of the whole field.
 #[derive(Drop)]
 pub struct ExpectItem<T> {
     alloc: Global,
@@ -232,7 +231,7 @@ pub struct ExpectItem<T> {
 }
 
 impl<T> ExpectItem<T> {
-    /// Returns the visitor before any event. What it copies takes memory from `alloc`.
+    /// Creates the visitor. Copies are allocated from `alloc`.
     pub fn new(alloc: Global) -> ExpectItem<T>
         ensures { item_kept result ≡ None }
     {

@@ -1,11 +1,11 @@
-//! The visitor of what is not needed.
+//! A visitor that ignores every event.
 
 ghost use Rattle.std.specs.Prelude.{⊤};
 
 use crate::visitor::{Event, Visitor};
 use std::convert::Infallible;
 
-/// Takes every event, those of a repeated key too, and answers nothing. It never fails.
+/// A visitor that ignores every event, repeated keys included, and returns `()`. Never fails.
 #[derive(Clone, Copy, Debug, Default, Drop)]
 pub struct Ignored;
 

@@ -8,13 +8,13 @@ use crate::visitor::{Event, Visitor};
 use sfv_bare::bare::BareItemFromInput;
 use std::marker::PhantomData;
 
-/// Says which errors of a function mean that it was out of memory.
+/// A classification of a function's errors: which of them mean out of memory.
 pub trait MemoryErrors<E>: Drop {
-    /// The error says that the function was out of memory.
+    /// `is_memory error`: `error` means that the function ran out of memory.
     ghost is_memory: { E → Type 0 };
 }
 
-/// No error means that a function was out of memory.
+/// The classification in which no error means out of memory.
 #[derive(Drop)]
 pub struct NoMemoryError;
 
@@ -22,12 +22,13 @@ impl<E> MemoryErrors<E> for NoMemoryError {
     ghost is_memory = { λ _. ⊥ };
 }
 
-/// Calls a function once, on the first bare item, and answers what it gave, or `None` if no bare item came.
+/// A visitor that calls a function once, on the first bare item. Returns `Some` of the function's result, or `None`
+/// if there was no bare item.
 ///
-/// It fails where the function does, at that event. Every other event changes nothing. `M` says which errors of the
-/// function mean that it was out of memory.
+/// Fails if the function fails, at that event. Ignores every other event. `M` says which errors of the function mean
+/// out of memory.
 ///
-/// It is for one item: of a list or a dictionary it calls the function on the first bare item of all.
+/// Use it for items. In a list or a dictionary it calls the function on the first bare item of the whole field.
 #[derive(Drop)]
 pub struct ItemVisitorWith<F, T, M = NoMemoryError> {
     // The function, until it is called.
@@ -36,7 +37,7 @@ pub struct ItemVisitorWith<F, T, M = NoMemoryError> {
     memory: PhantomData<M>,
 }
 
-/// Returns the visitor that calls `f` on the first bare item. `f` may be called on every bare item.
+/// Creates a visitor that calls `f` on the first bare item. `f` must accept every bare item.
 pub fn item_visitor_with<'de, T, E, F: FnOnce(BareItemFromInput<'de>) -> Result<T, E>>(
     f: F,
 ) -> ItemVisitorWith<F, T>
@@ -52,7 +53,7 @@ pub fn item_visitor_with<'de, T, E, F: FnOnce(BareItemFromInput<'de>) -> Result<
 }
 
 impl<F, T, M> ItemVisitorWith<F, T, M> {
-    /// Returns the same visitor, with another word `N` on which errors of the function mean that it was out of memory.
+    /// Sets the type `N` that says which of the function's errors mean out of memory.
     pub fn with_memory_errors<N>(self) -> ItemVisitorWith<F, T, N>
         ensures waiting { function_waiting result ≡ function_waiting self }
         ensures kept { answer_kept result ≡ answer_kept self }

@@ -1,5 +1,5 @@
-//! Visitors of structured fields (RFC 9651): the events of a field, the trait of what visits them, the builders of trees,
-//! and visitors for what is not needed, for one bare item, and for functions.
+//! Visitors of structured fields (RFC 9651): events, the trait `Visitor`, and the builders of trees. Other visitors
+//! ignore events, return one bare item, or call a function.
 #![tactic(auto)]
 
 pub mod expect_item;

@@ -1,9 +1,10 @@
-//! The visitor of a type: what reads a field into a value of that type.
+//! Types that name the visitor that builds them.
 
 ghost use Rattle.std.specs.Prelude.{◌≡◌, [], None};
 ghost use Rattle.sfv_tree.specs.declared.hash_seed.HashSeed.{HashSeed};
 ghost use Rattle.sfv_visitor.specs.Builders.{item_place, item_seed, at_head, list_place, list_seed, between};
 ghost use Rattle.sfv_visitor.specs.Builders.{dictionary_place, dictionary_seed, between_pairs};
+ghost use Rattle.sfv_visitor.specs.Builders.{IsItemSeeded, IsListSeeded, IsDictionarySeeded};
 ghost use Rattle.sfv_visitor.specs.Given.{item_kept};
 
 use crate::expect_item::{ExpectItem, ExpectedItem};
@@ -12,43 +13,43 @@ use sfv_tree::hash_seed::HashSeed;
 use sfv_tree::parsed::{Dictionary, Item, List};
 use std::alloc::Global;
 
-/// A type with a visitor that reads an item into it.
+/// A type that an item can be parsed to, with its visitor.
 pub trait MakeItemVisitor<'de>: Drop {
-    /// The visitor.
+    /// The visitor that returns a value of this type.
     type Visitor: Visitor<'de, Out = Self>;
 
-    /// The visitor is as it is made under this seed, before any event.
+    /// `is_made seed visitor`: `visitor` is as the type creates it under `seed`, before any event.
     ghost is_made: { HashSeed → Self.Visitor → Type 0 };
 
-    /// Returns the visitor before any event, which takes memory from `alloc`, and builds maps under `seed`.
+    /// Creates the visitor. It allocates from `alloc`, and builds maps under `seed`.
     fn make_item_visitor(alloc: Global, seed: HashSeed) -> Self::Visitor
         ensures made { is_made seed result }
         ensures ready { Self.Visitor.is_ready result };
 }
 
-/// A type with a visitor that reads a list into it.
+/// A type that a list can be parsed to, with its visitor.
 pub trait MakeListVisitor<'de>: Drop {
-    /// The visitor.
+    /// The visitor that returns a value of this type.
     type Visitor: Visitor<'de, Out = Self>;
 
-    /// The visitor is as it is made under this seed, before any event.
+    /// `is_made seed visitor`: `visitor` is as the type creates it under `seed`, before any event.
     ghost is_made: { HashSeed → Self.Visitor → Type 0 };
 
-    /// Returns the visitor before any event, which takes memory from `alloc`, and builds maps under `seed`.
+    /// Creates the visitor. It allocates from `alloc`, and builds maps under `seed`.
     fn make_list_visitor(alloc: Global, seed: HashSeed) -> Self::Visitor
         ensures made { is_made seed result }
         ensures ready { Self.Visitor.is_ready result };
 }
 
-/// A type with a visitor that reads a dictionary into it.
+/// A type that a dictionary can be parsed to, with its visitor.
 pub trait MakeDictionaryVisitor<'de>: Drop {
-    /// The visitor.
+    /// The visitor that returns a value of this type.
     type Visitor: Visitor<'de, Out = Self>;
 
-    /// The visitor is as it is made under this seed, before any event.
+    /// `is_made seed visitor`: `visitor` is as the type creates it under `seed`, before any event.
     ghost is_made: { HashSeed → Self.Visitor → Type 0 };
 
-    /// Returns the visitor before any event, which takes memory from `alloc`, and builds maps under `seed`.
+    /// Creates the visitor. It allocates from `alloc`, and builds maps under `seed`.
     fn make_dictionary_visitor(alloc: Global, seed: HashSeed) -> Self::Visitor
         ensures made { is_made seed result }
         ensures ready { Self.Visitor.is_ready result };
@@ -57,7 +58,8 @@ pub trait MakeDictionaryVisitor<'de>: Drop {
 impl<'de> MakeItemVisitor<'de> for Item {
     type Visitor = ItemBuilder;
 
-    ghost is_made = { λ seed visitor. (item_place visitor ≡ at_head) × (item_seed visitor ≡ seed) };
+    ghost is_made = { λ seed visitor.
+        (item_place visitor ≡ at_head) × (item_seed visitor ≡ seed) × IsItemSeeded visitor };
 
     fn make_item_visitor(alloc: Global, seed: HashSeed) -> ItemBuilder {
         ItemBuilder::new(alloc, seed)
@@ -77,7 +79,8 @@ impl<'de, T: ExpectedItem<'de>> MakeItemVisitor<'de> for T {
 impl<'de> MakeListVisitor<'de> for List {
     type Visitor = ListBuilder;
 
-    ghost is_made = { λ seed visitor. (list_place visitor ≡ between []) × (list_seed visitor ≡ seed) };
+    ghost is_made = { λ seed visitor.
+        (list_place visitor ≡ between []) × (list_seed visitor ≡ seed) × IsListSeeded visitor };
 
     fn make_list_visitor(alloc: Global, seed: HashSeed) -> ListBuilder {
         ListBuilder::new(List::new(alloc), seed)
@@ -88,7 +91,7 @@ impl<'de> MakeDictionaryVisitor<'de> for Dictionary {
     type Visitor = DictionaryBuilder;
 
     ghost is_made = { λ seed visitor.
-        (dictionary_place visitor ≡ between_pairs []) × (dictionary_seed visitor ≡ seed) };
+        (dictionary_place visitor ≡ between_pairs []) × (dictionary_seed visitor ≡ seed) × IsDictionarySeeded visitor };
 
     fn make_dictionary_visitor(alloc: Global, seed: HashSeed) -> DictionaryBuilder {
         DictionaryBuilder::new(Dictionary::with_hasher(alloc, seed))

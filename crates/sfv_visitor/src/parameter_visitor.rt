@@ -1,4 +1,4 @@
-//! A visitor whose answer goes through a function.
+//! A visitor that passes the result of another visitor to a function.
 
 ghost use Rattle.std.specs.Prelude.{◌≡◌, ◌⊎◌, Ok, Err};
 ghost use Rattle.sfv_visitor.specs.Given.{visitor_within, function_after, ForwardTakes, ForwardTakesRead};
@@ -7,19 +7,19 @@ ghost use Rattle.sfv_visitor.specs.Given.{GivesAfter};
 use crate::visitor::{Event, Visitor};
 use std::marker::PhantomData;
 
-/// Visits as another visitor does, and answers what a function makes of that visitor's answer.
+/// A visitor that passes every event to another visitor, and that visitor's result to a function.
 ///
-/// The function is called once, after the visitor's `finish`.
+/// The function is called once, after `finish` of the other visitor. This visitor returns the function's result.
 #[derive(Drop)]
 pub struct ParameterVisitorWith<V, F, A> {
     visitor: V,
     f: F,
-    // What the function is called on.
+    // The type of the function's argument.
     answer: PhantomData<A>,
 }
 
-/// Returns the visitor that visits as `visitor` does, and whose answer is `f` of that visitor's answer. It fails where
-/// that visitor does or `f` does. `f` may be called on every answer.
+/// Creates a visitor that returns `f` of the result of `visitor`. It fails if `visitor` or `f` fails. `f` must accept
+/// every result of `visitor`.
 pub fn parameter_visitor_with<
     'de,
     A,

@@ -1,4 +1,4 @@
-//! Visitors of fields, which visit each part of a field while it is read, and those that build trees.
+//! The trait `Visitor`, its events, and the visitors that build trees.
 
 ghost use Rattle.std.specs.Prelude.{◌≡◌, ⊤, Some, OnOk, IfOk, IfErr};
 ghost use Rattle.sfv_spec.specs.Events.{TreeEvent};
@@ -21,83 +21,81 @@ pub use sfv_bare::bare::BareItemType;
 use sfv_text::key_ref::KeyRef;
 use std::fmt;
 
-/// A part of a field, as it is read from left to right.
+/// A part of a field. The parser emits events from left to right.
 ///
-/// A list member is led by `Entry` and a dictionary member by `KeyedEntry`. An item is then `Item`, `BareItem`, a
-/// `Parameter` for each of its parameters, repeated keys too, and `ParametersEnd`; an inner list is `InnerList`, its
-/// items, `InnerListEnd`, a `Parameter` for each of its parameters, and `ParametersEnd`. An item that is the whole
-/// field begins with `BareItem`.
+/// A list member begins with `Entry`, and a dictionary member with `KeyedEntry`. An item is `Item`, `BareItem`, a
+/// `Parameter` for each parameter, repeated keys included, and `ParametersEnd`. An inner list is `InnerList`, its
+/// items, `InnerListEnd`, a `Parameter` for each parameter, and `ParametersEnd`. An item that is the whole field
+/// begins with `BareItem`.
 #[derive(Drop)]
 pub enum Event<'de> {
-    /// A member of a list is wanted, and a byte stands there.
+    /// The start of a list member. It is emitted before the member is parsed.
     Entry,
-    /// A member of a dictionary has this key.
+    /// The start of a dictionary member with this key.
     KeyedEntry(KeyRef<'de>),
-    /// An item begins.
+    /// The start of an item.
     Item,
-    /// An inner list begins.
+    /// The start of an inner list.
     InnerList,
-    /// The bare item of an item. A member of a dictionary without `=` has the bare item true.
+    /// The bare item of an item. A dictionary member without `=` has the bare item true.
     BareItem(BareItemFromInput<'de>),
-    /// A parameter with its value, which is true where none is written.
+    /// A parameter with its value, which is true if the text has none.
     Parameter(KeyRef<'de>, BareItemFromInput<'de>),
-    /// The parameters of an item or an inner list end.
+    /// The end of the parameters of an item or an inner list.
     ParametersEnd,
-    /// The items of an inner list end.
+    /// The end of the items of an inner list.
     InnerListEnd,
 }
 
-/// Visits each part of a field while it is read, and answers at its end.
+/// A receiver of the events of a field during parsing, with a result at the end.
 ///
-/// A visitor may fail at a part or at its answer, and that ends the reading: it isn't called again.
+/// If `event` or `finish` returns an error, parsing ends and the visitor is not called again.
 ///
-/// Of a key that is repeated, in a dictionary or among parameters, only the last value counts (RFC 9651, sections 3.1.2
-/// and 3.2), and a visitor visits each. So it mustn't fail for what stands under a key before it knows that the key
-/// doesn't come again: keep the value, let a later one take its place, and judge it in `finish`.
+/// Only the last value of a repeated key counts (RFC 9651, sections 3.1.2 and 3.2), but a visitor receives every
+/// value. Do not fail at the value of a key while the key may come again: keep the value, replace it by a later one,
+/// and check it in `finish`.
 ///
-/// A contract gives a visitor by what it may do in each state. `takes` and `fails` see an event as its value, whether a
-/// text in it is borrowed or owned; `takes_read` and `fails_read` say what depends on that.
+/// The ghost members describe the visitor's steps in each state. `takes` and `fails` do not distinguish borrowed and
+/// owned text; `takes_read` and `fails_read` do.
 ///
-/// `Some` of a visitor visits as that one does and answers `Some` of its answer; `None` takes every event and answers
+/// `Some` of a visitor passes every event on and returns `Some` of its result. `None` ignores every event and returns
 /// `None`.
 pub trait Visitor<'de>: Drop {
-    /// The answer.
+    /// The result of the visitor.
     type Out: Drop;
 
-    /// The visitor's error.
+    /// The error of the visitor.
     type Error: Drop;
 
-    /// It may visit events: what it calls may be called.
+    /// `is_ready s`: the closures that the visitor holds may be called. A precondition of both methods.
     ghost is_ready: { Self → Type 0 } = { λ _. ⊤ };
 
-    /// In this state it may take the event, and is in that state after it.
+    /// `takes s e t`: in state `s` the visitor may accept `e`, and then is in state `t`.
     ghost takes: { Self → TreeEvent → Self → Type 0 };
 
-    /// In this state it may fail at the event, with this error.
+    /// `fails s e error`: in state `s` the visitor may fail at `e` with `error`.
     ghost fails: { Self → TreeEvent → Self.Error → Type 0 };
 
-    /// In this state it may take the event as it was read, a text in it borrowed or owned, and is in that state after
-    /// it. It says no more than `takes`, where nothing else is said.
+    /// As `takes`, for an event with borrowed or owned text. Default: no further constraint.
     ghost takes_read: { Self → Event → Self → Type 0 } = { λ _ _ _. ⊤ };
 
-    /// In this state it may fail at the event as it was read, with this error. It says no more than `fails`, where
-    /// nothing else is said.
+    /// As `fails`, for an event with borrowed or owned text. Default: no further constraint.
     ghost fails_read: { Self → Event → Self.Error → Type 0 } = { λ _ _ _. ⊤ };
 
-    /// In this state it may give this answer.
+    /// `finishes s out`: in state `s` the visitor may return `out`.
     ghost finishes: { Self → Self.Out → Type 0 };
 
-    /// In this state it may fail to answer, with this error.
+    /// `finish_fails s error`: in state `s` the visitor may fail to finish, with `error`.
     ghost finish_fails: { Self → Self.Error → Type 0 };
 
-    /// The error says that it is out of memory. None does, where nothing else is said.
+    /// `is_memory error`: `error` means out of memory. Default: no error does.
     ghost is_memory: { Self.Error → Type 0 } = { λ _. ⊥ };
 
-    /// Visits an event.
+    /// Receives an event.
     ///
     /// # Errors
     ///
-    /// The visitor's error, which ends the reading.
+    /// Returns the visitor's error, which ends parsing.
     fn event(&mut self, event: Event<'de>) -> Result<(), Self::Error>
         requires { is_ready self.old }
         ensures ready { OnOk result (is_ready self.new) }
@@ -106,30 +104,30 @@ pub trait Visitor<'de>: Drop {
         ensures failed { IfErr result (λ error. fails self.old (event_of event.entry) error) }
         ensures failed_read { IfErr result (λ error. fails_read self.old event.entry error) };
 
-    /// Answers after the last event.
+    /// Returns the result after the last event.
     ///
     /// # Errors
     ///
-    /// The visitor's error.
+    /// Returns the visitor's error.
     fn finish(self) -> Result<Self::Out, Self::Error>
         requires { is_ready self }
         ensures answered { IfOk result (λ out. finishes self out) }
         ensures failed { IfErr result (λ error. finish_fails self error) };
 }
 
-/// Why a visitor of an item fails.
+/// The error of a visitor that expects an item of one kind.
 #[derive(Clone, Copy, Debug, PartialEq, Eq)]
 pub enum ItemFault {
-    /// The item is of another kind than the one that is wanted.
+    /// The item has another kind than the expected one.
     WrongType {
-        /// The kind that is wanted.
+        /// The expected kind.
         expected: BareItemType,
-        /// The kind that stands there.
+        /// The kind of the item.
         got: BareItemType,
     },
     /// There is no item.
     NoItem,
-    /// Out of memory.
+    /// Memory ran out.
     OutOfMemory,
 }
 

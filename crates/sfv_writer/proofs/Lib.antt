@@ -1,3 +1,5 @@
+pub mod Room
+pub mod Lacks
 pub mod Appended
 pub mod Parameters
 pub mod Encoded

@@ -165,7 +165,7 @@ memory_among steps edition values all same s t u xs x r exit ran step fit last =
     )
 
 -- a list at one of its places
-split_at : {A : Type 0} (xs : List A) (n : ℕ) (x : A) → n < length xs → x ≡ get_or xs n x
+pub split_at : {A : Type 0} (xs : List A) (n : ℕ) (x : A) → n < length xs → x ≡ get_or xs n x
     → (rest : List A) × (xs ≡ take n xs ++ x ∷ rest)
 split_at [] n x lt is = absurd (omega (arith, lt))
 split_at (y ∷ ys) zero x lt is = (ys, ap (λ z. z ∷ ys) (sym is))

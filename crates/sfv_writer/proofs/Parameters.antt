@@ -30,7 +30,7 @@ valid_push [] p h key value = ((key, value), tt)
 valid_push (q ∷ ps) p h key value = (h.0, valid_push ps p h.1 key value)
 
 module _ (k : Bor (List ℕ)) (v : Bor OwnedBareItem) where
-  lent_push : (ps : List (Bor (List ℕ) × Bor OwnedBareItem))
+  pub lent_push : (ps : List (Bor (List ℕ) × Bor OwnedBareItem))
       → lent_pairs (ps ++ (k, v) ∷ []) ≡ lent_pairs ps ++ (k.now, bare_value v.now) ∷ []
   lent_push [] = refl
   lent_push (p ∷ ps) = ap (λ (rest : RawParameters). (p.0.now, bare_value p.1.now) ∷ rest) (lent_push ps)

@@ -145,7 +145,7 @@ still_first-false [] = refl
 still_first-false (y ∷ ys) = refl
 
 -- one more text, after the separator unless it is the first
-in_a_row_push : {A : Type 0} (text_of : A → List ℕ) (s : List ℕ) (b : Bool) (xs : List A) (x : A)
+pub in_a_row_push : {A : Type 0} (text_of : A → List ℕ) (s : List ℕ) (b : Bool) (xs : List A) (x : A)
     → in_a_row b s (map text_of (xs ++ x ∷ []))
     ≡ (in_a_row b s (map text_of xs) ++ lead (still_first b xs) s) ++ text_of x
 in_a_row_push text_of s b [] x = append-nil (lead b s ++ text_of x)

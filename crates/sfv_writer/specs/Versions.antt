@@ -1,7 +1,8 @@
--- Writing that is bound to a version: which values are looked at, and what an error says of them.
-use Rattle.std.specs.Prelude.{◌≡◌, ◌<◌, ◌⊎◌, ◌++◌, ◌∷◌, ℕ, List, length, map, flat_map, codes, Option, Result, MatchResult}
+-- Writing for a version: the values that it checks, and the errors for them.
+use Rattle.std.specs.Prelude.{⊤, ◌≡◌, ◌<◌, ◌⊎◌, ◌++◌, ◌∷◌, ℕ, List, length, map, flat_map, codes, Option, Result, MatchResult}
 use Rattle.std.specs.Iterator.{Yields}
 use Rattle.std.specs.Borrow.{Bor}
+use Rattle.std.specs.declared.string.String.{String}
 use Rattle.sfv_spec.specs.Values.{Edition, BareValue, RawParameters, RawItem, RawMember, item, inner_list}
 use Rattle.sfv_spec.specs.Calls.{AllFit, IsFirstUnfit}
 use Rattle.sfv_bare.specs.BareItems.{bare_value}
@@ -9,48 +10,59 @@ use Rattle.sfv_bare.specs.Kinds.{kind_text, kind_of_value}
 use Rattle.sfv_tree.specs.Trees.{OwnedBareItem}
 use Rattle.sfv_tree.specs.declared.parsed.Item.{Item}
 use Rattle.sfv_tree.specs.declared.parsed.ListEntry.{ListEntry}
-use Rattle.sfv_writer.specs.Written.{lent_item, lent_entry, lent_member}
+use Rattle.sfv_writer.specs.Written.{LacksRoom, lent_item, lent_entry, lent_member}
 use Rattle.sfv_writer.specs.declared.serialize_error.SerializeError.{SerializeError}
 use Rattle.sfv_writer.specs.declared.serialize_error.SerializeError.TheVariants as errors
 
--- what an error prints
+-- the printed text of an error
 abbrev pub serialize_error_text : SerializeError → List ℕ
 serialize_error_text (errors.Unsupported kind) = codes "RFC 8941 does not support " ++ kind_text kind ++ codes "s"
 serialize_error_text errors.OutOfMemory = codes "out of memory"
 
--- the error names the first of the values that doesn't fit, by its kind
+-- the error has the kind of the first value that the edition lacks
 abbrev pub NamesFirst : Edition → List BareValue → SerializeError → Type 0
 NamesFirst edition values error =
     (b : BareValue) × IsFirstUnfit edition values b × (error ≡ errors.Unsupported (kind_of_value b))
 
--- all values fit, or else the error names the first that doesn't
+-- the edition has all values, or the error has the kind of the first that it lacks
 abbrev pub LooksAt : {T : Type 0} → Edition → List BareValue → Result T SerializeError → Type 0
 LooksAt edition values result = MatchResult result (λ _. AllFit edition values) (NamesFirst edition values)
 
--- the error of a call that looks at these values before it asks for memory
+-- the error of a call that checks these values before it allocates
 abbrev pub IsSerializeError : Edition → List BareValue → SerializeError → Type 0
 IsSerializeError edition values error =
     ((error ≡ errors.OutOfMemory) × AllFit edition values) ⊎ NamesFirst edition values error
 
--- the values are looked at before memory is asked for: the call fails for them exactly if one doesn't fit
+-- The call checks the values before it allocates: it fails with `Unsupported` if and only if the edition lacks one.
 abbrev pub LooksFirst : {T : Type 0} → Edition → List BareValue → Result T SerializeError → Type 0
 LooksFirst edition values result = MatchResult result (λ _. AllFit edition values) (IsSerializeError edition values)
 
--- the error of a call that looks at what an iterator gives in turn, at each before it asks for memory: the iterator gave
--- something, and the error is that of its values so far, after which it isn't asked again
+-- An out-of-memory error comes only where the buffer's capacity doesn't hold the added text.
+abbrev pub LacksWhereRefused : {Z T : Type 0} → String Z → List ℕ → Result T SerializeError → Type 0
+LacksWhereRefused old text result = MatchResult result (λ _. ⊤) (λ e. e ≡ errors.OutOfMemory → LacksRoom old text)
+
+-- The error of a call that checks each element of an iterator before it allocates. The iterator yielded at least one
+-- element, and the error is for the elements so far. The iterator is not called again.
 abbrev pub FailsAmong : {S A : Type 0} → (S → Option A → S → Type 0) → S → (List A → List BareValue) → Edition
     → SerializeError → Type 0
 FailsAmong {S} {A} steps from values edition error =
     (taken : List A) × (rest : S) × Yields steps from taken rest × (0 < length taken)
     × IsSerializeError edition (values taken) error
 
--- the same, where the values begin with others that were given before
+-- The same, where the values begin with earlier ones. The iterator may have yielded nothing.
 abbrev pub FailsFrom : {S A : Type 0} → (S → Option A → S → Type 0) → S → (List A → List BareValue) → Edition
     → SerializeError → Type 0
 FailsFrom {S} {A} steps from values edition error =
     (taken : List A) × (rest : S) × Yields steps from taken rest × IsSerializeError edition (values taken) error
 
--- the values of parameters, of an item and of a member, in the order of a text
+-- if memory runs out, the text has no room for the elements that the iterator gave, and the version has all their values
+abbrev pub LacksAmong : {S A Z : Type 0} → (S → Option A → S → Type 0) → S → (List A → List BareValue) → Edition
+    → String Z → (List A → List ℕ) → SerializeError → Type 0
+LacksAmong {S} {A} steps from values edition old text error = error ≡ errors.OutOfMemory
+    → (taken : List A) × (rest : S) × Yields steps from taken rest × AllFit edition (values taken)
+    × LacksRoom old (text taken)
+
+-- the values of parameters, of an item and of a member, in the order of the text
 abbrev pub values_of_parameters : RawParameters → List BareValue
 values_of_parameters parameters = map (λ p. p.1) parameters
 
@@ -61,7 +73,7 @@ abbrev pub values_of_member : RawMember → List BareValue
 values_of_member (item i) = values_of_item i
 values_of_member (inner_list l) = flat_map values_of_item l.items ++ values_of_parameters l.parameters
 
--- the same of what is lent
+-- the same for borrowed arguments
 abbrev pub values_of_pairs : List (Bor (List ℕ) × Bor OwnedBareItem) → List BareValue
 values_of_pairs pairs = map (λ p. bare_value p.1.now) pairs
 

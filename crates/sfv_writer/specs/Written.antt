@@ -1,6 +1,7 @@
--- What a text holds to which another was added.
+-- The text of a buffer after an append.
 use Rattle.std.specs.Prelude.{◌≡◌, ℕ, Bool, false, if◌then◌else◌, List, [], ◌∷◌, ◌++◌, map, Result, MatchResult}
-use Rattle.std.specs.Prelude.{IsTrue, codes, string_bytes, length, IsUtf8, Option, option_map}
+use Rattle.std.specs.Prelude.{IsTrue, codes, string_bytes, string_len, string_capacity, length, IsUtf8, Option, option_map}
+use Rattle.std.specs.Prelude.{◌≤◌, ◌<◌, ◌+◌, OnErr}
 use Rattle.std.specs.Borrow.{Bor}
 use Rattle.std.specs.List.{AllByRecursion}
 use Rattle.std.specs.declared.alloc.Global.{Global}
@@ -15,59 +16,67 @@ use Rattle.sfv_tree.specs.Trees.{OwnedBareItem, pairs_tree, item_tree, member_tr
 use Rattle.sfv_tree.specs.declared.parsed.Item.{Item}
 use Rattle.sfv_tree.specs.declared.parsed.ListEntry.{ListEntry}
 
--- something may stand after the old text
+-- the old text is a prefix of the new one
 abbrev pub Extends : List ℕ → List ℕ → Type 0
 Extends old new = (more : List ℕ) × (new ≡ old ++ more)
 
--- the text is added, or else the old text is still in front
+-- on success, the text is appended; on failure, the old text is a prefix of the new one
 abbrev pub Appends : {Z T E : Type 0} → String Z → String Z → List ℕ → Result T E → Type 0
 Appends old new text result =
     MatchResult result (λ _. string_bytes new ≡ string_bytes old ++ text)
     (λ _. Extends (string_bytes old) (string_bytes new))
 
--- the text is added, or else the old text stands alone
+-- on success, the text is appended; on failure, the text is unchanged
 abbrev pub AppendsOrKeeps : {Z T E : Type 0} → String Z → String Z → List ℕ → Result T E → Type 0
 AppendsOrKeeps old new text result =
     MatchResult result (λ _. string_bytes new ≡ string_bytes old ++ text) (λ _. string_bytes new ≡ string_bytes old)
 
--- the pairs of parameters that are lent
+-- The buffer's capacity doesn't hold the text and what is added to it.
+abbrev pub LacksRoom : {Z : Type 0} → String Z → List ℕ → Type 0
+LacksRoom old text = string_capacity old < string_len old + length text
+
+-- The capacity doesn't shrink, and an error comes only where the old capacity doesn't hold the added text.
+abbrev pub AsksForRoom : {Z T E : Type 0} → String Z → String Z → List ℕ → Result T E → Type 0
+AsksForRoom old new text result = (string_capacity old ≤ string_capacity new) × OnErr result (LacksRoom old text)
+
+-- the pairs of borrowed parameters
 abbrev pub lent_pairs : List (Bor (List ℕ) × Bor OwnedBareItem) → RawParameters
 lent_pairs pairs = pairs_tree (map (λ p. (p.0.now, p.1.now)) pairs)
 
--- what is written of a key with its value, and of a parameter
+-- the text of a key with its value; the text of a parameter
 abbrev pub keyed_text : List ℕ → BareValue → List ℕ
 keyed_text key value = key ++ value_text value
 
 abbrev pub param_text : List ℕ → BareValue → List ℕ
 param_text key value = codes ";" ++ keyed_text key value
 
--- what a list or a dictionary is written as under RFC 9651: nothing if it has no member
+-- the serialization of a list or a dictionary under RFC 9651: nothing if it has no member
 abbrev pub IsSerialized : (kind : FieldKind) → RawField kind → Option (String Global) → Type 0
 IsSerialized kind value text = IsSerializedAs rfc9651 kind value (option_map string_bytes text)
 
--- the canonical text of this field is read as its ordered value
+-- the canonical text of this field parses to its ordered value
 abbrev pub IsReadBack : Edition → (kind : FieldKind) → RawField kind → Type 0
 IsReadBack edition kind raw = IsParsedAs edition kind (canonical kind raw) (ordered kind raw)
 
--- what stands in front of a part: the separator, unless it is the first
+-- the text before a part: the separator, unless the part is the first
 abbrev pub lead : Bool → List ℕ → List ℕ
 lead is_first separator = if is_first then [] else separator
 
--- a text that began with another of this length is cut back to it
+-- If the old text begins with a UTF-8 text of this length, the new text is that one.
 pub record IsCutBack (len : ℕ) (old new : List ℕ) : Type 0 where
   pub back : (before : List ℕ) → IsUtf8 before → len ≡ length before → Extends before old → new ≡ before
 
--- parts in a row, each after the separator unless it is the first
+-- parts in order, each after the separator unless it is the first
 abbrev pub in_a_row : Bool → List ℕ → List (List ℕ) → List ℕ
 in_a_row is_first separator [] = []
 in_a_row is_first separator (t ∷ ts) = lead is_first separator ++ t ++ in_a_row false separator ts
 
--- whether none stands yet, when these were added
+-- no part is written yet, after these parts
 abbrev pub still_first : {A : Type 0} → Bool → List A → Bool
 still_first is_first [] = is_first
 still_first is_first (x ∷ xs) = false
 
--- what is lent, as a part of a field
+-- a borrowed argument, as a part of a field
 abbrev pub lent_item : Bor Item → RawItem
 lent_item item = item_tree item.now
 
@@ -77,7 +86,7 @@ lent_entry member = member_tree member.now
 abbrev pub lent_member : Bor (List ℕ) × Bor ListEntry → List ℕ × RawMember
 lent_member member = (member.0.now, member_tree member.1.now)
 
--- each part of each of them is in its range or class, and no key stands twice in parameters
+-- Each part is in its range or class, and no key occurs twice in parameters.
 abbrev pub AreItems : List (Bor Item) → Type 0
 AreItems = AllByRecursion (λ i. IsItem (lent_item i) × IsOrderedItem (lent_item i))
 
@@ -88,7 +97,7 @@ abbrev pub AreMembers : List (Bor (List ℕ) × Bor ListEntry) → Type 0
 AreMembers = AllByRecursion (λ m. (IsTrue (is_key m.0.now) × IsMember (member_tree m.1.now))
     × IsOrderedMember (member_tree m.1.now))
 
--- what is written of them
+-- their texts
 abbrev pub items_text : Bool → List (Bor Item) → List ℕ
 items_text is_first items = in_a_row is_first (codes " ") (map (λ i. item_text (lent_item i)) items)
 

@@ -1,11 +1,11 @@
-//! Writing dictionaries (RFC 9651, section 4.1.2).
+//! Serialization of dictionaries (RFC 9651, section 4.1.2).
 
 ghost use Rattle.std.specs.Prelude.{OnOk, IfOk, IfErr};
 ghost use Rattle.sfv_spec.specs.Values.{HasMember, dictionary_field};
 ghost use Rattle.sfv_spec.specs.Canonical.{canonical};
 ghost use Rattle.sfv_spec.specs.Statements.{IsValue};
 ghost use Rattle.sfv_tree.specs.Trees.{dictionary_tree};
-ghost use Rattle.sfv_writer.specs.Written.{Appends, IsSerialized};
+ghost use Rattle.sfv_writer.specs.Written.{AsksForRoom, Appends, IsSerialized};
 
 use crate::element::serialize_each;
 use crate::serialize_error::only_memory;
@@ -15,12 +15,13 @@ use sfv_tree::parsed::Dictionary;
 use std::alloc::{Allocator, Global};
 use std::string::String as StdString;
 
-/// Appends a dictionary.
 pub(crate) fn serialize_dictionary<A: Allocator>(
     dictionary: &Dictionary,
     output: &mut StdString<A>,
 ) -> Result<(), OutOfMemory>
     ensures text { Appends output.old output.new
+        (canonical dictionary_field (dictionary_tree dictionary.now.entries)) result }
+    ensures room { AsksForRoom output.old output.new
         (canonical dictionary_field (dictionary_tree dictionary.now.entries)) result }
     ensures value { OnOk result (IsValue dictionary_field (dictionary_tree dictionary.now.entries)) }
 {
@@ -31,12 +32,12 @@ pub(crate) fn serialize_dictionary<A: Allocator>(
     Ok(())
 }
 
-/// Returns the text of a dictionary, with memory from `alloc`, or `None` for a dictionary without
-/// members, of which nothing is written (RFC 9651, section 4.1).
+/// Returns the text of a dictionary, allocated from `alloc` (RFC 9651, section 4.1). An empty dictionary has no text:
+/// returns `None`, and does not allocate.
 ///
 /// # Errors
 ///
-/// `OutOfMemory` when out of memory.
+/// Returns `OutOfMemory` if memory runs out.
 pub fn dictionary_text(
     dictionary: &Dictionary,
     alloc: Global,

@@ -1,16 +1,16 @@
-//! Writing display strings (RFC 9651, section 4.1.11).
+//! Serialization of display strings (RFC 9651, section 4.1.11).
 
 ghost use Rattle.std.specs.Prelude.{◌≡◌, ◌<◌, true};
 ghost use Rattle.sfv_spec.specs.Values.{display_string};
 ghost use Rattle.sfv_spec.specs.Canonical.{hexadecimal_digit, bare_text};
-ghost use Rattle.sfv_writer.specs.Written.{Appends};
+ghost use Rattle.sfv_writer.specs.Written.{AsksForRoom, Appends};
 
 use crate::quoted::{Escaping, serialize_inside};
 use sfv_base::error::OutOfMemory;
 use sfv_base::runs::{PlainInDisplayString, RunClass, split_run};
 use std::alloc::{AllocError, Allocator};
 
-/// The digit of a number below 16.
+/// Returns the lower-case hexadecimal digit of a number below 16.
 fn digit_of(value: u8) -> char
     requires { value < 16 }
     ensures digit { result ≡ hexadecimal_digit value }
@@ -47,7 +47,6 @@ impl Escaping for DisplayEscaping {
     }
 }
 
-/// Appends a display string.
 #[inline(never)]
 #[tactic(auto, using(sfv_bare::proofs::Bytes::run_of_bytes))]
 pub(crate) fn serialize_display_string<A: Allocator>(
@@ -55,6 +54,7 @@ pub(crate) fn serialize_display_string<A: Allocator>(
     output: &mut String<A>,
 ) -> Result<(), OutOfMemory>
     ensures text { Appends output.old output.new (bare_text (display_string value.now)) result }
+    ensures room { AsksForRoom output.old output.new (bare_text (display_string value.now)) result }
 {
     output.push_str("%\"")?;
     serialize_inside::<DisplayEscaping, A>(value.as_bytes(), output)?;

@@ -1,8 +1,8 @@
-//! Elements that iterators give, and how all are appended, or none.
+//! The elements of lists, dictionaries and inner lists, and functions that append all elements of an iterator or none.
 #![tactic(auto, using(crate::proofs::Written::cut_to))]
 
 ghost use Rattle.std.specs.Prelude.{◌≡◌, ◌++◌, ℕ, List, IfErr, IfOk, OnOk, OnErr, IsTrue, map, flat_map};
-ghost use Rattle.std.specs.Prelude.{string_bytes};
+ghost use Rattle.std.specs.Prelude.{◌≤◌, string_bytes, string_capacity};
 ghost use Rattle.std.specs.List.{AllByRecursion};
 ghost use Rattle.std.specs.Iterator.{IsFinite, Drains};
 ghost use Rattle.sfv_spec.specs.Classes.{is_key};
@@ -12,8 +12,8 @@ ghost use Rattle.sfv_spec.specs.Canonical.{item_text, member_text, dictionary_me
 ghost use Rattle.sfv_spec.specs.Calls.{AllFit};
 ghost use Rattle.sfv_bare.specs.BareItems.{edition_of};
 ghost use Rattle.sfv_tree.specs.Trees.{member_tree};
-ghost use Rattle.sfv_writer.specs.Versions.{LooksAt, FailsAmong, values_of_item, values_of_member};
-ghost use Rattle.sfv_writer.specs.Written.{Appends, Extends, in_a_row, still_first, lent_item, lent_entry, lent_member};
+ghost use Rattle.sfv_writer.specs.Versions.{LooksAt, FailsAmong, LacksAmong, values_of_item, values_of_member};
+ghost use Rattle.sfv_writer.specs.Written.{AsksForRoom, Appends, Extends, in_a_row, still_first, lent_item, lent_entry, lent_member};
 
 use crate::item::serialize_item;
 use crate::look::{look_at_item, look_at_member};
@@ -28,8 +28,8 @@ use std::alloc::Allocator;
 use std::string::String as StdString;
 
 /// An item of an inner list, or a member of a list or a dictionary.
-// What appends an element is inlined into the loop of each caller, but for inner lists: a member that is a token takes
-// 65 instructions in place of 90.
+// The functions that append an element are inlined into the loop of each caller, except for inner lists. A member that
+// is a token then takes 65 instructions instead of 90.
 pub trait Element: Copy {
     ghost text: { Self → List ℕ };
 
@@ -37,21 +37,22 @@ pub trait Element: Copy {
 
     ghost values: { Self → List BareValue };
 
-    /// Looks at its values.
+    /// Checks that `version` has every value of the element.
     ///
     /// # Errors
     ///
-    /// `SerializeError::Unsupported` with the kind of the first value that the version doesn't have.
+    /// Returns `SerializeError::Unsupported` with the kind of the first value that `version` lacks.
     fn look(self, version: Version) -> Result<(), SerializeError>
         ensures { LooksAt (edition_of version) (values self) result };
 
-    /// Appends it.
+    /// Appends the text of the element.
     ///
     /// # Errors
     ///
-    /// `OutOfMemory` when out of memory; the old text still stands in front then.
+    /// Returns `OutOfMemory` if memory runs out. The old text is then still a prefix of `output`.
     fn serialize<A: Allocator>(self, output: &mut StdString<A>) -> Result<(), OutOfMemory>
         ensures text { Appends output.old output.new (text self) result }
+        ensures room { AsksForRoom output.old output.new (text self) result }
         ensures valid { OnOk result (is_valid self) };
 }
 
@@ -107,8 +108,8 @@ impl<'m> Element for (&'m Key, &'m ListEntry) {
     }
 }
 
-/// Appends elements that this version has, each after the separator unless it is the first. Returns whether none stands
-/// then.
+/// Appends each element, after the separator except for the first, and fails at the first that `version` lacks.
+/// Returns `true` if nothing has been written so far.
 pub(crate) fn serialize_each<E: Element, A: Allocator, I: Iterator<Item = E> + Drop>(
     version: Version,
     is_first: bool,
@@ -123,6 +124,9 @@ pub(crate) fn serialize_each<E: Element, A: Allocator, I: Iterator<Item = E> + D
         × (none ≡ still_first is_first taken) × AllByRecursion E.is_valid taken
         × AllFit (edition_of version) (flat_map E.values taken)) }
     ensures failed { IfErr result (FailsAmong I.next_gives elements (flat_map E.values) (edition_of version)) }
+    ensures room { IfErr result (LacksAmong I.next_gives elements (flat_map E.values) (edition_of version) output.old
+        (λ taken. in_a_row is_first separator.now (map E.text taken))) }
+    ensures stays { string_capacity output.old ≤ string_capacity output.new }
     ensures kept { OnErr result (Extends (string_bytes output.old) (string_bytes output.new)) }
 {
     let mut none = is_first;
@@ -135,13 +139,12 @@ pub(crate) fn serialize_each<E: Element, A: Allocator, I: Iterator<Item = E> + D
     Ok(none)
 }
 
-/// Appends elements that this version has, each after the separator unless it is the first. Returns whether none stands
-/// then.
+/// Appends each element, after the separator except for the first. Returns `true` if nothing has been written so far.
 ///
 /// # Errors
 ///
-/// `SerializeError::Unsupported` with the kind of the first value that the version doesn't have, and `OutOfMemory` when
-/// out of memory; the output keeps its text then.
+/// Returns `SerializeError::Unsupported` with the kind of the first value that `version` lacks, or `OutOfMemory` if
+/// memory runs out. After an error, `output` is unchanged.
 pub fn append_each<E: Element, A: Allocator, I: Iterator<Item = E> + Drop>(
     version: Version,
     is_first: bool,
@@ -156,6 +159,9 @@ pub fn append_each<E: Element, A: Allocator, I: Iterator<Item = E> + Drop>(
         × (none ≡ still_first is_first taken) × AllByRecursion E.is_valid taken
         × AllFit (edition_of version) (flat_map E.values taken)) }
     ensures failed { IfErr result (FailsAmong I.next_gives elements (flat_map E.values) (edition_of version)) }
+    ensures room { IfErr result (LacksAmong I.next_gives elements (flat_map E.values) (edition_of version) output.old
+        (λ taken. in_a_row is_first separator.now (map E.text taken))) }
+    ensures stays { string_capacity output.old ≤ string_capacity output.new }
     ensures kept { OnErr result (string_bytes output.new ≡ string_bytes output.old) }
 {
     let len = output.len();

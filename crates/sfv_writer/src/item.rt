@@ -1,6 +1,7 @@
-//! Writing bare items, parameters and items (RFC 9651, sections 4.1.1.2, 4.1.3 and 4.1.3.1).
+//! Serialization of bare items, parameters and items (RFC 9651, sections 4.1.1.2, 4.1.3 and 4.1.3.1).
 
 ghost use Rattle.std.specs.Prelude.{◌≡◌, ◌∷◌, ◌++◌, List, true, IfErr, OnOk, OnErr, MatchBool, IsTrue, codes, string_bytes};
+ghost use Rattle.std.specs.Prelude.{◌≤◌, string_capacity};
 ghost use Rattle.std.specs.Iterator.{IsFinite, Drains};
 ghost use Rattle.sfv_spec.specs.Classes.{is_key, is_token};
 ghost use Rattle.sfv_spec.specs.Values.{IsBareValue, AreParameters, boolean, item_field};
@@ -13,8 +14,8 @@ ghost use Rattle.sfv_bare.specs.BareItems.{ref_value, bare_value, edition_of};
 ghost use Rattle.sfv_text.specs.KeyText.{key_text};
 ghost use Rattle.sfv_text.specs.TokenText.{token_text};
 ghost use Rattle.sfv_tree.specs.Trees.{pairs_tree, item_tree};
-ghost use Rattle.sfv_writer.specs.Written.{Appends, Extends, param_text, lent_pairs};
-ghost use Rattle.sfv_writer.specs.Versions.{FailsAmong, FailsFrom, values_of_pairs};
+ghost use Rattle.sfv_writer.specs.Written.{AsksForRoom, Appends, Extends, param_text, lent_pairs};
+ghost use Rattle.sfv_writer.specs.Versions.{FailsAmong, FailsFrom, LacksAmong, values_of_pairs};
 
 use crate::byte_sequence::serialize_byte_sequence;
 use crate::display_string::serialize_display_string;
@@ -36,12 +37,13 @@ use std::string::String as StdString;
 ///
 /// # Errors
 ///
-/// `OutOfMemory` when out of memory; the old text still stands in front then.
+/// Returns `OutOfMemory` if memory runs out. The old text is then still a prefix of `output`.
 pub fn serialize_key<A: Allocator>(
     key: KeyRef<'_>,
     output: &mut StdString<A>,
 ) -> Result<(), OutOfMemory>
     ensures text { Appends output.old output.new (key_text key.entry) result }
+    ensures room { AsksForRoom output.old output.new (key_text key.entry) result }
     ensures key { IsTrue (is_key (key_text key.entry)) }
 {
     output.push_str(key.as_str())?;
@@ -52,23 +54,24 @@ pub fn serialize_key<A: Allocator>(
 ///
 /// # Errors
 ///
-/// `OutOfMemory` when out of memory; the old text still stands in front then.
+/// Returns `OutOfMemory` if memory runs out. The old text is then still a prefix of `output`.
 #[inline(always)]
 pub fn serialize_token<A: Allocator>(
     value: TokenRef<'_>,
     output: &mut StdString<A>,
 ) -> Result<(), OutOfMemory>
     ensures text { Appends output.old output.new (token_text value.entry) result }
+    ensures room { AsksForRoom output.old output.new (token_text value.entry) result }
     ensures token { IsTrue (is_token (token_text value.entry)) }
 {
     output.push_str(value.as_str())?;
     Ok(())
 }
 
-/// Appends a Boolean.
 #[inline(never)]
 fn serialize_bool<A: Allocator>(value: bool, output: &mut StdString<A>) -> Result<(), OutOfMemory>
     ensures text { Appends output.old output.new (boolean_text value) result }
+    ensures room { AsksForRoom output.old output.new (boolean_text value) result }
 {
     output.push_str(if value { "?1" } else { "?0" })?;
     Ok(())
@@ -78,16 +81,17 @@ fn serialize_bool<A: Allocator>(value: bool, output: &mut StdString<A>) -> Resul
 ///
 /// # Errors
 ///
-/// `OutOfMemory` when out of memory; the old text still stands in front then.
-// Of the kinds, only a token, whose bytes are copied, is written without a call: what the others need in registers and
-// on the stack is then not paid for each item. With that an inner list of 10,000 tokens takes 1.0 times the
-// instructions of the Rust crate, in place of 1.7.
+/// Returns `OutOfMemory` if memory runs out. The old text is then still a prefix of `output`.
+// Only a token is written inline: its bytes are copied. The other kinds are calls, so an item does not pay for
+// registers and stack that only they need. An inner list of 10,000 tokens takes 1.0 times the instructions of the Rust
+// crate, instead of 1.7.
 #[inline(always)]
 pub fn serialize_bare_item<A: Allocator>(
     value: RefBareItem<'_>,
     output: &mut StdString<A>,
 ) -> Result<(), OutOfMemory>
     ensures text { Appends output.old output.new (bare_text (ref_value value.entry)) result }
+    ensures room { AsksForRoom output.old output.new (bare_text (ref_value value.entry)) result }
     ensures value { IsBareValue (ref_value value.entry) }
 {
     match value {
@@ -102,7 +106,7 @@ pub fn serialize_bare_item<A: Allocator>(
     }
 }
 
-/// Whether the value is true, which isn't written after a key.
+/// Returns `true` if the value is true. A true value is not written after a key.
 fn is_true(value: RefBareItem<'_>) -> bool
     ensures { MatchBool result (ref_value value.entry ≡ boolean true)
         (value_text (ref_value value.entry) ≡ codes "=" ++ bare_text (ref_value value.entry)) }
@@ -110,16 +114,17 @@ fn is_true(value: RefBareItem<'_>) -> bool
     matches!(value, GenericBareItem::Boolean(true))
 }
 
-/// Appends what stands after a key: nothing for true, and else an equals sign and the value.
+/// Appends the value of a key: an equals sign and the bare item, or nothing for true.
 ///
 /// # Errors
 ///
-/// `OutOfMemory` when out of memory; the old text still stands in front then.
+/// Returns `OutOfMemory` if memory runs out. The old text is then still a prefix of `output`.
 pub fn serialize_value<A: Allocator>(
     value: RefBareItem<'_>,
     output: &mut StdString<A>,
 ) -> Result<(), OutOfMemory>
     ensures text { Appends output.old output.new (value_text (ref_value value.entry)) result }
+    ensures room { AsksForRoom output.old output.new (value_text (ref_value value.entry)) result }
     ensures value { OnOk result (IsBareValue (ref_value value.entry)) }
 {
     if is_true(value) {
@@ -130,7 +135,7 @@ pub fn serialize_value<A: Allocator>(
 }
 
 /// Appends a parameter.
-// Called, so that the loop over parameters is short enough to be inlined: most items have none.
+// Not inlined, so the loop over parameters is short enough to be inlined: most items have none.
 #[inline(never)]
 fn serialize_parameter<A: Allocator>(
     key: &Key,
@@ -138,6 +143,7 @@ fn serialize_parameter<A: Allocator>(
     output: &mut StdString<A>,
 ) -> Result<(), OutOfMemory>
     ensures text { Appends output.old output.new (param_text key.now (bare_value value.now)) result }
+    ensures room { AsksForRoom output.old output.new (param_text key.now (bare_value value.now)) result }
     ensures key { OnOk result (IsTrue (is_key key.now)) }
     ensures value { OnOk result (IsBareValue (bare_value value.now)) }
 {
@@ -146,7 +152,7 @@ fn serialize_parameter<A: Allocator>(
     serialize_value(value.as_ref_item(), output)
 }
 
-/// Appends the parameters that an iterator gives and this version has.
+/// Appends the parameters of an iterator, and fails at the first that `version` lacks.
 #[inline(always)]
 pub(crate) fn serialize_parameters<
     'k,
@@ -159,6 +165,9 @@ pub(crate) fn serialize_parameters<
         × (string_bytes output.new ≡ string_bytes output.old ++ parameters_text (lent_pairs pairs))
         × AreParameters (lent_pairs pairs) × AllFit (edition_of version) (values_of_pairs pairs)) }
     ensures failed { IfErr result (FailsAmong I.next_gives params values_of_pairs (edition_of version)) }
+    ensures room { IfErr result (LacksAmong I.next_gives params values_of_pairs (edition_of version) output.old
+        (λ taken. parameters_text (lent_pairs taken))) }
+    ensures stays { string_capacity output.old ≤ string_capacity output.new }
     ensures grows { OnErr result (Extends (string_bytes output.old) (string_bytes output.new)) }
 {
     for (key, value) in params {
@@ -168,7 +177,7 @@ pub(crate) fn serialize_parameters<
     Ok(())
 }
 
-/// Appends a parameter, and those that an iterator gives after it, all of which this version has.
+/// Appends a parameter and the rest of an iterator, and fails at the first that `version` lacks.
 #[inline(never)]
 fn serialize_first_and_rest<'k, A: Allocator, I: Iterator<Item = (&'k Key, &'k BareItem)> + Drop>(
     version: Version,
@@ -183,6 +192,9 @@ fn serialize_first_and_rest<'k, A: Allocator, I: Iterator<Item = (&'k Key, &'k B
         × AreParameters (lent_pairs (first.entry ∷ pairs)) × AllFit (edition_of version) (values_of_pairs (first.entry ∷ pairs))) }
     ensures failed { IfErr result
         (FailsFrom I.next_gives rest (λ taken. values_of_pairs (first.entry ∷ taken)) (edition_of version)) }
+    ensures room { IfErr result (LacksAmong I.next_gives rest (λ taken. values_of_pairs (first.entry ∷ taken))
+        (edition_of version) output.old (λ taken. parameters_text (lent_pairs (first.entry ∷ taken)))) }
+    ensures stays { string_capacity output.old ≤ string_capacity output.new }
     ensures grows { OnErr result (Extends (string_bytes output.old) (string_bytes output.new)) }
 {
     let (key, value) = first;
@@ -191,7 +203,7 @@ fn serialize_first_and_rest<'k, A: Allocator, I: Iterator<Item = (&'k Key, &'k B
     serialize_parameters(version, rest, output)
 }
 
-/// Appends them; after an error, the output keeps its text.
+/// Appends a parameter and the rest of an iterator. After an error, `output` is unchanged.
 #[tactic(auto, using(crate::proofs::Written::cut_to))]
 #[inline(always)]
 fn append_first_and_rest<'k, A: Allocator, I: Iterator<Item = (&'k Key, &'k BareItem)> + Drop>(
@@ -207,6 +219,9 @@ fn append_first_and_rest<'k, A: Allocator, I: Iterator<Item = (&'k Key, &'k Bare
         × AreParameters (lent_pairs (first.entry ∷ pairs)) × AllFit (edition_of version) (values_of_pairs (first.entry ∷ pairs))) }
     ensures failed { IfErr result
         (FailsFrom I.next_gives rest (λ taken. values_of_pairs (first.entry ∷ taken)) (edition_of version)) }
+    ensures room { IfErr result (LacksAmong I.next_gives rest (λ taken. values_of_pairs (first.entry ∷ taken))
+        (edition_of version) output.old (λ taken. parameters_text (lent_pairs (first.entry ∷ taken)))) }
+    ensures stays { string_capacity output.old ≤ string_capacity output.new }
     ensures kept { OnErr result (string_bytes output.new ≡ string_bytes output.old) }
 {
     let len = output.len();
@@ -217,13 +232,13 @@ fn append_first_and_rest<'k, A: Allocator, I: Iterator<Item = (&'k Key, &'k Bare
     Ok(())
 }
 
-/// Appends parameters that this version has (RFC 9651, section 4.1.1.2).
+/// Appends the parameters of an iterator (RFC 9651, section 4.1.1.2).
 ///
 /// # Errors
 ///
-/// `SerializeError::Unsupported` with the kind of the first value that the version doesn't have, and `OutOfMemory` when
-/// out of memory; the output keeps its text then.
-// Most items have none, and then don't pay for a call.
+/// Returns `SerializeError::Unsupported` with the kind of the first value that `version` lacks, or `OutOfMemory` if
+/// memory runs out. After an error, `output` is unchanged.
+// Most items have no parameters, and then this takes no call.
 #[inline(always)]
 pub fn append_parameters<'k, A: Allocator, I: Iterator<Item = (&'k Key, &'k BareItem)> + Drop>(
     version: Version,
@@ -236,6 +251,9 @@ pub fn append_parameters<'k, A: Allocator, I: Iterator<Item = (&'k Key, &'k Bare
         × (string_bytes output.new ≡ string_bytes output.old ++ parameters_text (lent_pairs pairs))
         × AreParameters (lent_pairs pairs) × AllFit (edition_of version) (values_of_pairs pairs)) }
     ensures failed { IfErr result (FailsAmong I.next_gives params values_of_pairs (edition_of version)) }
+    ensures room { IfErr result (LacksAmong I.next_gives params values_of_pairs (edition_of version) output.old
+        (λ taken. parameters_text (lent_pairs taken))) }
+    ensures stays { string_capacity output.old ≤ string_capacity output.new }
     ensures kept { OnErr result (string_bytes output.new ≡ string_bytes output.old) }
 {
     let Some(first) = params.next() else {
@@ -251,10 +269,11 @@ pub(crate) fn serialize_all_parameters<A: Allocator>(
     output: &mut StdString<A>,
 ) -> Result<(), OutOfMemory>
     ensures text { Appends output.old output.new (parameters_text (pairs_tree params.now.entries)) result }
+    ensures room { AsksForRoom output.old output.new (parameters_text (pairs_tree params.now.entries)) result }
     ensures value { OnOk result (AreParameters (pairs_tree params.now.entries)) }
     ensures distinct { OnOk result (IsTrue (no_repeats (keys (pairs_tree params.now.entries)))) }
 {
-    // Most items have none, and then aren't to pay for a call.
+    // Most items have no parameters, and then this takes no call.
     if params.is_empty() {
         return Ok(());
     }
@@ -264,17 +283,18 @@ pub(crate) fn serialize_all_parameters<A: Allocator>(
     Ok(())
 }
 
-/// Appends an item.
+/// Appends an item (RFC 9651, section 4.1.3).
 ///
 /// # Errors
 ///
-/// `OutOfMemory` when out of memory; the old text still stands in front then.
+/// Returns `OutOfMemory` if memory runs out. The old text is then still a prefix of `output`.
 #[inline(always)]
 pub fn serialize_item<A: Allocator>(
     item: &Item,
     output: &mut StdString<A>,
 ) -> Result<(), OutOfMemory>
     ensures text { Appends output.old output.new (item_text (item_tree item.now)) result }
+    ensures room { AsksForRoom output.old output.new (item_text (item_tree item.now)) result }
     ensures value { OnOk result (IsValue item_field (item_tree item.now)) }
 {
     serialize_bare_item(item.bare_item.as_ref_item(), output)?;

@@ -1,5 +1,4 @@
-//! What is known of a key or a bare item that is handed over, whether it is written or not. These functions only tell
-//! it to the prover, and compile to nothing.
+//! Type invariants of keys and bare items, for the prover. These functions compile to nothing.
 
 ghost use Rattle.std.specs.Prelude.{IsTrue};
 ghost use Rattle.sfv_spec.specs.Classes.{is_key};
@@ -11,7 +10,7 @@ ghost use Rattle.sfv_text.specs.KeyText.{key_text};
 use sfv_bare::bare::{GenericBareItem, RefBareItem};
 use sfv_text::key_ref::KeyRef;
 
-// The bytes of a slice are bytes. That is known of a slice that is passed, and not of one within a bare item.
+// The prover knows that a slice contains bytes if it is an argument, but not if it is inside a bare item.
 #[inline(always)]
 #[tactic(auto, using(sfv_bare::proofs::Bytes::run_of_bytes))]
 fn bytes_are_bytes(bytes: &[u8])
@@ -20,7 +19,7 @@ fn bytes_are_bytes(bytes: &[u8])
     let _bytes = bytes;
 }
 
-/// A bare item is a value: each kind holds what is in its range or class.
+/// Makes the type invariant of a bare item known to the prover: its content is in its range or class.
 #[inline(always)]
 pub fn is_a_value(value: RefBareItem<'_>)
     ensures { IsBareValue (ref_value value.entry) }
@@ -37,7 +36,7 @@ pub fn is_a_value(value: RefBareItem<'_>)
     }
 }
 
-/// A key is a key: it holds a text of that class.
+/// Makes the type invariant of a key known to the prover.
 #[inline(always)]
 pub fn is_a_key(key: KeyRef<'_>)
     ensures { IsTrue (is_key (key_text key.entry)) }

@@ -1,4 +1,4 @@
-//! Writing trees as text (RFC 9651, section 4.1).
+//! Serialization of trees (RFC 9651, section 4.1).
 #![tactic(auto)]
 
 mod byte_sequence;

@@ -1,11 +1,11 @@
-//! Writing lists (RFC 9651, section 4.1.1).
+//! Serialization of lists (RFC 9651, section 4.1.1).
 
 ghost use Rattle.std.specs.Prelude.{OnOk, IfOk, IfErr};
 ghost use Rattle.sfv_spec.specs.Values.{HasMember, list_field};
 ghost use Rattle.sfv_spec.specs.Canonical.{canonical};
 ghost use Rattle.sfv_spec.specs.Statements.{IsValue};
 ghost use Rattle.sfv_tree.specs.Trees.{list_tree};
-ghost use Rattle.sfv_writer.specs.Written.{Appends, IsSerialized};
+ghost use Rattle.sfv_writer.specs.Written.{AsksForRoom, Appends, IsSerialized};
 
 use crate::element::serialize_each;
 use crate::serialize_error::only_memory;
@@ -15,12 +15,12 @@ use sfv_tree::parsed::List;
 use std::alloc::{Allocator, Global};
 use std::string::String as StdString;
 
-/// Appends a list.
 pub(crate) fn serialize_list<A: Allocator>(
     list: &List,
     output: &mut StdString<A>,
 ) -> Result<(), OutOfMemory>
     ensures text { Appends output.old output.new (canonical list_field (list_tree list.now.items)) result }
+    ensures room { AsksForRoom output.old output.new (canonical list_field (list_tree list.now.items)) result }
     ensures value { OnOk result (IsValue list_field (list_tree list.now.items)) }
 {
     if let Err(error) = serialize_each(Version::Rfc9651, true, ", ", list.iter(), output) {
@@ -29,12 +29,12 @@ pub(crate) fn serialize_list<A: Allocator>(
     Ok(())
 }
 
-/// Returns the text of a list, with memory from `alloc`, or `None` for a list without members, of
-/// which nothing is written (RFC 9651, section 4.1).
+/// Returns the text of a list, allocated from `alloc` (RFC 9651, section 4.1). An empty list has no text: returns
+/// `None`, and does not allocate.
 ///
 /// # Errors
 ///
-/// `OutOfMemory` when out of memory.
+/// Returns `OutOfMemory` if memory runs out.
 pub fn list_text(list: &List, alloc: Global) -> Result<Option<StdString>, OutOfMemory>
     ensures text { IfOk result (IsSerialized list_field (list_tree list.now.items)) }
     ensures out_of_memory { IfErr result (λ _. HasMember list_field (list_tree list.now.items)) }

@@ -1,4 +1,4 @@
-//! Looking at values before they are written: whether a version has them.
+//! Checks, before a value is written, that a version has it.
 
 ghost use Rattle.std.specs.Prelude.{◌∷◌, [], map, flat_map};
 ghost use Rattle.sfv_spec.specs.Values.{rfc8941, inner_list, list_field, dictionary_field};
@@ -11,7 +11,7 @@ use crate::serialize_error::SerializeError;
 use sfv_bare::bare::{BareItemType, GenericBareItem, RefBareItem, Version};
 use sfv_tree::parsed::{Dictionary, InnerList, Item, List, ListEntry, Parameters};
 
-/// Looks at a bare item for RFC 8941, which has neither dates nor display strings.
+/// Checks that a bare item is neither a date nor a display string. RFC 8941 lacks both.
 fn look_for_older(value: RefBareItem<'_>) -> Result<(), SerializeError>
     ensures { LooksAt rfc8941 (ref_value value.entry ∷ []) result }
 {
@@ -24,11 +24,11 @@ fn look_for_older(value: RefBareItem<'_>) -> Result<(), SerializeError>
     }
 }
 
-/// Looks at a bare item.
+/// Checks that `version` has a bare item.
 ///
 /// # Errors
 ///
-/// `SerializeError::Unsupported` with its kind if the version doesn't have it.
+/// Returns `SerializeError::Unsupported` with its kind if `version` lacks it.
 #[inline(always)]
 pub fn look_at_bare_item(version: Version, value: RefBareItem<'_>) -> Result<(), SerializeError>
     ensures { LooksAt (edition_of version) (ref_value value.entry ∷ []) result }
@@ -39,7 +39,7 @@ pub fn look_at_bare_item(version: Version, value: RefBareItem<'_>) -> Result<(),
     }
 }
 
-/// Looks at parameters.
+/// Checks that `version` has the values of all parameters.
 fn look_at_parameters(version: Version, params: &Parameters) -> Result<(), SerializeError>
     ensures { LooksAt (edition_of version) (values_of_parameters (pairs_tree params.now.entries)) result }
 {
@@ -49,11 +49,11 @@ fn look_at_parameters(version: Version, params: &Parameters) -> Result<(), Seria
     Ok(())
 }
 
-/// Looks at an item, and then at its parameters.
+/// Checks that `version` has every value of an item: first the bare item, then the parameters.
 ///
 /// # Errors
 ///
-/// `SerializeError::Unsupported` with the kind of the first value that the version doesn't have.
+/// Returns `SerializeError::Unsupported` with the kind of the first value that `version` lacks.
 pub fn look_at_item(version: Version, item: &Item) -> Result<(), SerializeError>
     ensures { LooksAt (edition_of version) (values_of_item (item_tree item.now)) result }
 {
@@ -61,7 +61,7 @@ pub fn look_at_item(version: Version, item: &Item) -> Result<(), SerializeError>
     look_at_parameters(version, &item.params)
 }
 
-/// Looks at the items of an inner list.
+/// Checks that `version` has every value of these items.
 fn look_at_items(version: Version, items: &[Item]) -> Result<(), SerializeError>
     ensures { LooksAt (edition_of version) (flat_map values_of_item (map item_tree items.now)) result }
 {
@@ -71,7 +71,7 @@ fn look_at_items(version: Version, items: &[Item]) -> Result<(), SerializeError>
     Ok(())
 }
 
-/// Looks at an inner list.
+/// Checks that `version` has every value of an inner list.
 fn look_at_inner_list(version: Version, list: &InnerList) -> Result<(), SerializeError>
     ensures { LooksAt (edition_of version) (values_of_member (inner_list (inner_list_tree list.now))) result }
 {
@@ -79,7 +79,7 @@ fn look_at_inner_list(version: Version, list: &InnerList) -> Result<(), Serializ
     look_at_parameters(version, &list.params)
 }
 
-/// Looks at a member of a list or a dictionary.
+/// Checks that `version` has every value of a member.
 pub(crate) fn look_at_member(version: Version, member: &ListEntry) -> Result<(), SerializeError>
     ensures { LooksAt (edition_of version) (values_of_member (member_tree member.now)) result }
 {
@@ -89,11 +89,11 @@ pub(crate) fn look_at_member(version: Version, member: &ListEntry) -> Result<(),
     }
 }
 
-/// Looks at a list.
+/// Checks that `version` has every value of a list.
 ///
 /// # Errors
 ///
-/// `SerializeError::Unsupported` with the kind of the first value that the version doesn't have.
+/// Returns `SerializeError::Unsupported` with the kind of the first value that `version` lacks.
 pub fn look_at_list(version: Version, list: &List) -> Result<(), SerializeError>
     ensures { LooksAt (edition_of version) (bare_values list_field (list_tree list.now.items)) result }
 {
@@ -103,11 +103,11 @@ pub fn look_at_list(version: Version, list: &List) -> Result<(), SerializeError>
     Ok(())
 }
 
-/// Looks at a dictionary.
+/// Checks that `version` has every value of a dictionary.
 ///
 /// # Errors
 ///
-/// `SerializeError::Unsupported` with the kind of the first value that the version doesn't have.
+/// Returns `SerializeError::Unsupported` with the kind of the first value that `version` lacks.
 pub fn look_at_dictionary(version: Version, dictionary: &Dictionary) -> Result<(), SerializeError>
     ensures { LooksAt (edition_of version) (bare_values dictionary_field (dictionary_tree dictionary.now.entries)) result }
 {

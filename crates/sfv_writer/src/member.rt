@@ -1,4 +1,5 @@
-//! Writing inner lists, and members of lists and dictionaries (RFC 9651, sections 4.1.1, 4.1.1.1 and 4.1.2).
+//! Serialization of inner lists, and of members of lists and dictionaries (RFC 9651, sections 4.1.1, 4.1.1.1 and
+//! 4.1.2).
 
 ghost use Rattle.std.specs.Prelude.{◌++◌, OnOk, IsTrue, map, codes};
 ghost use Rattle.std.specs.List.{AllByRecursion};
@@ -11,7 +12,7 @@ ghost use Rattle.sfv_spec.specs.Canonical.{dictionary_member_text};
 ghost use Rattle.sfv_spec.specs.Statements.{IsValue};
 ghost use Rattle.sfv_bare.specs.BareItems.{bare_value};
 ghost use Rattle.sfv_tree.specs.Trees.{pairs_tree, item_tree, inner_list_tree, member_tree};
-ghost use Rattle.sfv_writer.specs.Written.{Appends};
+ghost use Rattle.sfv_writer.specs.Written.{AsksForRoom, Appends};
 
 use crate::item::{serialize_all_parameters, serialize_item, serialize_key, serialize_value};
 use sfv_base::error::OutOfMemory;
@@ -20,19 +21,20 @@ use sfv_tree::parsed::{InnerList, Item, ListEntry};
 use std::alloc::Allocator;
 use std::string::String as StdString;
 
-/// Appends the items of an inner list, with a space between each two.
+/// Appends the items of an inner list, with a space between neighbours.
 fn serialize_items<A: Allocator>(
     items: &[Item],
     output: &mut StdString<A>,
 ) -> Result<(), OutOfMemory>
     ensures text { Appends output.old output.new (joined (codes " ") (map item_text (map item_tree items.now))) result }
+    ensures room { AsksForRoom output.old output.new (joined (codes " ") (map item_text (map item_tree items.now))) result }
     ensures values { OnOk result (AllByRecursion (λ i. IsItem i × IsOrderedItem i) (map item_tree items.now)) }
 {
     let Some((first, others)) = items.split_first() else {
         return Ok(());
     };
     serialize_item(first, output)?;
-    // Without a flag for the first item, a token takes 65.3 instructions in place of 69.3.
+    // Without a flag for the first item, a token takes 65.3 instructions instead of 69.3.
     for item in others {
         output.push(' ')?;
         serialize_item(item, output)?;
@@ -40,13 +42,14 @@ fn serialize_items<A: Allocator>(
     Ok(())
 }
 
-/// Appends an inner list.
+/// Appends an inner list with its parameters.
 #[inline(never)]
 fn serialize_inner_list<A: Allocator>(
     list: &InnerList,
     output: &mut StdString<A>,
 ) -> Result<(), OutOfMemory>
     ensures text { Appends output.old output.new (inner_list_text (inner_list_tree list.now)) result }
+    ensures room { AsksForRoom output.old output.new (inner_list_text (inner_list_tree list.now)) result }
     ensures value { OnOk result (IsMember (inner_list (inner_list_tree list.now))
         × IsOrderedMember (inner_list (inner_list_tree list.now))) }
 {
@@ -56,13 +59,14 @@ fn serialize_inner_list<A: Allocator>(
     serialize_all_parameters(&list.params, output)
 }
 
-/// Appends a member of a list.
+/// Appends an item or an inner list.
 #[inline(always)]
 pub(crate) fn serialize_member<A: Allocator>(
     member: &ListEntry,
     output: &mut StdString<A>,
 ) -> Result<(), OutOfMemory>
     ensures text { Appends output.old output.new (member_text (member_tree member.now)) result }
+    ensures room { AsksForRoom output.old output.new (member_text (member_tree member.now)) result }
     ensures value { OnOk result (IsMember (member_tree member.now) × IsOrderedMember (member_tree member.now)) }
 {
     match member {
@@ -71,13 +75,15 @@ pub(crate) fn serialize_member<A: Allocator>(
     }
 }
 
-/// Appends an item after its key: a value that is true is left out.
+/// Appends the value and the parameters of an item after its key. A true value is omitted.
 #[inline(always)]
 fn serialize_item_after_key<A: Allocator>(
     item: &Item,
     output: &mut StdString<A>,
 ) -> Result<(), OutOfMemory>
     ensures text { Appends output.old output.new
+        (value_text (bare_value item.now.bare_item) ++ parameters_text (pairs_tree item.now.params.entries)) result }
+    ensures room { AsksForRoom output.old output.new
         (value_text (bare_value item.now.bare_item) ++ parameters_text (pairs_tree item.now.params.entries)) result }
     ensures value { OnOk result (IsValue item_field (item_tree item.now)) }
 {
@@ -93,6 +99,7 @@ pub(crate) fn serialize_dictionary_member<A: Allocator>(
     output: &mut StdString<A>,
 ) -> Result<(), OutOfMemory>
     ensures text { Appends output.old output.new (dictionary_member_text (key.now, member_tree member.now)) result }
+    ensures room { AsksForRoom output.old output.new (dictionary_member_text (key.now, member_tree member.now)) result }
     ensures key { OnOk result (IsTrue (is_key key.now)) }
     ensures value { OnOk result (IsMember (member_tree member.now) × IsOrderedMember (member_tree member.now)) }
 {

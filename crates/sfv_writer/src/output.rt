@@ -1,39 +1,41 @@
-//! What stands between two parts of a field, and how what was written last is taken away again.
+//! Separators, and truncation of text that was just appended.
 
-ghost use Rattle.std.specs.Prelude.{string_bytes};
-ghost use Rattle.sfv_writer.specs.Written.{Appends, IsCutBack, lead};
+ghost use Rattle.std.specs.Prelude.{◌≡◌, string_bytes, string_capacity};
+ghost use Rattle.sfv_writer.specs.Written.{AsksForRoom, Appends, IsCutBack, lead};
 
 use sfv_base::error::OutOfMemory;
 use std::alloc::Allocator;
 use std::string::String as StdString;
 
-/// Takes away what stands after the first `len` bytes, which were the whole text once.
+/// Truncates `output` to `len` bytes, an earlier length of the same text.
 pub fn cut_back<A: Allocator>(len: usize, output: &mut StdString<A>)
-    ensures { IsCutBack len (string_bytes output.old) (string_bytes output.new) }
+    ensures text { IsCutBack len (string_bytes output.old) (string_bytes output.new) }
+    ensures room { string_capacity output.new ≡ string_capacity output.old }
 {
-    // What was a whole text ends between two characters; to ask is cheaper than to keep the proof.
+    // `len` is always a character boundary. A check here is cheaper than a proof in every caller.
     if output.as_str().is_char_boundary(len) {
         output.truncate(len);
     }
 }
 
-/// Appends the separator that stands in front of each part but the first.
+/// Appends `separator`, unless `is_first` is true.
 ///
 /// # Errors
 ///
-/// `OutOfMemory` when out of memory; the old text still stands in front then.
+/// Returns `OutOfMemory` if memory runs out. The old text is then still a prefix of `output`.
 #[inline(always)]
 pub fn serialize_separator<A: Allocator>(
     is_first: bool,
     separator: &str,
     output: &mut StdString<A>,
 ) -> Result<(), OutOfMemory>
-    ensures { Appends output.old output.new (lead is_first separator.now) result }
+    ensures text { Appends output.old output.new (lead is_first separator.now) result }
+    ensures room { AsksForRoom output.old output.new (lead is_first separator.now) result }
 {
     if is_first {
         return Ok(());
     }
-    // Two characters that are known when this is compiled take fewer instructions than the copy of a text.
+    // Characters that are known at compile time take fewer instructions than the copy of a `str`.
     match separator {
         ", " => {
             output.push(',')?;

@@ -1,10 +1,10 @@
-//! Writing what stands between two quotes: the inside of a string or of a display string.
+//! Serialization between two quotes: the inside of a string or a display string.
 
 ghost use Rattle.std.specs.Prelude.{◌≡◌, ◌++◌, ◌<◌, Bool, length, flat_map, IsFalse, IsTrue, slice_index};
 ghost use Rattle.sfv_spec.specs.Texts.{RunOf};
 ghost use Rattle.sfv_spec.proofs.Marks.{plain_of};
 ghost use Rattle.sfv_writer.specs.Quoted.{held_of, piece_of};
-ghost use Rattle.sfv_writer.specs.Written.{Appends};
+ghost use Rattle.sfv_writer.specs.Written.{AsksForRoom, Appends};
 
 use sfv_base::error::OutOfMemory;
 use std::alloc::{AllocError, Allocator};
@@ -13,12 +13,12 @@ use std::alloc::{AllocError, Allocator};
 pub(super) trait Escaping {
     ghost display: { Bool };
 
-    /// Whether the text writes this byte of it for itself.
+    /// Returns `true` if the byte is written without an escape.
     fn is_plain(byte: u8) -> bool
         requires { IsTrue (held_of display byte) }
         ensures { result ≡ plain_of display byte };
 
-    /// Splits the bytes at the first that the text doesn't write for itself.
+    /// Splits the bytes before the first one that needs an escape.
     fn split_plain(bytes: &[u8]) -> (&[u8], &[u8])
         ensures whole { bytes.now ≡ result.0.now ++ result.1.now }
         ensures each { RunOf (plain_of display) result.0.now }
@@ -28,23 +28,25 @@ pub(super) trait Escaping {
     fn push_escape<A: Allocator>(output: &mut String<A>, byte: u8) -> Result<(), AllocError>
         requires held { IsTrue (held_of display byte) }
         requires escaped { IsFalse (plain_of display byte) }
-        ensures text { Appends output.old output.new (piece_of display byte) result };
+        ensures text { Appends output.old output.new (piece_of display byte) result }
+        ensures room { AsksForRoom output.old output.new (piece_of display byte) result };
 }
 
-/// Appends the inside of a quoted text, of these bytes.
+/// Appends these bytes, each as itself or as its escape.
 pub(super) fn serialize_inside<Q: Escaping, A: Allocator>(
     bytes: &[u8],
     output: &mut String<A>,
 ) -> Result<(), OutOfMemory>
     requires { RunOf (held_of Q.display) bytes.now }
     ensures text { Appends output.old output.new (flat_map (piece_of Q.display) bytes.now) result }
+    ensures room { AsksForRoom output.old output.new (flat_map (piece_of Q.display) bytes.now) result }
 {
     let mut rest = bytes;
     while let Some((byte, behind)) = rest.split_first() {
-        // Where escapes stand in a row, the runs between them are empty: to take those takes three times as long.
+        // Between neighbouring escapes the run is empty. To split off empty runs takes three times as long.
         if Q::is_plain(*byte) {
             let (run, behind) = Q::split_plain(rest);
-            // Plain bytes are ASCII, so a run of them is a text.
+            // SAFETY: plain bytes are ASCII.
             output.push_str(unsafe { std::str::from_utf8_unchecked(run) })?;
             rest = behind;
         } else {

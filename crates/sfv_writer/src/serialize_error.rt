@@ -1,4 +1,4 @@
-//! Why a serializer fails.
+//! The errors of serialization.
 
 ghost use Rattle.std.specs.Prelude.{◌≡◌, Some};
 ghost use Rattle.sfv_writer.specs.Versions.{serialize_error_text};
@@ -8,14 +8,14 @@ use sfv_bare::bare::BareItemType;
 use sfv_base::error::OutOfMemory;
 use std::fmt;
 
-/// Why a value isn't written: the version to which the writing is bound doesn't have it, or memory ran out.
+/// An error of serialization: the version lacks a value, or memory ran out.
 ///
-/// `Display` prints what RFC 8941 doesn't support, or `out of memory`.
+/// `Display` prints the kind that RFC 8941 does not support, or `out of memory`.
 #[derive(Clone, Copy, Debug, PartialEq, Eq)]
 pub enum SerializeError {
-    /// A bare item of this kind, which is `Date` or `DisplayString`: RFC 8941 has none.
+    /// The version lacks bare items of this kind: `Date` or `DisplayString`, under RFC 8941.
     Unsupported(BareItemType),
-    /// Out of memory.
+    /// Memory ran out.
     OutOfMemory,
 }
 
@@ -40,7 +40,7 @@ impl From<OutOfMemory> for SerializeError {
     }
 }
 
-/// Returns want of memory, which is all that writing under RFC 9651 fails for.
+/// Converts an error of serialization under RFC 9651. That version has every value, so only memory can run out.
 pub fn only_memory(error: SerializeError) -> OutOfMemory
     requires { error ≡ errors.OutOfMemory }
 {

@@ -1,10 +1,10 @@
-//! Writing strings (RFC 9651, section 4.1.6).
+//! Serialization of strings (RFC 9651, section 4.1.6).
 
 ghost use Rattle.std.specs.Prelude.{false};
 ghost use Rattle.sfv_spec.specs.Values.{string};
 ghost use Rattle.sfv_spec.specs.Canonical.{bare_text};
 ghost use Rattle.sfv_text.specs.StringText.{string_text};
-ghost use Rattle.sfv_writer.specs.Written.{Appends};
+ghost use Rattle.sfv_writer.specs.Written.{AsksForRoom, Appends};
 
 use crate::quoted::{Escaping, serialize_inside};
 use sfv_base::error::OutOfMemory;
@@ -36,13 +36,13 @@ impl Escaping for StringEscaping {
     }
 }
 
-/// Appends a string.
 #[inline(never)]
 pub(crate) fn serialize_string<A: Allocator>(
     value: StringRef<'_>,
     output: &mut String<A>,
 ) -> Result<(), OutOfMemory>
     ensures text { Appends output.old output.new (bare_text (string (string_text value.entry))) result }
+    ensures room { AsksForRoom output.old output.new (bare_text (string (string_text value.entry))) result }
 {
     output.push('"')?;
     serialize_inside::<StringEscaping, A>(value.as_str().as_bytes(), output)?;

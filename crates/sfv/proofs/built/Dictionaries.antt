@@ -24,6 +24,10 @@ use Rattle.sfv_visitor.specs.Builders.{dictionary_place}
 use Rattle.sfv_tree.specs.declared.parsed.ListEntry.{ListEntry}
 use Rattle.sfv_visitor.specs.declared.visitor.dictionary_builder.DictionaryBuilder.{DictionaryBuilder}
 use Rattle.sfv.specs.Parsers.{IsAnswerOf}
+use Rattle.sfv_visitor.specs.Builders.{KeepsDictionarySeed, DictionaryAnswersSeeded, IsDictionarySeeded, dictionary_seed}
+use Rattle.sfv_tree.specs.declared.hash_seed.HashSeed.{HashSeed}
+use Rattle.sfv_tree.specs.Seeds.{DictionaryHasSeed}
+use Rattle.sfv.proofs.built.Seeded.{answer_seeded, runs_weaker}
 use Rattle.sfv.proofs.built.Items.{insert_entry-entered}
 use Rattle.sfv.proofs.built.Members.{IsOpen, member_built}
 
@@ -58,11 +62,15 @@ abbrev pub ordered_pairs : List (List ℕ × RawMember) → List (List ℕ × Ra
 ordered_pairs ms = map (λ m. (m.0, ordered_member m.1)) ms
 
 -- what the builder does with an event, and with the end
-abbrev Steps : DictionaryBuilder → TreeEvent → DictionaryBuilder → Type 0
-Steps s e after = dictionary_place after ≡ dictionary_step (dictionary_place s) e
+abbrev Places : DictionaryBuilder → TreeEvent → DictionaryBuilder → Type 0
+Places s e after = dictionary_place after ≡ dictionary_step (dictionary_place s) e
 
-abbrev Ends : {S : Type 0} → DictionaryBuilder → IndexMap (List ℕ) ListEntry S → Type 0
-Ends s dictionary = dictionary_tree dictionary.entries ≡ dictionary_members (dictionary_place s)
+abbrev Steps : DictionaryBuilder → TreeEvent → DictionaryBuilder → Type 0
+Steps s e after = (dictionary_place after ≡ dictionary_step (dictionary_place s) e) × KeepsDictionarySeed s after
+
+abbrev Ends : DictionaryBuilder → IndexMap (List ℕ) ListEntry HashSeed → Type 0
+Ends s dictionary = (dictionary_tree dictionary.entries ≡ dictionary_members (dictionary_place s))
+    × DictionaryAnswersSeeded s dictionary
 
 within_each : (ms : List (List ℕ × RawMember)) (key : List ℕ) (p : MemberPlace) (e : TreeEvent) → IsOpen p
     → dictionary_step (settle_pair ms key p) e ≡ settle_pair ms key (member_step p e)
@@ -100,7 +108,8 @@ pub dictionary_built : (held raw : List (List ℕ × RawMember)) (s last : Dicti
     → RunsTo Steps s (events dictionary_field raw) last
     → dictionary_place last ≡ between_pairs (collapse (held ++ ordered_pairs raw))
 dictionary_built held raw s last distinct here run =
-    runs_fold dictionary_place dictionary_step (events dictionary_field raw) s last run
+    runs_fold dictionary_place dictionary_step (events dictionary_field raw) s last
+    (runs_weaker Steps Places (λ s e t k. k.0) (events dictionary_field raw) s last run)
     ∙ ap (λ (p : DictionaryPlace). fold dictionary_step p (events dictionary_field raw)) (here
     ∙ ap between_pairs (sym (collapse-distinct held distinct)))
     ∙ pairs_built held raw
@@ -116,8 +125,8 @@ joined held raw h =
     ∙ collapse-over ordered_member (held ++ raw)
 
 -- what was built from the pairs of earlier lines: the pairs of the only tree are entered into them
-pub built_dictionary_behind : {S : Type 0} (edition : Edition) (t : List ℕ) (held : List (List ℕ
-    × RawMember)) (from : DictionaryBuilder) (dictionary : IndexMap (List ℕ) ListEntry S)
+pub built_dictionary_behind : (edition : Edition) (t : List ℕ) (held : List (List ℕ
+    × RawMember)) (from : DictionaryBuilder) (dictionary : IndexMap (List ℕ) ListEntry HashSeed)
     → no_repeats (keys held) ≡ true → dictionary_place from ≡ between_pairs held
     → IsAnswerOf Steps Ends edition dictionary_field t from dictionary
     → (raw : List (List ℕ × RawMember)) × IsFieldText edition dictionary_field raw t
@@ -128,7 +137,7 @@ pub built_dictionary_behind : {S : Type 0} (edition : Edition) (t : List ℕ) (h
 built_dictionary_behind edition t held from dictionary distinct here h =
     let whole : dictionary_place h.visited.last ≡ between_pairs (collapse (held ++ ordered_pairs h.raw)) =
     dictionary_built held h.raw from h.visited.last distinct here h.visited.taken in
-    let there : dictionary_tree dictionary.entries ≡ collapse (held ++ ordered_pairs h.raw) = h.visited.answered
+    let there : dictionary_tree dictionary.entries ≡ collapse (held ++ ordered_pairs h.raw) = h.visited.answered.0
     ∙ ap dictionary_members whole in (
       h.raw,
       h.accepted,
@@ -139,10 +148,18 @@ built_dictionary_behind edition t held from dictionary distinct here h =
     )
 
 -- what was built is the ordered dictionary of the only tree
-pub built_dictionary : {S : Type 0} (edition : Edition) (t : List ℕ) (from : DictionaryBuilder)
-    (dictionary : IndexMap (List ℕ) ListEntry S) → dictionary_place from ≡ between_pairs []
+pub built_dictionary : (edition : Edition) (t : List ℕ) (from : DictionaryBuilder)
+    (dictionary : IndexMap (List ℕ) ListEntry HashSeed) → dictionary_place from ≡ between_pairs []
     → IsAnswerOf Steps Ends edition dictionary_field t from dictionary
     → IsParsedAs edition dictionary_field t (dictionary_tree dictionary.entries)
 built_dictionary edition t from dictionary here h =
     let whole = built_dictionary_behind edition t [] from dictionary refl here h in
     record { raw = whole.0; accepted = whole.1; only = whole.2; ordered_value = whole.4 (refl, tt) }
+
+-- what was built is under the builder's seed
+pub dictionary_seeded : (edition : Edition) (t : List ℕ) (from : DictionaryBuilder)
+    (dictionary : IndexMap (List ℕ) ListEntry HashSeed) (seed : HashSeed) → dictionary_seed from ≡ seed
+    → IsDictionarySeeded from → IsAnswerOf Steps Ends edition dictionary_field t from dictionary
+    → DictionaryHasSeed seed dictionary
+dictionary_seeded edition t from dictionary seed same start h = answer_seeded dictionary_seed IsDictionarySeeded Steps
+    (λ s e t k. k.1) Ends DictionaryHasSeed (λ s out k. k.1) edition dictionary_field t from dictionary seed same start h

@@ -19,14 +19,21 @@ use Rattle.sfv_visitor.specs.Builders.{settle, list_step, list_members, list_pla
 use Rattle.sfv_tree.specs.declared.parsed.ListEntry.{ListEntry}
 use Rattle.sfv_visitor.specs.declared.visitor.list_builder.ListBuilder.{ListBuilder}
 use Rattle.sfv.specs.Parsers.{IsAnswerOf}
+use Rattle.sfv_visitor.specs.Builders.{KeepsListSeed, ListAnswersSeeded, IsListSeeded, list_seed}
+use Rattle.sfv_tree.specs.declared.hash_seed.HashSeed.{HashSeed}
+use Rattle.sfv_tree.specs.Seeds.{ListHasSeed}
+use Rattle.sfv.proofs.built.Seeded.{answer_seeded, runs_weaker}
 use Rattle.sfv.proofs.built.Members.{IsOpen, member_built}
 
 -- what the builder does with an event, and with the end
+abbrev Places : ListBuilder → TreeEvent → ListBuilder → Type 0
+Places s e after = list_place after ≡ list_step (list_place s) e
+
 abbrev Steps : ListBuilder → TreeEvent → ListBuilder → Type 0
-Steps s e after = list_place after ≡ list_step (list_place s) e
+Steps s e after = (list_place after ≡ list_step (list_place s) e) × KeepsListSeed s after
 
 abbrev Ends : ListBuilder → Vec ListEntry Global → Type 0
-Ends s list = list_tree list.items ≡ list_members (list_place s)
+Ends s list = (list_tree list.items ≡ list_members (list_place s)) × ListAnswersSeeded s list.items
 
 within_each : (ms : List RawMember) (p : MemberPlace) (e : TreeEvent) → IsOpen p
     → list_step (settle ms p) e ≡ settle ms (member_step p e)
@@ -53,7 +60,8 @@ members_built ms (m ∷ raw) =
 pub list_built : (ms raw : List RawMember) (s last : ListBuilder) → list_place s ≡ between ms
     → RunsTo Steps s (events list_field raw) last → list_place last ≡ between (ms ++ ordered list_field raw)
 list_built ms raw s last here run =
-    runs_fold list_place list_step (events list_field raw) s last run
+    runs_fold list_place list_step (events list_field raw) s last
+    (runs_weaker Steps Places (λ s e t k. k.0) (events list_field raw) s last run)
     ∙ ap (λ (p : ListPlace). fold list_step p (events list_field raw)) here
     ∙ members_built ms raw
 
@@ -67,7 +75,7 @@ pub built_list_behind : (edition : Edition) (t : List ℕ) (held : List RawMembe
 built_list_behind edition t held from list here h =
     let whole : list_place h.visited.last ≡ between (held ++ ordered list_field h.raw) =
     list_built held h.raw from h.visited.last here h.visited.taken in
-    (h.raw, h.accepted, h.only, h.visited.answered ∙ ap list_members whole)
+    (h.raw, h.accepted, h.only, h.visited.answered.0 ∙ ap list_members whole)
 
 -- what was built is the ordered list of the only tree
 pub built_list : (edition : Edition) (t : List ℕ) (from : ListBuilder) (list : Vec ListEntry Global)
@@ -76,3 +84,10 @@ pub built_list : (edition : Edition) (t : List ℕ) (from : ListBuilder) (list :
 built_list edition t from list here h =
     let whole = built_list_behind edition t [] from list here h in
     record { raw = whole.0; accepted = whole.1; only = whole.2; ordered_value = whole.3 }
+
+-- what was built is under the builder's seed
+pub list_seeded : (edition : Edition) (t : List ℕ) (from : ListBuilder) (list : Vec ListEntry Global) (seed : HashSeed)
+    → list_seed from ≡ seed → IsListSeeded from → IsAnswerOf Steps Ends edition list_field t from list
+    → ListHasSeed seed list.items
+list_seeded edition t from list seed same start h = answer_seeded list_seed IsListSeeded Steps (λ s e t k. k.1) Ends
+    (λ seed (list : Vec ListEntry Global). ListHasSeed seed list.items) (λ s out k. k.1) edition list_field t from list seed same start h

@@ -2,9 +2,10 @@
 use Rattle.std.proofs.Common.{◌≡◌, ℕ, ◌≤◌, List, [], ◌∷◌, ◌++◌, length, take, drop, Option, Some, None, Result, Ok, Err}
 use Rattle.std.proofs.Common.{refl, sym, ap, subst, ◌∙◌, append_assoc, inl, inr}
 use Rattle.std.proofs.lemmas.List.{append_cancel_right, take-append-drop}
-use Rattle.std.specs.Prelude.{⊤, Bool, true, false, MatchOption, IfOk, IfErr, flat_map, ◌⊎◌}
+use Rattle.std.specs.Prelude.{⊤, codes, Bool, true, false, MatchOption, IfOk, IfErr, flat_map, ◌⊎◌}
 use Rattle.std.specs.declared.alloc.Global.{Global}
 use Rattle.sfv_spec.specs.Classes.{is_space}
+use Rattle.sfv_spec.proofs.Marks.{comma}
 use Rattle.sfv_spec.specs.Values.{Edition, FieldKind, item_field, list_field, dictionary_field, RawField, RawItem}
 use Rattle.sfv_spec.specs.Values.{IsFieldValue}
 use Rattle.sfv_spec.specs.Faults.{SyntaxFault, trailing_characters_after_parsed_value}
@@ -35,14 +36,16 @@ use Rattle.sfv_reading.proofs.Theorems.{read_is_accepted, fault_is_placed}
 use Rattle.sfv_reading.proofs.Trailing.{read_before}
 use Rattle.sfv_reading.proofs.visits.Fields.{visited_begins, failed_begins}
 use Rattle.sfv_reading.proofs.visits.Reached.{visited_reach}
+use Rattle.sfv_reading.proofs.visits.Before.{visited_before}
 use Rattle.sfv.specs.declared.parser.Parser.{Parser}
 use Rattle.sfv.specs.declared.parser.cursor.Cursor.{Cursor}
 use Rattle.sfv.specs.parser.Cursor.{kept_input, located, IsErrorOf}
 use Rattle.sfv.specs.parser.Cursor.{located_whole}
 use Rattle.sfv.specs.parser.Members.{MemberValue, member_parts, one_member_at, field_of}
 use Rattle.sfv.specs.parser.Visits.{VisitsAnswer, IsOfVisitor, VisitsField, IsFinishedAt, IsAskedThere}
+use Rattle.sfv.specs.parser.Visits.{TookAllOf, TookAll}
 use Rattle.sfv.specs.Parsers.{IsAnswerOf, IsSyntaxOf, IsVisitorErrorOf, IsParseError, VisitsAccepted, IsFinishedFirst}
-use Rattle.sfv.specs.Parsers.{trailing_error}
+use Rattle.sfv.specs.Parsers.{trailing_error, TookBeforeFault, TakesUpTo}
 use Rattle.sfv.proofs.visits.Whole.{spaced, field_error, ending_located}
 use Rattle.sfv.proofs.Parsed.{located_fault, parse_error}
 use Rattle.sfv.proofs.reads.Delimiters.{span_total}
@@ -149,6 +152,42 @@ finished_at {S} {O} takes finishes edition t s r q item from to out e skipped re
         let taken = subst (λ (i : RawItem). RunsTo takes from (item_events i) to) same run in
         (refl, out, record { last = to; taken = taken; answered = finished })
 
+-- all events of the item were taken, which are those of the field
+took_item : {S : Type 0} (takes : S → TreeEvent → S → Type 0) (edition : Edition) (t s r : List ℕ) (from to : S) (e : Error)
+    → span is_space t ≡ Ok (s, r) → TookAll takes item_events e (item_at edition r) from to
+    → TookAllOf takes edition item_field t from e
+took_item {S} takes edition t s r from to e skipped h = on (index_of e) h
+  where
+    on : (o : Option ℕ) → MatchOption o ⊤ (λ index. RunsTo takes from (visited item_events (item_at edition r)) to)
+        → MatchOption o ⊤ (λ index. (to : S) × RunsTo takes from (visited (events item_field) (whole_field_at edition item_field t)) to)
+    on None m = tt
+    on (Some n) m = (
+      to,
+      subst (λ (es : List TreeEvent). RunsTo takes from es to) (sym (whole_visited edition t s r skipped)) m,
+    )
+
+-- all events of an item that was read
+pub took_whole : {S : Type 0} (takes : S → TreeEvent → S → Type 0) (edition : Edition) (t s r q : List ℕ) (item : RawItem)
+    (from to : S) (e : Error) → span is_space t ≡ Ok (s, r) → item_at edition r ≡ Ok (item, q)
+    → RunsTo takes from (item_events item) to → TookAllOf takes edition item_field t from e
+took_whole {S} takes edition t s r q item from to e skipped read run =
+    took_item takes edition t s r from to e skipped (on (index_of e))
+  where
+    on : (o : Option ℕ) → MatchOption o ⊤ (λ index. RunsTo takes from (visited item_events (item_at edition r)) to)
+    on None = tt
+    on (Some n) = subst (λ (es : List TreeEvent). RunsTo takes from es to) (sym (ap (visited item_events) read)) run
+
+-- all events of a field that is at fault
+took_field : {S : Type 0} (takes : S → TreeEvent → S → Type 0) (edition : Edition) (kind : FieldKind) (t : List ℕ)
+    (from to : S) (e : Error) → TookAll takes (events kind) e (whole_field_at edition kind t) from to
+    → TookAllOf takes edition kind t from e
+took_field {S} takes edition kind t from to e h = on (index_of e) h
+  where
+    on : (o : Option ℕ) → MatchOption o ⊤ (λ index. RunsTo takes from (visited (events kind) (whole_field_at edition kind t)) to)
+        → MatchOption o ⊤ (λ index. (to : S) × RunsTo takes from (visited (events kind) (whole_field_at edition kind t)) to)
+    on None m = tt
+    on (Some n) m = (to, m)
+
 -- an error within the item: a fault, or the visitor fails
 pub item_fails : {S O E : Type 0} (takes : S → TreeEvent → S → Type 0) (fails : S → TreeEvent
     → E → Type 0) (finishes : S → O → Type 0) (finish_fails : S
@@ -159,6 +198,7 @@ pub item_fails : {S O E : Type 0} (takes : S → TreeEvent → S → Type 0) (fa
 item_fails takes fails finishes finish_fails edition k s r from to after (Syntax e) skipped h = (
   field_error edition (kept_input k) s r (kept_input k) e skipped h.0,
   λ raw q whole. no_item takes finishes edition (kept_input k) s r q from (kept_input k) e raw skipped h.0 whole,
+  took_item takes edition (kept_input k) s r from to e skipped h.1,
 )
 item_fails takes fails finishes finish_fails edition k s r from to after (Visitor f) skipped h =
     inl (whole_failed takes fails edition (kept_input k) s r from f skipped h)
@@ -186,8 +226,11 @@ pub field_fails : {S O E : Type 0} (takes : S → TreeEvent → S → Type 0) (f
     → VisitsAnswer takes fails (events kind) k after from to (Err error) (whole_field_at edition kind (kept_input k))
     → VisitsField takes fails finishes finish_fails edition kind (kept_input k) from (Err error)
 field_fails {S} {O} takes fails finishes finish_fails edition kind k from to after (Visitor f) h = inl h
-field_fails {S} {O} takes fails finishes finish_fails edition kind k from to after (Syntax e) h =
-    (on (index_of e) h.0, λ raw q whole. never raw q whole (index_of e) h.0)
+field_fails {S} {O} takes fails finishes finish_fails edition kind k from to after (Syntax e) h = (
+  on (index_of e) h.0,
+  λ raw q whole. never raw q whole (index_of e) h.0,
+  took_field takes edition kind (kept_input k) from to e h.1,
+)
   where
     t : List ℕ
     t = kept_input k
@@ -457,6 +500,39 @@ module _ {S O E : Type 0} (takes : S → TreeEvent → S → Type 0) (fails : S 
         (λ (e : Error). VisitsField takes fails finishes finish_fails edition kind t from (Err (Syntax e))) same h)),
   )
   visits_syntax (Err (Visitor f)) h = tt
+
+  pub visits_taken : (r : Result O (ParseError E))
+      → VisitsField takes fails finishes finish_fails edition kind t from r
+      → IfErr r (TookBeforeFault takes edition kind t from)
+  visits_taken (Ok out) h = tt
+  visits_taken (Err (Visitor f)) h = tt
+  visits_taken (Err (Syntax e)) h = on (parse_error edition kind t e h.0)
+    where
+      at_index : {n : ℕ} → (o : Option ℕ) → o ≡ Some n
+          → MatchOption o ⊤ (λ index. (to : S) × RunsTo takes from (visited (events kind) (whole_field_at edition kind t)) to)
+          → (to : S) × RunsTo takes from (visited (events kind) (whole_field_at edition kind t)) to
+      at_index None same m = absurd cc
+      at_index (Some n) same m = m
+
+      before : (raw : RawField kind) (front rest : List ℕ) → t ≡ front ++ codes "," ++ rest
+          → IsFieldText edition kind raw front
+          → (others : List TreeEvent) × (visited (events kind) (whole_field_at edition kind t) ≡ events kind raw ++ others)
+      before raw front rest text accepted =
+          let all : t ≡ front ++ comma ∷ rest = text ∙ simp append_assoc in
+          let b = visited_before edition kind raw front rest accepted in
+          (b.0, ap (λ (l : List ℕ). visited (events kind) (whole_field_at edition kind l)) all ∙ b.1)
+
+      on : IsParseError edition kind t e → (e ≡ out_of_memory) ⊎ TakesUpTo takes edition kind t from
+      on (inl same) = inl same
+      on (inr s) =
+          let took = at_index (index_of e) (ap index_of s.error) h.2 in
+          inr (record {
+            es = visited (events kind) (whole_field_at edition kind t);
+            to = took.0;
+            taken = took.1;
+            begins = λ n reach. visited_reach edition kind t s.rejected n reach;
+            whole = before;
+          })
 
   pub visits_failure : (r : Result O (ParseError E))
       → VisitsField takes fails finishes finish_fails edition kind t from r

@@ -1,4 +1,4 @@
--- What a cursor has left and what it keeps, and what its readings give.
+-- The state of a cursor, and the results of parsing functions.
 use Rattle.std.specs.Prelude.{◌≡◌, ℕ, ◌≤◌, Bool, true, false, List, ◌∷◌, length, drop, Result, Ok, Err, MatchOption}
 use Rattle.std.specs.declared.alloc.Global.{Global}
 use Rattle.sfv_spec.specs.Values.{Edition}
@@ -11,11 +11,11 @@ use Rattle.sfv.specs.declared.parser.Parser.{Parser}
 use Rattle.sfv.specs.declared.parser.cursor.Cursor.{Cursor}
 use Rattle.sfv.specs.Memory.{IsRefusal}
 
--- what no reading changes: the parser and the allocator
+-- the parts of a cursor that no parsing function changes: the parser and the allocator
 abbrev pub kept : Cursor → Parser × Global
 kept c = (c.parser, c.alloc)
 
--- the input, and the edition, of what is kept
+-- the input of a parser, and its edition
 abbrev pub kept_input : Parser × Global → List ℕ
 kept_input k = k.0.input.now
 
@@ -28,52 +28,53 @@ input c = kept_input (kept c)
 abbrev pub edition : Cursor → Edition
 edition c = kept_edition (kept c)
 
--- what stands from the next byte on
+-- the input from the next byte on
 abbrev pub rest : Cursor → List ℕ
 rest c = drop c.index (input c)
 
--- an answer of a reader as the code tells it: a fault by its kind and what stands there
+-- a reader's result in terms of the code: for a fault, the kind of error, and the input from the fault on
 abbrev pub located : {A : Type 0} → Answer A → Result (A × List ℕ) (ErrorKind × List ℕ)
 located (Ok x) = Ok x
 located (Err f) = Err (error_kind f.kind, f.rest)
 
--- the same of a whole input, after which nothing is left
+-- the same for the result on a whole input, which has no rest
 abbrev pub located_whole : {A : Type 0} → Result A Fault → Result A (ErrorKind × List ℕ)
 located_whole (Ok v) = Ok v
 located_whole (Err f) = Err (error_kind f.kind, f.rest)
 
--- the error is the fault that the reader answers, at its place in the input
+-- the reader fails, and `e` has the kind and the index of its fault
 abbrev pub IsFaultOf : {A : Type 0} → List ℕ → Error → Answer A → Type 0
 IsFaultOf input e answer =
     MatchOption (index_of e) ⊥ (λ index. (located answer ≡ Err (kind_of e, drop index input)) × (index ≤ length input))
 
--- the same, or want of memory
+-- the same, or `e` is out of memory, and the input contains a byte that allocates (`IsRefusal`)
 abbrev pub IsErrorOf : {A : Type 0} → List ℕ → Error → Answer A → Type 0
 IsErrorOf input e answer =
     MatchOption (index_of e) (IsRefusal input e) (λ index. (located answer ≡ Err (kind_of e, drop index input))
     × (index ≤ length input))
 
--- What a reading returned, seen by view, is what the reader gives, and the cursor stands after it.
+-- The result, seen through `view`, equals the reader's result on the rest of the input. On success, the cursor is after
+-- the parsed bytes.
 abbrev pub Reads : {X Y : Type 0} → (X → Y) → Cursor → Cursor → Result X Error → Reader Y → Type 0
 Reads view before after (Ok x) reader = (reader (rest before) ≡ Ok (view x, rest after)) × (kept after ≡ kept before)
 Reads view before after (Err e) reader = IsFaultOf (input before) e (reader (rest before))
 
--- The same of a reading that may want memory.
+-- The same for a function that may run out of memory.
 abbrev pub ReadsOrOutOfMemory : {X Y : Type 0} → (X → Y) → Cursor → Cursor → Result X Error → Reader Y → Type 0
 ReadsOrOutOfMemory view before after (Ok x) reader = (reader (rest before) ≡ Ok (view x, rest after))
     × (kept after ≡ kept before)
 ReadsOrOutOfMemory view before after (Err e) reader = IsErrorOf (input before) e (reader (rest before))
 
--- a byte of the class stands next, or none does
+-- `true`: the next byte is of the class; `false`: it is not, or there is none
 abbrev pub NextIs : (ℕ → Bool) → Bool → List ℕ → Type 0
 NextIs class true t = (b : ℕ) × (r : List ℕ) × (t ≡ b ∷ r) × (class b ≡ true)
 NextIs class false t = Apart class t
 
--- a byte of the class was taken, or none stands there
+-- `true`: a byte of the class was consumed; `false`: none was, because the next byte is not of the class
 abbrev pub TakesIf : (ℕ → Bool) → Bool → List ℕ → List ℕ → Type 0
 TakesIf class true t r = (b : ℕ) × (t ≡ b ∷ r) × (class b ≡ true)
 TakesIf class false t r = (r ≡ t) × Apart class t
 
--- one byte was passed
+-- one byte was consumed
 abbrev pub Skips : List ℕ → List ℕ → Type 0
 Skips t r = (b : ℕ) × (t ≡ b ∷ r)

@@ -1,4 +1,4 @@
--- Between two items of an inner list, and between two members.
+-- Delimiters of items and of members, and the two kinds of member.
 use Rattle.std.specs.Prelude.{true, false, Bool, ℕ, List, flat_map, ◌∷◌, ◌++◌}
 use Rattle.sfv_spec.specs.Values.{Edition, FieldKind, list_field, dictionary_field, RawMember, item, inner_list}
 use Rattle.sfv_spec.specs.Events.{TreeEvent, item_events, inner_list_end, parameters_events, inner_item_events}
@@ -7,25 +7,25 @@ use Rattle.sfv_reading.specs.Reader.{Reader, give}
 use Rattle.sfv_reading.specs.Members.{entry_at, keyed_at, item_delimited}
 use Rattle.sfv_reading.specs.Fields.{member_delimited}
 
--- after an item of an inner list: whether another one follows, and not the closing parenthesis
+-- after an item of an inner list: `true` if another item follows, `false` after the closing parenthesis
 unfoldable pub item_delimiter_at : Reader Bool
 item_delimiter_at = item_delimited (give false) (give true)
 
--- after a member: whether another one follows a comma, and not the end
+-- after a member: `true` if another member follows a comma, `false` at the end
 unfoldable pub member_delimiter_at : Reader Bool
 member_delimiter_at = member_delimited (give false) (give true)
 
--- the events of a member after the one that begins it
+-- the events of a member after its first event
 abbrev pub behind_begin : RawMember → List TreeEvent
 behind_begin (item i) = item_events i
 behind_begin (inner_list l) = flat_map inner_item_events l.items ++ inner_list_end ∷ parameters_events l.parameters
 
--- a member of a dictionary, with its key, or one of a list
+-- `true`: a dictionary member with its key; `false`: a list member
 abbrev pub MemberValue : Bool → Type 0
 MemberValue true = List ℕ × RawMember
 MemberValue false = RawMember
 
--- its events
+-- the events of the member
 abbrev pub member_parts : (keyed : Bool) → MemberValue keyed → List TreeEvent
 member_parts true = keyed_events
 member_parts false = entry_events
@@ -34,7 +34,7 @@ abbrev pub one_member_at : (keyed : Bool) → Edition → Reader (MemberValue ke
 one_member_at true = keyed_at
 one_member_at false = entry_at
 
--- the field of such members
+-- the type of field with such members
 abbrev pub field_of : Bool → FieldKind
 field_of true = dictionary_field
 field_of false = list_field

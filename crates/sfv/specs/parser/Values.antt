@@ -1,4 +1,4 @@
--- What was read, as values of the definitions.
+-- Parsed values as values of the definitions.
 use Rattle.std.specs.Prelude.{◌≡◌, ℕ, ◌<◌, ◌^◌, List, length}
 use Rattle.std.specs.declared.alloc.Global.{Global}
 use Rattle.std.specs.declared.vec.Vec.{Vec}
@@ -16,7 +16,7 @@ use Rattle.sfv.specs.declared.parser.number.Number.{Number}
 use Rattle.sfv.specs.declared.parser.number.Number.TheVariants as number
 use Rattle.sfv.specs.declared.parser.item.ReadParameter.{ReadParameter}
 
--- these are the digits that were counted and summed up
+-- `d` has the number and the value of the digits `ds`
 pub record Spells (ds : List ℕ) (d : Digits) : Type 0 where
   pub each : RunOf is_digit ds
   pub count : length ds ≡ d.count
@@ -30,10 +30,10 @@ number_value_of (number.Decimal z) = decimal (thousandths_of z)
 abbrev pub vec_bytes : Vec ℕ Global → List ℕ
 vec_bytes v = v.items
 
--- the value of a display string that was read
+-- the value of a parsed display string
 abbrev pub display_value_of : CowStr Global → BareValue
 display_value_of text = display_string (cow_text text)
 
--- the pair of a parameter that was read
+-- the key and the value of a parsed parameter
 abbrev pub read_pair : ReadParameter → List ℕ × BareValue
 read_pair p = (key_text p.key, input_value p.value)

@@ -1,4 +1,4 @@
--- What a reading whose events are visited returns.
+-- Results of parsing with a visitor.
 use Rattle.std.specs.Prelude.{◌≡◌, ⊤, ℕ, List, [], Some, Result, Ok, Err, ◌⊎◌, MatchOption, ◌≤◌, length, drop}
 use Rattle.std.specs.declared.alloc.Global.{Global}
 use Rattle.sfv_spec.specs.Classes.{is_space}
@@ -26,13 +26,14 @@ use Rattle.sfv_visitor.specs.declared.visitor.Event.TheVariants as event
 use Rattle.sfv_visitor.specs.Given.{ReadBareItem}
 use Rattle.sfv.specs.Memory.{IsRefusal}
 
--- An error with an index comes after the visitor has taken all events that the reader gives.
+-- An error with an index comes after the visitor has received all events of the reader's result.
 abbrev pub TookAll : {A S : Type 0} → (S → TreeEvent → S → Type 0) → (A → List TreeEvent) → Error → Answer A → S → S
     → Type 0
 TookAll takes parts e answer from to = MatchOption (index_of e) ⊤ (λ index. Visited takes parts answer from to)
 
--- A value was read, and the visitor took its events; or the reader's fault is met, after the visitor took the events
--- before it, or out of memory; or the visitor fails at one of the events that the reader gives.
+-- The result of a parsing function with a visitor, for a reader's result. `Ok`: the reader returns a value and this
+-- rest, and the visitor received the value's events. A syntax error is the reader's fault, after the visitor received
+-- the events before it, or it is out of memory. A visitor's error is at one of the events of the reader's result.
 abbrev pub VisitsAnswer : {A S E : Type 0} → (S → TreeEvent → S → Type 0) → (S → TreeEvent → E → Type 0)
     → (A → List TreeEvent) → Parser × Global → Cursor → S → S → Result (Unit {0}) (ParseError E) → Answer A → Type 0
 VisitsAnswer {A} takes fails parts k after from to (Ok u) answer = (v : A) × (answer ≡ Ok (v, rest after))
@@ -41,13 +42,13 @@ VisitsAnswer takes fails parts k after from to (Err (Syntax e)) answer = IsError
     × TookAll takes parts e answer from to
 VisitsAnswer takes fails parts k after from to (Err (Visitor f)) answer = VisitorFails takes fails parts answer from f
 
--- The same of what the cursor's edition reads from the next byte on.
+-- The same for the reader of the cursor's edition, from the next byte on.
 abbrev pub Visits : {A S E : Type 0} → (S → TreeEvent → S → Type 0) → (S → TreeEvent → E → Type 0)
     → (A → List TreeEvent) → Cursor → Cursor → S → S → Result (Unit {0}) (ParseError E) → (Edition → Reader A) → Type 0
 Visits takes fails parts before after from to result reader =
     VisitsAnswer takes fails parts (kept before) after from to result (reader (edition before) (rest before))
 
--- An item was read, of which the visitor took the bare item as it was read, and then the parameters.
+-- An item was parsed. The visitor received its bare item as parsed, borrowed or owned, and then its parameters.
 abbrev pub TakesAsRead : {S : Type 0} → (S → TreeEvent → S → Type 0) → (S → Event → S → Type 0) → Cursor → Cursor → S → S
     → Type 0
 TakesAsRead {S} takes takes_read before after from to =
@@ -58,23 +59,23 @@ TakesAsRead {S} takes takes_read before after from to =
     × takes_read from (event.BareItem item) middle
     × RunsTo takes middle (parameters_events parameters) to
 
--- it is such an error of the visitor
+-- the error is the visitor's, and `is` holds of it
 abbrev pub IsOfVisitor : {E : Type 0} → (E → Type 0) → ParseError E → Type 0
 IsOfVisitor is (Syntax error) = ⊥
 IsOfVisitor is (Visitor fault) = is fault
 
--- Where a bare item is read there, an error with an index comes only after the visitor has taken it.
+-- If the text begins with a bare item, an error with an index comes only after the visitor has received it.
 abbrev pub TookBare : {S E : Type 0} → (S → TreeEvent → S → Type 0) → Edition → List ℕ → S → ParseError E → Type 0
 TookBare {S} takes edition t from (Syntax e) = (index : ℕ) (value : BareValue) (q : List ℕ) → index_of e ≡ Some index
     → bare_at edition t ≡ Ok (value, q) → (after : S) × takes from (bare_item value) after
 TookBare takes edition t from (Visitor f) = ⊤
 
--- The same of one that stands first in a text, after spaces.
+-- The same for a bare item after spaces.
 abbrev pub TookFirst : {S E : Type 0} → (S → TreeEvent → S → Type 0) → Edition → List ℕ → S → ParseError E → Type 0
 TookFirst takes edition t from error = (s r : List ℕ) → span is_space t ≡ Ok (s, r)
     → TookBare takes edition r from error
 
--- Where a field is read at the beginning, an error with an index comes only for an item, after the visitor's answer.
+-- If the text begins with a field, an error with an index comes only for an item, after the visitor has finished.
 abbrev pub IsFinishedAt : {S O : Type 0} → (S → TreeEvent → S → Type 0) → (S → O → Type 0) → Edition → FieldKind
     → List ℕ → S → Error → Type 0
 IsFinishedAt {S} {O} takes finishes edition kind t from e =
@@ -82,13 +83,18 @@ IsFinishedAt {S} {O} takes finishes edition kind t from e =
     → MatchOption (index_of e) ⊤ (λ index. (kind ≡ item_field) × (out : O)
     × IsVisited takes finishes from (events kind raw) out)
 
--- The visitor is asked for its answer after an item whatever follows, and after members at the end alone.
+-- An error with an index comes after the visitor has taken all events that the reader gives of the field.
+abbrev pub TookAllOf : {S : Type 0} → (S → TreeEvent → S → Type 0) → Edition → FieldKind → List ℕ → S → Error → Type 0
+TookAllOf {S} takes edition kind t from e = MatchOption (index_of e) ⊤
+    (λ index. (to : S) × Visited takes (events kind) (whole_field_at edition kind t) from to)
+
+-- The visitor finishes here: after an item whatever follows, and after members only at the end of the input.
 abbrev pub IsAskedThere : FieldKind → List ℕ → Type 0
 IsAskedThere item_field q = ⊤
 IsAskedThere list_field q = q ≡ []
 IsAskedThere dictionary_field q = q ≡ []
 
--- The same of a whole field, after which the visitor gives its answer, or fails to.
+-- The result of parsing a whole field with a visitor, which then finishes or fails to finish.
 abbrev pub VisitsField : {S O E : Type 0} → (S → TreeEvent → S → Type 0) → (S → TreeEvent → E → Type 0)
     → (S → O → Type 0) → (S → E → Type 0) → Edition → (kind : FieldKind) → List ℕ → S → Result O (ParseError E) → Type 0
 VisitsField takes fails finishes finish_fails edition kind t from (Ok out) = (raw : RawField kind)
@@ -96,7 +102,7 @@ VisitsField takes fails finishes finish_fails edition kind t from (Ok out) = (ra
 VisitsField takes fails finishes finish_fails edition kind t from (Err (Syntax e)) =
     MatchOption (index_of e) (IsRefusal t e)
     (λ index. (located_whole (read_field edition kind t) ≡ Err (kind_of e, drop index t)) × (index ≤ length t))
-    × IsFinishedAt takes finishes edition kind t from e
+    × IsFinishedAt takes finishes edition kind t from e × TookAllOf takes edition kind t from e
 VisitsField {S} takes fails finishes finish_fails edition kind t from (Err (Visitor f)) =
     VisitorFails takes fails (events kind) (whole_field_at edition kind t) from f
     ⊎ ((raw : RawField kind) × (q : List ℕ) × (s : S) × (whole_field_at edition kind t ≡ Ok (raw, q))

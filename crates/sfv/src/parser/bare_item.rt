@@ -1,4 +1,4 @@
-//! Reading bare items (RFC 9651, sections 4.2.3.1 and 4.2.5 to 4.2.10).
+//! Parsing of bare items (RFC 9651, sections 4.2.3.1 and 4.2.5 to 4.2.10).
 
 ghost use Rattle.std.specs.Prelude.{◌≡◌, true, IfOk};
 ghost use Rattle.sfv_spec.specs.Ascii.{double_quote, percent_sign, colon};
@@ -19,7 +19,7 @@ use sfv_base::date::Date;
 use sfv_base::error::{Error, ErrorKind};
 
 impl<'de> Cursor<'de> {
-    /// Takes a boolean after its question mark.
+    /// Parses a boolean after its question mark.
     #[tactic(auto, using(crate::proofs::reads::Steps::boolean_steps))]
     fn boolean(&mut self) -> Result<bool, Error>
         ensures { Reads (λ b. boolean b) self.old self.new result boolean_at }
@@ -33,7 +33,7 @@ impl<'de> Cursor<'de> {
         Err(self.error(ErrorKind::ExpectedBoolean))
     }
 
-    /// Takes the sign `@` and the seconds of a date.
+    /// Parses a date: the sign `@` and the seconds.
     fn date(&mut self) -> Result<Date, Error>
         requires { NextIs (byte at_sign) true (rest self.old) }
         ensures { Reads (λ d. date (seconds_of d)) self.old self.new result (date_at rfc9651) }
@@ -46,7 +46,6 @@ impl<'de> Cursor<'de> {
         }
     }
 
-    /// Takes a boolean as a bare item.
     #[inline(never)]
     fn boolean_item(&mut self) -> Result<BareItemFromInput<'de>, Error>
         requires { NextIs (byte question_mark) true (rest self.old) }
@@ -57,7 +56,6 @@ impl<'de> Cursor<'de> {
         Ok(GenericBareItem::Boolean(self.boolean()?))
     }
 
-    /// Takes a string as a bare item.
     #[inline(never)]
     fn string_item(&mut self) -> Result<BareItemFromInput<'de>, Error>
         requires { NextIs (byte double_quote) true (rest self.old) }
@@ -68,7 +66,6 @@ impl<'de> Cursor<'de> {
         Ok(GenericBareItem::String(self.string()?))
     }
 
-    /// Takes a byte sequence as a bare item.
     #[inline(never)]
     fn byte_sequence_item(&mut self) -> Result<BareItemFromInput<'de>, Error>
         requires { NextIs (byte colon) true (rest self.old) }
@@ -79,7 +76,7 @@ impl<'de> Cursor<'de> {
         Ok(GenericBareItem::ByteSequence(self.byte_sequence()?))
     }
 
-    /// Takes a date as a bare item, which RFC 8941 has not.
+    /// Parses a date as a bare item. RFC 8941 has no dates.
     #[inline(never)]
     #[tactic(auto, using(crate::proofs::reads::Steps::older_steps))]
     fn date_item(&mut self) -> Result<BareItemFromInput<'de>, Error>
@@ -93,7 +90,7 @@ impl<'de> Cursor<'de> {
         }
     }
 
-    /// Takes a display string as a bare item, which RFC 8941 has not.
+    /// Parses a display string as a bare item. RFC 8941 has no display strings.
     #[inline(never)]
     #[tactic(auto, using(crate::proofs::reads::Steps::older_steps))]
     fn display_string_item(&mut self) -> Result<BareItemFromInput<'de>, Error>
@@ -107,7 +104,6 @@ impl<'de> Cursor<'de> {
         }
     }
 
-    /// Takes a number as a bare item.
     #[inline(always)]
     fn number_item(&mut self) -> Result<BareItemFromInput<'de>, Error>
         requires { NextIs is_number_start true (rest self.old) }
@@ -120,7 +116,7 @@ impl<'de> Cursor<'de> {
         })
     }
 
-    /// Takes a token as a bare item.
+    /// Parses a token as a bare item, or fails if no bare item begins here.
     #[inline(never)]
     fn token_item(&mut self) -> Result<BareItemFromInput<'de>, Error>
         requires { bare_at (edition self.old) (rest self.old) ≡ token_at (rest self.old) }
@@ -130,7 +126,7 @@ impl<'de> Cursor<'de> {
         Ok(GenericBareItem::Token(self.token()?))
     }
 
-    /// Whether a byte stands next that a number may begin with.
+    /// Returns `true` if the next byte may begin a number.
     #[inline(always)]
     pub(super) fn next_is_number_start(&self) -> bool
         ensures { NextIs is_number_start result (rest self.now) }
@@ -139,15 +135,15 @@ impl<'de> Cursor<'de> {
             .is_some_and(|byte| is_digit_byte(byte) || byte == b'-')
     }
 
-    /// Takes a bare item. Its first byte decides of which kind it is. A string or a display string is a slice of the
-    /// input if it has no escape.
+    /// Parses a bare item. The first byte decides its kind. A string or display string without an escape is a slice of
+    /// the input.
     #[inline(always)]
     pub(crate) fn bare_item(&mut self) -> Result<BareItemFromInput<'de>, Error>
         ensures read { ReadsOrOutOfMemory input_value self.old self.new result (bare_at (edition self.old)) }
         ensures borrowed { IfOk result (λ item. IsBorrowedUnlessEscaped item self.old self.new) }
     {
-        // Each kind but a number is taken by a function of its own, so that none pays for the room that the others
-        // need.
+        // Each kind except a number is parsed in its own function, so a call reserves stack only for the kind it
+        // parses.
         if self.next_is_number_start() {
             return self.number_item();
         }

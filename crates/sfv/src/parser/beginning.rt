@@ -1,4 +1,4 @@
-//! Looking at the first byte of a field that is no space. Where nothing begins there, nothing has been built of it yet.
+//! Early rejection: tests the first byte that is not a space, before a builder is created.
 
 ghost use Rattle.std.specs.Prelude.{IfErr};
 ghost use Rattle.sfv_spec.specs.Values.{item_field, list_field, dictionary_field};
@@ -13,7 +13,7 @@ use sfv_base::error::{Error, ErrorKind};
 use std::alloc::Global;
 
 impl Cursor<'_> {
-    /// Fails where no bare item begins.
+    /// Fails if the next byte begins no bare item.
     #[inline(always)]
     fn look_for_bare_item(&self) -> Result<(), Error>
         ensures { IfErr result (λ e. IsFaultOf (input self.now) e (bare_at (edition self.now) (rest self.now))) }
@@ -32,7 +32,7 @@ impl Cursor<'_> {
     }
 }
 
-/// Fails where no item begins.
+/// Fails if no item begins after leading spaces.
 #[inline(always)]
 pub(crate) fn look_for_item(parser: Parser<'_>, alloc: Global) -> Result<(), Error>
     ensures rejected { IfErr result (IsParseError (parser_edition parser.entry) item_field (input_of parser.entry)) }
@@ -43,7 +43,7 @@ pub(crate) fn look_for_item(parser: Parser<'_>, alloc: Global) -> Result<(), Err
     cursor.look_for_bare_item()
 }
 
-/// Fails where neither a member of a list begins nor the input ends.
+/// Fails if, after leading spaces, neither a list member begins nor the input ends.
 #[inline(always)]
 pub(crate) fn look_for_list(parser: Parser<'_>, alloc: Global) -> Result<(), Error>
     ensures rejected { IfErr result (IsParseError (parser_edition parser.entry) list_field (input_of parser.entry)) }
@@ -60,7 +60,7 @@ pub(crate) fn look_for_list(parser: Parser<'_>, alloc: Global) -> Result<(), Err
     cursor.look_for_bare_item()
 }
 
-/// Fails where neither a key begins nor the input ends.
+/// Fails if, after leading spaces, neither a key begins nor the input ends.
 #[inline(always)]
 pub(crate) fn look_for_dictionary(parser: Parser<'_>, alloc: Global) -> Result<(), Error>
     ensures rejected { IfErr result (IsParseError (parser_edition parser.entry) dictionary_field (input_of parser.entry)) }

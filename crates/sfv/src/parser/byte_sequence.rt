@@ -1,8 +1,8 @@
-//! Reading byte sequences (RFC 9651, section 4.2.7).
+//! Parsing of byte sequences (RFC 9651, section 4.2.7).
 //!
-//! The symbols and the padding are checked before any memory is asked for, so that `base64` is given only
-//! what it decodes: whole groups. Padding may be left out, and spare bits that aren't zeros have no meaning
-//! here, so the last symbols are decoded by hand.
+//! The symbols and the padding are checked before memory is allocated. `base64` decodes only whole groups of four
+//! symbols. The last two or three symbols are decoded here, because padding may be missing and their spare bits need
+//! not be zero.
 
 ghost use Rattle.std.specs.Prelude.{◌≡◌, ◌<◌, ◌%◌, ◌++◌, length, IfOk, IfErr, IsOk, OnOk};
 ghost use Rattle.sfv_spec.specs.Texts.{RunOf};
@@ -20,7 +20,7 @@ use base64::{DecodeAllocError, decoded_len_estimate};
 use sfv_base::error::{Error, ErrorKind};
 use std::alloc::{AllocError, Global};
 
-/// Appends the bytes of whole groups of four symbols, which have no spare bits.
+/// Appends the bytes of whole groups of four symbols. A whole group has no spare bits.
 fn append_groups(symbols: &[u8], bytes: &mut Vec<u8>) -> Result<(), AllocError>
     requires symbols { RunOf is_symbol symbols.now }
     requires whole { length symbols.now % 4 ≡ 0 }
@@ -33,7 +33,7 @@ fn append_groups(symbols: &[u8], bytes: &mut Vec<u8>) -> Result<(), AllocError>
     }
 }
 
-/// Appends the bytes of the symbols after the whole groups, whatever their spare bits are.
+/// Appends the bytes of the symbols after the whole groups, and ignores spare bits. A single symbol has no byte.
 #[tactic(auto, using(crate::proofs::reads::Coded::few_after, crate::proofs::reads::Coded::two_after, crate::proofs::reads::Coded::three_after))]
 fn append_last(symbols: &[u8], bytes: &mut Vec<u8>) -> Result<(), AllocError>
     requires symbols { RunOf is_symbol symbols.now }
@@ -52,7 +52,7 @@ fn append_last(symbols: &[u8], bytes: &mut Vec<u8>) -> Result<(), AllocError>
     Ok(())
 }
 
-/// The bytes of symbols, whatever their spare bits are.
+/// Decodes symbols, and ignores the spare bits of the last one.
 fn decode_symbols(alloc: Global, symbols: &[u8]) -> Result<Vec<u8>, AllocError>
     requires { RunOf is_symbol symbols.now }
     ensures { IfOk result (λ bytes. bytes.items ≡ decoded_symbols symbols.now) }
@@ -65,8 +65,8 @@ fn decode_symbols(alloc: Global, symbols: &[u8]) -> Result<Vec<u8>, AllocError>
 }
 
 impl Cursor<'_> {
-    /// Takes a byte sequence after its opening colon, with the closing one. Memory is asked for only where the
-    /// content is well formed.
+    /// Parses a byte sequence after its opening colon, with the closing colon. Allocates only if the content is well
+    /// formed.
     pub(super) fn byte_sequence(&mut self) -> Result<Vec<u8>, Error>
         ensures read { ReadsOrOutOfMemory vec_bytes self.old self.new result bytes_at }
         ensures out_of_memory { IfErr result (λ e. e ≡ out_of_memory → IsOk (bytes_at (rest self.old))) }
@@ -75,14 +75,14 @@ impl Cursor<'_> {
         let count = symbol_run(content);
         let end = count + padding_run(&content[count..], padding_after(count));
         if end == content.len() || content[end] != b':' {
-            // A colon further on closes the content, which is then malformed here.
+            // If a colon follows later, it closes the content, and the content is malformed here.
             return Err(if content[end..].contains(&b':') {
                 Error::at(ErrorKind::InvalidByteSequence, self.index + end)
             } else {
                 Error::at(ErrorKind::UnterminatedByteSequence, self.parser.input.len())
             });
         }
-        // A single symbol has fewer bits than a byte.
+        // A single symbol has six bits, fewer than a byte.
         if count % 4 == 1 {
             return Err(Error::at(ErrorKind::InvalidByteSequence, self.index + end - 1));
         }

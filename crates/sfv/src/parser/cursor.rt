@@ -1,4 +1,4 @@
-//! Where a reading stands in its input, and its steps: looking at the next byte, and taking it.
+//! A cursor over the input: it inspects and consumes the next byte.
 
 ghost use Rattle.std.specs.Prelude.{◌≡◌, ◌≤◌, ◌+◌, ◌++◌, ℕ, Bool, true, false, List, ◌∷◌, length, Some, Ok};
 ghost use Rattle.sfv_spec.specs.Texts.{RunOf};
@@ -13,7 +13,7 @@ use sfv_base::error::{Error, ErrorKind};
 use sfv_base::runs::{RunClass, run_end_from};
 use std::alloc::Global;
 
-/// Reads the input of a parser from left to right.
+/// A position in the input of a parser.
 #[derive(Clone, Copy)]
 pub(crate) struct Cursor<'de> {
     pub(super) parser: Parser<'de>,
@@ -26,7 +26,7 @@ impl<'de> Cursor<'de> {
     ghost use Rattle.sfv.specs.Parsers.{input_of};
     ghost use Rattle.sfv.specs.parser.Cursor.{kept, rest, NextIs, TakesIf, Skips};
 
-    /// At the start of the parser's input. Memory is asked of `alloc`.
+    /// Creates a cursor at the start of the parser's input. Parsing allocates from `alloc`.
     pub(super) fn new(parser: Parser<'de>, alloc: Global) -> Cursor<'de>
         ensures rest { rest result ≡ input_of parser.entry }
         ensures kept { kept result ≡ (parser.entry, alloc) }
@@ -38,7 +38,7 @@ impl<'de> Cursor<'de> {
         }
     }
 
-    /// The next byte.
+    /// Returns the next byte, or `None` at the end of the input.
     #[inline(always)]
     pub(super) fn peek(&self) -> Option<u8>
         ensures { result ≡ first (rest self.now) }
@@ -46,7 +46,7 @@ impl<'de> Cursor<'de> {
         self.parser.input.get(self.index).copied()
     }
 
-    /// Passes the next byte.
+    /// Consumes the next byte.
     #[inline(always)]
     pub(super) fn skip(&mut self)
         requires { 1 ≤ length (rest self.old) }
@@ -58,14 +58,14 @@ impl<'de> Cursor<'de> {
         self.index += 1;
     }
 
-    /// The error of this kind, at the next byte.
+    /// Returns an error of this kind at the index of the next byte.
     pub(super) fn error(&self, kind: ErrorKind) -> Error
         ensures { result ≡ error_of kind (Some self.now.index) }
     {
         Error::at(kind, self.index)
     }
 
-    /// Whether this byte stands next.
+    /// Returns `true` if the next byte is `wanted`.
     #[inline(always)]
     pub(super) fn next_is(&self, wanted: u8) -> bool
         ensures { NextIs (byte wanted) result (rest self.now) }
@@ -73,7 +73,7 @@ impl<'de> Cursor<'de> {
         self.peek() == Some(wanted)
     }
 
-    /// Whether a digit stands next.
+    /// Returns `true` if the next byte is a digit.
     #[inline(always)]
     pub(super) fn next_is_digit(&self) -> bool
         ensures { NextIs is_digit result (rest self.now) }
@@ -81,7 +81,7 @@ impl<'de> Cursor<'de> {
         self.peek().is_some_and(is_digit_byte)
     }
 
-    /// Takes the next byte, if it is this one.
+    /// Consumes the next byte if it is `wanted`, and returns `true` if it was.
     #[inline(always)]
     pub(super) fn take_if(&mut self, wanted: u8) -> bool
         ensures takes { TakesIf (byte wanted) result (rest self.old) (rest self.new) }
@@ -94,7 +94,7 @@ impl<'de> Cursor<'de> {
         found
     }
 
-    /// Takes digits, up to `most`.
+    /// Consumes the digits that come next, at most `most` of them.
     #[inline(always)]
     pub(super) fn digits(&mut self, most: usize) -> Digits
         requires { most ≤ 15 }
@@ -108,7 +108,7 @@ impl<'de> Cursor<'de> {
         digits
     }
 
-    /// Takes the bytes of the class that stand next.
+    /// Consumes the longest run of bytes of the class.
     #[inline(always)]
     pub(super) fn run<C: RunClass>(&mut self) -> &'de [u8]
         ensures each { RunOf C.class result.now }
@@ -121,7 +121,7 @@ impl<'de> Cursor<'de> {
         &self.parser.input[start..self.index]
     }
 
-    /// Takes the next byte, and the bytes of the class that stand after it.
+    /// Consumes the next byte and the longest run of bytes of the class after it.
     #[inline(always)]
     pub(super) fn byte_and_run<C: RunClass>(&mut self) -> &'de [u8]
         requires { 1 ≤ length (rest self.old) }
@@ -136,7 +136,7 @@ impl<'de> Cursor<'de> {
         &self.parser.input[start..self.index]
     }
 
-    /// Takes spaces.
+    /// Consumes spaces.
     #[inline(always)]
     pub(super) fn skip_sp(&mut self)
         ensures skipped { (s : List ℕ) × (span is_space (rest self.old) ≡ Ok (s, rest self.new)) }
@@ -145,7 +145,7 @@ impl<'de> Cursor<'de> {
         while self.take_if(b' ') {}
     }
 
-    /// Takes spaces and tabs.
+    /// Consumes spaces and tabs.
     #[inline(always)]
     pub(super) fn skip_ows(&mut self)
         ensures skipped { (s : List ℕ) × (span is_space_or_tab (rest self.old) ≡ Ok (s, rest self.new)) }

@@ -1,4 +1,4 @@
-//! Runs of digits, and the numbers that they spell.
+//! Runs of digits, and their values.
 
 ghost use Rattle.std.specs.Prelude.{◌≡◌, ◌≤◌, ◌<◌, ◌^◌, ◌*◌, ◌-◌, ℕ, true, false, List, length, take, drop, Ok};
 ghost use Rattle.std.specs.Prelude.{MatchOption};
@@ -14,7 +14,7 @@ pub(crate) fn is_digit_byte(byte: u8) -> bool
     byte.is_ascii_digit()
 }
 
-/// The number that a digit stands for. One subtraction tells it, and whether the byte is a digit.
+/// Returns the value of a digit. One subtraction both tests the byte and computes the value.
 #[inline(always)]
 fn digit_of(byte: u8) -> Option<u64>
     ensures { MatchOption result (is_digit byte ≡ false)
@@ -24,14 +24,14 @@ fn digit_of(byte: u8) -> Option<u64>
     if value < 10 { Some(value) } else { None }
 }
 
-/// Digits in a row: how many they are, and the number that they spell.
+/// A run of digits: its length, and its value as a decimal number.
 #[derive(Clone, Copy)]
 pub(crate) struct Digits {
     pub(crate) count: usize,
     pub(crate) value: u64,
 }
 
-/// The digits that the bytes begin with, up to `most`. One pass counts them and sums them up.
+/// Counts the digits at the start of `bytes`, at most `most`, and computes their value in the same pass.
 #[inline(always)]
 pub(crate) fn digit_run(bytes: &[u8], most: usize) -> Digits
     requires { most ≤ 15 }
@@ -52,7 +52,7 @@ pub(crate) fn digit_run(bytes: &[u8], most: usize) -> Digits
     Digits { count, value }
 }
 
-/// The thousandths that the digits of a fraction spell.
+/// Returns the thousandths of a fraction of one to three digits.
 pub(crate) fn thousandths(digits: Digits) -> u64
     requires spells { (ds : List ℕ) × Spells ds digits }
     requires some { 1 ≤ digits.count }

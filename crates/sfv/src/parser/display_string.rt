@@ -1,4 +1,4 @@
-//! Reading display strings (RFC 9651, section 4.2.10).
+//! Parsing of display strings (RFC 9651, section 4.2.10).
 
 ghost use Rattle.std.specs.Prelude.{◌≡◌, ◌≤◌, ◌↔◌, ℕ, List, true, length, drop, IfOk, IsTrue, Ok};
 ghost use Rattle.sfv_spec.specs.Ascii.{percent_sign};
@@ -15,7 +15,7 @@ use crate::parser::quoted::{InDisplayString, QuotedBytes};
 use sfv_base::error::{Error, ErrorKind};
 use std::borrow::CowStr;
 
-/// Where what stands after the first `count` bytes begins, each of them plain or an escape.
+/// Returns the input offset after the first `count` decoded bytes: one input byte for each, or three for an escape.
 fn place(input: &[u8], start: usize, count: usize) -> usize
     requires within { start ≤ length input.now }
     requires pieces { (bytes : List ℕ) × (rest : List ℕ)
@@ -30,7 +30,8 @@ fn place(input: &[u8], start: usize, count: usize) -> usize
     index
 }
 
-/// The text of the bytes that were read from there on, if they are UTF-8.
+/// Returns the decoded bytes as text if they are UTF-8. Otherwise fails at the input offset of the first invalid byte;
+/// `start` is the offset of the first byte.
 fn text_of(input: &[u8], start: usize, bytes: Vec<u8>) -> Result<String, Error>
     requires within { start ≤ length input.now }
     requires read { (rest : List ℕ) × (pieces_from outside (drop start input.now) ≡ Ok (bytes.items, rest)) }
@@ -48,7 +49,8 @@ fn text_of(input: &[u8], start: usize, bytes: Vec<u8>) -> Result<String, Error>
 }
 
 impl<'de> Cursor<'de> {
-    /// Takes the sign `%` and the quoted text of a display string: a slice of the input if it has no escape.
+    /// Parses a display string: the sign `%` and the quoted text. Without an escape, the result is a slice of the
+    /// input.
     pub(super) fn display_string(&mut self) -> Result<CowStr<'de>, Error>
         requires { NextIs (byte percent_sign) true (rest self.old) }
         ensures read { ReadsOrOutOfMemory display_value_of self.old self.new result (quoted_at rfc9651) }
@@ -62,7 +64,7 @@ impl<'de> Cursor<'de> {
         let start = self.index;
         match self.quoted_text::<InDisplayString>()? {
             QuotedBytes::Plain(bytes) => {
-                // Plain bytes are ASCII, so they are a text as they stand.
+                // SAFETY: plain bytes of a display string are ASCII.
                 let text = unsafe { std::str::from_utf8_unchecked(bytes) };
                 Ok(CowStr::Borrowed(text))
             }

@@ -1,4 +1,4 @@
-//! Reading whole fields (RFC 9651, section 4.2).
+//! Parsing of whole fields (RFC 9651, section 4.2).
 
 ghost use Rattle.std.specs.Prelude.{IfOk, IfErr};
 ghost use Rattle.sfv_spec.specs.Values.{item_field};
@@ -14,8 +14,8 @@ use sfv_base::error::{ErrorKind, ParseError};
 use sfv_visitor::visitor::Visitor;
 use std::alloc::Global;
 
-/// Reads the input as an item, and visits its parts. The visitor is finished before it is known whether anything
-/// stands after the item.
+/// Parses the input as an item, and passes its parts to `visitor`. The visitor is finished before the check for
+/// characters after the item.
 pub(crate) fn parse_item_field<'de, V: Visitor<'de>>(
     parser: Parser<'de>,
     alloc: Global,
@@ -40,8 +40,8 @@ pub(crate) fn parse_item_field<'de, V: Visitor<'de>>(
     Ok(out)
 }
 
-/// Reads the input as a list or a dictionary, by the kind of its members, and visits its parts. The visitor is finished
-/// where the input has ended.
+/// Parses the input as members of the kind `M`, and passes their parts to `visitor`. The visitor is finished at the end
+/// of the input.
 pub(crate) fn parse_members_field<'de, M: Member<'de, V>, V: Visitor<'de>>(
     parser: Parser<'de>,
     alloc: Global,

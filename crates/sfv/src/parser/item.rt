@@ -1,4 +1,4 @@
-//! Reading parameters and items (RFC 9651, sections 4.2.3 and 4.2.3.2).
+//! Parsing of items and parameters (RFC 9651, sections 4.2.3 and 4.2.3.2).
 
 ghost use Rattle.std.specs.Prelude.{option_map, OnOk, IfOk, IfErr, IfSome};
 ghost use Rattle.sfv_spec.specs.Events.{parameters_events, item_events};
@@ -14,7 +14,7 @@ use sfv_base::error::{Error, ParseError};
 use sfv_text::key_ref::KeyRef;
 use sfv_visitor::visitor::{Event, Visitor};
 
-/// A parameter with its key as it stands in the input.
+/// A parsed parameter, with its key as a slice of the input.
 #[derive(Drop)]
 pub(crate) struct ReadParameter<'de> {
     pub(crate) key: KeyRef<'de>,
@@ -25,7 +25,7 @@ impl<'de> Cursor<'de> {
     ghost use Rattle.sfv.specs.parser.Values.{read_pair};
     ghost use Rattle.sfv.specs.parser.Quoted.{IsBorrowedValue, IsBorrowedParameter};
 
-    /// Takes the value of a parameter after its key: without `=` it is true.
+    /// Parses the value of a parameter after its key. Without `=`, the value is true.
     #[inline(always)]
     #[tactic(auto, using(crate::proofs::reads::Steps::value_steps))]
     fn parameter_value(&mut self) -> Result<BareItemFromInput<'de>, Error>
@@ -39,8 +39,8 @@ impl<'de> Cursor<'de> {
         }
     }
 
-    /// Takes a parameter, if a semicolon stands next.
-    // Inlined into the loop that visits it: handed over by a call it takes 95 instructions more.
+    /// Parses a parameter, or returns `None` if the next byte is not a semicolon.
+    // Inlined into its only loop: as a call it takes 95 more instructions.
     #[inline(always)]
     #[tactic(auto, using(crate::proofs::reads::Steps::parameter_steps))]
     fn parameter(&mut self) -> Result<Option<ReadParameter<'de>>, Error>
@@ -58,7 +58,7 @@ impl<'de> Cursor<'de> {
         Ok(Some(ReadParameter { key, value }))
     }
 
-    /// Takes parameters, be there any or none, and visits each of them and their end.
+    /// Parses parameters in a loop, and passes each of them and their end to `visitor`.
     #[inline(never)]
     fn some_parameters<V: Visitor<'de>>(
         &mut self,
@@ -75,7 +75,7 @@ impl<'de> Cursor<'de> {
         visit(visitor, Event::ParametersEnd)
     }
 
-    /// Takes parameters, and visits each of them and their end.
+    /// Parses any number of parameters, and passes each of them and their end to `visitor`.
     #[inline(always)]
     pub(crate) fn parameters<V: Visitor<'de>>(
         &mut self,
@@ -86,14 +86,14 @@ impl<'de> Cursor<'de> {
         ensures visited { Visits V.takes V.fails parameters_events self.old self.new visitor.old visitor.new
             result parameters_at }
     {
-        // Most items have none: they shouldn't pay for the room that the others need.
+        // Most items have no parameters. This path avoids the stack frame of the loop.
         if !self.next_is(b';') {
             return visit(visitor, Event::ParametersEnd);
         }
         self.some_parameters(visitor)
     }
 
-    /// Takes an item, and visits its parts.
+    /// Parses an item, and passes its parts to `visitor`.
     #[inline(always)]
     pub(crate) fn item<V: Visitor<'de>>(
         &mut self,

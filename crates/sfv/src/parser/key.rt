@@ -1,4 +1,4 @@
-//! Reading keys (RFC 9651, section 4.2.3.3).
+//! Parsing of keys (RFC 9651, section 4.2.3.3).
 
 ghost use Rattle.std.specs.Prelude.{◌≡◌, ◌++◌, IfOk};
 ghost use Rattle.sfv_spec.specs.Classes.{is_key_start};
@@ -13,7 +13,7 @@ use sfv_base::utils::is_allowed_start_key_char;
 use sfv_text::key_ref::KeyRef;
 
 impl<'de> Cursor<'de> {
-    /// Whether a byte stands next that a key may begin with.
+    /// Returns `true` if the next byte may begin a key.
     #[inline(always)]
     pub(super) fn next_is_key_start(&self) -> bool
         ensures { NextIs is_key_start result (rest self.now) }
@@ -21,7 +21,6 @@ impl<'de> Cursor<'de> {
         self.peek().is_some_and(is_allowed_start_key_char)
     }
 
-    /// Takes a key.
     #[tactic(auto, using(crate::proofs::reads::Steps::key_steps))]
     pub(crate) fn key(&mut self) -> Result<KeyRef<'de>, Error>
         ensures read { Reads key_text self.old self.new result key_at }
@@ -30,7 +29,7 @@ impl<'de> Cursor<'de> {
         if !self.next_is_key_start() {
             return Err(self.error(ErrorKind::ExpectedStartOfKey));
         }
-        // The bytes of a key are ASCII, so they are a text as they stand.
+        // SAFETY: the bytes of a key are ASCII.
         let bytes = self.byte_and_run::<InnerKey>();
         let text = unsafe { std::str::from_utf8_unchecked(bytes) };
         Ok(KeyRef::constant(text))

@@ -1,4 +1,4 @@
-//! Reading inner lists, and the members of lists and dictionaries (RFC 9651, sections 4.2.1 and 4.2.2).
+//! Parsing of inner lists, and of the members of lists and dictionaries (RFC 9651, sections 4.2.1 and 4.2.2).
 
 ghost use Rattle.std.specs.Prelude.{◌≡◌, [], Bool, true, false, OnOk, flat_map};
 ghost use Rattle.sfv_spec.specs.Events.{member_events, inner_item_events};
@@ -15,7 +15,7 @@ use sfv_base::error::{Error, ErrorKind, ParseError};
 use sfv_visitor::visitor::{Event, Visitor};
 
 impl<'de> Cursor<'de> {
-    /// Takes an item of an inner list, and visits its parts.
+    /// Parses an item of an inner list, and passes its parts to `visitor`.
     fn inner_item<V: Visitor<'de>>(&mut self, visitor: &mut V) -> Result<(), ParseError<V::Error>>
         requires { V.is_ready visitor.old }
         ensures ready { OnOk result (V.is_ready visitor.new) }
@@ -26,8 +26,8 @@ impl<'de> Cursor<'de> {
         self.item(visitor)
     }
 
-    /// Takes the spaces between two items of an inner list, or its closing parenthesis. Returns whether an item is
-    /// wanted.
+    /// Consumes the spaces between two items of an inner list, or its closing parenthesis. Returns `true` if another
+    /// item follows.
     #[inline(always)]
     fn consume_item_delimiter(&mut self) -> Result<bool, Error>
         ensures { Reads (λ wants. wants) self.old self.new result item_delimiter_at }
@@ -46,7 +46,8 @@ impl<'de> Cursor<'de> {
         }
     }
 
-    /// Takes the items of an inner list after its opening parenthesis, and the closing one. Visits the items.
+    /// Parses the items of an inner list after its opening parenthesis, with the closing one, and passes the items to
+    /// `visitor`.
     fn inner_items<V: Visitor<'de>>(&mut self, visitor: &mut V) -> Result<(), ParseError<V::Error>>
         requires { V.is_ready visitor.old }
         ensures ready { OnOk result (V.is_ready visitor.new) }
@@ -68,7 +69,7 @@ impl<'de> Cursor<'de> {
         Ok(())
     }
 
-    /// Takes an inner list after its opening parenthesis, and its parameters. Visits its parts.
+    /// Parses an inner list after its opening parenthesis, with its parameters, and passes its parts to `visitor`.
     #[inline(never)]
     fn inner_list<V: Visitor<'de>>(&mut self, visitor: &mut V) -> Result<(), ParseError<V::Error>>
         requires { V.is_ready visitor.old }
@@ -81,7 +82,7 @@ impl<'de> Cursor<'de> {
         self.parameters(visitor)
     }
 
-    /// Takes a member of a list or a dictionary, and visits its parts.
+    /// Parses an item or an inner list, and passes its parts to `visitor`.
     #[inline(always)]
     pub(crate) fn member<V: Visitor<'de>>(
         &mut self,
@@ -100,8 +101,8 @@ impl<'de> Cursor<'de> {
         self.item(visitor)
     }
 
-    /// Takes the comma between two members, with the spaces and tabs around it. Returns whether a member is wanted, and
-    /// not the end of the input.
+    /// Consumes the comma between two members, with the spaces and tabs around it. Returns `true` if another member
+    /// follows, and `false` at the end of the input.
     #[inline(always)]
     fn consume_comma(&mut self) -> Result<bool, Error>
         ensures { Reads (λ wants. wants) self.old self.new result member_delimiter_at }
@@ -110,7 +111,7 @@ impl<'de> Cursor<'de> {
         if self.peek().is_none() {
             return Ok(false);
         }
-        // The fault that stands here if the input ends after the comma.
+        // The error if the input ends after the comma.
         let comma = self.error(ErrorKind::TrailingComma);
         if !self.take_if(b',') {
             return Err(self.error(ErrorKind::TrailingCharactersAfterMember));
@@ -122,8 +123,8 @@ impl<'de> Cursor<'de> {
         Ok(true)
     }
 
-    /// Takes what stands after the key of a member of a dictionary, and visits its parts. Without `=` it is the item
-    /// true.
+    /// Parses the rest of a dictionary member after its key, and passes its parts to `visitor`. Without `=`, the member
+    /// is the item true.
     #[inline(always)]
     fn member_value<V: Visitor<'de>>(&mut self, visitor: &mut V) -> Result<(), ParseError<V::Error>>
         requires { V.is_ready visitor.old }
@@ -139,7 +140,7 @@ impl<'de> Cursor<'de> {
         self.parameters(visitor)
     }
 
-    /// Takes members up to the end of the input, and visits their parts.
+    /// Parses members up to the end of the input, and passes their parts to `visitor`.
     pub(super) fn members<M: Member<'de, V>, V: Visitor<'de>>(
         &mut self,
         visitor: &mut V,
@@ -163,11 +164,11 @@ impl<'de> Cursor<'de> {
     }
 }
 
-/// A kind of member, of lists or of dictionaries.
+/// A kind of member: list members or dictionary members.
 pub(super) trait Member<'de, V: Visitor<'de>> {
     ghost keyed: { Bool };
 
-    /// Takes a member, and visits its parts.
+    /// Parses a member, and passes its parts to `visitor`.
     fn consume(cursor: &mut Cursor<'de>, visitor: &mut V) -> Result<(), ParseError<V::Error>>
         requires { V.is_ready visitor.old }
         ensures ready { OnOk result (V.is_ready visitor.new) }
@@ -176,7 +177,7 @@ pub(super) trait Member<'de, V: Visitor<'de>> {
             (one_member_at keyed) };
 }
 
-/// A member of a list, which is visited as one before it is looked at.
+/// A member of a list. The visitor receives its first event before the member is parsed.
 pub(super) struct Entry;
 
 impl<'de, V: Visitor<'de>> Member<'de, V> for Entry {
@@ -189,7 +190,7 @@ impl<'de, V: Visitor<'de>> Member<'de, V> for Entry {
     }
 }
 
-/// A member of a dictionary, which is visited once its key has been read.
+/// A member of a dictionary. The visitor receives its first event once the key is parsed.
 pub(super) struct KeyedEntry;
 
 impl<'de, V: Visitor<'de>> Member<'de, V> for KeyedEntry {

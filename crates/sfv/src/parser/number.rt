@@ -1,4 +1,4 @@
-//! Reading numbers (RFC 9651, section 4.2.4).
+//! Parsing of numbers (RFC 9651, section 4.2.4).
 
 ghost use Rattle.std.specs.Prelude.{◌≡◌, ◌≤◌, ◌<◌, ◌^◌, ℕ, Bool, true, List, Ok};
 ghost use Rattle.sfv_spec.proofs.Marks.{dot};
@@ -16,14 +16,14 @@ use sfv_base::decimal::Decimal;
 use sfv_base::error::{Error, ErrorKind};
 use sfv_base::integer::Integer;
 
-/// A number of either kind.
+/// An integer or a decimal.
 #[derive(Clone, Copy)]
 pub(crate) enum Number {
     Integer(Integer),
     Decimal(Decimal),
 }
 
-/// The number of this sign and magnitude.
+/// Returns the integer with this sign and magnitude. A decimal passes its thousandths.
 fn signed(negative: bool, magnitude: u64) -> Integer
     requires { magnitude < 10 ^ 15 }
     ensures { integer_of result ≡ with_sign negative magnitude }
@@ -33,7 +33,7 @@ fn signed(negative: bool, magnitude: u64) -> Integer
 }
 
 impl Cursor<'_> {
-    /// Takes a minus, if it stands next.
+    /// Consumes a minus sign, if there is one, and returns `true` if there was.
     #[tactic(auto, using(crate::proofs::reads::Steps::sign_takes))]
     fn sign(&mut self) -> bool
         ensures sign { sign_at (rest self.old) ≡ Ok (result, rest self.new) }
@@ -42,7 +42,7 @@ impl Cursor<'_> {
         self.take_if(b'-')
     }
 
-    /// Takes a number, by itself or as the seconds of a date.
+    /// Parses a number. The number is a bare item, or the seconds of a date.
     #[inline(always)]
     #[tactic(auto, using(crate::proofs::reads::Steps::number_steps))]
     pub(crate) fn number(&mut self) -> Result<Number, Error>
@@ -53,7 +53,7 @@ impl Cursor<'_> {
         self.behind_whole(negative, whole)
     }
 
-    /// Takes what stands after the whole part of a number.
+    /// Parses the rest of a number after its whole part.
     #[inline(always)]
     #[tactic(auto, using(crate::proofs::reads::Steps::whole_steps))]
     fn behind_whole(&mut self, negative: bool, whole: Digits) -> Result<Number, Error>
@@ -77,7 +77,7 @@ impl Cursor<'_> {
         self.fraction(negative, whole)
     }
 
-    /// Takes the point and the fraction of a decimal.
+    /// Parses the point and the fraction of a decimal.
     #[inline(always)]
     #[tactic(auto, using(crate::proofs::reads::Steps::point_steps))]
     fn fraction(&mut self, negative: bool, whole: Digits) -> Result<Number, Error>

@@ -1,4 +1,4 @@
-//! Reading what stands between two quotes: the inside of a string or of a display string.
+//! Parsing between two quotes: the inside of a string or a display string.
 
 ghost use Rattle.std.specs.Prelude.{◌≡◌, ◌++◌, ◌↔◌, Bool, true, false, IfOk, IfSome, IsTrue};
 ghost use Rattle.sfv_spec.specs.Ascii.{double_quote};
@@ -25,18 +25,18 @@ pub(super) trait QuotedText {
     fn mark() -> u8
         ensures { result ≡ mark_of display };
 
-    /// Returns what is wrong where the text can't go on: at a byte, or at the end of the input.
+    /// Returns the kind of the error where the text cannot continue: at a byte, or at the end of the input.
     fn stop(at_byte: bool) -> ErrorKind
         ensures { result ≡ stop_of display at_byte };
 
-    /// Takes the bytes that the text writes for themselves.
+    /// Consumes the longest run of bytes that denote themselves.
     fn plain<'de>(cursor: &mut Cursor<'de>) -> &'de [u8]
         ensures each { RunOf (plain_of display) result.now }
         ensures taken { rest cursor.old ≡ result.now ++ rest cursor.new }
         ensures ends { Apart (plain_of display) (rest cursor.new) }
         ensures kept { kept cursor.new ≡ kept cursor.old };
 
-    /// Takes the byte that an escape stands for, after its mark.
+    /// Consumes the rest of an escape after its mark, and returns the byte that it denotes.
     fn escaped(cursor: &mut Cursor<'_>) -> Result<u8, Error>
         ensures { ReadsEscape display cursor.old cursor.new result };
 }
@@ -98,7 +98,7 @@ impl QuotedText for InDisplayString {
     }
 
     fn escaped(cursor: &mut Cursor<'_>) -> Result<u8, Error> {
-        // Mostly both digits stand there: then one look tells it.
+        // Most escapes are complete. One bounds check then serves both digits.
         if let Some(byte) = cursor.next_escape() {
             cursor.skip();
             cursor.skip();
@@ -110,16 +110,16 @@ impl QuotedText for InDisplayString {
     }
 }
 
-/// The bytes of a quoted text.
+/// The decoded bytes of a quoted text.
 #[derive(Drop)]
 pub(super) enum QuotedBytes<'de> {
-    /// Without an escape, they are a slice of the input.
+    /// The text has no escape; the bytes are a slice of the input.
     Plain(&'de [u8]),
     Unescaped(Vec<u8>),
 }
 
 impl<'de> Cursor<'de> {
-    /// The byte that two digits of an escape stand for, if two stand next.
+    /// Returns the byte that the next two bytes denote, if both are digits of an escape.
     #[inline(always)]
     fn next_escape(&self) -> Option<u8>
         ensures { IfSome result (IsNextEscape (rest self.now)) }
@@ -133,7 +133,7 @@ impl<'de> Cursor<'de> {
         Some(16 * high + low)
     }
 
-    /// Takes a digit of an escape, and returns its value.
+    /// Consumes a digit of an escape, and returns its value.
     fn escape_digit(&mut self) -> Result<u8, Error>
         ensures { ReadsDigit self.old self.new result }
     {
@@ -147,7 +147,7 @@ impl<'de> Cursor<'de> {
         Ok(value)
     }
 
-    /// The error where a quoted text can't go on.
+    /// Returns the error at a byte that cannot continue the text, or at the end of the input.
     fn stop<Q: QuotedText>(&self) -> Error
         requires plain { Apart (plain_of Q.display) (rest self.now) }
         requires quote { Apart (byte double_quote) (rest self.now) }
@@ -157,7 +157,8 @@ impl<'de> Cursor<'de> {
         self.error(Q::stop(self.peek().is_some()))
     }
 
-    /// Takes the rest of a quoted text after the bytes `plain`, with its closing quote. Returns the bytes of both.
+    /// Parses the rest of a quoted text that begins with the bytes `plain`, with its closing quote. Returns all its
+    /// bytes.
     #[inline(never)]
     fn unescaped<Q: QuotedText>(&mut self, plain: &[u8]) -> Result<Vec<u8>, Error>
         requires { HoldsMark (input self.old) }
@@ -165,10 +166,10 @@ impl<'de> Cursor<'de> {
             (λ t. behind_bytes plain.now (inside Q.display t)) }
     {
         let mut bytes = Vec::from_slice(self.alloc, plain)?;
-        // A copy that no call keeps, so that its index stays in a register.
+        // No call keeps a reference to this copy, so its index stays in a register.
         let mut cursor = *self;
         while !cursor.take_if(b'"') {
-            // One escape often follows another: a run is looked for only where none stands.
+            // Escapes often come in sequence, so an escape is tried first, and then a run.
             if cursor.take_if(Q::mark()) {
                 let byte = Q::escaped(&mut cursor)?;
                 bytes.push(byte)?;
@@ -184,7 +185,7 @@ impl<'de> Cursor<'de> {
         Ok(bytes)
     }
 
-    /// Takes a quoted text after its opening quote, with the closing one.
+    /// Parses a quoted text after its opening quote, with the closing quote.
     pub(super) fn quoted_text<Q: QuotedText>(&mut self) -> Result<QuotedBytes<'de>, Error>
         ensures read { ReadsOrOutOfMemory quoted_bytes self.old self.new result (inside Q.display) }
         ensures each { IfOk result (λ text. IsTrue (is_plain text) → RunOf (plain_of Q.display) (quoted_bytes text)) }

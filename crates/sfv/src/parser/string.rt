@@ -1,4 +1,4 @@
-//! Reading strings (RFC 9651, section 4.2.5).
+//! Parsing of strings (RFC 9651, section 4.2.5).
 
 ghost use Rattle.std.specs.Prelude.{◌↔◌, false, IfOk, IsTrue};
 ghost use Rattle.sfv_bare.specs.BareItems.{read_text};
@@ -16,12 +16,13 @@ use sfv_text::string_ref::StringRef;
 use std::string::String as StdString;
 
 impl<'de> Cursor<'de> {
-    /// Takes a string after its opening quote, with the closing one: a slice of the input if it has no escape.
+    /// Parses a string after its opening quote, with the closing quote. Without an escape, the result is a slice of the
+    /// input.
     pub(super) fn string(&mut self) -> Result<StringFromInput<'de>, Error>
         ensures read { ReadsOrOutOfMemory read_text self.old self.new result string_at }
         ensures borrowed { IfOk result (λ text. IsTrue (is_borrowed_string text) ↔ HasNoMark false self.old self.new) }
     {
-        // The bytes of a string are ASCII, so they are a text as they stand.
+        // SAFETY: the bytes of a string are ASCII.
         match self.quoted_text::<InString>()? {
             QuotedBytes::Plain(bytes) => {
                 let text = unsafe { std::str::from_utf8_unchecked(bytes) };

@@ -1,4 +1,4 @@
-//! The symbols of Base64 (RFC 4648, section 4), and runs of them.
+//! Runs of Base64 symbols and padding (RFC 4648, section 4).
 
 ghost use Rattle.std.specs.Prelude.{◌≡◌, ◌<◌, IsTrue};
 ghost use Rattle.sfv_spec.proofs.Marks.{is_symbol};
@@ -7,7 +7,7 @@ ghost use Rattle.sfv.specs.parser.Base64.{IsSymbolRun, IsPaddingRun};
 
 use sfv_base::runs::{Symbol, long_run_end};
 
-/// The value of a symbol.
+/// Returns the value of a Base64 symbol.
 #[tactic(auto, unfolding(sfv_spec::proofs::Marks::is_symbol, sfv_reading::specs::Content::symbol_value))]
 pub(crate) fn value_of(byte: u8) -> u8
     requires { IsTrue (is_symbol byte) }
@@ -23,14 +23,14 @@ pub(crate) fn value_of(byte: u8) -> u8
     }
 }
 
-/// How many symbols the bytes begin with.
+/// Returns the number of symbols at the start of `bytes`.
 pub(crate) fn symbol_run(bytes: &[u8]) -> usize
     ensures { IsSymbolRun bytes.now result }
 {
     long_run_end::<Symbol>(bytes)
 }
 
-/// How much padding the bytes begin with, up to `most`.
+/// Returns the number of padding bytes at the start of `bytes`, at most `most`.
 pub(crate) fn padding_run(bytes: &[u8], most: usize) -> usize
     ensures { IsPaddingRun bytes.now most result }
 {
@@ -41,7 +41,7 @@ pub(crate) fn padding_run(bytes: &[u8], most: usize) -> usize
     count
 }
 
-/// How much padding may follow so many symbols.
+/// Returns how many padding bytes may follow `count` symbols.
 pub(crate) fn padding_after(count: usize) -> usize
     ensures { result ≡ most_padding count }
 {

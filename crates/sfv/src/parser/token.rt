@@ -1,4 +1,4 @@
-//! Reading tokens (RFC 9651, section 4.2.6).
+//! Parsing of tokens (RFC 9651, section 4.2.6).
 
 ghost use Rattle.sfv_spec.specs.Classes.{is_token_start};
 ghost use Rattle.sfv_spec.specs.Values.{token};
@@ -13,7 +13,7 @@ use sfv_base::utils::is_allowed_start_token_char;
 use sfv_text::token_ref::TokenRef;
 
 impl<'de> Cursor<'de> {
-    /// Whether a byte stands next that a token may begin with.
+    /// Returns `true` if the next byte may begin a token.
     #[inline(always)]
     pub(super) fn next_is_token_start(&self) -> bool
         ensures { NextIs is_token_start result (rest self.now) }
@@ -21,7 +21,6 @@ impl<'de> Cursor<'de> {
         self.peek().is_some_and(is_allowed_start_token_char)
     }
 
-    /// Takes a token.
     #[tactic(auto, using(crate::proofs::reads::Steps::token_steps))]
     pub(crate) fn token(&mut self) -> Result<TokenRef<'de>, Error>
         ensures { Reads (λ t. token (token_text t)) self.old self.new result token_at }
@@ -29,7 +28,7 @@ impl<'de> Cursor<'de> {
         if !self.next_is_token_start() {
             return Err(self.error(ErrorKind::ExpectedStartOfBareItem));
         }
-        // The bytes of a token are ASCII, so they are a text as they stand.
+        // SAFETY: the bytes of a token are ASCII.
         let bytes = self.byte_and_run::<InnerToken>();
         let text = unsafe { std::str::from_utf8_unchecked(bytes) };
         Ok(TokenRef::constant(text))

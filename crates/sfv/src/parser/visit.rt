@@ -1,4 +1,4 @@
-//! Visiting an event, and finishing, with the errors of a parser.
+//! Calls of the visitor, with its errors as errors of parsing.
 
 ghost use Rattle.std.specs.Prelude.{OnOk, IfOk, IfErr};
 ghost use Rattle.sfv_visitor.specs.Events.{event_of};
@@ -7,7 +7,7 @@ ghost use Rattle.sfv.specs.parser.Visits.{IsOfVisitor};
 use sfv_base::error::ParseError;
 use sfv_visitor::visitor::{Event, Visitor};
 
-/// Visits an event, or fails with the visitor's error.
+/// Passes an event to the visitor.
 #[inline(always)]
 pub(crate) fn visit<'de, V: Visitor<'de>>(
     visitor: &mut V,
@@ -22,7 +22,7 @@ pub(crate) fn visit<'de, V: Visitor<'de>>(
     visitor.event(event).map_err(ParseError::Visitor)
 }
 
-/// Returns what the visitor makes of the events, or fails with its error.
+/// Finishes the visitor, and returns its result.
 #[inline(always)]
 pub(crate) fn finish<'de, V: Visitor<'de>>(visitor: V) -> Result<V::Out, ParseError<V::Error>>
     requires { V.is_ready visitor }

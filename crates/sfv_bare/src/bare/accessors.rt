@@ -1,4 +1,4 @@
-//! What a bare item holds, if it is of a kind. Each has two clauses: of the variant, and of the value.
+//! The accessors that all types of bare item share. Each has two clauses: `part` on the variant, `value` on the value.
 
 ghost use Rattle.std.specs.Prelude.{ℕ, List};
 ghost use Rattle.sfv_spec.specs.Values as values;
@@ -12,7 +12,7 @@ use sfv_base::decimal::Decimal;
 use sfv_base::integer::Integer;
 
 impl<S, B, T, D> GenericBareItem<S, B, T, D> {
-    /// Returns the decimal (RFC 9651, section 3.3.2), and `None` for another kind.
+    /// Returns the decimal (RFC 9651, section 3.3.2), or `None` for another kind.
     pub fn as_decimal(&self) -> Option<Decimal>
         ensures part { GivesPart code.Decimal (λ z. z) self.now result }
         ensures value { GivesPartBy values.decimal thousandths_of self.now result }
@@ -23,7 +23,7 @@ impl<S, B, T, D> GenericBareItem<S, B, T, D> {
         }
     }
 
-    /// Returns the integer (RFC 9651, section 3.3.1), and `None` for another kind.
+    /// Returns the integer (RFC 9651, section 3.3.1), or `None` for another kind.
     pub fn as_integer(&self) -> Option<Integer>
         ensures part { GivesPart code.Integer (λ z. z) self.now result }
         ensures value { GivesPartBy values.integer integer_of self.now result }
@@ -34,7 +34,7 @@ impl<S, B, T, D> GenericBareItem<S, B, T, D> {
         }
     }
 
-    /// Returns the boolean (RFC 9651, section 3.3.6), and `None` for another kind.
+    /// Returns the boolean (RFC 9651, section 3.3.6), or `None` for another kind.
     pub fn as_boolean(&self) -> Option<bool>
         ensures part { GivesPart code.Boolean (λ b. b) self.now result }
         ensures value { GivesPartBy values.boolean (λ b. b) self.now result }
@@ -45,7 +45,7 @@ impl<S, B, T, D> GenericBareItem<S, B, T, D> {
         }
     }
 
-    /// Returns the date (RFC 9651, section 3.3.7), and `None` for another kind.
+    /// Returns the date (RFC 9651, section 3.3.7), or `None` for another kind.
     pub fn as_date(&self) -> Option<Date>
         ensures part { GivesPart code.Date (λ z. z) self.now result }
         ensures value { GivesPartBy values.date seconds_of self.now result }
@@ -56,7 +56,7 @@ impl<S, B, T, D> GenericBareItem<S, B, T, D> {
         }
     }
 
-    /// Returns the display string (RFC 9651, section 3.3.8), and `None` for another kind.
+    /// Returns the display string (RFC 9651, section 3.3.8), or `None` for another kind.
     pub fn as_display_string(&self) -> Option<&D>
         ensures part { GivesPart code.DisplayString (λ text. text.now) self.now result }
         ensures value { (s : S → List ℕ) (b : B → List ℕ) (t : T → List ℕ) (d : D → List ℕ)

@@ -1,4 +1,4 @@
-//! Bare items whose text is borrowed (RFC 9651, section 3.3).
+//! Bare items with borrowed text (RFC 9651, section 3.3).
 
 ghost use Rattle.std.specs.Prelude.{◌≡◌, IfOk, IfErr, IsTrue};
 ghost use Rattle.sfv_spec.specs.Values as values;
@@ -17,7 +17,7 @@ use std::alloc::Global;
 use std::string::String as StdString;
 
 impl<'a> RefBareItem<'a> {
-    /// Returns the string (RFC 9651, section 3.3.3), and `None` for another kind.
+    /// Returns the string (RFC 9651, section 3.3.3), or `None` for another kind.
     pub fn as_string(&self) -> Option<StringRef<'a>>
         ensures { GivesPart values.string string_text (ref_value self.now) result }
     {
@@ -27,7 +27,7 @@ impl<'a> RefBareItem<'a> {
         }
     }
 
-    /// Returns the bytes (RFC 9651, section 3.3.5), and `None` for another kind.
+    /// Returns the bytes (RFC 9651, section 3.3.5), or `None` for another kind.
     pub fn as_byte_sequence(&self) -> Option<&'a [u8]>
         ensures { GivesPart values.byte_sequence (λ bytes. bytes.now) (ref_value self.now) result }
     {
@@ -37,7 +37,7 @@ impl<'a> RefBareItem<'a> {
         }
     }
 
-    /// Returns the token (RFC 9651, section 3.3.4), and `None` for another kind.
+    /// Returns the token (RFC 9651, section 3.3.4), or `None` for another kind.
     pub fn as_token(&self) -> Option<TokenRef<'a>>
         ensures { GivesPart values.token token_text (ref_value self.now) result }
     {
@@ -47,12 +47,12 @@ impl<'a> RefBareItem<'a> {
         }
     }
 
-    /// Returns the same value (RFC 9651, section 3.3), lent.
+    /// Returns the same value.
     pub fn as_ref_item(&self) -> RefBareItem<'a>
         ensures value { ref_value result ≡ ref_value self.now }
         ensures is_value { IsBareValue (ref_value result) }
     {
-        // That the item is a value is known of what each kind holds.
+        // The content of each kind is known to be in its range or class only after a match.
         match *self {
             GenericBareItem::Decimal(value) => GenericBareItem::Decimal(value),
             GenericBareItem::Integer(value) => GenericBareItem::Integer(value),
@@ -65,12 +65,11 @@ impl<'a> RefBareItem<'a> {
         }
     }
 
-    /// Returns the same value (RFC 9651, section 3.3) with texts of its own. Only a text or a byte sequence takes
-    /// memory.
+    /// Returns the same value with owned text. Only text and bytes are copied, into memory from `alloc`.
     ///
     /// # Errors
     ///
-    /// `OutOfMemory` when out of memory.
+    /// Returns `OutOfMemory` if memory runs out.
     pub fn try_to_owned(&self, alloc: Global) -> Result<BareItem, OutOfMemory>
         ensures value { IfOk result (λ item. bare_value item ≡ ref_value self.now) }
         ensures out_of_memory { IfErr result (λ _. IsTrue (holds_bytes (ref_value self.now))) }

@@ -1,4 +1,4 @@
-//! Bare items made from what they hold (RFC 9651, section 3.3).
+//! Conversions of values to bare items (RFC 9651, section 3.3).
 
 ghost use Rattle.std.specs.Prelude.{◌≡◌, pos};
 ghost use Rattle.sfv_spec.specs.Values.{IsInRange};

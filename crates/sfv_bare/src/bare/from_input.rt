@@ -1,4 +1,4 @@
-//! Bare items that were read (RFC 9651, section 3.3).
+//! Parsed bare items (RFC 9651, section 3.3).
 
 ghost use Rattle.std.specs.Prelude.{◌≡◌, IfOk, IfErr, IsTrue, nat_eq};
 ghost use Rattle.std.specs.Cmp.Lexicographic.{pointwise, nat_list_eq_equiv};
@@ -22,7 +22,7 @@ use sfv_text::token_ref::TokenRef;
 use std::alloc::{AllocError, Global};
 
 impl<'a> StringFromInput<'a> {
-    /// Returns the string (RFC 9651, section 3.3.3), lent.
+    /// Borrows the string.
     pub fn as_string_ref(&self) -> StringRef<'_>
         ensures { string_text result ≡ read_text self.now }
     {
@@ -32,12 +32,11 @@ impl<'a> StringFromInput<'a> {
         }
     }
 
-    /// Returns the string (RFC 9651, section 3.3.3) with a text of its own. An owned text is moved, and takes no
-    /// memory.
+    /// Returns the string with owned text. Owned text is moved, and borrowed text is copied into memory from `alloc`.
     ///
     /// # Errors
     ///
-    /// `OutOfMemory` when out of memory.
+    /// Returns `OutOfMemory` if memory runs out.
     #[inline(never)]
     pub fn try_into_owned(self, alloc: Global) -> Result<String, OutOfMemory>
         ensures text { IfOk result (λ text. text ≡ read_text self.entry) }
@@ -78,7 +77,7 @@ impl<'a> Clone for StringFromInput<'a> {
 }
 
 impl<'a> BareItemFromInput<'a> {
-    /// Returns the string (RFC 9651, section 3.3.3), and `None` for another kind.
+    /// Returns the string (RFC 9651, section 3.3.3), or `None` for another kind.
     pub fn as_string(&self) -> Option<StringRef<'_>>
         ensures { GivesPart values.string string_text (input_value self.now) result }
     {
@@ -88,7 +87,7 @@ impl<'a> BareItemFromInput<'a> {
         }
     }
 
-    /// Returns the bytes (RFC 9651, section 3.3.5), and `None` for another kind.
+    /// Returns the bytes (RFC 9651, section 3.3.5), or `None` for another kind.
     pub fn as_byte_sequence(&self) -> Option<&[u8]>
         ensures { GivesPart values.byte_sequence (λ bytes. bytes.now) (input_value self.now) result }
     {
@@ -98,7 +97,7 @@ impl<'a> BareItemFromInput<'a> {
         }
     }
 
-    /// Returns the token (RFC 9651, section 3.3.4), and `None` for another kind.
+    /// Returns the token (RFC 9651, section 3.3.4), or `None` for another kind.
     pub fn as_token(&self) -> Option<TokenRef<'a>>
         ensures { GivesPart values.token token_text (input_value self.now) result }
     {
@@ -108,7 +107,7 @@ impl<'a> BareItemFromInput<'a> {
         }
     }
 
-    /// Returns the same value (RFC 9651, section 3.3), lent.
+    /// Returns the same value with borrowed text.
     pub fn as_ref_item(&self) -> RefBareItem<'_>
         ensures value { ref_value result ≡ input_value self.now }
         ensures is_value { IsBareValue (ref_value result) }
@@ -125,14 +124,14 @@ impl<'a> BareItemFromInput<'a> {
         }
     }
 
-    /// Returns the same value (RFC 9651, section 3.3) with texts of its own. What is owned is moved: only a text that
-    /// is borrowed takes memory.
+    /// Returns the same value with owned text. Owned text and bytes are moved, and borrowed text is copied into memory
+    /// from `alloc`.
     ///
     /// # Errors
     ///
-    /// `OutOfMemory` when out of memory.
-    // Inlined, but not the copy of a string: most kinds are moved as they are. An integer of a list is read in 385
-    // instructions in place of 418.
+    /// Returns `OutOfMemory` if memory runs out.
+    // Inlined, except the copy of a string, because most kinds are moved. An integer of a list parses in 385
+    // instructions instead of 418.
     #[inline(always)]
     pub fn try_into_owned(self, alloc: Global) -> Result<BareItem, OutOfMemory>
         ensures value { IfOk result (λ item. bare_value item ≡ input_value self.entry) }

@@ -1,4 +1,4 @@
-//! Bare items that own their text (RFC 9651, section 3.3).
+//! Bare items with owned text (RFC 9651, section 3.3).
 
 ghost use Rattle.std.specs.Prelude.{◌≡◌};
 ghost use Rattle.sfv_spec.specs.Values as values;
@@ -14,7 +14,7 @@ use sfv_text::token::Token;
 use sfv_text::token_ref::TokenRef;
 
 impl BareItem {
-    /// Returns the string (RFC 9651, section 3.3.3), and `None` for another kind.
+    /// Returns the string (RFC 9651, section 3.3.3), or `None` for another kind.
     pub fn as_string(&self) -> Option<StringRef<'_>>
         ensures { GivesPart values.string string_text (bare_value self.now) result }
     {
@@ -24,7 +24,7 @@ impl BareItem {
         }
     }
 
-    /// Returns the bytes (RFC 9651, section 3.3.5), and `None` for another kind.
+    /// Returns the bytes (RFC 9651, section 3.3.5), or `None` for another kind.
     pub fn as_byte_sequence(&self) -> Option<&[u8]>
         ensures { GivesPart values.byte_sequence (λ bytes. bytes.now) (bare_value self.now) result }
     {
@@ -34,7 +34,7 @@ impl BareItem {
         }
     }
 
-    /// Returns the token (RFC 9651, section 3.3.4), and `None` for another kind.
+    /// Returns the token (RFC 9651, section 3.3.4), or `None` for another kind.
     pub fn as_token(&self) -> Option<TokenRef<'_>>
         ensures { GivesPart values.token token_text (bare_value self.now) result }
     {
@@ -44,7 +44,7 @@ impl BareItem {
         }
     }
 
-    /// Returns the same value (RFC 9651, section 3.3), lent.
+    /// Returns the same value with borrowed text.
     pub fn as_ref_item(&self) -> RefBareItem<'_>
         ensures value { ref_value result ≡ bare_value self.now }
         ensures is_value { IsBareValue (ref_value result) }

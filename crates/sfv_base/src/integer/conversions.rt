@@ -1,4 +1,4 @@
-//! Integers made from other numbers, and the other way round.
+//! Conversions between integers and other types of numbers.
 
 ghost use Rattle.std.specs.Prelude.{◌≡◌, pos, nat_abs};
 ghost use Rattle.sfv_spec.specs.Values.{IsInRange};

@@ -1,19 +1,19 @@
-//! The value of the field.
+//! The value of the Priority field.
 
 ghost use Rattle.std.specs.Prelude.{◌≡◌, ◌≤◌, false};
 
-/// How urgent a response is, and whether it is used as it arrives. `Default` is an urgency of 3, and false.
+/// The urgency of a response, and whether it is processed incrementally. `Default` is the urgency 3, and `false`.
 #[derive(Clone, Copy, Debug, PartialEq, Eq)]
 pub struct Priority {
-    /// The urgency, from 0, the most urgent, to 7.
+    /// The urgency, from 0 (the most urgent) to 7.
     pub urgency: u8,
-    /// Whether the response is used as it arrives.
+    /// The client can process the response incrementally, as it arrives.
     pub incremental: bool,
     pub ghost valid: { urgency ≤ 7 },
 }
 
 impl Priority {
-    /// Returns the priority of an urgency from 0 to 7.
+    /// Creates a priority. The urgency is from 0 to 7.
     pub fn new(urgency: u8, incremental: bool) -> Priority
         requires { urgency ≤ 7 }
         ensures urgency { result.urgency ≡ urgency }

@@ -8,6 +8,8 @@ ghost use Rattle.sfv_tree.specs.Trees.{dictionary_tree};
 ghost use Rattle.sfv_visitor.specs.Events.{event_of, is_moved};
 ghost use Rattle.sfv_visitor.specs.Builders.{dictionary_step, dictionary_place, dictionary_members, begun, within_pair};
 ghost use Rattle.sfv_visitor.specs.Builders.{between_pairs, dictionary_takes_memory, dictionary_seed};
+ghost use Rattle.sfv_visitor.specs.Builders.{IsDictionarySeeded, KeepsDictionarySeed, DictionaryAnswersSeeded};
+ghost use Rattle.sfv_tree.specs.Seeds.{DictionaryHasSeed};
 ghost use Rattle.sfv_visitor.specs.InPlace.{ends_last, ends_member};
 ghost use Rattle.sfv_visitor.specs.declared.visitor.list_builder.Stage.TheVariants as stages;
 
@@ -19,31 +21,31 @@ use sfv_text::key::Key;
 use sfv_text::key_ref::KeyRef;
 use sfv_tree::parsed::{Dictionary, Item, List, ListEntry, Parameters};
 
-/// Builds a dictionary of its events, from a dictionary that it begins with. Of a repeated key the last member stands
-/// whole, at the place of the first (RFC 9651, section 4.2.2); so does the last value of a repeated parameter.
+/// A visitor that builds a dictionary, beginning with an existing one. A repeated key keeps its first position and
+/// takes its last member (RFC 9651, section 4.2.2). A repeated parameter takes its last value.
 ///
-/// It takes every event, and an event out of its place changes nothing. It fails only when out of memory, at a key, a
-/// text that is borrowed, a parameter, the beginning of an inner list or the end of an item or a member that it takes,
-/// and never at the end. Its answer is the dictionary of the members that are whole.
+/// Ignores an event that is out of sequence. Fails only if memory runs out: at a key, borrowed text, a parameter, the
+/// start of an inner list, or the end of an item or a member. `finish` never fails. It returns the dictionary of the
+/// complete members.
 ///
-/// Out of memory, the reading that owns it is over, and what it held is given up with it.
+/// If memory runs out, parsing ends, and the dictionary is dropped.
 #[derive(Drop)]
 pub struct DictionaryBuilder {
     dictionary: Dictionary,
-    // The key of the member that is being read.
+    // The key of the current member.
     key: Option<Key>,
-    // The member that is being read, as the last of a list of its own. A bare item without parameters is never put into
-    // this list: most members are no more than that, and go from what is held straight into the dictionary.
+    // Builds the current member, as the last one of a separate list. Most members are a bare item without parameters.
+    // Such a bare item is held, and goes directly into the dictionary, never into this list.
     member: ListBuilder,
 }
 
 impl DictionaryBuilder {
-    /// Returns the builder before any event, with the members of `dictionary`, which builds with memory from the
-    /// dictionary's allocator and under its seed. A further line of the same field is read into the dictionary of the
-    /// lines before it.
+    /// Creates a builder that begins with `dictionary`, and uses its allocator and its hash seed. To join several
+    /// lines of a field, pass the dictionary of the earlier lines.
     pub fn new(dictionary: Dictionary) -> DictionaryBuilder
         ensures place { dictionary_place result ≡ between_pairs (dictionary_tree dictionary.entries) }
         ensures seed { dictionary_seed result ≡ hasher_of dictionary }
+        ensures seeded { DictionaryHasSeed (hasher_of dictionary) dictionary → IsDictionarySeeded result }
     {
         let alloc = *dictionary.allocator();
         let seed = *dictionary.hasher();
@@ -54,18 +56,19 @@ impl DictionaryBuilder {
         }
     }
 
-    // Begins the member of a key.
+    // Begins a member with this key.
     #[inline(never)]
     fn begin(&mut self, key: KeyRef<'_>) -> Result<(), OutOfMemory>
         ensures place { OnOk result (dictionary_place self.new
             ≡ within_pair (dictionary_tree self.old.dictionary.entries) (key_text key.entry) begun) }
+        ensures seed { OnOk result (KeepsDictionarySeed self.old self.new) }
     {
         self.key = Some(key.to_owned(*self.dictionary.allocator())?);
         self.member.restart();
         Ok(())
     }
 
-    // Enters a member that is a bare item.
+    // Inserts the current member, which is a bare item, into the dictionary.
     #[inline(never)]
     fn enter_held(&mut self) -> Result<(), OutOfMemory>
         requires { self.old.member.stage ≡ stages.Held }
@@ -73,6 +76,7 @@ impl DictionaryBuilder {
             ≡ dictionary_step (dictionary_place self.old) tree.parameters_end) }
         ensures out_of_memory { OnErr result (IsTrue
             (dictionary_takes_memory (dictionary_place self.old) tree.parameters_end)) }
+        ensures seed { OnOk result (KeepsDictionarySeed self.old self.new) }
     {
         if let Some(key) = self.key.take() {
             if let Some(bare_item) = self.member.held.take() {
@@ -85,7 +89,7 @@ impl DictionaryBuilder {
         Ok(())
     }
 
-    // Enters the member that stands last in its list.
+    // Moves the current member from the end of its list into the dictionary.
     #[inline(never)]
     fn enter_last(&mut self) -> Result<(), OutOfMemory>
         requires { ends_last self.old.member.stage ≡ true }
@@ -93,8 +97,9 @@ impl DictionaryBuilder {
             ≡ dictionary_step (dictionary_place self.old) tree.parameters_end) }
         ensures out_of_memory { OnErr result (IsTrue
             (dictionary_takes_memory (dictionary_place self.old) tree.parameters_end)) }
+        ensures seed { OnOk result (KeepsDictionarySeed self.old self.new) }
     {
-        // No builder stands where it is not, but the step holds of every state.
+        // A builder reaches this stage only with an open member, but the step is stated for every state.
         if !self.member.is_open() {
             return Ok(());
         }
@@ -106,7 +111,7 @@ impl DictionaryBuilder {
         Ok(())
     }
 
-    // Ends parameters, and with those of a member the member.
+    // Ends parameters. The parameters of a member end the member.
     #[inline(always)]
     fn end_parameters(&mut self) -> Result<(), OutOfMemory>
         requires { IsSome self.old.key }
@@ -114,6 +119,7 @@ impl DictionaryBuilder {
             ≡ dictionary_step (dictionary_place self.old) tree.parameters_end) }
         ensures out_of_memory { OnErr result (IsTrue
             (dictionary_takes_memory (dictionary_place self.old) tree.parameters_end)) }
+        ensures seed { OnOk result (KeepsDictionarySeed self.old self.new) }
     {
         match self.member.stage {
             Stage::Held => self.enter_held(),
@@ -122,7 +128,7 @@ impl DictionaryBuilder {
         }
     }
 
-    // Ends parameters that are not those of a member.
+    // Ends parameters that do not end the member.
     #[inline(always)]
     fn end_inner_parameters(&mut self) -> Result<(), OutOfMemory>
         requires key { IsSome self.old.key }
@@ -131,13 +137,15 @@ impl DictionaryBuilder {
             ≡ dictionary_step (dictionary_place self.old) tree.parameters_end) }
         ensures out_of_memory { OnErr result (IsTrue
             (dictionary_takes_memory (dictionary_place self.old) tree.parameters_end)) }
+        ensures seed { OnOk result (KeepsDictionarySeed self.old self.new) }
     {
         self.member.place_held()?;
+        self.member.fit_parameters();
         self.member.end_parameters();
         Ok(())
     }
 
-    // Takes an event while a member is read.
+    // Receives an event inside a member.
     #[inline(always)]
     fn step_member(&mut self, event: Event<'_>) -> Result<(), OutOfMemory>
         requires { IsSome self.old.key }
@@ -146,6 +154,7 @@ impl DictionaryBuilder {
         ensures out_of_memory { OnErr result
             (IsTrue (dictionary_takes_memory (dictionary_place self.old) (event_of event.entry))) }
         ensures copied { OnErr result (is_moved event.entry ≡ false) }
+        ensures seed { OnOk result (KeepsDictionarySeed self.old self.new) }
     {
         match event {
             Event::Item => self.member.begin_item(),
@@ -157,7 +166,7 @@ impl DictionaryBuilder {
             }
             Event::ParametersEnd => self.end_parameters()?,
             Event::InnerListEnd => self.member.end_inner_list(),
-            // No builder stands so, but the step holds of every state.
+            // No builder reaches this state, but its step is stated for every state.
             Event::KeyedEntry(key) if !self.member.is_reading() => self.begin(key)?,
             Event::Entry | Event::KeyedEntry(_) => {}
         }
@@ -171,6 +180,7 @@ impl DictionaryBuilder {
         ensures out_of_memory { OnErr result
             (IsTrue (dictionary_takes_memory (dictionary_place self.old) (event_of event.entry))) }
         ensures copied { OnErr result (is_moved event.entry ≡ false) }
+        ensures seed { OnOk result (KeepsDictionarySeed self.old self.new) }
     {
         if self.key.is_some() {
             return self.step_member(event);
@@ -187,13 +197,15 @@ impl<'de> Visitor<'de> for DictionaryBuilder {
 
     type Error = OutOfMemory;
 
-    ghost takes = { λ s event after. dictionary_place after ≡ dictionary_step (dictionary_place s) event };
+    ghost takes = { λ s event after.
+        (dictionary_place after ≡ dictionary_step (dictionary_place s) event) × KeepsDictionarySeed s after };
 
     ghost fails = { λ s event fault. IsTrue (dictionary_takes_memory (dictionary_place s) event) };
 
     ghost fails_read = { λ _ event _. is_moved event ≡ false };
 
-    ghost finishes = { λ s dictionary. dictionary_tree dictionary.entries ≡ dictionary_members (dictionary_place s) };
+    ghost finishes = { λ s dictionary.
+        (dictionary_tree dictionary.entries ≡ dictionary_members (dictionary_place s)) × DictionaryAnswersSeeded s dictionary };
 
     ghost finish_fails = { λ _ _. ⊥ };
 

@@ -5,6 +5,7 @@ ghost use Rattle.sfv_spec.specs.Values.{RawItem};
 ghost use Rattle.sfv_tree.specs.Trees.{item_tree};
 ghost use Rattle.sfv_visitor.specs.Events.{event_of, is_moved};
 ghost use Rattle.sfv_visitor.specs.Builders.{at_head, at_end, item_step, item_place, item_seed, takes_memory};
+ghost use Rattle.sfv_visitor.specs.Builders.{IsItemSeeded, KeepsItemSeed, AnswersSeeded};
 ghost use Rattle.sfv_visitor.specs.declared.visitor.ItemFault.TheVariants as faults;
 
 use crate::visitor::parameters::enter;
@@ -14,24 +15,26 @@ use sfv_tree::hash_seed::HashSeed;
 use sfv_tree::parsed::{Item, Parameters};
 use std::alloc::Global;
 
-/// Builds an item of its events. Of a repeated key the last value stands, at the place of the first.
+/// A visitor that builds an item. A repeated key keeps its first position and takes its last value (RFC 9651,
+/// section 4.2.3.2).
 ///
-/// It takes every event, and an event out of its place changes nothing. It fails only when out of memory, at a text that
-/// is borrowed or a parameter that it takes, and at the end with `ItemFault::NoItem` only where it visited no whole item.
+/// Ignores an event that is out of sequence. `event` fails only if memory runs out, at borrowed text or a parameter.
+/// `finish` fails with `ItemFault::NoItem` if and only if the builder received no complete item.
 #[derive(Drop)]
 pub struct ItemBuilder {
     alloc: Global,
     seed: HashSeed,
     item: Option<Item>,
-    // Whether the item's parameters have ended.
+    // The parameters of `item` have ended.
     is_whole: bool,
 }
 
 impl ItemBuilder {
-    /// Returns the builder before any event, which builds with memory from `alloc` and parameters under `seed`.
+    /// Creates a builder that has received no event. It allocates from `alloc`, and builds parameters under `seed`.
     pub fn new(alloc: Global, seed: HashSeed) -> ItemBuilder
         ensures place { item_place result ≡ at_head }
         ensures seed { item_seed result ≡ seed }
+        ensures seeded { IsItemSeeded result }
     {
         ItemBuilder {
             alloc,
@@ -46,6 +49,7 @@ impl ItemBuilder {
         ensures place { OnOk result (item_place self.new ≡ item_step (item_place self.old) (event_of event.entry)) }
         ensures out_of_memory { OnErr result (IsTrue (takes_memory (item_place self.old) (event_of event.entry))) }
         ensures copied { OnErr result (is_moved event.entry ≡ false) }
+        ensures seed { OnOk result (KeepsItemSeed self.old self.new) }
     {
         match (&mut self.item, event) {
             (None, Event::BareItem(bare_item)) => {
@@ -69,13 +73,13 @@ impl<'de> Visitor<'de> for ItemBuilder {
 
     type Error = ItemFault;
 
-    ghost takes = { λ s event after. item_place after ≡ item_step (item_place s) event };
+    ghost takes = { λ s event after. (item_place after ≡ item_step (item_place s) event) × KeepsItemSeed s after };
 
     ghost fails = { λ s event fault. (fault ≡ faults.OutOfMemory) × IsTrue (takes_memory (item_place s) event) };
 
     ghost fails_read = { λ _ event _. is_moved event ≡ false };
 
-    ghost finishes = { λ s item. item_place s ≡ at_end (item_tree item) };
+    ghost finishes = { λ s item. (item_place s ≡ at_end (item_tree item)) × AnswersSeeded s item };
 
     ghost finish_fails = { λ s fault. (fault ≡ faults.NoItem) × ((i : RawItem) → ¬ (item_place s ≡ at_end i)) };
 

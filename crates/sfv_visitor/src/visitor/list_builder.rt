@@ -7,11 +7,14 @@ ghost use Rattle.sfv_text.specs.KeyText.{key_text};
 ghost use Rattle.sfv_tree.specs.Trees.{list_tree};
 ghost use Rattle.sfv_visitor.specs.Events.{event_of, is_moved};
 ghost use Rattle.sfv_visitor.specs.Builders.{between, list_step, list_place, list_members, list_takes_memory, list_seed};
+ghost use Rattle.sfv_visitor.specs.Builders.{IsListSeeded, KeepsListSeed, ListAnswersSeeded};
+ghost use Rattle.sfv_tree.specs.Seeds.{ListHasSeed};
 ghost use Rattle.sfv_visitor.specs.Builders.{within, begun, item_parameters, plain_item};
 ghost use Rattle.sfv_visitor.specs.InPlace.{is_open, is_held, is_reading, lacks_item, EndTakesMemory};
 ghost use Rattle.sfv_visitor.specs.declared.visitor.list_builder.Stage.TheVariants as stages;
 ghost use Rattle.sfv_visitor.specs.declared.visitor.part.Part.TheVariants as parts;
 
+use crate::visitor::parameters::MANY;
 use crate::visitor::part::{Part, hold};
 use crate::visitor::{Event, Visitor};
 use sfv_bare::bare::{BareItem, BareItemFromInput};
@@ -20,48 +23,47 @@ use sfv_text::key_ref::KeyRef;
 use sfv_tree::hash_seed::HashSeed;
 use sfv_tree::parsed::{InnerList, Item, List, ListEntry, Parameters};
 
-/// Where a list's builder stands.
+/// The stage of a list's builder.
 #[derive(Clone, Copy, PartialEq, Eq)]
 pub(crate) enum Stage {
     // Between two members.
     Between,
-    // A member begins: what says what it is.
+    // A member has begun: the next event says whether it is an item or an inner list.
     Begun,
-    // The bare item of a member that is an item.
+    // Before the bare item of a member that is an item.
     Head,
-    // After the bare item of a member that is an item, which is held.
+    // After the bare item of a member that is an item. The bare item is in `held`.
     Held,
-    // After the bare item of an item of the inner list that is the list's last member, which is held.
+    // After the bare item of an item of an inner list, the list's last member. The bare item is in `held`.
     InnerHeld,
     // In the list's last member.
     Within(Part),
 }
 
-/// Builds a list of its events, after the members of a list that it begins with. Of a repeated key the last value
-/// stands, at the place of the first.
+/// A visitor that builds a list, beginning with an existing one. A repeated key keeps its first position and takes its
+/// last value.
 ///
-/// It takes every event, and an event out of its place changes nothing. It fails only when out of memory, at a text
-/// that is borrowed, a parameter, the beginning of an inner list or the end of an item that it takes, and never at the
-/// end. Its answer is the list of the members that are whole.
+/// Ignores an event that is out of sequence. Fails only if memory runs out: at borrowed text, a parameter, the start of
+/// an inner list, or the end of an item. `finish` never fails. It returns the list of the complete members.
 ///
-/// Out of memory, the reading that owns it is over, and what it held is given up with it.
+/// If memory runs out, parsing ends, and the list is dropped.
 #[derive(Drop)]
 pub struct ListBuilder {
     pub(crate) list: List,
-    // The seed of the parameters that are made.
+    // The seed of the parameters that are built.
     pub(crate) seed: HashSeed,
     pub(crate) stage: Stage,
-    // A bare item that was read where there was no room for its item: so a bare item that is moved takes no memory.
+    // A bare item for whose item there was no capacity. So an event with a bare item that is moved does not allocate.
     pub(crate) held: Option<BareItem>,
 }
 
 impl ListBuilder {
-    /// Returns the builder before any event, with the members of `list`, which builds with memory from the list's
-    /// allocator and parameters under `seed`. A further line of the same field is read into the list of the lines
-    /// before it.
+    /// Creates a builder that begins with `list` and uses its allocator. It builds parameters under `seed`. To join
+    /// several lines of a field, pass the list of the earlier lines.
     pub fn new(list: List, seed: HashSeed) -> ListBuilder
         ensures place { list_place result ≡ between (list_tree list.items) }
         ensures seed { list_seed result ≡ seed }
+        ensures seeded { ListHasSeed seed list.items → IsListSeeded result }
     {
         ListBuilder {
             list,
@@ -71,7 +73,7 @@ impl ListBuilder {
         }
     }
 
-    // Whether the last member is being read.
+    // Returns `true` if the last member is incomplete.
     #[inline(never)]
     pub(crate) fn is_open(&self) -> bool
         ensures { result ≡ is_open self.now.stage (option_map bare_value self.now.held) (list_tree self.now.list.items) }
@@ -86,7 +88,7 @@ impl ListBuilder {
         }
     }
 
-    // Whether the last member is an inner list that lacks the item whose parameters are read.
+    // Returns `true` for the state that expects a parameter of the last item of an empty inner list.
     #[inline(never)]
     fn lacks_item(&self) -> bool
         ensures { result ≡ lacks_item self.now.stage (list_tree self.now.list.items) }
@@ -99,7 +101,7 @@ impl ListBuilder {
         false
     }
 
-    // Whether a member is being read.
+    // Returns `true` inside a member.
     #[inline(never)]
     pub(crate) fn is_reading(&self) -> bool
         ensures { result ≡ is_reading (list_place self.now) }
@@ -112,22 +114,24 @@ impl ListBuilder {
         }
     }
 
-    // Begins a member, whatever was read of another.
+    // Begins a member in any stage. The previous member is already in the dictionary.
     #[inline(always)]
     pub(crate) fn restart(&mut self)
-        ensures { list_place self.new ≡ within (list_tree self.old.list.items) begun }
+        ensures place { list_place self.new ≡ within (list_tree self.old.list.items) begun }
+        ensures seed { KeepsListSeed self.old self.new }
     {
         self.stage = Stage::Begun;
     }
 
-    // Begins a member.
+    // Begins a member, if none is incomplete.
     #[inline(always)]
     fn begin(&mut self)
-        ensures { list_place self.new ≡ list_step (list_place self.old) tree.entry }
+        ensures place { list_place self.new ≡ list_step (list_place self.old) tree.entry }
+        ensures seed { KeepsListSeed self.old self.new }
     {
         match self.stage {
             Stage::Between => self.stage = Stage::Begun,
-            // No builder stands so, but the step holds of every state.
+            // No builder reaches this state, but its step is stated for every state.
             Stage::Held if self.held.is_none() => self.stage = Stage::Begun,
             Stage::InnerHeld if !self.is_open() => self.stage = Stage::Begun,
             Stage::Within(_) if !self.is_open() => self.stage = Stage::Begun,
@@ -137,7 +141,8 @@ impl ListBuilder {
 
     #[inline(always)]
     pub(crate) fn begin_item(&mut self)
-        ensures { list_place self.new ≡ list_step (list_place self.old) tree.begins_item }
+        ensures place { list_place self.new ≡ list_step (list_place self.old) tree.begins_item }
+        ensures seed { KeepsListSeed self.old self.new }
     {
         match self.stage {
             Stage::Begun => self.stage = Stage::Head,
@@ -151,7 +156,8 @@ impl ListBuilder {
 
     #[inline(always)]
     pub(crate) fn end_inner_list(&mut self)
-        ensures { list_place self.new ≡ list_step (list_place self.old) tree.inner_list_end }
+        ensures place { list_place self.new ≡ list_step (list_place self.old) tree.inner_list_end }
+        ensures seed { KeepsListSeed self.old self.new }
     {
         match self.stage {
             Stage::Within(Part::Items) => self.stage = Stage::Within(Part::ListParams),
@@ -165,6 +171,7 @@ impl ListBuilder {
     #[inline(never)]
     pub(crate) fn begin_inner_list(&mut self) -> Result<(), OutOfMemory>
         ensures place { OnOk result (list_place self.new ≡ list_step (list_place self.old) tree.begins_inner_list) }
+        ensures seed { OnOk result (KeepsListSeed self.old self.new) }
         ensures out_of_memory { OnErr result (IsTrue (list_takes_memory (list_place self.old) tree.begins_inner_list)) }
     {
         if self.stage == Stage::Begun {
@@ -178,12 +185,13 @@ impl ListBuilder {
         Ok(())
     }
 
-    // Puts an item last, as the member that is being read.
+    // Appends an item as the current member.
     #[inline(always)]
     fn push_item(&mut self, bare_item: BareItem)
         requires { length self.old.list.items < vec_capacity self.old.list }
         ensures place { list_place self.new
             ≡ within (list_tree self.old.list.items) (item_parameters (plain_item (bare_value bare_item))) }
+        ensures seed { KeepsListSeed self.old self.new }
         ensures placed { is_held self.new.stage ≡ false }
     {
         let params = Parameters::with_hasher(*self.list.allocator(), self.seed);
@@ -192,12 +200,13 @@ impl ListBuilder {
         self.stage = Stage::Within(Part::Params);
     }
 
-    // Takes the bare item of a member that is an item.
+    // Receives the bare item of a member that is an item.
     #[inline(never)]
     fn put_item(&mut self, bare_item: BareItemFromInput<'_>) -> Result<(), OutOfMemory>
         requires { self.old.stage ≡ stages.Head }
         ensures place { OnOk result (list_place self.new
             ≡ list_step (list_place self.old) (tree.bare_item (input_value bare_item.entry))) }
+        ensures seed { OnOk result (KeepsListSeed self.old self.new) }
         ensures out_of_memory { OnErr result
             (IsTrue (list_takes_memory (list_place self.old) (tree.bare_item (input_value bare_item.entry)))) }
         ensures copied { OnErr result (IsTrue (is_borrowed bare_item.entry)) }
@@ -212,12 +221,13 @@ impl ListBuilder {
         Ok(())
     }
 
-    // Takes the bare item of an item of the inner list that is being read.
+    // Receives the bare item of an item of the current inner list.
     #[inline(never)]
     fn put_inner_item(&mut self, bare_item: BareItemFromInput<'_>) -> Result<(), OutOfMemory>
         requires { self.old.stage ≡ stages.Within parts.InnerHead }
         ensures place { OnOk result (list_place self.new
             ≡ list_step (list_place self.old) (tree.bare_item (input_value bare_item.entry))) }
+        ensures seed { OnOk result (KeepsListSeed self.old self.new) }
         ensures out_of_memory { OnErr result
             (IsTrue (list_takes_memory (list_place self.old) (tree.bare_item (input_value bare_item.entry)))) }
         ensures copied { OnErr result (IsTrue (is_borrowed bare_item.entry)) }
@@ -238,6 +248,7 @@ impl ListBuilder {
     pub(crate) fn bare_item(&mut self, bare_item: BareItemFromInput<'_>) -> Result<(), OutOfMemory>
         ensures place { OnOk result (list_place self.new
             ≡ list_step (list_place self.old) (tree.bare_item (input_value bare_item.entry))) }
+        ensures seed { OnOk result (KeepsListSeed self.old self.new) }
         ensures out_of_memory { OnErr result
             (IsTrue (list_takes_memory (list_place self.old) (tree.bare_item (input_value bare_item.entry)))) }
         ensures copied { OnErr result (IsTrue (is_borrowed bare_item.entry)) }
@@ -249,11 +260,12 @@ impl ListBuilder {
         }
     }
 
-    // Puts the item last whose bare item was held.
+    // Appends the item of the held bare item to the list.
     #[inline(never)]
     fn place_item(&mut self) -> Result<(), OutOfMemory>
         requires { self.old.stage ≡ stages.Held }
         ensures place { OnOk result (list_place self.new ≡ list_place self.old) }
+        ensures seed { OnOk result (KeepsListSeed self.old self.new) }
         ensures out_of_memory { OnErr result (EndTakesMemory (list_place self.old)) }
         ensures placed { OnOk result (is_held self.new.stage ≡ false) }
     {
@@ -262,17 +274,18 @@ impl ListBuilder {
                 self.list.reserve(1)?;
                 self.push_item(bare_item);
             }
-            // No builder stands so, but the step holds of every state.
+            // No builder reaches this state, but its step is stated for every state.
             None => self.stage = Stage::Between,
         }
         Ok(())
     }
 
-    // Puts the item whose bare item was held last into the inner list that is being read.
+    // Appends the item of the held bare item to the current inner list.
     #[inline(never)]
     fn place_inner_item(&mut self) -> Result<(), OutOfMemory>
         requires { self.old.stage ≡ stages.InnerHeld }
         ensures place { OnOk result (list_place self.new ≡ list_place self.old) }
+        ensures seed { OnOk result (KeepsListSeed self.old self.new) }
         ensures out_of_memory { OnErr result (EndTakesMemory (list_place self.old)) }
         ensures placed { OnOk result (is_held self.new.stage ≡ false) }
     {
@@ -285,16 +298,17 @@ impl ListBuilder {
                     return Ok(());
                 }
             }
-            // No builder stands so, but the step holds of every state.
+            // No builder reaches this state, but its step is stated for every state.
             None => self.stage = Stage::Between,
         }
         Ok(())
     }
 
-    // Puts the item whose bare item was held, if one was.
+    // Appends the item of the held bare item, if there is one.
     #[inline(always)]
     pub(crate) fn place_held(&mut self) -> Result<(), OutOfMemory>
         ensures place { OnOk result (list_place self.new ≡ list_place self.old) }
+        ensures seed { OnOk result (KeepsListSeed self.old self.new) }
         ensures out_of_memory { OnErr result (EndTakesMemory (list_place self.old)) }
         ensures placed { OnOk result (is_held self.new.stage ≡ false) }
     {
@@ -305,11 +319,39 @@ impl ListBuilder {
         }
     }
 
-    // Ends parameters after an item that is not held.
+    // Releases the unused memory of the last member's parameters that have ended.
+    #[inline(never)]
+    fn fit_last(&mut self)
+        ensures place { list_place self.new ≡ list_place self.old }
+        ensures stage { self.new.stage ≡ self.old.stage }
+        ensures seed { KeepsListSeed self.old self.new }
+    {
+        if let Stage::Within(part) = self.stage {
+            if let Some(member) = self.list.last_mut() {
+                part.fit(member);
+            }
+        }
+    }
+
+    // Releases the unused memory of the parameters that have ended, for one of many members, or of many items of an inner
+    // list.
+    #[inline(always)]
+    pub(crate) fn fit_parameters(&mut self)
+        ensures place { list_place self.new ≡ list_place self.old }
+        ensures stage { self.new.stage ≡ self.old.stage }
+        ensures seed { KeepsListSeed self.old self.new }
+    {
+        if self.list.len() > MANY || self.stage == Stage::Within(Part::InnerParams) {
+            self.fit_last();
+        }
+    }
+
+    // Ends parameters. No bare item is held.
     #[inline(always)]
     pub(crate) fn end_parameters(&mut self)
         requires { is_held self.old.stage ≡ false }
-        ensures { list_place self.new ≡ list_step (list_place self.old) tree.parameters_end }
+        ensures place { list_place self.new ≡ list_step (list_place self.old) tree.parameters_end }
+        ensures seed { KeepsListSeed self.old self.new }
     {
         match self.stage {
             Stage::Within(Part::Params) => self.stage = Stage::Between,
@@ -319,7 +361,7 @@ impl ListBuilder {
         }
     }
 
-    // Enters a parameter of an item that is not held, or of an inner list.
+    // Inserts a parameter of an item or an inner list. No bare item is held.
     #[inline(never)]
     pub(crate) fn parameter(
         &mut self,
@@ -329,6 +371,7 @@ impl ListBuilder {
         requires { is_held self.old.stage ≡ false }
         ensures place { OnOk result (list_place self.new
             ≡ list_step (list_place self.old) (tree.parameter (key_text key.entry) (input_value value.entry))) }
+        ensures seed { OnOk result (KeepsListSeed self.old self.new) }
         ensures out_of_memory { OnErr result (IsTrue (list_takes_memory (list_place self.old)
             (tree.parameter (key_text key.entry) (input_value value.entry)))) }
     {
@@ -345,6 +388,7 @@ impl ListBuilder {
     #[inline(always)]
     fn step(&mut self, event: Event<'_>) -> Result<(), OutOfMemory>
         ensures place { OnOk result (list_place self.new ≡ list_step (list_place self.old) (event_of event.entry)) }
+        ensures seed { OnOk result (KeepsListSeed self.old self.new) }
         ensures out_of_memory { OnErr result (IsTrue (list_takes_memory (list_place self.old) (event_of event.entry))) }
         ensures copied { OnErr result (is_moved event.entry ≡ false) }
     {
@@ -359,6 +403,7 @@ impl ListBuilder {
             }
             Event::ParametersEnd => {
                 self.place_held()?;
+                self.fit_parameters();
                 self.end_parameters();
             }
             Event::InnerListEnd => self.end_inner_list(),
@@ -373,13 +418,13 @@ impl<'de> Visitor<'de> for ListBuilder {
 
     type Error = OutOfMemory;
 
-    ghost takes = { λ s event after. list_place after ≡ list_step (list_place s) event };
+    ghost takes = { λ s event after. (list_place after ≡ list_step (list_place s) event) × KeepsListSeed s after };
 
     ghost fails = { λ s event fault. IsTrue (list_takes_memory (list_place s) event) };
 
     ghost fails_read = { λ _ event _. is_moved event ≡ false };
 
-    ghost finishes = { λ s list. list_tree list.items ≡ list_members (list_place s) };
+    ghost finishes = { λ s list. (list_tree list.items ≡ list_members (list_place s)) × ListAnswersSeeded s list.items };
 
     ghost finish_fails = { λ _ _. ⊥ };
 

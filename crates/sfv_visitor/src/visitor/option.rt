@@ -1,4 +1,4 @@
-//! A visitor that may be left out.
+//! An optional visitor: `None` ignores every event.
 
 ghost use Rattle.std.specs.Prelude.{◌≡◌, ⊤, Some, None, MatchOption};
 

@@ -1,7 +1,7 @@
-//! Parameters that are entered one by one.
+//! Insertion of a parsed parameter.
 
 ghost use Rattle.std.specs.Prelude.{◌≡◌, OnOk, bytes_eq};
-ghost use Rattle.indexmap.specs.IndexMap.{insert_entry};
+ghost use Rattle.indexmap.specs.IndexMap.{hasher_of, insert_entry};
 ghost use Rattle.sfv_bare.specs.BareItems.{input_value};
 ghost use Rattle.sfv_text.specs.KeyText.{key_text};
 ghost use Rattle.sfv_tree.specs.Trees.{pairs_tree};
@@ -12,7 +12,7 @@ use sfv_text::key_ref::KeyRef;
 use sfv_tree::parsed::Parameters;
 use std::alloc::Global;
 
-// Enters a parameter: a key that is there keeps its place and takes the value, a new key goes last.
+// Inserts a parameter. An existing key keeps its place and takes the new value; a new key goes last.
 #[inline(never)]
 pub(crate) fn enter(
     alloc: Global,
@@ -20,11 +20,27 @@ pub(crate) fn enter(
     key: KeyRef<'_>,
     value: BareItemFromInput<'_>,
 ) -> Result<(), OutOfMemory>
-    ensures { OnOk result (pairs_tree params.new.entries
+    ensures seed { hasher_of params.new ≡ hasher_of params.old }
+    ensures entries { OnOk result (pairs_tree params.new.entries
         ≡ insert_entry bytes_eq (pairs_tree params.old.entries) (key_text key.entry) (input_value value.entry)) }
 {
     let key = key.to_owned(alloc)?;
     let value = value.try_into_owned(alloc)?;
     params.insert(key, value)?;
     Ok(())
+}
+
+/// The number of members, or of items of an inner list, above which unused memory of parameters is released. In a shorter
+/// list that memory is small, and the release takes longer than it saves.
+pub(crate) const MANY: usize = 4000;
+
+// Releases the unused memory of complete parameters. At its first entry, a map allocates room for nine.
+#[inline(never)]
+pub(crate) fn fit(params: &mut Parameters)
+    ensures entries { params.new.entries ≡ params.old.entries }
+    ensures seed { hasher_of params.new ≡ hasher_of params.old }
+{
+    if !params.is_empty() {
+        params.shrink_to_fit();
+    }
 }

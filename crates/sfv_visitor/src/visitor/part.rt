@@ -1,16 +1,18 @@
-//! A member of a list that is read where it stays.
+//! A list member that is built in its place in the list.
 
-ghost use Rattle.std.specs.Prelude.{◌≡◌, ◌<◌, Some, IfOk, OnOk, OnErr, IsTrue, is_some, length, map, option_map};
+ghost use Rattle.std.specs.Prelude.{◌≡◌, ◌<◌, Some, IfOk, OnOk, OnErr, IsTrue, All, is_some, length, map, option_map};
 ghost use Rattle.sfv_spec.specs.Events as tree;
 ghost use Rattle.sfv_bare.specs.BareItems.{bare_value, input_value, is_borrowed};
 ghost use Rattle.sfv_text.specs.KeyText.{key_text};
 ghost use Rattle.sfv_tree.specs.Trees.{item_tree, member_tree};
+ghost use Rattle.sfv_tree.specs.Seeds.{ItemHasSeed, MemberHasSeed};
+ghost use Rattle.sfv_tree.specs.declared.hash_seed.HashSeed.{HashSeed};
 ghost use Rattle.sfv_visitor.specs.Builders.{place_in};
 ghost use Rattle.sfv_visitor.specs.InPlace.{Enters, TakesMemoryIn, EntersLast, PutsItem, PlacesItem};
-ghost use Rattle.sfv_visitor.specs.InPlace.{lacks_item_in, PlacingTakesMemory};
+ghost use Rattle.sfv_visitor.specs.InPlace.{lacks_item_in, PlacingTakesMemory, KeepsSeed};
 ghost use Rattle.sfv_visitor.specs.declared.visitor.part.Part.TheVariants as parts;
 
-use crate::visitor::parameters::enter;
+use crate::visitor::parameters::{MANY, enter, fit};
 use sfv_bare::bare::{BareItem, BareItemFromInput};
 use sfv_base::error::OutOfMemory;
 use sfv_text::key_ref::KeyRef;
@@ -18,7 +20,7 @@ use sfv_tree::hash_seed::HashSeed;
 use sfv_tree::parsed::{Item, ListEntry, Parameters};
 use std::alloc::Global;
 
-/// What is wanted of a member that stands in its list and is being read.
+/// The part that the list's last member expects next.
 #[derive(Clone, Copy, PartialEq, Eq)]
 pub(crate) enum Part {
     // A parameter of an item.
@@ -33,7 +35,7 @@ pub(crate) enum Part {
     ListParams,
 }
 
-/// Holds a bare item for which there is no room yet.
+/// Holds a bare item for whose item there is no capacity yet.
 #[inline(always)]
 pub(crate) fn hold(held: &mut Option<BareItem>, bare_item: BareItem)
     ensures { held.new ≡ Some bare_item }
@@ -42,7 +44,7 @@ pub(crate) fn hold(held: &mut Option<BareItem>, bare_item: BareItem)
 }
 
 impl Part {
-    /// Whether this can be wanted of the member.
+    /// Returns `true` if the member can expect this part.
     #[inline(never)]
     pub(crate) fn is_in(self, member: &ListEntry) -> bool
         ensures { result ≡ is_some (place_in self (member_tree member.now)) }
@@ -53,8 +55,8 @@ impl Part {
         }
     }
 
-    /// Whether a parameter of the last item is wanted of an inner list that has none. No builder stands so, but its
-    /// steps hold of every state.
+    /// Returns `true` for the state that expects a parameter of the last item of an empty inner list. No builder
+    /// reaches this state, but its steps are stated for every state.
     #[inline(never)]
     pub(crate) fn lacks_item(self, member: &ListEntry) -> bool
         ensures { result ≡ lacks_item_in self (member_tree member.now) }
@@ -65,7 +67,7 @@ impl Part {
         }
     }
 
-    // Enters a parameter of an item.
+    // Inserts a parameter of an item.
     #[inline(always)]
     fn parameter_of_item(
         alloc: Global,
@@ -75,6 +77,7 @@ impl Part {
     ) -> Result<(), OutOfMemory>
         ensures place { OnOk result (Enters (place_in parts.Params) (member_tree member.old)
             (key_text key.entry) (input_value value.entry) (member_tree member.new)) }
+        ensures seed { OnOk result (KeepsSeed member.old member.new) }
         ensures out_of_memory { OnErr result (TakesMemoryIn (place_in parts.Params (member_tree member.old)) (member_tree member.old)
             (tree.parameter (key_text key.entry) (input_value value.entry))) }
     {
@@ -84,7 +87,7 @@ impl Part {
         }
     }
 
-    // Enters a parameter of an inner list.
+    // Inserts a parameter of an inner list.
     #[inline(always)]
     fn parameter_of_list(
         alloc: Global,
@@ -94,6 +97,7 @@ impl Part {
     ) -> Result<(), OutOfMemory>
         ensures place { OnOk result (Enters (place_in parts.ListParams) (member_tree member.old)
             (key_text key.entry) (input_value value.entry) (member_tree member.new)) }
+        ensures seed { OnOk result (KeepsSeed member.old member.new) }
         ensures out_of_memory { OnErr result (TakesMemoryIn (place_in parts.ListParams (member_tree member.old)) (member_tree member.old)
             (tree.parameter (key_text key.entry) (input_value value.entry))) }
     {
@@ -103,7 +107,7 @@ impl Part {
         }
     }
 
-    // Enters a parameter of the last item.
+    // Inserts a parameter of the last item.
     #[inline(always)]
     fn parameter_of_last(
         alloc: Global,
@@ -113,6 +117,8 @@ impl Part {
     ) -> Result<(), OutOfMemory>
         ensures place { OnOk result (EntersLast (map item_tree items.old.items) (key_text key.entry)
             (input_value value.entry) (map item_tree items.new.items)) }
+        ensures seed { OnOk result ((seed : HashSeed) → All (ItemHasSeed seed) items.old.items
+            → All (ItemHasSeed seed) items.new.items) }
         ensures out_of_memory { OnErr result (0 < length items.old.items) }
     {
         match items.last_mut() {
@@ -124,7 +130,7 @@ impl Part {
         }
     }
 
-    // Enters a parameter of the last item of an inner list.
+    // Inserts a parameter of the last item of an inner list.
     #[inline(always)]
     fn parameter_of_inner_item(
         alloc: Global,
@@ -134,6 +140,7 @@ impl Part {
     ) -> Result<(), OutOfMemory>
         ensures place { OnOk result (Enters (place_in parts.InnerParams) (member_tree member.old)
             (key_text key.entry) (input_value value.entry) (member_tree member.new)) }
+        ensures seed { OnOk result (KeepsSeed member.old member.new) }
         ensures out_of_memory { OnErr result (TakesMemoryIn (place_in parts.InnerParams (member_tree member.old)) (member_tree member.old)
             (tree.parameter (key_text key.entry) (input_value value.entry))) }
     {
@@ -146,7 +153,7 @@ impl Part {
         }
     }
 
-    /// Enters a parameter, where one is wanted.
+    /// Inserts a parameter, if the member expects one.
     #[inline(always)]
     pub(crate) fn parameter(
         self,
@@ -157,6 +164,7 @@ impl Part {
     ) -> Result<(), OutOfMemory>
         ensures place { OnOk result (Enters (place_in self) (member_tree member.old)
             (key_text key.entry) (input_value value.entry) (member_tree member.new)) }
+        ensures seed { OnOk result (KeepsSeed member.old member.new) }
         ensures out_of_memory { OnErr result (TakesMemoryIn (place_in self (member_tree member.old)) (member_tree member.old)
             (tree.parameter (key_text key.entry) (input_value value.entry))) }
     {
@@ -168,8 +176,8 @@ impl Part {
         }
     }
 
-    /// Puts an item last into an inner list, or holds its bare item where the inner list has no room. Returns whether
-    /// it was put.
+    /// Appends an item to an inner list that has capacity, and returns `true`. Otherwise holds the bare item, and
+    /// returns `false`.
     #[inline(always)]
     pub(crate) fn put_item(
         alloc: Global,
@@ -180,6 +188,7 @@ impl Part {
     ) -> Result<bool, OutOfMemory>
         ensures place { IfOk result (λ is_put. PutsItem (member_tree member.old) (input_value bare_item.entry) is_put
             (option_map bare_value held.new) (member_tree member.new)) }
+        ensures seed { OnOk result (MemberHasSeed seed member.old → MemberHasSeed seed member.new) }
         ensures out_of_memory { OnErr result (TakesMemoryIn (place_in parts.InnerHead (member_tree member.old))
             (member_tree member.old) (tree.bare_item (input_value bare_item.entry))) }
         ensures copied { OnErr result (IsTrue (is_borrowed bare_item.entry)) }
@@ -197,7 +206,7 @@ impl Part {
         Ok(false)
     }
 
-    /// Puts the item of a bare item that was held last into an inner list.
+    /// Appends the item of a held bare item to an inner list.
     #[inline(always)]
     pub(crate) fn place_item(
         alloc: Global,
@@ -207,6 +216,7 @@ impl Part {
     ) -> Result<(), OutOfMemory>
         ensures place { OnOk result (PlacesItem (bare_value bare_item) (member_tree member.old)
             (member_tree member.new)) }
+        ensures seed { OnOk result (MemberHasSeed seed member.old → MemberHasSeed seed member.new) }
         ensures out_of_memory { OnErr result (PlacingTakesMemory (bare_value bare_item) (member_tree member.old)) }
     {
         if let ListEntry::InnerList(list) = member {
@@ -216,5 +226,34 @@ impl Part {
                 .push_reserved(Item::with_params(bare_item, params));
         }
         Ok(())
+    }
+
+    // Releases the unused memory of the parameters of the last item, if there are many items.
+    #[inline(always)]
+    fn fit_last(items: &mut Vec<Item>)
+        ensures tree { map item_tree items.new.items ≡ map item_tree items.old.items }
+        ensures seed { (seed : HashSeed) → All (ItemHasSeed seed) items.old.items → All (ItemHasSeed seed) items.new.items }
+    {
+        if items.len() <= MANY {
+            return;
+        }
+        if let Some(item) = items.last_mut() {
+            fit(&mut item.params);
+        }
+    }
+
+    /// Releases the unused memory of the member's parameters that have ended.
+    #[inline(always)]
+    pub(crate) fn fit(self, member: &mut ListEntry)
+        ensures tree { member_tree member.new ≡ member_tree member.old }
+        ensures seed { KeepsSeed member.old member.new }
+    {
+        match member {
+            ListEntry::Item(item) => fit(&mut item.params),
+            ListEntry::InnerList(list) => match self {
+                Part::InnerParams => Part::fit_last(&mut list.items),
+                _ => fit(&mut list.params),
+            },
+        }
     }
 }

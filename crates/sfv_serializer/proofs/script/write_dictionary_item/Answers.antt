@@ -2,9 +2,10 @@ use Rattle.std.proofs.Common.{◌<◌, ◌≤◌, length, refl, ◌∙◌, codes
 use Rattle.std.proofs.lemmas.List.{append-nil, take_all}
 use Rattle.sfv_text.specs.KeyText.{key_text}
 use Rattle.sfv_bare.specs.BareItems.{ref_value}
-use Rattle.sfv_writer.specs.Written.{lead, keyed_text}
+use Rattle.sfv_writer.specs.Written.{lead, keyed_text, param_text}
 use Rattle.sfv_serializer.specs.Serializers.{has_no_part}
 use Rattle.sfv_serializer.proofs.Scripts.{kept_grown, of_error}
+use Rattle.sfv_serializer.proofs.Room.{params_lack, memory_lacks}
 use Rattle.sfv_serializer.proofs.Steps.{put_before, params_text_more, are_params_more}
 use Rattle.sfv_serializer.proofs.Steps.{grows, kept_grows, more_at, more_behind}
 use Rattle.sfv_serializer.proofs.script.write_dictionary_item.Goals as goal
@@ -59,3 +60,18 @@ returns-clause-value g c =
     let params = c.args.calls.now.params.items in
     let all : length params ≤ c.loop-call.call-index = rw c.deref-call-items.ensures.value at c.loop-call-test.false in
     rw (take_all c.loop-call.call-index params all) at c.loop-call.invariant.2
+
+pub returns-in-Err-parameter-clause-room : goal.returns-in-Err-parameter-clause-room
+returns-in-Err-parameter-clause-room g c =
+    let e = c.in-Err-parameter.ensures in
+    let row = c.loop-call.invariant in
+    let n = c.loop-call.call-index in
+    let params = c.args.calls.now.params.items in
+    let within : n < length params = rw c.deref-call-items.ensures.value at c.loop-call-test.true in
+    let is = rw c.deref-call-items.ensures.value at c.call-item.is in
+    let last = g.W.Sink.text c.loop-call.params.sink.now.sink in
+    let one = param_text (key_text c.call-item.result.key) (ref_value c.call-item.result.value) in
+    params_lack params n c.call-item.result within is (g.W.Sink.text c.args.dictionary.now.sink) last
+    (lead (has_no_part c.args.dictionary.now) (codes ", "))
+    (keyed_text (key_text c.args.name) (ref_value c.args.calls.now.value))
+    row.1.1 row.1.5 (memory_lacks _ _ last one _ row.3 e.looks e.room)

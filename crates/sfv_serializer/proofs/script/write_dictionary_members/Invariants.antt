@@ -1,4 +1,4 @@
-use Rattle.std.proofs.Common.{◌≡◌, take, codes, string_bytes}
+use Rattle.std.proofs.Common.{◌≡◌, ◌≤◌, take, codes, string_bytes, string_capacity}
 use Rattle.std.specs.Prelude.{IsTrue}
 use Rattle.sfv_spec.specs.Classes.{is_key}
 use Rattle.sfv_spec.specs.Values.{IsMember, dictionary_field}
@@ -17,3 +17,4 @@ invariant-loop-name g l =
     (has_no_part l.fn.dictionary) (has_no_part l.dictionary)
     (string_bytes (g.W.Sink.text l.fn.dictionary.sink)) (string_bytes (g.W.Sink.text l.dictionary.sink))
     × (l.dictionary.version ≡ l.fn.dictionary.version) × (l.dictionary.kind ≡ l.fn.dictionary.kind)
+    × (string_capacity (g.W.Sink.text l.fn.dictionary.sink) ≤ string_capacity (g.W.Sink.text l.dictionary.sink))

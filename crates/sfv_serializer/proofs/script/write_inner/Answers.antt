@@ -1,9 +1,12 @@
 use Rattle.std.proofs.Common.{[], map, ◌∙◌, subst, rules}
 use Rattle.std.proofs.lemmas.List.{take_all}
-use Rattle.sfv_writer.specs.Written.{lead}
+use Rattle.sfv_writer.specs.Written.{lead, param_text}
+use Rattle.sfv_text.specs.KeyText.{key_text}
+use Rattle.sfv_bare.specs.BareItems.{ref_value}
 use Rattle.sfv_writer.proofs.Rows.{anyway}
 use Rattle.sfv_serializer.specs.Serializers.{has_no_part, KeepsParts}
 use Rattle.sfv_serializer.specs.Scripts.{called_param, called_item}
+use Rattle.sfv_serializer.proofs.Room.{opening_lacks, either_lacks, ending_lacks, params_behind_lack, params_lack, memory_lacks}
 use Rattle.sfv_serializer.proofs.Scripts.{begun_grown, more_grown, kept_grown, taken_away, away_grown, of_error}
 use Rattle.sfv_serializer.proofs.Scripts.{inner_ended}
 use Rattle.sfv_serializer.proofs.Steps.{params_text_more, are_params_more, kept_grows, more_at, more_behind}
@@ -91,3 +94,58 @@ returns-clause-value g c =
     let params = c.args.params.now in
     let all = rw (take_all c.loop-call.call-index params c.loop-call-test.false) at c.loop-call.invariant.2 in
     rw c.if-abandon.false (c.in_ok-inner.ensures.valid, c.in_default.ensures.value, all)
+
+pub returns-in_err-inner-clause-room : goal.returns-in_err-inner-clause-room
+returns-in_err-inner-clause-room g c =
+    let old = g.W.Sink.text c.args.parts.now.sink in
+    let front = lead (has_no_part c.args.parts.now) g.K.Kind.separator in
+    let opening = g.P.Part.text c.args.opening in
+    let items = map called_item c.args.items.now in
+    let params = map called_param c.args.params.now in
+    anyway _ _ (opening_lacks old front opening items params c.args.abandon c.in_err-inner.ensures.room)
+
+pub returns-in-Err-clause-room : goal.returns-in-Err-clause-room
+returns-in-Err-clause-room g c =
+    let old = g.W.Sink.text c.args.parts.now.sink in
+    let front = lead (has_no_part c.args.parts.now) g.K.Kind.separator in
+    let opening = g.P.Part.text c.args.opening in
+    let items = map called_item c.args.items.now in
+    let params = map called_param c.args.params.now in
+    let begun = c.in_ok-inner.ensures in
+    either_lacks old front opening items params (g.W.Sink.text c.in_ok-inner.inner.sink.now.sink)
+    (has_no_part c.in_ok-inner.inner) begun.text.1 begun.begins.0 begun.text.5 c.args.abandon c.in-Err.ensures.room
+
+pub returns-in_err-ending-clause-room : goal.returns-in_err-ending-clause-room
+returns-in_err-ending-clause-room g c =
+    let old = g.W.Sink.text c.args.parts.now.sink in
+    let front = lead (has_no_part c.args.parts.now) g.K.Kind.separator in
+    let opening = g.P.Part.text c.args.opening in
+    let items = map called_item c.args.items.now in
+    let params = map called_param c.args.params.now in
+    let begun = c.in_ok-inner.ensures in
+    let filled = c.in_default.ensures.text in
+    rw c.if-abandon.false (anyway _ _ (ending_lacks old front opening items params
+    (g.W.Sink.text c.in_ok-inner.inner.sink.now.sink) (has_no_part c.in_ok-inner.inner) begun.text.1 begun.begins.0
+    begun.text.5 (g.W.Sink.text c.write_inner_items.new.inner.sink.now.sink) filled.1 filled.5
+    c.in_err-ending.ensures.room))
+
+pub returns-in-Err-parameter-clause-room : goal.returns-in-Err-parameter-clause-room
+returns-in-Err-parameter-clause-room g c =
+    let old = g.W.Sink.text c.args.parts.now.sink in
+    let front = lead (has_no_part c.args.parts.now) g.K.Kind.separator in
+    let opening = g.P.Part.text c.args.opening in
+    let items = map called_item c.args.items.now in
+    let begun = c.in_ok-inner.ensures in
+    let filled = c.in_default.ensures.text in
+    let ends = c.in_ok-ending.ensures.text in
+    let row = c.loop-call.invariant in
+    let e = c.in-Err-parameter.ensures in
+    let ended = g.W.Sink.text c.in_ok-ending.ending.sink.now.sink in
+    let last = g.W.Sink.text c.loop-call.ending.sink.now.sink in
+    let one = param_text (key_text c.call-item.result.key) (ref_value c.call-item.result.value) in
+    let behind = params_lack c.args.params.now c.loop-call.call-index c.call-item.result c.loop-call-test.true
+    c.call-item.is ended last [] [] row.1.1 row.1.5 (memory_lacks _ _ last one _ row.3 e.looks e.room) in
+    rw c.if-abandon.false (params_behind_lack old front opening items (map called_param c.args.params.now)
+    (g.W.Sink.text c.in_ok-inner.inner.sink.now.sink) (has_no_part c.in_ok-inner.inner) begun.text.1 begun.begins.0
+    begun.text.5 (g.W.Sink.text c.write_inner_items.new.inner.sink.now.sink) filled.1 filled.5 ended ends.1 ends.5
+    behind)

@@ -1,6 +1,8 @@
-use Rattle.std.proofs.Common.{◌<◌, length, refl, sym, ◌∙◌, rules}
+use Rattle.std.proofs.Common.{◌<◌, length, arith, refl, sym, ◌∙◌, rules}
 use Rattle.std.proofs.lemmas.List.{append-nil}
-use Rattle.sfv_serializer.proofs.Scripts.{item_more}
+use Rattle.sfv_writer.proofs.Rows.{anyway}
+use Rattle.sfv_serializer.proofs.Room.{next_item_lacks}
+use Rattle.sfv_serializer.proofs.Scripts.{item_more, no_less}
 use Rattle.sfv_serializer.proofs.script.write_inner_items.Goals as goal
 
 pub loop-calls-init : goal.loop-calls-init
@@ -9,6 +11,7 @@ loop-calls-init g c = (
   record { first = refl; text = sym (append-nil _); good = tt },
   refl,
   refl,
+  omega arith,
 )
 
 pub loop-calls-preserved : goal.loop-calls-preserved
@@ -28,4 +31,13 @@ loop-calls-preserved g c =
           w.text.1 w.value,
       w.text.3 ∙ row.2,
       w.text.4 ∙ row.3,
+      no_less row.4 w.text.5,
     )
+
+pub returns-in_err-write_unnamed-clause-room : goal.returns-in_err-write_unnamed-clause-room
+returns-in_err-write_unnamed-clause-room g c =
+    let row = c.loop-calls.invariant in
+    let within : c.loop-calls.calls-index < length c.args.items.now = search rules in
+    anyway _ _ (next_item_lacks c.args.items.now c.loop-calls.calls-index c.calls-item.result _ _
+    (g.W.Sink.text c.args.inner.now.sink.now.sink) (g.W.Sink.text c.loop-calls.inner.sink.now.sink) within c.calls-item.is
+    row.1 row.4 c.in_err-write_unnamed.ensures.room)

@@ -1,4 +1,4 @@
-use Rattle.std.proofs.Common.{◌≡◌, take, map, codes, string_bytes}
+use Rattle.std.proofs.Common.{◌≡◌, ◌≤◌, take, map, codes, string_bytes, string_capacity}
 use Rattle.sfv_spec.specs.Values.{IsItem}
 use Rattle.sfv_spec.specs.Canonical.{item_text}
 use Rattle.sfv_writer.proofs.Rows.{IsLed}
@@ -13,3 +13,4 @@ invariant-loop-calls g l =
     (has_no_part l.fn.inner) (has_no_part l.inner)
     (string_bytes (g.W.Sink.text l.fn.inner.sink.now.sink)) (string_bytes (g.W.Sink.text l.inner.sink.now.sink))
     × (l.inner.version ≡ l.fn.inner.version) × (l.inner.kind ≡ l.fn.inner.kind)
+    × (string_capacity (g.W.Sink.text l.fn.inner.sink.now.sink) ≤ string_capacity (g.W.Sink.text l.inner.sink.now.sink))

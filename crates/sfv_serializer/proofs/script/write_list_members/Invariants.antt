@@ -1,4 +1,4 @@
-use Rattle.std.proofs.Common.{◌≡◌, take, codes, string_bytes}
+use Rattle.std.proofs.Common.{◌≡◌, ◌≤◌, take, codes, string_bytes, string_capacity}
 use Rattle.sfv_spec.specs.Values.{IsMember, list_field}
 use Rattle.sfv_spec.specs.Canonical.{member_text}
 use Rattle.sfv_spec.specs.Calls.{described}
@@ -14,3 +14,4 @@ invariant-loop-member g l =
     (has_no_part l.fn.list) (has_no_part l.list)
     (string_bytes (g.W.Sink.text l.fn.list.sink)) (string_bytes (g.W.Sink.text l.list.sink))
     × (l.list.version ≡ l.fn.list.version) × (l.list.kind ≡ l.fn.list.kind)
+    × (string_capacity (g.W.Sink.text l.fn.list.sink) ≤ string_capacity (g.W.Sink.text l.list.sink))

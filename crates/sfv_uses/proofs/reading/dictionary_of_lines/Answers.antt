@@ -1,8 +1,15 @@
+use Rattle.std.proofs.Common.{◌≡◌, ℕ, List, ◌∙◌, sym, subst}
 use Rattle.std.proofs.lemmas.Result.{IfOk-weaker}
 use Rattle.sfv.specs.Values.{rfc9651, dictionary_field}
 use Rattle.sfv.specs.Statements.{IsParsedAs}
 use Rattle.sfv.specs.Trees.{dictionary_tree}
-use Rattle.sfv.proofs.Callers.{dictionary_behind, read_is_value}
+use Rattle.sfv.specs.Types.{HashSeed, DictionaryBuilder, ListEntry}
+use Rattle.sfv.specs.Maps.{IndexMap}
+use Rattle.sfv.specs.Seeds.{DictionaryHasSeed}
+use Rattle.sfv.proofs.Callers.{dictionary_behind, dictionary_seeded, read_is_value}
+use Rattle.sfv.specs.Builders.{dictionary_place, dictionary_step, dictionary_members, KeepsDictionarySeed}
+use Rattle.sfv.specs.Builders.{DictionaryAnswersSeeded}
+use Rattle.sfv_uses.proofs.Uses.{second_fails}
 use Rattle.sfv_uses.proofs.reading.dictionary_of_lines.Goals as goal
 
 pub returns-clause-joined : goal.returns-clause-joined
@@ -15,3 +22,24 @@ returns-clause-joined c =
     let behind = dictionary_behind rfc9651 c.args.second.now held c.new-builder.result
     c.parse_dictionary_with_visitor.result distinct c.new-builder.ensures.place second in
     IfOk-weaker c.parse_dictionary_with_visitor.result _ _ (λ dictionary h. (held, h.0, first, h.1, h.2)) behind
+
+pub returns-clause-seed : goal.returns-clause-seed
+returns-clause-seed c =
+    let second = rw (c.new-2.ensures) at c.parse_dictionary_with_visitor.ensures.visited in
+    let first : DictionaryHasSeed c.args.seed c.in_ok-held.held =
+    rw c.with_hash_seed-parser.ensures at c.in_ok-held.ensures.seed in
+    IfOk-weaker c.parse_dictionary_with_visitor.result _ _ (λ dictionary h. dictionary_seeded rfc9651 c.args.second.now
+    c.new-builder.result dictionary c.args.seed (c.new-builder.ensures.seed ∙ first.0)
+    (c.new-builder.ensures.seeded (subst (λ (seed : HashSeed). DictionaryHasSeed seed c.in_ok-held.held) (sym first.0) first)) h)
+    second
+
+pub returns-clause-rejected : goal.returns-clause-rejected
+returns-clause-rejected c =
+    let read : IsParsedAs rfc9651 dictionary_field c.args.first.now (dictionary_tree c.in_ok-held.held.entries) =
+    rw (c.with_hash_seed-parser.ensures, c.new.ensures) at c.in_ok-held.ensures.read in
+    second_fails dictionary_field (λ (s : DictionaryBuilder) e after.
+    (dictionary_place after ≡ dictionary_step (dictionary_place s) e) × KeepsDictionarySeed s after)
+    (λ s (dictionary : IndexMap (List ℕ) ListEntry HashSeed). (dictionary_tree dictionary.entries
+    ≡ dictionary_members (dictionary_place s)) × DictionaryAnswersSeeded s dictionary) c.args.first.now c.args.second.now
+    c.new-builder.result c.parse_dictionary_with_visitor.result (read.raw, read.accepted)
+    (rw c.new-2.ensures at c.parse_dictionary_with_visitor.ensures.syntax)

@@ -1,4 +1,4 @@
-use Rattle.std.proofs.Common.{[], refl, sym, rules}
+use Rattle.std.proofs.Common.{[], arith, refl, sym, rules}
 use Rattle.std.proofs.lemmas.List.{append-nil}
 use Rattle.sfv.proofs.Callers.{taken_away, kept_as}
 use Rattle.sfv_uses.proofs.serializing.abandon_named.Goals as goal
@@ -13,5 +13,5 @@ returns g c =
     let begun = c.in_ok-inner.ensures in
     let away = c.abandon.ensures in
     let kept = taken_away s again dictionary last inner inner _ begun.text begun.begins.1
-    ((refl, g.met.W.Sink.same_itself _, refl, refl, refl), ([], sym (append-nil _)), refl) away in
+    ((refl, g.met.W.Sink.same_itself _, refl, refl, refl), ([], sym (append-nil _)), refl, omega arith) away in
     kept_as s dictionary last _ _ _ _ kept (search rules) (search rules) (search rules) (search rules)

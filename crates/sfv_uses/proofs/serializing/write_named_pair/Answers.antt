@@ -4,7 +4,7 @@ use Rattle.sfv.specs.BareItems.{ref_value}
 use Rattle.sfv.specs.KeyText.{key_text}
 use Rattle.sfv.specs.Written.{lead}
 use Rattle.sfv.specs.Serializers.{has_no_part}
-use Rattle.sfv.proofs.Callers.{named_list_ended, more_as}
+use Rattle.sfv.proofs.Callers.{named_list_ended, more_as, no_less}
 use Rattle.sfv_uses.specs.Uses.{pair_of}
 use Rattle.sfv_uses.proofs.serializing.write_named_pair.Goals as goal
 
@@ -28,4 +28,5 @@ returns g c =
       ended.2 ∙ closed.2,
       ended.3 ∙ closed.3 ∙ pair.0.3 ∙ begun.text.3,
       ended.4 ∙ closed.4 ∙ pair.0.4 ∙ begun.text.4,
+      no_less begun.text.5 (no_less pair.5 (no_less closed.5 ended.5)),
     ) (search rules) (search rules) (search rules) (search rules)

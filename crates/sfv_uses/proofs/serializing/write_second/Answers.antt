@@ -15,4 +15,5 @@ returns g c =
       written.2,
       written.3,
       written.4,
+      written.5,
     )

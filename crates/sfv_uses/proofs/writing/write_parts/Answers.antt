@@ -1,10 +1,19 @@
-use Rattle.std.proofs.Common.{rules, ◌≡◌, ◌++◌, ◌∙◌, string_bytes, ap, append_assoc}
+use Rattle.std.proofs.Common.{rules, ◌≡◌, ◌++◌, ◌∙◌, string_bytes, ap, append_assoc, subst, arith, Result, Ok, Err}
+use Rattle.std.specs.Prelude.{OnErr}
+use Rattle.std.specs.Iterator.{Yields}
+use Rattle.std.specs.Map.Iter.{TakesFirst, deref_pair}
 use Rattle.sfv.specs.Canonical.{bare_text, item_text, parameters_text}
 use Rattle.sfv.specs.BareItems.{bare_value}
 use Rattle.sfv.specs.Trees.{pairs_tree, item_tree}
 use Rattle.sfv.specs.Written.{lent_pairs}
-use Rattle.sfv.proofs.Callers.{lent_all}
+use Rattle.sfv.specs.Versions.{FailsAmong, values_of_pairs}
+use Rattle.sfv.proofs.Callers.{lent_all, newer_fails, parameters_lack, room_behind}
 use Rattle.sfv_uses.proofs.writing.write_parts.Goals as goal
+
+-- what always holds, holds for an error
+of_any : {T E P : Type 0} (r : Result T E) → P → OnErr r P
+of_any (Ok x) h = tt
+of_any (Err e) h = h
 
 pub returns-clause-text : goal.returns-clause-text
 returns-clause-text c =
@@ -19,3 +28,20 @@ returns-clause-text c =
     written.2 ∙ rw (front, lent) (append_assoc old (bare_text (bare_value item.bare_item))
     (parameters_text (pairs_tree item.params.entries))) in
     (search rules) ∙ whole
+
+pub returns-in_err-text-clause-room : goal.returns-in_err-text-clause-room
+returns-in_err-text-clause-room c =
+    let item = c.args.item.now in
+    let old = c.args.text.now in
+    let written = c.in_ok-params.ensures in
+    let params = c.in_ok-params.params.sink.now in
+    let error = c.in_err-text.field-0.0 in
+    let failed = subst (λ edition. FailsAmong (TakesFirst deref_pair) c.iter.result values_of_pairs edition error)
+    (written.version ∙ c.with_buffer.ensures.version) c.in_err-text.ensures.failed in
+    let p = c.in_err-text.ensures.room (newer_fails (TakesFirst deref_pair) c.iter.result values_of_pairs error failed) in
+    let none = parameters_lack params item.params.entries p.1 p.0
+    (subst (λ s. Yields (TakesFirst deref_pair) s p.0 p.1) c.iter.ensures.rest p.2) p.4 in
+    let front : string_bytes params ≡ string_bytes old ++ bare_text (bare_value item.bare_item) = search rules in
+    of_any c.from_residual-in_err-text.result
+    (room_behind old params (bare_text (bare_value item.bare_item)) (parameters_text (pairs_tree item.params.entries))
+    front (omega (arith, c.with_buffer.ensures.room, written.stays)) none)

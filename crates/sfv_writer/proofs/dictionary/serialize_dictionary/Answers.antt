@@ -1,4 +1,4 @@
-use Rattle.std.proofs.Common.{codes, ap, ◌∙◌}
+use Rattle.std.proofs.Common.{codes, sym, ap, ◌∙◌}
 use Rattle.std.specs.Prelude.{IsTrue}
 use Rattle.std.specs.Map.Iter.{TakesFirst, deref_pair}
 use Rattle.sfv_spec.specs.Classes.{is_key}
@@ -10,7 +10,8 @@ use Rattle.sfv_tree.specs.Trees.{dictionary_tree}
 use Rattle.sfv_tree.proofs.Distinct.{members_distinct}
 use Rattle.sfv_writer.specs.Written.{lent_member}
 use Rattle.sfv_writer.specs.Versions.{values_of_members}
-use Rattle.sfv_writer.proofs.Lent.{members_all}
+use Rattle.sfv_writer.proofs.Lacks.{front_lacks}
+use Rattle.sfv_writer.proofs.Lent.{members_all, members_front}
 use Rattle.sfv_writer.proofs.Looks.{newer_fails}
 use Rattle.sfv_writer.proofs.Rows.{all_both}
 use Rattle.sfv_writer.proofs.Drained.{all_written}
@@ -31,4 +32,14 @@ returns g c =
     (members_all c.iter.result w.0 c.iter.ensures.runs w.1 ∙ ap dictionary_tree c.iter.ensures.rest)
     (λ good. let both = all_both (λ m. IsTrue (is_key m.0) × IsMember m.1) (λ m. IsOrderedMember m.1) members good in
     record { parts = both.0; distinct = (members_distinct entries c.iter.ensures.unique, both.1) }) w.2 w.4 in
-    record { text = all.0; value = all.1 }
+    record { text = all.0; value = all.1; room = (c.serialize_each-written.ensures.stays, tt) }
+
+pub returns-in-Err-clause-room : goal.returns-in-Err-clause-room
+returns-in-Err-clause-room g c =
+    let e = c.in-Err.ensures in
+    let p = e.room (newer_fails (TakesFirst deref_pair) c.iter.result values_of_members _ e.failed) in
+    let members = dictionary_tree c.args.dictionary.now.entries in (
+      e.stays,
+      front_lacks lent_member dictionary_member_text (codes ", ") c.args.output.now p.0 members (dictionary_tree p.1)
+          (ap dictionary_tree (sym c.iter.ensures.rest) ∙ members_front c.iter.result p.1 p.0 p.2) p.4,
+    )

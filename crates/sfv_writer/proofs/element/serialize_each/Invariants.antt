@@ -1,4 +1,4 @@
-use Rattle.std.proofs.Common.{string_bytes}
+use Rattle.std.proofs.Common.{◌≤◌, string_bytes, string_capacity}
 use Rattle.std.specs.List.{flat_map}
 use Rattle.sfv_spec.specs.Calls.{AllFit}
 use Rattle.sfv_bare.specs.BareItems.{edition_of}
@@ -12,3 +12,4 @@ invariant-loop-element g l =
     × IsLed g.E.Element.text g.E.Element.is_valid l.fn.separator l.yielded
     l.fn.is_first l.none (string_bytes l.fn.output) (string_bytes l.output)
     × AllFit (edition_of l.version) (flat_map g.E.Element.values l.yielded)
+    × (string_capacity l.fn.output ≤ string_capacity l.output)

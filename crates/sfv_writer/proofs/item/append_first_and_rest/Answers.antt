@@ -6,4 +6,4 @@ pub returns-in-Err-clause-kept : goal.returns-in-Err-clause-kept
 returns-in-Err-clause-kept g c =
     let old = c.args.output.now in
     cut_to old c.serialize_first_and_rest.new.output c.cut_back.new.output c.len-len.result
-    (c.len-len.ensures ∙ old.bytes.ok.0) c.in-Err.ensures.grows c.cut_back.ensures
+    (c.len-len.ensures ∙ old.bytes.ok.0) c.in-Err.ensures.grows c.cut_back.ensures.text

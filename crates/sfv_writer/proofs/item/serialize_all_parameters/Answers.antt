@@ -2,10 +2,12 @@ use Rattle.std.proofs.Common.{◌≡◌, ◌∙◌, length, string_bytes, ap, su
 use Rattle.sfv_spec.specs.Values.{AreParameters}
 use Rattle.sfv_tree.specs.Trees.{pairs_tree}
 use Rattle.sfv_tree.proofs.Distinct.{pairs_distinct}
+use Rattle.std.specs.Iterator.{Yields}
 use Rattle.std.specs.Map.Iter.{TakesFirst, deref_pair}
 use Rattle.sfv_writer.specs.Written.{lent_pairs}
 use Rattle.sfv_writer.specs.Versions.{values_of_pairs}
 use Rattle.sfv_writer.proofs.Lent.{lent_all}
+use Rattle.sfv_writer.proofs.Lacks.{parameters_lack}
 use Rattle.sfv_writer.proofs.Looks.{newer_fails}
 use Rattle.sfv_writer.proofs.Parameters.{none_written, none_valid, none_repeated}
 use Rattle.sfv_writer.proofs.item.serialize_all_parameters.Goals as goal
@@ -45,3 +47,12 @@ returns-clause-distinct g c = pairs_distinct c.args.params.now.entries c.iter.en
 pub only_memory-requires : goal.only_memory-requires
 only_memory-requires g c =
     newer_fails (TakesFirst deref_pair) c.iter.result values_of_pairs _ c.in-Err.ensures.failed
+
+pub returns-in-Err-clause-room : goal.returns-in-Err-clause-room
+returns-in-Err-clause-room g c =
+    let e = c.in-Err.ensures in
+    let p = e.room (newer_fails (TakesFirst deref_pair) c.iter.result values_of_pairs _ e.failed) in (
+      e.stays,
+      parameters_lack c.args.output.now c.args.params.now.entries p.1 p.0
+          (subst (λ s. Yields (TakesFirst deref_pair) s p.0 p.1) c.iter.ensures.rest p.2) p.4,
+    )

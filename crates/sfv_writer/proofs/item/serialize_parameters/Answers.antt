@@ -1,9 +1,12 @@
-use Rattle.std.proofs.Common.{[], ◌∷◌, refl, subst, rules}
+use Rattle.std.proofs.Common.{[], ◌∷◌, refl, subst, arith, rules}
 use Rattle.std.specs.Iterator.{IsFinite, Yields}
 use Rattle.sfv_bare.specs.BareItems.{bare_value, edition_of}
 use Rattle.sfv_spec.specs.Calls.{AllFit}
+use Rattle.sfv_spec.specs.Canonical.{parameters_text}
+use Rattle.sfv_writer.specs.Written.{lent_pairs}
 use Rattle.sfv_writer.specs.Versions.{NamesFirst, values_of_pairs}
 use Rattle.sfv_writer.proofs.Appended.{unchanged, stops_grown}
+use Rattle.sfv_writer.proofs.Lacks.{named_lacks, lacks_among, one_lacks}
 use Rattle.sfv_writer.proofs.Looks.{fails_among, memory_among, singles}
 use Rattle.sfv_writer.proofs.Parameters.{text_more, valid_more, fit_more}
 use Rattle.sfv_writer.proofs.item.serialize_parameters.Goals as goal
@@ -20,6 +23,7 @@ loop-key-preserved g c =
       valid_more c.in-Some.key c.in-Some.value c.loop-key.yielded c.loop-key.invariant.3 one.key one.value,
       fit_more c.in-Some.key c.in-Some.value (edition_of c.args.version) c.loop-key.yielded c.loop-key.invariant.4
           (subst (λ b. AllFit (edition_of c.args.version) (b ∷ [])) c.as_ref_item.ensures.value fit),
+      omega (arith, c.loop-key.invariant.5, one.room.0),
     )
 
 pub returns-in_err-look_at_bare_item-clause-failed : goal.returns-in_err-look_at_bare_item-clause-failed
@@ -66,3 +70,23 @@ pub returns-in_err-serialize_parameter-clause-grows : goal.returns-in_err-serial
 returns-in_err-serialize_parameter-clause-grows g c =
     stops_grown _ _ _ _ c.from_residual-in_err-serialize_parameter.result c.loop-key.invariant.2
     c.in_err-serialize_parameter.ensures.text
+
+pub returns-in_err-look_at_bare_item-clause-room : goal.returns-in_err-look_at_bare_item-clause-room
+returns-in_err-look_at_bare_item-clause-room g c =
+    named_lacks g.I.Iterator.next_gives c.args.params values_of_pairs (edition_of c.args.version) c.args.output.now
+    (λ taken. parameters_text (lent_pairs taken)) c.from_residual.result _ c.in_err-look_at_bare_item.field-0.0
+    c.from_residual.ensures.1 c.in_err-look_at_bare_item.ensures
+
+pub returns-in_err-serialize_parameter-clause-room : goal.returns-in_err-serialize_parameter-clause-room
+returns-in_err-serialize_parameter-clause-room g c =
+    let steps = g.I.Iterator.next_gives in
+    let edition = edition_of c.args.version in
+    let ran = subst (λ s. Yields steps s c.loop-key.yielded c.loop-key.key-iterator)
+    c.into_iter-key-iterator.ensures.into_iter_gives c.loop-key.yielded_by in
+    lacks_among steps c.args.params c.loop-key.key-iterator c.next.new.self values_of_pairs edition c.args.output.now
+    (λ taken. parameters_text (lent_pairs taken)) c.from_residual-in_err-serialize_parameter.result c.loop-key.yielded
+    (c.in-Some.key, c.in-Some.value) ran c.in-Some.ensures.steps
+    (fit_more c.in-Some.key c.in-Some.value edition c.loop-key.yielded c.loop-key.invariant.4
+    (subst (λ b. AllFit edition (b ∷ [])) c.as_ref_item.ensures.value c.in_ok-look_at_bare_item.ensures))
+    (one_lacks c.in-Some.key c.in-Some.value c.loop-key.yielded c.args.output.now c.loop-key.output
+    c.loop-key.invariant.2 c.loop-key.invariant.5 c.in_err-serialize_parameter.ensures.room.1)

@@ -1,4 +1,4 @@
-use Rattle.std.proofs.Common.{◌≡◌, ◌++◌, string_bytes}
+use Rattle.std.proofs.Common.{◌≡◌, ◌≤◌, ◌++◌, string_bytes, string_capacity}
 use Rattle.sfv_spec.specs.Values.{AreParameters}
 use Rattle.sfv_spec.specs.Canonical.{parameters_text}
 use Rattle.sfv_spec.specs.Calls.{AllFit}
@@ -13,3 +13,4 @@ invariant-loop-key g l =
     × (string_bytes l.output ≡ string_bytes l.fn.output ++ parameters_text (lent_pairs l.yielded))
     × AreParameters (lent_pairs l.yielded)
     × AllFit (edition_of l.version) (values_of_pairs l.yielded)
+    × (string_capacity l.fn.output ≤ string_capacity l.output)

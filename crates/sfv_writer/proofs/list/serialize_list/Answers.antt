@@ -1,5 +1,5 @@
-use Rattle.std.proofs.Common.{List, codes, ap, ◌∙◌}
-use Rattle.std.specs.Slice.Iter.{iter_steps}
+use Rattle.std.proofs.Common.{List, codes, sym, ap, ◌∙◌}
+use Rattle.std.specs.Slice.Iter.{iter_steps, iter_rest}
 use Rattle.sfv_spec.specs.Values.{RawMember, IsMember, list_field}
 use Rattle.sfv_spec.specs.Ordered.{IsOrderedMember}
 use Rattle.sfv_spec.specs.Canonical.{member_text}
@@ -7,7 +7,8 @@ use Rattle.sfv_spec.specs.Statements.{IsValue}
 use Rattle.sfv_tree.specs.Trees.{list_tree}
 use Rattle.sfv_writer.specs.Written.{lent_entry}
 use Rattle.sfv_writer.specs.Versions.{values_of_entries}
-use Rattle.sfv_writer.proofs.Lent.{entries_all}
+use Rattle.sfv_writer.proofs.Lent.{entries_all, entries_front}
+use Rattle.sfv_writer.proofs.Lacks.{front_lacks}
 use Rattle.sfv_writer.proofs.Looks.{newer_fails}
 use Rattle.sfv_writer.proofs.Rows.{all_both}
 use Rattle.sfv_writer.proofs.Drained.{all_written}
@@ -25,4 +26,14 @@ returns g c =
     (entries_all c.iter.result w.0 w.1 ∙ ap list_tree (c.iter.ensures.rest ∙ c.deref.ensures.value))
     (λ good. let both = all_both IsMember IsOrderedMember members good in
     record { parts = both.0; distinct = both.1 }) w.2 w.4 in
-    record { text = all.0; value = all.1 }
+    record { text = all.0; value = all.1; room = (c.serialize_each.ensures.stays, tt) }
+
+pub returns-in-Err-clause-room : goal.returns-in-Err-clause-room
+returns-in-Err-clause-room g c =
+    let e = c.in-Err.ensures in
+    let p = e.room (newer_fails iter_steps c.iter.result values_of_entries _ e.failed) in
+    let members : List RawMember = list_tree c.args.list.now.items in (
+      e.stays,
+      front_lacks lent_entry member_text (codes ", ") c.args.output.now p.0 members (list_tree (iter_rest p.1))
+          (sym (ap list_tree (c.iter.ensures.rest ∙ c.deref.ensures.value)) ∙ entries_front c.iter.result p.1 p.0 p.2) p.4,
+    )

@@ -1,4 +1,4 @@
-use Rattle.std.proofs.Common.{suc, map, take, false, codes, string_bytes}
+use Rattle.std.proofs.Common.{◌≤◌, suc, map, take, false, codes, string_bytes, string_capacity}
 use Rattle.sfv_spec.specs.Values.{IsItem}
 use Rattle.sfv_spec.specs.Ordered.{IsOrderedItem}
 use Rattle.sfv_spec.specs.Canonical.{item_text}
@@ -11,3 +11,4 @@ invariant-loop-item g l =
     IsRow item_text (λ i. IsItem i × IsOrderedItem i) (codes " ")
     (map item_tree (take (suc l.item-index) l.items)) false
     (string_bytes l.fn.output) (string_bytes l.output)
+    × (string_capacity l.fn.output ≤ string_capacity l.output)

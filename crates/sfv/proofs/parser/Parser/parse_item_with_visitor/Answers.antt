@@ -1,6 +1,6 @@
 use Rattle.sfv_spec.specs.Values.{item_field}
 use Rattle.sfv.specs.Parsers.{input_of, parser_edition}
-use Rattle.sfv.proofs.visits.Fields.{visits_answer, visits_syntax, visits_failure, visits_accepted}
+use Rattle.sfv.proofs.visits.Fields.{visits_answer, visits_syntax, visits_taken, visits_failure, visits_accepted}
 use Rattle.sfv.proofs.visits.First.{visits_first}
 use Rattle.sfv.proofs.Memory.{visits_memory}
 use Rattle.sfv.proofs.parser.Parser.parse_item_with_visitor.Goals as goal
@@ -32,5 +32,10 @@ returns-clause-first g c = visits_first g.V.Visitor.takes g.V.Visitor.fails g.V.
 
 pub returns-clause-memory : goal.returns-clause-memory
 returns-clause-memory g c = visits_memory g.V.Visitor.takes g.V.Visitor.fails g.V.Visitor.finishes
+    g.V.Visitor.finish_fails (parser_edition c.args.self) item_field (input_of c.args.self) c.args.visitor
+    c.parse_item_field.result c.parse_item_field.ensures.visited
+
+pub returns-clause-taken : goal.returns-clause-taken
+returns-clause-taken g c = visits_taken g.V.Visitor.takes g.V.Visitor.fails g.V.Visitor.finishes
     g.V.Visitor.finish_fails (parser_edition c.args.self) item_field (input_of c.args.self) c.args.visitor
     c.parse_item_field.result c.parse_item_field.ensures.visited

@@ -1,6 +1,6 @@
 use Rattle.sfv_spec.specs.Values.{list_field}
 use Rattle.sfv.specs.Parsers.{input_of, parser_edition}
-use Rattle.sfv.proofs.visits.Fields.{visits_answer, visits_syntax, visits_failure, visits_accepted}
+use Rattle.sfv.proofs.visits.Fields.{visits_answer, visits_syntax, visits_taken, visits_failure, visits_accepted}
 use Rattle.sfv.proofs.Memory.{visits_memory}
 use Rattle.sfv.proofs.parser.Parser.parse_list_with_visitor.Goals as goal
 
@@ -26,5 +26,10 @@ returns-clause-accepted g c = visits_accepted g.V.Visitor.takes g.V.Visitor.fail
 
 pub returns-clause-memory : goal.returns-clause-memory
 returns-clause-memory g c = visits_memory g.V.Visitor.takes g.V.Visitor.fails g.V.Visitor.finishes
+    g.V.Visitor.finish_fails (parser_edition c.args.self) list_field (input_of c.args.self) c.args.visitor
+    c.parse_members_field.result c.parse_members_field.ensures
+
+pub returns-clause-taken : goal.returns-clause-taken
+returns-clause-taken g c = visits_taken g.V.Visitor.takes g.V.Visitor.fails g.V.Visitor.finishes
     g.V.Visitor.finish_fails (parser_edition c.args.self) list_field (input_of c.args.self) c.args.visitor
     c.parse_members_field.result c.parse_members_field.ensures

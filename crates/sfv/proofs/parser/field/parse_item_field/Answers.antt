@@ -11,7 +11,7 @@ use Rattle.sfv.proofs.visits.Whole.{field_trailing_error, field_done}
 use Rattle.sfv.proofs.visits.Parts.{kept_visits}
 use Rattle.sfv.proofs.visits.Lent.{lent_front, answered_as_read}
 use Rattle.sfv.proofs.visits.First.{visitor_failed, after_spaces, item_taken}
-use Rattle.sfv.proofs.visits.Fields.{item_fails, finish_failed, finished_at}
+use Rattle.sfv.proofs.visits.Fields.{item_fails, finish_failed, finished_at, took_whole}
 use Rattle.sfv.proofs.reads.Errors.{left_with}
 use Rattle.sfv.proofs.parser.field.parse_item_field.Goals as goal
 
@@ -56,6 +56,7 @@ returns-then-is_some-clause-visited g c =
           ∙ c.if-is_some.true))),
       finished_at g.V.Visitor.takes g.V.Visitor.finishes _ _ _ _ _ _ _ c.item.new.visitor c.in_ok-out.out
           c.error-error.result skipped read.1 read.2 c.in_ok-out.ensures.answered,
+      took_whole g.V.Visitor.takes _ _ _ _ _ _ _ c.item.new.visitor c.error-error.result skipped read.1 read.2,
     )
 
 pub returns-clause-visited : goal.returns-clause-visited

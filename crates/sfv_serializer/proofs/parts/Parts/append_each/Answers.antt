@@ -1,4 +1,5 @@
-use Rattle.std.proofs.Common.{refl, ap, ◌∙◌, string_bytes}
+use Rattle.std.proofs.Common.{◌≤◌, refl, sym, ap, subst, ◌∙◌, string_bytes, string_capacity}
+use Rattle.sfv_writer.proofs.Looks.{at_exit}
 use Rattle.sfv_serializer.proofs.parts.Parts.append_each.Goals as goal
 
 pub returns-clause-text : goal.returns-clause-text
@@ -15,7 +16,14 @@ returns-clause-text g c =
         w.3,
         refl,
         refl,
+        subst (λ t. string_capacity (g.W.Sink.text sink) ≤ string_capacity t) (sym (g.met.W.Sink.text_of_with sink text))
+            (subst (λ t. string_capacity t ≤ string_capacity text) c.text_mut.ensures.text c.append_each.ensures.stays),
       ),
       w.4,
       w.5,
     )
+
+pub returns-in_err-none-clause-room : goal.returns-in_err-none-clause-room
+returns-in_err-none-clause-room g c =
+    at_exit c.from_residual.result _ _ _ c.from_residual.ensures.1
+    (rw (c.text_mut.ensures.text, c.separator-separator.ensures) at c.in_err-none.ensures.room)

@@ -2,8 +2,8 @@ use Rattle.std.proofs.Common.{refl}
 use Rattle.sfv_tree.proofs.Entered.{pairs_tree-insert}
 use Rattle.sfv_visitor.proofs.visitor.parameters.enter.Goals as goal
 
-pub returns : goal.returns
-returns c = rw (
+pub returns-clause-entries : goal.returns-clause-entries
+returns-clause-entries c = rw (
   c.in_ok-insert.ensures.entries,
   pairs_tree-insert,
   c.in_ok-value.ensures.value,

@@ -5,6 +5,11 @@ use Rattle.sfv_tree.proofs.Entered.{dictionary_tree-insert}
 use Rattle.sfv_tree.specs.Trees.{member_tree}
 use Rattle.sfv_visitor.specs.Builders.{dictionary_place, dictionary_takes_memory}
 use Rattle.sfv_visitor.proofs.visitor.dictionary_builder.DictionaryBuilder.enter_held.Goals as goal
+use Rattle.std.proofs.Common.{refl, ap, ◌∙◌}
+use Rattle.std.specs.Prelude.{bytes_eq}
+use Rattle.indexmap.specs.IndexMap.{hasher_of}
+use Rattle.sfv_tree.specs.Seeds.{ItemHasSeed, MemberHasSeed}
+use Rattle.sfv_visitor.proofs.Seeded.{all_entered}
 
 pub returns-in_ok-insert-clause-place : goal.returns-in_ok-insert-clause-place
 returns-in_ok-insert-clause-place c =
@@ -27,3 +32,18 @@ returns-in_err-insert-clause-out_of_memory c =
     let takes : IsTrue (dictionary_takes_memory (dictionary_place c.args.self.now) tree.parameters_end) =
     rw (key, c.requires, held, lookup-map_values member_tree, c.in_err-insert.ensures.absent) (search rules) in
     search rules
+
+pub returns-in_ok-insert-clause-seed : goal.returns-in_ok-insert-clause-seed
+returns-in_ok-insert-clause-seed c =
+    let item : ItemHasSeed c.args.self.now.member.seed c.with_params.result =
+    ap hasher_of c.with_params.ensures.params ∙ c.with_hasher-params.ensures.hasher in (
+      refl,
+      λ h. (
+        (
+          c.insert.ensures.hasher ∙ h.0.0,
+          rw c.in_ok-insert.ensures.entries
+              (all_entered bytes_eq (MemberHasSeed c.args.self.now.member.seed) _ _ _ item h.0.1),
+        ),
+        h.1,
+      ),
+    )

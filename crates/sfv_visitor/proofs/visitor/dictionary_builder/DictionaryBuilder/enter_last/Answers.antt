@@ -12,6 +12,10 @@ use Rattle.sfv_visitor.specs.InPlace.{is_open}
 use Rattle.sfv_visitor.proofs.Lasts.{tree_push}
 use Rattle.sfv_visitor.proofs.Pairs.{ends}
 use Rattle.sfv_visitor.proofs.visitor.dictionary_builder.DictionaryBuilder.enter_last.Goals as goal
+use Rattle.std.proofs.Common.{subst}
+use Rattle.std.specs.Prelude.{All}
+use Rattle.sfv_tree.specs.Seeds.{MemberHasSeed}
+use Rattle.sfv_visitor.proofs.Seeded.{all_entered, all_popped, all_front}
 
 pub returns-in_ok-insert-clause-place : goal.returns-in_ok-insert-clause-place
 returns-in_ok-insert-clause-place c =
@@ -50,3 +54,18 @@ returns-in_err-insert-clause-out_of_memory c =
     let takes : IsTrue (dictionary_takes_memory (dictionary_place c.args.self.now) tree.parameters_end) =
     rw key (last.1 absent) in
     search rules
+
+pub returns-in_ok-insert-clause-seed : goal.returns-in_ok-insert-clause-seed
+returns-in_ok-insert-clause-seed c =
+    let P : ListEntry → Type 0 = MemberHasSeed c.args.self.now.member.seed in (
+      refl,
+      λ h.
+          let all : All P (c.pop.new.self.items ++ c.in-Some-pop.member ∷ []) = subst (All P) c.in-Some-pop.ensures.items h.1 in (
+            (
+              c.insert.ensures.hasher ∙ h.0.0,
+              rw c.in_ok-insert.ensures.entries
+                  (all_entered bytes_eq P _ _ _ (all_popped P _ _ all) h.0.1),
+            ),
+            all_front P _ _ all,
+          ),
+    )

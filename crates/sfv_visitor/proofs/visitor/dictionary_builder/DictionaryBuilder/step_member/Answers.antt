@@ -7,7 +7,7 @@ use Rattle.sfv_visitor.proofs.Pairs.{step_item, step_list, step_bare, step_param
 use Rattle.sfv_visitor.proofs.visitor.dictionary_builder.DictionaryBuilder.step_member.Goals as goal
 
 pub returns-in-Item-clause-place : goal.returns-in-Item-clause-place
-returns-in-Item-clause-place c = rw (c.in-Item.is) (step_item _ _ _ _ c.begin_item.ensures)
+returns-in-Item-clause-place c = rw (c.in-Item.is) (step_item _ _ _ _ c.begin_item.ensures.place)
 
 pub returns-in_ok-begin_inner_list-in-InnerList-clause-place : goal.returns-in_ok-begin_inner_list-in-InnerList-clause-place
 returns-in_ok-begin_inner_list-in-InnerList-clause-place c =
@@ -24,4 +24,4 @@ returns-in_ok-parameter-in-Parameter-clause-place c =
     c.in_ok-place_held-in-Parameter.ensures.place))
 
 pub returns-in-InnerListEnd-clause-place : goal.returns-in-InnerListEnd-clause-place
-returns-in-InnerListEnd-clause-place c = rw (c.in-InnerListEnd.is) (step_list_end _ _ _ _ c.end_inner_list.ensures)
+returns-in-InnerListEnd-clause-place c = rw (c.in-InnerListEnd.is) (step_list_end _ _ _ _ c.end_inner_list.ensures.place)

@@ -6,12 +6,12 @@ use Rattle.sfv_visitor.specs.InPlace.{is_open}
 use Rattle.sfv_visitor.proofs.Lasts.{lost}
 use Rattle.sfv_visitor.proofs.visitor.list_builder.ListBuilder.begin.Goals as goal
 
-pub returns-in-InnerHeld : goal.returns-in-InnerHeld
-returns-in-InnerHeld c =
+pub returns-in-InnerHeld-clause-place : goal.returns-in-InnerHeld-clause-place
+returns-in-InnerHeld-clause-place c =
     let closed : is_open c.args.self.now.stage (option_map bare_value c.args.self.now.held) (list_tree c.args.self.now.list.items) ≡ false = search rules in
     rw (c.in-InnerHeld.is, lost _ _ (ap (λ s. is_open s (option_map bare_value c.args.self.now.held) (list_tree c.args.self.now.list.items)) (sym c.in-InnerHeld.is) ∙ closed)) refl
 
-pub returns-in-Within : goal.returns-in-Within
-returns-in-Within c =
+pub returns-in-Within-clause-place : goal.returns-in-Within-clause-place
+returns-in-Within-clause-place c =
     let closed : is_open c.args.self.now.stage (option_map bare_value c.args.self.now.held) (list_tree c.args.self.now.list.items) ≡ false = search rules in
     rw (c.in-Within.is, lost _ _ (ap (λ s. is_open s (option_map bare_value c.args.self.now.held) (list_tree c.args.self.now.list.items)) (sym c.in-Within.is) ∙ closed)) refl

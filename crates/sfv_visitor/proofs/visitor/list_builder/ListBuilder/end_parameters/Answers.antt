@@ -7,17 +7,17 @@ use Rattle.sfv_visitor.specs.declared.visitor.part.Part.TheVariants as parts
 use Rattle.sfv_visitor.proofs.Lasts.{item_ends, inner_list_ends, inner_item_ends}
 use Rattle.sfv_visitor.proofs.visitor.list_builder.ListBuilder.end_parameters.Goals as goal
 
-pub returns-in-Within-Params : goal.returns-in-Within-Params
-returns-in-Within-Params c =
+pub returns-in-Within-Params-clause-place : goal.returns-in-Within-Params-clause-place
+returns-in-Within-Params-clause-place c =
     let here : c.args.self.now.stage ≡ stages.Within parts.Params = search rules in
     rw here (sym (item_ends (option_map bare_value c.args.self.now.held) (list_tree c.args.self.now.list.items)))
 
-pub returns-in-Within-ListParams : goal.returns-in-Within-ListParams
-returns-in-Within-ListParams c =
+pub returns-in-Within-ListParams-clause-place : goal.returns-in-Within-ListParams-clause-place
+returns-in-Within-ListParams-clause-place c =
     let here : c.args.self.now.stage ≡ stages.Within parts.ListParams = search rules in
     rw here (sym (inner_list_ends (option_map bare_value c.args.self.now.held) (list_tree c.args.self.now.list.items)))
 
-pub returns-in-Within-InnerParams : goal.returns-in-Within-InnerParams
-returns-in-Within-InnerParams c =
+pub returns-in-Within-InnerParams-clause-place : goal.returns-in-Within-InnerParams-clause-place
+returns-in-Within-InnerParams-clause-place c =
     let here : c.args.self.now.stage ≡ stages.Within parts.InnerParams = search rules in
     rw here (sym (inner_item_ends (option_map bare_value c.args.self.now.held) (list_tree c.args.self.now.list.items)))

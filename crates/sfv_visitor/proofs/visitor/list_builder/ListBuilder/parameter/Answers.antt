@@ -7,6 +7,9 @@ use Rattle.sfv_spec.specs.Events as tree
 use Rattle.sfv_visitor.specs.Builders.{list_place, list_step, place_in, list_takes_memory}
 use Rattle.sfv_visitor.proofs.Lasts.{is_last, lead_last, memory_last}
 use Rattle.sfv_visitor.proofs.visitor.list_builder.ListBuilder.parameter.Goals as goal
+use Rattle.std.proofs.Common.{refl}
+use Rattle.sfv_tree.specs.Seeds.{MemberHasSeed}
+use Rattle.sfv_visitor.proofs.Seeded.{all_last}
 
 pub returns-in-Some-clause-place : goal.returns-in-Some-clause-place
 returns-in-Some-clause-place c =
@@ -28,3 +31,14 @@ returns-in_err-parameter-clause-out_of_memory c =
     (tree.parameter (key_text c.args.key) (input_value c.args.value))) =
     rw (c.in-Within.is) (memory_last (place_in c.in-Within.part) _ _ _ (λ p. IsTrue (list_takes_memory p (tree.parameter (key_text c.args.key) (input_value c.args.value)))) last c.in_err-parameter.ensures.out_of_memory) in
     search rules
+
+pub returns-in-Some-clause-seed : goal.returns-in-Some-clause-seed
+returns-in-Some-clause-seed c =
+    let n : vec_len c.args.self.now.list ≡ length c.args.self.now.list.items = search rules in
+    let some : 0 < vec_len c.args.self.now.list = search rules in
+    let here : c.in-Some.member.now ≡ slice_index_or c.args.self.now.list.items (vec_len c.args.self.now.list - 1) c.in-Some.member.now =
+    search rules in (
+      refl,
+      λ h. all_last (MemberHasSeed c.args.self.now.seed) c.args.self.now.list.items (vec_len c.args.self.now.list)
+          c.in-Some.member.now _ n some here (c.in_ok-parameter.ensures.seed c.args.self.now.seed) h,
+    )

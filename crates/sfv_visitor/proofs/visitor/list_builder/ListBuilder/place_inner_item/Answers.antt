@@ -7,6 +7,9 @@ use Rattle.sfv_visitor.specs.InPlace.{EndTakesMemory}
 use Rattle.sfv_visitor.specs.declared.visitor.part.Part.TheVariants as parts
 use Rattle.sfv_visitor.proofs.Lasts.{is_last, lead_last, memory_last, none_held}
 use Rattle.sfv_visitor.proofs.visitor.list_builder.ListBuilder.place_inner_item.Goals as goal
+use Rattle.std.proofs.Common.{refl}
+use Rattle.sfv_tree.specs.Seeds.{MemberHasSeed}
+use Rattle.sfv_visitor.proofs.Seeded.{all_last}
 
 pub returns-in-Some-last_mut-clause-place : goal.returns-in-Some-last_mut-clause-place
 returns-in-Some-last_mut-clause-place c =
@@ -34,3 +37,14 @@ pub returns-in-None-clause-place : goal.returns-in-None-clause-place
 returns-in-None-clause-place c =
     let none : c.args.self.now.held ≡ None = search rules in
     rw (c.requires, none) (sym (none_held (list_tree c.args.self.now.list.items)))
+
+pub returns-in-Some-last_mut-clause-seed : goal.returns-in-Some-last_mut-clause-seed
+returns-in-Some-last_mut-clause-seed c =
+    let n : vec_len c.args.self.now.list ≡ length c.args.self.now.list.items = search rules in
+    let some : 0 < vec_len c.args.self.now.list = search rules in
+    let here : c.in-Some-last_mut.member.now ≡ slice_index_or c.args.self.now.list.items (vec_len c.args.self.now.list - 1) c.in-Some-last_mut.member.now =
+    search rules in (
+      refl,
+      λ h. all_last (MemberHasSeed c.args.self.now.seed) c.args.self.now.list.items (vec_len c.args.self.now.list)
+          c.in-Some-last_mut.member.now _ n some here (c.in_ok-place_item-in-Some.ensures.seed) h,
+    )

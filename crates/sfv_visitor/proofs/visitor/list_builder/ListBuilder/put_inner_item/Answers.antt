@@ -11,6 +11,9 @@ use Rattle.sfv_visitor.specs.Builders.{list_place, place_in, held_place}
 use Rattle.sfv_visitor.specs.declared.visitor.part.Part.TheVariants as parts
 use Rattle.sfv_visitor.proofs.Lasts.{is_last, lead_last, memory_last}
 use Rattle.sfv_visitor.proofs.visitor.list_builder.ListBuilder.put_inner_item.Goals as goal
+use Rattle.std.proofs.Common.{refl}
+use Rattle.sfv_tree.specs.Seeds.{MemberHasSeed}
+use Rattle.sfv_visitor.proofs.Seeded.{all_last}
 
 pub returns-in-Some-clause-place : goal.returns-in-Some-clause-place
 returns-in-Some-clause-place c =
@@ -48,3 +51,25 @@ returns-in_err-put_item-clause-out_of_memory c =
     let takes : IsTrue (list_takes_memory (list_place c.args.self.now) (tree.bare_item (input_value c.args.bare_item))) =
     rw (c.requires) (memory_last (place_in parts.InnerHead) _ _ _ (λ p. IsTrue (list_takes_memory p (tree.bare_item (input_value c.args.bare_item)))) last c.in_err-put_item.ensures.out_of_memory) in
     search rules
+
+pub returns-in-Some-clause-seed : goal.returns-in-Some-clause-seed
+returns-in-Some-clause-seed c =
+    let n : vec_len c.args.self.now.list ≡ length c.args.self.now.list.items = search rules in
+    let some : 0 < vec_len c.args.self.now.list = search rules in
+    let here : c.in-Some.member.now ≡ slice_index_or c.args.self.now.list.items (vec_len c.args.self.now.list - 1) c.in-Some.member.now =
+    search rules in (
+      refl,
+      λ h. all_last (MemberHasSeed c.args.self.now.seed) c.args.self.now.list.items (vec_len c.args.self.now.list)
+          c.in-Some.member.now _ n some here (c.in_ok-put_item.ensures.seed) h,
+    )
+
+pub returns-then-branch-clause-seed : goal.returns-then-branch-clause-seed
+returns-then-branch-clause-seed c =
+    let n : vec_len c.args.self.now.list ≡ length c.args.self.now.list.items = search rules in
+    let some : 0 < vec_len c.args.self.now.list = search rules in
+    let here : c.in-Some.member.now ≡ slice_index_or c.args.self.now.list.items (vec_len c.args.self.now.list - 1) c.in-Some.member.now =
+    search rules in (
+      refl,
+      λ h. all_last (MemberHasSeed c.args.self.now.seed) c.args.self.now.list.items (vec_len c.args.self.now.list)
+          c.in-Some.member.now _ n some here (c.in_ok-put_item.ensures.seed) h,
+    )

@@ -12,4 +12,4 @@ returns-in_ok-enter-in-Some-clause-place c =
     let some : 0 < vec_len c.args.items.now = search rules in
     let here : c.in-Some.item.now ≡ slice_index_or c.args.items.now.items (vec_len c.args.items.now - 1) c.in-Some.item.now = search rules in
     let last = is_last c.args.items.now.items (vec_len c.args.items.now) c.in-Some.item.now n some here in
-    rw (last.2, items_whole, ap (λ (is : List Item). split_last (map item_tree is)) last.1, items_push, c.in_ok-enter-in-Some.ensures) refl
+    rw (last.2, items_whole, ap (λ (is : List Item). split_last (map item_tree is)) last.1, items_push, c.in_ok-enter-in-Some.ensures.entries) refl

@@ -1,0 +1,17 @@
+-- The field CDN-Cache-Control (RFC 9213, section 2.1), a dictionary.
+use Rattle.sfv_field.specs.Field.{◌≡◌, ℕ, ℤ, List, Option, Some, None, codes, Edition, dictionary_field, BareValue}
+use Rattle.sfv_field.specs.Field.{integer, RawMember, item, last_of, IsParsedAs}
+
+-- the integer of a bare item, if it has this kind
+abbrev pub integer_in : BareValue → Option ℤ
+integer_in (integer z) = Some z
+integer_in b = None
+
+abbrev pub age_of : Option RawMember → Option ℤ
+age_of (Some (item i)) = integer_in i.bare
+age_of m = None
+
+-- the text parses to a dictionary with this member `max-age`
+abbrev pub IsMaxAgeOf : Edition → List ℕ → Option ℤ → Type 0
+IsMaxAgeOf edition t found = (value : List (List ℕ × RawMember)) × IsParsedAs edition dictionary_field t value
+    × (found ≡ age_of (last_of (codes "max-age") value))

@@ -1,0 +1,5 @@
+pub mod Puts
+mod Runs
+pub mod ListSteps
+pub mod DictionarySteps
+pub mod Found

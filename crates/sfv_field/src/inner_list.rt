@@ -1,0 +1,69 @@
+//! Readers of the items of an inner list.
+
+ghost use Rattle.std.specs.Prelude.{⊤, List, [], ◌∷◌, ◌++◌, OnOk};
+ghost use Rattle.sfv_spec.specs.Values.{BareValue, RawItem, RawParameters};
+ghost use Rattle.sfv_text.specs.KeyText.{key_text};
+ghost use Rattle.sfv_bare.specs.BareItems.{input_value};
+ghost use Rattle.sfv_field.specs.Words.{raw_item, put};
+
+use sfv_bare::bare::BareItemFromInput;
+use sfv_base::error::OutOfMemory;
+use sfv_text::key_ref::KeyRef;
+use std::alloc::Global;
+
+/// A reader that receives the items of an inner list, one at a time.
+pub trait InnerListReader<'de>: Drop {
+    /// `reads reader items`: `reader` is the state after these items. Their parameters have no repeated key.
+    ghost reads: { Self → List RawItem → Type 0 };
+
+    /// Returns the reader before any item.
+    fn new(alloc: Global) -> Self
+        ensures { reads result [] };
+
+    /// Receives the bare item of the next item.
+    ///
+    /// # Errors
+    ///
+    /// Returns `OutOfMemory` if memory runs out, which ends the parsing.
+    fn item(&mut self, item: BareItemFromInput<'de>) -> Result<(), OutOfMemory>
+        ensures { OnOk result ((xs : List RawItem) → reads self.old xs
+            → reads self.new (xs ++ raw_item (input_value item.entry) [] ∷ [])) };
+
+    /// Receives a parameter of the last item. It replaces an earlier one with the same key.
+    ///
+    /// # Errors
+    ///
+    /// Returns `OutOfMemory` if memory runs out, which ends the parsing.
+    fn parameter(
+        &mut self,
+        key: KeyRef<'de>,
+        value: BareItemFromInput<'de>,
+    ) -> Result<(), OutOfMemory>
+        ensures { OnOk result ((xs : List RawItem) (bare : BareValue) (ps : RawParameters)
+            → reads self.old (xs ++ raw_item bare ps ∷ [])
+            → reads self.new (xs ++ raw_item bare (put ps (key_text key.entry) (input_value value.entry)) ∷ [])) };
+}
+
+/// A reader that ignores the items of an inner list.
+#[derive(Clone, Copy, Debug)]
+pub struct IgnoredItems;
+
+impl<'de> InnerListReader<'de> for IgnoredItems {
+    ghost reads = { λ _ _. ⊤ };
+
+    fn new(_alloc: Global) -> IgnoredItems {
+        IgnoredItems
+    }
+
+    fn item(&mut self, _item: BareItemFromInput<'de>) -> Result<(), OutOfMemory> {
+        Ok(())
+    }
+
+    fn parameter(
+        &mut self,
+        _key: KeyRef<'de>,
+        _value: BareItemFromInput<'de>,
+    ) -> Result<(), OutOfMemory> {
+        Ok(())
+    }
+}

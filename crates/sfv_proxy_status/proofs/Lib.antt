@@ -1,0 +1,2 @@
+mod LastProxies
+mod ReadBack

@@ -1,0 +1,29 @@
+-- The state of one member.
+use Rattle.sfv_field.specs.Field.{ℕ, List, Option, option_map, codes, BareValue, token_text, RawParameters, last_of}
+use Rattle.sfv_field.specs.Field.{None, Head, of_item, of_inner_list}
+use Rattle.sfv_proxy_status.specs.declared.reading.Member.{Member}
+use Rattle.sfv_proxy_status.specs.ProxyStatus.{name_in, error_of, status_of, name_value}
+
+pub record Kept : Type 0 where
+  pub name : Option BareValue
+  pub error : Option (List ℕ)
+  pub received_status : Option ℕ
+
+-- only an item has a name
+abbrev pub name_of : Head → Option BareValue
+name_of (of_item b) = name_in b
+name_of (of_inner_list items) = None
+
+abbrev pub kept_of : Head → RawParameters → Kept
+kept_of head ps = record {
+  name = name_of head;
+  error = error_of (last_of (codes "error") ps);
+  received_status = status_of (last_of (codes "received-status") ps);
+}
+
+abbrev pub kept_value : Member → Kept
+kept_value m = record {
+  name = option_map name_value m.name;
+  error = option_map token_text m.error;
+  received_status = m.received_status;
+}

@@ -1,0 +1,3 @@
+pub mod ProxyStatus
+pub mod Kept
+pub mod Writing

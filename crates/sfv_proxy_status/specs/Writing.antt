@@ -1,0 +1,21 @@
+-- The text of an intermediary.
+use Rattle.sfv_field.specs.Field.{ℕ, List, [], ◌∷◌, Some, codes, pos, Edition, list_field, BareValue, integer, token}
+use Rattle.sfv_field.specs.Field.{RawMember, item, canonical}
+use Rattle.sfv_proxy_status.specs.ProxyStatus.{ProxyValue, IsLastProxyOf}
+
+abbrev pub written_members : BareValue → List ℕ → ℕ → List RawMember
+written_members name error status = item (record {
+  bare = name;
+  parameters = (codes "error", token error) ∷ (codes "received-status", integer (pos status)) ∷ [];
+}) ∷ []
+
+abbrev pub proxy_text : BareValue → List ℕ → ℕ → List ℕ
+proxy_text name error status = canonical list_field (written_members name error status)
+
+abbrev pub written_proxy : BareValue → List ℕ → ℕ → ProxyValue
+written_proxy name error status = record { name = name; error = Some error; received_status = Some status }
+
+-- the text parses, under both versions, to a list whose last member is this intermediary
+abbrev pub IsReadAsProxy : BareValue → List ℕ → ℕ → Type 0
+IsReadAsProxy name error status =
+    (edition : Edition) → IsLastProxyOf edition (proxy_text name error status) (Some (written_proxy name error status))

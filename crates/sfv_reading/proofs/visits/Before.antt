@@ -1,0 +1,46 @@
+-- What was visited of a field that goes on behind a comma.
+use Rattle.std.proofs.Common.{◌≡◌, ℕ, List, [], ◌∷◌, ◌++◌, refl, sym, ap, subst, ◌∙◌, append_assoc}
+use Rattle.std.proofs.lemmas.List.{append-nil}
+use Rattle.sfv_spec.proofs.Marks.{comma}
+use Rattle.sfv_spec.specs.Classes.{is_space}
+use Rattle.sfv_spec.specs.Values.{Edition, FieldKind, item_field, list_field, dictionary_field, RawField, HasMember}
+use Rattle.sfv_spec.specs.Grammar.{IsFieldText}
+use Rattle.sfv_spec.specs.Events.{events}
+use Rattle.sfv_spec.specs.Faults.{HasManyMembers}
+use Rattle.sfv_reading.specs.Reader.{visited}
+use Rattle.sfv_reading.specs.Fields.{whole_field_at}
+use Rattle.sfv_reading.proofs.sound.Combinators.{Begins}
+use Rattle.sfv_reading.proofs.complete.Combinators.{Apart-cons}
+use Rattle.sfv_reading.proofs.complete.Fields.{spaces_end, comma_ends, item_field_complete}
+use Rattle.sfv_reading.proofs.rules.Commas.{comma_after}
+use Rattle.sfv_reading.proofs.visits.Leaf.{Early-bare}
+use Rattle.sfv_reading.proofs.visits.Told.{Early-field}
+
+-- the members in front of a comma, whatever follows it
+visited_members : (edition : Edition) (kind : FieldKind) (raw : RawField kind) (t rest : List ℕ) → HasManyMembers kind
+    → HasMember kind raw → IsFieldText edition kind raw t
+    → Begins (visited (events kind) (whole_field_at edition kind (t ++ comma ∷ rest))) (events kind raw)
+visited_members edition kind raw t rest many has h =
+    let fault = comma_after edition kind raw t [] many has h refl in
+    let m = (Early-field edition (Early-bare edition) kind).early (t ++ comma ∷ []) _ fault refl in
+    let all : t ++ comma ∷ rest ≡ m.before ++ m.next ∷ (m.behind ++ rest) =
+    sym (append_assoc t (comma ∷ []) rest) ∙ ap (λ (l : List ℕ). l ++ rest) m.text
+    ∙ append_assoc m.before (m.next ∷ m.behind) rest in
+    subst (λ (l : List ℕ). Begins (visited (events kind) (whole_field_at edition kind l)) (events kind raw)) (sym all)
+    (subst (Begins (visited (events kind) (whole_field_at edition kind (m.before ++ m.next ∷ (m.behind ++ rest)))))
+    (append-nil (events kind raw)) (m.told (m.behind ++ rest)))
+
+-- a field in front of a comma, whatever follows it
+pub visited_before : (edition : Edition) (kind : FieldKind) (raw : RawField kind) (t rest : List ℕ)
+    → IsFieldText edition kind raw t
+    → Begins (visited (events kind) (whole_field_at edition kind (t ++ comma ∷ rest))) (events kind raw)
+visited_before edition item_field raw t rest h =
+    let read = item_field_complete edition raw t (comma ∷ rest) h (Apart-cons is_space comma rest refl)
+    (spaces_end h.second.back (comma ∷ rest) h.second.second (comma_ends rest)) in
+    ([], ap (visited (events item_field)) read ∙ sym (append-nil (events item_field raw)))
+visited_before edition list_field [] t rest h = (_, refl)
+visited_before edition list_field (m ∷ ms) t rest h =
+    visited_members edition list_field (m ∷ ms) t rest tt (m, ms, refl) h
+visited_before edition dictionary_field [] t rest h = (_, refl)
+visited_before edition dictionary_field (m ∷ ms) t rest h =
+    visited_members edition dictionary_field (m ∷ ms) t rest tt (m, ms, refl) h
