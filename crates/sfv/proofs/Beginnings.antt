@@ -5,11 +5,14 @@ use Rattle.std.specs.declared.alloc.Global.{Global}
 use Rattle.std.proofs.lemmas.Result.{IfErr-weaker}
 use Rattle.sfv_spec.proofs.Marks.{left_parenthesis}
 use Rattle.sfv_spec.specs.Classes.{is_space, is_token_start}
-use Rattle.sfv_spec.specs.Values.{Edition, FieldKind, item_field, list_field, dictionary_field}
+use Rattle.sfv_spec.specs.declared.field_kind.FieldKind.{FieldKind}
+use Rattle.sfv_spec.specs.declared.field_kind.FieldKind.TheVariants.{Item as item_field, List as list_field}
+use Rattle.sfv_spec.specs.declared.field_kind.FieldKind.TheVariants.{Dictionary as dictionary_field}
+use Rattle.sfv_spec.specs.declared.version.Version.{Version}
 use Rattle.sfv_spec.specs.Events.{TreeEvent, entry, begins_item, events, entry_events, keyed_events}
 use Rattle.sfv_base.specs.declared.error.Error.{Error}
-use Rattle.sfv_base.specs.declared.error.ErrorKind.{ErrorKind}
-use Rattle.sfv_base.specs.declared.error.ErrorKind.TheVariants.{ExpectedStartOfBareItem}
+use Rattle.sfv_spec.specs.declared.error_kind.ErrorKind.{ErrorKind}
+use Rattle.sfv_spec.specs.declared.error_kind.ErrorKind.TheVariants.{ExpectedStartOfBareItem}
 use Rattle.sfv_reading.specs.Reader.{Answer, Apart, first, byte, span, led, led_answer}
 use Rattle.sfv_reading.specs.Bare.{bare_at}
 use Rattle.sfv_reading.specs.Items.{key_at, item_at}
@@ -20,7 +23,7 @@ use Rattle.sfv.specs.Parsers.{IsParseError}
 use Rattle.sfv.specs.Memory.{IsRefusal}
 use Rattle.sfv.specs.declared.parser.Parser.{Parser}
 use Rattle.sfv.specs.declared.parser.cursor.Cursor.{Cursor}
-use Rattle.sfv.specs.parser.Cursor.{kept, kept_input, kept_edition, input, edition, rest, located, located_whole}
+use Rattle.sfv.specs.parser.Cursor.{kept, kept_input, kept_version, input, version, rest, located, located_whole}
 use Rattle.sfv.specs.parser.Cursor.{IsFaultOf}
 use Rattle.sfv.proofs.Parsed.{parse_error}
 use Rattle.sfv.proofs.reads.Errors.{fault_bind}
@@ -29,87 +32,87 @@ use Rattle.sfv.proofs.reads.Delimiters.{first_of, members_first}
 use Rattle.sfv.proofs.visits.Whole.{ending_located, field_faulty}
 
 -- no byte stands next that a bare item begins with
-pub bare_none : (edition : Edition) (t : List ℕ) → NoOpener t → Apart is_token_start t
-    → located (bare_at edition t) ≡ Err (ExpectedStartOfBareItem, t)
-bare_none edition t opener token = ap located (bare_token edition t opener) ∙ token_none t token
+pub bare_none : (version : Version) (t : List ℕ) → NoOpener t → Apart is_token_start t
+    → located (bare_at version t) ≡ Err (ExpectedStartOfBareItem, t)
+bare_none version t opener token = ap located (bare_token version t opener) ∙ token_none t token
 
 led_located : {A : Type 0} (es : List TreeEvent) (a : Answer A) (k : ErrorKind) (q : List ℕ) → located a ≡ Err (k, q)
     → located (led_answer es a) ≡ Err (k, q)
 led_located es (Ok x) k q h = absurd cc
 led_located es (Err f) k q h = h
 
-item_none : (edition : Edition) (t : List ℕ) (k : ErrorKind) (q : List ℕ) → located (bare_at edition t) ≡ Err (k, q)
-    → located (item_at edition t) ≡ Err (k, q)
+item_none : (version : Version) (t : List ℕ) (k : ErrorKind) (q : List ℕ) → located (bare_at version t) ≡ Err (k, q)
+    → located (item_at version t) ≡ Err (k, q)
 unfolding item_at
-item_none edition t k q h = fault_bind (bare_at edition) _ t k q h
+item_none version t k q h = fault_bind (bare_at version) _ t k q h
 
-entry_none : (edition : Edition) (t : List ℕ) (k : ErrorKind) (q : List ℕ) → Apart (byte left_parenthesis) t
-    → located (bare_at edition t) ≡ Err (k, q) → located (entry_at edition t) ≡ Err (k, q)
+entry_none : (version : Version) (t : List ℕ) (k : ErrorKind) (q : List ℕ) → Apart (byte left_parenthesis) t
+    → located (bare_at version t) ≡ Err (k, q) → located (entry_at version t) ≡ Err (k, q)
 unfolding entry_at member_at led
-entry_none edition t k q apart h =
+entry_none version t k q apart h =
     led_located (entry ∷ []) _ k q (ap located (branch_past _ _ _ t apart)
-    ∙ led_located (begins_item ∷ []) _ k q (fault_bind (item_at edition) _ t k q (item_none edition t k q h)))
+    ∙ led_located (begins_item ∷ []) _ k q (fault_bind (item_at version) _ t k q (item_none version t k q h)))
 
-keyed_none : (edition : Edition) (t : List ℕ) (k : ErrorKind) (q : List ℕ) → located (key_at t) ≡ Err (k, q)
-    → located (keyed_at edition t) ≡ Err (k, q)
+keyed_none : (version : Version) (t : List ℕ) (k : ErrorKind) (q : List ℕ) → located (key_at t) ≡ Err (k, q)
+    → located (keyed_at version t) ≡ Err (k, q)
 unfolding keyed_at
-keyed_none edition t k q h = fault_bind key_at _ t k q h
+keyed_none version t k q h = fault_bind key_at _ t k q h
 
 -- the error of a part is that of the whole, where the whole is at fault with it
-carried : {A : Type 0} (edition : Edition) (kind : FieldKind) (t : List ℕ) (e : Error) (a : Answer A)
-    → ((k : ErrorKind) (q : List ℕ) → located a ≡ Err (k, q) → located_whole (read_field edition kind t) ≡ Err (k, q))
-    → IsFaultOf t e a → IsParseError edition kind t e
-carried edition kind t e a carry fault = parse_error edition kind t e (on e.index fault)
+carried : {A : Type 0} (version : Version) (kind : FieldKind) (t : List ℕ) (e : Error) (a : Answer A)
+    → ((k : ErrorKind) (q : List ℕ) → located a ≡ Err (k, q) → located_whole (read_field version kind t) ≡ Err (k, q))
+    → IsFaultOf t e a → IsParseError version kind t e
+carried version kind t e a carry fault = parse_error version kind t e (on e.index fault)
   where
     on : (o : Option ℕ) → MatchOption o ⊥ (λ index. (located a ≡ Err (e.kind, drop index t)) × (index ≤ length t))
-        → MatchOption o (IsRefusal t e) (λ index. (located_whole (read_field edition kind t)
+        → MatchOption o (IsRefusal t e) (λ index. (located_whole (read_field version kind t)
         ≡ Err (e.kind, drop index t)) × (index ≤ length t))
     on None h = absurd h
     on (Some n) h = (carry _ _ h.0, h.1)
 
-no_item : (edition : Edition) (t s r : List ℕ) (e : Error) → span is_space t ≡ Ok (s, r)
-    → IsFaultOf t e (bare_at edition r) → IsParseError edition item_field t e
-no_item edition t s r e skipped fault = carried edition item_field t e (bare_at edition r)
-    (λ k q h. field_faulty edition t s r k q skipped (item_none edition r k q h)) fault
+no_item : (version : Version) (t s r : List ℕ) (e : Error) → span is_space t ≡ Ok (s, r)
+    → IsFaultOf t e (bare_at version r) → IsParseError version item_field t e
+no_item version t s r e skipped fault = carried version item_field t e (bare_at version r)
+    (λ k q h. field_faulty version t s r k q skipped (item_none version r k q h)) fault
 
-no_list : (edition : Edition) (t s r : List ℕ) (e : Error) → span is_space t ≡ Ok (s, r)
+no_list : (version : Version) (t s r : List ℕ) (e : Error) → span is_space t ≡ Ok (s, r)
     → is_some (first r) ≡ true → Apart (byte left_parenthesis) r
-    → IsFaultOf t e (bare_at edition r) → IsParseError edition list_field t e
+    → IsFaultOf t e (bare_at version r) → IsParseError version list_field t e
 unfolding read_field whole_field_at first_of
-no_list edition t s r e skipped some apart fault = carried edition list_field t e (bare_at edition r)
+no_list version t s r e skipped some apart fault = carried version list_field t e (bare_at version r)
     (λ k q h. ending_located (events list_field) _ k q
-    (ap located (members_first entry_events (entry_at edition) t s r skipped some)
-    ∙ fault_bind (entry_at edition) _ r k q (entry_none edition r k q apart h))) fault
+    (ap located (members_first entry_events (entry_at version) t s r skipped some)
+    ∙ fault_bind (entry_at version) _ r k q (entry_none version r k q apart h))) fault
 
-pub no_dictionary : (edition : Edition) (t s r : List ℕ) (e : Error) → span is_space t ≡ Ok (s, r)
+pub no_dictionary : (version : Version) (t s r : List ℕ) (e : Error) → span is_space t ≡ Ok (s, r)
     → is_some (first r) ≡ true
-    → IsFaultOf t e (key_at r) → IsParseError edition dictionary_field t e
+    → IsFaultOf t e (key_at r) → IsParseError version dictionary_field t e
 unfolding read_field whole_field_at first_of
-no_dictionary edition t s r e skipped some fault = carried edition dictionary_field t e (key_at r)
+no_dictionary version t s r e skipped some fault = carried version dictionary_field t e (key_at r)
     (λ k q h. ending_located (events dictionary_field) _ k q
-    (ap located (members_first keyed_events (keyed_at edition) t s r skipped some)
-    ∙ fault_bind (keyed_at edition) _ r k q (keyed_none edition r k q h))) fault
+    (ap located (members_first keyed_events (keyed_at version) t s r skipped some)
+    ∙ fault_bind (keyed_at version) _ r k q (keyed_none version r k q h))) fault
 
 -- what a look at the cursor found is found in what the cursor keeps
 found : (k : Parser × Global) (c : Cursor) (e : Error) → kept c ≡ k
-    → IsFaultOf (input c) e (bare_at (edition c) (rest c))
-    → IsFaultOf (kept_input k) e (bare_at (kept_edition k) (rest c))
+    → IsFaultOf (input c) e (bare_at (version c) (rest c))
+    → IsFaultOf (kept_input k) e (bare_at (kept_version k) (rest c))
 found k c e same fault =
-    subst (λ (k : Parser × Global). IsFaultOf (kept_input k) e (bare_at (kept_edition k) (rest c))) same fault
+    subst (λ (k : Parser × Global). IsFaultOf (kept_input k) e (bare_at (kept_version k) (rest c))) same fault
 
 pub item_refused : (k : Parser × Global) (c : Cursor) (s : List ℕ) (result : Result (Unit {0}) Error) → kept c ≡ k
     → span is_space (kept_input k) ≡ Ok (s, rest c)
-    → IfErr result (λ e. IsFaultOf (input c) e (bare_at (edition c) (rest c)))
-    → IfErr result (IsParseError (kept_edition k) item_field (kept_input k))
+    → IfErr result (λ e. IsFaultOf (input c) e (bare_at (version c) (rest c)))
+    → IfErr result (IsParseError (kept_version k) item_field (kept_input k))
 item_refused k c s result same skipped =
-    IfErr-weaker result _ _ (λ e fault. no_item (kept_edition k) (kept_input k) s (rest c) e skipped
+    IfErr-weaker result _ _ (λ e fault. no_item (kept_version k) (kept_input k) s (rest c) e skipped
     (found k c e same fault))
 
 pub list_refused : (k : Parser × Global) (c : Cursor) (s : List ℕ) (result : Result (Unit {0}) Error) → kept c ≡ k
     → span is_space (kept_input k) ≡ Ok (s, rest c) → is_some (first (rest c)) ≡ true
     → Apart (byte left_parenthesis) (rest c)
-    → IfErr result (λ e. IsFaultOf (input c) e (bare_at (edition c) (rest c)))
-    → IfErr result (IsParseError (kept_edition k) list_field (kept_input k))
+    → IfErr result (λ e. IsFaultOf (input c) e (bare_at (version c) (rest c)))
+    → IfErr result (IsParseError (kept_version k) list_field (kept_input k))
 list_refused k c s result same skipped some apart =
-    IfErr-weaker result _ _ (λ e fault. no_list (kept_edition k) (kept_input k) s (rest c) e skipped some apart
+    IfErr-weaker result _ _ (λ e fault. no_list (kept_version k) (kept_input k) s (rest c) e skipped some apart
     (found k c e same fault))

@@ -14,18 +14,23 @@ use Rattle.std.specs.declared.vec.Vec.{Vec}
 use Rattle.std.proofs.lemmas.Option.{same_Some}
 use Rattle.std.proofs.lemmas.Result.{IfOk-weaker, IfErr-weaker}
 use Rattle.indexmap.specs.IndexMap.{IndexMap, insert_entry}
-use Rattle.sfv_spec.specs.Values.{Edition, FieldKind, item_field, list_field, dictionary_field, RawMember, RawField}
+use Rattle.sfv_spec.specs.Values.{RawMember, RawField}
+use Rattle.sfv_spec.specs.declared.field_kind.FieldKind.{FieldKind}
+use Rattle.sfv_spec.specs.declared.field_kind.FieldKind.TheVariants.{Item as item_field, List as list_field}
+use Rattle.sfv_spec.specs.declared.field_kind.FieldKind.TheVariants.{Dictionary as dictionary_field}
+use Rattle.sfv_spec.specs.declared.version.Version.{Version}
 use Rattle.sfv_spec.specs.Grammar.{IsFieldText, IsAccepted}
 use Rattle.sfv_spec.specs.Ordered.{keys, last_of, ordered, ordered_member, no_repeats, IsOrdered}
 use Rattle.sfv_spec.specs.Statements.{IsParsedAs, IsValue}
 use Rattle.sfv_spec.proofs.Collapse.{entered, collapse-distinct, collapse-push, last_of-push}
 use Rattle.sfv_spec.proofs.Structure.{one_field_lem}
 use Rattle.sfv_spec.proofs.Valid.{accepted_is_value_lem}
-use Rattle.sfv_spec.specs.Faults.{SyntaxFault, IsFaultAt}
+use Rattle.sfv_spec.specs.Faults.{IsFaultAt}
+use Rattle.sfv_spec.specs.declared.error_kind.ErrorKind.{ErrorKind}
 use Rattle.sfv_base.specs.declared.error.Error.{Error}
-use Rattle.sfv_base.specs.Errors.{index_of, kind_of, error_kind, out_of_memory}
+use Rattle.sfv_base.specs.Errors.{index_of, kind_of, out_of_memory}
 use Rattle.sfv_tree.specs.Trees.{list_tree, dictionary_tree}
-use Rattle.sfv_visitor.specs.Builders.{between, between_pairs, list_place, list_step, list_members, dictionary_place}
+use Rattle.sfv_visitor.specs.Builders.{between, between_pairs, list_state, list_step, list_members, dictionary_state}
 use Rattle.sfv_visitor.specs.Builders.{KeepsListSeed, ListAnswersSeeded, KeepsDictionarySeed, DictionaryAnswersSeeded}
 use Rattle.sfv_tree.specs.declared.hash_seed.HashSeed.{HashSeed}
 use Rattle.sfv_visitor.specs.Builders.{dictionary_step, dictionary_members}
@@ -41,8 +46,8 @@ use Rattle.sfv.specs.declared.parser.Parser.{Parser}
 use Rattle.sfv.specs.Parsers.{IsParseError, IsAnswerOf, IsAnswerBy, IsSyntaxBy, IsVisitorErrorBy, VisitsFirstBy, AnswersAsReadBy}
 use Rattle.sfv.specs.Parsers.{ReadsBy, ReadsItemBy, OfMade}
 use Rattle.sfv.proofs.built.Items.{insert_entry-entered}
-use Rattle.sfv.proofs.built.Lists.{built_list_behind}
-use Rattle.sfv.proofs.built.Dictionaries.{built_dictionary_behind}
+use Rattle.sfv.proofs.built.Lists.{built_list_after}
+use Rattle.sfv.proofs.built.Dictionaries.{built_dictionary_after}
 -- the last pair of a key: split off, looked up, and its value changed
 pub use Rattle.sfv_spec.proofs.Last.{IsLast, last_of-split, split-last_of, none-last_of, lookup-last_of, last_of-over}
 pub use Rattle.sfv_spec.proofs.Last.{last_of-ordered}
@@ -50,16 +55,16 @@ pub use Rattle.sfv_spec.proofs.Collapse.{last_of-collapse, last_of-absent}
 -- the pairs that an iterator over a map lends
 pub use Rattle.sfv_writer.proofs.Lent.{lent_all}
 -- what is written of a field is read as its ordered value, repeated keys too, and what is written of a value as itself,
--- by each edition that has all that it holds: RFC 9651 has all
+-- by each version that has all that it holds: RFC 9651 has all
 pub use Rattle.sfv_writer.proofs.ReadBack.{read_back, value_read_back}
 pub use Rattle.sfv_spec.proofs.Fields.{all_fit_newer}
 pub use Rattle.sfv.proofs.LastRead.{read_back_either}
 -- an inner list that is taken away again, and what a text holds after what was written to it
-pub use Rattle.sfv_serializer.proofs.Scripts.{taken_away, kept_as, more_as, written_behind, no_less}
+pub use Rattle.sfv_serializer.proofs.Scripts.{taken_away, kept_as, more_as, written_after, no_less}
 pub use Rattle.sfv_serializer.proofs.Scripts.{inner_list_ended, named_list_ended}
-pub use Rattle.sfv_serializer.proofs.Steps.{more_behind}
+pub use Rattle.sfv_serializer.proofs.Steps.{more_after}
 -- room: after the calls before, and for the elements of a slice or a map; under RFC 9651 a call fails only for lack of it
-pub use Rattle.sfv_writer.proofs.Room.{len_of, room_behind, room_before}
+pub use Rattle.sfv_writer.proofs.Room.{len_of, room_after, room_before}
 pub use Rattle.sfv_writer.proofs.Lacks.{parameters_lack, front_lacks}
 pub use Rattle.sfv_writer.proofs.Lent.{pairs_front, members_front, entries_front}
 pub use Rattle.sfv_writer.proofs.Looks.{newer_fails}
@@ -82,10 +87,10 @@ pub use Rattle.sfv.proofs.built.Lists.{built_list as list_built, list_seeded}
 pub use Rattle.sfv.proofs.built.Dictionaries.{built_dictionary as dictionary_built, dictionary_seeded}
 
 -- the member of a key in a dictionary that was read is the last of the text, its parameters ordered
-pub member_read : (edition : Edition) (t : List ℕ) (value : List (List ℕ × RawMember)) (key : List ℕ)
-    → (h : IsParsedAs edition dictionary_field t value)
+pub member_read : (version : Version) (t : List ℕ) (value : List (List ℕ × RawMember)) (key : List ℕ)
+    → (h : IsParsedAs version dictionary_field t value)
     → last_of key value ≡ option_map ordered_member (last_of key h.raw)
-member_read edition t value key h = ap (last_of key) h.ordered_value ∙ last_of-ordered key h.raw
+member_read version t value key h = ap (last_of key) h.holds ∙ last_of-ordered key h.raw
 
 -- a member that is entered is the last of its key, and those of other keys stay
 pub last_of-insert : {A : Type 0} (j : List ℕ) (ps : List (List ℕ × A)) (k : List ℕ) (v : A)
@@ -98,23 +103,23 @@ last_of-insert {A} j ps k v distinct =
     ∙ last_of-collapse j (ps ++ (k, v) ∷ []) ∙ last_of-push j ps k v
 
 -- a text is accepted or it isn't: so a visitor's error on a dictionary or a list is one on an accepted text
-pub accepted_or_not : (edition : Edition) (kind : FieldKind) (t : List ℕ)
-    → IsAccepted edition kind t ⊎ ¬ IsAccepted edition kind t
-accepted_or_not edition kind t = decided (read_field edition kind t) refl
+pub accepted_or_not : (version : Version) (kind : FieldKind) (t : List ℕ)
+    → IsAccepted version kind t ⊎ ¬ IsAccepted version kind t
+accepted_or_not version kind t = decided (read_field version kind t) refl
   where
-    decided : (r : Result (RawField kind) Fault) → read_field edition kind t ≡ r
-        → IsAccepted edition kind t ⊎ ¬ IsAccepted edition kind t
-    decided (Ok raw) h = inl (raw, (read_is_accepted edition kind t raw).0 h)
-    decided (Err e) h = inr (λ a. let k = (read_is_accepted edition kind t a.0).1 a.1 in absurd (cc))
+    decided : (r : Result (RawField kind) Fault) → read_field version kind t ≡ r
+        → IsAccepted version kind t ⊎ ¬ IsAccepted version kind t
+    decided (Ok raw) h = inl (raw, (read_is_accepted version kind t raw).0 h)
+    decided (Err e) h = inr (λ a. let k = (read_is_accepted version kind t a.0).1 a.1 in absurd (cc))
 
 -- an accepted text is read as the ordered value of its field
-pub parsed_as : (edition : Edition) (kind : FieldKind) (t : List ℕ) (raw : RawField kind)
-    → IsFieldText edition kind raw t → IsParsedAs edition kind t (ordered kind raw)
-parsed_as edition kind t raw accepted = record {
+pub parsed_as : (version : Version) (kind : FieldKind) (t : List ℕ) (raw : RawField kind)
+    → IsFieldText version kind raw t → IsParsedAs version kind t (ordered kind raw)
+parsed_as version kind t raw accepted = record {
   raw = raw;
   accepted = accepted;
-  only = λ other k. one_field_lem edition kind t other raw k accepted;
-  ordered_value = refl;
+  only = λ other k. one_field_lem version kind t other raw k accepted;
+  holds = refl;
 }
 
 -- If the visitor's view goes by steps and it fails only in `finish`, its error is a function of the value to which the
@@ -140,33 +145,33 @@ module _ {V S F X : Type 0} {finish_fails : V → F → Type 0} {from : V} (view
   never_early fault (inl h) = h.5
   never_early fault (inr h) = members h.0
 
-  pub failure_read : {O : Type 0} (finishes : V → O → Type 0) (edition : Edition) (t : List ℕ) (r : Result O (ParseError F))
-      → IfErr r (IsSyntaxOf TakesStep finishes edition kind t from)
-      → IfErr r (IsVisitorErrorOf TakesStep NeverAt finish_fails edition kind t from)
-      → (P : ParseError F → Type 0) → ((e : Error) → IsParseError edition kind t e → P (parse_errors.Syntax e))
-      → ((fault : F) → (value : RawField kind) × IsParsedAs edition kind t value × (shown fault ≡ of value)
+  pub failure_read : {O : Type 0} (finishes : V → O → Type 0) (version : Version) (t : List ℕ) (r : Result O (ParseError F))
+      → IfErr r (IsSyntaxOf TakesStep finishes version kind t from)
+      → IfErr r (IsVisitorErrorOf TakesStep NeverAt finish_fails version kind t from)
+      → (P : ParseError F → Type 0) → ((e : Error) → IsParseError version kind t e → P (parse_errors.Syntax e))
+      → ((fault : F) → (value : RawField kind) × IsParsedAs version kind t value × (shown fault ≡ of value)
       → P (parse_errors.Visitor fault)) → IfErr r P
-  failure_read {O} finishes edition t r h k P syntax visitor = cases r h k
+  failure_read {O} finishes version t r h k P syntax visitor = cases r h k
     where
-      cases : (r : Result O (ParseError F)) → IfErr r (IsSyntaxOf TakesStep finishes edition kind t from)
-          → IfErr r (IsVisitorErrorOf TakesStep NeverAt finish_fails edition kind t from) → IfErr r P
+      cases : (r : Result O (ParseError F)) → IfErr r (IsSyntaxOf TakesStep finishes version kind t from)
+          → IfErr r (IsVisitorErrorOf TakesStep NeverAt finish_fails version kind t from) → IfErr r P
       cases (Ok out) h k = tt
       cases (Err (parse_errors.Syntax e)) h k = syntax e h.0
-      cases (Err (parse_errors.Visitor fault)) h k = elim (accepted_or_not edition kind t) [
-        | inl a ↦ visitor fault (ordered kind a.0, parsed_as edition kind t a.0 a.1, last_found fault a.0 (k.0 a.0 a.1))
+      cases (Err (parse_errors.Visitor fault)) h k = elim (accepted_or_not version kind t) [
+        | inl a ↦ visitor fault (ordered kind a.0, parsed_as version kind t a.0 a.1, last_found fault a.0 (k.0 a.0 a.1))
         | inr n ↦ absurd (never_early fault (k.1 (inr (λ raw a. n (raw, a)))))
       ]
 
 -- what was read is a value: each part is in its range or class, and no key stands twice
-pub read_is_value : (edition : Edition) (kind : FieldKind) (t : List ℕ) (value : RawField kind)
-    → IsParsedAs edition kind t value → IsValue kind value
-read_is_value edition kind t value h = subst (IsValue kind) (sym h.ordered_value)
-    (accepted_is_value_lem edition kind t h.raw h.accepted).1
+pub read_is_value : (version : Version) (kind : FieldKind) (t : List ℕ) (value : RawField kind)
+    → IsParsedAs version kind t value → IsValue kind value
+read_is_value version kind t value h = subst (IsValue kind) (sym h.holds)
+    (accepted_is_value_lem version kind t h.raw h.accepted).1
 
 -- a text has one value
-pub one_value : (edition : Edition) (kind : FieldKind) (t : List ℕ) (a b : RawField kind) → IsParsedAs edition kind t a
-    → IsParsedAs edition kind t b → a ≡ b
-one_value edition kind t a b h k = h.ordered_value ∙ ap (ordered kind) (k.only h.raw h.accepted) ∙ sym k.ordered_value
+pub one_value : (version : Version) (kind : FieldKind) (t : List ℕ) (a b : RawField kind) → IsParsedAs version kind t a
+    → IsParsedAs version kind t b → a ≡ b
+one_value version kind t a b h k = h.holds ∙ ap (ordered kind) (k.only h.raw h.accepted) ∙ sym k.holds
 
 -- what a reading with a visitor that a type makes returns, one fact at a time
 module _ {S O E : Type 0} {v : Visitor S O E} {p : Parser} {kind : FieldKind} {Made : S → Type 0}
@@ -192,40 +197,40 @@ module _ {S O E : Type 0} {v : Visitor S O E} {p : Parser} {Made : S → Type 0}
   made_lent h = IfOk-weaker r _ _ (λ out k. (h.0, h.1, k)) h.2.lent
 
 -- of an accepted text an error is want of memory
-pub accepted_error : (edition : Edition) (kind : FieldKind) (t : List ℕ) (raw : RawField kind) (e : Error)
-    → IsFieldText edition kind raw t → IsParseError edition kind t e → e ≡ out_of_memory
-accepted_error edition kind t raw e accepted (inl same) = same
-accepted_error edition kind t raw e accepted (inr h) = absurd (h.rejected (raw, accepted))
+pub accepted_error : (version : Version) (kind : FieldKind) (t : List ℕ) (raw : RawField kind) (e : Error)
+    → IsFieldText version kind raw t → IsParseError version kind t e → e ≡ out_of_memory
+accepted_error version kind t raw e accepted (inl same) = same
+accepted_error version kind t raw e accepted (inr h) = absurd (h.rejected (raw, accepted))
 
 -- an error with an index is a fault of the text there
-pub located_error : (edition : Edition) (kind : FieldKind) (t : List ℕ) (e : Error) (index : ℕ)
-    → IsParseError edition kind t e → index_of e ≡ Some index
-    → (fault : SyntaxFault) × (kind_of e ≡ error_kind fault) × IsFaultAt edition kind t fault index
-located_error edition kind t e index (inl same) here =
+pub located_error : (version : Version) (kind : FieldKind) (t : List ℕ) (e : Error) (index : ℕ)
+    → IsParseError version kind t e → index_of e ≡ Some index
+    → (fault : ErrorKind) × (kind_of e ≡ fault) × IsFaultAt version kind t fault index
+located_error version kind t e index (inl same) here =
     absurd (let none : index_of e ≡ None = ap index_of same in cc)
-located_error edition kind t e index (inr h) here =
+located_error version kind t e index (inr h) here =
     let place : h.index ≡ index = same_Some h.index index (sym (ap index_of h.error) ∙ here) in
-    (h.fault, ap kind_of h.error, subst (IsFaultAt edition kind t h.fault) place h.located)
+    (h.fault, ap kind_of h.error, subst (IsFaultAt version kind t h.fault) place h.located)
 
 -- a further line of a list: its members stand after those that the builder was given
-pub list_behind : {E : Type 0} (edition : Edition) (t : List ℕ) (held : List RawMember) (from : ListBuilder)
-    (r : Result (Vec ListEntry Global) E) → list_place from ≡ between held
-    → IfOk r (IsAnswerOf (λ (s : ListBuilder) e after. (list_place after ≡ list_step (list_place s) e) × KeepsListSeed s after)
-    (λ s (list : Vec ListEntry Global). (list_tree list.items ≡ list_members (list_place s)) × ListAnswersSeeded s list.items) edition list_field t from)
-    → IfOk r (λ list. (raw : List RawMember) × IsFieldText edition list_field raw t
+pub list_after : {E : Type 0} (version : Version) (t : List ℕ) (held : List RawMember) (from : ListBuilder)
+    (r : Result (Vec ListEntry Global) E) → list_state from ≡ between held
+    → IfOk r (IsAnswerOf (λ (s : ListBuilder) e after. (list_state after ≡ list_step (list_state s) e) × KeepsListSeed s after)
+    (λ s (list : Vec ListEntry Global). (list_tree list.items ≡ list_members (list_state s)) × ListAnswersSeeded s list.items) version list_field t from)
+    → IfOk r (λ list. (raw : List RawMember) × IsFieldText version list_field raw t
     × (list_tree list.items ≡ held ++ ordered list_field raw))
-list_behind edition t held from r here = IfOk-weaker r _ _ (λ list h.
-    let whole = built_list_behind edition t held from list here h in (whole.0, whole.1, whole.3))
+list_after version t held from r here = IfOk-weaker r _ _ (λ list h.
+    let whole = built_list_after version t held from list here h in (whole.0, whole.1, whole.3))
 
 -- a further line of a dictionary: as if its members stood after those that the builder was given
-pub dictionary_behind : {E : Type 0} (edition : Edition) (t : List ℕ) (held : List (List ℕ × RawMember))
+pub dictionary_after : {E : Type 0} (version : Version) (t : List ℕ) (held : List (List ℕ × RawMember))
     (from : DictionaryBuilder) (r : Result (IndexMap (List ℕ) ListEntry HashSeed) E) → IsOrdered dictionary_field held
-    → dictionary_place from ≡ between_pairs held
-    → IfOk r (IsAnswerOf (λ (s : DictionaryBuilder) e after. (dictionary_place after
-    ≡ dictionary_step (dictionary_place s) e) × KeepsDictionarySeed s after) (λ s (dictionary : IndexMap (List ℕ) ListEntry HashSeed).
-    (dictionary_tree dictionary.entries ≡ dictionary_members (dictionary_place s)) × DictionaryAnswersSeeded s dictionary) edition dictionary_field t from)
-    → IfOk r (λ dictionary. (raw : List (List ℕ × RawMember)) × IsFieldText edition dictionary_field raw t
+    → dictionary_state from ≡ between_pairs held
+    → IfOk r (IsAnswerOf (λ (s : DictionaryBuilder) e after. (dictionary_state after
+    ≡ dictionary_step (dictionary_state s) e) × KeepsDictionarySeed s after) (λ s (dictionary : IndexMap (List ℕ) ListEntry HashSeed).
+    (dictionary_tree dictionary.entries ≡ dictionary_members (dictionary_state s)) × DictionaryAnswersSeeded s dictionary) version dictionary_field t from)
+    → IfOk r (λ dictionary. (raw : List (List ℕ × RawMember)) × IsFieldText version dictionary_field raw t
     × (dictionary_tree dictionary.entries ≡ ordered dictionary_field (held ++ raw)))
-dictionary_behind edition t held from r distinct here = IfOk-weaker r _ _ (λ dictionary h.
-    let whole = built_dictionary_behind edition t held from dictionary distinct.0 here h in
+dictionary_after version t held from r distinct here = IfOk-weaker r _ _ (λ dictionary h.
+    let whole = built_dictionary_after version t held from dictionary distinct.0 here h in
     (whole.0, whole.1, whole.4 distinct))

@@ -3,7 +3,9 @@ use Rattle.std.proofs.Common.{◌≡◌, List, [], ◌∷◌, ◌++◌, Option, 
 use Rattle.std.proofs.Common.{inl, inr}
 use Rattle.std.specs.Prelude.{ℕ, IfOk, MatchOption}
 use Rattle.std.proofs.lemmas.Option.{same_Some}
-use Rattle.sfv_spec.specs.Values.{Edition, item_field, BareValue, RawItem}
+use Rattle.sfv_spec.specs.Values.{BareValue, RawItem}
+use Rattle.sfv_spec.specs.declared.field_kind.FieldKind.TheVariants.{Item as item_field}
+use Rattle.sfv_spec.specs.declared.version.Version.{Version}
 use Rattle.sfv_spec.specs.Grammar.{IsFieldText, StandsFirst, BeginsWithBareItem}
 use Rattle.sfv_spec.specs.Events.{TreeEvent, bare_item, parameters_events, item_events}
 use Rattle.sfv_spec.specs.Visiting.{RunsTo, IsVisitorError}
@@ -14,9 +16,9 @@ use Rattle.sfv_base.specs.Errors.{out_of_memory}
 use Rattle.sfv_bare.specs.BareItems.{input_value}
 use Rattle.sfv_visitor.specs.declared.visitor.ItemFault.{ItemFault}
 use Rattle.sfv_visitor.specs.declared.visitor.ItemFault.TheVariants as faults
-use Rattle.sfv_visitor.specs.Given.{ReadBareItem, item_kept, first_value, KeepTakes, KeepFails, KeepTakesRead}
+use Rattle.sfv_visitor.specs.ProvidedVisitors.{ReadBareItem, item_kept, first_value, KeepTakes, KeepFails, KeepTakesRead}
 use Rattle.sfv_visitor.specs.declared.expect_item.ExpectItem.{ExpectItem}
-use Rattle.sfv.specs.Parsers.{IsAnswerOf, IsVisitorErrorOf, VisitsFirst, IsLent, AnswersAsRead, OfMade}
+use Rattle.sfv.specs.Parsers.{IsAnswerOf, IsVisitorErrorOf, VisitsFirst, IsBorrowedIfPlain, AnswersAsRead, OfMade}
 
 module _ {T : Type 0} (holds : T → BareValue) (fails : BareValue → ItemFault → Type 0) where
   abbrev Takes : ExpectItem T → TreeEvent → ExpectItem T → Type 0
@@ -48,12 +50,12 @@ module _ {T : Type 0} (holds : T → BareValue) (fails : BareValue → ItemFault
       (first.0, first.1, stays (parameters_events raw.parameters) first.0 run.0 last first.2 run.2)
 
   -- of an answer it is the field's
-  answer_is : (edition : Edition) (t : List ℕ) (from : ExpectItem T) (out : T) → item_kept from ≡ None
-      → IsAnswerOf Takes Finishes edition item_field t from out
-      → (raw : RawItem) × IsFieldText edition item_field raw t × (holds out ≡ raw.bare)
-  answer_is edition t from out none h =
-      let k = kept h.raw from h.visited.last none h.visited.taken in
-      let same : k.0 ≡ out = same_Some k.0 out (sym k.2 ∙ h.visited.answered) in
+  answer_is : (version : Version) (t : List ℕ) (from : ExpectItem T) (out : T) → item_kept from ≡ None
+      → IsAnswerOf Takes Finishes version item_field t from out
+      → (raw : RawItem) × IsFieldText version item_field raw t × (holds out ≡ raw.bare)
+  answer_is version t from out none h =
+      let k = kept h.raw from h.holds.last none h.holds.taken in
+      let same : k.0 ≡ out = same_Some k.0 out (sym k.2 ∙ h.holds.answered) in
       (h.raw, h.accepted, ap holds (sym same) ∙ k.1)
 
   -- it fails on a field exactly for the bare item
@@ -81,25 +83,25 @@ module _ {T : Type 0} (holds : T → BareValue) (fails : BareValue → ItemFault
   abbrev Made : ExpectItem T → Type 0
   Made s = item_kept s ≡ None
 
-  pub expect_answers : (edition : Edition) (t : List ℕ) (r : Result T (ParseError ItemFault))
-      → IfOk r (OfMade Made (IsAnswerOf Takes Finishes edition item_field t))
-      → IfOk r (λ item. (raw : RawItem) × IsFieldText edition item_field raw t × (holds item ≡ raw.bare))
-  expect_answers edition t (Ok item) h = answer_is edition t h.0 item h.1 h.2
-  expect_answers edition t (Err e) h = tt
+  pub expect_answers : (version : Version) (t : List ℕ) (r : Result T (ParseError ItemFault))
+      → IfOk r (OfMade Made (IsAnswerOf Takes Finishes version item_field t))
+      → IfOk r (λ item. (raw : RawItem) × IsFieldText version item_field raw t × (holds item ≡ raw.bare))
+  expect_answers version t (Ok item) h = answer_is version t h.0 item h.1 h.2
+  expect_answers version t (Err e) h = tt
 
-  pub expect_fails : (edition : Edition) (t : List ℕ) (raw : RawItem) (fault : ItemFault)
-      → IsFieldText edition item_field raw t
-      → OfMade Made (IsVisitorErrorOf Takes Fails FinishFails edition item_field t) (Visitor fault)
+  pub expect_fails : (version : Version) (t : List ℕ) (raw : RawItem) (fault : ItemFault)
+      → IsFieldText version item_field raw t
+      → OfMade Made (IsVisitorErrorOf Takes Fails FinishFails version item_field t) (Visitor fault)
       → fails raw.bare fault
-  expect_fails edition t raw fault accepted h = failure_is raw h.0 fault h.1 (h.2.0 raw accepted)
+  expect_fails version t raw fault accepted h = failure_is raw h.0 fault h.1 (h.2.0 raw accepted)
 
   -- at a bare item that the type doesn't hold it fails, whatever stands after it, or out of memory
-  pub expect_first : (edition : Edition) (t : List ℕ) (value : BareValue) → BeginsWithBareItem edition value t
+  pub expect_first : (version : Version) (t : List ℕ) (value : BareValue) → BeginsWithBareItem version value t
       → ((item : T) → ¬ (holds item ≡ value))
-      → ((e : Error) → OfMade Made (VisitsFirst Takes Fails FinishFails edition t) (Syntax e) → e ≡ out_of_memory)
-      × ((fault : ItemFault) → OfMade Made (VisitsFirst Takes Fails FinishFails edition t) (Visitor fault)
+      → ((e : Error) → OfMade Made (VisitsFirst Takes Fails FinishFails version t) (Syntax e) → e ≡ out_of_memory)
+      × ((fault : ItemFault) → OfMade Made (VisitsFirst Takes Fails FinishFails version t) (Visitor fault)
       → fails value fault)
-  expect_first edition t value begins none = (
+  expect_first version t value begins none = (
     λ e h. elim h.2 [
       | inl same ↦ same
       | inr k ↦
@@ -113,22 +115,22 @@ module _ {T : Type 0} (holds : T → BareValue) (fails : BareValue → ItemFault
   )
 
   -- and it fails only so: at a bare item that stands first
-  pub expect_only : (edition : Edition) (t : List ℕ) (fault : ItemFault)
-      → OfMade Made (VisitsFirst Takes Fails FinishFails edition t) (Visitor fault)
-      → (value : BareValue) × StandsFirst edition value t × fails value fault
-  expect_only edition t fault h = let k = h.2 in (k.0.bare, k.1, failure_is k.0 h.0 fault h.1 k.3)
+  pub expect_only : (version : Version) (t : List ℕ) (fault : ItemFault)
+      → OfMade Made (VisitsFirst Takes Fails FinishFails version t) (Visitor fault)
+      → (value : BareValue) × StandsFirst version value t × fails value fault
+  expect_only version t fault h = let k = h.2 in (k.0.bare, k.1, failure_is k.0 h.0 fault h.1 k.3)
 
 -- what is kept is made of the bare item as it was read
-pub expect_read : {T : Type 0} (holds : T → BareValue) (is_of : T → ReadBareItem → Type 0) (edition : Edition) (t : List ℕ)
+pub expect_read : {T : Type 0} (holds : T → BareValue) (is_of : T → ReadBareItem → Type 0) (version : Version) (t : List ℕ)
     (r : Result T (ParseError ItemFault))
     → IfOk r (OfMade (λ (s : ExpectItem T). item_kept s ≡ None)
-    (AnswersAsRead (KeepTakes holds) (KeepTakesRead is_of) (λ s item. item_kept s ≡ Some item) edition t))
-    → IfOk r (λ item. (read : ReadBareItem) × is_of item read × (stands : StandsFirst edition (input_value read) t)
-    × IsLent read stands.first.front)
-expect_read {T} holds is_of edition t (Ok out) h =
+    (AnswersAsRead (KeepTakes holds) (KeepTakesRead is_of) (λ s item. item_kept s ≡ Some item) version t))
+    → IfOk r (λ item. (read : ReadBareItem) × is_of item read × (stands : StandsFirst version (input_value read) t)
+    × IsBorrowedIfPlain read stands.first.front)
+expect_read {T} holds is_of version t (Ok out) h =
     let a = h.2 in
     let first : (item : T) × is_of item a.read × (item_kept a.middle ≡ Some item) = rw h.1 at a.taken in
     let last = stays holds (λ _ _. ⊥) (parameters_events a.parameters) first.0 a.middle a.last first.2 a.ran in
     let same : first.0 ≡ out = same_Some first.0 out (sym last ∙ a.answered) in
     (a.read, subst (λ (item : T). is_of item a.read) same first.1, a.stands, a.lent)
-expect_read holds is_of edition t (Err e) h = tt
+expect_read holds is_of version t (Err e) h = tt

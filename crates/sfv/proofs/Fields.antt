@@ -6,13 +6,17 @@ use Rattle.std.specs.Prelude.{OnOk}
 use Rattle.std.proofs.lemmas.List.{append-nil}
 use Rattle.std.specs.Prelude.{bytes_eq, fold, option_map, unwrap_or}
 use Rattle.std.proofs.lemmas.Slice.Eq.{bytes_eq-Decides}
-use Rattle.sfv_spec.specs.Values.{Edition, rfc8941, rfc9651, FieldKind, list_field, dictionary_field, RawField}
+use Rattle.sfv_spec.specs.Values.{RawField}
+use Rattle.sfv_spec.specs.declared.field_kind.FieldKind.{FieldKind}
+use Rattle.sfv_spec.specs.declared.field_kind.FieldKind.TheVariants.{List as list_field, Dictionary as dictionary_field}
+use Rattle.sfv_spec.specs.declared.version.Version.{Version}
+use Rattle.sfv_spec.specs.declared.version.Version.TheVariants.{Rfc8941, Rfc9651}
 use Rattle.sfv_spec.specs.Values.{BareValue, RawParameters, RawMember, IsFieldValue}
 use Rattle.sfv_spec.specs.Values.{integer, decimal, string, token, byte_sequence, boolean, date, display_string}
-use Rattle.sfv_spec.specs.Calls.{Fits, fits_bare}
+use Rattle.sfv_spec.specs.Values.{Fits, fits_bare}
 use Rattle.sfv_spec.specs.Events.{TreeEvent, entry, keyed_entry, begins_item, begins_inner_list, bare_item, parameter}
 use Rattle.sfv_spec.specs.Events.{inner_list_end, parameters_end, parameters_events, entry_events, keyed_events, events}
-use Rattle.sfv_spec.specs.Events.{bare_values}
+use Rattle.sfv_spec.specs.Values.{bare_values}
 use Rattle.sfv_spec.specs.Ordered.{last_of, ordered, ordered_member}
 use Rattle.sfv_spec.specs.Statements.{IsParsedAs}
 use Rattle.sfv_spec.proofs.Structure.{one_field_lem}
@@ -121,29 +125,29 @@ pub answer_read : {V S O X : Type 0} {finishes : V → O → Type 0} (view : V �
     (shown : O → X) (kind : FieldKind) (of : RawField kind → X) (start : S)
     → ((s : V) (out : O) → finishes s out → shown out ≡ look (view s))
     → ((raw : RawField kind) → look (fold step start (events kind raw)) ≡ of (ordered kind raw))
-    → {edition : Edition} {t : List ℕ} {from : V} {out : O} → view from ≡ start
-    → IsAnswerOf (λ s e after. view after ≡ step (view s) e) finishes edition kind t from out
-    → (value : RawField kind) × IsParsedAs edition kind t value × (shown out ≡ of value)
-answer_read {V} {S} view step look shown kind of start finished all {edition} {t} {from} {out} begun h = (
+    → {version : Version} {t : List ℕ} {from : V} {out : O} → view from ≡ start
+    → IsAnswerOf (λ s e after. view after ≡ step (view s) e) finishes version kind t from out
+    → (value : RawField kind) × IsParsedAs version kind t value × (shown out ≡ of value)
+answer_read {V} {S} view step look shown kind of start finished all {version} {t} {from} {out} begun h = (
   ordered kind h.raw,
-  record { raw = h.raw; accepted = h.accepted; only = λ other k. one_field_lem edition kind t other h.raw k h.accepted; ordered_value = refl },
-  finished h.visited.last out h.visited.answered
-      ∙ ap look (runs_fold view step (events kind h.raw) from h.visited.last h.visited.taken
+  record { raw = h.raw; accepted = h.accepted; only = λ other k. one_field_lem version kind t other h.raw k h.accepted; holds = refl },
+  finished h.holds.last out h.holds.answered
+      ∙ ap look (runs_fold view step (events kind h.raw) from h.holds.last h.holds.taken
       ∙ ap (λ (s : S). fold step s (events kind h.raw)) begun)
       ∙ all h.raw,
 )
 
 -- The text of calls that describe a value parses back to it under both versions, if the older one has the value.
 pub written_is_read : {T E : Type 0} (r : Result T E) (kind : FieldKind) (raw value : RawField kind)
-    → OnOk r (IsFieldValue kind raw) → raw ≡ value → IsOrdered kind value → Fits rfc8941 kind value
-    → OnOk r ((edition : Edition) → IsParsedAs edition kind (canonical kind value) value)
-written_is_read (Ok x) kind raw value h same distinct fits = λ edition. read_back_either edition kind value
+    → OnOk r (IsFieldValue kind raw) → raw ≡ value → IsOrdered kind value → Fits Rfc8941 kind value
+    → OnOk r ((version : Version) → IsParsedAs version kind (canonical kind value) value)
+written_is_read (Ok x) kind raw value h same distinct fits = λ version. read_back_either version kind value
     (record { parts = subst (IsFieldValue kind) same h; distinct = distinct }) fits
 written_is_read (Err e) kind raw value h same distinct fits = tt
 
 -- RFC 8941 has every value but Dates and Display Strings
 pub fits_unless : (b : BareValue) → ((z : ℤ) → ¬ (b ≡ date z)) → ((s : List ℕ) → ¬ (b ≡ display_string s))
-    → IsTrue (fits_bare rfc8941 b)
+    → IsTrue (fits_bare Rfc8941 b)
 fits_unless (integer z) d s = refl
 fits_unless (decimal z) d s = refl
 fits_unless (string t) d s = refl
@@ -154,7 +158,7 @@ fits_unless (date z) d s = absurd (d z refl)
 fits_unless (display_string t) d s = absurd (s t refl)
 
 -- both versions have what the older one has
-pub fits_either : (edition : Edition) (kind : FieldKind) (raw : RawField kind) → Fits rfc8941 kind raw
-    → Fits edition kind raw
-fits_either rfc8941 kind raw h = h
-fits_either rfc9651 kind raw h = all_fit_newer (bare_values kind raw)
+pub fits_either : (version : Version) (kind : FieldKind) (raw : RawField kind) → Fits Rfc8941 kind raw
+    → Fits version kind raw
+fits_either Rfc8941 kind raw h = h
+fits_either Rfc9651 kind raw h = all_fit_newer (bare_values kind raw)

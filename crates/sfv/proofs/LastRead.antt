@@ -4,14 +4,18 @@ use Rattle.std.proofs.Common.{◌≡◌, ℕ, List, [], ◌∷◌, ◌++◌, fal
 use Rattle.std.proofs.Common.{refl, sym, ap, ◌∙◌}
 use Rattle.std.specs.Prelude.{bytes_eq, fold, flat_map, option_map, unwrap_or, OnOk}
 use Rattle.std.proofs.lemmas.List.Sums.{fold-append}
-use Rattle.sfv_spec.specs.Values.{Edition, rfc8941, rfc9651, FieldKind, list_field, dictionary_field, RawField}
+use Rattle.sfv_spec.specs.Values.{RawField}
+use Rattle.sfv_spec.specs.declared.field_kind.FieldKind.{FieldKind}
+use Rattle.sfv_spec.specs.declared.field_kind.FieldKind.TheVariants.{List as list_field, Dictionary as dictionary_field}
+use Rattle.sfv_spec.specs.declared.version.Version.{Version}
+use Rattle.sfv_spec.specs.declared.version.Version.TheVariants.{Rfc8941, Rfc9651}
 use Rattle.sfv_spec.specs.Values.{RawItem, RawInnerList, RawMember, item, inner_list}
 use Rattle.sfv_spec.specs.Canonical.{canonical}
-use Rattle.sfv_spec.specs.Calls.{Fits}
+use Rattle.sfv_spec.specs.Values.{Fits}
 use Rattle.sfv_spec.specs.Statements.{IsParsedAs, IsValue}
 use Rattle.sfv_spec.specs.Events.{TreeEvent, begins_item, begins_inner_list, bare_item, inner_list_end}
 use Rattle.sfv_spec.specs.Events.{parameters_events, inner_item_events, member_events, entry_events, keyed_events, events}
-use Rattle.sfv_spec.specs.Events.{bare_values}
+use Rattle.sfv_spec.specs.Values.{bare_values}
 use Rattle.sfv_spec.specs.Ordered.{last_of, ordered, ordered_member}
 use Rattle.sfv_spec.proofs.Kept.{last_kept, fold_members, idle_within}
 use Rattle.sfv_spec.proofs.Last.{last_of-ordered}
@@ -24,11 +28,11 @@ pub on_ok : {A E : Type 0} (r : Result A E) (P : Type 0) → P → OnOk r P
 on_ok (Ok value) P h = h
 on_ok (Err e) P h = tt
 
--- a value that RFC 8941 has is read back by both editions
-pub read_back_either : (edition : Edition) (kind : FieldKind) (value : RawField kind) → IsValue kind value
-    → Fits rfc8941 kind value → IsParsedAs edition kind (canonical kind value) value
-read_back_either rfc8941 kind value h fits = value_read_back rfc8941 kind value h fits
-read_back_either rfc9651 kind value h fits = value_read_back rfc9651 kind value h (all_fit_newer (bare_values kind value))
+-- a value that RFC 8941 has is read back by both versions
+pub read_back_either : (version : Version) (kind : FieldKind) (value : RawField kind) → IsValue kind value
+    → Fits Rfc8941 kind value → IsParsedAs version kind (canonical kind value) value
+read_back_either Rfc8941 kind value h fits = value_read_back Rfc8941 kind value h fits
+read_back_either Rfc9651 kind value h fits = value_read_back Rfc9651 kind value h (all_fit_newer (bare_values kind value))
 
 module _ {S : Type 0} (step : S → TreeEvent → S) where
   -- a fold over the events of a list goes member by member

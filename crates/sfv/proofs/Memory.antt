@@ -8,7 +8,10 @@ use Rattle.std.proofs.lemmas.List.Elements.{Contains-append_left, Contains-appen
 use Rattle.sfv_spec.specs.Ascii.{space}
 use Rattle.sfv_spec.specs.Classes.{is_space}
 use Rattle.sfv_spec.specs.Texts.{RunOf}
-use Rattle.sfv_spec.specs.Values.{Edition, FieldKind, BareValue, RawItem, RawField, list_field, dictionary_field}
+use Rattle.sfv_spec.specs.Values.{BareValue, RawItem, RawField, item}
+use Rattle.sfv_spec.specs.declared.field_kind.FieldKind.{FieldKind}
+use Rattle.sfv_spec.specs.declared.field_kind.FieldKind.TheVariants.{List as list_field, Dictionary as dictionary_field}
+use Rattle.sfv_spec.specs.declared.version.Version.{Version}
 use Rattle.sfv_spec.specs.Grammar.{IsBareText, IsFieldText}
 use Rattle.sfv_spec.specs.Events.{TreeEvent, events}
 use Rattle.sfv_spec.specs.Visiting.{IsVisitorError}
@@ -18,9 +21,9 @@ use Rattle.sfv_base.specs.declared.error.Error.{Error}
 use Rattle.sfv_base.specs.declared.error.ParseError.{ParseError}
 use Rattle.sfv_base.specs.declared.error.ParseError.TheVariants.{Syntax, Visitor}
 use Rattle.sfv_base.specs.declared.error.OutOfMemory.{OutOfMemory}
-use Rattle.sfv_visitor.specs.Builders.{item_place, item_step, at_end, takes_memory, list_place, list_step}
+use Rattle.sfv_visitor.specs.Builders.{item_state, member_step, ended, takes_memory, list_state, list_step}
 use Rattle.sfv_visitor.specs.Builders.{KeepsItemSeed, KeepsListSeed, KeepsDictionarySeed}
-use Rattle.sfv_visitor.specs.Builders.{list_takes_memory, dictionary_place, dictionary_step, dictionary_takes_memory}
+use Rattle.sfv_visitor.specs.Builders.{list_takes_memory, dictionary_state, dictionary_step, dictionary_takes_memory}
 use Rattle.sfv_visitor.specs.declared.visitor.ItemFault.{ItemFault}
 use Rattle.sfv_visitor.specs.declared.visitor.ItemFault.TheVariants as faults
 use Rattle.sfv_visitor.specs.declared.visitor.item_builder.ItemBuilder.{ItemBuilder}
@@ -56,11 +59,11 @@ no_parts (c ∷ before) e after h = absurd cc
 
 -- A visitor fails that never fails at the end, of a field which is empty where spaces alone stand.
 pub failed_more : {S E : Type 0} (takes : S → TreeEvent → S → Type 0) (fails : S → TreeEvent → E → Type 0)
-    (finish_fails : S → E → Type 0) (edition : Edition) (kind : FieldKind) (t : List ℕ) (from : S) (fault : E)
-    (raw : RawField kind) → (RunOf is_space t → IsFieldText edition kind raw t) → events kind raw ≡ []
+    (finish_fails : S → E → Type 0) (version : Version) (kind : FieldKind) (t : List ℕ) (from : S) (fault : E)
+    (raw : RawField kind) → (RunOf is_space t → IsFieldText version kind raw t) → events kind raw ≡ []
     → ((s : S) → finish_fails s fault → ⊥)
-    → IsVisitorErrorOf takes fails finish_fails edition kind t from (Visitor fault) → HasMoreThanSpaces t
-failed_more {S} {E} takes fails finish_fails edition kind t from fault raw empty none never h =
+    → IsVisitorErrorOf takes fails finish_fails version kind t from (Visitor fault) → HasMoreThanSpaces t
+failed_more {S} {E} takes fails finish_fails version kind t from fault raw empty none never h =
     elim (more_or_spaces t) [
       | inl more ↦ more
       | inr blank ↦ absurd (on (subst (λ (es : List TreeEvent). IsVisitorError takes fails finish_fails from es fault)
@@ -71,8 +74,8 @@ failed_more {S} {E} takes fails finish_fails edition kind t from fault raw empty
     on (inl x) = no_parts x.0 x.1 x.2 x.4
     on (inr x) = never x.0 x.2
 
-front_more : (front : List ℕ) (v : BareValue) (edition : Edition) → IsBareText edition v front → HasMoreThanSpaces front
-front_more front v edition h = on front (bare_begins edition v front h)
+front_more : (front : List ℕ) (v : BareValue) (version : Version) → IsBareText version v front → HasMoreThanSpaces front
+front_more front v version h = on front (bare_begins version v front h)
   where
     on : (front : List ℕ) → begins is_bare_start front ≡ true → HasMoreThanSpaces front
     on [] h = absurd (true≢false (sym h))
@@ -84,11 +87,11 @@ front_more front v edition h = on front (bare_begins edition v front h)
 
 -- a bare item stands first
 pub first_more : {S E : Type 0} (takes : S → TreeEvent → S → Type 0) (fails : S → TreeEvent → E → Type 0)
-    (finish_fails : S → E → Type 0) (edition : Edition) (t : List ℕ) (from : S) (fault : E)
-    → VisitsFirst takes fails finish_fails edition t from (Visitor fault) → HasMoreThanSpaces t
-first_more takes fails finish_fails edition t from fault h =
+    (finish_fails : S → E → Type 0) (version : Version) (t : List ℕ) (from : S) (fault : E)
+    → VisitsFirst takes fails finish_fails version t from (Visitor fault) → HasMoreThanSpaces t
+first_more takes fails finish_fails version t from fault h =
     let bare = h.1.first in
-    let more = front_more bare.front h.0.bare edition bare.means in (
+    let more = front_more bare.front h.0.bare version bare.means in (
       more.0,
       subst (λ (l : List ℕ). Contains l more.0) (sym bare.text)
           (Contains-append_left (bare.spaces ++ bare.front) bare.rest more.0
@@ -99,49 +102,49 @@ first_more takes fails finish_fails edition t from fault h =
 -- ---- builders: what each does with an event, and where it fails
 
 abbrev ItemSteps : ItemBuilder → TreeEvent → ItemBuilder → Type 0
-ItemSteps s e after = (item_place after ≡ item_step (item_place s) e) × KeepsItemSeed s after
+ItemSteps s e after = (item_state after ≡ member_step (item_state s) e) × KeepsItemSeed s after
 
 abbrev ItemFails : ItemBuilder → TreeEvent → ItemFault → Type 0
-ItemFails s e fault = (fault ≡ faults.OutOfMemory) × IsTrue (takes_memory (item_place s) e)
+ItemFails s e fault = (fault ≡ faults.OutOfMemory) × IsTrue (takes_memory (item_state s) e)
 
 abbrev ItemEndFails : ItemBuilder → ItemFault → Type 0
-ItemEndFails s fault = (fault ≡ faults.NoItem) × ((i : RawItem) → ¬ (item_place s ≡ at_end i))
+ItemEndFails s fault = (fault ≡ faults.NoItem) × ((i : RawItem) → ¬ (item_state s ≡ ended (item i)))
 
-pub item_more : (edition : Edition) (t : List ℕ) (from : ItemBuilder) (fault : ItemFault)
-    → VisitsFirst ItemSteps ItemFails ItemEndFails edition t from (Visitor fault) → HasMoreThanSpaces t
-item_more edition t from fault h = first_more ItemSteps ItemFails ItemEndFails edition t from fault h
+pub item_more : (version : Version) (t : List ℕ) (from : ItemBuilder) (fault : ItemFault)
+    → VisitsFirst ItemSteps ItemFails ItemEndFails version t from (Visitor fault) → HasMoreThanSpaces t
+item_more version t from fault h = first_more ItemSteps ItemFails ItemEndFails version t from fault h
 
 abbrev ListSteps : ListBuilder → TreeEvent → ListBuilder → Type 0
-ListSteps s e after = (list_place after ≡ list_step (list_place s) e) × KeepsListSeed s after
+ListSteps s e after = (list_state after ≡ list_step (list_state s) e) × KeepsListSeed s after
 
 abbrev ListFails : ListBuilder → TreeEvent → OutOfMemory → Type 0
-ListFails s e fault = IsTrue (list_takes_memory (list_place s) e)
+ListFails s e fault = IsTrue (list_takes_memory (list_state s) e)
 
-pub list_more : (edition : Edition) (t : List ℕ) (from : ListBuilder) (fault : OutOfMemory)
-    → IsVisitorErrorOf ListSteps ListFails (λ _ _. ⊥) edition list_field t from (Visitor fault) → HasMoreThanSpaces t
-list_more edition t from fault h = failed_more ListSteps ListFails (λ _ _. ⊥) edition list_field t from fault []
+pub list_more : (version : Version) (t : List ℕ) (from : ListBuilder) (fault : OutOfMemory)
+    → IsVisitorErrorOf ListSteps ListFails (λ _ _. ⊥) version list_field t from (Visitor fault) → HasMoreThanSpaces t
+list_more version t from fault h = failed_more ListSteps ListFails (λ _ _. ⊥) version list_field t from fault []
     (λ blank. blank) refl (λ s never. never) h
 
 abbrev DictionarySteps : DictionaryBuilder → TreeEvent → DictionaryBuilder → Type 0
-DictionarySteps s e after = (dictionary_place after ≡ dictionary_step (dictionary_place s) e) × KeepsDictionarySeed s after
+DictionarySteps s e after = (dictionary_state after ≡ dictionary_step (dictionary_state s) e) × KeepsDictionarySeed s after
 
 abbrev DictionaryFails : DictionaryBuilder → TreeEvent → OutOfMemory → Type 0
-DictionaryFails s e fault = IsTrue (dictionary_takes_memory (dictionary_place s) e)
+DictionaryFails s e fault = IsTrue (dictionary_takes_memory (dictionary_state s) e)
 
-pub dictionary_more : (edition : Edition) (t : List ℕ) (from : DictionaryBuilder) (fault : OutOfMemory)
-    → IsVisitorErrorOf DictionarySteps DictionaryFails (λ _ _. ⊥) edition dictionary_field t from (Visitor fault)
+pub dictionary_more : (version : Version) (t : List ℕ) (from : DictionaryBuilder) (fault : OutOfMemory)
+    → IsVisitorErrorOf DictionarySteps DictionaryFails (λ _ _. ⊥) version dictionary_field t from (Visitor fault)
     → HasMoreThanSpaces t
-dictionary_more edition t from fault h = failed_more DictionarySteps DictionaryFails (λ _ _. ⊥) edition dictionary_field
+dictionary_more version t from fault h = failed_more DictionarySteps DictionaryFails (λ _ _. ⊥) version dictionary_field
     t from fault [] (λ blank. blank) refl (λ s never. never) h
 
 -- ---- a reading with a visitor
 
 -- out of memory comes only of a text with a mark
 pub visits_memory : {S O E : Type 0} (takes : S → TreeEvent → S → Type 0) (fails : S → TreeEvent → E → Type 0)
-    (finishes : S → O → Type 0) (finish_fails : S → E → Type 0) (edition : Edition) (kind : FieldKind) (t : List ℕ)
-    (from : S) (r : Result O (ParseError E)) → VisitsField takes fails finishes finish_fails edition kind t from r
+    (finishes : S → O → Type 0) (finish_fails : S → E → Type 0) (version : Version) (kind : FieldKind) (t : List ℕ)
+    (from : S) (r : Result O (ParseError E)) → VisitsField takes fails finishes finish_fails version kind t from r
     → IfErr r (NeedsMark t)
-visits_memory takes fails finishes finish_fails edition kind t from (Ok out) h = tt
-visits_memory takes fails finishes finish_fails edition kind t from (Err (Syntax e)) h = λ same.
-    (subst (λ (e : Error). VisitsField takes fails finishes finish_fails edition kind t from (Err (Syntax e))) same h).0.1
-visits_memory takes fails finishes finish_fails edition kind t from (Err (Visitor f)) h = tt
+visits_memory takes fails finishes finish_fails version kind t from (Ok out) h = tt
+visits_memory takes fails finishes finish_fails version kind t from (Err (Syntax e)) h = λ same.
+    (subst (λ (e : Error). VisitsField takes fails finishes finish_fails version kind t from (Err (Syntax e))) same h).0.1
+visits_memory takes fails finishes finish_fails version kind t from (Err (Visitor f)) h = tt

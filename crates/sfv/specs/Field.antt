@@ -6,7 +6,11 @@ pub use Rattle.std.specs.Prelude.{IfOk, IfErr, OnOk, OnErr, IfSome, IfNone, IsTr
 pub use Rattle.std.specs.Prelude.{vec_items, string_bytes}
 pub use Rattle.std.specs.Option.{option_or}
 -- fields and their values
-pub use Rattle.sfv_spec.specs.Values.{Edition, rfc8941, rfc9651, FieldKind, item_field, list_field, dictionary_field}
+pub use Rattle.sfv_spec.specs.declared.field_kind.FieldKind.{FieldKind}
+pub use Rattle.sfv_spec.specs.declared.field_kind.FieldKind.TheVariants.{Item as item_field, List as list_field}
+pub use Rattle.sfv_spec.specs.declared.field_kind.FieldKind.TheVariants.{Dictionary as dictionary_field}
+pub use Rattle.sfv_spec.specs.declared.version.Version.{Version}
+pub use Rattle.sfv_spec.specs.declared.version.Version.TheVariants.{Rfc8941, Rfc9651}
 pub use Rattle.sfv_spec.specs.Values.{BareValue, integer, decimal, string, token, byte_sequence, boolean, date}
 pub use Rattle.sfv_spec.specs.Values.{display_string, RawParameters, RawItem, RawInnerList, RawMember, item, inner_list}
 pub use Rattle.sfv_spec.specs.Values.{RawField, IsFieldValue, HasMember}
@@ -15,23 +19,24 @@ unfoldable pub use Rattle.sfv_spec.specs.Ordered.{last_of}
 pub use Rattle.sfv_spec.specs.Ordered.{ordered, ordered_member}
 pub use Rattle.sfv_spec.specs.Statements.{IsParsedAs, IsValue, IsSerializedAs}
 pub use Rattle.sfv_spec.specs.Canonical.{canonical}
-pub use Rattle.sfv_spec.specs.Calls.{Fits}
-pub use Rattle.sfv_spec.specs.Faults.{SyntaxFault, IsFaultAt}
+pub use Rattle.sfv_spec.specs.Values.{Fits}
+pub use Rattle.sfv_spec.specs.Faults.{IsFaultAt}
+pub use Rattle.sfv_spec.specs.declared.error_kind.ErrorKind.{ErrorKind}
 -- events
 pub use Rattle.sfv_spec.specs.Events.{TreeEvent, entry, keyed_entry, begins_item, begins_inner_list, bare_item, parameter}
 pub use Rattle.sfv_spec.specs.Events.{parameters_end, inner_list_end, parameters_events, member_events, entry_events}
 pub use Rattle.sfv_spec.specs.Events.{keyed_events, events}
 -- the values of Rust types
 pub use Rattle.sfv_base.specs.Numbers.{integer_of, thousandths_of, seconds_of}
-pub use Rattle.sfv_base.specs.Errors.{index_of, kind_of, error_kind, out_of_memory}
+pub use Rattle.sfv_base.specs.Errors.{index_of, kind_of, out_of_memory}
 pub use Rattle.sfv_text.specs.KeyText.{key_text}
 pub use Rattle.sfv_text.specs.StringText.{string_text}
 pub use Rattle.sfv_text.specs.TokenText.{token_text}
-pub use Rattle.sfv_bare.specs.BareItems.{edition_of, bare_value, ref_value, input_value, read_text}
+pub use Rattle.sfv_bare.specs.BareItems.{bare_value, ref_value, input_value, read_text}
 pub use Rattle.sfv_visitor.specs.Builders.{plain_item}
 pub use Rattle.sfv_tree.specs.Trees.{item_tree, member_tree, list_tree, dictionary_tree, pairs_tree}
 -- the results of a parser
 pub use Rattle.sfv.specs.Parsers.{IsParseError, IsAnswerOf, IsSyntaxOf, IsVisitorErrorOf}
 -- writing
-pub use Rattle.sfv_serializer.specs.Scripts.{called_item, member_calls, described_list, described_dictionary}
+pub use Rattle.sfv_serializer.specs.Scripts.{item_of_calls, member_calls, described_list, described_dictionary}
 pub use Rattle.sfv_writer.specs.Written.{AppendsOrKeeps, IsSerialized}

@@ -14,6 +14,7 @@ pub use Rattle.sfv_spec.specs.Classes
 pub use Rattle.sfv_spec.specs.Events
 pub use Rattle.sfv_spec.specs.Faults
 pub use Rattle.sfv_spec.specs.Grammar
+pub use Rattle.sfv_spec.specs.Messages
 pub use Rattle.sfv_spec.specs.Numbers
 pub use Rattle.sfv_spec.specs.Ordered
 pub use Rattle.sfv_spec.specs.Reach
@@ -25,7 +26,6 @@ pub use Rattle.sfv_spec.specs.Visiting
 pub use Rattle.sfv_spec.proofs.Runs as EventRuns
 pub use Rattle.sfv_base.specs.Conversions
 pub use Rattle.sfv_base.specs.Errors
-pub use Rattle.sfv_base.specs.Messages
 pub use Rattle.sfv_base.specs.Numbers as NumberValues
 pub use Rattle.sfv_base.specs.ParseErrors
 pub use Rattle.sfv_text.specs.CheckedTexts
@@ -42,7 +42,7 @@ pub use Rattle.sfv_tree.specs.HashSeeds
 pub use Rattle.sfv_tree.specs.Seeds
 pub use Rattle.sfv_visitor.specs.ItemFaults
 pub use Rattle.sfv_tree.specs.Trees
-pub use Rattle.sfv_visitor.specs.Given
+pub use Rattle.sfv_visitor.specs.ProvidedVisitors
 pub use Rattle.sfv_writer.specs.Versions
 pub use Rattle.sfv_writer.specs.Written
 pub use Rattle.sfv_serializer.specs.Scripts

@@ -3,7 +3,7 @@ use Rattle.std.specs.Prelude.{◌≡◌, ⊤, ℕ, List, ◌⊎◌}
 use Rattle.std.specs.List.{Contains}
 use Rattle.sfv_spec.specs.Ascii.{backslash, percent_sign, colon, space}
 use Rattle.sfv_base.specs.declared.error.Error.{Error}
-use Rattle.sfv_base.specs.declared.error.ErrorKind.TheVariants.{OutOfMemory}
+use Rattle.sfv_spec.specs.declared.error_kind.ErrorKind.TheVariants.{OutOfMemory}
 use Rattle.sfv_base.specs.declared.error.ParseError.{ParseError}
 use Rattle.sfv_base.specs.declared.error.ParseError.TheVariants as parse_errors
 use Rattle.sfv_base.specs.Errors.{kind_of, out_of_memory}

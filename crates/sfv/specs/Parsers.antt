@@ -2,28 +2,33 @@
 use Rattle.std.specs.Prelude.{◌≡◌, ◌≤◌, ⊤, ℕ, List, ◌∷◌, ◌++◌, codes, length, take, Some, Result, ◌⊎◌, MatchResult, IfOk, IfErr}
 use Rattle.std.specs.Prelude.{◌↔◌, ◌==◌, IsTrue, not}
 use Rattle.std.specs.Borrow.{Bor}
-use Rattle.sfv_spec.specs.Values.{Edition, FieldKind, item_field, list_field, dictionary_field, RawField}
+use Rattle.sfv_spec.specs.Values.{RawField}
+use Rattle.sfv_spec.specs.declared.field_kind.FieldKind.{FieldKind}
+use Rattle.sfv_spec.specs.declared.field_kind.FieldKind.TheVariants.{Item as item_field, List as list_field}
+use Rattle.sfv_spec.specs.declared.field_kind.FieldKind.TheVariants.{Dictionary as dictionary_field}
+use Rattle.sfv_spec.specs.declared.version.Version.{Version}
 use Rattle.sfv_spec.specs.Values.{BareValue, RawParameters, RawItem}
 use Rattle.sfv_spec.specs.Ascii.{double_quote, percent_sign, backslash}
 use Rattle.sfv_spec.specs.Texts.{RunOf}
-use Rattle.sfv_spec.specs.Grammar.{IsFieldText, IsAccepted, StandsFirst, BeginsWithBareItem}
+use Rattle.sfv_spec.specs.Grammar.{IsFieldText, IsAccepted, StandsFirst, BeginsWithBareItem, HasField}
 use Rattle.sfv_spec.specs.Reach.{IsReach}
 use Rattle.sfv_spec.specs.Events.{TreeEvent, bare_item, parameters_events, item_events, events}
 use Rattle.sfv_spec.specs.Visiting.{NeverFails, RunsTo, IsVisited, IsVisitorError, IsEarlyVisitorError}
 use Rattle.sfv_spec.specs.Visiting.{IsVisitorErrorFrom, BeginsEventsAfter}
-use Rattle.sfv_spec.specs.Faults.{SyntaxFault, trailing_characters_after_parsed_value, IsFaultAt}
+use Rattle.sfv_spec.specs.Faults.{IsFaultAt}
+use Rattle.sfv_spec.specs.declared.error_kind.ErrorKind.{ErrorKind}
+use Rattle.sfv_spec.specs.declared.error_kind.ErrorKind.TheVariants.{TrailingCharactersAfterParsedValue}
 use Rattle.sfv_base.specs.declared.error.Error.{Error}
 use Rattle.sfv_base.specs.declared.error.ParseError.{ParseError}
 use Rattle.sfv_base.specs.declared.error.ParseError.TheVariants as parse_errors
-use Rattle.sfv_base.specs.Errors.{error_of, error_kind, out_of_memory}
-use Rattle.sfv_bare.specs.BareItems.{edition_of, input_value, is_borrowed_string, is_borrowed_text}
+use Rattle.sfv_base.specs.Errors.{error_of, out_of_memory}
+use Rattle.sfv_bare.specs.BareItems.{input_value, is_borrowed_string, is_borrowed_text}
 use Rattle.sfv_bare.specs.declared.bare.GenericBareItem.TheVariants as bare
-use Rattle.sfv_bare.specs.declared.bare.Version.{Version}
 use Rattle.sfv_tree.specs.declared.hash_seed.HashSeed.{HashSeed}
 use Rattle.sfv_visitor.specs.declared.visitor.Event.{Event}
 use Rattle.sfv_visitor.specs.declared.visitor.Event.TheVariants as event
 use Rattle.sfv_visitor.specs.declared.visitor.Visitor.{Ghosts as Visitor}
-use Rattle.sfv_visitor.specs.Given.{ReadBareItem}
+use Rattle.sfv_visitor.specs.ProvidedVisitors.{ReadBareItem}
 use Rattle.sfv.specs.declared.parser.Parser.{Parser}
 use Rattle.sfv.specs.Memory.{NeedsMark}
 
@@ -31,33 +36,31 @@ use Rattle.sfv.specs.Memory.{NeedsMark}
 abbrev pub parser_of : Bor (List ℕ) → Version → HashSeed → Parser
 parser_of input version seed = record { input = input; version = version; seed = seed }
 
--- the input of a parser, and the edition of its version
+-- the input of a parser, and its version
 abbrev pub input_of : Parser → List ℕ
 input_of p = p.input.now
 
-abbrev pub parser_edition : Parser → Edition
-parser_edition p = edition_of p.version
+abbrev pub version_of : Parser → Version
+version_of p = p.version
 
 -- The text is rejected, and `e` has the kind and the index of its fault.
-pub record IsSyntaxError (edition : Edition) (kind : FieldKind) (t : List ℕ) (e : Error) : Type 0 where
-  pub fault : SyntaxFault
+pub record IsSyntaxError (version : Version) (kind : FieldKind) (t : List ℕ) (e : Error) : Type 0 where
+  pub fault : ErrorKind
   pub index : ℕ
-  pub error : e ≡ error_of (error_kind fault) (Some index)
-  pub rejected : ¬ IsAccepted edition kind t
+  pub error : e ≡ error_of fault (Some index)
+  pub rejected : ¬ IsAccepted version kind t
   pub within : index ≤ length t
-  pub located : IsFaultAt edition kind t fault index
+  pub located : IsFaultAt version kind t fault index
 
 -- out of memory, or a syntax error of the text
-abbrev pub IsParseError : Edition → FieldKind → List ℕ → Error → Type 0
-IsParseError edition kind t e = (e ≡ out_of_memory) ⊎ IsSyntaxError edition kind t e
+abbrev pub IsParseError : Version → FieldKind → List ℕ → Error → Type 0
+IsParseError version kind t e = (e ≡ out_of_memory) ⊎ IsSyntaxError version kind t e
 
 -- The grammar gives the text exactly one tree, and the visitor returned this result after all events of the tree.
-pub record IsAnswerOf {S O : Type 0} (takes : S → TreeEvent → S → Type 0) (finishes : S → O → Type 0)
-    (edition : Edition) (kind : FieldKind) (t : List ℕ) (from : S) (out : O) : Type 0 where
-  pub raw : RawField kind
-  pub accepted : IsFieldText edition kind raw t
-  pub only : (other : RawField kind) → IsFieldText edition kind other t → other ≡ raw
-  pub visited : IsVisited takes finishes from (events kind raw) out
+abbrev pub IsAnswerOf : {S O : Type 0} → (S → TreeEvent → S → Type 0) → (S → O → Type 0) → Version → FieldKind
+    → List ℕ → S → O → Type 0
+IsAnswerOf takes finishes version kind t from out =
+    HasField version kind t (λ raw. IsVisited takes finishes from (events kind raw) out)
 
 -- a string without an escape begins here; a display string without an escape does
 abbrev pub IsPlainString : List ℕ → Type 0
@@ -67,20 +70,20 @@ abbrev pub IsPlainDisplay : List ℕ → Type 0
 IsPlainDisplay t = (s : List ℕ) × (t ≡ percent_sign ∷ double_quote ∷ s) × RunOf (λ c. not (c == percent_sign)) s
 
 -- A parsed string or display string is borrowed from the text if and only if it has no escape there.
-abbrev pub IsLent : ReadBareItem → List ℕ → Type 0
-IsLent (bare.String text) t = IsTrue (is_borrowed_string text) ↔ IsPlainString t
-IsLent (bare.DisplayString text) t = IsTrue (is_borrowed_text text) ↔ IsPlainDisplay t
-IsLent item t = ⊤
+abbrev pub IsBorrowedIfPlain : ReadBareItem → List ℕ → Type 0
+IsBorrowedIfPlain (bare.String text) t = IsTrue (is_borrowed_string text) ↔ IsPlainString t
+IsBorrowedIfPlain (bare.DisplayString text) t = IsTrue (is_borrowed_text text) ↔ IsPlainDisplay t
+IsBorrowedIfPlain item t = ⊤
 
 -- The text is an item. The visitor received its bare item as parsed, borrowed unless it has escapes, and returned
 -- this result after the parameters.
 pub record AnswersAsRead {S O : Type 0} (takes : S → TreeEvent → S → Type 0) (takes_read : S → Event → S → Type 0)
-    (finishes : S → O → Type 0) (edition : Edition) (t : List ℕ) (from : S) (out : O) : Type 0 where
+    (finishes : S → O → Type 0) (version : Version) (t : List ℕ) (from : S) (out : O) : Type 0 where
   pub read : ReadBareItem
   pub parameters : RawParameters
-  pub accepted : IsFieldText edition item_field (record { bare = input_value read; parameters = parameters }) t
-  pub stands : StandsFirst edition (input_value read) t
-  pub lent : IsLent read stands.first.front
+  pub accepted : IsFieldText version item_field (record { bare = input_value read; parameters = parameters }) t
+  pub stands : StandsFirst version (input_value read) t
+  pub lent : IsBorrowedIfPlain read stands.first.front
   pub middle : S
   pub taken : takes_read from (event.BareItem read) middle
   pub last : S
@@ -95,101 +98,101 @@ IsMemoryError is_memory (parse_errors.Visitor fault) = is_memory fault
 -- On an accepted text, a visitor that never fails receives all events of the tree and returns its result after them;
 -- or memory ran out.
 abbrev pub VisitsAccepted : {S O E : Type 0} → (S → TreeEvent → S → Type 0) → (S → TreeEvent → E → Type 0)
-    → (S → O → Type 0) → (S → E → Type 0) → (E → Type 0) → Edition → FieldKind → List ℕ → S → Result O (ParseError E)
+    → (S → O → Type 0) → (S → E → Type 0) → (E → Type 0) → Version → FieldKind → List ℕ → S → Result O (ParseError E)
     → Type 0
-VisitsAccepted takes fails finishes finish_fails is_memory edition kind t from result =
-    NeverFails takes fails finish_fails is_memory kind from → (raw : RawField kind) → IsFieldText edition kind raw t
+VisitsAccepted takes fails finishes finish_fails is_memory version kind t from result =
+    NeverFails takes fails finish_fails is_memory kind from → (raw : RawField kind) → IsFieldText version kind raw t
     → MatchResult result (IsVisited takes finishes from (events kind raw)) (IsMemoryError is_memory)
 
 -- characters follow a whole field, from this index on
 abbrev pub trailing_error : ℕ → Error
-trailing_error index = error_of (error_kind trailing_characters_after_parsed_value) (Some index)
+trailing_error index = error_of TrailingCharactersAfterParsedValue (Some index)
 
 -- An error for characters after an item comes only after the visitor has finished. The text before the index is an
 -- item; the visitor received all its events, and it returned a result. Lists and dictionaries do not have this error.
-abbrev pub IsFinishedFirst : {S O : Type 0} → (S → TreeEvent → S → Type 0) → (S → O → Type 0) → Edition → FieldKind
+abbrev pub IsFinishedFirst : {S O : Type 0} → (S → TreeEvent → S → Type 0) → (S → O → Type 0) → Version → FieldKind
     → List ℕ → S → Error → Type 0
-IsFinishedFirst {S} {O} takes finishes edition item_field t from e = (index : ℕ) → e ≡ trailing_error index
-    → (out : O) × IsAnswerOf takes finishes edition item_field (take index t) from out
-IsFinishedFirst takes finishes edition list_field t from e = (index : ℕ) → ¬ (e ≡ trailing_error index)
-IsFinishedFirst takes finishes edition dictionary_field t from e = (index : ℕ) → ¬ (e ≡ trailing_error index)
+IsFinishedFirst {S} {O} takes finishes version item_field t from e = (index : ℕ) → e ≡ trailing_error index
+    → (out : O) × IsAnswerOf takes finishes version item_field (take index t) from out
+IsFinishedFirst takes finishes version list_field t from e = (index : ℕ) → ¬ (e ≡ trailing_error index)
+IsFinishedFirst takes finishes version dictionary_field t from e = (index : ℕ) → ¬ (e ≡ trailing_error index)
 
 -- A syntax error is one that `parse` returns. An error for characters after an item comes after the visitor has
 -- finished.
-abbrev pub IsSyntaxOf : {S O E : Type 0} → (S → TreeEvent → S → Type 0) → (S → O → Type 0) → Edition → FieldKind
+abbrev pub IsSyntaxOf : {S O E : Type 0} → (S → TreeEvent → S → Type 0) → (S → O → Type 0) → Version → FieldKind
     → List ℕ → S → ParseError E → Type 0
-IsSyntaxOf takes finishes edition kind t from (parse_errors.Syntax e) = IsParseError edition kind t e
-    × IsFinishedFirst takes finishes edition kind t from e
-IsSyntaxOf takes finishes edition kind t from (parse_errors.Visitor fault) = ⊤
+IsSyntaxOf takes finishes version kind t from (parse_errors.Syntax e) = IsParseError version kind t e
+    × IsFinishedFirst takes finishes version kind t from e
+IsSyntaxOf takes finishes version kind t from (parse_errors.Visitor fault) = ⊤
 
 -- The visitor received these events. On a rejected text, they begin the events of some field that begins with the
 -- bytes before the reach. If a field is followed by a comma in the text, all events of that field are among them.
-pub record TakesUpTo {S : Type 0} (takes : S → TreeEvent → S → Type 0) (edition : Edition) (kind : FieldKind)
+pub record TakesUpTo {S : Type 0} (takes : S → TreeEvent → S → Type 0) (version : Version) (kind : FieldKind)
     (t : List ℕ) (from : S) : Type 0 where
   pub es : List TreeEvent
   pub to : S
   pub taken : RunsTo takes from es to
-  pub begins : (n : ℕ) → IsReach edition kind t n → BeginsEventsAfter edition kind (take n t) es
+  pub begins : (n : ℕ) → IsReach version kind t n → BeginsEventsAfter version kind (take n t) es
   pub whole : (raw : RawField kind) (front rest : List ℕ) → t ≡ front ++ codes "," ++ rest
-      → IsFieldText edition kind raw front → (others : List TreeEvent) × (es ≡ events kind raw ++ others)
+      → IsFieldText version kind raw front → (others : List TreeEvent) × (es ≡ events kind raw ++ others)
 
 -- A syntax error comes only after the visitor has received the events before it. If the visitor fails at one of
 -- them, parsing ends with the visitor's error.
-abbrev pub TookBeforeFault : {S E : Type 0} → (S → TreeEvent → S → Type 0) → Edition → FieldKind → List ℕ → S
+abbrev pub TookBeforeFault : {S E : Type 0} → (S → TreeEvent → S → Type 0) → Version → FieldKind → List ℕ → S
     → ParseError E → Type 0
-TookBeforeFault takes edition kind t from (parse_errors.Syntax e) = (e ≡ out_of_memory) ⊎ TakesUpTo takes edition kind t from
-TookBeforeFault takes edition kind t from (parse_errors.Visitor fault) = ⊤
+TookBeforeFault takes version kind t from (parse_errors.Syntax e) = (e ≡ out_of_memory) ⊎ TakesUpTo takes version kind t from
+TookBeforeFault takes version kind t from (parse_errors.Visitor fault) = ⊤
 
 -- On an accepted text, the visitor's error comes after exactly the events before it. On a rejected text, and for an
 -- item on every text, it comes at an event of some field. On a rejected text, that field begins with the bytes
 -- before the reach.
 abbrev pub IsVisitorErrorOf : {S E : Type 0} → (S → TreeEvent → S → Type 0) → (S → TreeEvent → E → Type 0)
-    → (S → E → Type 0) → Edition → FieldKind → List ℕ → S → ParseError E → Type 0
-IsVisitorErrorOf takes fails finish_fails edition kind t from (parse_errors.Syntax e) = ⊤
-IsVisitorErrorOf takes fails finish_fails edition kind t from (parse_errors.Visitor fault) =
-    ((raw : RawField kind) → IsFieldText edition kind raw t
+    → (S → E → Type 0) → Version → FieldKind → List ℕ → S → ParseError E → Type 0
+IsVisitorErrorOf takes fails finish_fails version kind t from (parse_errors.Syntax e) = ⊤
+IsVisitorErrorOf takes fails finish_fails version kind t from (parse_errors.Visitor fault) =
+    ((raw : RawField kind) → IsFieldText version kind raw t
     → IsVisitorError takes fails finish_fails from (events kind raw) fault)
-    × ((kind ≡ item_field) ⊎ ((raw : RawField kind) → IsFieldText edition kind raw t → ⊥)
+    × ((kind ≡ item_field) ⊎ ((raw : RawField kind) → IsFieldText version kind raw t → ⊥)
     → IsEarlyVisitorError takes fails finish_fails kind from fault)
-    × (¬ IsAccepted edition kind t → (n : ℕ) → IsReach edition kind t n
-    → IsVisitorErrorFrom takes fails finish_fails edition kind (take n t) from fault)
+    × (¬ IsAccepted version kind t → (n : ℕ) → IsReach version kind t n
+    → IsVisitorErrorFrom takes fails finish_fails version kind (take n t) from fault)
 
 -- If a complete bare item comes first in the text, the visitor receives it before any later syntax error. An error
 -- of the visitor is one on an item with the first bare item of the text, which is the complete one if there is one.
 abbrev pub VisitsFirst : {S E : Type 0} → (S → TreeEvent → S → Type 0) → (S → TreeEvent → E → Type 0)
-    → (S → E → Type 0) → Edition → List ℕ → S → ParseError E → Type 0
-VisitsFirst {S} takes fails finish_fails edition t from (parse_errors.Syntax e) =
-    (e ≡ out_of_memory) ⊎ ((value : BareValue) → BeginsWithBareItem edition value t
+    → (S → E → Type 0) → Version → List ℕ → S → ParseError E → Type 0
+VisitsFirst {S} takes fails finish_fails version t from (parse_errors.Syntax e) =
+    (e ≡ out_of_memory) ⊎ ((value : BareValue) → BeginsWithBareItem version value t
     → (after : S) × takes from (bare_item value) after)
-VisitsFirst takes fails finish_fails edition t from (parse_errors.Visitor fault) =
-    (raw : RawItem) × StandsFirst edition raw.bare t
-    × ((value : BareValue) → BeginsWithBareItem edition value t → raw.bare ≡ value)
+VisitsFirst takes fails finish_fails version t from (parse_errors.Visitor fault) =
+    (raw : RawItem) × StandsFirst version raw.bare t
+    × ((value : BareValue) → BeginsWithBareItem version value t → raw.bare ≡ value)
     × IsVisitorError takes fails finish_fails from (item_events raw) fault
 
 -- the same for a parser, and a visitor as the record of its ghost members
 module _ {S O E : Type 0} (v : Visitor S O E) (p : Parser) where
   abbrev pub IsAnswerBy : FieldKind → S → O → Type 0
-  IsAnswerBy kind from out = IsAnswerOf v.takes v.finishes (parser_edition p) kind (input_of p) from out
+  IsAnswerBy kind from out = IsAnswerOf v.takes v.finishes (version_of p) kind (input_of p) from out
 
   abbrev pub AnswersAsReadBy : S → O → Type 0
-  AnswersAsReadBy from out = AnswersAsRead v.takes v.takes_read v.finishes (parser_edition p) (input_of p) from out
+  AnswersAsReadBy from out = AnswersAsRead v.takes v.takes_read v.finishes (version_of p) (input_of p) from out
 
   abbrev pub IsSyntaxBy : FieldKind → S → ParseError E → Type 0
-  IsSyntaxBy kind from error = IsSyntaxOf v.takes v.finishes (parser_edition p) kind (input_of p) from error
+  IsSyntaxBy kind from error = IsSyntaxOf v.takes v.finishes (version_of p) kind (input_of p) from error
 
   abbrev pub TookBeforeFaultBy : FieldKind → S → ParseError E → Type 0
-  TookBeforeFaultBy kind from error = TookBeforeFault v.takes (parser_edition p) kind (input_of p) from error
+  TookBeforeFaultBy kind from error = TookBeforeFault v.takes (version_of p) kind (input_of p) from error
 
   abbrev pub IsVisitorErrorBy : FieldKind → S → ParseError E → Type 0
   IsVisitorErrorBy kind from error =
-      IsVisitorErrorOf v.takes v.fails v.finish_fails (parser_edition p) kind (input_of p) from error
+      IsVisitorErrorOf v.takes v.fails v.finish_fails (version_of p) kind (input_of p) from error
 
   abbrev pub VisitsAcceptedBy : FieldKind → S → Result O (ParseError E) → Type 0
   VisitsAcceptedBy kind from result = VisitsAccepted v.takes v.fails v.finishes v.finish_fails v.is_memory
-      (parser_edition p) kind (input_of p) from result
+      (version_of p) kind (input_of p) from result
 
   abbrev pub VisitsFirstBy : S → ParseError E → Type 0
-  VisitsFirstBy from error = VisitsFirst v.takes v.fails v.finish_fails (parser_edition p) (input_of p) from error
+  VisitsFirstBy from error = VisitsFirst v.takes v.fails v.finish_fails (version_of p) (input_of p) from error
 
 -- The clauses of `parse_.._with_visitor` for one visitor: its result, a syntax error, its own error, the result on
 -- accepted texts if it never fails, and the texts for which memory is allocated.

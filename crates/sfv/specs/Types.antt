@@ -3,18 +3,23 @@ pub use Rattle.sfv_base.specs.declared.date.Date.{Date}
 pub use Rattle.sfv_base.specs.declared.decimal.Decimal.{Decimal}
 pub use Rattle.sfv_base.specs.declared.integer.Integer.{Integer}
 pub use Rattle.sfv_base.specs.declared.error.Error.{Error}
-pub use Rattle.sfv_base.specs.declared.error.ErrorKind.{ErrorKind}
-pub use Rattle.sfv_base.specs.declared.error.ErrorKind.TheVariants as error_kinds
+pub use Rattle.sfv_spec.specs.declared.error_kind.ErrorKind.{ErrorKind}
+pub use Rattle.sfv_spec.specs.declared.error_kind.ErrorKind.TheVariants as error_kinds
 pub use Rattle.sfv_base.specs.declared.error.OutOfMemory.{OutOfMemory}
 pub use Rattle.sfv_base.specs.declared.error.ParseError.{ParseError}
 pub use Rattle.sfv_base.specs.declared.error.ParseError.TheVariants as parse_errors
+pub use Rattle.sfv_spec.specs.declared.field_kind.FieldKind.{FieldKind}
+pub use Rattle.sfv_spec.specs.declared.field_kind.FieldKind.TheVariants as field_kinds
+pub use Rattle.sfv_spec.specs.declared.field_kind.FieldKind.TheVariants.{Item as item_field, List as list_field}
+pub use Rattle.sfv_spec.specs.declared.field_kind.FieldKind.TheVariants.{Dictionary as dictionary_field}
 pub use Rattle.sfv_bare.specs.declared.bare.BareItemType.{BareItemType}
 pub use Rattle.sfv_bare.specs.declared.bare.BareItemType.TheVariants as bare_item_types
 pub use Rattle.sfv_bare.specs.declared.bare.GenericBareItem.{GenericBareItem}
 pub use Rattle.sfv_bare.specs.declared.bare.GenericBareItem.TheVariants as bare_items
 pub use Rattle.sfv_bare.specs.declared.bare.StringFromInput.{StringFromInput}
-pub use Rattle.sfv_bare.specs.declared.bare.Version.{Version}
-pub use Rattle.sfv_bare.specs.declared.bare.Version.TheVariants as versions
+pub use Rattle.sfv_spec.specs.declared.version.Version.{Version}
+pub use Rattle.sfv_spec.specs.declared.version.Version.TheVariants as versions
+pub use Rattle.sfv_spec.specs.declared.version.Version.TheVariants.{Rfc8941, Rfc9651}
 pub use Rattle.sfv_tree.specs.declared.hash_seed.HashSeed.{HashSeed}
 pub use Rattle.sfv_tree.specs.declared.parsed.Item.{Item}
 pub use Rattle.sfv_tree.specs.declared.parsed.InnerList.{InnerList}

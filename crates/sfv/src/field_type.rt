@@ -4,24 +4,27 @@ ghost use Rattle.std.specs.Prelude.{◌≡◌, ℕ, List, Option, Some, option_m
 ghost use Rattle.std.proofs.Common.{ap};
 ghost use Rattle.std.specs.declared.alloc.Global.{Global as Heap};
 ghost use Rattle.std.specs.declared.string.String.{String as Text};
-ghost use Rattle.sfv_spec.specs.Values.{FieldKind, RawField, HasMember, rfc9651, item_field, list_field, dictionary_field};
-ghost use Rattle.sfv_spec.specs.Events.{bare_values};
+ghost use Rattle.sfv_spec.specs.Values.{RawField, HasMember};
+ghost use Rattle.sfv_spec.specs.declared.field_kind.FieldKind.{FieldKind};
+ghost use Rattle.sfv_spec.specs.declared.field_kind.FieldKind.TheVariants.{Item as item_field, List as list_field};
+ghost use Rattle.sfv_spec.specs.declared.field_kind.FieldKind.TheVariants.{Dictionary as dictionary_field};
+ghost use Rattle.sfv_spec.specs.declared.version.Version.TheVariants.{Rfc9651};
+ghost use Rattle.sfv_spec.specs.Values.{bare_values};
 ghost use Rattle.sfv_spec.specs.Statements.{IsParsedAs, IsSerializedAs};
-ghost use Rattle.sfv_bare.specs.BareItems.{edition_of};
 ghost use Rattle.sfv_tree.specs.Trees.{item_tree, list_tree, dictionary_tree};
 ghost use Rattle.sfv_tree.specs.Seeds.{ItemHasSeed, ListHasSeed, DictionaryHasSeed};
 ghost use Rattle.sfv_tree.specs.declared.hash_seed.HashSeed.{HashSeed};
-ghost use Rattle.sfv_writer.specs.Versions.{LooksFirst};
-ghost use Rattle.sfv.specs.Parsers.{input_of, parser_edition, IsParseError};
+ghost use Rattle.sfv_writer.specs.Versions.{ChecksVersionFirst};
+ghost use Rattle.sfv.specs.Parsers.{input_of, version_of, IsParseError};
 ghost use Rattle.sfv.specs.Memory.{NeedsMoreThanSpaces};
 
-use crate::parser::{Parser, look_for_dictionary, look_for_item, look_for_list};
-use sfv_bare::bare::Version;
+use crate::parser::{Parser, expect_dictionary_start, expect_item_start, expect_list_start};
 use sfv_base::error::{Error, OutOfMemory, ParseError};
+use sfv_spec::version::Version;
 use sfv_tree::parsed::{Dictionary, Item, List};
 use sfv_visitor::visitor::{DictionaryBuilder, ItemBuilder, ListBuilder};
 use sfv_writer::{
-    SerializeError, dictionary_text, list_text, look_at_dictionary, look_at_item, look_at_list,
+    SerializeError, check_dictionary, check_item, check_list, dictionary_text, list_text,
     serialize_item,
 };
 use std::alloc::Global;
@@ -60,9 +63,9 @@ pub trait FieldType: sealed::Sealed + Drop {
     /// Returns the errors of `Parser::parse`.
     fn parse(alloc: Global, parser: Parser<'_>) -> Result<Self, Error>
         ensures read { IfOk result (λ value.
-            IsParsedAs (parser_edition parser.entry) kind (input_of parser.entry) (tree value)) }
+            IsParsedAs (version_of parser.entry) kind (input_of parser.entry) (tree value)) }
         ensures seed { IfOk result (has_seed parser.entry.seed) }
-        ensures rejected { IfErr result (IsParseError (parser_edition parser.entry) kind (input_of parser.entry)) }
+        ensures rejected { IfErr result (IsParseError (version_of parser.entry) kind (input_of parser.entry)) }
         ensures memory { IfErr result (NeedsMoreThanSpaces (input_of parser.entry)) };
 
     /// Returns the canonical text (RFC 9651, section 4.1), allocated from `alloc`.
@@ -74,7 +77,7 @@ pub trait FieldType: sealed::Sealed + Drop {
     ///
     /// Returns `OutOfMemory` if memory runs out.
     fn serialize(&self, alloc: Global) -> Result<Self::SerializeResult, OutOfMemory>
-        ensures text { IfOk result (λ text. IsSerializedAs rfc9651 kind (tree self.now) (written text)) }
+        ensures text { IfOk result (λ text. IsSerializedAs Rfc9651 kind (tree self.now) (written text)) }
         ensures out_of_memory { IfErr result (λ _. HasMember kind (tree self.now)) };
 
     /// Returns the canonical text, as `serialize` does, if `version` has every value (RFC 9651, section 4.1).
@@ -91,8 +94,8 @@ pub trait FieldType: sealed::Sealed + Drop {
         version: Version,
     ) -> Result<Self::SerializeResult, SerializeError>
         ensures text { IfOk result (λ text.
-            IsSerializedAs (edition_of version) kind (tree self.now) (written text)) }
-        ensures looks { LooksFirst (edition_of version) (bare_values kind (tree self.now)) result }
+            IsSerializedAs version kind (tree self.now) (written text)) }
+        ensures unsupported { ChecksVersionFirst version (bare_values kind (tree self.now)) result }
         ensures failed { IfErr result (λ _. HasMember kind (tree self.now)) };
 
     ghost into_written: { (result : Self.SerializeResult) (text : Option (Text Heap))
@@ -113,7 +116,7 @@ impl FieldType for Item {
     ghost into_written = { λ result text same. ap (option_map string_bytes) same };
 
     fn parse(alloc: Global, parser: Parser<'_>) -> Result<Item, Error> {
-        look_for_item(parser, alloc)?;
+        expect_item_start(parser, alloc)?;
         let builder = ItemBuilder::new(alloc, parser.hash_seed());
         match parser.parse_item_with_visitor(alloc, builder) {
             Ok(item) => Ok(item),
@@ -130,7 +133,7 @@ impl FieldType for Item {
     }
 
     fn serialize_for(&self, alloc: Global, version: Version) -> Result<StdString, SerializeError> {
-        look_at_item(version, self)?;
+        check_item(version, self)?;
         let text = self.serialize(alloc)?;
         Ok(text)
     }
@@ -150,7 +153,7 @@ impl FieldType for List {
     ghost into_written = { λ result text same. ap (option_map string_bytes) same };
 
     fn parse(alloc: Global, parser: Parser<'_>) -> Result<List, Error> {
-        look_for_list(parser, alloc)?;
+        expect_list_start(parser, alloc)?;
         let builder = ListBuilder::new(List::new(alloc), parser.hash_seed());
         match parser.parse_list_with_visitor(alloc, builder) {
             Ok(list) => Ok(list),
@@ -168,7 +171,7 @@ impl FieldType for List {
         alloc: Global,
         version: Version,
     ) -> Result<Option<StdString>, SerializeError> {
-        look_at_list(version, self)?;
+        check_list(version, self)?;
         let text = self.serialize(alloc)?;
         Ok(text)
     }
@@ -188,7 +191,7 @@ impl FieldType for Dictionary {
     ghost into_written = { λ result text same. ap (option_map string_bytes) same };
 
     fn parse(alloc: Global, parser: Parser<'_>) -> Result<Dictionary, Error> {
-        look_for_dictionary(parser, alloc)?;
+        expect_dictionary_start(parser, alloc)?;
         let dictionary = Dictionary::with_hasher(alloc, parser.hash_seed());
         let builder = DictionaryBuilder::new(dictionary);
         match parser.parse_dictionary_with_visitor(alloc, builder) {
@@ -207,7 +210,7 @@ impl FieldType for Dictionary {
         alloc: Global,
         version: Version,
     ) -> Result<Option<StdString>, SerializeError> {
-        look_at_dictionary(version, self)?;
+        check_dictionary(version, self)?;
         let text = self.serialize(alloc)?;
         Ok(text)
     }

@@ -14,7 +14,6 @@ pub use field_type::FieldType;
 pub use parser::Parser;
 pub use sfv_bare::bare::{
     BareItem, BareItemFromInput, BareItemType, GenericBareItem, RefBareItem, StringFromInput,
-    Version,
 };
 pub use sfv_base::date::Date;
 pub use sfv_base::decimal::Decimal;
@@ -22,9 +21,12 @@ pub use sfv_base::error::{Error, ErrorKind, OutOfMemory, ParseError};
 pub use sfv_base::integer::Integer;
 pub use sfv_base::shorthand::integer;
 pub use sfv_serializer::{
-    DictMembers, DictSerializer, InnerListItems, InnerListSerializer, ItemSerializer, Kind,
-    ListMembers, ListSerializer, Members, ParameterSerializer, Parts, Sink, Unnamed,
+    DictMembers, DictSerializer, InnerListItems, InnerListSerializer, ItemSerializer, Keyless,
+    ListMembers, ListSerializer, ParameterSerializer, SequenceKind, SequenceSerializer, Sink,
+    TopLevel,
 };
+pub use sfv_spec::field_kind::FieldKind;
+pub use sfv_spec::version::Version;
 pub use sfv_text::key::Key;
 pub use sfv_text::key_ref::KeyRef;
 pub use sfv_text::shorthand::{key_ref, string_ref, token_ref};

@@ -1,38 +1,39 @@
 //! The parser of fields (RFC 9651, section 4.2).
 
 ghost use Rattle.std.specs.Prelude.{◌≡◌, IfOk, IfErr};
-ghost use Rattle.sfv_spec.specs.Values.{item_field, list_field, dictionary_field};
+ghost use Rattle.sfv_spec.specs.declared.field_kind.FieldKind.TheVariants.{Item as item_field, List as list_field};
+ghost use Rattle.sfv_spec.specs.declared.field_kind.FieldKind.TheVariants.{Dictionary as dictionary_field};
 ghost use Rattle.sfv_spec.specs.Statements.{IsParsedAs};
-ghost use Rattle.sfv_bare.specs.declared.bare.Version.TheVariants as versions;
+ghost use Rattle.sfv_spec.specs.declared.version.Version.TheVariants as versions;
 ghost use Rattle.sfv_tree.specs.HashSeeds.{library_seed};
 
 use crate::field_type::FieldType;
-use sfv_bare::bare::Version;
 use sfv_base::error::{Error, ParseError};
+use sfv_spec::version::Version;
 use sfv_tree::hash_seed::HashSeed;
 use sfv_visitor::make::{MakeDictionaryVisitor, MakeItemVisitor, MakeListVisitor};
 use sfv_visitor::visitor::Visitor;
 use std::alloc::Global;
 
 mod bare_item;
-mod beginning;
+mod base64_symbols;
 mod byte_sequence;
 mod cursor;
 mod digits;
 mod display_string;
 mod field;
+mod first_byte;
 mod item;
 mod key;
 mod member;
 mod number;
 mod quoted;
 mod string;
-mod symbols;
 mod token;
 mod visit;
 
-pub(crate) use beginning::{look_for_dictionary, look_for_item, look_for_list};
 use field::{parse_item_field, parse_members_field};
+pub(crate) use first_byte::{expect_dictionary_start, expect_item_start, expect_list_start};
 use member::{Entry, KeyedEntry};
 
 /// A parser for one input, under one version of the standard.
@@ -46,7 +47,7 @@ pub struct Parser<'de> {
 }
 
 impl<'de> Parser<'de> {
-    ghost use Rattle.sfv.specs.Parsers.{parser_of, input_of, parser_edition, IsParseError, IsAnswerBy, IsSyntaxBy};
+    ghost use Rattle.sfv.specs.Parsers.{parser_of, input_of, version_of, IsParseError, IsAnswerBy, IsSyntaxBy};
     ghost use Rattle.sfv.specs.Parsers.{IsVisitorErrorBy, VisitsAcceptedBy, VisitsFirstBy, AnswersAsReadBy, OfMade, TookBeforeFaultBy};
     ghost use Rattle.sfv.specs.Parsers.{ReadsBy, ReadsItemBy};
     ghost use Rattle.sfv.specs.Memory.{NeedsMark, NeedsMoreThanSpaces};
@@ -101,9 +102,9 @@ impl<'de> Parser<'de> {
     /// length of the input. Returns the kind `OutOfMemory`, without index, if memory runs out.
     pub fn parse<T: FieldType>(self, alloc: Global) -> Result<T, Error>
         ensures read { IfOk result
-            (λ value. IsParsedAs (parser_edition self.entry) T.kind (input_of self.entry) (T.tree value)) }
+            (λ value. IsParsedAs (version_of self.entry) T.kind (input_of self.entry) (T.tree value)) }
         ensures seed { IfOk result (T.has_seed self.entry.seed) }
-        ensures rejected { IfErr result (IsParseError (parser_edition self.entry) T.kind (input_of self.entry)) }
+        ensures rejected { IfErr result (IsParseError (version_of self.entry) T.kind (input_of self.entry)) }
         ensures memory { IfErr result (NeedsMoreThanSpaces (input_of self.entry)) }
     {
         T::parse(alloc, self)
@@ -185,7 +186,7 @@ impl<'de> Parser<'de> {
         ensures accepted { VisitsAcceptedBy V.Visitor self.entry item_field visitor result }
         ensures memory { IfErr result (NeedsMark (input_of self.entry)) }
         ensures first { IfErr result (VisitsFirstBy V.Visitor self.entry visitor) }
-        ensures lent { IfOk result (AnswersAsReadBy V.Visitor self.entry visitor) }
+        ensures borrowed_if_plain { IfOk result (AnswersAsReadBy V.Visitor self.entry visitor) }
     {
         parse_item_field(self, alloc, visitor)
     }

@@ -4,11 +4,13 @@ use Rattle.std.specs.Prelude.{codes, string_bytes, option_map, IfErr, IsErrAnd}
 use Rattle.std.proofs.lemmas.Result.{err_from_is_err_and}
 use Rattle.std.specs.declared.alloc.Global.{Global}
 use Rattle.std.specs.declared.string.String.{String}
-use Rattle.sfv.specs.Values.{Edition, FieldKind, RawField, item_field, list_field, dictionary_field, HasMember}
+use Rattle.sfv.specs.Values.{RawField, HasMember}
+use Rattle.sfv.specs.Types.{FieldKind, item_field, list_field, dictionary_field}
+use Rattle.sfv.specs.Types.{Version}
 use Rattle.sfv.specs.Canonical.{canonical}
 use Rattle.sfv.specs.Statements.{IsParsedAs, IsSerializedAs}
-use Rattle.sfv.specs.Calls.{Fits}
-use Rattle.sfv.specs.Events.{bare_values}
+use Rattle.sfv.specs.Values.{Fits}
+use Rattle.sfv.specs.Values.{bare_values}
 use Rattle.sfv.specs.Versions.{IsSerializeError}
 use Rattle.sfv.specs.Types.{SerializeError}
 use Rattle.sfv_answers.specs.declared.answer.ToolFault.{ToolFault}
@@ -23,13 +25,13 @@ empty_text list_field (m ∷ ms) none = absurd (none (m, ms, refl))
 empty_text dictionary_field [] none = refl
 empty_text dictionary_field (m ∷ ms) none = absurd (none (m, ms, refl))
 
-pub serialized_line : (edition : Edition) (kind : FieldKind) (value : RawField kind) (o : Option (String Global))
-    → IsSerializedAs edition kind value (option_map string_bytes o) → text_or_empty o ≡ canonical kind value
-serialized_line edition kind value None h = empty_text kind value h
-serialized_line edition kind value (Some text) h = h.1.text
+pub serialized_line : (version : Version) (kind : FieldKind) (value : RawField kind) (o : Option (String Global))
+    → IsSerializedAs version kind value (option_map string_bytes o) → text_or_empty o ≡ canonical kind value
+serialized_line version kind value None h = empty_text kind value h
+serialized_line version kind value (Some text) h = h.1.text
 
 -- the line of a field that was read
-pub answered : (reading writing : Edition) (kind : FieldKind) (input : List ℕ) (value : RawField kind)
+pub answered : (reading writing : Version) (kind : FieldKind) (input : List ℕ) (value : RawField kind)
     (o : Option (String Global)) (line : List ℕ) → IsParsedAs reading kind input value → Fits writing kind value
     → text_or_empty o ≡ canonical kind value → line ≡ text_or_empty o ++ codes "\n"
     → IsAnswer reading writing kind input line
@@ -41,7 +43,7 @@ answered reading writing kind input value o line parsed fits same h = record {
 }
 
 -- what was read isn't written
-pub write_fails : (reading writing : Edition) (kind : FieldKind) (t : List ℕ) (value : RawField kind)
+pub write_fails : (reading writing : Version) (kind : FieldKind) (t : List ℕ) (value : RawField kind)
     (r : Result (String Global) ToolFault) (e : SerializeError) → IsErrAnd r (λ f. f ≡ faults.Write e)
     → IsParsedAs reading kind t value → IsSerializeError writing (bare_values kind value) e
     → IfErr r (IsToolFault reading writing kind t)

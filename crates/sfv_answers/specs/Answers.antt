@@ -3,13 +3,13 @@ use Rattle.std.specs.Prelude.{◌≡◌, ℕ, ◌-◌, ◌++◌, ◌==◌, List,
 use Rattle.std.specs.Prelude.{string_bytes, Option, Some, None}
 use Rattle.std.specs.declared.alloc.Global.{Global}
 use Rattle.std.specs.declared.string.String.{String}
-use Rattle.sfv.specs.Values.{Edition, FieldKind, item_field, list_field, dictionary_field, RawField}
-use Rattle.sfv.specs.Canonical.{canonical}
-use Rattle.sfv.specs.BareItems.{edition_of}
+use Rattle.sfv.specs.Values.{RawField}
+use Rattle.sfv.specs.Types.{FieldKind, item_field, list_field, dictionary_field}
 use Rattle.sfv.specs.Types.{Version}
+use Rattle.sfv.specs.Canonical.{canonical}
 use Rattle.sfv.specs.Statements.{IsParsedAs}
-use Rattle.sfv.specs.Events.{bare_values}
-use Rattle.sfv.specs.Calls.{Fits}
+use Rattle.sfv.specs.Values.{bare_values}
+use Rattle.sfv.specs.Values.{Fits}
 use Rattle.sfv.specs.Errors.{error_text}
 use Rattle.sfv.specs.Parsers.{IsParseError}
 use Rattle.sfv.specs.Versions.{IsSerializeError, serialize_error_text}
@@ -17,14 +17,6 @@ use Rattle.sfv.specs.Types.serialize_errors as serialize_errors
 use Rattle.sfv_fields.specs.Priority.{PriorityValue, priority_text, IsPriorityOf}
 use Rattle.sfv_answers.specs.declared.answer.ToolFault.{ToolFault}
 use Rattle.sfv_answers.specs.declared.answer.ToolFault.TheVariants as faults
-use Rattle.sfv_answers.specs.declared.answer.Field.{Field}
-use Rattle.sfv_answers.specs.declared.answer.Field.TheVariants as field
-
--- the type of field in the definitions
-abbrev pub kind_of_field : Field → FieldKind
-kind_of_field field.Item = item_field
-kind_of_field field.List = list_field
-kind_of_field field.Dict = dictionary_field
 
 -- the input without one final newline, if there is one
 abbrev pub without_newline : List ℕ → List ℕ
@@ -35,9 +27,9 @@ abbrev pub text_or_empty : Option (String Global) → List ℕ
 text_or_empty None = []
 text_or_empty (Some text) = string_bytes text
 
--- The input parses to an ordered value under the one edition, and the other has it: its canonical text, and a
+-- The input parses to an ordered value under the one version, and the other has it: its canonical text, and a
 -- newline.
-pub record IsAnswer (reading writing : Edition) (kind : FieldKind) (input text : List ℕ) : Type 0 where
+pub record IsAnswer (reading writing : Version) (kind : FieldKind) (input text : List ℕ) : Type 0 where
   pub value : RawField kind
   pub parsed : IsParsedAs reading kind input value
   pub fits : Fits writing kind value
@@ -49,28 +41,28 @@ tool_fault_text (faults.Read error) = error_text error
 tool_fault_text (faults.Write error) = serialize_error_text error
 
 -- the input is rejected, or its value is not written
-abbrev pub IsToolFault : Edition → Edition → FieldKind → List ℕ → ToolFault → Type 0
+abbrev pub IsToolFault : Version → Version → FieldKind → List ℕ → ToolFault → Type 0
 IsToolFault reading writing kind t (faults.Read error) = IsParseError reading kind t error
 IsToolFault reading writing kind t (faults.Write error) =
     (value : RawField kind) × IsParsedAs reading kind t value × IsSerializeError writing (bare_values kind value) error
 
 -- the same for a request, which ignores one final newline of the input
-abbrev pub IsAnswerTo : Field → Version → Version → List ℕ → List ℕ → Type 0
+abbrev pub IsAnswerTo : FieldKind → Version → Version → List ℕ → List ℕ → Type 0
 IsAnswerTo field reading writing input text =
-    IsAnswer (edition_of reading) (edition_of writing) (kind_of_field field) (without_newline input) text
+    IsAnswer reading writing field (without_newline input) text
 
-abbrev pub IsFaultFor : Field → Version → Version → List ℕ → ToolFault → Type 0
+abbrev pub IsFaultFor : FieldKind → Version → Version → List ℕ → ToolFault → Type 0
 IsFaultFor field reading writing input fault =
-    IsToolFault (edition_of reading) (edition_of writing) (kind_of_field field) (without_newline input) fault
+    IsToolFault reading writing field (without_newline input) fault
 
 -- the text of the input's priority, and a newline
 pub record IsPriorityAnswer (version : Version) (input text : List ℕ) : Type 0 where
   pub value : PriorityValue
-  pub read : IsPriorityOf (edition_of version) (without_newline input) value
+  pub read : IsPriorityOf version (without_newline input) value
   pub written : text ≡ priority_text value ++ codes "\n"
 
 -- the input is rejected, or memory ran out
 abbrev pub IsPriorityFault : Version → List ℕ → ToolFault → Type 0
 IsPriorityFault version input (faults.Read error) =
-    IsParseError (edition_of version) dictionary_field (without_newline input) error
+    IsParseError version dictionary_field (without_newline input) error
 IsPriorityFault version input (faults.Write error) = error ≡ serialize_errors.OutOfMemory

@@ -2,18 +2,18 @@
 use Rattle.std.specs.Prelude.{◌≡◌, ℕ, List, [], ◌∷◌, ◌⊎◌, Option, IfSome, codes}
 use Rattle.std.specs.Io.KnownBytes.{Keeps, Appends}
 use Rattle.sfv.specs.Types.{Version}
+use Rattle.sfv.specs.Types.{item_field, list_field, dictionary_field}
 use Rattle.sfv.specs.Types.versions as version
-use Rattle.sfv_answers.specs.declared.answer.Field.{Field}
-use Rattle.sfv_answers.specs.declared.answer.Field.TheVariants as field
+use Rattle.sfv.specs.Types.{FieldKind}
 use Rattle.sfv_answers.specs.declared.run.Request.{Request}
 use Rattle.sfv_answers.specs.declared.run.Request.TheVariants as request
 use Rattle.sfv_answers.specs.Answers.{IsAnswerTo, IsPriorityAnswer}
 
 -- the argument for a field type
-abbrev pub field_word : Field → List ℕ
-field_word field.Item = codes "item"
-field_word field.List = codes "list"
-field_word field.Dict = codes "dict"
+abbrev pub field_word : FieldKind → List ℕ
+field_word item_field = codes "item"
+field_word list_field = codes "list"
+field_word dictionary_field = codes "dict"
 
 -- the argument for a version
 abbrev pub version_word : Version → List ℕ
@@ -21,7 +21,7 @@ version_word version.Rfc8941 = codes "8941"
 version_word version.Rfc9651 = codes "9651"
 
 -- The arguments name this field type, the version to parse, and the version to write, which defaults to RFC 9651.
-abbrev pub NamesField : List (List ℕ) → Field → Version → Version → Type 0
+abbrev pub NamesField : List (List ℕ) → FieldKind → Version → Version → Type 0
 NamesField words field reading writing =
     (words ≡ field_word field ∷ version_word reading ∷ version_word writing ∷ [])
     ⊎ ((words ≡ field_word field ∷ version_word reading ∷ []) × (writing ≡ version.Rfc9651))
@@ -63,7 +63,7 @@ Requests words P = (request : Request) × Names words request × P request
 
 -- the arguments name no field type with its versions
 abbrev pub NamesNoField : List (List ℕ) → Type 0
-NamesNoField words = (field : Field) (reading writing : Version) → ¬ NamesField words field reading writing
+NamesNoField words = (field : FieldKind) (reading writing : Version) → ¬ NamesField words field reading writing
 
 -- the arguments do not name the Priority field with a version
 abbrev pub NamesNoPriority : List (List ℕ) → Type 0

@@ -1,30 +1,18 @@
 //! The results of the program `sfv_tool` for an input.
 
 ghost use Rattle.std.specs.Prelude.{◌≡◌, ◌++◌, Some, IfOk, IfErr, codes, string_bytes};
-ghost use Rattle.sfv.specs.BareItems.{edition_of};
 ghost use Rattle.sfv_answers.specs.Answers.{without_newline, text_or_empty, tool_fault_text};
 ghost use Rattle.sfv_answers.specs.Answers.{IsAnswer, IsToolFault, IsAnswerTo, IsFaultFor, IsPriorityAnswer, IsPriorityFault};
 ghost use Rattle.sfv.specs.Types.serialize_errors as serialize_errors;
 ghost use Rattle.sfv_answers.specs.declared.answer.ToolFault.TheVariants as faults;
 
 use sfv::{
-    Dictionary, Error, FieldType, HashSeed, Item, List, OutOfMemory, Parser, SerializeError,
-    Version,
+    Dictionary, Error, FieldKind, FieldType, HashSeed, Item, List, OutOfMemory, Parser,
+    SerializeError, Version,
 };
 use sfv_fields::priority::{read_priority, write_priority};
 use std::alloc::Global;
 use std::fmt;
-
-/// A field type that the program parses.
-#[derive(Clone, Copy, Debug, PartialEq, Eq)]
-pub enum Field {
-    /// An item.
-    Item,
-    /// A list.
-    List,
-    /// A dictionary.
-    Dict,
-}
 
 /// The error of the program for an input.
 #[derive(Clone, Copy, Debug, PartialEq, Eq)]
@@ -107,8 +95,8 @@ fn answer_as<T: FieldType>(
     input: &[u8],
 ) -> Result<String, ToolFault>
     ensures accepted { IfOk result (λ text.
-        IsAnswer (edition_of reading) (edition_of writing) T.kind input.now (string_bytes text)) }
-    ensures failed { IfErr result (IsToolFault (edition_of reading) (edition_of writing) T.kind input.now) }
+        IsAnswer reading writing T.kind input.now (string_bytes text)) }
+    ensures failed { IfErr result (IsToolFault reading writing T.kind input.now) }
 {
     let parser = Parser::new(input)
         .with_version(reading)
@@ -130,7 +118,7 @@ fn answer_as<T: FieldType>(
 pub fn answer(
     alloc: Global,
     seed: HashSeed,
-    field: Field,
+    field: FieldKind,
     reading: Version,
     writing: Version,
     input: &[u8],
@@ -140,9 +128,9 @@ pub fn answer(
 {
     let input = without_newline(input);
     match field {
-        Field::Item => answer_as::<Item>(alloc, seed, reading, writing, input),
-        Field::List => answer_as::<List>(alloc, seed, reading, writing, input),
-        Field::Dict => answer_as::<Dictionary>(alloc, seed, reading, writing, input),
+        FieldKind::Item => answer_as::<Item>(alloc, seed, reading, writing, input),
+        FieldKind::List => answer_as::<List>(alloc, seed, reading, writing, input),
+        FieldKind::Dictionary => answer_as::<Dictionary>(alloc, seed, reading, writing, input),
     }
 }
 

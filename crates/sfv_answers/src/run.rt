@@ -5,8 +5,8 @@ ghost use Rattle.std.specs.Io.KnownBytes.{Appends};
 ghost use Rattle.sfv_answers.specs.Runs.{Names, NamesNothing, Requests, IsAnswered, IsFailed, field_word, version_word};
 ghost use Rattle.sfv_answers.specs.Runs.{IsAnswerFor, NamesPriority, NamesNoField, NamesNoPriority, priority_word};
 
-use crate::answer::{Field, ToolFault, answer, answer_priority};
-use sfv::{HashSeed, Version};
+use crate::answer::{ToolFault, answer, answer_priority};
+use sfv::{FieldKind, HashSeed, Version};
 use std::alloc::Global;
 use std::io;
 use std::io::{Read, Write};
@@ -26,7 +26,7 @@ pub enum Request {
     /// A field of this type, to convert between versions.
     Field {
         /// The field type.
-        field: Field,
+        field: FieldKind,
         /// The version to parse under.
         reading: Version,
         /// The version to serialize under.
@@ -37,14 +37,14 @@ pub enum Request {
 }
 
 /// Returns the field type that the argument names.
-fn field_of(arg: &str) -> Option<Field>
+fn field_of(arg: &str) -> Option<FieldKind>
     ensures named { IfSome result (λ field. arg.now ≡ field_word field) }
-    ensures none { IfNone result ((field : Field) → ¬ (arg.now ≡ field_word field)) }
+    ensures none { IfNone result ((field : FieldKind) → ¬ (arg.now ≡ field_word field)) }
 {
     match arg {
-        "item" => Some(Field::Item),
-        "list" => Some(Field::List),
-        "dict" => Some(Field::Dict),
+        "item" => Some(FieldKind::Item),
+        "list" => Some(FieldKind::List),
+        "dict" => Some(FieldKind::Dictionary),
         _ => None,
     }
 }

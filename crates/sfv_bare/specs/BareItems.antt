@@ -1,12 +1,12 @@
 -- The values of bare items, whatever type owns their texts.
-use Rattle.std.specs.Prelude.{◌≡◌, ⊤, ℕ, ℤ, List, Bool, true, false, Option, MatchOption, string_bytes, codes}
+use Rattle.std.specs.Prelude.{◌≡◌, ⊤, ℕ, ℤ, List, Bool, true, false, Option, MatchOption, string_bytes}
 use Rattle.std.specs.Borrow.{Bor}
 use Rattle.std.specs.declared.alloc.Global.{Global}
 use Rattle.std.specs.declared.vec.Vec.{Vec}
 use Rattle.std.specs.declared.string.String as std_string
 use Rattle.std.specs.declared.borrow.CowStr.{CowStr}
 use Rattle.std.specs.declared.borrow.CowStr.TheVariants as cow
-use Rattle.sfv_spec.specs.Values.{Edition, rfc8941, rfc9651, BareValue}
+use Rattle.sfv_spec.specs.Values.{BareValue}
 use Rattle.sfv_spec.specs.Values as values
 use Rattle.sfv_base.specs.Numbers.{integer_of, thousandths_of, seconds_of}
 use Rattle.sfv_base.specs.declared.integer.Integer.{Integer}
@@ -16,8 +16,6 @@ use Rattle.sfv_bare.specs.declared.bare.GenericBareItem.{GenericBareItem}
 use Rattle.sfv_bare.specs.declared.bare.GenericBareItem.TheVariants as bare
 use Rattle.sfv_bare.specs.declared.bare.StringFromInput.{StringFromInput}
 use Rattle.sfv_bare.specs.declared.bare.StringFromInput.TheVariants as input
-use Rattle.sfv_bare.specs.declared.bare.Version.{Version}
-use Rattle.sfv_bare.specs.declared.bare.Version.TheVariants as version
 
 -- the value of a bare item, where the first arguments give the bytes of its texts
 abbrev pub value_by :
@@ -118,13 +116,3 @@ abbrev pub GivesPartBy : {S B T D A P : Type 0} → (A → BareValue) → (P →
 GivesPartBy {S} {B} {T} {D} kind content item r =
     (s : S → List ℕ) (b : B → List ℕ) (t : T → List ℕ) (d : D → List ℕ)
     → GivesPart kind content (value_by s b t d item) r
-
--- the edition of a version
-abbrev pub edition_of : Version → Edition
-edition_of version.Rfc8941 = rfc8941
-edition_of version.Rfc9651 = rfc9651
-
--- the printed text of a version
-abbrev pub version_text : Version → List ℕ
-version_text version.Rfc8941 = codes "RFC 8941"
-version_text version.Rfc9651 = codes "RFC 9651"

@@ -1,9 +1,9 @@
-//! Bare items (RFC 9651, section 3.3), and the versions of the standard.
+//! Bare items (RFC 9651, section 3.3).
 
 ghost use Rattle.std.specs.Prelude.{◌≡◌, Some};
 ghost use Rattle.sfv_spec.specs.Texts.{RunOf};
 ghost use Rattle.sfv_spec.specs.Values.{is_byte};
-ghost use Rattle.sfv_bare.specs.BareItems.{IsCopyBy, TakesNoMemoryBy, version_text};
+ghost use Rattle.sfv_bare.specs.BareItems.{IsCopyBy, TakesNoMemoryBy};
 ghost use Rattle.sfv_bare.specs.Kinds.{kind_text};
 
 mod accessors;
@@ -83,7 +83,7 @@ pub enum StringFromInput<'a> {
 // bare item.
 #[inline(always)]
 #[tactic(auto, using(crate::proofs::Bytes::run_of_bytes))]
-fn lent(bytes: &[u8]) -> &[u8]
+fn with_bytes_invariant(bytes: &[u8]) -> &[u8]
     ensures value { result.now ≡ bytes.now }
     ensures bytes { RunOf is_byte result.now }
 {
@@ -106,34 +106,6 @@ impl<S: Clone, B: Clone, T: Clone, D: Clone> Clone for GenericBareItem<S, B, T, 
             GenericBareItem::Date(value) => GenericBareItem::Date(*value),
             GenericBareItem::DisplayString(text) => GenericBareItem::DisplayString(text.clone()?),
         })
-    }
-}
-
-/// A version of the standard.
-#[derive(Clone, Copy, Debug, PartialEq, Eq)]
-pub enum Version {
-    /// RFC 8941. It lacks dates and display strings.
-    Rfc8941,
-    /// RFC 9651.
-    Rfc9651,
-}
-
-impl Version {
-    fn name(self) -> &'static str
-        ensures { result.now ≡ version_text self }
-    {
-        match self {
-            Version::Rfc8941 => "RFC 8941",
-            Version::Rfc9651 => "RFC 9651",
-        }
-    }
-}
-
-impl fmt::Display for Version {
-    ghost output = { λ v. Some (version_text v) };
-
-    fn fmt<W: fmt::Write>(&self, f: &mut fmt::Formatter<W>) -> fmt::Result {
-        f.write_str(self.name())
     }
 }
 

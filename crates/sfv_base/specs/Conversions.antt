@@ -2,7 +2,7 @@
 use Rattle.std.specs.Prelude.{◌≡◌, ℕ, ◌-◌, ◌<◌, ◌^◌, None, Result, MatchResult}
 use Rattle.std.specs.Prelude.{ℤ, pos, neg_ℤ, nat_abs, ◌*ℤ◌, ◌≤ℤ◌, ◌<ℤ◌}
 use Rattle.sfv_base.specs.declared.error.Error.{Error}
-use Rattle.sfv_base.specs.declared.error.ErrorKind.TheVariants.{OutOfRange}
+use Rattle.sfv_spec.specs.declared.error_kind.ErrorKind.TheVariants.{OutOfRange}
 use Rattle.sfv_base.specs.Errors.{error_of}
 
 -- the number is in the range of a signed type with this many bits

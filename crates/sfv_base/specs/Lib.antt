@@ -2,7 +2,6 @@ pub mod Conversions
 pub mod Digits
 pub mod Errors
 pub mod Lanes
-pub mod Messages
 pub mod Numbers
 pub mod ParseErrors
 pub mod Rows

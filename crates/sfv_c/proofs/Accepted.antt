@@ -2,14 +2,15 @@
 use Rattle.std.proofs.Common.{◌≡◌, ℕ, List, [], ◌∷◌, ◌++◌, length, flat_map, refl, sym, ◌∙◌, ap, subst, append_assoc}
 use Rattle.std.proofs.Common.{true, Option, Some, None, MatchOption}
 use Rattle.std.proofs.lemmas.List.{append-nil}
-use Rattle.sfv.specs.Values.{FieldKind, item_field, list_field, dictionary_field, boolean, RawParameters, RawItem}
+use Rattle.sfv.specs.Values.{boolean, RawParameters, RawItem}
+use Rattle.sfv.specs.Types.{FieldKind, item_field, list_field, dictionary_field}
 use Rattle.sfv.specs.Values.{RawInnerList, RawMember, item, inner_list, RawField}
 use Rattle.sfv.specs.Events.{TreeEvent, entry, keyed_entry, begins_item, begins_inner_list, bare_item, parameter}
 use Rattle.sfv.specs.Events.{parameters_end, inner_list_end, parameters_events, item_events, inner_item_events}
 use Rattle.sfv.specs.Events.{member_events, entry_events, keyed_events, events}
 use Rattle.sfv.specs.Visiting.{BeginsEvents}
-use Rattle.sfv_c.specs.Parts.{Place, ended, list_members, dictionary_members, member, value, parameters, items, after}
-use Rattle.sfv_c.specs.Parts.{stops, beginning}
+use Rattle.sfv_c.specs.RowEvents.{ParseState, ended, list_members, dictionary_members, member, value, parameters, items, after}
+use Rattle.sfv_c.specs.RowEvents.{stops, beginning}
 use Rattle.sfv_c.proofs.Valid.{AreValid, valid_field, valid_together}
 
 -- the events of an inner list after the one that begins it
@@ -17,7 +18,7 @@ abbrev inside : RawInnerList → List TreeEvent
 inside l = flat_map inner_item_events l.items ++ inner_list_end ∷ parameters_events l.parameters
 
 -- these are the events of what a place wants, to the end of the field
-abbrev IsRest : Place → List TreeEvent → Type 0
+abbrev IsRest : ParseState → List TreeEvent → Type 0
 IsRest ended es = es ≡ []
 IsRest list_members es = (ms : List RawMember) × (es ≡ flat_map entry_events ms)
 IsRest dictionary_members es = (ms : List (List ℕ × RawMember)) × (es ≡ flat_map keyed_events ms)
@@ -27,7 +28,7 @@ IsRest (parameters p) es =
     (ps : RawParameters) × (rest : List TreeEvent) × (es ≡ parameters_events ps ++ rest) × IsRest p rest
 IsRest (items p) es = (l : RawInnerList) × (rest : List TreeEvent) × (es ≡ inside l ++ rest) × IsRest p rest
 
-none_left : (p : Place) → stops p [] ≡ None → IsRest p []
+none_left : (p : ParseState) → stops p [] ≡ None → IsRest p []
 none_left ended h = refl
 none_left list_members h = ([], refl)
 none_left dictionary_members h = ([], refl)
@@ -39,7 +40,7 @@ none_left (items p) h = absurd (cc)
 regroup : (a b c d : List TreeEvent) → a ++ ((b ++ c) ++ d) ≡ ((a ++ b) ++ c) ++ d
 regroup a b c d = simp append_assoc
 
-one_more : (p : Place) (e : TreeEvent) (es : List TreeEvent) → MatchOption (after p e) ⊥ (λ q. IsRest q es)
+one_more : (p : ParseState) (e : TreeEvent) (es : List TreeEvent) → MatchOption (after p e) ⊥ (λ q. IsRest q es)
     → IsRest p (e ∷ es)
 one_more list_members entry es h =
     (h.0 ∷ h.3.0, ap (λ (x : List TreeEvent). entry ∷ x) (h.2 ∙ ap (λ (x : List TreeEvent). member_events h.0 ++ x) h.3.1))
@@ -72,13 +73,13 @@ one_more (items p) inner_list_end es h = (
 )
 one_more p e es h = absurd h
 
-read_on : (e : TreeEvent) (es : List TreeEvent) → ((q : Place) → stops q es ≡ None → IsRest q es) → (o : Option Place)
+read_on : (e : TreeEvent) (es : List TreeEvent) → ((q : ParseState) → stops q es ≡ None → IsRest q es) → (o : Option ParseState)
     → ◌≡◌ {A = Option ℕ} (elim o [ None ↦ Some (length (e ∷ es)) | Some next ↦ stops next es ]) None
     → MatchOption o ⊥ (λ q. IsRest q es)
 read_on e es f None h = cc
 read_on e es f (Some q) h = f q h
 
-is_rest : (p : Place) (es : List TreeEvent) → stops p es ≡ None → IsRest p es
+is_rest : (p : ParseState) (es : List TreeEvent) → stops p es ≡ None → IsRest p es
 is_rest p [] h = none_left p h
 is_rest p (e ∷ es) h = one_more p e es (read_on e es (λ q. is_rest q es) (after p e) h)
 
@@ -91,7 +92,7 @@ field_of_events list_field es h = is_rest list_members es h
 field_of_events dictionary_field es h = is_rest dictionary_members es h
 
 -- events that may end a field from here on
-abbrev completion : Place → List TreeEvent
+abbrev completion : ParseState → List TreeEvent
 completion ended = []
 completion list_members = []
 completion dictionary_members = []
@@ -100,7 +101,7 @@ completion (value p) = bare_item (boolean true) ∷ parameters_end ∷ completio
 completion (parameters p) = parameters_end ∷ completion p
 completion (items p) = inner_list_end ∷ parameters_end ∷ completion p
 
-completed : (p : Place) → stops p (completion p) ≡ None
+completed : (p : ParseState) → stops p (completion p) ≡ None
 completed ended = refl
 completed list_members = refl
 completed dictionary_members = refl
@@ -109,7 +110,7 @@ completed (value p) = completed p
 completed (parameters p) = completed p
 completed (items p) = completed p
 
-valid_completion : (p : Place) → AreValid (completion p)
+valid_completion : (p : ParseState) → AreValid (completion p)
 valid_completion ended = tt
 valid_completion list_members = tt
 valid_completion dictionary_members = tt
@@ -119,7 +120,7 @@ valid_completion (parameters p) = (tt, valid_completion p)
 valid_completion (items p) = (tt, (tt, valid_completion p))
 
 -- valid events that lead to a place begin those of a field
-pub begin_field : (kind : FieldKind) (es : List TreeEvent) (p : Place) → AreValid es
+pub begin_field : (kind : FieldKind) (es : List TreeEvent) (p : ParseState) → AreValid es
     → ((more : List TreeEvent) → stops (beginning kind) (es ++ more) ≡ stops p more) → BeginsEvents kind es
 begin_field kind es p v read =
     let f = field_of_events kind (es ++ completion p) (read (completion p) ∙ completed p) in

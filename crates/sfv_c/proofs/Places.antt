@@ -3,28 +3,28 @@ use Rattle.std.proofs.Common.{◌≡◌, ℕ, List, [], ◌∷◌, ◌++◌, map
 use Rattle.sfv.specs.Values.{RawParameters, RawItem, RawMember, item, inner_list}
 use Rattle.sfv.specs.Events.{TreeEvent, parameter, inner_list_end, parameters_events, item_events}
 use Rattle.sfv.specs.Events.{inner_item_events, member_events, entry_events, keyed_events}
-use Rattle.sfv_c.specs.Parts.{Place, list_members, dictionary_members, member, value, parameters, items, stops}
+use Rattle.sfv_c.specs.RowEvents.{ParseState, list_members, dictionary_members, member, value, parameters, items, stops}
 
-pub stops_parameters : (p : Place) (ps : RawParameters) (es : List TreeEvent)
+pub stops_parameters : (p : ParseState) (ps : RawParameters) (es : List TreeEvent)
     → stops (parameters p) (map (λ q. parameter q.0 q.1) ps ++ es) ≡ stops (parameters p) es
 stops_parameters p [] es = refl
 stops_parameters p (q ∷ ps) es = stops_parameters p ps es
 
-pub stops_all_parameters : (p : Place) (ps : RawParameters) (es : List TreeEvent)
+pub stops_all_parameters : (p : ParseState) (ps : RawParameters) (es : List TreeEvent)
     → stops (parameters p) (parameters_events ps ++ es) ≡ stops p es
 stops_all_parameters p [] es = refl
 stops_all_parameters p (q ∷ ps) es = stops_all_parameters p ps es
 
-pub stops_item : (p : Place) (i : RawItem) (es : List TreeEvent) → stops (value p) (item_events i ++ es) ≡ stops p es
+pub stops_item : (p : ParseState) (i : RawItem) (es : List TreeEvent) → stops (value p) (item_events i ++ es) ≡ stops p es
 stops_item p i es = stops_all_parameters p i.parameters es
 
-pub stops_items : (p : Place) (is : List RawItem) (es : List TreeEvent)
+pub stops_items : (p : ParseState) (is : List RawItem) (es : List TreeEvent)
     → stops (items p) (flat_map inner_item_events is ++ es) ≡ stops (items p) es
 stops_items p [] es = refl
 stops_items p (i ∷ is) es = rw (append_assoc (inner_item_events i) (flat_map inner_item_events is) es)
     (stops_item (items p) i (flat_map inner_item_events is ++ es) ∙ stops_items p is es)
 
-pub stops_member : (p : Place) (m : RawMember) (es : List TreeEvent)
+pub stops_member : (p : ParseState) (m : RawMember) (es : List TreeEvent)
     → stops (member p) (member_events m ++ es) ≡ stops p es
 stops_member p (item i) es = stops_item p i es
 stops_member p (inner_list l) es =

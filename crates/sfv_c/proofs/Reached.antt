@@ -3,25 +3,25 @@ use Rattle.std.specs.Prelude.{⊤}
 use Rattle.std.proofs.Common.{◌≡◌, ℕ, ◌-◌, List, [], ◌∷◌, ◌++◌, length, refl, sym, ◌∙◌, ap, subst, arith, append_assoc}
 use Rattle.std.proofs.Common.{length-append, Bool, true, false, Option, Some, None, if◌then◌else◌}
 use Rattle.sfv.specs.Events.{TreeEvent}
-use Rattle.sfv_c.specs.Parts.{Place, stops, after, may_end}
+use Rattle.sfv_c.specs.RowEvents.{ParseState, stops, after, may_end}
 use Rattle.sfv_c.proofs.Stops.{no_place, a_place}
 
 -- no event may follow here, or there is none
-abbrev pub IsStuck : Place → List TreeEvent → Type 0
+abbrev pub IsStuck : ParseState → List TreeEvent → Type 0
 IsStuck p [] = ⊤
 IsStuck p (e ∷ es) = after p e ≡ None
 
 -- how far events are read: the front leads to a place, and the rest is stuck there
-pub record ReadsTo (p : Place) (es : List TreeEvent) : Type 0 where
+pub record ReadsTo (p : ParseState) (es : List TreeEvent) : Type 0 where
   pub front : List TreeEvent
   pub rest : List TreeEvent
-  pub place : Place
+  pub place : ParseState
   pub split : es ≡ front ++ rest
   pub leads : (more : List TreeEvent) → stops p (front ++ more) ≡ stops place more
   pub stuck : IsStuck place rest
 
-reads_one : (p : Place) (e : TreeEvent) (es : List TreeEvent) (o : Option Place) → after p e ≡ o
-    → ((q : Place) → ReadsTo q es) → ReadsTo p (e ∷ es)
+reads_one : (p : ParseState) (e : TreeEvent) (es : List TreeEvent) (o : Option ParseState) → after p e ≡ o
+    → ((q : ParseState) → ReadsTo q es) → ReadsTo p (e ∷ es)
 reads_one p e es None h f =
     record { front = []; rest = e ∷ es; place = p; split = refl; leads = λ more. refl; stuck = h }
 reads_one p e es (Some q) h f =
@@ -35,7 +35,7 @@ reads_one p e es (Some q) h f =
       stuck = r.stuck;
     }
 
-pub reads_to : (p : Place) (es : List TreeEvent) → ReadsTo p es
+pub reads_to : (p : ParseState) (es : List TreeEvent) → ReadsTo p es
 reads_to p [] = record { front = []; rest = []; place = p; split = refl; leads = λ more. refl; stuck = tt }
 reads_to p (e ∷ es) = reads_one p e es (after p e) refl (λ q. reads_to q es)
 
@@ -43,18 +43,18 @@ ends_early : (b : Bool) (left : ℕ) → if◌then◌else◌ {A = Option ℕ} b 
 ends_early true left h = cc
 ends_early false left h = cc
 
-left_here : (p : Place) (es : List TreeEvent) (left : ℕ) → IsStuck p es → stops p es ≡ Some left → length es ≡ left
+left_here : (p : ParseState) (es : List TreeEvent) (left : ℕ) → IsStuck p es → stops p es ≡ Some left → length es ≡ left
 left_here p [] left k h = ends_early (may_end p) left h
 left_here p (e ∷ es) left k h = let n = no_place p e es k in cc
 
-none_here : (p : Place) (es : List TreeEvent) → IsStuck p es → stops p es ≡ None → length es ≡ 0
+none_here : (p : ParseState) (es : List TreeEvent) → IsStuck p es → stops p es ≡ None → length es ≡ 0
 none_here p [] k h = refl
 none_here p (e ∷ es) k h = let n = no_place p e es k in cc
 
-pub stops_there : (p : Place) (es : List TreeEvent) (r : ReadsTo p es) → stops p es ≡ stops r.place r.rest
+pub stops_there : (p : ParseState) (es : List TreeEvent) (r : ReadsTo p es) → stops p es ≡ stops r.place r.rest
 stops_there p es r = ap (stops p) r.split ∙ r.leads r.rest
 
-pub front_length : (p : Place) (es : List TreeEvent) (r : ReadsTo p es) (left : ℕ) → stops p es ≡ Some left
+pub front_length : (p : ParseState) (es : List TreeEvent) (r : ReadsTo p es) (left : ℕ) → stops p es ≡ Some left
     → length r.front ≡ length es - left
 front_length p es r left h = omega (
   arith,
@@ -63,7 +63,7 @@ front_length p es r left h = omega (
   left_here r.place r.rest left r.stuck (sym (stops_there p es r) ∙ h),
 )
 
-pub whole_length : (p : Place) (es : List TreeEvent) (r : ReadsTo p es) → stops p es ≡ None
+pub whole_length : (p : ParseState) (es : List TreeEvent) (r : ReadsTo p es) → stops p es ≡ None
     → length r.front ≡ length es
 whole_length p es r h = omega (
   arith,
@@ -73,7 +73,7 @@ whole_length p es r h = omega (
 )
 
 -- what begins with these events and one more that can't follow them is no field's
-pub stuck_after : (p : Place) (es : List TreeEvent) (r : ReadsTo p es) (e : TreeEvent) (others more : List TreeEvent)
+pub stuck_after : (p : ParseState) (es : List TreeEvent) (r : ReadsTo p es) (e : TreeEvent) (others more : List TreeEvent)
     → r.rest ≡ e ∷ others → stops p ((r.front ++ e ∷ []) ++ more) ≡ None → ⊥
 stuck_after p es r e others more h n =
     let stuck : after r.place e ≡ None = subst (IsStuck r.place) h r.stuck in

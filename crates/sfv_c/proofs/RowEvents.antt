@@ -5,17 +5,17 @@ use Rattle.std.proofs.Math.ListN.{drop_of_length-le}
 use Rattle.std.proofs.lemmas.List.{append-nil}
 use Rattle.sfv.specs.Events.{TreeEvent}
 use Rattle.sfv_c.specs.declared.rows.Row.{Row}
-use Rattle.sfv_c.specs.Rows.{Parts, parts_of}
-use Rattle.sfv_c.specs.Writing.{IsRowOf, IsRowOfParts, AreRowsOf}
-use Rattle.sfv_c.specs.Parts.{IsValidEvent, AreEventsOf}
+use Rattle.sfv_c.specs.Rows.{EventNumbers, numbers_of}
+use Rattle.sfv_c.specs.Writing.{IsRowOf, IsRowOfNumbers, AreRowsOf}
+use Rattle.sfv_c.specs.RowEvents.{IsValidEvent, AreEventsOf}
 use Rattle.sfv_c.proofs.Unique.{same_event}
 use Rattle.sfv_c.proofs.Valid.{AreValid}
 
 -- a row is that of one event alone
-made_of : ℕ → List ℕ → ℕ → ℤ → List ℕ → Parts
+made_of : ℕ → List ℕ → ℕ → ℤ → List ℕ → EventNumbers
 made_of t k n z b = record { tag = t; key = k; value = record { kind = n; number = z; bytes = b } }
 
-made_whole : (p : Parts) → made_of p.tag p.key p.value.kind p.value.number p.value.bytes ≡ p
+made_whole : (p : EventNumbers) → made_of p.tag p.key p.value.kind p.value.number p.value.bytes ≡ p
 unfolding made_of
 made_whole p = refl
 
@@ -23,7 +23,7 @@ made_same : (t t' : ℕ) (k k' : List ℕ) (n n' : ℕ) (z z' : ℤ) (b b' : Lis
     → b ≡ b' → made_of t k n z b ≡ made_of t' k' n' z' b'
 made_same t t' k k' n n' z z' b b' e1 e2 e3 e4 e5 = cc
 
-pub same_row : (bytes : List ℕ) (row : Row) (p q : Parts) → IsRowOfParts bytes row p → IsRowOfParts bytes row q → p ≡ q
+pub same_row : (bytes : List ℕ) (row : Row) (p q : EventNumbers) → IsRowOfNumbers bytes row p → IsRowOfNumbers bytes row q → p ≡ q
 same_row bytes row p q h k =
     sym (made_whole p) ∙ (made_same p.tag q.tag p.key q.key p.value.kind q.value.kind p.value.number q.value.number
     p.value.bytes q.value.bytes
@@ -45,7 +45,7 @@ module _ (bytes : List ℕ) where
   only_events (r ∷ rs) (e ∷ es) [] d v h = absurd h
   only_events (r ∷ rs) (e ∷ es) (o ∷ os) d v h =
       let i = only_events rs es os d.2 v.1 h.1 in
-      let x : o ≡ e = same_event o e (same_row bytes r (parts_of o) (parts_of e) h.0 d.1) in
+      let x : o ≡ e = same_event o e (same_row bytes r (numbers_of o) (numbers_of e) h.0 d.1) in
       let y = i.0 in
       (cc, ap suc i.1)
 

@@ -4,10 +4,10 @@ use Rattle.std.specs.Ordering.{int_eq}
 use Rattle.sfv.specs.Values.{BareValue, IsBareValue, integer, decimal, string, token, byte_sequence, boolean, date, display_string}
 use Rattle.sfv.specs.Events.{TreeEvent, entry, keyed_entry, begins_item, begins_inner_list, bare_item, parameter}
 use Rattle.sfv.specs.Events.{parameters_end, inner_list_end}
-use Rattle.sfv_c.specs.Rows.{ValueParts, Parts, value_parts, parts_of}
-use Rattle.sfv_c.specs.Parts.{IsValidEvent}
+use Rattle.sfv_c.specs.Rows.{ValueNumbers, EventNumbers, value_numbers, numbers_of}
+use Rattle.sfv_c.specs.RowEvents.{IsValidEvent}
 
-abbrev pub value_from : ValueParts → BareValue
+abbrev pub value_from : ValueNumbers → BareValue
 value_from p =
     if p.kind == 1 then integer p.number
     else if p.kind == 2 then decimal p.number
@@ -18,7 +18,7 @@ value_from p =
     else if p.kind == 7 then date p.number
     else display_string p.bytes
 
-value_back : (v : BareValue) → value_from (value_parts (Some v)) ≡ v
+value_back : (v : BareValue) → value_from (value_numbers (Some v)) ≡ v
 value_back (integer z) = refl
 value_back (decimal z) = refl
 value_back (string s) = refl
@@ -30,14 +30,14 @@ value_back (date z) = refl
 value_back (display_string s) = refl
 
 -- what the only value of these parts would be isn't, so none is
-pub no_value : (p : ValueParts) (v : BareValue) → value_from p ≡ v
-    → (IsBareValue v → value_parts (Some v) ≡ p → ⊥)
-    → (u : BareValue) → IsBareValue u → value_parts (Some u) ≡ p → ⊥
+pub no_value : (p : ValueNumbers) (v : BareValue) → value_from p ≡ v
+    → (IsBareValue v → value_numbers (Some v) ≡ p → ⊥)
+    → (u : BareValue) → IsBareValue u → value_numbers (Some u) ≡ p → ⊥
 no_value p v h n u valid e =
     let same : u ≡ v = sym (value_back u) ∙ (ap value_from e ∙ h) in
-    n (subst IsBareValue same valid) (subst (λ x. value_parts (Some x) ≡ p) same e)
+    n (subst IsBareValue same valid) (subst (λ x. value_numbers (Some x) ≡ p) same e)
 
-abbrev pub event_from : Parts → TreeEvent
+abbrev pub event_from : EventNumbers → TreeEvent
 event_from p =
     if p.tag == 1 then entry
     else if p.tag == 2 then keyed_entry p.key
@@ -48,7 +48,7 @@ event_from p =
     else if p.tag == 7 then parameters_end
     else inner_list_end
 
-event_back : (e : TreeEvent) → event_from (parts_of e) ≡ e
+event_back : (e : TreeEvent) → event_from (numbers_of e) ≡ e
 event_back entry = refl
 event_back (keyed_entry key) = refl
 event_back begins_item = refl
@@ -58,20 +58,20 @@ event_back (parameter key v) = ap (parameter key) (value_back v)
 event_back parameters_end = refl
 event_back inner_list_end = refl
 
-pub same_event : (a b : TreeEvent) → parts_of a ≡ parts_of b → a ≡ b
+pub same_event : (a b : TreeEvent) → numbers_of a ≡ numbers_of b → a ≡ b
 same_event a b e = sym (event_back a) ∙ (ap event_from e ∙ event_back b)
 
-pub no_event : (p : Parts) (a : TreeEvent) → event_from p ≡ a → (IsValidEvent a → parts_of a ≡ p → ⊥)
-    → (e : TreeEvent) → IsValidEvent e → parts_of e ≡ p → ⊥
+pub no_event : (p : EventNumbers) (a : TreeEvent) → event_from p ≡ a → (IsValidEvent a → numbers_of a ≡ p → ⊥)
+    → (e : TreeEvent) → IsValidEvent e → numbers_of e ≡ p → ⊥
 no_event p a h n e valid q =
     let same : e ≡ a = sym (event_back e) ∙ (ap event_from q ∙ h) in
-    n (subst IsValidEvent same valid) (subst (λ x. parts_of x ≡ p) same q)
+    n (subst IsValidEvent same valid) (subst (λ x. numbers_of x ≡ p) same q)
 
 -- by the number of a kind
-pub kind_is : (p : ValueParts) (k : ℕ) → p.kind ≡ k
+pub kind_is : (p : ValueNumbers) (k : ℕ) → p.kind ≡ k
     → value_from p ≡ value_from (record { kind = k; number = p.number; bytes = p.bytes })
 kind_is p k h = ap (λ n. value_from (record { kind = n; number = p.number; bytes = p.bytes })) h
 
-pub tag_is : (p : Parts) (t : ℕ) → p.tag ≡ t
+pub tag_is : (p : EventNumbers) (t : ℕ) → p.tag ≡ t
     → event_from p ≡ event_from (record { tag = t; key = p.key; value = p.value })
 tag_is p t h = ap (λ n. event_from (record { tag = n; key = p.key; value = p.value })) h

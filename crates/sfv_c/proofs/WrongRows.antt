@@ -1,12 +1,13 @@
 -- Where rows go wrong.
 use Rattle.std.proofs.Common.{◌≡◌, ℕ, suc, ◌+◌, ◌<◌, List, [], ◌∷◌, ◌++◌, length, take, refl, sym, ◌∙◌, ap, subst, arith}
 use Rattle.std.proofs.Common.{length-append, Bool, true, false, IsTrue, Option, Some, None}
-use Rattle.sfv.specs.Values.{FieldKind, RawField}
+use Rattle.sfv.specs.Values.{RawField}
+use Rattle.sfv.specs.Types.{FieldKind}
 use Rattle.sfv.specs.Events.{TreeEvent, events}
 use Rattle.sfv_c.specs.declared.rows.Row.{Row}
-use Rattle.sfv_c.specs.Rows.{parts_of}
+use Rattle.sfv_c.specs.Rows.{numbers_of}
 use Rattle.sfv_c.specs.Writing.{AreRowsOf, AreRowsOfField, BeginRowsOfField, AreWrongAt}
-use Rattle.sfv_c.specs.Parts.{AreEventsOf, stops, beginning, IsWrongAfter}
+use Rattle.sfv_c.specs.RowEvents.{AreEventsOf, stops, beginning, IsWrongAfter}
 use Rattle.sfv_c.proofs.Unique.{same_event}
 use Rattle.sfv_c.proofs.Valid.{AreValid, valid_first, field_valid, field_read}
 use Rattle.sfv_c.proofs.Accepted.{begin_field}
@@ -33,13 +34,13 @@ module _ (bytes : List ℕ) where
     e,
     es,
     refl,
-    ap (λ (x : TreeEvent). x ∷ []) (same_event o e (same_row bytes r (parts_of o) (parts_of e) h.0 d.1)),
+    ap (λ (x : TreeEvent). x ∷ []) (same_event o e (same_row bytes r (numbers_of o) (numbers_of e) h.0 d.1)),
   )
   next_event (r ∷ rs) [] (e ∷ es) (o ∷ (x ∷ xs)) d v h l = absurd h.1
   next_event (r ∷ rs) (f ∷ fs) rest [] d v h l = absurd h
   next_event (r ∷ rs) (f ∷ fs) rest (o ∷ os) d v h l =
       let i = next_event rs fs rest os d.2 v.1 h.1 (omega (arith, l)) in
-      let x : o ≡ f = same_event o f (same_row bytes r (parts_of o) (parts_of f) h.0 d.1) in
+      let x : o ≡ f = same_event o f (same_row bytes r (numbers_of o) (numbers_of f) h.0 d.1) in
       let y = i.3 in
       (i.0, i.1, i.2, cc)
 

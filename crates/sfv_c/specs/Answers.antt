@@ -1,21 +1,24 @@
 -- The results of the C calls.
 use Rattle.std.specs.Prelude.{◌≡◌, ◌<◌, ℕ, List, length, drop, ◌++◌, Option, Some, None, Result, Ok, Err, MatchOption}
-use Rattle.sfv.specs.Values.{Edition, FieldKind, RawField, HasMember}
+use Rattle.sfv.specs.Values.{RawField, HasMember}
+use Rattle.sfv.specs.Types.{FieldKind}
+use Rattle.sfv.specs.Types.{Version}
 use Rattle.sfv.specs.Grammar.{IsAccepted}
-use Rattle.sfv.specs.Events.{bare_values}
+use Rattle.sfv.specs.Values.{bare_values}
 use Rattle.sfv.specs.Statements.{IsParsedAs, IsSerializedAs}
 use Rattle.sfv.specs.Parsers.{IsParseError}
 use Rattle.sfv.specs.Memory.{HoldsMark, NeedsMoreThanSpaces}
 use Rattle.sfv.specs.Messages.{message_of}
 use Rattle.sfv.specs.Errors.{kind_of, index_of, out_of_memory}
 use Rattle.sfv.specs.Versions.{IsSerializeError}
-use Rattle.sfv.specs.Types.{Error, ErrorKind}
+use Rattle.sfv.specs.Types.{Error}
+use Rattle.sfv.specs.Types.{ErrorKind}
 use Rattle.sfv.specs.Types.serialize_errors as serialize_errors
 use Rattle.sfv_c.specs.declared.answer.Answer.{Answer}
 use Rattle.sfv_c.specs.declared.answer.Written.{Written}
 use Rattle.sfv_c.specs.declared.answer.Written.TheVariants as written
-use Rattle.sfv_c.specs.declared.answer.Fault.{Fault}
-use Rattle.sfv_c.specs.declared.answer.Fault.TheVariants as faults
+use Rattle.sfv_c.specs.declared.answer.CallFault.{CallFault}
+use Rattle.sfv_c.specs.declared.answer.CallFault.TheVariants as faults
 use Rattle.sfv_c.specs.Numbers.{kind_number, type_number, IsKindOf}
 
 -- the result with these numbers
@@ -48,7 +51,7 @@ bad_argument = answer 5 0 0 0 0
 
 -- The result of an error of parsing or of writing. Status 6 has the kind of the unsupported value, and status 7 the
 -- index of a row.
-abbrev pub fault_answer : Fault → Answer
+abbrev pub fault_answer : CallFault → Answer
 fault_answer (faults.Read e) = refusal e
 fault_answer (faults.Write serialize_errors.OutOfMemory) = refusal out_of_memory
 fault_answer (faults.Write (serialize_errors.Unsupported kind)) = answer 6 (type_number kind) 0 0 0
@@ -66,36 +69,36 @@ abbrev pub PutsText : Option (List ℕ) → List ℕ → List ℕ → Written �
 PutsText (Some text) old new w = Puts text old new w
 PutsText None old new w = (w ≡ written.Nothing) × (new ≡ old)
 
--- the input parses to this value under the one edition, and its text for the other is in the buffer
-pub record IsPut (reading writing : Edition) (kind : FieldKind) (input old new : List ℕ) (w : Written) : Type 0 where
+-- the input parses to this value under the one version, and its text for the other is in the buffer
+pub record IsPut (reading writing : Version) (kind : FieldKind) (input old new : List ℕ) (w : Written) : Type 0 where
   pub value : RawField kind
   pub parsed : IsParsedAs reading kind input value
   pub text : Option (List ℕ)
   pub serialized : IsSerializedAs writing kind value text
   pub put : PutsText text old new w
 
--- The input is rejected by the one edition, or the other lacks a value of it. Parsing allocates only if the input
+-- The input is rejected by the one version, or the other lacks a value of it. Parsing allocates only if the input
 -- contains more than spaces, and writing only if there is a member.
-abbrev pub IsFault : Edition → Edition → FieldKind → List ℕ → Fault → Type 0
+abbrev pub IsFault : Version → Version → FieldKind → List ℕ → CallFault → Type 0
 IsFault reading writing kind input (faults.Read e) = IsParseError reading kind input e × NeedsMoreThanSpaces input e
 IsFault reading writing kind input (faults.Write e) = (value : RawField kind) × IsParsedAs reading kind input value
     × HasMember kind value × IsSerializeError writing (bare_values kind value) e
 IsFault reading writing kind input (faults.Rows n) = ⊥
 
 -- the outcome of writing the canonical text, and the buffer after it
-abbrev pub IsOutcome : Edition → Edition → FieldKind → List ℕ → List ℕ → List ℕ → Result Written Fault → Type 0
+abbrev pub IsOutcome : Version → Version → FieldKind → List ℕ → List ℕ → List ℕ → Result Written CallFault → Type 0
 IsOutcome reading writing kind input old new (Ok w) = IsPut reading writing kind input old new w
 IsOutcome reading writing kind input old new (Err fault) = IsFault reading writing kind input fault × (new ≡ old)
 
 -- the result for an outcome
-abbrev pub outcome_answer : Result Written Fault → Answer
+abbrev pub outcome_answer : Result Written CallFault → Answer
 outcome_answer (Ok w) = written_answer w
 outcome_answer (Err fault) = fault_answer fault
 
 -- The input is parsed and its value written, or one of both fails. The result encodes the outcome.
-pub record IsCanonical (reading writing : Edition) (kind : FieldKind) (input old new : List ℕ) (a : Answer)
+pub record IsCanonical (reading writing : Version) (kind : FieldKind) (input old new : List ℕ) (a : Answer)
     : Type 0 where
-  pub outcome : Result Written Fault
+  pub outcome : Result Written CallFault
   pub is_outcome : IsOutcome reading writing kind input old new outcome
   pub in_numbers : a ≡ outcome_answer outcome
 
@@ -105,18 +108,18 @@ check_answer None = answer 0 0 0 0 0
 check_answer (Some e) = refusal e
 
 -- the error of `parse`; out of memory only if the input contains an allocating byte
-abbrev pub IsReadingError : Edition → FieldKind → List ℕ → Error → Type 0
-IsReadingError edition kind input e = IsParseError edition kind input e × (e ≡ out_of_memory → HoldsMark input)
+abbrev pub IsReadingError : Version → FieldKind → List ℕ → Error → Type 0
+IsReadingError version kind input e = IsParseError version kind input e × (e ≡ out_of_memory → HoldsMark input)
 
 -- the input is accepted, or has this error
-abbrev pub IsJudged : Edition → FieldKind → List ℕ → Option Error → Type 0
-IsJudged edition kind input None = IsAccepted edition kind input
-IsJudged edition kind input (Some e) = IsReadingError edition kind input e
+abbrev pub IsJudged : Version → FieldKind → List ℕ → Option Error → Type 0
+IsJudged version kind input None = IsAccepted version kind input
+IsJudged version kind input (Some e) = IsReadingError version kind input e
 
 -- the result says whether the input is accepted, and otherwise its error
-pub record IsCheck (edition : Edition) (kind : FieldKind) (input : List ℕ) (a : Answer) : Type 0 where
+pub record IsCheck (version : Version) (kind : FieldKind) (input : List ℕ) (a : Answer) : Type 0 where
   pub outcome : Option Error
-  pub judged : IsJudged edition kind input outcome
+  pub judged : IsJudged version kind input outcome
   pub in_numbers : a ≡ check_answer outcome
 
 -- the message of this kind is in the buffer

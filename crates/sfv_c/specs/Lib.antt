@@ -1,7 +1,7 @@
 pub mod Numbers
 pub mod Answers
 pub mod Rows
-pub mod Lent
-pub mod Collected
+pub mod Events
+pub mod EventsWhole
 pub mod Writing
-pub mod Parts
+pub mod RowEvents

@@ -1,26 +1,19 @@
 -- The numbers of field types, versions and kinds in C.
 use Rattle.std.specs.Prelude.{◌≡◌, ℕ, Option, Some, None, ◌==◌, if◌then◌else◌}
-use Rattle.sfv.specs.Values.{Edition, FieldKind, item_field, list_field, dictionary_field}
-use Rattle.sfv.specs.BareItems.{edition_of}
-use Rattle.sfv.specs.Types.{ErrorKind, BareItemType, Version}
+use Rattle.sfv.specs.Types.{FieldKind, item_field, list_field, dictionary_field}
+use Rattle.sfv.specs.Types.{Version}
+use Rattle.sfv.specs.Types.{BareItemType}
+use Rattle.sfv.specs.Types.{ErrorKind}
 use Rattle.sfv.specs.Types.error_kinds as kinds
 use Rattle.sfv.specs.Types.bare_item_types as types
 use Rattle.sfv.specs.Types.versions as versions
-use Rattle.sfv_c.specs.declared.numbers.Field.{Field}
-use Rattle.sfv_c.specs.declared.numbers.Field.TheVariants as field
-
--- the kind of field
-abbrev pub kind_of_field : Field → FieldKind
-kind_of_field field.Item = item_field
-kind_of_field field.List = list_field
-kind_of_field field.Dictionary = dictionary_field
 
 -- the field type with this number: 1 is an item, 2 a list, 3 a dictionary
-abbrev pub named_field : ℕ → Option Field
+abbrev pub named_field : ℕ → Option FieldKind
 named_field n =
-    if n == 1 then Some field.Item
-    else if n == 2 then Some field.List
-    else if n == 3 then Some field.Dictionary
+    if n == 1 then Some item_field
+    else if n == 2 then Some list_field
+    else if n == 3 then Some dictionary_field
     else None
 
 -- the version with this number, the number of its RFC
@@ -31,15 +24,15 @@ named_version n =
     else None
 
 -- this holds of the field type and the version with these numbers, if there are such
-abbrev pub Names : ℕ → ℕ → (FieldKind → Edition → Type 0) → Type 0
-Names field version P = (f : Field) (v : Version) → named_field field ≡ Some f → named_version version ≡ Some v
-    → P (kind_of_field f) (edition_of v)
+abbrev pub Names : ℕ → ℕ → (FieldKind → Version → Type 0) → Type 0
+Names field version P = (f : FieldKind) (v : Version) → named_field field ≡ Some f → named_version version ≡ Some v
+    → P f v
 
 -- this holds of the field type, the version to parse and the version to write with these numbers, if there are such
-abbrev pub NamesThree : ℕ → ℕ → ℕ → (FieldKind → Edition → Edition → Type 0) → Type 0
-NamesThree field reading writing P = (f : Field) (r w : Version) → named_field field ≡ Some f
+abbrev pub NamesThree : ℕ → ℕ → ℕ → (FieldKind → Version → Version → Type 0) → Type 0
+NamesThree field reading writing P = (f : FieldKind) (r w : Version) → named_field field ≡ Some f
     → named_version reading ≡ Some r → named_version writing ≡ Some w
-    → P (kind_of_field f) (edition_of r) (edition_of w)
+    → P f r w
 
 -- the number of a kind of bare item
 abbrev pub type_number : BareItemType → ℕ

@@ -6,7 +6,7 @@ use Rattle.sfv.specs.Events.{parameters_end, inner_list_end, value_in}
 use Rattle.sfv.specs.Kinds.{kind_of_value}
 use Rattle.sfv_c.specs.declared.rows.Row.{Row}
 use Rattle.sfv_c.specs.declared.rows.Value.{Value}
-use Rattle.sfv_c.specs.declared.rows.EventParts.{EventParts}
+use Rattle.sfv_c.specs.declared.rows.LentEvent.{LentEvent}
 use Rattle.sfv_c.specs.Numbers.{type_number}
 
 -- the number of an event's tag
@@ -48,38 +48,38 @@ bytes_of_value (display_string s) = s
 bytes_of_value v = []
 
 -- an encoded value: its kind, its number and its bytes
-pub record ValueParts : Type 0 where
+pub record ValueNumbers : Type 0 where
   pub kind : ℕ
   pub number : ℤ
   pub bytes : List ℕ
 
 -- the number of a value's kind, its number and its bytes; zeros and no bytes if there is no value
-abbrev pub value_parts : Option BareValue → ValueParts
-value_parts None = record { kind = 0; number = pos 0; bytes = [] }
-value_parts (Some v) = record {
+abbrev pub value_numbers : Option BareValue → ValueNumbers
+value_numbers None = record { kind = 0; number = pos 0; bytes = [] }
+value_numbers (Some v) = record {
   kind = type_number (kind_of_value v);
   number = number_of_value v;
   bytes = bytes_of_value v;
 }
 
 -- an encoded event: its tag, its key and its value
-pub record Parts : Type 0 where
+pub record EventNumbers : Type 0 where
   pub tag : ℕ
   pub key : List ℕ
-  pub value : ValueParts
+  pub value : ValueNumbers
 
-abbrev pub parts_of : TreeEvent → Parts
-parts_of e = record { tag = tag_of e; key = key_of e; value = value_parts (value_in e) }
+abbrev pub numbers_of : TreeEvent → EventNumbers
+numbers_of e = record { tag = tag_of e; key = key_of e; value = value_numbers (value_in e) }
 
 -- the encoded value and event, as borrowed by the code
-abbrev pub lent_value : Value → ValueParts
+abbrev pub lent_value : Value → ValueNumbers
 lent_value v = record { kind = v.kind; number = v.number; bytes = v.bytes.now }
 
-abbrev pub lent_parts : EventParts → Parts
-lent_parts p = record { tag = p.tag; key = p.key.now; value = lent_value p.value }
+abbrev pub lent_numbers : LentEvent → EventNumbers
+lent_numbers p = record { tag = p.tag; key = p.key.now; value = lent_value p.value }
 
 -- the row of these parts, with its key at the one place and the bytes of its value at the other
-abbrev pub row_of : ℕ → ℕ → Parts → Row
+abbrev pub row_of : ℕ → ℕ → EventNumbers → Row
 row_of key bytes p = record {
   tag = p.tag;
   kind = p.value.kind;

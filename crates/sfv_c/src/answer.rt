@@ -2,7 +2,7 @@
 
 ghost use Rattle.std.specs.Prelude.{◌≡◌, option_map, string_bytes};
 ghost use Rattle.sfv_c.specs.Answers.{answer, refusal, fault_answer, written_answer, bad_argument, Puts, PutsText};
-ghost use Rattle.sfv_c.specs.declared.answer.Fault.TheVariants as faults;
+ghost use Rattle.sfv_c.specs.declared.answer.CallFault.TheVariants as faults;
 
 use crate::numbers::{number_of_kind, number_of_type};
 use sfv::{Error, SerializeError};
@@ -66,7 +66,7 @@ pub(crate) enum Written {
 
 /// Why nothing was written.
 #[derive(Clone, Copy, Drop)]
-pub(crate) enum Fault {
+pub(crate) enum CallFault {
     /// The input isn't read.
     Read(Error),
     /// What was read isn't written.
@@ -75,19 +75,19 @@ pub(crate) enum Fault {
     Rows(usize),
 }
 
-impl From<Error> for Fault {
+impl From<Error> for CallFault {
     ghost from_gives = { λ error fault. fault ≡ faults.Read error };
 
-    fn from(error: Error) -> Fault {
-        Fault::Read(error)
+    fn from(error: Error) -> CallFault {
+        CallFault::Read(error)
     }
 }
 
-impl From<SerializeError> for Fault {
+impl From<SerializeError> for CallFault {
     ghost from_gives = { λ error fault. fault ≡ faults.Write error };
 
-    fn from(error: SerializeError) -> Fault {
-        Fault::Write(error)
+    fn from(error: SerializeError) -> CallFault {
+        CallFault::Write(error)
     }
 }
 
@@ -147,16 +147,16 @@ impl Answer {
     }
 
     /// The same, or a value that isn't supported.
-    pub(crate) fn of_fault(fault: Fault) -> Answer
+    pub(crate) fn of_fault(fault: CallFault) -> Answer
         ensures { result ≡ fault_answer fault }
     {
         match fault {
-            Fault::Read(error) => Answer::of_error(error),
-            Fault::Write(SerializeError::OutOfMemory) => Answer::of_kind(OUT_OF_MEMORY, 1),
-            Fault::Write(SerializeError::Unsupported(value)) => {
+            CallFault::Read(error) => Answer::of_error(error),
+            CallFault::Write(SerializeError::OutOfMemory) => Answer::of_kind(OUT_OF_MEMORY, 1),
+            CallFault::Write(SerializeError::Unsupported(value)) => {
                 Answer::of_kind(UNSUPPORTED, number_of_type(value))
             }
-            Fault::Rows(index) => Answer {
+            CallFault::Rows(index) => Answer {
                 status: NO_FIELD,
                 kind: 0,
                 index,

@@ -1,14 +1,11 @@
 //! Canonical texts of what is read.
 
 ghost use Rattle.std.specs.Prelude.{◌≡◌, IfOk, IfErr};
-ghost use Rattle.sfv.specs.BareItems.{edition_of};
-ghost use Rattle.sfv.specs.Parsers.{input_of, parser_edition};
-ghost use Rattle.sfv_c.specs.Numbers.{kind_of_field};
+ghost use Rattle.sfv.specs.Parsers.{input_of, version_of};
 ghost use Rattle.sfv_c.specs.Answers.{IsPut, IsFault, IsCanonical};
 
-use crate::answer::{Answer, Fault, Written, put_text};
-use crate::numbers::Field;
-use sfv::{Dictionary, FieldType, Item, List, Parser, Version};
+use crate::answer::{Answer, CallFault, Written, put_text};
+use sfv::{Dictionary, FieldKind, FieldType, Item, List, Parser, Version};
 use std::alloc::Global;
 
 /// Reads a field of the type `T`, and puts its canonical text for the version at the beginning of the buffer.
@@ -17,10 +14,10 @@ fn put_field<T: FieldType>(
     parser: Parser<'_>,
     writing: Version,
     out: &mut [u8],
-) -> Result<Written, Fault>
-    ensures put { IfOk result (IsPut (parser_edition parser.entry) (edition_of writing) T.kind
+) -> Result<Written, CallFault>
+    ensures put { IfOk result (IsPut (version_of parser.entry) writing T.kind
         (input_of parser.entry) out.old out.new) }
-    ensures failed { IfErr result (IsFault (parser_edition parser.entry) (edition_of writing) T.kind
+    ensures failed { IfErr result (IsFault (version_of parser.entry) writing T.kind
         (input_of parser.entry)) }
     ensures kept { IfErr result (λ _. out.new ≡ out.old) }
 {
@@ -32,18 +29,18 @@ fn put_field<T: FieldType>(
 /// Reads a field of this type, and puts its canonical text for the version at the beginning of the buffer.
 pub(crate) fn canonical(
     alloc: Global,
-    field: Field,
+    field: FieldKind,
     parser: Parser<'_>,
     writing: Version,
     out: &mut [u8],
 ) -> Answer
-    ensures { IsCanonical (parser_edition parser.entry) (edition_of writing) (kind_of_field field)
+    ensures { IsCanonical (version_of parser.entry) writing field
         (input_of parser.entry) out.old out.new result }
 {
     let outcome = match field {
-        Field::Item => put_field::<Item>(alloc, parser, writing, out),
-        Field::List => put_field::<List>(alloc, parser, writing, out),
-        Field::Dictionary => put_field::<Dictionary>(alloc, parser, writing, out),
+        FieldKind::Item => put_field::<Item>(alloc, parser, writing, out),
+        FieldKind::List => put_field::<List>(alloc, parser, writing, out),
+        FieldKind::Dictionary => put_field::<Dictionary>(alloc, parser, writing, out),
     };
     match outcome {
         Ok(written) => Answer::of_written(written),

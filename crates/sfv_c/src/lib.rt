@@ -6,28 +6,28 @@
 ghost use Rattle.std.specs.Prelude.{◌≡◌, None};
 ghost use Rattle.sfv_c.specs.Numbers.{named_field, named_version, Names, NamesThree};
 ghost use Rattle.sfv_c.specs.Answers.{bad_argument, IsCanonical, IsCheck, IsMessage};
-ghost use Rattle.sfv_c.specs.Lent.{IsEvents};
-ghost use Rattle.sfv_c.specs.Collected.{left_alone, PutsEvents};
+ghost use Rattle.sfv_c.specs.Events.{IsEvents};
+ghost use Rattle.sfv_c.specs.EventsWhole.{left_alone, PutsEvents};
 ghost use Rattle.sfv_c.specs.Writing.{IsWrite};
 
 mod answer;
-mod calls;
 mod canonical;
 mod check;
-mod collected;
-mod lent;
+mod events;
+mod events_whole;
 mod message;
 mod numbers;
-mod part;
 mod reading;
+mod row_event;
 mod rows;
+mod rows_to_calls;
 mod write;
 
 use crate::answer::{Answer, BAD_ARGUMENT};
 use crate::canonical::canonical;
 use crate::check::check;
-use crate::collected::put_events;
-use crate::lent::keep_events;
+use crate::events::keep_events;
+use crate::events_whole::put_events;
 use crate::message::message;
 use crate::numbers::{field_of, version_of};
 use crate::rows::Row;

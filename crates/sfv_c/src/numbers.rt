@@ -3,27 +3,16 @@
 ghost use Rattle.std.specs.Prelude.{◌≡◌};
 ghost use Rattle.sfv_c.specs.Numbers.{named_field, named_version, kind_number, IsKindOf, type_number};
 
-use sfv::{BareItemType, ErrorKind, Version};
-
-/// The types of fields.
-#[derive(Clone, Copy, Drop)]
-pub(crate) enum Field {
-    /// An item.
-    Item,
-    /// A list.
-    List,
-    /// A dictionary.
-    Dictionary,
-}
+use sfv::{BareItemType, ErrorKind, FieldKind, Version};
 
 /// The type of field of this number.
-pub(crate) fn field_of(number: u32) -> Option<Field>
+pub(crate) fn field_of(number: u32) -> Option<FieldKind>
     ensures { result ≡ named_field number }
 {
     match number {
-        1 => Some(Field::Item),
-        2 => Some(Field::List),
-        3 => Some(Field::Dictionary),
+        1 => Some(FieldKind::Item),
+        2 => Some(FieldKind::List),
+        3 => Some(FieldKind::Dictionary),
         _ => None,
     }
 }

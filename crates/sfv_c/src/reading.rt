@@ -4,30 +4,28 @@ ghost use Rattle.std.specs.Prelude.{◌≡◌, IfOk, IfErr};
 ghost use Rattle.sfv.specs.Memory.{NeedsMark};
 ghost use Rattle.sfv.specs.Parsers.{input_of, IsAnswerBy, IsSyntaxBy};
 ghost use Rattle.sfv.specs.Types.parse_errors;
-ghost use Rattle.sfv_c.specs.Numbers.{kind_of_field};
 
-use crate::numbers::Field;
 use sfv::visitor::Visitor;
-use sfv::{Error, ParseError, Parser};
+use sfv::{Error, FieldKind, ParseError, Parser};
 use std::alloc::Global;
 use std::convert::Infallible;
 
 /// Reads the input as a field of this type with a visitor.
 pub(crate) fn read<'de, V: Visitor<'de>>(
     alloc: Global,
-    field: Field,
+    field: FieldKind,
     parser: Parser<'de>,
     visitor: V,
 ) -> Result<V::Out, ParseError<V::Error>>
     requires { V.is_ready visitor }
-    ensures visited { IfOk result (IsAnswerBy V.Visitor parser.entry (kind_of_field field) visitor) }
-    ensures syntax { IfErr result (IsSyntaxBy V.Visitor parser.entry (kind_of_field field) visitor) }
+    ensures visited { IfOk result (IsAnswerBy V.Visitor parser.entry field visitor) }
+    ensures syntax { IfErr result (IsSyntaxBy V.Visitor parser.entry field visitor) }
     ensures memory { IfErr result (NeedsMark (input_of parser.entry)) }
 {
     match field {
-        Field::Item => parser.parse_item_with_visitor(alloc, visitor),
-        Field::List => parser.parse_list_with_visitor(alloc, visitor),
-        Field::Dictionary => parser.parse_dictionary_with_visitor(alloc, visitor),
+        FieldKind::Item => parser.parse_item_with_visitor(alloc, visitor),
+        FieldKind::List => parser.parse_list_with_visitor(alloc, visitor),
+        FieldKind::Dictionary => parser.parse_dictionary_with_visitor(alloc, visitor),
     }
 }
 

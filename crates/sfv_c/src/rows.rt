@@ -3,7 +3,7 @@
 ghost use Rattle.std.specs.Prelude.{◌≡◌, [], pos, Some};
 ghost use Rattle.sfv.specs.BareItems.{ref_value};
 ghost use Rattle.sfv.specs.EventValues.{event_of};
-ghost use Rattle.sfv_c.specs.Rows.{lent_value, lent_parts, value_parts, parts_of, row_of};
+ghost use Rattle.sfv_c.specs.Rows.{lent_value, lent_numbers, value_numbers, numbers_of, row_of};
 
 use sfv::visitor::Event;
 use sfv::{GenericBareItem, RefBareItem};
@@ -38,7 +38,7 @@ pub(crate) struct Value<'a> {
 
 /// An event: its tag, its key and its value.
 #[derive(Clone, Copy, Drop)]
-pub(crate) struct EventParts<'a> {
+pub(crate) struct LentEvent<'a> {
     pub(crate) tag: u32,
     pub(crate) key: &'a [u8],
     pub(crate) value: Value<'a>,
@@ -68,7 +68,7 @@ fn text_value(kind: u32, bytes: &[u8]) -> Value<'_>
 
 /// The value of a bare item.
 fn value_of(item: RefBareItem<'_>) -> Value<'_>
-    ensures { lent_value result ≡ value_parts (Some (ref_value item.entry)) }
+    ensures { lent_value result ≡ value_numbers (Some (ref_value item.entry)) }
 {
     match item {
         GenericBareItem::Integer(value) => number_value(1, value.to_i64()),
@@ -85,8 +85,8 @@ fn value_of(item: RefBareItem<'_>) -> Value<'_>
 }
 
 /// The parts of an event.
-pub(crate) fn parts_of<'a>(event: &'a Event<'_>) -> EventParts<'a>
-    ensures { lent_parts result ≡ parts_of (event_of event.now) }
+pub(crate) fn numbers_of<'a>(event: &'a Event<'_>) -> LentEvent<'a>
+    ensures { lent_numbers result ≡ numbers_of (event_of event.now) }
 {
     let plain = number_value(0, 0);
     let (tag, key, value) = match event {
@@ -99,24 +99,24 @@ pub(crate) fn parts_of<'a>(event: &'a Event<'_>) -> EventParts<'a>
         Event::ParametersEnd => (7, "", plain),
         Event::InnerListEnd => (8, "", plain),
     };
-    EventParts {
+    LentEvent {
         tag,
         key: key.as_bytes(),
         value,
     }
 }
 
-impl<'a> EventParts<'a> {
+impl<'a> LentEvent<'a> {
     /// The bytes of the value.
     pub(crate) fn bytes(self) -> &'a [u8]
-        ensures { result.now ≡ (lent_parts self.entry).value.bytes }
+        ensures { result.now ≡ (lent_numbers self.entry).value.bytes }
     {
         self.value.bytes
     }
 
     /// The row of these parts, whose key begins at the one place and whose value's bytes at the other.
     pub(crate) fn row(self, key: usize, bytes: usize) -> Row
-        ensures { result ≡ row_of key bytes (lent_parts self.entry) }
+        ensures { result ≡ row_of key bytes (lent_numbers self.entry) }
     {
         Row {
             tag: self.tag,

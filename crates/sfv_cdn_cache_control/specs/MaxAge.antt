@@ -1,5 +1,5 @@
 -- The field CDN-Cache-Control (RFC 9213, section 2.1), a dictionary.
-use Rattle.sfv_field.specs.Field.{◌≡◌, ℕ, ℤ, List, Option, Some, None, codes, Edition, dictionary_field, BareValue}
+use Rattle.sfv_field.specs.Field.{◌≡◌, ℕ, ℤ, List, Option, Some, None, codes, Version, dictionary_field, BareValue}
 use Rattle.sfv_field.specs.Field.{integer, RawMember, item, last_of, IsParsedAs}
 
 -- the integer of a bare item, if it has this kind
@@ -12,6 +12,6 @@ age_of (Some (item i)) = integer_in i.bare
 age_of m = None
 
 -- the text parses to a dictionary with this member `max-age`
-abbrev pub IsMaxAgeOf : Edition → List ℕ → Option ℤ → Type 0
-IsMaxAgeOf edition t found = (value : List (List ℕ × RawMember)) × IsParsedAs edition dictionary_field t value
+abbrev pub IsMaxAgeOf : Version → List ℕ → Option ℤ → Type 0
+IsMaxAgeOf version t found = (value : List (List ℕ × RawMember)) × IsParsedAs version dictionary_field t value
     × (found ≡ age_of (last_of (codes "max-age") value))

@@ -1,7 +1,7 @@
 //! The field CDN-Cache-Control (RFC 9213): how many seconds the caches of a network may use a response.
 #![tactic(auto)]
 
-ghost use Rattle.sfv_field.specs.Field.{◌≡◌, IfOk, IfErr, option_map, codes, integer_of, edition_of, dictionary_field};
+ghost use Rattle.sfv_field.specs.Field.{◌≡◌, IfOk, IfErr, option_map, codes, integer_of, dictionary_field};
 ghost use Rattle.sfv_field.specs.Field.{last_of, IsParseError};
 ghost use Rattle.sfv_cdn_cache_control.specs.MaxAge.{age_of, IsMaxAgeOf};
 
@@ -53,8 +53,8 @@ impl<'de> DictionaryReader<'de> for MaxAge {
 #[tactic(auto, unfolding(sfv_field::specs::Field::last_of))]
 pub fn max_age(alloc: Global, input: &[u8], version: Version) -> Result<Option<Integer>, Error>
     ensures read { IfOk result (λ found.
-        IsMaxAgeOf (edition_of version) input.now (option_map integer_of found)) }
-    ensures rejected { IfErr result (IsParseError (edition_of version) dictionary_field input.now) }
+        IsMaxAgeOf version input.now (option_map integer_of found)) }
+    ensures rejected { IfErr result (IsParseError version dictionary_field input.now) }
 {
     let read = read_dictionary(alloc, input, version, MaxAge { seconds: None })?;
     Ok(read.seconds)

@@ -1,7 +1,8 @@
 -- After the events of the members, the reader's state is the state after the ordered dictionary.
 use Rattle.std.proofs.Common.{◌≡◌, ℕ, List, [], ◌∷◌, ◌++◌, Option, Some, None, refl, sym, ap, subst, ◌∙◌}
 use Rattle.std.specs.Prelude.{map, flat_map}
-use Rattle.sfv_spec.specs.Values.{BareValue, dictionary_field, RawParameters, RawItem, RawMember, item, inner_list}
+use Rattle.sfv_spec.specs.Values.{BareValue, RawParameters, RawItem, RawMember, item, inner_list}
+use Rattle.sfv_spec.specs.declared.field_kind.FieldKind.TheVariants.{Dictionary as dictionary_field}
 use Rattle.sfv_spec.specs.Events.{TreeEvent, keyed_entry, begins_item, bare_item, parameter, parameters_end}
 use Rattle.sfv_spec.specs.Events.{inner_list_end, parameters_events, inner_item_events, member_events, events}
 use Rattle.sfv_spec.specs.Ordered.{ordered, ordered_item, ordered_member}

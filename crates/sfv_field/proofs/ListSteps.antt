@@ -2,7 +2,8 @@
 use Rattle.std.proofs.Common.{◌≡◌, ℕ, List, [], ◌∷◌, ◌++◌, None, sym, ap, subst, ◌∙◌}
 use Rattle.std.proofs.Common.{append_assoc, append-nil}
 use Rattle.std.specs.Prelude.{map, flat_map}
-use Rattle.sfv_spec.specs.Values.{BareValue, list_field, RawParameters, RawItem, RawMember, item, inner_list}
+use Rattle.sfv_spec.specs.Values.{BareValue, RawParameters, RawItem, RawMember, item, inner_list}
+use Rattle.sfv_spec.specs.declared.field_kind.FieldKind.TheVariants.{List as list_field}
 use Rattle.sfv_spec.specs.Events.{TreeEvent, begins_item, bare_item, parameter, parameters_end, inner_list_end}
 use Rattle.sfv_spec.specs.Events.{parameters_events, inner_item_events, member_events, events}
 use Rattle.sfv_spec.specs.Ordered.{ordered, ordered_item, ordered_member}

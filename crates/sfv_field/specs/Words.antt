@@ -1,6 +1,8 @@
 -- Definitions for readers: the head of a member, its parameters, and a pair that is put into a map.
 use Rattle.std.specs.Prelude.{ℕ, List, [], ◌∷◌, ◌++◌}
-use Rattle.sfv_spec.specs.Values.{Edition, FieldKind, RawField, BareValue, RawItem, RawParameters, RawMember, item}
+use Rattle.sfv_spec.specs.Values.{RawField, BareValue, RawItem, RawParameters, RawMember, item}
+use Rattle.sfv_spec.specs.declared.field_kind.FieldKind.{FieldKind}
+use Rattle.sfv_spec.specs.declared.version.Version.{Version}
 use Rattle.sfv_spec.specs.Values.{inner_list}
 use Rattle.sfv_spec.specs.Ordered.{collapse}
 use Rattle.sfv_spec.specs.Statements.{IsParsedAs}
@@ -33,5 +35,5 @@ unfoldable pub put : {A : Type 0} → List (List ℕ × A) → List ℕ → A �
 put ps k v = collapse (ps ++ (k, v) ∷ [])
 
 -- the text parses to a field, and the reader's state is the state after its value
-abbrev pub IsReadBy : {R : Type 0} → Edition → (kind : FieldKind) → (R → RawField kind → Type 0) → List ℕ → R → Type 0
-IsReadBy edition kind reads t found = (value : RawField kind) × IsParsedAs edition kind t value × reads found value
+abbrev pub IsReadBy : {R : Type 0} → Version → (kind : FieldKind) → (R → RawField kind → Type 0) → List ℕ → R → Type 0
+IsReadBy version kind reads t found = (value : RawField kind) × IsParsedAs version kind t value × reads found value

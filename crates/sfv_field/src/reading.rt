@@ -1,8 +1,8 @@
 //! Parsing with a reader.
 
 ghost use Rattle.std.specs.Prelude.{◌≡◌, [], IfOk, IfErr};
-ghost use Rattle.sfv_spec.specs.Values.{list_field, dictionary_field};
-ghost use Rattle.sfv_bare.specs.BareItems.{edition_of};
+ghost use Rattle.sfv_spec.specs.declared.field_kind.FieldKind.TheVariants.{List as list_field};
+ghost use Rattle.sfv_spec.specs.declared.field_kind.FieldKind.TheVariants.{Dictionary as dictionary_field};
 ghost use Rattle.sfv.specs.Parsers.{IsParseError};
 ghost use Rattle.sfv_field.specs.Words.{IsReadBy};
 
@@ -25,8 +25,8 @@ pub fn read_list<'de, R: ListReader<'de>>(
     reader: R,
 ) -> Result<R, Error>
     requires { R.reads reader [] }
-    ensures read { IfOk result (IsReadBy (edition_of version) list_field R.reads input.now) }
-    ensures rejected { IfErr result (IsParseError (edition_of version) list_field input.now) }
+    ensures read { IfOk result (IsReadBy version list_field R.reads input.now) }
+    ensures rejected { IfErr result (IsParseError version list_field input.now) }
 {
     let parser = Parser::new(input).with_version(version);
     match parser.parse_list_with_visitor(alloc, ListVisitor::new(alloc, reader)) {
@@ -50,8 +50,8 @@ pub fn read_dictionary<'de, R: DictionaryReader<'de>>(
     reader: R,
 ) -> Result<R, Error>
     requires { R.reads reader [] }
-    ensures read { IfOk result (IsReadBy (edition_of version) dictionary_field R.reads input.now) }
-    ensures rejected { IfErr result (IsParseError (edition_of version) dictionary_field input.now) }
+    ensures read { IfOk result (IsReadBy version dictionary_field R.reads input.now) }
+    ensures rejected { IfErr result (IsParseError version dictionary_field input.now) }
 {
     let parser = Parser::new(input).with_version(version);
     match parser.parse_dictionary_with_visitor(alloc, DictionaryVisitor::new(alloc, reader)) {

@@ -3,7 +3,9 @@ use Rattle.std.proofs.Common.{◌≡◌, ℕ, List, refl, sym, ap, ◌∙◌, in
 use Rattle.std.specs.Prelude.{Option, Some, None, option_map, Result, Ok, Err, IfOk, IfErr, IfSome, string_bytes}
 use Rattle.std.specs.declared.alloc.Global.{Global}
 use Rattle.std.specs.declared.string.String.{String}
-use Rattle.sfv.specs.Values.{rfc9651, dictionary_field, RawMember, item, inner_list}
+use Rattle.sfv.specs.Values.{RawMember, item, inner_list}
+use Rattle.sfv.specs.Types.{dictionary_field}
+use Rattle.sfv.specs.Types.{Rfc9651}
 use Rattle.sfv.specs.Ordered.{last_of, ordered, ordered_member}
 use Rattle.sfv.specs.Statements.{IsParsedAs, IsSerializedAs}
 use Rattle.sfv.proofs.Callers.{last_of-ordered}
@@ -58,15 +60,15 @@ right_members members d h (inl wrong) = right_digest d.sha_256 (sym h.sha_256 �
 right_members members d h (inr wrong) = right_digest d.sha_512 (sym h.sha_512 ∙ wrong)
 
 -- what the members that were read give is what the text gives
-module _ (text : List ℕ) (value : Members) (parsed : IsParsedAs rfc9651 dictionary_field text value) where
+module _ (text : List ℕ) (value : Members) (parsed : IsParsedAs Rfc9651 dictionary_field text value) where
   of_text : (P : Members → Type 0) → P parsed.raw → IsDictionary text P
   of_text P holds = record { members = parsed.raw; accepted = parsed.accepted; holds = holds }
 
   are : (d : Digests) → AreDigests value d → AreDigests parsed.raw d
-  are d h = AreDigests-ordered parsed.raw d (rw parsed.ordered_value at h)
+  are d h = AreDigests-ordered parsed.raw d (rw parsed.holds at h)
 
   wrong : HasWrongType value → HasWrongType parsed.raw
-  wrong h = HasWrongType-ordered parsed.raw (rw parsed.ordered_value at h)
+  wrong h = HasWrongType-ordered parsed.raw (rw parsed.holds at h)
 
   -- the members of the text are those that were read
   are_read : (d : Digests) → IsContentDigest text d → AreDigests parsed.raw d
@@ -105,7 +107,7 @@ AreDigests-members d = go d.sha_256 d.sha_512
 
 -- so what is written is read as these digests
 pub digests_written : (d : Digests) (o : Option (String Global))
-    → IsSerializedAs rfc9651 dictionary_field (digest_members d) (option_map string_bytes o)
+    → IsSerializedAs Rfc9651 dictionary_field (digest_members d) (option_map string_bytes o)
     → IfSome o (λ text. IsContentDigest (string_bytes text) d)
 digests_written d None h = tt
 digests_written d (Some text) h =

@@ -5,10 +5,11 @@ use Rattle.std.specs.Prelude.{nat_le, ◌==◌, ◌^◌, codes, if◌then◌else
 use Rattle.std.proofs.lemmas.Fmt.{decimal_digit}
 use Rattle.sfv.specs.Ascii.{digit_zero}
 use Rattle.sfv.specs.Texts.{joined}
-use Rattle.sfv.specs.Values.{Edition, rfc8941, dictionary_field}
+use Rattle.sfv.specs.Types.{dictionary_field}
+use Rattle.sfv.specs.Types.{Version, Rfc8941}
 use Rattle.sfv.specs.Ordered.{last_of}
 use Rattle.sfv.specs.Canonical.{canonical}
-use Rattle.sfv.specs.Calls.{Fits}
+use Rattle.sfv.specs.Values.{Fits}
 use Rattle.sfv.specs.Statements.{IsParsedAs, IsValue}
 use Rattle.sfv.proofs.Callers.{read_back_either}
 use Rattle.sfv_fields.specs.Priority.{PriorityValue, priority, priority_text, IsPriorityOf}
@@ -54,18 +55,18 @@ its_priority false true n h k = rw (within n h) refl
 its_priority false false n h k = rw (within n h) refl
 
 -- under both versions, which have Integers and Booleans
-fits : (d i : Bool) (n : ℕ) → Fits rfc8941 dictionary_field (members_by d i n)
+fits : (d i : Bool) (n : ℕ) → Fits Rfc8941 dictionary_field (members_by d i n)
 fits true true n = (refl, tt)
 fits true false n = tt
 fits false true n = (refl, (refl, tt))
 fits false false n = (refl, tt)
 
-pub reads_back : (edition : Edition) (p : PriorityValue) → p.urgency ≤ 7
-    → IsPriorityOf edition (priority_text p) p
-reads_back edition p h = (
+pub reads_back : (version : Version) (p : PriorityValue) → p.urgency ≤ 7
+    → IsPriorityOf version (priority_text p) p
+reads_back version p h = (
   members_of p,
-  subst (λ (t : List ℕ). IsParsedAs edition dictionary_field t (members_of p)) (written_text p h)
-      (read_back_either edition dictionary_field (members_of p) (is_value (p.urgency == 3) p.incremental p.urgency h)
+  subst (λ (t : List ℕ). IsParsedAs version dictionary_field t (members_of p)) (written_text p h)
+      (read_back_either version dictionary_field (members_of p) (is_value (p.urgency == 3) p.incremental p.urgency h)
       (fits (p.urgency == 3) p.incremental p.urgency)),
   its_priority (p.urgency == 3) p.incremental p.urgency h refl,
 )

@@ -1,7 +1,9 @@
 -- The Cache-Status field (RFC 9211, section 2): a List. Each member is an item that names a cache.
 use Rattle.std.specs.Prelude.{◌≡◌, ℕ, ℤ, List, Bool, false, Option, Some, None, option_map, fold, codes, if◌then◌else◌}
 use Rattle.std.specs.Option.{option_or}
-use Rattle.sfv.specs.Values.{Edition, list_field, BareValue, integer, boolean, RawMember, item, inner_list}
+use Rattle.sfv.specs.Values.{BareValue, integer, boolean, RawMember, item, inner_list}
+use Rattle.sfv.specs.Types.{list_field}
+use Rattle.sfv.specs.Types.{Version}
 use Rattle.sfv.specs.Ordered.{last_of}
 use Rattle.sfv.specs.NumberValues.{integer_of}
 use Rattle.sfv.specs.Statements.{IsParsedAs}
@@ -30,6 +32,6 @@ abbrev pub hit_value : Option Hit → Option (Option ℤ)
 hit_value found = option_map (λ hit. option_map integer_of hit.ttl) found
 
 -- the text parses to a list with this last hit
-abbrev pub IsLastHitOf : Edition → List ℕ → Option (Option ℤ) → Type 0
-IsLastHitOf edition t found = (value : List RawMember) × IsParsedAs edition list_field t value
+abbrev pub IsLastHitOf : Version → List ℕ → Option (Option ℤ) → Type 0
+IsLastHitOf version t found = (value : List RawMember) × IsParsedAs version list_field t value
     × (found ≡ last_hit_of value)

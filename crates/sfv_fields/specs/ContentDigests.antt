@@ -4,7 +4,9 @@ use Rattle.std.specs.Prelude.{◌≡◌, ℕ, List, [], ◌∷◌, ◌++◌, ◌
 use Rattle.std.specs.Prelude.{Result, MatchResult, MatchOption}
 use Rattle.std.specs.declared.alloc.Global.{Global}
 use Rattle.std.specs.declared.vec.Vec.{Vec}
-use Rattle.sfv.specs.Values.{rfc9651, dictionary_field, BareValue, byte_sequence, RawMember, item, inner_list}
+use Rattle.sfv.specs.Values.{BareValue, byte_sequence, RawMember, item, inner_list}
+use Rattle.sfv.specs.Types.{dictionary_field}
+use Rattle.sfv.specs.Types.{Rfc9651}
 use Rattle.sfv.specs.Grammar.{IsFieldText}
 use Rattle.sfv.specs.Ordered.{last_of}
 use Rattle.sfv.specs.Errors.{out_of_memory}
@@ -65,7 +67,7 @@ HasWrongType members = (last_bytes sha_256_key members ≡ Some None) ⊎ (last_
 -- the text is a dictionary, and `P` holds of its members
 pub record IsDictionary (text : List ℕ) (P : Members → Type 0) : Type 0 where
   pub members : Members
-  pub accepted : IsFieldText rfc9651 dictionary_field members text
+  pub accepted : IsFieldText Rfc9651 dictionary_field members text
   pub holds : P members
 
 -- the text is a dictionary with these digests
@@ -78,7 +80,7 @@ HasDigests text digest = IsContentDigest text (digests_in digest)
 -- The text is not a dictionary, or memory ran out. Or it is a dictionary, but the last member of one of the keys is not
 -- a byte sequence.
 abbrev pub IsDigestError : List ℕ → DigestError → Type 0
-IsDigestError text (errors.Field e) = IsParseError rfc9651 dictionary_field text e
+IsDigestError text (errors.Field e) = IsParseError Rfc9651 dictionary_field text e
 IsDigestError text errors.WrongType = IsDictionary text HasWrongType
 
 -- if the text has digests, these are returned, unless memory ran out

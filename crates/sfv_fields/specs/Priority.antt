@@ -3,7 +3,9 @@ use Rattle.std.specs.Prelude.{◌≡◌, ℕ, List, [], ◌∷◌, ◌++◌, ◌
 use Rattle.std.specs.Prelude.{pos, codes}
 use Rattle.sfv.specs.Ascii.{digit_zero}
 use Rattle.sfv.specs.Texts.{joined}
-use Rattle.sfv.specs.Values.{Edition, dictionary_field, BareValue, integer, boolean, RawMember, item}
+use Rattle.sfv.specs.Values.{BareValue, integer, boolean, RawMember, item}
+use Rattle.sfv.specs.Types.{dictionary_field}
+use Rattle.sfv.specs.Types.{Version}
 use Rattle.sfv.specs.Ordered.{last_of}
 use Rattle.sfv.specs.Statements.{IsParsedAs}
 use Rattle.sfv_fields.specs.declared.priority.value.Priority.{Priority}
@@ -48,6 +50,6 @@ abbrev pub value_of : Priority → PriorityValue
 value_of p = record { urgency = p.urgency; incremental = p.incremental }
 
 -- the text parses to a dictionary with this priority
-abbrev pub IsPriorityOf : Edition → List ℕ → PriorityValue → Type 0
-IsPriorityOf edition t p = (value : List (List ℕ × RawMember)) × IsParsedAs edition dictionary_field t value
+abbrev pub IsPriorityOf : Version → List ℕ → PriorityValue → Type 0
+IsPriorityOf version t p = (value : List (List ℕ × RawMember)) × IsParsedAs version dictionary_field t value
     × (p ≡ priority value)

@@ -1,7 +1,7 @@
 //! The Cache-Status field (RFC 9211): a list of the caches that handled a response. The last one is nearest to the
 //! user.
 
-ghost use Rattle.sfv_field.specs.Field.{◌≡◌, Some, IfOk, IfErr, option_map, list_field, ref_value, edition_of};
+ghost use Rattle.sfv_field.specs.Field.{◌≡◌, Some, IfOk, IfErr, option_map, list_field, ref_value};
 ghost use Rattle.sfv_field.specs.Field.{integer_of, IsParseError};
 ghost use Rattle.sfv_fields.specs.CacheStatus.{is_true, integer_in, hit_value, last_hit_of, IsLastHitOf};
 
@@ -94,8 +94,8 @@ impl<'de> ListReader<'de> for LastHit {
 ///
 /// Returns the error of `Parser::parse` if the input is not a list, or if memory runs out.
 pub fn last_hit(alloc: Global, input: &[u8], version: Version) -> Result<Option<Hit>, Error>
-    ensures read { IfOk result (λ found. IsLastHitOf (edition_of version) input.now (hit_value found)) }
-    ensures rejected { IfErr result (IsParseError (edition_of version) list_field input.now) }
+    ensures read { IfOk result (λ found. IsLastHitOf version input.now (hit_value found)) }
+    ensures rejected { IfErr result (IsParseError version list_field input.now) }
 {
     let read = read_list(alloc, input, version, LastHit { found: None })?;
     Ok(read.found)

@@ -2,7 +2,7 @@
 
 ghost use Rattle.std.specs.Prelude.{◌≡◌, ◌≢◌, ◌↔◌, None, IfOk, IfErr, IfSome, OnOk, OnErr};
 ghost use Rattle.std.specs.Prelude.{option_copied, string_bytes};
-ghost use Rattle.sfv.specs.Values.{dictionary_field};
+ghost use Rattle.sfv.specs.Types.{dictionary_field};
 ghost use Rattle.sfv.specs.Written.{IsSerialized};
 ghost use Rattle.sfv.specs.Errors.{out_of_memory};
 ghost use Rattle.sfv.specs.KeyText.{key_text};

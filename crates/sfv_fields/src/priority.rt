@@ -5,12 +5,12 @@
 
 ghost use Rattle.std.specs.Prelude.{◌≡◌, ◌≢◌, ◌≤◌, ◌↔◌, ◌++◌, [], false, length, codes, IfOk, OnOk, OnErr, IsTrue};
 ghost use Rattle.std.specs.Prelude.{option_copied, option_map};
-ghost use Rattle.sfv.specs.Values.{Edition, rfc9651};
+ghost use Rattle.sfv.specs.Types.{Version, Rfc9651};
 ghost use Rattle.sfv.specs.BareItems.{ref_value};
 ghost use Rattle.sfv.specs.KeyText.{key_text};
 ghost use Rattle.sfv.specs.Trees.{member_tree, dictionary_tree};
-ghost use Rattle.sfv.specs.Serializers.{HasMoreParts, HasNextPart, has_no_part, parts_edition, parts_sink};
-ghost use Rattle.sfv.specs.Written.{AppendsOrKeeps, AsksForRoom, LacksRoom, keyed_text, lead, in_a_row, still_first};
+ghost use Rattle.sfv.specs.Serializers.{HasAppended, HasAppendedNext, is_empty_so_far, sequence_version, sequence_sink};
+ghost use Rattle.sfv.specs.Written.{AppendsOrKeeps, AsksForRoom, LacksRoom, keyed_text, separator_before, with_separators, is_first_after};
 ghost use Rattle.sfv_fields.specs.Priority.{priority, urgency_in, urgency_of, incremental_in, incremental_of};
 ghost use Rattle.sfv_fields.specs.Priority.{priority_text, value_of, IsPriorityOf};
 ghost use Rattle.sfv_fields.specs.PrioritySteps.{urgency_texts, incremental_texts};
@@ -82,11 +82,11 @@ fn write_member<W: Sink>(
     name: KeyRef<'static>,
     value: RefBareItem<'static>,
 ) -> Result<(), OutOfMemory>
-    requires { parts_edition members.old ≡ rfc9651 }
-    ensures text { OnOk result (HasNextPart W.Sink (codes ", ") members.old members.new
+    requires { sequence_version members.old ≡ Rfc9651 }
+    ensures text { OnOk result (HasAppendedNext W.Sink (codes ", ") members.old members.new
         (keyed_text (key_text name.entry) (ref_value value.entry)) false) }
-    ensures room { OnErr result (LacksRoom (W.text (parts_sink members.old))
-        (lead (has_no_part members.old) (codes ", ") ++ keyed_text (key_text name.entry) (ref_value value.entry))) }
+    ensures room { OnErr result (LacksRoom (W.text (sequence_sink members.old))
+        (separator_before (is_empty_so_far members.old) (codes ", ") ++ keyed_text (key_text name.entry) (ref_value value.entry))) }
 {
     match members.bare_item(name, value) {
         Ok(params) => {
@@ -100,13 +100,13 @@ fn write_member<W: Sink>(
 // Writes the urgency, unless it is the default.
 #[tactic(auto, using(std::proofs::lemmas::Fmt::decimal_digit))]
 fn write_urgency<W: Sink>(members: &mut DictSerializer<W>, urgency: u8) -> Result<(), OutOfMemory>
-    requires edition { parts_edition members.old ≡ rfc9651 }
+    requires version { sequence_version members.old ≡ Rfc9651 }
     requires range { urgency ≤ 7 }
-    ensures text { OnOk result (HasMoreParts W.Sink members.old members.new
-        (in_a_row (has_no_part members.old) (codes ", ") (urgency_texts urgency))
-        (still_first (has_no_part members.old) (urgency_texts urgency))) }
-    ensures room { OnErr result (LacksRoom (W.text (parts_sink members.old))
-        (in_a_row (has_no_part members.old) (codes ", ") (urgency_texts urgency))) }
+    ensures text { OnOk result (HasAppended W.Sink members.old members.new
+        (with_separators (is_empty_so_far members.old) (codes ", ") (urgency_texts urgency))
+        (is_first_after (is_empty_so_far members.old) (urgency_texts urgency))) }
+    ensures room { OnErr result (LacksRoom (W.text (sequence_sink members.old))
+        (with_separators (is_empty_so_far members.old) (codes ", ") (urgency_texts urgency))) }
 {
     if urgency == 3 {
         return Ok(());
@@ -119,12 +119,12 @@ fn write_incremental<W: Sink>(
     members: &mut DictSerializer<W>,
     incremental: bool,
 ) -> Result<(), OutOfMemory>
-    requires { parts_edition members.old ≡ rfc9651 }
-    ensures text { OnOk result (HasMoreParts W.Sink members.old members.new
-        (in_a_row (has_no_part members.old) (codes ", ") (incremental_texts incremental))
-        (still_first (has_no_part members.old) (incremental_texts incremental))) }
-    ensures room { OnErr result (LacksRoom (W.text (parts_sink members.old))
-        (in_a_row (has_no_part members.old) (codes ", ") (incremental_texts incremental))) }
+    requires { sequence_version members.old ≡ Rfc9651 }
+    ensures text { OnOk result (HasAppended W.Sink members.old members.new
+        (with_separators (is_empty_so_far members.old) (codes ", ") (incremental_texts incremental))
+        (is_first_after (is_empty_so_far members.old) (incremental_texts incremental))) }
+    ensures room { OnErr result (LacksRoom (W.text (sequence_sink members.old))
+        (with_separators (is_empty_so_far members.old) (codes ", ") (incremental_texts incremental))) }
 {
     if !incremental {
         return Ok(());
@@ -153,8 +153,8 @@ pub fn write_priority(text: &mut String, priority: Priority) -> Result<bool, Out
     ensures text { AppendsOrKeeps text.old text.new (priority_text (value_of priority)) result }
     ensures room { AsksForRoom text.old text.new (priority_text (value_of priority)) result }
     ensures stands { IfOk result (λ stands. IsTrue stands ↔ (priority_text (value_of priority) ≢ [])) }
-    ensures read_back { OnOk result ((edition : Edition)
-        → IsPriorityOf edition (priority_text (value_of priority)) (value_of priority)) }
+    ensures read_back { OnOk result ((version : Version)
+        → IsPriorityOf version (priority_text (value_of priority)) (value_of priority)) }
 {
     // With room for the whole text no call fails, so nothing has to be removed.
     text.reserve(text_len(priority))?;

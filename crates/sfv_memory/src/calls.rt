@@ -2,31 +2,20 @@
 
 use crate::reading::{Answer, is_answer, read, read_into_dictionary, read_into_list, write_for};
 use crate::{copies, scripts, writing};
-use sfv::{Dictionary, Error, ErrorKind, Item, List};
+use sfv::{Dictionary, Error, ErrorKind, FieldKind, Item, List};
 use std::alloc::Global;
-
-/// A field type.
-#[derive(Clone, Copy)]
-pub enum Field {
-    /// An item.
-    Item,
-    /// A list.
-    List,
-    /// A dictionary.
-    Dictionary,
-}
 
 /// A call, or a few calls that prepare one.
 #[derive(Clone, Copy)]
 pub enum Call {
     /// Parses a field and serializes it.
-    Read(Field, &'static [u8], Answer),
+    Read(FieldKind, &'static [u8], Answer),
     /// Parses a further line of a list.
     ReadIntoList(&'static [u8], &'static [u8], Answer),
     /// Parses a further line of a dictionary.
     ReadIntoDictionary(&'static [u8], &'static [u8], Answer),
     /// Parses a field and serializes it for RFC 8941.
-    WriteFor(Field, &'static str),
+    WriteFor(FieldKind, &'static str),
     /// Copies a key, and clones it.
     CopyKey,
     /// Copies a token, and clones it.
@@ -38,7 +27,7 @@ pub enum Call {
     /// Copies a parsed string.
     CopyRead(&'static [u8], &'static str),
     /// Clones a field.
-    Copy(Field, &'static [u8]),
+    Copy(FieldKind, &'static [u8]),
     /// Clones the first member of a list.
     CopyMember(&'static [u8]),
     /// Clones the first member of a list, which is an inner list.
@@ -76,32 +65,32 @@ pub enum Call {
 /// All calls, with their results.
 pub const CALLS: &[Call] = &[
     Call::Read(
-        Field::Item,
+        FieldKind::Item,
         b"\"a\\\"b\";k=:aGk:;d=%\"%c3%bc\";k=tok",
         Answer::Text("\"a\\\"b\";k=tok;d=%\"%c3%bc\""),
     ),
     Call::Read(
-        Field::Item,
+        FieldKind::Item,
         b"\"a\\\"b\";k=:aGk:;d=%\"%c3%bc\" x",
         Answer::Fault(ErrorKind::TrailingCharactersAfterParsedValue, 27),
     ),
     Call::Read(
-        Field::List,
+        FieldKind::List,
         b"\"a\\\"b\", (%\"%c3%bc\";p)",
         Answer::Text("\"a\\\"b\", (%\"%c3%bc\";p)"),
     ),
     Call::Read(
-        Field::List,
+        FieldKind::List,
         b"\"a\\\"b\", (%\"%c3%bc\";p),",
         Answer::Fault(ErrorKind::TrailingComma, 21),
     ),
     Call::Read(
-        Field::Dictionary,
+        FieldKind::Dictionary,
         b"a=\"a\\\"b\", b=(:aGk:);q, a=2.5",
         Answer::Text("a=2.5, b=(:aGk=:);q"),
     ),
     Call::Read(
-        Field::Dictionary,
+        FieldKind::Dictionary,
         b"a=\"a\\\"b\", b=(:aGk:);q, a=",
         Answer::Fault(ErrorKind::ExpectedStartOfBareItem, 25),
     ),
@@ -125,9 +114,9 @@ pub const CALLS: &[Call] = &[
         b"b=\"q\\\"\";y, c=",
         Answer::Fault(ErrorKind::ExpectedStartOfBareItem, 13),
     ),
-    Call::WriteFor(Field::Item, "\"a\\\"b\";k"),
-    Call::WriteFor(Field::List, "\"a\\\"b\", (k)"),
-    Call::WriteFor(Field::Dictionary, "a=\"a\\\"b\", b=(k)"),
+    Call::WriteFor(FieldKind::Item, "\"a\\\"b\";k"),
+    Call::WriteFor(FieldKind::List, "\"a\\\"b\", (k)"),
+    Call::WriteFor(FieldKind::Dictionary, "a=\"a\\\"b\", b=(k)"),
     Call::CopyKey,
     Call::CopyToken,
     Call::CopyString,
@@ -137,9 +126,9 @@ pub const CALLS: &[Call] = &[
     Call::CopyBareItem(3),
     Call::CopyRead(b"\"a b\"", "a b"),
     Call::CopyRead(b"\"\\\"\"", "\""),
-    Call::Copy(Field::Item, b"\"a\";b=c"),
-    Call::Copy(Field::List, b"\"a\", (b)"),
-    Call::Copy(Field::Dictionary, b"a=\"a\", b=(b)"),
+    Call::Copy(FieldKind::Item, b"\"a\";b=c"),
+    Call::Copy(FieldKind::List, b"\"a\", (b)"),
+    Call::Copy(FieldKind::Dictionary, b"a=\"a\", b=(b)"),
     Call::CopyMember(b"a"),
     Call::CopyMember(b"(a)"),
     Call::CopyInnerList(b"(a);b"),
@@ -170,11 +159,11 @@ pub const CALLS: &[Call] = &[
 ];
 
 /// Parses a field of this type, and serializes it.
-fn read_as(alloc: Global, field: Field, input: &[u8]) -> Result<Option<String>, Error> {
+fn read_as(alloc: Global, field: FieldKind, input: &[u8]) -> Result<Option<String>, Error> {
     match field {
-        Field::Item => read::<Item>(alloc, input),
-        Field::List => read::<List>(alloc, input),
-        Field::Dictionary => read::<Dictionary>(alloc, input),
+        FieldKind::Item => read::<Item>(alloc, input),
+        FieldKind::List => read::<List>(alloc, input),
+        FieldKind::Dictionary => read::<Dictionary>(alloc, input),
     }
 }
 
@@ -189,17 +178,17 @@ pub fn perform(alloc: Global, call: Call) -> Result<bool, Error> {
         Call::ReadIntoDictionary(held, line, answer) => {
             is_answer(read_into_dictionary(alloc, held, line), answer)
         }
-        Call::WriteFor(Field::Item, input) => write_for::<Item>(alloc, input),
-        Call::WriteFor(Field::List, input) => write_for::<List>(alloc, input),
-        Call::WriteFor(Field::Dictionary, input) => write_for::<Dictionary>(alloc, input),
+        Call::WriteFor(FieldKind::Item, input) => write_for::<Item>(alloc, input),
+        Call::WriteFor(FieldKind::List, input) => write_for::<List>(alloc, input),
+        Call::WriteFor(FieldKind::Dictionary, input) => write_for::<Dictionary>(alloc, input),
         Call::CopyKey => copies::key(alloc),
         Call::CopyToken => copies::token(alloc),
         Call::CopyString => copies::string(alloc),
         Call::CopyBareItem(row) => copies::bare_item(alloc, row),
         Call::CopyRead(input, text) => copies::read_string(alloc, input, text),
-        Call::Copy(Field::Item, input) => copies::field::<Item>(alloc, input),
-        Call::Copy(Field::List, input) => copies::field::<List>(alloc, input),
-        Call::Copy(Field::Dictionary, input) => copies::field::<Dictionary>(alloc, input),
+        Call::Copy(FieldKind::Item, input) => copies::field::<Item>(alloc, input),
+        Call::Copy(FieldKind::List, input) => copies::field::<List>(alloc, input),
+        Call::Copy(FieldKind::Dictionary, input) => copies::field::<Dictionary>(alloc, input),
         Call::CopyMember(input) => copies::member(alloc, input),
         Call::CopyInnerList(input) => copies::inner_list(alloc, input),
         Call::Enter => copies::entered(alloc),

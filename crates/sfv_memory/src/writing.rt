@@ -18,7 +18,7 @@ fn number<'a>(n: i64) -> RefBareItem<'a>
 }
 
 /// Returns a text that begins with `X: ` and has capacity for `room`.
-fn lent(alloc: Global, room: &str) -> Result<String, Error> {
+fn text_with_room(alloc: Global, room: &str) -> Result<String, Error> {
     let mut text = String::with_capacity(alloc, room.len())?;
     text.push_str("X: ")?;
     Ok(text)
@@ -63,7 +63,7 @@ fn put_member<W: Sink>(dict: &mut DictSerializer<W>) -> Result<(), SerializeErro
 
 /// Writes an item of a list after `X: `.
 pub fn first_item(alloc: Global) -> Result<bool, Error> {
-    let mut text = lent(alloc, "X: ")?;
+    let mut text = text_with_room(alloc, "X: ")?;
     let mut list = ListSerializer::with_buffer(&mut text);
     let made = put(&mut list, number(1)).is_ok();
     is_left(!made, list.finish(), None, "X: 1")
@@ -86,7 +86,7 @@ fn is_inner_list_made<W: Sink>(list: &mut ListSerializer<W>) -> bool {
 
 /// Writes an inner list after 1, and before 2 if `goes_on` is true, in a buffer with this room.
 pub fn inner_list(alloc: Global, room: &str, goes_on: bool) -> Result<bool, Error> {
-    let mut text = lent(alloc, room)?;
+    let mut text = text_with_room(alloc, room)?;
     let mut list = ListSerializer::with_buffer(&mut text);
     if !put(&mut list, number(1)).is_ok() {
         return Ok(false);
@@ -121,7 +121,7 @@ fn write_second<W: Sink>(list: &mut ListSerializer<W>, goes_on: bool) -> (bool, 
 
 /// Writes an item of an inner list. If it fails, the inner list ends, or continues with another item.
 pub fn inner_item(alloc: Global, goes_on: bool) -> Result<bool, Error> {
-    let mut text = lent(alloc, "X: (5")?;
+    let mut text = text_with_room(alloc, "X: (5")?;
     let mut list = ListSerializer::with_buffer(&mut text);
     let (second, ended) = write_second(&mut list, goes_on);
     let left = if second {
@@ -137,7 +137,7 @@ pub fn inner_item(alloc: Global, goes_on: bool) -> Result<bool, Error> {
 /// Writes the members of a list, and again if they fail.
 pub fn members(alloc: Global, goes_on: bool) -> Result<bool, Error> {
     let value = Parser::new(b"1, (2 3)").parse::<List>(alloc)?;
-    let mut text = lent(alloc, "X: ")?;
+    let mut text = text_with_room(alloc, "X: ")?;
     let mut list = ListSerializer::with_buffer(&mut text);
     let made = list.members(value[..].iter()).is_ok();
     let again = goes_on && !made && list.members(value[..].iter()).is_ok();
@@ -147,7 +147,7 @@ pub fn members(alloc: Global, goes_on: bool) -> Result<bool, Error> {
 
 /// Writes a parameter of a dictionary member, and then another member.
 pub fn parameter(alloc: Global, goes_on: bool) -> Result<bool, Error> {
-    let mut text = lent(alloc, "X: a")?;
+    let mut text = text_with_room(alloc, "X: a")?;
     let mut dict = DictSerializer::with_buffer(&mut text);
     let made = put_parameter(&mut dict).is_ok();
     if !goes_on {
@@ -164,7 +164,7 @@ pub fn parameter(alloc: Global, goes_on: bool) -> Result<bool, Error> {
 /// Writes the members of a dictionary.
 pub fn named_members(alloc: Global) -> Result<bool, Error> {
     let value = Parser::new(b"a=1, b=(2 3);c").parse::<Dictionary>(alloc)?;
-    let mut text = lent(alloc, "X: ")?;
+    let mut text = text_with_room(alloc, "X: ")?;
     let mut dict = DictSerializer::with_buffer(&mut text);
     let made = dict.members(value.iter()).is_ok();
     is_left(!made, dict.finish(), None, "X: a=1, b=(2 3);c")
@@ -172,7 +172,7 @@ pub fn named_members(alloc: Global) -> Result<bool, Error> {
 
 /// Begins an inner list of a dictionary, and abandons it.
 pub fn named_inner_list(alloc: Global) -> Result<bool, Error> {
-    let mut text = lent(alloc, "X: ")?;
+    let mut text = text_with_room(alloc, "X: ")?;
     let mut dict = DictSerializer::with_buffer(&mut text);
     let made = match dict.inner_list(key_ref("a-key")) {
         Ok(inner) => {
@@ -202,7 +202,7 @@ pub fn items(alloc: Global) -> Result<bool, Error> {
     let Some(ListEntry::InnerList(inner)) = value[..].first() else {
         return Ok(false);
     };
-    let mut text = lent(alloc, "X: (")?;
+    let mut text = text_with_room(alloc, "X: (")?;
     let mut list = ListSerializer::with_buffer(&mut text);
     let (made, ended) = write_items(&mut list, inner.items.as_slice());
     let left = if made { None } else { Some("X: ()") };
@@ -220,7 +220,7 @@ fn write_item(text: &mut String, item: &Item, is_begun: &mut bool) -> Result<(),
 /// Writes an item with its parameters.
 pub fn item(alloc: Global, room: &str) -> Result<bool, Error> {
     let value = Parser::new(b"1;a=2;b").parse::<Item>(alloc)?;
-    let mut text = lent(alloc, room)?;
+    let mut text = text_with_room(alloc, room)?;
     let mut is_begun = false;
     let made = write_item(&mut text, &value, &mut is_begun).is_ok();
     let left = if is_begun { "X: 1" } else { "X: " };

@@ -2,7 +2,8 @@
 #![tactic(auto)]
 
 ghost use Rattle.std.specs.Prelude.{IfOk, IfErr};
-ghost use Rattle.sfv.specs.Values.{rfc9651, item_field};
+ghost use Rattle.sfv.specs.Types.{item_field};
+ghost use Rattle.sfv.specs.Types.{Rfc9651};
 ghost use Rattle.sfv.specs.Parsers.{IsParseError};
 ghost use Rattle.sfv_mobile_hint.specs.MobileHint.{IsMobileHint};
 
@@ -16,7 +17,7 @@ use std::alloc::Global;
 /// Returns the error of `Parser::parse` if the input is not an item, or if memory runs out.
 pub fn is_mobile(alloc: Global, input: &[u8]) -> Result<bool, Error>
     ensures read { IfOk result (IsMobileHint input.now) }
-    ensures rejected { IfErr result (IsParseError rfc9651 item_field input.now) }
+    ensures rejected { IfErr result (IsParseError Rfc9651 item_field input.now) }
 {
     let item = Parser::new(input).parse::<Item>(alloc)?;
     let Some(mobile) = item.bare_item.as_boolean() else {

@@ -1,5 +1,5 @@
 -- The written text parses back to the intermediary.
-use Rattle.sfv_field.specs.Field.{◌≡◌, ◌≤◌, ℕ, List, true, Some, nat_le, pos, rfc8941, list_field, integer, Fits, last_of}
+use Rattle.sfv_field.specs.Field.{◌≡◌, ◌≤◌, ℕ, List, true, Some, nat_le, pos, Rfc8941, list_field, integer, Fits, last_of}
 use Rattle.std.proofs.Common.{refl, arith}
 use Rattle.sfv_proxy_status.specs.ProxyStatus.{status_in, last_proxy_of, name_value}
 use Rattle.sfv_proxy_status.specs.Writing.{written_members, written_proxy}
@@ -18,6 +18,6 @@ unfolding last_of
 its_proxy (names.String s) error n h k = rw (within n h k) refl
 its_proxy (names.Token t) error n h k = rw (within n h k) refl
 
-pub fits : (name : Name) (error : List ℕ) (n : ℕ) → Fits rfc8941 list_field (written_members (name_value name) error n)
+pub fits : (name : Name) (error : List ℕ) (n : ℕ) → Fits Rfc8941 list_field (written_members (name_value name) error n)
 fits (names.String s) error n = (refl, (refl, (refl, tt)))
 fits (names.Token t) error n = (refl, (refl, (refl, tt)))

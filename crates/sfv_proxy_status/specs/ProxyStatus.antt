@@ -1,7 +1,7 @@
 -- The Proxy-Status field (RFC 9209, section 2): a List. Each member is an item that names an intermediary.
 use Rattle.sfv_field.specs.Field.{◌≡◌, ℕ, List, Option, Some, None, option_map, codes, pos, nat_le, if◌then◌else◌, ◌&&◌}
 use Rattle.sfv_field.specs.Field.{fold}
-use Rattle.sfv_field.specs.Field.{Edition, list_field, BareValue, integer, string, token, RawMember, item, inner_list}
+use Rattle.sfv_field.specs.Field.{Version, list_field, BareValue, integer, string, token, RawMember, item, inner_list}
 use Rattle.sfv_field.specs.Field.{last_of, read_text, token_text, IsParsedAs}
 use Rattle.sfv_proxy_status.specs.declared.reading.Name.{Name}
 use Rattle.sfv_proxy_status.specs.declared.reading.Name.TheVariants as names
@@ -62,6 +62,6 @@ proxy_value p = record {
 }
 
 -- the text parses to a list with this last intermediary
-abbrev pub IsLastProxyOf : Edition → List ℕ → Option ProxyValue → Type 0
-IsLastProxyOf edition t found = (value : List RawMember) × IsParsedAs edition list_field t value
+abbrev pub IsLastProxyOf : Version → List ℕ → Option ProxyValue → Type 0
+IsLastProxyOf version t found = (value : List RawMember) × IsParsedAs version list_field t value
     × (found ≡ last_proxy_of value)

@@ -1,5 +1,5 @@
 -- The text of an intermediary.
-use Rattle.sfv_field.specs.Field.{ℕ, List, [], ◌∷◌, Some, codes, pos, Edition, list_field, BareValue, integer, token}
+use Rattle.sfv_field.specs.Field.{ℕ, List, [], ◌∷◌, Some, codes, pos, Version, list_field, BareValue, integer, token}
 use Rattle.sfv_field.specs.Field.{RawMember, item, canonical}
 use Rattle.sfv_proxy_status.specs.ProxyStatus.{ProxyValue, IsLastProxyOf}
 
@@ -18,4 +18,4 @@ written_proxy name error status = record { name = name; error = Some error; rece
 -- the text parses, under both versions, to a list whose last member is this intermediary
 abbrev pub IsReadAsProxy : BareValue → List ℕ → ℕ → Type 0
 IsReadAsProxy name error status =
-    (edition : Edition) → IsLastProxyOf edition (proxy_text name error status) (Some (written_proxy name error status))
+    (version : Version) → IsLastProxyOf version (proxy_text name error status) (Some (written_proxy name error status))

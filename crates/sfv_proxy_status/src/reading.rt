@@ -1,6 +1,6 @@
 //! Parsing of the last member, without a list.
 
-ghost use Rattle.sfv_field.specs.Field.{◌≡◌, IfOk, IfErr, option_map, list_field, input_value, edition_of, token_text};
+ghost use Rattle.sfv_field.specs.Field.{◌≡◌, IfOk, IfErr, option_map, list_field, input_value, token_text};
 ghost use Rattle.sfv_field.specs.Field.{IsParseError, bytes_eq, codes, if◌then◌else◌};
 ghost use Rattle.sfv_proxy_status.specs.ProxyStatus.{name_in, error_in, status_in, name_value, proxy_value};
 ghost use Rattle.sfv_proxy_status.specs.ProxyStatus.{last_proxy_of, IsLastProxyOf};
@@ -164,8 +164,8 @@ pub fn last_proxy<'a>(
     input: &'a [u8],
     version: Version,
 ) -> Result<Option<Proxy<'a>>, Error>
-    ensures read { IfOk result (λ found. IsLastProxyOf (edition_of version) input.now (option_map proxy_value found)) }
-    ensures rejected { IfErr result (IsParseError (edition_of version) list_field input.now) }
+    ensures read { IfOk result (λ found. IsLastProxyOf version input.now (option_map proxy_value found)) }
+    ensures rejected { IfErr result (IsParseError version list_field input.now) }
 {
     let read = read_list(alloc, input, version, LastProxy { found: None })?;
     Ok(read.found)

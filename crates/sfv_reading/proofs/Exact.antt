@@ -6,7 +6,8 @@ use Rattle.std.specs.List.{list_all}
 use Rattle.std.proofs.lemmas.Bool.{or_cases, eqb-true, and_parts, not-true, true≢false}
 use Rattle.std.proofs.lemmas.List.{append-nil, append_cancel_right, length-append}
 use Rattle.sfv_spec.specs.Classes.{is_one_of, is_token_inner}
-use Rattle.sfv_spec.specs.Values.{Edition, BareValue}
+use Rattle.sfv_spec.specs.Values.{BareValue}
+use Rattle.sfv_spec.specs.declared.version.Version.{Version}
 use Rattle.sfv_spec.specs.Grammar.{IsBareText, IsEnded}
 use Rattle.sfv_reading.specs.Judgements.{Reached, Lasts}
 use Rattle.sfv_reading.specs.Reader.{Apart, first}
@@ -20,18 +21,18 @@ use Rattle.sfv_reading.proofs.complete.Bare.{bare_complete}
 
 -- ---- the front
 
-module _ (edition : Edition) where
+module _ (version : Version) where
   -- a text of a value is read to its end
-  read_whole : (v : BareValue) (s : List ℕ) → IsBareText edition v s → bare_at edition s ≡ Ok (v, [])
-  read_whole v s h = ap (bare_at edition) (sym (append-nil s))
-      ∙ bare_complete edition v s [] h (Apart-nil is_token_inner)
+  read_whole : (v : BareValue) (s : List ℕ) → IsBareText version v s → bare_at version s ≡ Ok (v, [])
+  read_whole v s h = ap (bare_at version) (sym (append-nil s))
+      ∙ bare_complete version v s [] h (Apart-nil is_token_inner)
 
   -- the reader stops where it did, if the text is cut off further on
-  no_longer : (p rest : List ℕ) (v w : BareValue) (more behind : List ℕ)
-      → ((r : List ℕ) → first r ≡ first rest → bare_at edition (p ++ r) ≡ Ok (v, r)) → rest ≡ more ++ behind
-      → IsBareText edition w (p ++ more) → more ≡ []
-  no_longer p rest v w [] behind lasts e h = refl
-  no_longer p rest v w (c ∷ more) behind lasts e h =
+  no_longer : (p rest : List ℕ) (v w : BareValue) (more after : List ℕ)
+      → ((r : List ℕ) → first r ≡ first rest → bare_at version (p ++ r) ≡ Ok (v, r)) → rest ≡ more ++ after
+      → IsBareText version w (p ++ more) → more ≡ []
+  no_longer p rest v w [] after lasts e h = refl
+  no_longer p rest v w (c ∷ more) after lasts e h =
       let short = lasts (c ∷ more) (ap first (sym e)) in
       let whole = read_whole w (p ++ c ∷ more) h in
       let pairs : (v, c ∷ more) ≡ (w, []) = cc in
@@ -51,21 +52,21 @@ parted (x ∷ a) b (y ∷ c) d e =
     ]
 
 -- the longest text
-begins_on : (edition : Edition) (t : List ℕ) (v : BareValue) (rest s : List ℕ) → t ≡ s ++ rest → IsBareText edition v s
-    → Lasts (bare_at edition) t (Ok (v, rest)) → BeginsWithBare edition t v rest
-begins_on edition t v rest s parts means l =
+begins_on : (version : Version) (t : List ℕ) (v : BareValue) (rest s : List ℕ) → t ≡ s ++ rest → IsBareText version v s
+    → Lasts (bare_at version) t (Ok (v, rest)) → BeginsWithBare version t v rest
+begins_on version t v rest s parts means l =
     let same : l.0 ≡ s = append_cancel_right l.0 s rest (sym l.1 ∙ parts) in
     record {
       front = s;
       text = parts;
       means = means;
       only = λ w o.
-          let pairs : (w, []) ≡ (v, []) = let one = read_whole edition v s means in
-          let other = read_whole edition w s o in cc in ap (λ (x : BareValue × List ℕ). x.0) pairs;
-      longest = λ longer behind e w. elim (parted s rest longer behind (sym parts ∙ e)) [
+          let pairs : (w, []) ≡ (v, []) = let one = read_whole version v s means in
+          let other = read_whole version w s o in cc in ap (λ (x : BareValue × List ℕ). x.0) pairs;
+      longest = λ longer after e w. elim (parted s rest longer after (sym parts ∙ e)) [
         | inl m ↦ m
         | inr m ↦
-            let none = no_longer edition l.0 rest v w.0 m.0 behind l.2 m.2 (subst (IsBareText edition w.0) (m.1
+            let none = no_longer version l.0 rest v w.0 m.0 after l.2 m.2 (subst (IsBareText version w.0) (m.1
             ∙ ap (λ (p : List ℕ). p ++ m.0) (sym same)) w.1) in
             omega (arith, ap (length {A = ℕ}) m.1, length-append s m.0, ap (length {A = ℕ}) none)
       ];
@@ -90,10 +91,10 @@ ended_apart (c ∷ rest) h = Apart-cons is_token_inner c rest (none_of (codes ";
 
 pub bare_is_exact : BareIsExact
 bare_is_exact = (
-  (λ edition t v rest e.
-      let h = subst (Reached (IsBareText edition) (BareGoes edition) (Somewhere (BareGoes edition)) t) e
-      ((Sound-bare edition).sound t) in
-      begins_on edition t v rest h.0 h.1 h.2 (subst (Lasts (bare_at edition) t) e ((Local-bare edition).lasts t))),
-  (λ edition t fault e s rest parts w ended. let read = bare_complete edition w.0 s rest w.1 (ended_apart rest ended) in
-      let text = ap (bare_at edition) parts in absurd cc),
+  (λ version t v rest e.
+      let h = subst (Reached (IsBareText version) (BareGoes version) (Somewhere (BareGoes version)) t) e
+      ((Sound-bare version).sound t) in
+      begins_on version t v rest h.0 h.1 h.2 (subst (Lasts (bare_at version) t) e ((Local-bare version).lasts t))),
+  (λ version t fault e s rest parts w ended. let read = bare_complete version w.0 s rest w.1 (ended_apart rest ended) in
+      let text = ap (bare_at version) parts in absurd cc),
 )

@@ -2,16 +2,25 @@
 use Rattle.std.proofs.Common.{◌≡◌, ℕ, List, [], ◌∷◌, Ok, Err, refl, pos, true, false}
 use Rattle.std.specs.Prelude.{codes}
 use Rattle.sfv_spec.specs.Ascii.{lower_f}
-use Rattle.sfv_spec.specs.Values.{Edition, rfc8941, rfc9651, FieldKind, item_field, list_field, dictionary_field}
+use Rattle.sfv_spec.specs.declared.field_kind.FieldKind.{FieldKind}
+use Rattle.sfv_spec.specs.declared.field_kind.FieldKind.TheVariants.{Item as item_field, List as list_field}
+use Rattle.sfv_spec.specs.declared.field_kind.FieldKind.TheVariants.{Dictionary as dictionary_field}
+use Rattle.sfv_spec.specs.declared.version.Version.{Version}
+use Rattle.sfv_spec.specs.declared.version.Version.TheVariants.{Rfc8941, Rfc9651}
 use Rattle.sfv_spec.specs.Values.{integer, decimal, string, token, byte_sequence, boolean, display_string}
 use Rattle.sfv_spec.specs.Events.{entry, keyed_entry, begins_item, begins_inner_list, bare_item, parameter}
 use Rattle.sfv_spec.specs.Events.{parameters_end, inner_list_end, events}
-use Rattle.sfv_spec.specs.Faults.{trailing_comma, trailing_decimal_point, non_integer_date, rfc8941_date}
-use Rattle.sfv_spec.specs.Faults.{expected_digit, too_many_digits, too_many_digits_after_decimal_point}
-use Rattle.sfv_spec.specs.Faults.{expected_start_of_bare_item, trailing_characters_after_parsed_value}
-use Rattle.sfv_spec.specs.Faults.{unterminated_inner_list, invalid_byte_sequence, unterminated_byte_sequence}
-use Rattle.sfv_spec.specs.Faults.{invalid_escape_sequence, unterminated_escape_sequence, unterminated_string}
-use Rattle.sfv_spec.specs.Faults.{invalid_utf8_in_display_string, rfc8941_display_string}
+use Rattle.sfv_spec.specs.declared.error_kind.ErrorKind.TheVariants.{TrailingComma, TrailingDecimalPoint}
+use Rattle.sfv_spec.specs.declared.error_kind.ErrorKind.TheVariants.{NonIntegerDate, Rfc8941Date}
+use Rattle.sfv_spec.specs.declared.error_kind.ErrorKind.TheVariants.{ExpectedDigit, TooManyDigits}
+use Rattle.sfv_spec.specs.declared.error_kind.ErrorKind.TheVariants.{TooManyDigitsAfterDecimalPoint}
+use Rattle.sfv_spec.specs.declared.error_kind.ErrorKind.TheVariants.{ExpectedStartOfBareItem}
+use Rattle.sfv_spec.specs.declared.error_kind.ErrorKind.TheVariants.{TrailingCharactersAfterParsedValue}
+use Rattle.sfv_spec.specs.declared.error_kind.ErrorKind.TheVariants.{UnterminatedInnerList, InvalidByteSequence}
+use Rattle.sfv_spec.specs.declared.error_kind.ErrorKind.TheVariants.{UnterminatedByteSequence}
+use Rattle.sfv_spec.specs.declared.error_kind.ErrorKind.TheVariants.{InvalidEscapeSequence, UnterminatedEscapeSequence}
+use Rattle.sfv_spec.specs.declared.error_kind.ErrorKind.TheVariants.{UnterminatedString}
+use Rattle.sfv_spec.specs.declared.error_kind.ErrorKind.TheVariants.{InvalidUtf8InDisplayString, Rfc8941DisplayString}
 use Rattle.sfv_spec.specs.Grammar.{IsAccepted}
 use Rattle.sfv_reading.specs.Reader.{Fault, at_reach, by_rule, give, fail, ruled, bind, led, branch, ahead, back, up_to}
 use Rattle.sfv_reading.specs.Reader.{span, many, many_within, visited}
@@ -29,9 +38,9 @@ use Rattle.sfv_reading.specs.Members.{member_value_at, keyed_at}
 use Rattle.sfv_reading.specs.Fields.{comma_at, next_at, members_at, whole_field_at, read_field}
 use Rattle.sfv_reading.proofs.Theorems.{read_is_accepted}
 
-item_with_more : read_field rfc9651 item_field (codes "1.5;a;b=x, 2")
+item_with_more : read_field Rfc9651 item_field (codes "1.5;a;b=x, 2")
     ≡ Err (record {
-      kind = trailing_characters_after_parsed_value;
+      kind = TrailingCharactersAfterParsedValue;
       exact = true;
       rest = codes ", 2";
       events = bare_item (decimal (pos 1500)) ∷ parameter (codes "a") (boolean true)
@@ -43,9 +52,9 @@ unfolding content_in bytes_at string_from pieces_from display_at give fail ruled
     inner_at member_at entry_at member_value_at keyed_at comma_at next_at members_at whole_field_at read_field
 item_with_more = refl
 
-comma_at_end : read_field rfc9651 list_field (codes "1 , ")
+comma_at_end : read_field Rfc9651 list_field (codes "1 , ")
     ≡ Err (record {
-      kind = trailing_comma;
+      kind = TrailingComma;
       exact = false;
       rest = codes ", ";
       events = entry ∷ begins_item ∷ bare_item (integer (pos 1)) ∷ parameters_end ∷ [];
@@ -56,9 +65,9 @@ unfolding content_in bytes_at string_from pieces_from display_at give fail ruled
     inner_at member_at entry_at member_value_at keyed_at comma_at next_at members_at whole_field_at read_field
 comma_at_end = refl
 
-no_member : read_field rfc9651 list_field (codes "1,,2")
+no_member : read_field Rfc9651 list_field (codes "1,,2")
     ≡ Err (record {
-      kind = expected_start_of_bare_item;
+      kind = ExpectedStartOfBareItem;
       exact = true;
       rest = codes ",2";
       events = entry ∷ begins_item ∷ bare_item (integer (pos 1)) ∷ parameters_end ∷ entry ∷ begins_item ∷ [];
@@ -69,17 +78,17 @@ unfolding content_in bytes_at string_from pieces_from display_at give fail ruled
     inner_at member_at entry_at member_value_at keyed_at comma_at next_at members_at whole_field_at read_field
 no_member = refl
 
-decimal_as_date : read_field rfc9651 item_field (codes " @1.5")
-    ≡ Err (record { kind = non_integer_date; exact = false; rest = codes "@1.5"; events = [] })
+decimal_as_date : read_field Rfc9651 item_field (codes " @1.5")
+    ≡ Err (record { kind = NonIntegerDate; exact = false; rest = codes "@1.5"; events = [] })
 unfolding content_in bytes_at string_from pieces_from display_at give fail ruled bind led branch ahead back up_to span
     many many_within sign_at long_at decimal_at fraction_at point_at whole_at number_at boolean_at token_at date_at
     quoted_at bare_at key_at value_at parameter_at parameters_at item_at inner_item_at next_item_at inner_items_at
     inner_at member_at entry_at member_value_at keyed_at comma_at next_at members_at whole_field_at read_field
 decimal_as_date = refl
 
-old_date : read_field rfc8941 dictionary_field (codes "a=@1")
+old_date : read_field Rfc8941 dictionary_field (codes "a=@1")
     ≡ Err (record {
-      kind = rfc8941_date;
+      kind = Rfc8941Date;
       exact = true;
       rest = codes "@1";
       events = keyed_entry (codes "a") ∷ begins_item ∷ [];
@@ -90,9 +99,9 @@ unfolding content_in bytes_at string_from pieces_from display_at give fail ruled
     inner_at member_at entry_at member_value_at keyed_at comma_at next_at members_at whole_field_at read_field
 old_date = refl
 
-open_inner : read_field rfc9651 dictionary_field (codes "a=(1 ")
+open_inner : read_field Rfc9651 dictionary_field (codes "a=(1 ")
     ≡ Err (record {
-      kind = expected_start_of_bare_item;
+      kind = ExpectedStartOfBareItem;
       exact = true;
       rest = [];
       events = keyed_entry (codes "a") ∷ begins_inner_list ∷ begins_item ∷ bare_item (integer (pos 1)) ∷ parameters_end
@@ -104,17 +113,17 @@ unfolding content_in bytes_at string_from pieces_from display_at give fail ruled
     inner_at member_at entry_at member_value_at keyed_at comma_at next_at members_at whole_field_at read_field
 open_inner = refl
 
-open_at_once : read_field rfc9651 list_field (codes "(")
-    ≡ Err (record { kind = unterminated_inner_list; exact = true; rest = []; events = entry ∷ begins_inner_list ∷ [] })
+open_at_once : read_field Rfc9651 list_field (codes "(")
+    ≡ Err (record { kind = UnterminatedInnerList; exact = true; rest = []; events = entry ∷ begins_inner_list ∷ [] })
 unfolding content_in bytes_at string_from pieces_from display_at give fail ruled bind led branch ahead back up_to span
     many many_within sign_at long_at decimal_at fraction_at point_at whole_at number_at boolean_at token_at date_at
     quoted_at bare_at key_at value_at parameter_at parameters_at item_at inner_item_at next_item_at inner_items_at
     inner_at member_at entry_at member_value_at keyed_at comma_at next_at members_at whole_field_at read_field
 open_at_once = refl
 
-point_last : read_field rfc9651 dictionary_field (codes "a;b=1.")
+point_last : read_field Rfc9651 dictionary_field (codes "a;b=1.")
     ≡ Err (record {
-      kind = trailing_decimal_point;
+      kind = TrailingDecimalPoint;
       exact = false;
       rest = codes ".";
       events = keyed_entry (codes "a") ∷ begins_item ∷ bare_item (boolean true) ∷ [];
@@ -125,7 +134,7 @@ unfolding content_in bytes_at string_from pieces_from display_at give fail ruled
     inner_at member_at entry_at member_value_at keyed_at comma_at next_at members_at whole_field_at read_field
 point_last = refl
 
-a_dictionary : visited (events dictionary_field) (whole_field_at rfc9651 dictionary_field (codes "a=(1 x;y), b"))
+a_dictionary : visited (events dictionary_field) (whole_field_at Rfc9651 dictionary_field (codes "a=(1 x;y), b"))
     ≡ keyed_entry (codes "a") ∷ begins_inner_list ∷ begins_item ∷ bare_item (integer (pos 1)) ∷ parameters_end
     ∷ begins_item ∷ bare_item (token (codes "x")) ∷ parameter (codes "y") (boolean true) ∷ parameters_end
     ∷ inner_list_end ∷ parameters_end ∷ keyed_entry (codes "b") ∷ begins_item ∷ bare_item (boolean true)
@@ -136,7 +145,7 @@ unfolding content_in bytes_at string_from pieces_from display_at give fail ruled
     inner_at member_at entry_at member_value_at keyed_at comma_at next_at members_at whole_field_at read_field
 a_dictionary = refl
 
-some_bytes : read_field rfc9651 item_field (codes ":aGVsbG8=:;a")
+some_bytes : read_field Rfc9651 item_field (codes ":aGVsbG8=:;a")
     ≡ Ok (record { bare = byte_sequence (codes "hello"); parameters = (codes "a", boolean true) ∷ [] })
 unfolding symbol_value is_symbol padding_in valid_from values_in bytes_from bytes_of fault_place content_in bytes_at
     string_from pieces_from display_at give fail ruled bind led branch ahead back up_to span many many_within sign_at
@@ -145,7 +154,7 @@ unfolding symbol_value is_symbol padding_in valid_from values_in bytes_from byte
     member_value_at keyed_at comma_at next_at members_at whole_field_at read_field
 some_bytes = refl
 
-bytes_without_padding : read_field rfc9651 item_field (codes ":aGVsbG8:")
+bytes_without_padding : read_field Rfc9651 item_field (codes ":aGVsbG8:")
     ≡ Ok (record { bare = byte_sequence (codes "hello"); parameters = [] })
 unfolding symbol_value is_symbol padding_in valid_from values_in bytes_from bytes_of fault_place content_in bytes_at
     string_from pieces_from display_at give fail ruled bind led branch ahead back up_to span many many_within sign_at
@@ -154,8 +163,8 @@ unfolding symbol_value is_symbol padding_in valid_from values_in bytes_from byte
     member_value_at keyed_at comma_at next_at members_at whole_field_at read_field
 bytes_without_padding = refl
 
-lone_symbol : read_field rfc9651 item_field (codes ":a:")
-    ≡ Err (record { kind = invalid_byte_sequence; exact = false; rest = codes "a:"; events = [] })
+lone_symbol : read_field Rfc9651 item_field (codes ":a:")
+    ≡ Err (record { kind = InvalidByteSequence; exact = false; rest = codes "a:"; events = [] })
 unfolding symbol_value is_symbol padding_in valid_from values_in bytes_from bytes_of fault_place content_in bytes_at
     string_from pieces_from display_at give fail ruled bind led branch ahead back up_to span many many_within sign_at
     long_at decimal_at fraction_at point_at whole_at number_at boolean_at token_at date_at quoted_at bare_at key_at
@@ -163,9 +172,9 @@ unfolding symbol_value is_symbol padding_in valid_from values_in bytes_from byte
     member_value_at keyed_at comma_at next_at members_at whole_field_at read_field
 lone_symbol = refl
 
-padding_too_soon : read_field rfc9651 list_field (codes "1, :a=:")
+padding_too_soon : read_field Rfc9651 list_field (codes "1, :a=:")
     ≡ Err (record {
-      kind = invalid_byte_sequence;
+      kind = InvalidByteSequence;
       exact = true;
       rest = codes "=:";
       events = entry ∷ begins_item ∷ bare_item (integer (pos 1)) ∷ parameters_end ∷ entry ∷ begins_item ∷ [];
@@ -177,8 +186,8 @@ unfolding symbol_value is_symbol padding_in valid_from values_in bytes_from byte
     member_value_at keyed_at comma_at next_at members_at whole_field_at read_field
 padding_too_soon = refl
 
-open_bytes : read_field rfc9651 item_field (codes ":aGVs")
-    ≡ Err (record { kind = unterminated_byte_sequence; exact = false; rest = []; events = [] })
+open_bytes : read_field Rfc9651 item_field (codes ":aGVs")
+    ≡ Err (record { kind = UnterminatedByteSequence; exact = false; rest = []; events = [] })
 unfolding symbol_value is_symbol padding_in valid_from values_in bytes_from bytes_of fault_place content_in bytes_at
     string_from pieces_from display_at give fail ruled bind led branch ahead back up_to span many many_within sign_at
     long_at decimal_at fraction_at point_at whole_at number_at boolean_at token_at date_at quoted_at bare_at key_at
@@ -186,7 +195,7 @@ unfolding symbol_value is_symbol padding_in valid_from values_in bytes_from byte
     member_value_at keyed_at comma_at next_at members_at whole_field_at read_field
 open_bytes = refl
 
-some_string : read_field rfc9651 item_field (codes "\"a\\\"b\\\\\"")
+some_string : read_field Rfc9651 item_field (codes "\"a\\\"b\\\\\"")
     ≡ Ok (record { bare = string (codes "a\"b\\"); parameters = [] })
 unfolding content_in bytes_at string_from pieces_from display_at give fail ruled bind led branch ahead back up_to span
     many many_within sign_at long_at decimal_at fraction_at point_at whole_at number_at boolean_at token_at date_at
@@ -194,17 +203,17 @@ unfolding content_in bytes_at string_from pieces_from display_at give fail ruled
     inner_at member_at entry_at member_value_at keyed_at comma_at next_at members_at whole_field_at read_field
 some_string = refl
 
-wrong_escape : read_field rfc9651 item_field (codes "\"a\\b\"")
-    ≡ Err (record { kind = invalid_escape_sequence; exact = true; rest = codes "b\""; events = [] })
+wrong_escape : read_field Rfc9651 item_field (codes "\"a\\b\"")
+    ≡ Err (record { kind = InvalidEscapeSequence; exact = true; rest = codes "b\""; events = [] })
 unfolding content_in bytes_at string_from pieces_from display_at give fail ruled bind led branch ahead back up_to span
     many many_within sign_at long_at decimal_at fraction_at point_at whole_at number_at boolean_at token_at date_at
     quoted_at bare_at key_at value_at parameter_at parameters_at item_at inner_item_at next_item_at inner_items_at
     inner_at member_at entry_at member_value_at keyed_at comma_at next_at members_at whole_field_at read_field
 wrong_escape = refl
 
-open_string : read_field rfc9651 dictionary_field (codes "a=\"b")
+open_string : read_field Rfc9651 dictionary_field (codes "a=\"b")
     ≡ Err (record {
-      kind = unterminated_string;
+      kind = UnterminatedString;
       exact = true;
       rest = [];
       events = keyed_entry (codes "a") ∷ begins_item ∷ [];
@@ -215,7 +224,7 @@ unfolding content_in bytes_at string_from pieces_from display_at give fail ruled
     inner_at member_at entry_at member_value_at keyed_at comma_at next_at members_at whole_field_at read_field
 open_string = refl
 
-some_display : read_field rfc9651 item_field (codes "%\"f%c3%bcr\"")
+some_display : read_field Rfc9651 item_field (codes "%\"f%c3%bcr\"")
     ≡ Ok (record { bare = display_string (lower_f ∷ 0xc3 ∷ 0xbc ∷ 0x72 ∷ []); parameters = [] })
 unfolding lib.Utf8.encode is_utf8 chars utf8_valid_len content_in bytes_at string_from pieces_from display_at give fail
     ruled bind led branch ahead back up_to span many many_within sign_at long_at decimal_at fraction_at point_at
@@ -224,8 +233,8 @@ unfolding lib.Utf8.encode is_utf8 chars utf8_valid_len content_in bytes_at strin
     members_at whole_field_at read_field
 some_display = refl
 
-no_utf8 : read_field rfc9651 item_field (codes "%\"a%ff\"")
-    ≡ Err (record { kind = invalid_utf8_in_display_string; exact = false; rest = codes "%ff\""; events = [] })
+no_utf8 : read_field Rfc9651 item_field (codes "%\"a%ff\"")
+    ≡ Err (record { kind = InvalidUtf8InDisplayString; exact = false; rest = codes "%ff\""; events = [] })
 unfolding lib.Utf8.encode is_utf8 chars utf8_valid_len content_in bytes_at string_from pieces_from display_at give fail
     ruled bind led branch ahead back up_to span many many_within sign_at long_at decimal_at fraction_at point_at
     whole_at number_at boolean_at token_at date_at quoted_at bare_at key_at value_at parameter_at parameters_at item_at
@@ -233,8 +242,8 @@ unfolding lib.Utf8.encode is_utf8 chars utf8_valid_len content_in bytes_at strin
     members_at whole_field_at read_field
 no_utf8 = refl
 
-capital_in_escape : read_field rfc9651 item_field (codes "%\"a%fF\"")
-    ≡ Err (record { kind = invalid_escape_sequence; exact = false; rest = codes "F\""; events = [] })
+capital_in_escape : read_field Rfc9651 item_field (codes "%\"a%fF\"")
+    ≡ Err (record { kind = InvalidEscapeSequence; exact = false; rest = codes "F\""; events = [] })
 unfolding lib.Utf8.encode is_utf8 chars utf8_valid_len content_in bytes_at string_from pieces_from display_at give fail
     ruled bind led branch ahead back up_to span many many_within sign_at long_at decimal_at fraction_at point_at
     whole_at number_at boolean_at token_at date_at quoted_at bare_at key_at value_at parameter_at parameters_at item_at
@@ -242,8 +251,8 @@ unfolding lib.Utf8.encode is_utf8 chars utf8_valid_len content_in bytes_at strin
     members_at whole_field_at read_field
 capital_in_escape = refl
 
-cut_escape : read_field rfc9651 item_field (codes "%\"a%f")
-    ≡ Err (record { kind = unterminated_escape_sequence; exact = false; rest = []; events = [] })
+cut_escape : read_field Rfc9651 item_field (codes "%\"a%f")
+    ≡ Err (record { kind = UnterminatedEscapeSequence; exact = false; rest = []; events = [] })
 unfolding lib.Utf8.encode is_utf8 chars utf8_valid_len content_in bytes_at string_from pieces_from display_at give fail
     ruled bind led branch ahead back up_to span many many_within sign_at long_at decimal_at fraction_at point_at
     whole_at number_at boolean_at token_at date_at quoted_at bare_at key_at value_at parameter_at parameters_at item_at
@@ -251,8 +260,8 @@ unfolding lib.Utf8.encode is_utf8 chars utf8_valid_len content_in bytes_at strin
     members_at whole_field_at read_field
 cut_escape = refl
 
-old_display : read_field rfc8941 item_field (codes "%\"a\"")
-    ≡ Err (record { kind = rfc8941_display_string; exact = true; rest = codes "%\"a\""; events = [] })
+old_display : read_field Rfc8941 item_field (codes "%\"a\"")
+    ≡ Err (record { kind = Rfc8941DisplayString; exact = true; rest = codes "%\"a\""; events = [] })
 unfolding lib.Utf8.encode is_utf8 chars utf8_valid_len content_in bytes_at string_from pieces_from display_at give fail
     ruled bind led branch ahead back up_to span many many_within sign_at long_at decimal_at fraction_at point_at
     whole_at number_at boolean_at token_at date_at quoted_at bare_at key_at value_at parameter_at parameters_at item_at
@@ -263,71 +272,71 @@ old_display = refl
 -- ---- texts that are rejected
 
 -- a text in which the reader finds a fault isn't accepted
-rejected : (edition : Edition) (kind : FieldKind) (t : List ℕ) (e : Fault) → read_field edition kind t ≡ Err e
-    → ¬ IsAccepted edition kind t
-rejected edition kind t e h (raw, i) = let k = (read_is_accepted edition kind t raw).1 i in absurd cc
+rejected : (version : Version) (kind : FieldKind) (t : List ℕ) (e : Fault) → read_field version kind t ≡ Err e
+    → ¬ IsAccepted version kind t
+rejected version kind t e h (raw, i) = let k = (read_is_accepted version kind t raw).1 i in absurd cc
 
 -- no item in an empty text
-empty_is_rejected : ¬ IsAccepted rfc9651 item_field []
+empty_is_rejected : ¬ IsAccepted Rfc9651 item_field []
 unfolding give fail ruled bind led branch ahead back up_to span many many_within sign_at long_at decimal_at fraction_at
     point_at whole_at number_at token_at date_at bare_at parameter_at parameters_at item_at whole_field_at read_field
-empty_is_rejected = rejected rfc9651 item_field [] (at_reach expected_start_of_bare_item []) refl
+empty_is_rejected = rejected Rfc9651 item_field [] (at_reach ExpectedStartOfBareItem []) refl
 
 -- a minus without digits
-minus_is_rejected : ¬ IsAccepted rfc9651 item_field (codes "-")
+minus_is_rejected : ¬ IsAccepted Rfc9651 item_field (codes "-")
 unfolding give fail ruled bind led branch ahead back up_to span many many_within sign_at long_at decimal_at fraction_at
     point_at whole_at number_at token_at date_at bare_at parameter_at parameters_at item_at whole_field_at read_field
-minus_is_rejected = rejected rfc9651 item_field (codes "-") (at_reach expected_digit []) refl
+minus_is_rejected = rejected Rfc9651 item_field (codes "-") (at_reach ExpectedDigit []) refl
 
 -- no digit after the point
-point_is_rejected : ¬ IsAccepted rfc9651 item_field (codes "1.")
+point_is_rejected : ¬ IsAccepted Rfc9651 item_field (codes "1.")
 unfolding give fail ruled bind led branch ahead back up_to span many many_within sign_at long_at decimal_at fraction_at
     point_at whole_at number_at token_at date_at bare_at parameter_at parameters_at item_at whole_field_at read_field
-point_is_rejected = rejected rfc9651 item_field (codes "1.") (by_rule trailing_decimal_point (codes ".")) refl
+point_is_rejected = rejected Rfc9651 item_field (codes "1.") (by_rule TrailingDecimalPoint (codes ".")) refl
 
 -- four digits after the point
-long_fraction_is_rejected : ¬ IsAccepted rfc9651 item_field (codes "1.2345")
+long_fraction_is_rejected : ¬ IsAccepted Rfc9651 item_field (codes "1.2345")
 unfolding give fail ruled bind led branch ahead back up_to span many many_within sign_at long_at decimal_at fraction_at
     point_at whole_at number_at token_at date_at bare_at parameter_at parameters_at item_at whole_field_at read_field
-long_fraction_is_rejected = rejected rfc9651 item_field (codes "1.2345")
-    (at_reach too_many_digits_after_decimal_point (codes "5")) refl
+long_fraction_is_rejected = rejected Rfc9651 item_field (codes "1.2345")
+    (at_reach TooManyDigitsAfterDecimalPoint (codes "5")) refl
 
 -- sixteen digits
-sixteen_digits_are_rejected : ¬ IsAccepted rfc9651 item_field (codes "1234567890123456")
+sixteen_digits_are_rejected : ¬ IsAccepted Rfc9651 item_field (codes "1234567890123456")
 unfolding give fail ruled bind led branch ahead back up_to span many many_within sign_at long_at decimal_at fraction_at
     point_at whole_at number_at token_at date_at bare_at parameter_at parameters_at item_at whole_field_at read_field
-sixteen_digits_are_rejected = rejected rfc9651 item_field (codes "1234567890123456")
-    (at_reach too_many_digits (codes "6")) refl
+sixteen_digits_are_rejected = rejected Rfc9651 item_field (codes "1234567890123456")
+    (at_reach TooManyDigits (codes "6")) refl
 
 -- a single symbol between the colons
-lone_symbol_is_rejected : ¬ IsAccepted rfc9651 item_field (codes ":a:")
-lone_symbol_is_rejected = rejected rfc9651 item_field (codes ":a:") (by_rule invalid_byte_sequence (codes "a:"))
+lone_symbol_is_rejected : ¬ IsAccepted Rfc9651 item_field (codes ":a:")
+lone_symbol_is_rejected = rejected Rfc9651 item_field (codes ":a:") (by_rule InvalidByteSequence (codes "a:"))
     lone_symbol
 
 -- a Date, which RFC 8941 does not have
-old_date_is_rejected : ¬ IsAccepted rfc8941 item_field (codes "@5")
+old_date_is_rejected : ¬ IsAccepted Rfc8941 item_field (codes "@5")
 unfolding give fail ruled bind led branch ahead back up_to span many many_within sign_at long_at decimal_at fraction_at
     point_at whole_at number_at token_at date_at bare_at parameter_at parameters_at item_at whole_field_at read_field
-old_date_is_rejected = rejected rfc8941 item_field (codes "@5") (at_reach rfc8941_date (codes "@5")) refl
+old_date_is_rejected = rejected Rfc8941 item_field (codes "@5") (at_reach Rfc8941Date (codes "@5")) refl
 
 -- a tab in front of a list
-leading_tab_is_rejected : ¬ IsAccepted rfc9651 list_field (codes "\t1")
+leading_tab_is_rejected : ¬ IsAccepted Rfc9651 list_field (codes "\t1")
 unfolding fail bind led branch ahead back span many many_within token_at bare_at item_at member_at entry_at members_at
     whole_field_at read_field
-leading_tab_is_rejected = rejected rfc9651 list_field (codes "\t1") (record {
-  kind = expected_start_of_bare_item;
+leading_tab_is_rejected = rejected Rfc9651 list_field (codes "\t1") (record {
+  kind = ExpectedStartOfBareItem;
   exact = true;
   rest = codes "\t1";
   events = entry ∷ begins_item ∷ [];
 }) refl
 
 -- a tab after an item
-trailing_tab_is_rejected : ¬ IsAccepted rfc9651 item_field (codes "1\t")
+trailing_tab_is_rejected : ¬ IsAccepted Rfc9651 item_field (codes "1\t")
 unfolding give fail ruled bind led branch ahead back up_to span many many_within sign_at long_at decimal_at fraction_at
     point_at whole_at number_at token_at date_at bare_at parameter_at parameters_at item_at whole_field_at read_field
-trailing_tab_is_rejected = rejected rfc9651 item_field (codes "1\t") (record {
+trailing_tab_is_rejected = rejected Rfc9651 item_field (codes "1\t") (record {
   kind =
-      trailing_characters_after_parsed_value;
+      TrailingCharactersAfterParsedValue;
   exact = true;
   rest = codes "\t";
   events = bare_item (integer (pos 1)) ∷ parameters_end ∷ [];

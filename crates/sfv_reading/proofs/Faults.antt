@@ -4,17 +4,24 @@ use Rattle.std.proofs.Common.{Ok, Err, refl, sym, ap, subst, ◌∙◌, inl, inr
 use Rattle.std.specs.Prelude.{◌⊎◌, codes}
 use Rattle.std.proofs.lemmas.Bool.{cases_Bool, true≢false}
 use Rattle.std.proofs.lemmas.List.{length-append, length-drop, take_at}
-use Rattle.sfv_spec.specs.Values.{Edition, FieldKind, RawField, boolean}
+use Rattle.sfv_spec.specs.Values.{RawField, boolean}
+use Rattle.sfv_spec.specs.declared.field_kind.FieldKind.{FieldKind}
+use Rattle.sfv_spec.specs.declared.version.Version.{Version}
 use Rattle.sfv_spec.specs.Grammar.{IsAccepted}
 use Rattle.sfv_spec.specs.Reach.{IsReach}
-use Rattle.sfv_spec.specs.Faults.{SyntaxFault, trailing_comma, expected_start_of_bare_item, expected_start_of_key}
-use Rattle.sfv_spec.specs.Faults.{expected_inner_list_delimiter, trailing_characters_after_member}
-use Rattle.sfv_spec.specs.Faults.{trailing_characters_after_parsed_value, unterminated_inner_list, WantsBetween}
+use Rattle.sfv_spec.specs.declared.error_kind.ErrorKind.{ErrorKind}
+use Rattle.sfv_spec.specs.declared.error_kind.ErrorKind.TheVariants.{TrailingComma, ExpectedStartOfBareItem}
+use Rattle.sfv_spec.specs.declared.error_kind.ErrorKind.TheVariants.{ExpectedStartOfKey}
+use Rattle.sfv_spec.specs.declared.error_kind.ErrorKind.TheVariants.{ExpectedInnerListDelimiter}
+use Rattle.sfv_spec.specs.declared.error_kind.ErrorKind.TheVariants.{TrailingCharactersAfterMember}
+use Rattle.sfv_spec.specs.Faults.{WantsBetween}
+use Rattle.sfv_spec.specs.declared.error_kind.ErrorKind.TheVariants.{TrailingCharactersAfterParsedValue}
+use Rattle.sfv_spec.specs.declared.error_kind.ErrorKind.TheVariants.{UnterminatedInnerList}
 use Rattle.sfv_spec.specs.Faults.{RuledFault, BareItemFault, BegunFault, WantedFault, IsWantedAt, IsFaultAt}
 use Rattle.sfv_spec.specs.Faults.{IsTrailingComma}
 use Rattle.sfv_spec.specs.Faults as faults
 use Rattle.sfv_spec.specs.Statements.{TrueIsWanted}
-use Rattle.sfv_spec.proofs.Editions.{one_reach_lem}
+use Rattle.sfv_spec.proofs.Versions.{one_reach_lem}
 use Rattle.sfv_reading.specs.Reader.{Fault, has_rule}
 use Rattle.sfv_reading.specs.Fields.{read_field}
 use Rattle.sfv_reading.specs.Places.{IsLike, IsOfBare}
@@ -31,61 +38,61 @@ use Rattle.sfv_reading.proofs.places.OneWanted.{one_wanted}
 -- ---- kinds
 
 -- a kind that says what is wanted
-abbrev is_want : SyntaxFault → Bool
-is_want expected_start_of_bare_item = true
-is_want expected_start_of_key = true
-is_want expected_inner_list_delimiter = true
-is_want trailing_characters_after_member = true
-is_want trailing_characters_after_parsed_value = true
+abbrev is_want : ErrorKind → Bool
+is_want ExpectedStartOfBareItem = true
+is_want ExpectedStartOfKey = true
+is_want ExpectedInnerListDelimiter = true
+is_want TrailingCharactersAfterMember = true
+is_want TrailingCharactersAfterParsedValue = true
 is_want _ = false
 
 -- it has no rule
-want_unruled : (k : SyntaxFault) → is_want k ≡ true → has_rule k ≡ false
-want_unruled expected_start_of_bare_item h = refl
-want_unruled expected_start_of_key h = refl
-want_unruled expected_inner_list_delimiter h = refl
-want_unruled trailing_characters_after_member h = refl
-want_unruled trailing_characters_after_parsed_value h = refl
+want_unruled : (k : ErrorKind) → is_want k ≡ true → has_rule k ≡ false
+want_unruled ExpectedStartOfBareItem h = refl
+want_unruled ExpectedStartOfKey h = refl
+want_unruled ExpectedInnerListDelimiter h = refl
+want_unruled TrailingCharactersAfterMember h = refl
+want_unruled TrailingCharactersAfterParsedValue h = refl
 want_unruled _ h = absurd cc
 
-wanted_kind : (edition : Edition) (kind : FieldKind) (u : List ℕ) (f : SyntaxFault) → WantedFault edition kind u f
+wanted_kind : (version : Version) (kind : FieldKind) (u : List ℕ) (f : ErrorKind) → WantedFault version kind u f
     → is_want f ≡ true
-wanted_kind edition kind u _ (faults.bare_item _) = refl
-wanted_kind edition kind u _ (faults.key _) = refl
-wanted_kind edition kind u _ (faults.delimiter _) = refl
-wanted_kind edition kind u _ (faults.comma _ _ _ _) = refl
-wanted_kind edition kind u _ (faults.end _ _) = refl
+wanted_kind version kind u _ (faults.bare_item _) = refl
+wanted_kind version kind u _ (faults.key _) = refl
+wanted_kind version kind u _ (faults.delimiter _) = refl
+wanted_kind version kind u _ (faults.comma _ _ _ _) = refl
+wanted_kind version kind u _ (faults.end _ _) = refl
 
-ruled_kind : (edition : Edition) (kind : FieldKind) (t : List ℕ) (f : SyntaxFault) (i : ℕ)
-    → RuledFault edition kind t f i → is_want f ≡ false
-ruled_kind edition kind t _ i (faults.comma h) = refl
-ruled_kind edition kind t _ i (faults.point h) = refl
-ruled_kind edition kind t _ i (faults.decimal_date h) = refl
-ruled_kind edition kind t _ i (faults.long_decimal_date h) = refl
-ruled_kind edition kind t _ i (faults.open_bytes h) = refl
-ruled_kind edition kind t _ i (faults.lone_symbol h) = refl
-ruled_kind edition kind t _ _ (faults.display _ _ _ _ _ _ (faults.open_display _ _)) = refl
-ruled_kind edition kind t _ _ (faults.display _ _ _ _ _ _ (faults.open_escape _ _ _ _)) = refl
-ruled_kind edition kind t _ _ (faults.display _ _ _ _ _ _ (faults.wrong_escape _ _ _ _)) = refl
-ruled_kind edition kind t _ _ (faults.display _ _ _ _ _ _ (faults.wrong_byte _ _)) = refl
-ruled_kind edition kind t _ _ (faults.display _ _ _ _ _ _ (faults.wrong_utf8 _ _ _ _ _ _)) = refl
+ruled_kind : (version : Version) (kind : FieldKind) (t : List ℕ) (f : ErrorKind) (i : ℕ)
+    → RuledFault version kind t f i → is_want f ≡ false
+ruled_kind version kind t _ i (faults.comma h) = refl
+ruled_kind version kind t _ _ (faults.bare _ _ _ _ (faults.point _ _ _ _ _ _ _ _)) = refl
+ruled_kind version kind t _ _ (faults.bare _ _ _ _ (faults.decimal_date _ _ _ _ _ _ _ _)) = refl
+ruled_kind version kind t _ _ (faults.bare _ _ _ _ (faults.long_decimal_date _ _ _ _ _ _ _ _)) = refl
+ruled_kind version kind t _ _ (faults.bare _ _ _ _ (faults.open_bytes _ _ _ _)) = refl
+ruled_kind version kind t _ _ (faults.bare _ _ _ _ (faults.lone_symbol _ _ _ _ _ _)) = refl
+ruled_kind version kind t _ _ (faults.display _ _ _ _ _ _ (faults.open_display _ _)) = refl
+ruled_kind version kind t _ _ (faults.display _ _ _ _ _ _ (faults.open_escape _ _ _ _)) = refl
+ruled_kind version kind t _ _ (faults.display _ _ _ _ _ _ (faults.wrong_escape _ _ _ _)) = refl
+ruled_kind version kind t _ _ (faults.display _ _ _ _ _ _ (faults.wrong_byte _ _)) = refl
+ruled_kind version kind t _ _ (faults.display _ _ _ _ _ _ (faults.wrong_utf8 _ _ _ _ _ _)) = refl
 
-row_kind : (edition : Edition) (s there : List ℕ) (f : SyntaxFault) → BareItemFault edition s there f → is_want f
+row_kind : (version : Version) (s there : List ℕ) (f : ErrorKind) → BareItemFault version s there f → is_want f
     ≡ false
-row_kind edition s there _ (faults.no_boolean _ _) = refl
-row_kind edition s there _ (faults.old_date _ _ _ _) = refl
-row_kind edition s there _ (faults.old_display _ _ _ _) = refl
-row_kind edition s there _ (faults.no_quote _ _ _) = refl
-row_kind edition s there _ (faults.no_digit _ _ _ _) = refl
-row_kind edition s there _ (faults.no_number _ _ _) = refl
-row_kind edition s there _ (faults.long_integer _ _ _ _ _ _) = refl
-row_kind edition s there _ (faults.late_point _ _ _ _ _ _) = refl
-row_kind edition s there _ (faults.long_decimal _ _ _ _ _ _ _) = refl
-row_kind edition s there _ (faults.open_string _ _ _ _ _) = refl
-row_kind edition s there _ (faults.wrong_string_byte _ _ _ _ _) = refl
-row_kind edition s there _ (faults.open_string_escape _ _ _ _ _) = refl
-row_kind edition s there _ (faults.wrong_string_escape _ _ _ _ _) = refl
-row_kind edition s there _ (faults.wrong_bytes _ _ _ _ _ _ _ _) = refl
+row_kind version s there _ (faults.no_boolean _ _) = refl
+row_kind version s there _ (faults.old_date _ _ _ _) = refl
+row_kind version s there _ (faults.old_display _ _ _ _) = refl
+row_kind version s there _ (faults.no_quote _ _ _) = refl
+row_kind version s there _ (faults.no_digit _ _ _ _) = refl
+row_kind version s there _ (faults.no_number _ _ _) = refl
+row_kind version s there _ (faults.long_integer _ _ _ _ _ _) = refl
+row_kind version s there _ (faults.late_point _ _ _ _ _ _) = refl
+row_kind version s there _ (faults.long_decimal _ _ _ _ _ _ _) = refl
+row_kind version s there _ (faults.open_string _ _ _ _ _) = refl
+row_kind version s there _ (faults.wrong_string_byte _ _ _ _ _) = refl
+row_kind version s there _ (faults.open_string_escape _ _ _ _ _) = refl
+row_kind version s there _ (faults.wrong_string_escape _ _ _ _ _) = refl
+row_kind version s there _ (faults.wrong_bytes _ _ _ _ _ _ _ _) = refl
 
 -- ---- the text in front of a fault
 
@@ -96,11 +103,11 @@ index_here t u rest e = let n = ap (length {A = ℕ}) e in omega (arith, n, leng
 taken_here : (t u rest : List ℕ) → t ≡ u ++ rest → take (length t - length rest) t ≡ u
 taken_here t u rest e = rw (index_here t u rest e) (ap (take (length u)) e ∙ take_at u rest _ refl)
 
-module _ (edition : Edition) (kind : FieldKind) where
-  rejected : (t : List ℕ) (e : Fault) → read_field edition kind t ≡ Err e → ¬ IsAccepted edition kind t
-  rejected t e h a = let r = (read_is_accepted edition kind t a.0).1 a.1 in absurd cc
+module _ (version : Version) (kind : FieldKind) where
+  rejected : (t : List ℕ) (e : Fault) → read_field version kind t ≡ Err e → ¬ IsAccepted version kind t
+  rejected t e h a = let r = (read_is_accepted version kind t a.0).1 a.1 in absurd cc
 
-  same_fault : (t : List ℕ) (e x : Fault) → read_field edition kind t ≡ Err e → read_field edition kind t ≡ Err x
+  same_fault : (t : List ℕ) (e x : Fault) → read_field version kind t ≡ Err e → read_field version kind t ≡ Err x
       → e ≡ x
   same_fault t e x h k =
       let a : Result (RawField kind) Fault = Err e in
@@ -108,35 +115,35 @@ module _ (edition : Edition) (kind : FieldKind) where
       let both : a ≡ b = sym h ∙ k in cc
 
   -- an exact fault stands at the reach
-  at_the_reach : (t : List ℕ) (e : Fault) → read_field edition kind t ≡ Err e → e.exact ≡ true
-      → (length e.rest ≤ length t) × IsReach edition kind t (length t - length e.rest)
+  at_the_reach : (t : List ℕ) (e : Fault) → read_field version kind t ≡ Err e → e.exact ≡ true
+      → (length e.rest ≤ length t) × IsReach version kind t (length t - length e.rest)
   at_the_reach t e h x =
-      let p = (fault_is_placed edition kind t e h).exact x in
+      let p = (fault_is_placed version kind t e h).exact x in
       let n = ap (length {A = ℕ}) p.1 in
       let within = p.2.within in
       let same : p.0 ≡ length t - length e.rest = omega (arith, n, length-drop p.0 t, within) in
-      (omega (arith, n, length-drop p.0 t), subst (IsReach edition kind t) same p.2)
+      (omega (arith, n, length-drop p.0 t), subst (IsReach version kind t) same p.2)
 
   -- and so does one that says what is wanted
-  want_exact : (t : List ℕ) (e : Fault) → read_field edition kind t ≡ Err e → is_want e.kind ≡ true → e.exact ≡ true
+  want_exact : (t : List ℕ) (e : Fault) → read_field version kind t ≡ Err e → is_want e.kind ≡ true → e.exact ≡ true
   want_exact t e h w = elim (cases_Bool e.exact) [
     | inl y ↦ y
-    | inr n ↦ absurd (true≢false (sym ((fault_is_placed edition kind t e h).ruled n) ∙ want_unruled e.kind w))
+    | inr n ↦ absurd (true≢false (sym ((fault_is_placed version kind t e h).ruled n) ∙ want_unruled e.kind w))
   ]
 
   -- ---- what the table gives, the reader gives
 
-  record IsGiven (t : List ℕ) (f : SyntaxFault) (i : ℕ) : Type 0 where
+  record IsGiven (t : List ℕ) (f : ErrorKind) (i : ℕ) : Type 0 where
     fault : Fault
-    read : read_field edition kind t ≡ Err fault
+    read : read_field version kind t ≡ Err fault
     kind_of : fault.kind ≡ f
     here : i + length fault.rest ≡ length t
 
-  ruled_given : (t : List ℕ) (f : SyntaxFault) (i : ℕ) → RuledFault edition kind t f i
+  ruled_given : (t : List ℕ) (f : ErrorKind) (i : ℕ) → RuledFault version kind t f i
       → (g : IsGiven t f i) × (g.fault.exact ≡ false)
-  ruled_given t f i h = elim (ruled_is_given edition kind t f i h) [
+  ruled_given t f i h = elim (ruled_is_given version kind t f i h) [
     | inl c ↦
-        let row = comma_row edition kind t i c.1 in
+        let row = comma_row version kind t i c.1 in
         let n = ap (length {A = ℕ}) c.1.text in (
           record {
             fault = _;
@@ -154,9 +161,9 @@ module _ (edition : Edition) (kind : FieldKind) where
           refl,
         )
     | inr b ↦
-        let not_start : ¬ (b.fault.kind ≡ expected_start_of_bare_item) =
-        λ e. true≢false (ap is_want (sym e ∙ b.kind) ∙ ruled_kind edition kind t f i h) in
-        let w = wanted_bare_is_read edition kind t b.before b.s b.fault b.place b.given (inl not_start) in (
+        let not_start : ¬ (b.fault.kind ≡ ExpectedStartOfBareItem) =
+        λ e. true≢false (ap is_want (sym e ∙ b.kind) ∙ ruled_kind version kind t f i h) in
+        let w = wanted_bare_is_read version kind t b.before b.s b.fault b.place b.given (inl not_start) in (
           record {
             fault = w.0;
             read = w.1;
@@ -167,14 +174,14 @@ module _ (edition : Edition) (kind : FieldKind) where
         )
   ]
 
-  begun_given : (t : List ℕ) (f : SyntaxFault) (i : ℕ) → BegunFault edition kind t f i
+  begun_given : (t : List ℕ) (f : ErrorKind) (i : ℕ) → BegunFault version kind t f i
       → (g : IsGiven t f i) × (g.fault.exact ≡ true) × (is_want f ≡ false)
   begun_given t f _ (faults.bare before s there place row) =
-      let r = bare_row_is_given edition s there f row in
-      let want = row_kind edition s there f row in
-      let not_start : ¬ (r.0.kind ≡ expected_start_of_bare_item) =
+      let r = bare_row_is_given version s there f row in
+      let want = row_kind version s there f row in
+      let not_start : ¬ (r.0.kind ≡ ExpectedStartOfBareItem) =
       λ e. true≢false (ap is_want (sym e ∙ r.2) ∙ want) in
-      let w = wanted_bare_is_read edition kind t before s r.0 place r.1 (inl not_start) in
+      let w = wanted_bare_is_read version kind t before s r.0 place r.1 (inl not_start) in
       let exact : w.0.exact ≡ true = sym w.2.exact ∙ r.3 in
       let left : w.0.rest ≡ there = sym w.2.rest ∙ r.4 in
       let within = (at_the_reach t w.0 w.1 exact).0 in (
@@ -188,7 +195,7 @@ module _ (edition : Edition) (kind : FieldKind) where
         want,
       )
   begun_given t _ _ (faults.open_inner_list accepted no_space) =
-      let r = open_list_is_read edition kind t accepted no_space in (
+      let r = open_list_is_read version kind t accepted no_space in (
         record {
           fault = r.0;
           read = r.1;
@@ -201,9 +208,9 @@ module _ (edition : Edition) (kind : FieldKind) where
 
   -- ---- the reader's fault is the table's
 
-  wanted_at : (t : List ℕ) (e : Fault) → read_field edition kind t ≡ Err e → e.exact ≡ true → is_want e.kind ≡ true
-      → (u : List ℕ) → t ≡ u ++ e.rest → WantedFault edition kind u e.kind
-      → IsWantedAt edition kind t e.kind (length t - length e.rest)
+  wanted_at : (t : List ℕ) (e : Fault) → read_field version kind t ≡ Err e → e.exact ≡ true → is_want e.kind ≡ true
+      → (u : List ℕ) → t ≡ u ++ e.rest → WantedFault version kind u e.kind
+      → IsWantedAt version kind t e.kind (length t - length e.rest)
   wanted_at t e h x w u parts wanted = record {
     rejected = rejected t e h;
     no_rule = λ f i r.
@@ -215,13 +222,13 @@ module _ (edition : Edition) (kind : FieldKind) where
         let same = same_fault t e g.0.fault h g.0.read in
         true≢false (sym w ∙ ap (λ (e : Fault). is_want e.kind) same ∙ ap is_want g.0.kind_of ∙ g.2);
     reach = (at_the_reach t e h x).1;
-    wanted = subst (λ (l : List ℕ). WantedFault edition kind l e.kind) (sym (taken_here t u e.rest parts)) wanted;
+    wanted = subst (λ (l : List ℕ). WantedFault version kind l e.kind) (sym (taken_here t u e.rest parts)) wanted;
   }
 
-  pub fault_is_at : (t : List ℕ) (e : Fault) → read_field edition kind t ≡ Err e
-      → IsFaultAt edition kind t e.kind (length t - length e.rest)
-  fault_is_at t e h = elim (bare_is_wanted edition kind t e h) [
-    | inl b ↦ of_bare b (bare_fault_has_row edition kind t b.before b.item b.fault b.place b.is_fault)
+  pub fault_is_at : (t : List ℕ) (e : Fault) → read_field version kind t ≡ Err e
+      → IsFaultAt version kind t e.kind (length t - length e.rest)
+  fault_is_at t e h = elim (bare_is_wanted version kind t e h) [
+    | inl b ↦ of_bare b (bare_fault_has_row version kind t b.before b.item b.fault b.place b.is_fault)
     | inr (inl c) ↦
         let n = ap (length {A = ℕ}) c.here in
         let m = ap (length {A = ℕ}) c.trails.text in
@@ -234,77 +241,77 @@ module _ (edition : Edition) (kind : FieldKind) where
           length-append (c.trails.before ++ codes ",") c.trails.whitespace,
           length-append c.trails.before (codes ","),
         ) in
-        inl (subst (λ (k : SyntaxFault). RuledFault edition kind t k (length t - length e.rest)) (sym c.kind_of)
-        (subst (RuledFault edition kind t trailing_comma) same (faults.comma c.trails)))
+        inl (subst (λ (k : ErrorKind). RuledFault version kind t k (length t - length e.rest)) (sym c.kind_of)
+        (subst (RuledFault version kind t TrailingComma) same (faults.comma c.trails)))
     | inr (inr (x, inl w)) ↦
-        inr (inr (wanted_at t e h x (wanted_kind edition kind w.before e.kind w.wanted) w.before w.text w.wanted))
+        inr (inr (wanted_at t e h x (wanted_kind version kind w.before e.kind w.wanted) w.before w.text w.wanted))
     | inr (inr (x, inr o)) ↦
         let whole : length t ≡ length t - length e.rest = omega (arith, ap (length {A = ℕ}) o.rest) in
-        inr (inl (subst (λ (n : ℕ). BegunFault edition kind t e.kind n) whole
-        (subst (λ (k : SyntaxFault). BegunFault edition kind t k (length t)) (sym o.kind_of)
+        inr (inl (subst (λ (n : ℕ). BegunFault version kind t e.kind n) whole
+        (subst (λ (k : ErrorKind). BegunFault version kind t k (length t)) (sym o.kind_of)
         (faults.open_inner_list o.closes o.no_space))))
   ]
     where
-      like : (x : Fault) → IsLike x e → RuledFault edition kind t x.kind (length t - length x.rest)
-          ⊎ BegunFault edition kind t x.kind (length t - length x.rest)
-          → IsFaultAt edition kind t e.kind (length t - length e.rest)
+      like : (x : Fault) → IsLike x e → RuledFault version kind t x.kind (length t - length x.rest)
+          ⊎ BegunFault version kind t x.kind (length t - length x.rest)
+          → IsFaultAt version kind t e.kind (length t - length e.rest)
       like x l r =
-          let same : (k : SyntaxFault) (rest : List ℕ) → x.kind ≡ k → x.rest ≡ rest →
-          RuledFault edition kind t k (length t - length rest) ⊎ BegunFault edition kind t k (length t - length rest) =
-          λ k rest a b. subst (λ (l : List ℕ). RuledFault edition kind t k (length t - length l)
-          ⊎ BegunFault edition kind t k (length t - length l)) b
-          (subst (λ (k : SyntaxFault). RuledFault edition kind t k (length t - length x.rest)
-          ⊎ BegunFault edition kind t k (length t - length x.rest)) a r) in
+          let same : (k : ErrorKind) (rest : List ℕ) → x.kind ≡ k → x.rest ≡ rest →
+          RuledFault version kind t k (length t - length rest) ⊎ BegunFault version kind t k (length t - length rest) =
+          λ k rest a b. subst (λ (l : List ℕ). RuledFault version kind t k (length t - length l)
+          ⊎ BegunFault version kind t k (length t - length l)) b
+          (subst (λ (k : ErrorKind). RuledFault version kind t k (length t - length x.rest)
+          ⊎ BegunFault version kind t k (length t - length x.rest)) a r) in
           elim (same e.kind e.rest l.kind l.rest) [ inl y ↦ inl y | inr y ↦ inr (inl y) ]
 
-      of_bare : (b : IsOfBare edition kind t e)
+      of_bare : (b : IsOfBare version kind t e)
           → ((b.fault.exact ≡ true)
-          × (((b.fault.kind ≡ expected_start_of_bare_item) × (b.fault.rest ≡ b.item))
-          ⊎ BareItemFault edition b.item b.fault.rest b.fault.kind))
-          ⊎ ((b.fault.exact ≡ false) × RuledFault edition kind t b.fault.kind (length t - length b.fault.rest))
-          → IsFaultAt edition kind t e.kind (length t - length e.rest)
+          × (((b.fault.kind ≡ ExpectedStartOfBareItem) × (b.fault.rest ≡ b.item))
+          ⊎ BareItemFault version b.item b.fault.rest b.fault.kind))
+          ⊎ ((b.fault.exact ≡ false) × RuledFault version kind t b.fault.kind (length t - length b.fault.rest))
+          → IsFaultAt version kind t e.kind (length t - length e.rest)
       of_bare b (inl (x, inl (start, here))) =
-          let named : e.kind ≡ expected_start_of_bare_item = sym b.like.kind ∙ start in
+          let named : e.kind ≡ ExpectedStartOfBareItem = sym b.like.kind ∙ start in
           let left : b.item ≡ e.rest = sym here ∙ b.like.rest in
           inr (inr (wanted_at t e h (sym b.like.exact ∙ x) (ap is_want named) b.before
           (b.place.text ∙ ap (λ (l : List ℕ). b.before ++ l) left)
-          (subst (WantedFault edition kind b.before) (sym named) (faults.bare_item b.place.wanted))))
+          (subst (WantedFault version kind b.before) (sym named) (faults.bare_item b.place.wanted))))
       of_bare b (inl (x, inr row)) = like b.fault b.like (inr (faults.bare b.before b.item b.fault.rest b.place row))
       of_bare b (inr (x, ruled)) = like b.fault b.like (inl ruled)
 
   -- ---- the laws
 
-  given : (t : List ℕ) (f : SyntaxFault) (i : ℕ) → IsFaultAt edition kind t f i → IsGiven t f i
+  given : (t : List ℕ) (f : ErrorKind) (i : ℕ) → IsFaultAt version kind t f i → IsGiven t f i
   given t f i (inl r) = (ruled_given t f i r).0
   given t f i (inr (inl b)) = (begun_given t f i b).0
-  given t f i (inr (inr w)) = on (read_field edition kind t) refl
+  given t f i (inr (inr w)) = on (read_field version kind t) refl
     where
-      same_place : (e : Fault) → read_field edition kind t ≡ Err e
-          → IsFaultAt edition kind t e.kind (length t - length e.rest)
+      same_place : (e : Fault) → read_field version kind t ≡ Err e
+          → IsFaultAt version kind t e.kind (length t - length e.rest)
           → IsGiven t f i
       same_place e h (inl r) = absurd (w.no_rule e.kind _ r)
       same_place e h (inr (inl b)) = absurd (w.nothing_begun e.kind _ b)
       same_place e h (inr (inr v)) =
-          let place : length t - length e.rest ≡ i = one_reach_lem edition kind t _ i v.reach w.reach in
+          let place : length t - length e.rest ≡ i = one_reach_lem version kind t _ i v.reach w.reach in
           record {
             fault = e;
             read = h;
-            kind_of = one_wanted edition kind (take i t) e.kind f
-                (subst (λ (n : ℕ). WantedFault edition kind (take n t) e.kind) place v.wanted) w.wanted;
+            kind_of = one_wanted version kind (take i t) e.kind f
+                (subst (λ (n : ℕ). WantedFault version kind (take n t) e.kind) place v.wanted) w.wanted;
             here = omega (
               arith,
               place,
               (at_the_reach t e h (want_exact t e h
-                  (wanted_kind edition kind (take (length t - length e.rest) t) e.kind v.wanted))).0,
+                  (wanted_kind version kind (take (length t - length e.rest) t) e.kind v.wanted))).0,
             );
           }
 
-      on : (a : Result (RawField kind) Fault) → read_field edition kind t ≡ a → IsGiven t f i
-      on (Ok raw) h = absurd (w.rejected (raw, (read_is_accepted edition kind t raw).0 h))
+      on : (a : Result (RawField kind) Fault) → read_field version kind t ≡ a → IsGiven t f i
+      on (Ok raw) h = absurd (w.rejected (raw, (read_is_accepted version kind t raw).0 h))
       on (Err e) h = same_place e h (fault_is_at t e h)
 
-  pub one_fault : (t : List ℕ) (f g : SyntaxFault) (i j : ℕ) → IsFaultAt edition kind t f i
-      → IsFaultAt edition kind t g j → (f ≡ g) × (i ≡ j)
+  pub one_fault : (t : List ℕ) (f g : ErrorKind) (i j : ℕ) → IsFaultAt version kind t f i
+      → IsFaultAt version kind t g j → (f ≡ g) × (i ≡ j)
   one_fault t f g i j h k =
       let a = given t f i h in
       let b = given t g j k in
@@ -312,44 +319,44 @@ module _ (edition : Edition) (kind : FieldKind) where
       let rest = ap (λ (e : Fault). length e.rest) same in
       (sym a.kind_of ∙ ap (λ (e : Fault). e.kind) same ∙ b.kind_of, omega (arith, a.here, b.here, rest))
 
-  pub fault_rejects : (t : List ℕ) (f : SyntaxFault) (i : ℕ) → IsFaultAt edition kind t f i
-      → (¬ IsAccepted edition kind t) × (i ≤ length t)
+  pub fault_rejects : (t : List ℕ) (f : ErrorKind) (i : ℕ) → IsFaultAt version kind t f i
+      → (¬ IsAccepted version kind t) × (i ≤ length t)
   fault_rejects t f i h = let a = given t f i h in (rejected t a.fault a.read, omega (arith, a.here))
 
   pub field_or_fault : (t : List ℕ)
-      → IsAccepted edition kind t ⊎ ((f : SyntaxFault) × (i : ℕ) × IsFaultAt edition kind t f i)
-  field_or_fault t = on (read_field edition kind t) refl
+      → IsAccepted version kind t ⊎ ((f : ErrorKind) × (i : ℕ) × IsFaultAt version kind t f i)
+  field_or_fault t = on (read_field version kind t) refl
     where
-      on : (a : Result (RawField kind) Fault) → read_field edition kind t ≡ a
-          → IsAccepted edition kind t ⊎ ((f : SyntaxFault) × (i : ℕ) × IsFaultAt edition kind t f i)
-      on (Ok raw) h = inl (raw, (read_is_accepted edition kind t raw).0 h)
+      on : (a : Result (RawField kind) Fault) → read_field version kind t ≡ a
+          → IsAccepted version kind t ⊎ ((f : ErrorKind) × (i : ℕ) × IsFaultAt version kind t f i)
+      on (Ok raw) h = inl (raw, (read_is_accepted version kind t raw).0 h)
       on (Err e) h = inr (e.kind, length t - length e.rest, fault_is_at t e h)
 
   -- a rule applies, or something is begun that can't go on, and not both
-  not_both : (t : List ℕ) (f g : SyntaxFault) (i j : ℕ) → RuledFault edition kind t f i → ¬ BegunFault edition kind t g j
+  not_both : (t : List ℕ) (f g : ErrorKind) (i j : ℕ) → RuledFault version kind t f i → ¬ BegunFault version kind t g j
   not_both t f g i j r b =
       let a = ruled_given t f i r in
       let c = begun_given t g j b in
       let same = same_fault t a.0.fault c.0.fault a.0.read c.0.read in
       true≢false (sym c.1 ∙ sym (ap (λ (e : Fault). e.exact) same) ∙ a.1)
 
-  pub ruled_or_at_reach : (t : List ℕ) (f : SyntaxFault) (i : ℕ) → IsFaultAt edition kind t f i
-      → (RuledFault edition kind t f i × ((g : SyntaxFault) (j : ℕ) → ¬ BegunFault edition kind t g j))
-      ⊎ (((g : SyntaxFault) (j : ℕ) → ¬ RuledFault edition kind t g j) × IsReach edition kind t i)
+  pub ruled_or_at_reach : (t : List ℕ) (f : ErrorKind) (i : ℕ) → IsFaultAt version kind t f i
+      → (RuledFault version kind t f i × ((g : ErrorKind) (j : ℕ) → ¬ BegunFault version kind t g j))
+      ⊎ (((g : ErrorKind) (j : ℕ) → ¬ RuledFault version kind t g j) × IsReach version kind t i)
   ruled_or_at_reach t f i (inl r) = inl (r, λ g j b. not_both t f g i j r b)
   ruled_or_at_reach t f i (inr (inr w)) = inr (w.no_rule, w.reach)
   ruled_or_at_reach t f i (inr (inl b)) =
       let a = begun_given t f i b in
       let reach = at_the_reach t a.0.fault a.0.read a.1 in
       let here : length t - length a.0.fault.rest ≡ i = omega (arith, a.0.here) in
-      inr (λ g j r. not_both t g f j i r b, subst (IsReach edition kind t) here reach.1)
+      inr (λ g j r. not_both t g f j i r b, subst (IsReach version kind t) here reach.1)
 
 -- where a bare item is wanted true can stand, as it can where a question mark can and two parentheses can't
 pub true_is_wanted : TrueIsWanted
-true_is_wanted edition kind u = (
-  λ h. (bare_stuck edition kind u (codes "?1") (boolean true) (calls_wanted edition kind u h) refl, h.outside),
+true_is_wanted version kind u = (
+  λ h. (bare_stuck version kind u (codes "?1") (boolean true) (calls_wanted version kind u h) refl, h.outside),
   λ h. record {
-    bare = (codes "1" ++ h.0.0, subst (IsAccepted edition kind) (simp append_assoc) h.0.1);
+    bare = (codes "1" ++ h.0.0, subst (IsAccepted version kind) (simp append_assoc) h.0.1);
     outside = h.1;
   },
 )

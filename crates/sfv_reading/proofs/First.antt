@@ -4,7 +4,8 @@ use Rattle.std.proofs.Common.{arith}
 use Rattle.std.proofs.lemmas.List.{append-nil, take_at, take-append-drop, length-append, length-take-le}
 use Rattle.sfv_spec.specs.Ascii.{space}
 use Rattle.sfv_spec.specs.Classes.{is_space}
-use Rattle.sfv_spec.specs.Values.{Edition, BareValue}
+use Rattle.sfv_spec.specs.Values.{BareValue}
+use Rattle.sfv_spec.specs.declared.version.Version.{Version}
 use Rattle.sfv_spec.specs.Texts.{IsLongestBeginning}
 use Rattle.sfv_spec.specs.Grammar.{IsBareText, BeginsWithBareItem}
 use Rattle.sfv_reading.specs.Reader.{span}
@@ -16,32 +17,32 @@ use Rattle.sfv_reading.proofs.complete.Combinators.{span_complete}
 use Rattle.sfv_reading.proofs.complete.Bare.{bare_complete}
 use Rattle.sfv_reading.proofs.complete.Items.{item_no}
 
-pub first_bare : (edition : Edition) (value : BareValue) (t : List ℕ) (h : BeginsWithBareItem edition value t)
+pub first_bare : (version : Version) (value : BareValue) (t : List ℕ) (h : BeginsWithBareItem version value t)
     → (span is_space t ≡ Ok (h.first.spaces, h.first.front ++ h.first.rest))
-    × (bare_at edition (h.first.front ++ h.first.rest) ≡ Ok (value, h.first.rest))
-first_bare edition value t h =
+    × (bare_at version (h.first.front ++ h.first.rest) ≡ Ok (value, h.first.rest))
+first_bare version value t h =
     let f = h.first in (
       ap (span is_space) (f.text ∙ append_assoc f.spaces f.front f.rest)
           ∙ span_complete is_space f.spaces (f.front ++ f.rest) f.blank
-          (item_no space edition (item_of value []) f.front f.rest refl (record {
+          (item_no space version (item_of value []) f.front f.rest refl (record {
             front = f.front;
             back = [];
             text = sym (append-nil f.front);
             first = f.means;
             second = record { pieces = []; text = refl; each = tt };
           })),
-      bare_complete edition value f.front f.rest f.means (ended_apart f.rest h.ended),
+      bare_complete version value f.front f.rest f.means (ended_apart f.rest h.ended),
     )
 
 -- and what is read is the longest text of one
-pub longest_read : (edition : Edition) (t : List ℕ) (value : BareValue) (rest : List ℕ)
-    → (h : BeginsWithBare edition t value rest)
-    → IsLongestBeginning (λ d. (any : BareValue) × IsBareText edition any d) (h.front ++ rest) (length h.front)
-longest_read edition t value rest h = record {
+pub longest_read : (version : Version) (t : List ℕ) (value : BareValue) (rest : List ℕ)
+    → (h : BeginsWithBare version t value rest)
+    → IsLongestBeginning (λ d. (any : BareValue) × IsBareText version any d) (h.front ++ rest) (length h.front)
+longest_read version t value rest h = record {
   within = omega (arith, length-append h.front rest);
-  holds = (value, subst (IsBareText edition value) (sym (take_at h.front rest (length h.front) refl)) h.means);
+  holds = (value, subst (IsBareText version value) (sym (take_at h.front rest (length h.front) refl)) h.means);
   longest = λ m more within w.
-      let some : (any : BareValue) × IsBareText edition any (take m (h.front ++ rest)) = w in
+      let some : (any : BareValue) × IsBareText version any (take m (h.front ++ rest)) = w in
       let short = h.longest (take m (h.front ++ rest)) (drop m (h.front ++ rest))
       (h.text ∙ sym (take-append-drop m (h.front ++ rest))) some in
       omega (arith, more, short, length-take-le m (h.front ++ rest) within);

@@ -3,11 +3,12 @@ use Rattle.std.proofs.Common.{◌≡◌, ℕ, ◌+◌, ◌<◌, true, false, Lis
 use Rattle.std.proofs.Common.{refl, sym, ap, subst, ◌∙◌, append_assoc, arith, inl, inr}
 use Rattle.std.proofs.lemmas.List.{append-nil, append_cancel_right, length-append, take_at, drop_at}
 use Rattle.std.proofs.lemmas.Bool.{cases_Bool}
-use Rattle.sfv_spec.specs.Values.{Edition, FieldKind}
+use Rattle.sfv_spec.specs.declared.field_kind.FieldKind.{FieldKind}
+use Rattle.sfv_spec.specs.declared.version.Version.{Version}
 use Rattle.sfv_spec.specs.Grammar.{IsFieldText}
 use Rattle.sfv_spec.specs.Events.{TreeEvent, events}
 use Rattle.sfv_spec.specs.Reach.{BeginsAccepted, IsReach}
-use Rattle.sfv_spec.specs.Faults.{trailing_characters_after_parsed_value}
+use Rattle.sfv_spec.specs.declared.error_kind.ErrorKind.TheVariants.{TrailingCharactersAfterParsedValue}
 use Rattle.sfv_spec.proofs.Reached.{reach_before, reach_end}
 use Rattle.sfv_spec.proofs.Valid.{accepted_is_value_lem}
 use Rattle.sfv_reading.specs.Judgements.{Reached, Lasts, Local}
@@ -82,7 +83,7 @@ module _ {A : Type 0} (f : Reader A) (P : A → List ℕ → Type 0) (parts : A
       → Lasts f t a → ending parts a ≡ Err e → e.exact ≡ true → Reaches t e.rest
   reaches_on t e (Ok (v, [])) h m i exact = absurd cc
   reaches_on t e (Ok (v, c ∷ q)) h m i exact =
-      let same : record { kind = trailing_characters_after_parsed_value; exact = true; rest = c ∷ q; events = parts v }
+      let same : record { kind = TrailingCharactersAfterParsedValue; exact = true; rest = c ∷ q; events = parts v }
       ≡ e = cc in
       subst (Reaches t) (ap (λ (e : Fault). e.rest) same) (at_trailing t v c q h m)
   reaches_on t e (Err x) h m i exact =
@@ -92,18 +93,18 @@ module _ {A : Type 0} (f : Reader A) (P : A → List ℕ → Type 0) (parts : A
   pub reaches : (t : List ℕ) (e : Fault) → ending parts (f t) ≡ Err e → e.exact ≡ true → Reaches t e.rest
   reaches t e i exact = reaches_on t e (f t) (s.sound t) (l.lasts t) i exact
 
-  told_at : (t : List ℕ) (x : Fault) → Reached P (Goes P parts) (Somewhere (Goes P parts)) t (Err x)
+  emitted_at : (t : List ℕ) (x : Fault) → Reached P (Goes P parts) (Somewhere (Goes P parts)) t (Err x)
       → Somewhere (Goes P parts) x.events
-  told_at t x h = elim (cases_Bool x.exact) [
+  emitted_at t x h = elim (cases_Bool x.exact) [
     | inl e ↦ let g = h.0 e in (g.front ++ g.more, g.holds)
     | inr e ↦ (h.1 e).0
   ]
 
-  told_on : (t : List ℕ) (e : Fault) (a : Answer A) → Reached P (Goes P parts) (Somewhere (Goes P parts)) t a
+  emitted_on : (t : List ℕ) (e : Fault) (a : Answer A) → Reached P (Goes P parts) (Somewhere (Goes P parts)) t a
       → ending parts a ≡ Err e → Somewhere (Goes P parts) e.events × (e.exact ≡ false → has_rule e.kind ≡ true)
-  told_on t e (Ok (v, [])) h i = absurd cc
-  told_on t e (Ok (v, c ∷ q)) h i =
-      let same : record { kind = trailing_characters_after_parsed_value; exact = true; rest = c ∷ q; events = parts v }
+  emitted_on t e (Ok (v, [])) h i = absurd cc
+  emitted_on t e (Ok (v, c ∷ q)) h i =
+      let same : record { kind = TrailingCharactersAfterParsedValue; exact = true; rest = c ∷ q; events = parts v }
       ≡ e = cc in (
         subst (Somewhere (Goes P parts)) (ap (λ (e : Fault). e.events) same) (
           h.0,
@@ -112,31 +113,31 @@ module _ {A : Type 0} (f : Reader A) (P : A → List ℕ → Type 0) (parts : A
         λ x. let y : true ≡ false = ap (λ (e : Fault). e.exact) same
             ∙ x in absurd cc,
       )
-  told_on t e (Err x) h i =
+  emitted_on t e (Err x) h i =
       let same : x ≡ e = cc in (
-        subst (Somewhere (Goes P parts)) (ap (λ (e : Fault). e.events) same) (told_at t x h),
+        subst (Somewhere (Goes P parts)) (ap (λ (e : Fault). e.events) same) (emitted_at t x h),
         λ y. ap has_rule (ap (λ (e : Fault). e.kind) (sym same)) ∙ (h.1 (ap (λ (e : Fault). e.exact) same ∙ y)).1,
       )
 
-  pub told : (t : List ℕ) (e : Fault) → ending parts (f t) ≡ Err e
+  pub emitted : (t : List ℕ) (e : Fault) → ending parts (f t) ≡ Err e
       → Somewhere (Goes P parts) e.events × (e.exact ≡ false → has_rule e.kind ≡ true)
-  told t e i = told_on t e (f t) (s.sound t) i
+  emitted t e i = emitted_on t e (f t) (s.sound t) i
 
 -- ---- fields
 
-abbrev FieldReaches : Edition → FieldKind → List ℕ → List ℕ → Type 0
-FieldReaches edition kind t rest = Reaches (whole_field_at edition kind) (IsFieldText edition kind) (events kind)
-    (Sound-field edition kind) (Local-field edition kind) (field_complete edition kind) t rest
+abbrev FieldReaches : Version → FieldKind → List ℕ → List ℕ → Type 0
+FieldReaches version kind t rest = Reaches (whole_field_at version kind) (IsFieldText version kind) (events kind)
+    (Sound-field version kind) (Local-field version kind) (field_complete version kind) t rest
 
 -- as an index
-reach_of : (edition : Edition) (kind : FieldKind) (t rest : List ℕ) → FieldReaches edition kind t rest
-    → (n : ℕ) × (drop n t ≡ rest) × IsReach edition kind t n
-reach_of edition kind t [] r = (
+reach_of : (version : Version) (kind : FieldKind) (t rest : List ℕ) → FieldReaches version kind t rest
+    → (n : ℕ) × (drop n t ≡ rest) × IsReach version kind t n
+reach_of version kind t [] r = (
   length t,
   ap (drop (length t)) (sym (append-nil t)) ∙ drop_at t [] _ refl,
-  reach_end edition kind t (subst (BeginsAccepted edition kind) (sym (r.parted ∙ append-nil r.front)) r.begins),
+  reach_end version kind t (subst (BeginsAccepted version kind) (sym (r.parted ∙ append-nil r.front)) r.begins),
 )
-reach_of edition kind t (c ∷ q) r =
+reach_of version kind t (c ∷ q) r =
     let n : ℕ = length r.front in
     let lt : n < length t = omega (arith, ap length r.parted, length-append r.front (c ∷ q)) in
     let begun : take n t ≡ r.front = ap (take n) r.parted ∙ take_at r.front (c ∷ q) _ refl in
@@ -145,33 +146,33 @@ reach_of edition kind t (c ∷ q) r =
     ∙ take_at (r.front ++ c ∷ []) q (n + 1) (length-append r.front (c ∷ [])) in (
       n,
       ap (drop n) r.parted ∙ drop_at r.front (c ∷ q) _ refl,
-      reach_before edition kind t n lt (subst (BeginsAccepted edition kind) (sym begun) r.begins)
-          (λ b. r.no_further c q refl (subst (BeginsAccepted edition kind) longer b)),
+      reach_before version kind t n lt (subst (BeginsAccepted version kind) (sym begun) r.begins)
+          (λ b. r.no_further c q refl (subst (BeginsAccepted version kind) longer b)),
     )
 
 pub read_is_accepted : ReadIsAccepted
 unfolding read_field
-read_is_accepted edition kind t raw = (
-  (λ e. sound (whole_field_at edition kind) (IsFieldText edition kind) (events kind) (Sound-field edition kind)
-      (Local-field edition kind) (field_complete edition kind) raw t e),
-  (λ h. complete (whole_field_at edition kind) (IsFieldText edition kind) (events kind) (Sound-field edition kind)
-      (Local-field edition kind) (field_complete edition kind) raw t h),
+read_is_accepted version kind t raw = (
+  (λ e. sound (whole_field_at version kind) (IsFieldText version kind) (events kind) (Sound-field version kind)
+      (Local-field version kind) (field_complete version kind) raw t e),
+  (λ h. complete (whole_field_at version kind) (IsFieldText version kind) (events kind) (Sound-field version kind)
+      (Local-field version kind) (field_complete version kind) raw t h),
 )
 
 pub fault_is_placed : FaultIsPlaced
 unfolding read_field
-fault_is_placed edition kind t e i =
-    let w = told (whole_field_at edition kind) (IsFieldText edition kind) (events kind) (Sound-field edition kind)
-    (Local-field edition kind) (field_complete edition kind) t e i in
+fault_is_placed version kind t e i =
+    let w = emitted (whole_field_at version kind) (IsFieldText version kind) (events kind) (Sound-field version kind)
+    (Local-field version kind) (field_complete version kind) t e i in
     let g = w.0.1 in
     record {
-      told = record {
+      emitted = record {
         raw = g.0;
-        is_value = (accepted_is_value_lem edition kind w.0.0 g.0 g.1).0;
+        is_value = (accepted_is_value_lem version kind w.0.0 g.0 g.1).0;
         more = g.2.0;
         all = g.2.1;
       };
-      exact = λ x. reach_of edition kind t e.rest (reaches (whole_field_at edition kind) (IsFieldText edition kind)
-          (events kind) (Sound-field edition kind) (Local-field edition kind) (field_complete edition kind) t e i x);
+      exact = λ x. reach_of version kind t e.rest (reaches (whole_field_at version kind) (IsFieldText version kind)
+          (events kind) (Sound-field version kind) (Local-field version kind) (field_complete version kind) t e i x);
       ruled = w.1;
     }

@@ -4,12 +4,17 @@ use Rattle.std.proofs.Common.{◌≡◌, ℕ, zero, suc, Bool, true, false, cond
 use Rattle.std.proofs.Common.{length, None, Ok, Err, refl, sym, ap, subst, ◌∙◌, inl, inr}
 use Rattle.std.specs.Prelude.{⊤}
 use Rattle.sfv_spec.specs.Classes.{is_key_start, is_key_inner}
-use Rattle.sfv_spec.specs.Values.{Edition, rfc8941, rfc9651, FieldKind, RawField, BareValue}
+use Rattle.sfv_spec.specs.Values.{RawField, BareValue}
+use Rattle.sfv_spec.specs.declared.field_kind.FieldKind.{FieldKind}
+use Rattle.sfv_spec.specs.declared.version.Version.{Version}
+use Rattle.sfv_spec.specs.declared.version.Version.TheVariants.{Rfc8941, Rfc9651}
 use Rattle.sfv_spec.specs.Grammar.{IsFieldText}
 use Rattle.sfv_spec.specs.Events.{TreeEvent, events}
-use Rattle.sfv_spec.specs.Faults.{SyntaxFault, trailing_characters_after_member, trailing_comma}
-use Rattle.sfv_spec.specs.Faults.{trailing_characters_after_parsed_value, expected_inner_list_delimiter}
-use Rattle.sfv_spec.specs.Faults.{unterminated_inner_list, expected_start_of_key}
+use Rattle.sfv_spec.specs.declared.error_kind.ErrorKind.{ErrorKind}
+use Rattle.sfv_spec.specs.declared.error_kind.ErrorKind.TheVariants.{TrailingCharactersAfterMember, TrailingComma}
+use Rattle.sfv_spec.specs.declared.error_kind.ErrorKind.TheVariants.{TrailingCharactersAfterParsedValue}
+use Rattle.sfv_spec.specs.declared.error_kind.ErrorKind.TheVariants.{ExpectedInnerListDelimiter}
+use Rattle.sfv_spec.specs.declared.error_kind.ErrorKind.TheVariants.{UnterminatedInnerList, ExpectedStartOfKey}
 use Rattle.sfv_reading.specs.Claims.{IsBytesFault}
 use Rattle.sfv_reading.specs.Judgements.{Reached}
 use Rattle.sfv_reading.specs.Reader.{Fault, Answer, Reader, at_reach, by_rule, and_then, give, fail, ruled, ◌>>=◌, bind}
@@ -32,12 +37,12 @@ use Rattle.sfv_reading.proofs.places.Walks.{faulty, Met, Elsewhere, Found, calle
 use Rattle.sfv_reading.proofs.places.Readers.{Ever, walk-field}
 
 -- any kind but these
-abbrev pub IsOther : SyntaxFault → Type 0
-IsOther trailing_characters_after_member = ⊥
-IsOther trailing_comma = ⊥
-IsOther trailing_characters_after_parsed_value = ⊥
-IsOther expected_inner_list_delimiter = ⊥
-IsOther unterminated_inner_list = ⊥
+abbrev pub IsOther : ErrorKind → Type 0
+IsOther TrailingCharactersAfterMember = ⊥
+IsOther TrailingComma = ⊥
+IsOther TrailingCharactersAfterParsedValue = ⊥
+IsOther ExpectedInnerListDelimiter = ⊥
+IsOther UnterminatedInnerList = ⊥
 IsOther _ = ⊤
 
 -- no fault of a reader is of these kinds
@@ -49,10 +54,10 @@ Shuns f = Rules f (λ _ e. IsOther e.kind)
 pub Shuns-give : {A : Type 0} (v : A) → Shuns (give v)
 Shuns-give v = Rules-give v _
 
-pub Shuns-fail : {A : Type 0} (k : SyntaxFault) → IsOther k → Shuns {A = A} (fail k)
+pub Shuns-fail : {A : Type 0} (k : ErrorKind) → IsOther k → Shuns {A = A} (fail k)
 Shuns-fail {A} k h = record { rules = λ t e i. fail_at A k (λ _ e. IsOther e.kind) t e i h }
 
-pub Shuns-ruled : {A : Type 0} (k : SyntaxFault) → IsOther k → Shuns {A = A} (ruled k)
+pub Shuns-ruled : {A : Type 0} (k : ErrorKind) → IsOther k → Shuns {A = A} (ruled k)
 unfolding ruled
 Shuns-ruled {A} k h = record {
   rules = λ t e i. fault_at {A = A} (λ _ e. IsOther e.kind) t (by_rule k t) e (Err (by_rule k t)) refl h i;
@@ -83,7 +88,7 @@ pub Shuns-ahead : {A : Type 0} (class : ℕ → Bool) (taken other : Reader A) �
 Shuns-ahead class taken other h k = Rules-ahead class taken other _ (λ c r e _ i. h.rules (c ∷ r) e i)
     (λ c r e _ i. k.rules (c ∷ r) e i) (λ e i. k.rules [] e i)
 
-pub Shuns-back : {A : Type 0} (k : SyntaxFault) (f : Reader (Option A)) → IsOther k → Shuns f → Shuns (back k f)
+pub Shuns-back : {A : Type 0} (k : ErrorKind) (f : Reader (Option A)) → IsOther k → Shuns f → Shuns (back k f)
 Shuns-back k f o h = Rules-back k f _ (λ _ _ _. o) h
 
 pub Shuns-up_to : (class : ℕ → Bool) (n : ℕ) → Shuns (up_to class n)
@@ -126,20 +131,20 @@ pub ruleset shuns_rules = (
 
 -- ---- the readers
 
-string_kind : (k : SyntaxFault) (left there : List ℕ) → StringStops k left there → IsOther k
-string_kind trailing_characters_after_member left there h = h
-string_kind trailing_comma left there h = h
-string_kind trailing_characters_after_parsed_value left there h = h
-string_kind expected_inner_list_delimiter left there h = h
-string_kind unterminated_inner_list left there h = h
+string_kind : (k : ErrorKind) (left there : List ℕ) → StringStops k left there → IsOther k
+string_kind TrailingCharactersAfterMember left there h = h
+string_kind TrailingComma left there h = h
+string_kind TrailingCharactersAfterParsedValue left there h = h
+string_kind ExpectedInnerListDelimiter left there h = h
+string_kind UnterminatedInnerList left there h = h
 string_kind _ left there h = tt
 
-display_kind : (k : SyntaxFault) (t there : List ℕ) → IsDisplayFault t k there → IsOther k
-display_kind trailing_characters_after_member t there h = h.ends
-display_kind trailing_comma t there h = h.ends
-display_kind trailing_characters_after_parsed_value t there h = h.ends
-display_kind expected_inner_list_delimiter t there h = h.ends
-display_kind unterminated_inner_list t there h = h.ends
+display_kind : (k : ErrorKind) (t there : List ℕ) → IsDisplayFault t k there → IsOther k
+display_kind TrailingCharactersAfterMember t there h = h.ends
+display_kind TrailingComma t there h = h.ends
+display_kind TrailingCharactersAfterParsedValue t there h = h.ends
+display_kind ExpectedInnerListDelimiter t there h = h.ends
+display_kind UnterminatedInnerList t there h = h.ends
 display_kind _ t there h = tt
 
 pub Shuns-string : Shuns string_at
@@ -159,34 +164,34 @@ pub Shuns-number : (dated : Bool) → Shuns (number_at dated)
 unfolding number_at sign_at whole_at point_at fraction_at decimal_at long_at
 Shuns-number dated = search shuns_rules depth 40
 
-pub Shuns-date : (edition : Edition) → Shuns (date_at edition)
+pub Shuns-date : (version : Version) → Shuns (date_at version)
 unfolding date_at
-Shuns-date rfc8941 = search shuns_rules depth 40
-Shuns-date rfc9651 = search (shuns_rules, Shuns-number) depth 40
+Shuns-date Rfc8941 = search shuns_rules depth 40
+Shuns-date Rfc9651 = search (shuns_rules, Shuns-number) depth 40
 
-pub Shuns-quoted : (edition : Edition) → Shuns (quoted_at edition)
+pub Shuns-quoted : (version : Version) → Shuns (quoted_at version)
 unfolding quoted_at
-Shuns-quoted rfc8941 = search shuns_rules depth 40
-Shuns-quoted rfc9651 = search (shuns_rules, Shuns-display) depth 40
+Shuns-quoted Rfc8941 = search shuns_rules depth 40
+Shuns-quoted Rfc9651 = search (shuns_rules, Shuns-display) depth 40
 
-pub Shuns-bare : (edition : Edition) → Shuns (bare_at edition)
+pub Shuns-bare : (version : Version) → Shuns (bare_at version)
 unfolding bare_at boolean_at token_at
-Shuns-bare edition = search (shuns_rules, Shuns-number, Shuns-string, Shuns-bytes, Shuns-date, Shuns-quoted) depth 40
+Shuns-bare version = search (shuns_rules, Shuns-number, Shuns-string, Shuns-bytes, Shuns-date, Shuns-quoted) depth 40
 
 pub Shuns-key : Shuns key_at
 unfolding key_at
 Shuns-key = search shuns_rules depth 40
 
-pub Shuns-parameters : (edition : Edition) → Shuns (parameters_at edition)
+pub Shuns-parameters : (version : Version) → Shuns (parameters_at version)
 unfolding parameters_at parameter_at value_at
-Shuns-parameters edition = search (shuns_rules, Shuns-key, Shuns-bare) depth 40
+Shuns-parameters version = search (shuns_rules, Shuns-key, Shuns-bare) depth 40
 
-pub Shuns-item : (edition : Edition) → Shuns (item_at edition)
+pub Shuns-item : (version : Version) → Shuns (item_at version)
 unfolding item_at
-Shuns-item edition = search (shuns_rules, Shuns-bare, Shuns-parameters) depth 40
+Shuns-item version = search (shuns_rules, Shuns-bare, Shuns-parameters) depth 40
 
 -- a fault of a key stands at its start
-pub key_fault : (t : List ℕ) (e : Fault) → key_at t ≡ Err e → at_reach expected_start_of_key t ≡ e
+pub key_fault : (t : List ℕ) (e : Fault) → key_at t ≡ Err e → at_reach ExpectedStartOfKey t ≡ e
 unfolding key_at fail branch give
 key_fault [] e i = cc
 key_fault (c ∷ r) e i = on (is_key_start c) i
@@ -194,9 +199,9 @@ key_fault (c ∷ r) e i = on (is_key_start c) i
     none : (v r : List ℕ) → give v r ≡ Err e → ⊥
     none v r j = absurd cc
 
-    on : (b : Bool) → cond b ((span is_key_inner >>= λ cs. give (c ∷ cs)) r) (Err (at_reach expected_start_of_key
+    on : (b : Bool) → cond b ((span is_key_inner >>= λ cs. give (c ∷ cs)) r) (Err (at_reach ExpectedStartOfKey
         (c ∷ r)))
-        ≡ Err e → at_reach expected_start_of_key (c ∷ r) ≡ e
+        ≡ Err e → at_reach ExpectedStartOfKey (c ∷ r) ≡ e
     on false j = cc
     on true j =
         let m = (Steady-span is_key_inner).steady r in
@@ -206,54 +211,54 @@ key_fault (c ∷ r) e i = on (is_key_start c) i
 -- ---- whole fields
 
 -- where a fault of the readers of a field comes from
-pub comes_from : (edition : Edition) (kind : FieldKind) (t : List ℕ) (x : Fault) → whole_field_at edition kind t ≡ Err x
-    → Found edition (faulty x) (whole_field_at edition kind) Ever t
-comes_from edition kind t x i = (walk-field edition (faulty x) kind).walk t
+pub comes_from : (version : Version) (kind : FieldKind) (t : List ℕ) (x : Fault) → whole_field_at version kind t ≡ Err x
+    → Found version (faulty x) (whole_field_at version kind) Ever t
+comes_from version kind t x i = (walk-field version (faulty x) kind).walk t
     (subst (λ (a : Answer (RawField kind)). Met (faulty x) t a) (sym i) (like_self x))
 
 -- it is another one than that something stands after the field
-of_no_field : (edition : Edition) (t : List ℕ) (leaf : Leaf) (e : Fault)
-    → Met (faulty e) t (leaf_at edition leaf t) → ¬ (e.kind ≡ trailing_characters_after_parsed_value)
-of_no_field edition t bare e m k = on (bare_at edition t) refl m
+of_no_field : (version : Version) (t : List ℕ) (leaf : Leaf) (e : Fault)
+    → Met (faulty e) t (leaf_at version leaf t) → ¬ (e.kind ≡ TrailingCharactersAfterParsedValue)
+of_no_field version t bare e m k = on (bare_at version t) refl m
   where
-    on : (a : Answer BareValue) → bare_at edition t ≡ a → Met (faulty e) t a → ⊥
+    on : (a : Answer BareValue) → bare_at version t ≡ a → Met (faulty e) t a → ⊥
     on (Ok x) i m = m
-    on (Err x) i m = subst IsOther (m.kind ∙ k) ((Shuns-bare edition).rules t x i)
-of_no_field edition t key e m k = on (key_at t) refl m
+    on (Err x) i m = subst IsOther (m.kind ∙ k) ((Shuns-bare version).rules t x i)
+of_no_field version t key e m k = on (key_at t) refl m
   where
     on : (a : Answer (List ℕ)) → key_at t ≡ a → Met (faulty e) t a → ⊥
     on (Ok x) i m = m
     on (Err x) i m = subst IsOther (m.kind ∙ k) (Shuns-key.rules t x i)
 
-read_otherwise : (edition : Edition) (kind : FieldKind) (t : List ℕ) (e : Fault) → whole_field_at edition kind t ≡ Err e
-    → ¬ (e.kind ≡ trailing_characters_after_parsed_value)
-read_otherwise edition kind t e i k = on (comes_from edition kind t e i)
+read_otherwise : (version : Version) (kind : FieldKind) (t : List ℕ) (e : Fault) → whole_field_at version kind t ≡ Err e
+    → ¬ (e.kind ≡ TrailingCharactersAfterParsedValue)
+read_otherwise version kind t e i k = on (comes_from version kind t e i)
   where
-    on : Found edition (faulty e) (whole_field_at edition kind) Ever t → ⊥
-    on (called leaf before s parts c some m) = of_no_field edition s leaf e m k
+    on : Found version (faulty e) (whole_field_at version kind) Ever t → ⊥
+    on (called leaf before s parts c some m) = of_no_field version s leaf e m k
     on (elsewhere o) = subst (λ k. Elsewhere k e.exact) k o
 
 -- something stands after a field: this is what was read in front of it
-pub record ReadBefore (edition : Edition) (kind : FieldKind) (t rest : List ℕ) : Type 0 where
+pub record ReadBefore (version : Version) (kind : FieldKind) (t rest : List ℕ) : Type 0 where
   pub raw : RawField kind
   pub front : List ℕ
   pub text : t ≡ front ++ rest
-  pub means : IsFieldText edition kind raw front
-  pub read : whole_field_at edition kind t ≡ Ok (raw, rest)
+  pub means : IsFieldText version kind raw front
+  pub read : whole_field_at version kind t ≡ Ok (raw, rest)
 
-pub read_before : (edition : Edition) (kind : FieldKind) (t : List ℕ) (f : Fault) → read_field edition kind t ≡ Err f
-    → f.kind ≡ trailing_characters_after_parsed_value → ReadBefore edition kind t f.rest
+pub read_before : (version : Version) (kind : FieldKind) (t : List ℕ) (f : Fault) → read_field version kind t ≡ Err f
+    → f.kind ≡ TrailingCharactersAfterParsedValue → ReadBefore version kind t f.rest
 unfolding read_field
-read_before edition kind t f e k =
-    on (whole_field_at edition kind t) refl ((Sound-field edition kind).sound t) e
+read_before version kind t f e k =
+    on (whole_field_at version kind t) refl ((Sound-field version kind).sound t) e
   where
-    on : (a : Answer (RawField kind)) → whole_field_at edition kind t ≡ a
-        → Reached (IsFieldText edition kind) (FieldGoes edition kind) (Somewhere (FieldGoes edition kind)) t a
-        → ending (events kind) a ≡ Err f → ReadBefore edition kind t f.rest
+    on : (a : Answer (RawField kind)) → whole_field_at version kind t ≡ a
+        → Reached (IsFieldText version kind) (FieldGoes version kind) (Somewhere (FieldGoes version kind)) t a
+        → ending (events kind) a ≡ Err f → ReadBefore version kind t f.rest
     on (Ok (v, [])) i h e = absurd cc
     on (Ok (v, c ∷ r)) i h e =
         let rest : c ∷ r ≡ f.rest = cc in
-        subst (ReadBefore edition kind t) rest
+        subst (ReadBefore version kind t) rest
         (record { raw = v; front = h.0; text = h.1; means = h.2; read = i })
     on (Err x) i h e = let same : x ≡ f = cc in
-        absurd (read_otherwise edition kind t x i (ap (λ (x : Fault). x.kind) same ∙ k))
+        absurd (read_otherwise version kind t x i (ap (λ (x : Fault). x.kind) same ∙ k))

@@ -2,7 +2,6 @@
 pub mod Combinators
 pub mod Many
 pub mod ByteSequences
-pub mod BytesRules
 pub mod DisplayFaults
 pub mod DisplayRules
 pub mod Quoted

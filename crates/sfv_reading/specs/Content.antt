@@ -9,7 +9,7 @@ use Rattle.sfv_spec.specs.Texts.{RunOf, Exactly, ◌⨾◌}
 use Rattle.sfv_spec.specs.Classes.{is_between}
 use Rattle.sfv_spec.specs.Base64.{IsBase64Text}
 use Rattle.sfv_spec.proofs.Marks.{is_symbol}
-use Rattle.sfv_spec.specs.Faults.{unterminated_byte_sequence, invalid_byte_sequence}
+use Rattle.sfv_spec.specs.declared.error_kind.ErrorKind.TheVariants.{UnterminatedByteSequence, InvalidByteSequence}
 use Rattle.sfv_reading.specs.Reader.{Fault, Answer, Reader, placed, by_rule}
 
 -- the value of a symbol
@@ -80,7 +80,7 @@ content_in (c ∷ t) = if is_colon c then [] else c ∷ content_in t
 
 -- The fault of a closed content that is not Base64: by a rule for a single symbol too many, and at the reach otherwise.
 abbrev pub content_fault : List ℕ → List ℕ → Fault
-content_fault content there = placed (not (valid_from 0 content == length content)) invalid_byte_sequence there
+content_fault content there = placed (not (valid_from 0 content == length content)) InvalidByteSequence there
 
 -- the result for a content before its closing colon
 abbrev pub closed_by : List ℕ → List ℕ → Option (List ℕ) → Answer (List ℕ)
@@ -90,7 +90,7 @@ closed_by t content None = Err (content_fault content (drop (fault_place content
 -- a Byte Sequence, or the fault of its content
 unfoldable pub bytes_at : Reader (List ℕ)
 bytes_at t = if list_any is_colon t then closed_by t (content_in t) (bytes_of (content_in t))
-    else Err (by_rule unterminated_byte_sequence [])
+    else Err (by_rule UnterminatedByteSequence [])
 
 -- ---- from an index of an input
 

@@ -1,7 +1,7 @@
 -- Properties of readers: sound, local, complete.
 use Rattle.std.specs.Prelude.{◌≡◌, ℕ, true, false, List, [], ◌++◌, Ok, Err}
 use Rattle.sfv_spec.specs.Events.{TreeEvent}
-use Rattle.sfv_spec.specs.Faults.{invalid_utf8_in_display_string}
+use Rattle.sfv_spec.specs.declared.error_kind.ErrorKind.TheVariants.{InvalidUtf8InDisplayString}
 use Rattle.sfv_reading.specs.Reader.{has_rule, Fault, Answer, Reader, first}
 
 -- The text before the fault, with some continuation, is a text of `W`, with the fault's events. `W u es`: `u` is a text
@@ -62,4 +62,4 @@ Stays f t (Err e) = (p : List ℕ) × (t ≡ p ++ e.rest)
 -- the same, except for bytes that are not UTF-8: this fault depends on the closing quote
 abbrev pub StaysButText : {A : Type 0} → Reader A → List ℕ → Answer A → Type 0
 StaysButText f t (Ok x) = Stays f t (Ok x)
-StaysButText f t (Err e) = ¬ (e.kind ≡ invalid_utf8_in_display_string) → Stays f t (Err e)
+StaysButText f t (Err e) = ¬ (e.kind ≡ InvalidUtf8InDisplayString) → Stays f t (Err e)

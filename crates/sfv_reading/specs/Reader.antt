@@ -2,45 +2,50 @@
 use Rattle.std.specs.Prelude.{◌≡◌, ℕ, zero, suc, Bool, true, false, List, [], ◌∷◌, ◌++◌, length, Option, Some, None}
 use Rattle.std.specs.Prelude.{Result, Ok, Err, if◌then◌else◌, ◌==◌}
 use Rattle.sfv_spec.specs.Events.{TreeEvent}
-use Rattle.sfv_spec.specs.Faults.{SyntaxFault, trailing_comma, trailing_decimal_point, non_integer_date}
-use Rattle.sfv_spec.specs.Faults.{too_many_digits_after_decimal_point, unterminated_byte_sequence}
-use Rattle.sfv_spec.specs.Faults.{invalid_byte_sequence}
-use Rattle.sfv_spec.specs.Faults.{unterminated_display_string, unterminated_escape_sequence, invalid_escape_sequence}
-use Rattle.sfv_spec.specs.Faults.{invalid_display_string_character, invalid_utf8_in_display_string}
+use Rattle.sfv_spec.specs.declared.error_kind.ErrorKind.{ErrorKind}
+use Rattle.sfv_spec.specs.declared.error_kind.ErrorKind.TheVariants.{TrailingComma, TrailingDecimalPoint}
+use Rattle.sfv_spec.specs.declared.error_kind.ErrorKind.TheVariants.{NonIntegerDate}
+use Rattle.sfv_spec.specs.declared.error_kind.ErrorKind.TheVariants.{TooManyDigitsAfterDecimalPoint}
+use Rattle.sfv_spec.specs.declared.error_kind.ErrorKind.TheVariants.{UnterminatedByteSequence}
+use Rattle.sfv_spec.specs.declared.error_kind.ErrorKind.TheVariants.{InvalidByteSequence}
+use Rattle.sfv_spec.specs.declared.error_kind.ErrorKind.TheVariants.{UnterminatedDisplayString}
+use Rattle.sfv_spec.specs.declared.error_kind.ErrorKind.TheVariants.{UnterminatedEscapeSequence, InvalidEscapeSequence}
+use Rattle.sfv_spec.specs.declared.error_kind.ErrorKind.TheVariants.{InvalidDisplayStringCharacter}
+use Rattle.sfv_spec.specs.declared.error_kind.ErrorKind.TheVariants.{InvalidUtf8InDisplayString}
 
 -- the kinds of fault with their own rule for the index
-abbrev pub has_rule : SyntaxFault → Bool
-has_rule trailing_comma = true
-has_rule trailing_decimal_point = true
-has_rule non_integer_date = true
-has_rule too_many_digits_after_decimal_point = true
-has_rule unterminated_byte_sequence = true
-has_rule invalid_byte_sequence = true
-has_rule unterminated_display_string = true
-has_rule unterminated_escape_sequence = true
-has_rule invalid_escape_sequence = true
-has_rule invalid_display_string_character = true
-has_rule invalid_utf8_in_display_string = true
+abbrev pub has_rule : ErrorKind → Bool
+has_rule TrailingComma = true
+has_rule TrailingDecimalPoint = true
+has_rule NonIntegerDate = true
+has_rule TooManyDigitsAfterDecimalPoint = true
+has_rule UnterminatedByteSequence = true
+has_rule InvalidByteSequence = true
+has_rule UnterminatedDisplayString = true
+has_rule UnterminatedEscapeSequence = true
+has_rule InvalidEscapeSequence = true
+has_rule InvalidDisplayStringCharacter = true
+has_rule InvalidUtf8InDisplayString = true
 has_rule _ = false
 
 -- The first fault of a text. `rest` is the text from the fault on, and `events` are the events before it. For an exact
 -- fault, the text before `rest` is a prefix of a text of the grammar, and no longer prefix is.
 pub record Fault : Type 0 where
-  pub kind : SyntaxFault
+  pub kind : ErrorKind
   pub exact : Bool
   pub rest : List ℕ
   pub events : List TreeEvent
 
 -- a fault without events
-abbrev pub placed : Bool → SyntaxFault → List ℕ → Fault
+abbrev pub placed : Bool → ErrorKind → List ℕ → Fault
 placed exact k t = record { kind = k; exact = exact; rest = t; events = [] }
 
 -- a fault at the reach
-abbrev pub at_reach : SyntaxFault → List ℕ → Fault
+abbrev pub at_reach : ErrorKind → List ℕ → Fault
 at_reach k t = placed true k t
 
 -- a fault whose index has its own rule
-abbrev pub by_rule : SyntaxFault → List ℕ → Fault
+abbrev pub by_rule : ErrorKind → List ℕ → Fault
 by_rule k t = placed false k t
 
 -- the result of a reader: a value and the rest of the text, or a fault
@@ -52,19 +57,19 @@ abbrev pub Reader : Type 0 → Type 0
 Reader A = List ℕ → Answer A
 
 -- the fault with these events before its events
-abbrev pub behind_events : List TreeEvent → Fault → Fault
-behind_events es e = record { kind = e.kind; exact = e.exact; rest = e.rest; events = es ++ e.events }
+abbrev pub after_events : List TreeEvent → Fault → Fault
+after_events es e = record { kind = e.kind; exact = e.exact; rest = e.rest; events = es ++ e.events }
 
 -- returns the value, and consumes nothing
 unfoldable pub give : {A : Type 0} → A → Reader A
 give v t = Ok (v, t)
 
 -- fails here, at the reach
-unfoldable pub fail : {A : Type 0} → SyntaxFault → Reader A
+unfoldable pub fail : {A : Type 0} → ErrorKind → Reader A
 fail k t = Err (at_reach k t)
 
 -- fails here, where a rule has its own index
-unfoldable pub ruled : {A : Type 0} → SyntaxFault → Reader A
+unfoldable pub ruled : {A : Type 0} → ErrorKind → Reader A
 ruled k t = Err (by_rule k t)
 
 -- continues after a success, and keeps a fault
@@ -83,7 +88,7 @@ f >>= g = bind f g
 -- the result with these events before the events of its fault
 abbrev pub led_answer : {A : Type 0} → List TreeEvent → Answer A → Answer A
 led_answer es (Ok x) = Ok x
-led_answer es (Err e) = Err (behind_events es e)
+led_answer es (Err e) = Err (after_events es e)
 
 -- emits these events, and continues
 unfoldable pub led : {A : Type 0} → List TreeEvent → Reader A → Reader A
@@ -100,13 +105,13 @@ ahead class taken other [] = other []
 ahead class taken other (c ∷ r) = if class c then taken (c ∷ r) else other (c ∷ r)
 
 -- turns `None` into a fault at the start of `t`
-abbrev pub at_start : {A : Type 0} → SyntaxFault → List ℕ → Answer (Option A) → Answer A
+abbrev pub at_start : {A : Type 0} → ErrorKind → List ℕ → Answer (Option A) → Answer A
 at_start k t (Ok (Some v, r)) = Ok (v, r)
 at_start k t (Ok (None, r)) = Err (record { kind = k; exact = false; rest = t; events = [] })
 at_start k t (Err e) = Err e
 
 -- fails at the start, by a rule, if `f` returns `None`
-unfoldable pub back : {A : Type 0} → SyntaxFault → Reader (Option A) → Reader A
+unfoldable pub back : {A : Type 0} → ErrorKind → Reader (Option A) → Reader A
 back k f t = at_start k t (f t)
 
 -- consumes at most this many bytes of the class
@@ -126,7 +131,7 @@ go_on parts more (Some a) = led (parts a) (more >>= λ vs. give (a ∷ vs))
 
 -- at most this many steps; the fault at zero never occurs, because `many` allows enough steps
 unfoldable pub many_within : {A : Type 0} → (A → List TreeEvent) → ℕ → Reader (Option A) → Reader (List A)
-many_within parts zero step = ruled unterminated_byte_sequence
+many_within parts zero step = ruled UnterminatedByteSequence
 many_within parts (suc n) step = step >>= go_on parts (many_within parts n step)
 
 -- repeats a step until it returns `None`; each step consumes a byte, and emits the events of its value

@@ -1,8 +1,7 @@
 //! A check that parsing ends where a visitor fails, and that the visitor is not called again.
 
-use crate::replay::Field;
 use sfv::visitor::{Event, Visitor};
-use sfv::{ParseError, Parser, Version};
+use sfv::{FieldKind, ParseError, Parser, Version};
 use std::alloc::Global;
 
 /// A visitor that counts its calls in a borrowed counter, and fails at one of them.
@@ -54,7 +53,7 @@ impl<'de, 'a> Visitor<'de> for Watched<'a> {
 fn read_with_counter(
     alloc: Global,
     parser: Parser<'_>,
-    field: Field,
+    field: FieldKind,
     calls: &mut u64,
     failing_call: u64,
 ) -> Result<(), ParseError<u64>> {
@@ -63,15 +62,15 @@ fn read_with_counter(
         failing_call,
     };
     match field {
-        Field::Item => parser.parse_item_with_visitor(alloc, visitor),
-        Field::List => parser.parse_list_with_visitor(alloc, visitor),
-        Field::Dictionary => parser.parse_dictionary_with_visitor(alloc, visitor),
+        FieldKind::Item => parser.parse_item_with_visitor(alloc, visitor),
+        FieldKind::List => parser.parse_list_with_visitor(alloc, visitor),
+        FieldKind::Dictionary => parser.parse_dictionary_with_visitor(alloc, visitor),
     }
 }
 
 /// Returns `true` if parsing ends at the failing call: it returns the visitor's error, and does not call the visitor
 /// again.
-fn ends_at(alloc: Global, parser: Parser<'_>, field: Field, failing_call: u64) -> bool {
+fn ends_at(alloc: Global, parser: Parser<'_>, field: FieldKind, failing_call: u64) -> bool {
     let mut calls = 0;
     let answer = read_with_counter(alloc, parser, field, &mut calls, failing_call);
     calls == failing_call && matches!(answer, Err(ParseError::Visitor(n)) if n == failing_call)
@@ -79,7 +78,7 @@ fn ends_at(alloc: Global, parser: Parser<'_>, field: Field, failing_call: u64) -
 
 /// Returns the number of calls of a visitor that never fails. Returns `None` unless, for each of these calls, a visitor
 /// that fails there ends parsing.
-pub fn calls_of(alloc: Global, field: Field, version: Version, input: &[u8]) -> Option<u64> {
+pub fn calls_of(alloc: Global, field: FieldKind, version: Version, input: &[u8]) -> Option<u64> {
     let parser = Parser::new(input).with_version(version);
     let mut total = 0;
     let answer = read_with_counter(alloc, parser, field, &mut total, 0);

@@ -16,15 +16,20 @@ mod replay;
 
 use crate::failures::calls_of;
 use crate::positions::{is_reach, stands_at_reach};
-use crate::replay::{Case, Field, answer_of, canonical_text, input_of, parse_line};
-use sfv::Version;
+use crate::replay::{Case, answer_of, canonical_text, input_of, parse_line};
+use sfv::{FieldKind, Version};
 use std::alloc::Global;
 use std::io;
 use std::io::{BufRead, BufReader};
 use std::process::ExitCode;
 
 /// Returns the index of the error of an input, if errors of this kind are always at the reach of the text.
-fn fault_at_reach(alloc: Global, field: Field, version: Version, input: &[u8]) -> Option<usize> {
+fn fault_at_reach(
+    alloc: Global,
+    field: FieldKind,
+    version: Version,
+    input: &[u8],
+) -> Option<usize> {
     match canonical_text(alloc, field, version, input) {
         Err(error) if stands_at_reach(error.kind()) => error.index(),
         _ => None,

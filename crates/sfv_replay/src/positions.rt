@@ -1,8 +1,8 @@
 //! A check that an error is where its text cannot continue. With one of a few endings, the text before the index is
 //! accepted. With one byte more, it is accepted with none of them.
 
-use crate::replay::{Field, canonical_text};
-use sfv::{ErrorKind, Version};
+use crate::replay::canonical_text;
+use sfv::{ErrorKind, FieldKind, Version};
 use std::alloc::{AllocError, Global};
 
 /// Endings: nothing, a digit, the first byte of a key, the end of a string or an escaped byte, and the end of a byte
@@ -43,7 +43,7 @@ fn text_of(alloc: Global, front: &[u8], ending: &str, close: &str) -> Result<Vec
 /// Returns `true` if one of the endings completes the text.
 fn goes_on(
     alloc: Global,
-    field: Field,
+    field: FieldKind,
     version: Version,
     front: &[u8],
 ) -> Result<bool, AllocError> {
@@ -61,7 +61,7 @@ fn goes_on(
 /// Returns `true` if the text up to the index can be completed, and with one byte more it cannot.
 pub fn is_reach(
     alloc: Global,
-    field: Field,
+    field: FieldKind,
     version: Version,
     input: &[u8],
     index: usize,

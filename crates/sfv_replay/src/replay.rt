@@ -1,24 +1,13 @@
 //! One line of a list, and the library's result for it.
 
-use sfv::{Dictionary, Error, FieldType, Item, List, Parser, Version};
+use sfv::{Dictionary, Error, FieldKind, FieldType, Item, List, Parser, Version};
 use std::alloc::{AllocError, Global};
-
-/// A field type.
-#[derive(Clone, Copy)]
-pub enum Field {
-    /// An item.
-    Item,
-    /// A list.
-    List,
-    /// A dictionary.
-    Dictionary,
-}
 
 /// An input with the expected result.
 #[derive(Clone, Copy)]
 pub struct Case<'a> {
     /// The field type to parse.
-    pub field: Field,
+    pub field: FieldKind,
     /// The version to parse under.
     pub version: Version,
     /// The input in hexadecimal, or `-` for no bytes.
@@ -33,9 +22,9 @@ pub struct Case<'a> {
 pub fn parse_line(line: &str) -> Option<Case<'_>> {
     let (field, rest) = line.split_once(' ')?;
     let field = match field {
-        "item" => Field::Item,
-        "list" => Field::List,
-        "dict" => Field::Dictionary,
+        "item" => FieldKind::Item,
+        "list" => FieldKind::List,
+        "dict" => FieldKind::Dictionary,
         _ => return None,
     };
     let (version, rest) = rest.split_once(' ')?;
@@ -70,22 +59,22 @@ fn text_as<T: FieldType>(alloc: Global, parser: Parser<'_>) -> Result<Option<Str
 /// Returns the canonical text of an input as a field of this type, or `None` for an empty list or dictionary.
 pub fn canonical_text(
     alloc: Global,
-    field: Field,
+    field: FieldKind,
     version: Version,
     input: &[u8],
 ) -> Result<Option<String>, Error> {
     let parser = Parser::new(input).with_version(version);
     match field {
-        Field::Item => text_as::<Item>(alloc, parser),
-        Field::List => text_as::<List>(alloc, parser),
-        Field::Dictionary => text_as::<Dictionary>(alloc, parser),
+        FieldKind::Item => text_as::<Item>(alloc, parser),
+        FieldKind::List => text_as::<List>(alloc, parser),
+        FieldKind::Dictionary => text_as::<Dictionary>(alloc, parser),
     }
 }
 
 /// Returns the library's result for an input, as a line has it.
 pub fn answer_of(
     alloc: Global,
-    field: Field,
+    field: FieldKind,
     version: Version,
     input: &[u8],
 ) -> Result<String, AllocError> {

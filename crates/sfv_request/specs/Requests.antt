@@ -6,7 +6,8 @@ use Rattle.httparse.specs.Spans.{RequestOverflows, RequestExceeds}
 use Rattle.httparse.specs.declared.Error.{Error}
 use Rattle.httparse.specs.declared.Error.TheVariants.{TooManyHeaders}
 use Rattle.sfv.specs.Texts.{joined}
-use Rattle.sfv.specs.Values.{Edition, dictionary_field}
+use Rattle.sfv.specs.Types.{dictionary_field}
+use Rattle.sfv.specs.Types.{Version}
 use Rattle.sfv.specs.Errors.{out_of_memory, error_text}
 use Rattle.sfv.specs.Parsers.{IsParseError}
 use Rattle.sfv_fields.specs.Priority.{PriorityValue, IsPriorityOf}
@@ -28,9 +29,9 @@ IsRequestField name input text =
     (head : RequestHead) × (rest : List ℕ) × ReadsRequest input head rest × (text ≡ field_text name head.fields)
 
 -- the field `priority` of the request parses to this priority
-abbrev pub IsRequestPriority : Edition → List ℕ → PriorityValue → Type 0
-IsRequestPriority edition input p =
-    (text : List ℕ) × IsRequestField (codes "priority") input text × IsPriorityOf edition text p
+abbrev pub IsRequestPriority : Version → List ℕ → PriorityValue → Type 0
+IsRequestPriority version input p =
+    (text : List ℕ) × IsRequestField (codes "priority") input text × IsPriorityOf version text p
 
 -- Whatever bytes follow, a head at the start of the input has more fields than `room`. For an error other than too many
 -- fields, no bytes complete a head. For too many fields, a prefix of the input and an empty line are a head with more
@@ -46,11 +47,11 @@ IsFieldFault room input (faults.Head error) = IsHeadFault room input error
 IsFieldFault room input (faults.Field error) = error ≡ out_of_memory
 
 -- an error of the head, an error of the field, or out of memory
-abbrev pub IsRequestFault : Edition → ℕ → List ℕ → RequestFault → Type 0
-IsRequestFault edition room input (faults.Head error) = IsHeadFault room input error
-IsRequestFault edition room input (faults.Field error) =
+abbrev pub IsRequestFault : Version → ℕ → List ℕ → RequestFault → Type 0
+IsRequestFault version room input (faults.Head error) = IsHeadFault room input error
+IsRequestFault version room input (faults.Field error) =
     (error ≡ out_of_memory) ⊎ ((text : List ℕ) × IsRequestField (codes "priority") input text
-    × IsParseError edition dictionary_field text error)
+    × IsParseError version dictionary_field text error)
 
 -- the printed text of an error; for an error of the head it is not stated
 abbrev pub printed : RequestFault → Option (List ℕ)

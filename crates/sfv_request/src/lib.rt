@@ -8,7 +8,6 @@ mod lines;
 ghost use Rattle.std.specs.Prelude.{length, IfErr, codes};
 ghost use Rattle.httparse.specs.Grammar.{HasNoRequest, MayBecomeRequest};
 ghost use Rattle.httparse.specs.Outcome.{IfComplete, OnPartial};
-ghost use Rattle.sfv.specs.BareItems.{edition_of};
 ghost use Rattle.sfv_fields.specs.Priority.{value_of};
 ghost use Rattle.sfv_request.specs.Requests.{IsRequestField, IsFieldFault, IsRequestPriority, IsRequestFault};
 
@@ -65,10 +64,10 @@ pub fn request_priority(
     input: &[u8],
     headers: &mut [HeaderSpan],
 ) -> Result<Status<Priority>, RequestFault>
-    ensures read { IfComplete result (λ found. IsRequestPriority (edition_of version) input.now (value_of found)) }
+    ensures read { IfComplete result (λ found. IsRequestPriority version input.now (value_of found)) }
     ensures partial { OnPartial result (HasNoRequest input.now) }
     ensures unfinished { OnPartial result (MayBecomeRequest input.now) }
-    ensures failed { IfErr result (IsRequestFault (edition_of version) (length headers.old) input.now) }
+    ensures failed { IfErr result (IsRequestFault version (length headers.old) input.now) }
 {
     match request_field(alloc, "priority", input, headers)? {
         Status::Complete(text) => {

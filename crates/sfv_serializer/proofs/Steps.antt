@@ -12,57 +12,57 @@ use Rattle.sfv_writer.specs.Written.{param_text}
 use Rattle.sfv_writer.proofs.Parameters.{parameters_push, valid_push}
 use Rattle.sfv_writer.proofs.Rows.{mapped_more}
 use Rattle.sfv_serializer.specs.declared.script.ParamCall.{ParamCall}
-use Rattle.sfv_serializer.specs.Scripts.{called_param}
-use Rattle.sfv_serializer.specs.declared.parts.Parts.{Parts}
+use Rattle.sfv_serializer.specs.Scripts.{param_of_call}
+use Rattle.sfv_serializer.specs.declared.sequence.SequenceSerializer.{SequenceSerializer}
 use Rattle.sfv_serializer.specs.declared.sink.Sink.{Ghosts as Sink}
-use Rattle.sfv_serializer.specs.Serializers.{HasMoreParts, KeepsParts, GrowsParts, has_no_part}
+use Rattle.sfv_serializer.specs.Serializers.{HasAppended, KeepsSequence, GrowsSequence, is_empty_so_far}
 use Rattle.sfv_serializer.proofs.Scripts.{extends_again, no_less}
 
--- one more piece, behind what stands in front
+-- one more piece, after what stands in front
 pub put_before : (front so_far new one : List ℕ) → new ≡ so_far ++ one → front ++ new ≡ (front ++ so_far) ++ one
 put_before front so_far new one e = ap (λ (t : List ℕ). front ++ t) e ∙ sym (append_assoc front so_far one)
 
 module _ (calls : List ParamCall) (n : ℕ) (x : ParamCall) (lt : n < length calls) (is : x ≡ get_or calls n x) where
-  -- the text when one more parameter is written, behind others
-  pub params_text_more : (front : List ℕ) → front ++ parameters_text (map called_param (take (n + 1) calls))
-      ≡ (front ++ parameters_text (map called_param (take n calls))) ++ param_text (key_text x.key) (ref_value x.value)
+  -- the text when one more parameter is written, after others
+  pub params_text_more : (front : List ℕ) → front ++ parameters_text (map param_of_call (take (n + 1) calls))
+      ≡ (front ++ parameters_text (map param_of_call (take n calls))) ++ param_text (key_text x.key) (ref_value x.value)
   params_text_more front =
-      let so_far : RawParameters = map called_param (take n calls) in
+      let so_far : RawParameters = map param_of_call (take n calls) in
       let one : List ℕ = param_text (key_text x.key) (ref_value x.value) in
       put_before front (parameters_text so_far) _ one
-      (ap parameters_text (mapped_more called_param calls n x lt is) ∙ parameters_push so_far (called_param x))
+      (ap parameters_text (mapped_more param_of_call calls n x lt is) ∙ parameters_push so_far (param_of_call x))
 
   -- and each is one
-  pub are_params_more : AreParameters (map called_param (take n calls)) → IsTrue (is_key (key_text x.key))
-      → IsBareValue (ref_value x.value) → AreParameters (map called_param (take (n + 1) calls))
+  pub are_params_more : AreParameters (map param_of_call (take n calls)) → IsTrue (is_key (key_text x.key))
+      → IsBareValue (ref_value x.value) → AreParameters (map param_of_call (take (n + 1) calls))
   are_params_more h k v =
-      subst AreParameters (sym (mapped_more called_param calls n x lt is))
-      (valid_push (map called_param (take n calls)) (called_param x) h k v)
+      subst AreParameters (sym (mapped_more param_of_call calls n x lt is))
+      (valid_push (map param_of_call (take n calls)) (param_of_call x) h k v)
 
 module _ {W K : Type 0} (w : Sink W) where
   -- more is written
-  pub grows : (s t : Parts W K) (more : List ℕ) (is_first : Bool) → HasMoreParts w s t more is_first → GrowsParts w s t
+  pub grows : (s t : SequenceSerializer W K) (more : List ℕ) (is_first : Bool) → HasAppended w s t more is_first → GrowsSequence w s t
   grows s t more is_first h = (h.0, (more, h.1), h.4, h.5)
 
   -- out of memory, nothing is
-  pub kept_grows : (s t : Parts W K) → KeepsParts w s t → GrowsParts w s t
+  pub kept_grows : (s t : SequenceSerializer W K) → KeepsSequence w s t → GrowsSequence w s t
   kept_grows s t h = (h.0, ([], h.1 ∙ sym (append-nil _)), h.4, h.5)
 
   -- what is known of a serializer holds of the value that its loan ends at
-  pub more_at : (s v u : Parts W K) (more : List ℕ) (is_first : Bool) → v ≡ u → HasMoreParts w s v more is_first
-      → HasMoreParts w s u more is_first
-  more_at s v u more is_first e h = subst (λ (p : Parts W K). HasMoreParts w s p more is_first) e h
+  pub more_at : (s v u : SequenceSerializer W K) (more : List ℕ) (is_first : Bool) → v ≡ u → HasAppended w s v more is_first
+      → HasAppended w s u more is_first
+  more_at s v u more is_first e h = subst (λ (p : SequenceSerializer W K). HasAppended w s p more is_first) e h
 
   -- and of what is written after it
-  pub grown_again : (again : (r s t : W) → w.same r s → w.same s t → w.same r t) (s t u : Parts W K) → GrowsParts w s t
-      → GrowsParts w t u → GrowsParts w s u
+  pub grown_again : (again : (r s t : W) → w.same r s → w.same s t → w.same r t) (s t u : SequenceSerializer W K) → GrowsSequence w s t
+      → GrowsSequence w t u → GrowsSequence w s u
   grown_again again s t u g h = (again _ _ _ g.0 h.0, extends_again _ _ _ g.1 h.1, h.2 ∙ g.2, no_less g.3 h.3)
 
-  -- more is written behind it
-  pub more_behind : (again : (r s t : W) → w.same r s → w.same s t → w.same r t) (s t u : Parts W K)
-      (so_far more whole : List ℕ) (is_first : Bool) → HasMoreParts w s t so_far is_first
-      → HasMoreParts w t u more (has_no_part t) → whole ≡ so_far ++ more → HasMoreParts w s u whole is_first
-  more_behind again s t u so_far more whole is_first h k e =
+  -- more is written after it
+  pub more_after : (again : (r s t : W) → w.same r s → w.same s t → w.same r t) (s t u : SequenceSerializer W K)
+      (so_far more whole : List ℕ) (is_first : Bool) → HasAppended w s t so_far is_first
+      → HasAppended w t u more (is_empty_so_far t) → whole ≡ so_far ++ more → HasAppended w s u whole is_first
+  more_after again s t u so_far more whole is_first h k e =
       let before : List ℕ = string_bytes (w.text s.sink) in (
         again _ _ _ h.0 k.0,
         k.1 ∙ ap (λ (t : List ℕ). t ++ more) h.1 ∙ append_assoc before so_far more

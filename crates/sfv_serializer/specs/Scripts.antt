@@ -2,29 +2,32 @@
 use Rattle.std.specs.Prelude.{◌++◌, ℕ, Bool, false, List, map, take, drop, codes, if◌then◌else◌, MatchBool}
 use Rattle.std.specs.declared.string.String.{String}
 use Rattle.sfv_spec.specs.Texts.{joined}
-use Rattle.sfv_spec.specs.Values.{BareValue, RawParameters, RawItem, RawField, list_field, dictionary_field, item, inner_list}
+use Rattle.sfv_spec.specs.Values.{BareValue, RawParameters, RawItem, RawField, item, inner_list}
+use Rattle.sfv_spec.specs.declared.field_kind.FieldKind.TheVariants.{List as list_field, Dictionary as dictionary_field}
 use Rattle.sfv_spec.specs.Canonical.{item_text, parameters_text, member_text, dictionary_member_text}
-use Rattle.sfv_spec.specs.Values.{Edition, FieldKind}
-use Rattle.sfv_spec.specs.Calls.{Calls, Fits, described, handed, written, abandoned}
+use Rattle.sfv_spec.specs.declared.field_kind.FieldKind.{FieldKind}
+use Rattle.sfv_spec.specs.declared.version.Version.{Version}
+use Rattle.sfv_spec.specs.Calls.{Calls, described, supplied, written, abandoned}
+use Rattle.sfv_spec.specs.Values.{Fits}
 use Rattle.sfv_spec.specs.Calls as spec
 use Rattle.sfv_text.specs.KeyText.{KeyRef, key_text}
 use Rattle.sfv_bare.specs.BareItems.{ref_value}
-use Rattle.sfv_writer.specs.Written.{IsReadBack, LacksRoom, in_a_row, still_first}
-use Rattle.sfv_serializer.specs.declared.parts.Parts.{Parts}
+use Rattle.sfv_writer.specs.Written.{IsReadBack, LacksRoom, with_separators, is_first_after}
+use Rattle.sfv_serializer.specs.declared.sequence.SequenceSerializer.{SequenceSerializer}
 use Rattle.sfv_serializer.specs.declared.sink.Sink.{Ghosts as Sink}
-use Rattle.sfv_serializer.specs.Serializers.{KeepsParts, HasMoreParts, HasNextPart}
+use Rattle.sfv_serializer.specs.Serializers.{KeepsSequence, HasAppended, HasAppendedNext}
 use Rattle.sfv_serializer.specs.declared.script.ParamCall.{ParamCall}
 use Rattle.sfv_serializer.specs.declared.script.ItemCalls.{ItemCalls}
 use Rattle.sfv_serializer.specs.declared.script.MemberCalls.{MemberCalls}
 use Rattle.sfv_serializer.specs.declared.script.MemberCalls.TheVariants as calls
 
 -- the key and the value of a call
-abbrev pub called_param : ParamCall → List ℕ × BareValue
-called_param c = (key_text c.key, ref_value c.value)
+abbrev pub param_of_call : ParamCall → List ℕ × BareValue
+param_of_call c = (key_text c.key, ref_value c.value)
 
 -- the item that these calls write
-abbrev pub called_item : ItemCalls → RawItem
-called_item c = record { bare = ref_value c.value; parameters = map called_param c.params.items }
+abbrev pub item_of_calls : ItemCalls → RawItem
+item_of_calls c = record { bare = ref_value c.value; parameters = map param_of_call c.params.items }
 
 -- the text of an inner list with this beginning, its items and its parameters
 abbrev pub ended_text : List ℕ → List RawItem → RawParameters → List ℕ
@@ -34,12 +37,12 @@ ended_text opening items parameters =
 -- the calls of an inner list: abandoned after its items, or finished with its parameters
 abbrev pub inner_list_calls : List ItemCalls → List ParamCall → Bool → spec.MemberCalls
 inner_list_calls items params abandon =
-    if abandon then abandoned (map called_item items)
-    else written (inner_list (record { items = map called_item items; parameters = map called_param params }))
+    if abandon then abandoned (map item_of_calls items)
+    else written (inner_list (record { items = map item_of_calls items; parameters = map param_of_call params }))
 
 -- the calls of a member
 abbrev pub member_calls : MemberCalls → spec.MemberCalls
-member_calls (calls.Item i) = written (item (called_item i))
+member_calls (calls.Item i) = written (item (item_of_calls i))
 member_calls (calls.InnerList items params abandon) = inner_list_calls items.items params.items abandon
 
 -- the calls of the members of a list, in order
@@ -58,11 +61,11 @@ abbrev pub described_dictionary : List (KeyRef × MemberCalls) → RawField dict
 described_dictionary members = described dictionary_field (dictionary_calls members)
 
 -- the field of all values of the calls, abandoned inner lists included
-abbrev pub handed_list : List MemberCalls → RawField list_field
-handed_list members = handed list_field (list_calls members)
+abbrev pub supplied_list : List MemberCalls → RawField list_field
+supplied_list members = supplied list_field (list_calls members)
 
-abbrev pub handed_dictionary : List (KeyRef × MemberCalls) → RawField dictionary_field
-handed_dictionary members = handed dictionary_field (dictionary_calls members)
+abbrev pub supplied_dictionary : List (KeyRef × MemberCalls) → RawField dictionary_field
+supplied_dictionary members = supplied dictionary_field (dictionary_calls members)
 
 -- the text that the calls of a member append; an abandoned inner list is not closed
 abbrev pub added_text : spec.MemberCalls → List ℕ
@@ -89,28 +92,28 @@ LacksForCall old tried = (n : ℕ) × LacksRoom old (joined (codes ", ") (tried 
 
 -- the text that the calls append, after other members or as the first of a list or a dictionary
 abbrev pub list_text : Bool → Calls list_field → List ℕ
-list_text is_first calls = in_a_row is_first (codes ", ") (map member_text (described list_field calls))
+list_text is_first calls = with_separators is_first (codes ", ") (map member_text (described list_field calls))
 
 abbrev pub dictionary_text : Bool → Calls dictionary_field → List ℕ
 dictionary_text is_first calls =
-    in_a_row is_first (codes ", ") (map dictionary_member_text (described dictionary_field calls))
+    with_separators is_first (codes ", ") (map dictionary_member_text (described dictionary_field calls))
 
--- the text of the field parses back under each edition that has all its values
+-- the text of the field parses back under each version that has all its values
 abbrev pub IsReadBackWhereFit : (kind : FieldKind) → RawField kind → Type 0
-IsReadBackWhereFit kind raw = (edition : Edition) → Fits edition kind raw → IsReadBack edition kind raw
+IsReadBackWhereFit kind raw = (version : Version) → Fits version kind raw → IsReadBack version kind raw
 
 module _ {W : Type 0} (w : Sink W) where
   -- an inner list was written after its beginning, or abandoned
-  abbrev pub WritesInner : {K : Type 0} → Parts W K → Parts W K → List ℕ → List ℕ → List RawItem → RawParameters → Bool
+  abbrev pub WritesInner : {K : Type 0} → SequenceSerializer W K → SequenceSerializer W K → List ℕ → List ℕ → List RawItem → RawParameters → Bool
       → Type 0
-  WritesInner s t separator opening items parameters abandon = MatchBool abandon (KeepsParts w s t)
-      (HasNextPart w separator s t (ended_text opening items parameters) false)
+  WritesInner s t separator opening items parameters abandon = MatchBool abandon (KeepsSequence w s t)
+      (HasAppendedNext w separator s t (ended_text opening items parameters) false)
 
   -- the calls were performed: their text is appended
-  abbrev pub WritesList : {K : Type 0} → Parts W K → Parts W K → Calls list_field → Type 0
-  WritesList s t calls = HasMoreParts w s t (list_text s.is_first calls)
-      (still_first s.is_first (described list_field calls))
+  abbrev pub WritesList : {K : Type 0} → SequenceSerializer W K → SequenceSerializer W K → Calls list_field → Type 0
+  WritesList s t calls = HasAppended w s t (list_text s.is_first calls)
+      (is_first_after s.is_first (described list_field calls))
 
-  abbrev pub WritesDictionary : {K : Type 0} → Parts W K → Parts W K → Calls dictionary_field → Type 0
-  WritesDictionary s t calls = HasMoreParts w s t (dictionary_text s.is_first calls)
-      (still_first s.is_first (described dictionary_field calls))
+  abbrev pub WritesDictionary : {K : Type 0} → SequenceSerializer W K → SequenceSerializer W K → Calls dictionary_field → Type 0
+  WritesDictionary s t calls = HasAppended w s t (dictionary_text s.is_first calls)
+      (is_first_after s.is_first (described dictionary_field calls))

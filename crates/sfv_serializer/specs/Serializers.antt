@@ -1,15 +1,14 @@
 -- The texts of serializers.
 use Rattle.std.specs.Prelude.{◌≡◌, ◌≤◌, ◌++◌, ℕ, Bool, List, Result, IfOk, string_bytes, string_capacity}
 use Rattle.std.specs.Borrow.{MutBor, RattleType, Fml, GName, RestsIfErr}
-use Rattle.sfv_spec.specs.Values.{Edition}
-use Rattle.sfv_bare.specs.BareItems.{edition_of}
-use Rattle.sfv_writer.specs.Written.{Extends, IsCutBack, lead}
+use Rattle.sfv_spec.specs.declared.version.Version.{Version}
+use Rattle.sfv_writer.specs.Written.{Extends, IsTruncatedTo, separator_before}
 use Rattle.sfv_serializer.specs.declared.item_serializer.ItemSerializer.{ItemSerializer}
 use Rattle.sfv_serializer.specs.declared.parameter_serializer.ParameterSerializer.{ParameterSerializer}
 use Rattle.sfv_serializer.specs.declared.sink.Sink.{Ghosts as Sink}
-use Rattle.sfv_serializer.specs.declared.kind.InnerListItems.{InnerListItems}
-use Rattle.sfv_serializer.specs.declared.parts.Parts.{Parts}
-use Rattle.sfv_serializer.specs.contracts.parts.Parts as parts
+use Rattle.sfv_serializer.specs.declared.sequence_kind.InnerListItems.{InnerListItems}
+use Rattle.sfv_serializer.specs.declared.sequence.SequenceSerializer.{SequenceSerializer}
+use Rattle.sfv_serializer.specs.contracts.sequence.SequenceSerializer as sequence
 use Rattle.sfv_serializer.specs.Texts.{Text, text_row}
 
 -- the borrowed text of an item's serializer
@@ -24,12 +23,12 @@ params_sink s = s.sink
 abbrev pub params_name : {X : Type 0} → ParameterSerializer X → GName
 params_name s = s.sink.ghost_name
 
--- the edition of a serializer's version
-abbrev pub item_edition : ItemSerializer → Edition
-item_edition s = edition_of s.version
+-- a serializer's version
+abbrev pub item_version : ItemSerializer → Version
+item_version s = s.version
 
-abbrev pub params_edition : {X : Type 0} → ParameterSerializer X → Edition
-params_edition s = edition_of s.version
+abbrev pub params_version : {X : Type 0} → ParameterSerializer X → Version
+params_version s = s.version
 
 -- after an error, the borrowed text is unchanged, with no less room
 abbrev pub TextRests : {E : Type 0} → MutBor Text → Result (ParameterSerializer Text) E → Fml
@@ -42,70 +41,70 @@ abbrev pub HoldsMore : {E : Type 0} → MutBor Text → List ℕ → Result (Par
 HoldsMore lent more result = IfOk result (λ p. string_bytes (params_sink p).now ≡ string_bytes lent.now ++ more)
 
 -- the output of a serializer of parts
-abbrev pub parts_sink : {W K : Type 0} → Parts W K → W
-parts_sink s = s.sink
+abbrev pub sequence_sink : {W K : Type 0} → SequenceSerializer W K → W
+sequence_sink s = s.sink
 
 -- no part is written yet
-abbrev pub has_no_part : {W K : Type 0} → Parts W K → Bool
-has_no_part s = s.is_first
+abbrev pub is_empty_so_far : {W K : Type 0} → SequenceSerializer W K → Bool
+is_empty_so_far s = s.is_first
 
-abbrev pub parts_edition : {W K : Type 0} → Parts W K → Edition
-parts_edition s = edition_of s.version
+abbrev pub sequence_version : {W K : Type 0} → SequenceSerializer W K → Version
+sequence_version s = s.version
 
 -- the borrow for an inner list, by its name in the logic of borrows
-abbrev pub inner_list_name : {X : Type 0} → Parts (MutBor X) InnerListItems → GName
+abbrev pub inner_list_name : {X : Type 0} → SequenceSerializer (MutBor X) InnerListItems → GName
 inner_list_name s = s.sink.ghost_name
 
 -- the length of the text before the inner list, its separator and its key
-abbrev pub length_before : {X : Type 0} → Parts X InnerListItems → ℕ
+abbrev pub length_before : {X : Type 0} → SequenceSerializer X InnerListItems → ℕ
 length_before s = s.kind.len_before
 
 module _ {W : Type 0} (w : Sink W) where
-  -- the same output, version and kind, and the same `has_no_part`
-  abbrev pub SameParts : {K : Type 0} → MutBor (Parts W K) → MutBor (Parts W K) → Type 0
-  SameParts s t = (t.ghost_name ≡ s.ghost_name) × w.same s.now.sink t.now.sink
+  -- the same output, version and kind, and the same `is_empty_so_far`
+  abbrev pub IsSameSequence : {K : Type 0} → MutBor (SequenceSerializer W K) → MutBor (SequenceSerializer W K) → Type 0
+  IsSameSequence s t = (t.ghost_name ≡ s.ghost_name) × w.same s.now.sink t.now.sink
       × (t.now.is_first ≡ s.now.is_first) × (t.now.version ≡ s.now.version) × (t.now.kind ≡ s.now.kind)
 
   -- borrowed parts, as an output
-  abbrev pub lent_parts : {K : Type 0} → Sink (MutBor (Parts W K))
-  lent_parts = record {
+  abbrev pub lent_sequence : {K : Type 0} → Sink (MutBor (SequenceSerializer W K))
+  lent_sequence = record {
     text = λ s. w.text s.now.sink;
     with_text = λ s t. record s { now = record s.now { sink = w.with_text s.now.sink t } };
-    same = SameParts;
+    same = IsSameSequence;
   }
 
   -- the text has no less room
-  abbrev pub KeepsRoom : {K : Type 0} → Parts W K → Parts W K → Type 0
+  abbrev pub KeepsRoom : {K : Type 0} → SequenceSerializer W K → SequenceSerializer W K → Type 0
   KeepsRoom s t = string_capacity (w.text s.sink) ≤ string_capacity (w.text t.sink)
 
-  -- the same output, version and kind, the same text with no less room, and the same `has_no_part`
-  abbrev pub KeepsParts : {K : Type 0} → Parts W K → Parts W K → Type 0
-  KeepsParts s t = w.same s.sink t.sink × (string_bytes (w.text t.sink) ≡ string_bytes (w.text s.sink))
+  -- the same output, version and kind, the same text with no less room, and the same `is_empty_so_far`
+  abbrev pub KeepsSequence : {K : Type 0} → SequenceSerializer W K → SequenceSerializer W K → Type 0
+  KeepsSequence s t = w.same s.sink t.sink × (string_bytes (w.text t.sink) ≡ string_bytes (w.text s.sink))
       × (t.is_first ≡ s.is_first) × (t.version ≡ s.version) × (t.kind ≡ s.kind) × KeepsRoom s t
 
   -- the same output, version and kind, with this text appended; and whether a part is written then
-  abbrev pub HasMoreParts : {K : Type 0} → Parts W K → Parts W K → List ℕ → Bool → Type 0
-  HasMoreParts s t more is_first = w.same s.sink t.sink
+  abbrev pub HasAppended : {K : Type 0} → SequenceSerializer W K → SequenceSerializer W K → List ℕ → Bool → Type 0
+  HasAppended s t more is_first = w.same s.sink t.sink
       × (string_bytes (w.text t.sink) ≡ string_bytes (w.text s.sink) ++ more) × (t.is_first ≡ is_first)
       × (t.version ≡ s.version) × (t.kind ≡ s.kind) × KeepsRoom s t
 
   -- the same for one part, after the separator unless it is the first
-  abbrev pub HasNextPart : {K : Type 0} → List ℕ → Parts W K → Parts W K → List ℕ → Bool → Type 0
-  HasNextPart separator s t text is_first = HasMoreParts s t (lead s.is_first separator ++ text) is_first
+  abbrev pub HasAppendedNext : {K : Type 0} → List ℕ → SequenceSerializer W K → SequenceSerializer W K → List ℕ → Bool → Type 0
+  HasAppendedNext separator s t text is_first = HasAppended s t (separator_before s.is_first separator ++ text) is_first
 
   -- the same output and kind; the old text is a prefix of the new one
-  abbrev pub GrowsParts : {K : Type 0} → Parts W K → Parts W K → Type 0
-  GrowsParts s t = w.same s.sink t.sink × Extends (string_bytes (w.text s.sink)) (string_bytes (w.text t.sink))
+  abbrev pub GrowsSequence : {K : Type 0} → SequenceSerializer W K → SequenceSerializer W K → Type 0
+  GrowsSequence s t = w.same s.sink t.sink × Extends (string_bytes (w.text s.sink)) (string_bytes (w.text t.sink))
       × (t.kind ≡ s.kind) × KeepsRoom s t
 
-  -- the same output, version, kind and `has_no_part`; the text is truncated to this earlier length
-  abbrev pub AreCutBack : {K : Type 0} → ℕ → Parts W K → Parts W K → Type 0
-  AreCutBack len s t = w.same s.sink t.sink
-      × IsCutBack len (string_bytes (w.text s.sink)) (string_bytes (w.text t.sink))
+  -- the same output, version, kind and `is_empty_so_far`; the text is truncated to this earlier length
+  abbrev pub IsSequenceTruncatedTo : {K : Type 0} → ℕ → SequenceSerializer W K → SequenceSerializer W K → Type 0
+  IsSequenceTruncatedTo len s t = w.same s.sink t.sink
+      × IsTruncatedTo len (string_bytes (w.text s.sink)) (string_bytes (w.text t.sink))
       × (t.is_first ≡ s.is_first) × (t.version ≡ s.version) × (t.kind ≡ s.kind) × KeepsRoom s t
 
 module _ (W K : RattleType) where
   -- after an error, this holds of the old and the new state of the borrowed parts
-  abbrev pub PartsRest : {A E : Type 0} → (Parts W.Denot K.Denot → Parts W.Denot K.Denot → Type 0)
-      → MutBor (Parts W.Denot K.Denot) → (A → GName) → Result A E → Fml
-  PartsRest says lent name result = RestsIfErr (parts.the_row W K) lent name result (λ last. says lent.now last)
+  abbrev pub SequenceRests : {A E : Type 0} → (SequenceSerializer W.Denot K.Denot → SequenceSerializer W.Denot K.Denot → Type 0)
+      → MutBor (SequenceSerializer W.Denot K.Denot) → (A → GName) → Result A E → Fml
+  SequenceRests says lent name result = RestsIfErr (sequence.the_row W K) lent name result (λ last. says lent.now last)

@@ -6,37 +6,37 @@ ghost use Rattle.std.specs.Borrow.{sem};
 ghost use Rattle.std.specs.Iterator.{IsFinite, Drains};
 ghost use Rattle.sfv_spec.specs.Classes.{is_key};
 ghost use Rattle.sfv_spec.specs.Values.{IsBareValue};
-ghost use Rattle.sfv_spec.specs.Calls.{AllFit};
+ghost use Rattle.sfv_spec.specs.Values.{AllFit};
 ghost use Rattle.sfv_bare.specs.BareItems.{ref_value};
 ghost use Rattle.sfv_text.specs.KeyText.{key_text};
-ghost use Rattle.sfv_writer.specs.Written.{LacksRoom, lead, keyed_text, still_first, members_text, AreMembers};
-ghost use Rattle.sfv_writer.specs.Versions.{LacksWhereRefused, LooksFirst, FailsAmong, LacksAmong, values_of_members};
-ghost use Rattle.sfv_serializer.specs.Serializers.{PartsRest, HasMoreParts, HasNextPart, KeepsParts, parts_sink};
-ghost use Rattle.sfv_serializer.specs.Serializers.{parts_edition, has_no_part, params_sink, params_name, params_edition};
+ghost use Rattle.sfv_writer.specs.Written.{LacksRoom, separator_before, keyed_text, is_first_after, dictionary_members_text, AreDictionaryMembers};
+ghost use Rattle.sfv_writer.specs.Versions.{LacksWhereRefused, ChecksVersionFirst, FailsAmong, LacksAmong, values_of_dictionary_members};
+ghost use Rattle.sfv_serializer.specs.Serializers.{SequenceRests, HasAppended, HasAppendedNext, KeepsSequence, sequence_sink};
+ghost use Rattle.sfv_serializer.specs.Serializers.{sequence_version, is_empty_so_far, params_sink, params_name, params_version};
 ghost use Rattle.sfv_serializer.specs.Serializers.{inner_list_name, length_before};
-ghost use Rattle.sfv_serializer.specs.contracts.kind.DictMembers.{the_row as dict_members};
+ghost use Rattle.sfv_serializer.specs.contracts.sequence_kind.DictMembers.{the_row as dict_members};
 
+use crate::fragment::{KeyValue, KeyedInnerListStart};
 use crate::inner_list_serializer::InnerListSerializer;
-use crate::kind::DictMembers;
 use crate::parameter_serializer::ParameterSerializer;
-use crate::part::{Named, NamedOpening};
-use crate::parts::Parts;
+use crate::sequence::SequenceSerializer;
+use crate::sequence_kind::DictMembers;
 use crate::sink::Sink;
 use sfv_bare::bare::RefBareItem;
 use sfv_base::error::OutOfMemory;
 use sfv_text::key::Key;
 use sfv_text::key_ref::KeyRef;
 use sfv_tree::parsed::ListEntry;
-use sfv_writer::known::{is_a_key, is_a_value};
-use sfv_writer::look::look_at_bare_item;
+use sfv_writer::invariants::{bare_item_invariant, key_invariant};
 use sfv_writer::serialize_error::SerializeError;
+use sfv_writer::version_check::check_bare_item;
 
 /// A serializer that appends a dictionary to a `String`, member by member (RFC 9651, section 4.1.2).
 ///
 /// A repeated key is written twice. The serializer borrows the text mutably. Dropping it keeps the written text.
-pub type DictSerializer<W> = Parts<W, DictMembers>;
+pub type DictSerializer<W> = SequenceSerializer<W, DictMembers>;
 
-impl<W: Sink> Parts<W, DictMembers> {
+impl<W: Sink> SequenceSerializer<W, DictMembers> {
     /// Appends a member that is an item, and returns the serializer of its parameters (RFC 9651, section 4.1.2).
     ///
     /// Writes the key and, unless the value is true, an equals sign and the value. A separator comes first, except
@@ -52,21 +52,21 @@ impl<W: Sink> Parts<W, DictMembers> {
         name: KeyRef<'_>,
         value: RefBareItem<'_>,
     ) -> Result<ParameterSerializer<'_, DictSerializer<W>>, SerializeError>
-        ensures* kept { sem 𝓛 (PartsRest W.row dict_members (KeepsParts W.Sink) self.entry params_name result) }
+        ensures* kept { sem 𝓛 (SequenceRests W.row dict_members (KeepsSequence W.Sink) self.entry params_name result) }
         ensures lent { IfOk result (λ p. params_name p ≡ self.entry.ghost_name) }
-        ensures version { IfOk result (λ p. params_edition p ≡ parts_edition self.old) }
-        ensures looks { LooksFirst (parts_edition self.old) (ref_value value.entry ∷ []) result }
-        ensures text { IfOk result (λ p. HasNextPart W.Sink (codes ", ") self.old (params_sink p).now
+        ensures version { IfOk result (λ p. params_version p ≡ sequence_version self.old) }
+        ensures unsupported { ChecksVersionFirst (sequence_version self.old) (ref_value value.entry ∷ []) result }
+        ensures text { IfOk result (λ p. HasAppendedNext W.Sink (codes ", ") self.old (params_sink p).now
             (keyed_text (key_text name.entry) (ref_value value.entry)) false) }
-        ensures room { LacksWhereRefused (W.text (parts_sink self.old))
-            (lead (has_no_part self.old) (codes ", ") ++ keyed_text (key_text name.entry) (ref_value value.entry)) result }
+        ensures room { LacksWhereRefused (W.text (sequence_sink self.old))
+            (separator_before (is_empty_so_far self.old) (codes ", ") ++ keyed_text (key_text name.entry) (ref_value value.entry)) result }
         ensures is_key { IsTrue (is_key (key_text name.entry)) }
         ensures is_value { IsBareValue (ref_value value.entry) }
     {
-        is_a_key(name);
-        is_a_value(value);
-        look_at_bare_item(self.version, value)?;
-        self.append(Named { name, value })?;
+        key_invariant(name);
+        bare_item_invariant(value);
+        check_bare_item(self.version, value)?;
+        self.append(KeyValue { name, value })?;
         self.is_first = false;
         let version = self.version;
         Ok(ParameterSerializer::new(self, version))
@@ -84,20 +84,20 @@ impl<W: Sink> Parts<W, DictMembers> {
         &mut self,
         name: KeyRef<'_>,
     ) -> Result<InnerListSerializer<&mut DictSerializer<W>>, OutOfMemory>
-        ensures* out_of_memory { sem 𝓛 (PartsRest W.row dict_members (KeepsParts W.Sink) self.entry
+        ensures* out_of_memory { sem 𝓛 (SequenceRests W.row dict_members (KeepsSequence W.Sink) self.entry
             inner_list_name result) }
         ensures lent { IfOk result (λ s. inner_list_name s ≡ self.entry.ghost_name) }
-        ensures version { IfOk result (λ s. parts_edition s ≡ parts_edition self.old) }
-        ensures text { IfOk result (λ s. HasNextPart W.Sink (codes ", ") self.old (parts_sink s).now
-            (key_text name.entry ++ codes "=(") (has_no_part self.old)) }
-        ensures begins { IfOk result (λ s. (has_no_part s ≡ true)
-            × (length_before s ≡ string_len (W.text (parts_sink self.old)))) }
-        ensures room { OnErr result (LacksRoom (W.text (parts_sink self.old))
-            (lead (has_no_part self.old) (codes ", ") ++ key_text name.entry ++ codes "=(")) }
+        ensures version { IfOk result (λ s. sequence_version s ≡ sequence_version self.old) }
+        ensures text { IfOk result (λ s. HasAppendedNext W.Sink (codes ", ") self.old (sequence_sink s).now
+            (key_text name.entry ++ codes "=(") (is_empty_so_far self.old)) }
+        ensures begins { IfOk result (λ s. (is_empty_so_far s ≡ true)
+            × (length_before s ≡ string_len (W.text (sequence_sink self.old)))) }
+        ensures room { OnErr result (LacksRoom (W.text (sequence_sink self.old))
+            (separator_before (is_empty_so_far self.old) (codes ", ") ++ key_text name.entry ++ codes "=(")) }
         ensures is_key { IsTrue (is_key (key_text name.entry)) }
     {
-        is_a_key(name);
-        self.begin(NamedOpening { name })
+        key_invariant(name);
+        self.begin(KeyedInnerListStart { name })
     }
 
     /// Appends members in order, as `FieldType::serialize` writes them (RFC 9651, section 4.1.2).
@@ -113,13 +113,13 @@ impl<W: Sink> Parts<W, DictMembers> {
         requires can { I.can_next members }
         requires ends { IsFinite (I.remaining members) }
         ensures text { OnOk result ((taken : List _) × Drains I.next_gives members taken
-            × HasMoreParts W.Sink self.old self.new (members_text (has_no_part self.old) taken)
-            (still_first (has_no_part self.old) taken)
-            × AreMembers taken × AllFit (parts_edition self.old) (values_of_members taken)) }
-        ensures failed { IfErr result (FailsAmong I.next_gives members values_of_members (parts_edition self.old)) }
-        ensures room { IfErr result (LacksAmong I.next_gives members values_of_members (parts_edition self.old)
-            (W.text (parts_sink self.old)) (members_text (has_no_part self.old))) }
-        ensures kept { OnErr result (KeepsParts W.Sink self.old self.new) }
+            × HasAppended W.Sink self.old self.new (dictionary_members_text (is_empty_so_far self.old) taken)
+            (is_first_after (is_empty_so_far self.old) taken)
+            × AreDictionaryMembers taken × AllFit (sequence_version self.old) (values_of_dictionary_members taken)) }
+        ensures failed { IfErr result (FailsAmong I.next_gives members values_of_dictionary_members (sequence_version self.old)) }
+        ensures room { IfErr result (LacksAmong I.next_gives members values_of_dictionary_members (sequence_version self.old)
+            (W.text (sequence_sink self.old)) (dictionary_members_text (is_empty_so_far self.old))) }
+        ensures kept { OnErr result (KeepsSequence W.Sink self.old self.new) }
     {
         self.append_each(members)
     }

@@ -3,27 +3,27 @@
 ghost use Rattle.std.specs.Prelude.{◌≡◌, false, IfOk, IfErr, OnOk, OnErr, List, codes};
 ghost use Rattle.std.specs.Borrow.{sem};
 ghost use Rattle.std.specs.Iterator.{IsFinite, Drains};
-ghost use Rattle.sfv_spec.specs.Calls.{AllFit};
-ghost use Rattle.sfv_writer.specs.Written.{LacksRoom, still_first, items_text, AreItems};
+ghost use Rattle.sfv_spec.specs.Values.{AllFit};
+ghost use Rattle.sfv_writer.specs.Written.{LacksRoom, is_first_after, items_text, AreItems};
 ghost use Rattle.sfv_writer.specs.Versions.{FailsAmong, LacksAmong, values_of_items};
-ghost use Rattle.sfv_serializer.specs.Serializers.{PartsRest, HasMoreParts, KeepsParts, AreCutBack, parts_sink, parts_edition};
-ghost use Rattle.sfv_serializer.specs.Serializers.{has_no_part, params_sink, params_name, params_edition, length_before};
+ghost use Rattle.sfv_serializer.specs.Serializers.{SequenceRests, HasAppended, KeepsSequence, IsSequenceTruncatedTo, sequence_sink, sequence_version};
+ghost use Rattle.sfv_serializer.specs.Serializers.{is_empty_so_far, params_sink, params_name, params_version, length_before};
 
-use crate::kind::InnerListItems;
 use crate::parameter_serializer::ParameterSerializer;
-use crate::parts::Parts;
+use crate::sequence::SequenceSerializer;
+use crate::sequence_kind::InnerListItems;
 use crate::sink::{OPENER, Sink};
 use sfv_base::error::OutOfMemory;
 use sfv_tree::parsed::Item;
-use sfv_writer::output::cut_back;
+use sfv_writer::output::truncate_to;
 use sfv_writer::serialize_error::SerializeError;
 
 /// A serializer that appends an inner list, item by item, to its parent serializer `X` (RFC 9651, section 4.1.1.1).
 ///
 /// You must call `finish` or `abandon`: it cannot be dropped.
-pub type InnerListSerializer<X> = Parts<X, InnerListItems>;
+pub type InnerListSerializer<X> = SequenceSerializer<X, InnerListItems>;
 
-impl<X: Sink> Parts<X, InnerListItems> {
+impl<X: Sink> SequenceSerializer<X, InnerListItems> {
     /// Appends items in order, as `FieldType::serialize` writes them (RFC 9651, section 4.1.1.1).
     ///
     /// # Errors
@@ -37,35 +37,35 @@ impl<X: Sink> Parts<X, InnerListItems> {
         requires can { I.can_next items }
         requires ends { IsFinite (I.remaining items) }
         ensures text { OnOk result ((taken : List _) × Drains I.next_gives items taken
-            × HasMoreParts X.Sink self.old self.new (items_text (has_no_part self.old) taken)
-            (still_first (has_no_part self.old) taken)
-            × AreItems taken × AllFit (parts_edition self.old) (values_of_items taken)) }
-        ensures failed { IfErr result (FailsAmong I.next_gives items values_of_items (parts_edition self.old)) }
-        ensures room { IfErr result (LacksAmong I.next_gives items values_of_items (parts_edition self.old)
-            (X.text (parts_sink self.old)) (items_text (has_no_part self.old))) }
-        ensures kept { OnErr result (KeepsParts X.Sink self.old self.new) }
+            × HasAppended X.Sink self.old self.new (items_text (is_empty_so_far self.old) taken)
+            (is_first_after (is_empty_so_far self.old) taken)
+            × AreItems taken × AllFit (sequence_version self.old) (values_of_items taken)) }
+        ensures failed { IfErr result (FailsAmong I.next_gives items values_of_items (sequence_version self.old)) }
+        ensures room { IfErr result (LacksAmong I.next_gives items values_of_items (sequence_version self.old)
+            (X.text (sequence_sink self.old)) (items_text (is_empty_so_far self.old))) }
+        ensures kept { OnErr result (KeepsSequence X.Sink self.old self.new) }
     {
         self.append_each(items)
     }
 }
 
-impl<'s, W: Sink, K> Parts<&'s mut Parts<W, K>, InnerListItems> {
+impl<'s, W: Sink, K> SequenceSerializer<&'s mut SequenceSerializer<W, K>, InnerListItems> {
     /// Closes the inner list, and returns the serializer of its parameters (RFC 9651, section 4.1.1.1).
     ///
     /// # Errors
     ///
     /// Returns `OutOfMemory` if memory runs out. The inner list is then removed with its separator or key, as by
     /// `abandon`.
-    pub fn finish(self) -> Result<ParameterSerializer<'s, Parts<W, K>>, OutOfMemory>
-        ensures* out_of_memory { sem 𝓛 (PartsRest W.row K.row (AreCutBack W.Sink (length_before self.entry))
-            (parts_sink self.entry) params_name result) }
-        ensures lent { IfOk result (λ p. params_name p ≡ (parts_sink self.entry).ghost_name) }
-        ensures version { IfOk result (λ p. params_edition p ≡ parts_edition (parts_sink self.entry).now) }
-        ensures text { IfOk result (λ p. HasMoreParts W.Sink (parts_sink self.entry).now (params_sink p).now
+    pub fn finish(self) -> Result<ParameterSerializer<'s, SequenceSerializer<W, K>>, OutOfMemory>
+        ensures* out_of_memory { sem 𝓛 (SequenceRests W.row K.row (IsSequenceTruncatedTo W.Sink (length_before self.entry))
+            (sequence_sink self.entry) params_name result) }
+        ensures lent { IfOk result (λ p. params_name p ≡ (sequence_sink self.entry).ghost_name) }
+        ensures version { IfOk result (λ p. params_version p ≡ sequence_version (sequence_sink self.entry).now) }
+        ensures text { IfOk result (λ p. HasAppended W.Sink (sequence_sink self.entry).now (params_sink p).now
             (codes ")") false) }
-        ensures room { OnErr result (LacksRoom (W.text (parts_sink (parts_sink self.entry).now)) (codes ")")) }
+        ensures room { OnErr result (LacksRoom (W.text (sequence_sink (sequence_sink self.entry).now)) (codes ")")) }
     {
-        let Parts {
+        let SequenceSerializer {
             sink,
             is_first: _,
             version: _,
@@ -74,7 +74,7 @@ impl<'s, W: Sink, K> Parts<&'s mut Parts<W, K>, InnerListItems> {
         let InnerListItems { len_before } = kind;
         let text = sink.sink.text_mut(OPENER);
         if text.push(')').is_err() {
-            cut_back(len_before, text);
+            truncate_to(len_before, text);
             return Err(OutOfMemory);
         }
         sink.is_first = false;
@@ -85,15 +85,15 @@ impl<'s, W: Sink, K> Parts<&'s mut Parts<W, K>, InnerListItems> {
     /// Removes the inner list with its separator or key. The text and `has_member` are as before the inner list
     /// began.
     pub fn abandon(self)
-        ensures { AreCutBack W.Sink (length_before self.entry) (parts_sink self.entry).now self.exit.0.now }
+        ensures { IsSequenceTruncatedTo W.Sink (length_before self.entry) (sequence_sink self.entry).now self.exit.0.now }
     {
-        let Parts {
+        let SequenceSerializer {
             sink,
             is_first: _,
             version: _,
             kind,
         } = self;
         let InnerListItems { len_before } = kind;
-        cut_back(len_before, sink.sink.text_mut(OPENER));
+        truncate_to(len_before, sink.sink.text_mut(OPENER));
     }
 }

@@ -2,18 +2,20 @@
 
 ghost use Rattle.std.specs.Prelude.{◌≡◌, ◌≤◌, ◌∷◌, [], IfOk, string_bytes, string_capacity};
 ghost use Rattle.std.specs.Borrow.{sem};
-ghost use Rattle.sfv_spec.specs.Values.{rfc9651, IsBareValue};
+ghost use Rattle.sfv_spec.specs.Values.{IsBareValue};
+ghost use Rattle.sfv_spec.specs.declared.version.Version.TheVariants.{Rfc9651};
 ghost use Rattle.sfv_spec.specs.Canonical.{bare_text};
-ghost use Rattle.sfv_bare.specs.BareItems.{ref_value, edition_of};
-ghost use Rattle.sfv_writer.specs.Versions.{LacksWhereRefused, LooksFirst};
-ghost use Rattle.sfv_serializer.specs.Serializers.{TextRests, HoldsMore, item_buffer, params_sink, item_edition, params_edition};
+ghost use Rattle.sfv_bare.specs.BareItems.{ref_value};
+ghost use Rattle.sfv_writer.specs.Versions.{LacksWhereRefused, ChecksVersionFirst};
+ghost use Rattle.sfv_serializer.specs.Serializers.{TextRests, HoldsMore, item_buffer, params_sink, item_version, params_version};
 
+use crate::fragment::{BareItemFragment, append};
 use crate::parameter_serializer::ParameterSerializer;
-use crate::part::{Bare, append};
-use sfv_bare::bare::{RefBareItem, Version};
-use sfv_writer::known::is_a_value;
-use sfv_writer::look::look_at_bare_item;
+use sfv_bare::bare::RefBareItem;
+use sfv_spec::version::Version;
+use sfv_writer::invariants::bare_item_invariant;
 use sfv_writer::serialize_error::SerializeError;
+use sfv_writer::version_check::check_bare_item;
 use std::string::String as StdString;
 
 /// A serializer that appends an item to a `String`: first its bare item, then its parameters (RFC 9651, section
@@ -33,7 +35,7 @@ impl<'a> ItemSerializer<'a> {
         ensures lent { (item_buffer result).ghost_name ≡ buffer.entry.ghost_name }
         ensures text { string_bytes (item_buffer result).now ≡ string_bytes buffer.old }
         ensures room { string_capacity (item_buffer result).now ≡ string_capacity buffer.old }
-        ensures version { item_edition result ≡ rfc9651 }
+        ensures version { item_version result ≡ Rfc9651 }
     {
         ItemSerializer::with_buffer_for(buffer, Version::Rfc9651)
     }
@@ -44,7 +46,7 @@ impl<'a> ItemSerializer<'a> {
         ensures lent { (item_buffer result).ghost_name ≡ buffer.entry.ghost_name }
         ensures text { string_bytes (item_buffer result).now ≡ string_bytes buffer.old }
         ensures room { string_capacity (item_buffer result).now ≡ string_capacity buffer.old }
-        ensures version { item_edition result ≡ edition_of version }
+        ensures version { item_version result ≡ version }
     {
         ItemSerializer { buffer, version }
     }
@@ -62,17 +64,17 @@ impl<'a> ItemSerializer<'a> {
     ) -> Result<ParameterSerializer<'a, StdString>, SerializeError>
         ensures* kept { sem 𝓛 (TextRests (item_buffer self.entry) result) }
         ensures lent { IfOk result (λ p. (params_sink p).ghost_name ≡ (item_buffer self.entry).ghost_name) }
-        ensures version { IfOk result (λ p. params_edition p ≡ item_edition self.entry) }
-        ensures looks { LooksFirst (item_edition self.entry) (ref_value bare_item.entry ∷ []) result }
+        ensures version { IfOk result (λ p. params_version p ≡ item_version self.entry) }
+        ensures unsupported { ChecksVersionFirst (item_version self.entry) (ref_value bare_item.entry ∷ []) result }
         ensures text { HoldsMore (item_buffer self.entry) (bare_text (ref_value bare_item.entry)) result }
         ensures room { LacksWhereRefused (item_buffer self.entry).now (bare_text (ref_value bare_item.entry)) result }
         ensures stays { IfOk result (λ p. string_capacity (item_buffer self.entry).now ≤ string_capacity (params_sink p).now) }
         ensures is_value { IsBareValue (ref_value bare_item.entry) }
     {
         let ItemSerializer { buffer, version } = self;
-        is_a_value(bare_item);
-        look_at_bare_item(version, bare_item)?;
-        append(Bare { value: bare_item }, buffer)?;
+        bare_item_invariant(bare_item);
+        check_bare_item(version, bare_item)?;
+        append(BareItemFragment { value: bare_item }, buffer)?;
         Ok(ParameterSerializer::new(buffer, version))
     }
 }

@@ -2,22 +2,24 @@
 #![tactic(auto)]
 
 mod dict_serializer;
+mod fragment;
 mod inner_list_serializer;
 mod item_serializer;
-mod kind;
 mod list_serializer;
-mod look_at_calls;
 mod parameter_serializer;
-mod part;
-mod parts;
 pub mod script;
+mod sequence;
+mod sequence_kind;
 mod sink;
+mod version_check_of_calls;
 
 pub use dict_serializer::DictSerializer;
 pub use inner_list_serializer::InnerListSerializer;
 pub use item_serializer::ItemSerializer;
-pub use kind::{DictMembers, InnerListItems, Kind, ListMembers, Members, Unnamed};
 pub use list_serializer::ListSerializer;
 pub use parameter_serializer::ParameterSerializer;
-pub use parts::Parts;
+pub use sequence::SequenceSerializer;
+pub use sequence_kind::{
+    DictMembers, InnerListItems, Keyless, ListMembers, SequenceKind, TopLevel,
+};
 pub use sink::Sink;

@@ -6,24 +6,25 @@ ghost use Rattle.std.specs.Iterator.{IsFinite, Drains};
 ghost use Rattle.sfv_spec.specs.Classes.{is_key};
 ghost use Rattle.sfv_spec.specs.Values.{IsBareValue, AreParameters};
 ghost use Rattle.sfv_spec.specs.Canonical.{parameters_text};
-ghost use Rattle.sfv_spec.specs.Calls.{AllFit};
-ghost use Rattle.sfv_bare.specs.BareItems.{ref_value, edition_of};
+ghost use Rattle.sfv_spec.specs.Values.{AllFit};
+ghost use Rattle.sfv_bare.specs.BareItems.{ref_value};
 ghost use Rattle.sfv_text.specs.KeyText.{key_text};
 ghost use Rattle.sfv_writer.specs.Written.{param_text, lent_pairs};
-ghost use Rattle.sfv_writer.specs.Versions.{LacksWhereRefused, LooksFirst, FailsAmong, LacksAmong, values_of_pairs};
-ghost use Rattle.sfv_serializer.specs.Serializers.{TextRests, HoldsMore, params_sink, params_name, params_edition};
-ghost use Rattle.sfv_serializer.specs.Serializers.{PartsRest, KeepsParts, HasMoreParts, has_no_part, parts_sink};
+ghost use Rattle.sfv_writer.specs.Versions.{LacksWhereRefused, ChecksVersionFirst, FailsAmong, LacksAmong, values_of_pairs};
+ghost use Rattle.sfv_serializer.specs.Serializers.{TextRests, HoldsMore, params_sink, params_name, params_version};
+ghost use Rattle.sfv_serializer.specs.Serializers.{SequenceRests, KeepsSequence, HasAppended, is_empty_so_far, sequence_sink};
 
-use crate::part::{Named, Parameter, append};
-use crate::parts::Parts;
+use crate::fragment::{KeyValue, Parameter, append};
+use crate::sequence::SequenceSerializer;
 use crate::sink::{OPENER, Sink};
-use sfv_bare::bare::{BareItem, RefBareItem, Version};
+use sfv_bare::bare::{BareItem, RefBareItem};
+use sfv_spec::version::Version;
 use sfv_text::key::Key;
 use sfv_text::key_ref::KeyRef;
+use sfv_writer::invariants::{bare_item_invariant, key_invariant};
 use sfv_writer::item::append_parameters;
-use sfv_writer::known::{is_a_key, is_a_value};
-use sfv_writer::look::look_at_bare_item;
 use sfv_writer::serialize_error::SerializeError;
+use sfv_writer::version_check::check_bare_item;
 use std::string::String as StdString;
 
 /// A serializer that appends parameters to `X` (RFC 9651, section 4.1.1.2).
@@ -42,7 +43,7 @@ impl<'s, X> ParameterSerializer<'s, X> {
     pub(crate) fn new(sink: &'s mut X, version: Version) -> ParameterSerializer<'s, X>
         ensures lent { (params_sink result).ghost_name ≡ sink.entry.ghost_name }
         ensures text { (params_sink result).now ≡ sink.old }
-        ensures version { params_edition result ≡ edition_of version }
+        ensures version { params_version result ≡ version }
     {
         ParameterSerializer { sink, version }
     }
@@ -74,10 +75,10 @@ impl<'s> ParameterSerializer<'s, StdString> {
     ) -> Result<ParameterSerializer<'s, StdString>, SerializeError>
         ensures* kept { sem 𝓛 (TextRests (params_sink self.entry) result) }
         ensures lent { IfOk result (λ p. (params_sink p).ghost_name ≡ (params_sink self.entry).ghost_name) }
-        ensures version { IfOk result (λ p. params_edition p ≡ params_edition self.entry) }
+        ensures version { IfOk result (λ p. params_version p ≡ params_version self.entry) }
         ensures text { HoldsMore (params_sink self.entry)
             (param_text (key_text name.entry) (ref_value value.entry)) result }
-        ensures looks { LooksFirst (params_edition self.entry) (ref_value value.entry ∷ []) result }
+        ensures unsupported { ChecksVersionFirst (params_version self.entry) (ref_value value.entry ∷ []) result }
         ensures room { LacksWhereRefused (params_sink self.entry).now
             (param_text (key_text name.entry) (ref_value value.entry)) result }
         ensures stays { IfOk result (λ p. string_capacity (params_sink self.entry).now ≤ string_capacity (params_sink p).now) }
@@ -85,10 +86,10 @@ impl<'s> ParameterSerializer<'s, StdString> {
         ensures is_value { IsBareValue (ref_value value.entry) }
     {
         let ParameterSerializer { sink, version } = self;
-        is_a_key(name);
-        is_a_value(value);
-        look_at_bare_item(version, value)?;
-        let named = Named { name, value };
+        key_invariant(name);
+        bare_item_invariant(value);
+        check_bare_item(version, value)?;
+        let named = KeyValue { name, value };
         append(Parameter { named }, sink)?;
         Ok(ParameterSerializer { sink, version })
     }
@@ -108,13 +109,13 @@ impl<'s> ParameterSerializer<'s, StdString> {
         requires ends { IsFinite (I.remaining params) }
         ensures* kept { sem 𝓛 (TextRests (params_sink self.entry) result) }
         ensures lent { IfOk result (λ p. (params_sink p).ghost_name ≡ (params_sink self.entry).ghost_name) }
-        ensures version { IfOk result (λ p. params_edition p ≡ params_edition self.entry) }
+        ensures version { IfOk result (λ p. params_version p ≡ params_version self.entry) }
         ensures text { IfOk result (λ p. (pairs : List _) × Drains I.next_gives params pairs
             × (string_bytes (params_sink p).now
             ≡ string_bytes (params_sink self.entry).now ++ parameters_text (lent_pairs pairs))
-            × AreParameters (lent_pairs pairs) × AllFit (params_edition self.entry) (values_of_pairs pairs)) }
-        ensures failed { IfErr result (FailsAmong I.next_gives params values_of_pairs (params_edition self.entry)) }
-        ensures room { IfErr result (LacksAmong I.next_gives params values_of_pairs (params_edition self.entry)
+            × AreParameters (lent_pairs pairs) × AllFit (params_version self.entry) (values_of_pairs pairs)) }
+        ensures failed { IfErr result (FailsAmong I.next_gives params values_of_pairs (params_version self.entry)) }
+        ensures room { IfErr result (LacksAmong I.next_gives params values_of_pairs (params_version self.entry)
             (params_sink self.entry).now (λ taken. parameters_text (lent_pairs taken))) }
         ensures stays { IfOk result (λ p. string_capacity (params_sink self.entry).now ≤ string_capacity (params_sink p).now) }
     {
@@ -124,7 +125,7 @@ impl<'s> ParameterSerializer<'s, StdString> {
     }
 }
 
-impl<'s, W: Sink, K> ParameterSerializer<'s, Parts<W, K>> {
+impl<'s, W: Sink, K> ParameterSerializer<'s, SequenceSerializer<W, K>> {
     /// Appends a parameter: a semicolon, the key and, unless the value is true, an equals sign and the value.
     ///
     /// # Errors
@@ -136,23 +137,23 @@ impl<'s, W: Sink, K> ParameterSerializer<'s, Parts<W, K>> {
         self,
         name: KeyRef<'_>,
         value: RefBareItem<'_>,
-    ) -> Result<ParameterSerializer<'s, Parts<W, K>>, SerializeError>
-        ensures* kept { sem 𝓛 (PartsRest W.row K.row (KeepsParts W.Sink) (params_sink self.entry) params_name result) }
+    ) -> Result<ParameterSerializer<'s, SequenceSerializer<W, K>>, SerializeError>
+        ensures* kept { sem 𝓛 (SequenceRests W.row K.row (KeepsSequence W.Sink) (params_sink self.entry) params_name result) }
         ensures lent { IfOk result (λ p. params_name p ≡ params_name self.entry) }
-        ensures version { IfOk result (λ p. params_edition p ≡ params_edition self.entry) }
-        ensures text { IfOk result (λ p. HasMoreParts W.Sink (params_sink self.entry).now (params_sink p).now
-            (param_text (key_text name.entry) (ref_value value.entry)) (has_no_part (params_sink self.entry).now)) }
-        ensures looks { LooksFirst (params_edition self.entry) (ref_value value.entry ∷ []) result }
-        ensures room { LacksWhereRefused (W.text (parts_sink (params_sink self.entry).now))
+        ensures version { IfOk result (λ p. params_version p ≡ params_version self.entry) }
+        ensures text { IfOk result (λ p. HasAppended W.Sink (params_sink self.entry).now (params_sink p).now
+            (param_text (key_text name.entry) (ref_value value.entry)) (is_empty_so_far (params_sink self.entry).now)) }
+        ensures unsupported { ChecksVersionFirst (params_version self.entry) (ref_value value.entry ∷ []) result }
+        ensures room { LacksWhereRefused (W.text (sequence_sink (params_sink self.entry).now))
             (param_text (key_text name.entry) (ref_value value.entry)) result }
         ensures is_key { IsTrue (is_key (key_text name.entry)) }
         ensures is_value { IsBareValue (ref_value value.entry) }
     {
         let ParameterSerializer { sink, version } = self;
-        is_a_key(name);
-        is_a_value(value);
-        look_at_bare_item(version, value)?;
-        let named = Named { name, value };
+        key_invariant(name);
+        bare_item_invariant(value);
+        check_bare_item(version, value)?;
+        let named = KeyValue { name, value };
         append(Parameter { named }, sink.sink.text_mut(OPENER))?;
         Ok(ParameterSerializer { sink, version })
     }
@@ -167,19 +168,19 @@ impl<'s, W: Sink, K> ParameterSerializer<'s, Parts<W, K>> {
     pub fn parameters<'k, I: Iterator<Item = (&'k Key, &'k BareItem)> + Drop>(
         self,
         params: I,
-    ) -> Result<ParameterSerializer<'s, Parts<W, K>>, SerializeError>
+    ) -> Result<ParameterSerializer<'s, SequenceSerializer<W, K>>, SerializeError>
         requires can { I.can_next params }
         requires ends { IsFinite (I.remaining params) }
-        ensures* kept { sem 𝓛 (PartsRest W.row K.row (KeepsParts W.Sink) (params_sink self.entry) params_name result) }
+        ensures* kept { sem 𝓛 (SequenceRests W.row K.row (KeepsSequence W.Sink) (params_sink self.entry) params_name result) }
         ensures lent { IfOk result (λ p. params_name p ≡ params_name self.entry) }
-        ensures version { IfOk result (λ p. params_edition p ≡ params_edition self.entry) }
+        ensures version { IfOk result (λ p. params_version p ≡ params_version self.entry) }
         ensures text { IfOk result (λ p. (pairs : List _) × Drains I.next_gives params pairs
-            × HasMoreParts W.Sink (params_sink self.entry).now (params_sink p).now (parameters_text (lent_pairs pairs))
-            (has_no_part (params_sink self.entry).now)
-            × AreParameters (lent_pairs pairs) × AllFit (params_edition self.entry) (values_of_pairs pairs)) }
-        ensures failed { IfErr result (FailsAmong I.next_gives params values_of_pairs (params_edition self.entry)) }
-        ensures room { IfErr result (LacksAmong I.next_gives params values_of_pairs (params_edition self.entry)
-            (W.text (parts_sink (params_sink self.entry).now)) (λ taken. parameters_text (lent_pairs taken))) }
+            × HasAppended W.Sink (params_sink self.entry).now (params_sink p).now (parameters_text (lent_pairs pairs))
+            (is_empty_so_far (params_sink self.entry).now)
+            × AreParameters (lent_pairs pairs) × AllFit (params_version self.entry) (values_of_pairs pairs)) }
+        ensures failed { IfErr result (FailsAmong I.next_gives params values_of_pairs (params_version self.entry)) }
+        ensures room { IfErr result (LacksAmong I.next_gives params values_of_pairs (params_version self.entry)
+            (W.text (sequence_sink (params_sink self.entry).now)) (λ taken. parameters_text (lent_pairs taken))) }
     {
         let ParameterSerializer { sink, version } = self;
         append_parameters(version, params, sink.sink.text_mut(OPENER))?;

@@ -5,37 +5,40 @@ ghost use Rattle.std.specs.Prelude.{codes, if◌then◌else◌, string_capacity}
 ghost use Rattle.std.specs.List.{AllByRecursion};
 ghost use Rattle.sfv_spec.specs.Classes.{is_key};
 ghost use Rattle.sfv_spec.specs.Texts.{joined};
-ghost use Rattle.sfv_spec.specs.Values.{item, item_field, list_field, dictionary_field};
-ghost use Rattle.sfv_spec.specs.Values.{rfc9651, IsItem, AreParameters, IsFieldValue, HasMember};
-ghost use Rattle.sfv_spec.specs.Events.{bare_values};
+ghost use Rattle.sfv_spec.specs.Values.{item};
+ghost use Rattle.sfv_spec.specs.declared.field_kind.FieldKind.TheVariants.{Item as item_field, List as list_field};
+ghost use Rattle.sfv_spec.specs.declared.field_kind.FieldKind.TheVariants.{Dictionary as dictionary_field};
+ghost use Rattle.sfv_spec.specs.Values.{IsItem, AreParameters, IsFieldValue, HasMember};
+ghost use Rattle.sfv_spec.specs.declared.version.Version.TheVariants.{Rfc9651};
+ghost use Rattle.sfv_spec.specs.Values.{bare_values};
 ghost use Rattle.sfv_spec.specs.Calls.{described};
 ghost use Rattle.sfv_spec.specs.Canonical.{canonical, item_text, dictionary_member_text};
-ghost use Rattle.sfv_bare.specs.BareItems.{edition_of};
 ghost use Rattle.sfv_text.specs.KeyText.{key_text};
-ghost use Rattle.sfv_writer.specs.Written.{Appends, AppendsOrKeeps, AsksForRoom, LacksRoom, IsReadBack, lead, in_a_row, still_first};
-ghost use Rattle.sfv_writer.specs.Versions.{LacksWhereRefused, LooksFirst};
+ghost use Rattle.sfv_writer.specs.Written.{Appends, AppendsOrKeeps, AsksForRoom, LacksRoom, IsReadBack, separator_before, with_separators, is_first_after};
+ghost use Rattle.sfv_writer.specs.Versions.{LacksWhereRefused, ChecksVersionFirst};
 ghost use Rattle.sfv_writer.specs.declared.serialize_error.SerializeError.TheVariants as errors;
-ghost use Rattle.sfv_serializer.specs.Serializers.{lent_parts, HasMoreParts, HasNextPart, GrowsParts, inner_list_name, has_no_part};
-ghost use Rattle.sfv_serializer.specs.Serializers.{parts_edition, parts_sink};
-ghost use Rattle.sfv_serializer.specs.Scripts.{called_param, called_item, member_calls, list_calls, dictionary_calls};
-ghost use Rattle.sfv_serializer.specs.Scripts.{described_list, described_dictionary, handed_list, handed_dictionary, tried_list, tried_dictionary};
+ghost use Rattle.sfv_serializer.specs.Serializers.{lent_sequence, HasAppended, HasAppendedNext, GrowsSequence, inner_list_name, is_empty_so_far};
+ghost use Rattle.sfv_serializer.specs.Serializers.{sequence_version, sequence_sink};
+ghost use Rattle.sfv_serializer.specs.Scripts.{param_of_call, item_of_calls, member_calls, list_calls, dictionary_calls};
+ghost use Rattle.sfv_serializer.specs.Scripts.{described_list, described_dictionary, supplied_list, supplied_dictionary, tried_list, tried_dictionary};
 ghost use Rattle.sfv_serializer.specs.Scripts.{LacksForCall, added_text, added_text_of_pair, ended_text, WritesInner};
 ghost use Rattle.sfv_serializer.specs.Scripts.{WritesList, WritesDictionary, IsReadBackWhereFit};
 
 use crate::dict_serializer::DictSerializer;
+use crate::fragment::{Fragment, InnerListStart, KeyedInnerListStart};
 use crate::inner_list_serializer::InnerListSerializer;
 use crate::item_serializer::ItemSerializer;
-use crate::kind::{Kind, Unnamed};
 use crate::list_serializer::ListSerializer;
-use crate::look_at_calls::{look_at_dictionary_calls, look_at_item_calls, look_at_list_calls};
-use crate::part::{NamedOpening, Opening, Part};
-use crate::parts::Parts;
+use crate::sequence::SequenceSerializer;
+use crate::sequence_kind::{Keyless, SequenceKind};
 use crate::sink::Sink;
-use sfv_bare::bare::{RefBareItem, Version};
+use crate::version_check_of_calls::{check_dictionary_calls, check_item_calls, check_list_calls};
+use sfv_bare::bare::RefBareItem;
 use sfv_base::error::OutOfMemory;
+use sfv_spec::version::Version;
 use sfv_text::key_ref::KeyRef;
-use sfv_writer::output::cut_back;
-use sfv_writer::serialize_error::{SerializeError, only_memory};
+use sfv_writer::output::truncate_to;
+use sfv_writer::serialize_error::{SerializeError, expect_out_of_memory};
 use std::string::String as StdString;
 
 /// A call of `ParameterSerializer::parameter`.
@@ -74,18 +77,18 @@ pub enum MemberCalls<'a> {
 
 /// Performs the calls of an item.
 fn write_item(text: &mut StdString, calls: &ItemCalls<'_>) -> Result<(), OutOfMemory>
-    ensures text { Appends text.old text.new (item_text (called_item calls.now)) result }
-    ensures room { AsksForRoom text.old text.new (item_text (called_item calls.now)) result }
-    ensures value { OnOk result (IsItem (called_item calls.now)) }
+    ensures text { Appends text.old text.new (item_text (item_of_calls calls.now)) result }
+    ensures room { AsksForRoom text.old text.new (item_text (item_of_calls calls.now)) result }
+    ensures value { OnOk result (IsItem (item_of_calls calls.now)) }
 {
     let mut params = match ItemSerializer::with_buffer(text).bare_item(calls.value) {
         Ok(params) => params,
-        Err(error) => return Err(only_memory(error)),
+        Err(error) => return Err(expect_out_of_memory(error)),
     };
     for call in &calls.params {
         params = match params.parameter(call.key, call.value) {
             Ok(params) => params,
-            Err(error) => return Err(only_memory(error)),
+            Err(error) => return Err(expect_out_of_memory(error)),
         };
     }
     params.finish();
@@ -93,26 +96,26 @@ fn write_item(text: &mut StdString, calls: &ItemCalls<'_>) -> Result<(), OutOfMe
 }
 
 /// Performs the calls of an item without a key: a list member, or an item of an inner list.
-fn write_unnamed<W: Sink, K: Unnamed>(
-    parts: &mut Parts<W, K>,
+fn write_keyless_item<W: Sink, K: Keyless>(
+    sequence: &mut SequenceSerializer<W, K>,
     calls: &ItemCalls<'_>,
 ) -> Result<(), OutOfMemory>
-    requires { parts_edition parts.old ≡ rfc9651 }
-    ensures text { OnOk result (HasNextPart W.Sink K.separator parts.old parts.new
-        (item_text (called_item calls.now)) false) }
-    ensures room { OnErr result (LacksRoom (W.text (parts_sink parts.old))
-        (lead (has_no_part parts.old) K.separator ++ item_text (called_item calls.now))) }
-    ensures value { OnOk result (IsItem (called_item calls.now)) }
-    ensures out_of_memory { OnErr result (GrowsParts W.Sink parts.old parts.new) }
+    requires { sequence_version sequence.old ≡ Rfc9651 }
+    ensures text { OnOk result (HasAppendedNext W.Sink K.separator sequence.old sequence.new
+        (item_text (item_of_calls calls.now)) false) }
+    ensures room { OnErr result (LacksRoom (W.text (sequence_sink sequence.old))
+        (separator_before (is_empty_so_far sequence.old) K.separator ++ item_text (item_of_calls calls.now))) }
+    ensures value { OnOk result (IsItem (item_of_calls calls.now)) }
+    ensures out_of_memory { OnErr result (GrowsSequence W.Sink sequence.old sequence.new) }
 {
-    let mut params = match parts.bare_item(calls.value) {
+    let mut params = match sequence.bare_item(calls.value) {
         Ok(params) => params,
-        Err(error) => return Err(only_memory(error)),
+        Err(error) => return Err(expect_out_of_memory(error)),
     };
     for call in &calls.params {
         params = match params.parameter(call.key, call.value) {
             Ok(params) => params,
-            Err(error) => return Err(only_memory(error)),
+            Err(error) => return Err(expect_out_of_memory(error)),
         };
     }
     params.finish();
@@ -125,23 +128,23 @@ fn write_dictionary_item<W: Sink>(
     name: KeyRef<'_>,
     calls: &ItemCalls<'_>,
 ) -> Result<(), OutOfMemory>
-    requires { parts_edition dictionary.old ≡ rfc9651 }
-    ensures text { OnOk result (HasNextPart W.Sink (codes ", ") dictionary.old dictionary.new
-        (dictionary_member_text (key_text name.entry, item (called_item calls.now))) false) }
-    ensures room { OnErr result (LacksRoom (W.text (parts_sink dictionary.old)) (lead (has_no_part dictionary.old) (codes ", ")
-        ++ dictionary_member_text (key_text name.entry, item (called_item calls.now)))) }
+    requires { sequence_version dictionary.old ≡ Rfc9651 }
+    ensures text { OnOk result (HasAppendedNext W.Sink (codes ", ") dictionary.old dictionary.new
+        (dictionary_member_text (key_text name.entry, item (item_of_calls calls.now))) false) }
+    ensures room { OnErr result (LacksRoom (W.text (sequence_sink dictionary.old)) (separator_before (is_empty_so_far dictionary.old) (codes ", ")
+        ++ dictionary_member_text (key_text name.entry, item (item_of_calls calls.now)))) }
     ensures key { OnOk result (IsTrue (is_key (key_text name.entry))) }
-    ensures value { OnOk result (IsItem (called_item calls.now)) }
-    ensures out_of_memory { OnErr result (GrowsParts W.Sink dictionary.old dictionary.new) }
+    ensures value { OnOk result (IsItem (item_of_calls calls.now)) }
+    ensures out_of_memory { OnErr result (GrowsSequence W.Sink dictionary.old dictionary.new) }
 {
     let mut params = match dictionary.bare_item(name, calls.value) {
         Ok(params) => params,
-        Err(error) => return Err(only_memory(error)),
+        Err(error) => return Err(expect_out_of_memory(error)),
     };
     for call in &calls.params {
         params = match params.parameter(call.key, call.value) {
             Ok(params) => params,
-            Err(error) => return Err(only_memory(error)),
+            Err(error) => return Err(expect_out_of_memory(error)),
         };
     }
     params.finish();
@@ -150,44 +153,44 @@ fn write_dictionary_item<W: Sink>(
 
 /// Performs the calls of the items of an inner list.
 fn write_inner_items<W: Sink, K>(
-    inner: &mut InnerListSerializer<&mut Parts<W, K>>,
+    inner: &mut InnerListSerializer<&mut SequenceSerializer<W, K>>,
     items: &[ItemCalls<'_>],
 ) -> Result<(), OutOfMemory>
-    requires { parts_edition inner.old ≡ rfc9651 }
+    requires { sequence_version inner.old ≡ Rfc9651 }
     ensures lent { inner_list_name inner.new ≡ inner_list_name inner.old }
-    ensures text { OnOk result (HasMoreParts (lent_parts W.Sink) inner.old inner.new
-        (in_a_row (has_no_part inner.old) (codes " ") (map item_text (map called_item items.now)))
-        (still_first (has_no_part inner.old) (map called_item items.now))) }
-    ensures room { OnErr result (LacksRoom (W.text (parts_sink (parts_sink inner.old).now))
-        (in_a_row (has_no_part inner.old) (codes " ") (map item_text (map called_item items.now)))) }
-    ensures value { OnOk result (AllByRecursion IsItem (map called_item items.now)) }
-    ensures grows { GrowsParts (lent_parts W.Sink) inner.old inner.new }
+    ensures text { OnOk result (HasAppended (lent_sequence W.Sink) inner.old inner.new
+        (with_separators (is_empty_so_far inner.old) (codes " ") (map item_text (map item_of_calls items.now)))
+        (is_first_after (is_empty_so_far inner.old) (map item_of_calls items.now))) }
+    ensures room { OnErr result (LacksRoom (W.text (sequence_sink (sequence_sink inner.old).now))
+        (with_separators (is_empty_so_far inner.old) (codes " ") (map item_text (map item_of_calls items.now)))) }
+    ensures value { OnOk result (AllByRecursion IsItem (map item_of_calls items.now)) }
+    ensures grows { GrowsSequence (lent_sequence W.Sink) inner.old inner.new }
 {
     for calls in items {
-        write_unnamed(inner, calls)?;
+        write_keyless_item(inner, calls)?;
     }
     Ok(())
 }
 
 /// Performs the calls of a member that is an inner list: writes it after its opening, or abandons it.
-fn write_inner<W: Sink, K: Kind, P: Part>(
-    parts: &mut Parts<W, K>,
+fn write_inner<W: Sink, K: SequenceKind, P: Fragment>(
+    sequence: &mut SequenceSerializer<W, K>,
     opening: P,
     items: &[ItemCalls<'_>],
     params: &[ParamCall<'_>],
     abandon: bool,
 ) -> Result<(), OutOfMemory>
-    requires { parts_edition parts.old ≡ rfc9651 }
-    ensures text { OnOk result (WritesInner W.Sink parts.old parts.new K.separator (P.text opening)
-        (map called_item items.now) (map called_param params.now) abandon) }
-    ensures room { OnErr result (LacksRoom (W.text (parts_sink parts.old)) (lead (has_no_part parts.old) K.separator
-        ++ (if abandon then P.text opening ++ joined (codes " ") (map item_text (map called_item items.now))
-        else ended_text (P.text opening) (map called_item items.now) (map called_param params.now)))) }
+    requires { sequence_version sequence.old ≡ Rfc9651 }
+    ensures text { OnOk result (WritesInner W.Sink sequence.old sequence.new K.separator (P.text opening)
+        (map item_of_calls items.now) (map param_of_call params.now) abandon) }
+    ensures room { OnErr result (LacksRoom (W.text (sequence_sink sequence.old)) (separator_before (is_empty_so_far sequence.old) K.separator
+        ++ (if abandon then P.text opening ++ joined (codes " ") (map item_text (map item_of_calls items.now))
+        else ended_text (P.text opening) (map item_of_calls items.now) (map param_of_call params.now)))) }
     ensures value { OnOk result (MatchBool abandon ⊤ (P.is_valid opening
-        × AllByRecursion IsItem (map called_item items.now) × AreParameters (map called_param params.now))) }
-    ensures out_of_memory { OnErr result (GrowsParts W.Sink parts.old parts.new) }
+        × AllByRecursion IsItem (map item_of_calls items.now) × AreParameters (map param_of_call params.now))) }
+    ensures out_of_memory { OnErr result (GrowsSequence W.Sink sequence.old sequence.new) }
 {
-    let mut inner = parts.begin(opening)?;
+    let mut inner = sequence.begin(opening)?;
     if let Err(error) = write_inner_items(&mut inner, items) {
         inner.abandon();
         return Err(error);
@@ -200,7 +203,7 @@ fn write_inner<W: Sink, K: Kind, P: Part>(
     for call in params {
         ending = match ending.parameter(call.key, call.value) {
             Ok(ending) => ending,
-            Err(error) => return Err(only_memory(error)),
+            Err(error) => return Err(expect_out_of_memory(error)),
         };
     }
     ending.finish();
@@ -212,21 +215,21 @@ fn write_list_member<W: Sink>(
     list: &mut ListSerializer<W>,
     member: &MemberCalls<'_>,
 ) -> Result<(), OutOfMemory>
-    requires { parts_edition list.old ≡ rfc9651 }
+    requires { sequence_version list.old ≡ Rfc9651 }
     ensures text { OnOk result (WritesList W.Sink list.old list.new
         (member_calls member.now ∷ [])) }
-    ensures room { OnErr result (LacksRoom (W.text (parts_sink list.old))
-        (in_a_row (has_no_part list.old) (codes ", ") (added_text (member_calls member.now) ∷ []))) }
+    ensures room { OnErr result (LacksRoom (W.text (sequence_sink list.old))
+        (with_separators (is_empty_so_far list.old) (codes ", ") (added_text (member_calls member.now) ∷ []))) }
     ensures value { OnOk result (IsFieldValue list_field (described list_field (member_calls member.now ∷ []))) }
-    ensures out_of_memory { OnErr result (GrowsParts W.Sink list.old list.new) }
+    ensures out_of_memory { OnErr result (GrowsSequence W.Sink list.old list.new) }
 {
     match member {
-        MemberCalls::Item(item) => write_unnamed(list, item),
+        MemberCalls::Item(item) => write_keyless_item(list, item),
         MemberCalls::InnerList {
             items,
             params,
             abandon,
-        } => write_inner(list, Opening {}, items, params, *abandon),
+        } => write_inner(list, InnerListStart {}, items, params, *abandon),
     }
 }
 
@@ -236,15 +239,15 @@ fn write_dictionary_member<W: Sink>(
     name: KeyRef<'_>,
     member: &MemberCalls<'_>,
 ) -> Result<(), OutOfMemory>
-    requires { parts_edition dictionary.old ≡ rfc9651 }
+    requires { sequence_version dictionary.old ≡ Rfc9651 }
     ensures text { OnOk result (WritesDictionary W.Sink dictionary.old dictionary.new
         ((key_text name.entry, member_calls member.now) ∷ [])) }
-    ensures room { OnErr result (LacksRoom (W.text (parts_sink dictionary.old))
-        (in_a_row (has_no_part dictionary.old) (codes ", ")
+    ensures room { OnErr result (LacksRoom (W.text (sequence_sink dictionary.old))
+        (with_separators (is_empty_so_far dictionary.old) (codes ", ")
         (added_text_of_pair (key_text name.entry, member_calls member.now) ∷ []))) }
     ensures value { OnOk result (IsFieldValue dictionary_field
         (described dictionary_field ((key_text name.entry, member_calls member.now) ∷ []))) }
-    ensures out_of_memory { OnErr result (GrowsParts W.Sink dictionary.old dictionary.new) }
+    ensures out_of_memory { OnErr result (GrowsSequence W.Sink dictionary.old dictionary.new) }
 {
     match member {
         MemberCalls::Item(item) => write_dictionary_item(dictionary, name, item),
@@ -252,7 +255,13 @@ fn write_dictionary_member<W: Sink>(
             items,
             params,
             abandon,
-        } => write_inner(dictionary, NamedOpening { name }, items, params, *abandon),
+        } => write_inner(
+            dictionary,
+            KeyedInnerListStart { name },
+            items,
+            params,
+            *abandon,
+        ),
     }
 }
 
@@ -261,13 +270,13 @@ fn write_list_members<W: Sink>(
     list: &mut ListSerializer<W>,
     calls: &[MemberCalls<'_>],
 ) -> Result<(), OutOfMemory>
-    requires { parts_edition list.old ≡ rfc9651 }
+    requires { sequence_version list.old ≡ Rfc9651 }
     ensures text { OnOk result (WritesList W.Sink list.old list.new
         (list_calls calls.now)) }
-    ensures room { OnErr result ((n : ℕ) × LacksRoom (W.text (parts_sink list.old))
-        (in_a_row (has_no_part list.old) (codes ", ") (tried_list calls.now n))) }
+    ensures room { OnErr result ((n : ℕ) × LacksRoom (W.text (sequence_sink list.old))
+        (with_separators (is_empty_so_far list.old) (codes ", ") (tried_list calls.now n))) }
     ensures value { OnOk result (IsFieldValue list_field (described_list calls.now)) }
-    ensures out_of_memory { OnErr result (GrowsParts W.Sink list.old list.new) }
+    ensures out_of_memory { OnErr result (GrowsSequence W.Sink list.old list.new) }
     ensures some { OnErr result (0 < length calls.now) }
 {
     for member in calls {
@@ -296,13 +305,13 @@ fn write_dictionary_members<W: Sink>(
     dictionary: &mut DictSerializer<W>,
     calls: &[(KeyRef<'_>, MemberCalls<'_>)],
 ) -> Result<(), OutOfMemory>
-    requires { parts_edition dictionary.old ≡ rfc9651 }
+    requires { sequence_version dictionary.old ≡ Rfc9651 }
     ensures text { OnOk result (WritesDictionary W.Sink dictionary.old dictionary.new
         (dictionary_calls calls.now)) }
-    ensures room { OnErr result ((n : ℕ) × LacksRoom (W.text (parts_sink dictionary.old))
-        (in_a_row (has_no_part dictionary.old) (codes ", ") (tried_dictionary calls.now n))) }
+    ensures room { OnErr result ((n : ℕ) × LacksRoom (W.text (sequence_sink dictionary.old))
+        (with_separators (is_empty_so_far dictionary.old) (codes ", ") (tried_dictionary calls.now n))) }
     ensures value { OnOk result (IsFieldValue dictionary_field (described_dictionary calls.now)) }
-    ensures out_of_memory { OnErr result (GrowsParts W.Sink dictionary.old dictionary.new) }
+    ensures out_of_memory { OnErr result (GrowsSequence W.Sink dictionary.old dictionary.new) }
     ensures some { OnErr result (0 < length calls.now) }
 {
     for (name, member) in calls {
@@ -337,15 +346,15 @@ fn write_dictionary(
 /// Returns `OutOfMemory` if memory runs out. The text is then unchanged.
 #[tactic(auto, using(sfv_writer::proofs::Written::cut_to, crate::proofs::WhereFit::read_back_where_fit))]
 pub fn run_item(text: &mut StdString, calls: &ItemCalls<'_>) -> Result<(), OutOfMemory>
-    ensures text { AppendsOrKeeps text.old text.new (canonical item_field (called_item calls.now)) result }
-    ensures room { AsksForRoom text.old text.new (canonical item_field (called_item calls.now)) result }
-    ensures value { OnOk result (IsFieldValue item_field (called_item calls.now)) }
-    ensures read_back { OnOk result (IsReadBackWhereFit item_field (called_item calls.now)) }
+    ensures text { AppendsOrKeeps text.old text.new (canonical item_field (item_of_calls calls.now)) result }
+    ensures room { AsksForRoom text.old text.new (canonical item_field (item_of_calls calls.now)) result }
+    ensures value { OnOk result (IsFieldValue item_field (item_of_calls calls.now)) }
+    ensures read_back { OnOk result (IsReadBackWhereFit item_field (item_of_calls calls.now)) }
 {
     let len = text.len();
     let written = write_item(text, calls);
     if written.is_err() {
-        cut_back(len, text);
+        truncate_to(len, text);
     }
     written
 }
@@ -370,7 +379,7 @@ pub fn run_list(text: &mut StdString, calls: &[MemberCalls<'_>]) -> Result<bool,
     let len = text.len();
     let written = write_list(text, calls);
     if written.is_err() {
-        cut_back(len, text);
+        truncate_to(len, text);
     }
     written
 }
@@ -401,7 +410,7 @@ pub fn run_dict(
     let len = text.len();
     let written = write_dictionary(text, calls);
     if written.is_err() {
-        cut_back(len, text);
+        truncate_to(len, text);
     }
     written
 }
@@ -417,14 +426,14 @@ pub fn run_item_for(
     text: &mut StdString,
     calls: &ItemCalls<'_>,
 ) -> Result<(), SerializeError>
-    ensures text { AppendsOrKeeps text.old text.new (canonical item_field (called_item calls.now)) result }
-    ensures room { LacksWhereRefused text.old (canonical item_field (called_item calls.now)) result }
+    ensures text { AppendsOrKeeps text.old text.new (canonical item_field (item_of_calls calls.now)) result }
+    ensures room { LacksWhereRefused text.old (canonical item_field (item_of_calls calls.now)) result }
     ensures stays { string_capacity text.old ≤ string_capacity text.new }
-    ensures value { OnOk result (IsFieldValue item_field (called_item calls.now)) }
-    ensures looks { LooksFirst (edition_of version) (bare_values item_field (called_item calls.now)) result }
-    ensures read_back { OnOk result (IsReadBack (edition_of version) item_field (called_item calls.now)) }
+    ensures value { OnOk result (IsFieldValue item_field (item_of_calls calls.now)) }
+    ensures unsupported { ChecksVersionFirst version (bare_values item_field (item_of_calls calls.now)) result }
+    ensures read_back { OnOk result (IsReadBack version item_field (item_of_calls calls.now)) }
 {
-    look_at_item_calls(version, calls)?;
+    check_item_calls(version, calls)?;
     run_item(text, calls)?;
     Ok(())
 }
@@ -449,11 +458,11 @@ pub fn run_list_for(
     ensures stays { string_capacity text.old ≤ string_capacity text.new }
     ensures member { IfOk result (λ stands. IsTrue stands ↔ HasMember list_field (described_list calls.now)) }
     ensures value { OnOk result (IsFieldValue list_field (described_list calls.now)) }
-    ensures looks { LooksFirst (edition_of version) (bare_values list_field (handed_list calls.now)) result }
-    ensures read_back { OnOk result (IsReadBack (edition_of version) list_field (described_list calls.now)) }
+    ensures unsupported { ChecksVersionFirst version (bare_values list_field (supplied_list calls.now)) result }
+    ensures read_back { OnOk result (IsReadBack version list_field (described_list calls.now)) }
     ensures some { OnErr result (0 < length calls.now) }
 {
-    look_at_list_calls(version, calls)?;
+    check_list_calls(version, calls)?;
     let stands = run_list(text, calls)?;
     Ok(stands)
 }
@@ -480,11 +489,11 @@ pub fn run_dict_for(
     ensures member { IfOk result (λ stands. IsTrue stands
         ↔ HasMember dictionary_field (described_dictionary calls.now)) }
     ensures value { OnOk result (IsFieldValue dictionary_field (described_dictionary calls.now)) }
-    ensures looks { LooksFirst (edition_of version) (bare_values dictionary_field (handed_dictionary calls.now)) result }
-    ensures read_back { OnOk result (IsReadBack (edition_of version) dictionary_field (described_dictionary calls.now)) }
+    ensures unsupported { ChecksVersionFirst version (bare_values dictionary_field (supplied_dictionary calls.now)) result }
+    ensures read_back { OnOk result (IsReadBack version dictionary_field (described_dictionary calls.now)) }
     ensures some { OnErr result (0 < length calls.now) }
 {
-    look_at_dictionary_calls(version, calls)?;
+    check_dictionary_calls(version, calls)?;
     let stands = run_dict(text, calls)?;
     Ok(stands)
 }

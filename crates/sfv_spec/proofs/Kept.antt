@@ -8,7 +8,8 @@ use Rattle.std.proofs.lemmas.Bool.{cases_Bool}
 use Rattle.std.proofs.lemmas.List.Sums.{fold-append}
 use Rattle.std.proofs.lemmas.List.Folds.{fold-map}
 use Rattle.std.proofs.lemmas.Slice.Eq.{bytes_eq-Decides}
-use Rattle.sfv_spec.specs.Values.{dictionary_field, RawParameters, RawMember}
+use Rattle.sfv_spec.specs.Values.{RawParameters, RawMember}
+use Rattle.sfv_spec.specs.declared.field_kind.FieldKind.TheVariants.{Dictionary as dictionary_field}
 use Rattle.sfv_spec.specs.Events.{TreeEvent, parameter, parameters_end, parameters_events, keyed_events, events}
 use Rattle.sfv_spec.specs.Ordered.{last_of}
 use Rattle.sfv_spec.proofs.Runs.{IsInside}

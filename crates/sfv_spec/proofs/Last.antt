@@ -7,7 +7,8 @@ use Rattle.std.specs.Map.{lookup}
 use Rattle.std.proofs.lemmas.Slice.Eq.{bytes_eq-Decides}
 use Rattle.std.proofs.lemmas.Bool.{and_parts, not-true}
 use Rattle.std.proofs.lemmas.Option.{same_Some}
-use Rattle.sfv_spec.specs.Values.{RawMember, dictionary_field}
+use Rattle.sfv_spec.specs.Values.{RawMember}
+use Rattle.sfv_spec.specs.declared.field_kind.FieldKind.TheVariants.{Dictionary as dictionary_field}
 use Rattle.sfv_spec.specs.Ordered.{keys, last_of, collapse, ordered, ordered_member, no_repeats}
 use Rattle.sfv_spec.proofs.Collapse.{last_of-absent, last_of-collapse}
 
@@ -48,7 +49,7 @@ none-last_of {A} key ((k, v) ∷ ps) h = go (none-last_of key ps) (bytes_eq key 
     go ih false None e h = ih e
     go ih b (Some x) e h = absurd (cc)
 
--- the pairs split at one of this key and value, and none behind it has the key
+-- the pairs split at one of this key and value, and none after it has the key
 pub record IsLast {A : Type 0} (key : List ℕ) (v : A) (ps : List (List ℕ × A)) : Type 0 where
   pub before : List (List ℕ × A)
   pub after : List (List ℕ × A)
@@ -80,15 +81,15 @@ last_of-split {A} key v ((k, w) ∷ ps) h = go (last_of-split key v ps) (bytes_e
     }
     go ih false e None f h = absurd (cc)
 
-last_of-behind : {A : Type 0} (key : List ℕ) (v : A) (before after : List (List ℕ × A)) → last_of key after ≡ None
+last_of-past : {A : Type 0} (key : List ℕ) (v : A) (before after : List (List ℕ × A)) → last_of key after ≡ None
     → last_of key (before ++ (key, v) ∷ after) ≡ Some v
 unfolding last_of
-last_of-behind key v [] after h = rw (h, (bytes_eq-Decides key key).1 refl) refl
-last_of-behind key v ((k, w) ∷ before) after h = rw (last_of-behind key v before after h) refl
+last_of-past key v [] after h = rw (h, (bytes_eq-Decides key key).1 refl) refl
+last_of-past key v ((k, w) ∷ before) after h = rw (last_of-past key v before after h) refl
 
 pub split-last_of : {A : Type 0} (key : List ℕ) (v : A) (ps : List (List ℕ × A)) → IsLast key v ps
     → last_of key ps ≡ Some v
-split-last_of key v ps l = ap (last_of key) l.split ∙ last_of-behind key v l.before l.after l.last
+split-last_of key v ps l = ap (last_of key) l.split ∙ last_of-past key v l.before l.after l.last
 
 -- where no key stands twice, the last pair of a key is its first
 pub lookup-last_of : {A : Type 0} (key : List ℕ) (ps : List (List ℕ × A)) → no_repeats (keys ps) ≡ true

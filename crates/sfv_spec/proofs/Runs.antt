@@ -3,7 +3,8 @@ use Rattle.std.proofs.Common.{◌≡◌, suc, List, [], ◌∷◌, ◌++◌, len
 use Rattle.std.specs.Prelude.{⊤, ℕ, Option, Some, None, fold, filter_map, flat_map, ◌⊎◌}
 use Rattle.std.specs.List.{Contains, AllByRecursion}
 use Rattle.std.proofs.lemmas.List.Elements.{filter_map-append, Contains-append_right}
-use Rattle.sfv_spec.specs.Values.{list_field, dictionary_field, RawParameters, RawItem, RawMember, item, inner_list}
+use Rattle.sfv_spec.specs.Values.{RawParameters, RawItem, RawMember, item, inner_list}
+use Rattle.sfv_spec.specs.declared.field_kind.FieldKind.TheVariants.{List as list_field, Dictionary as dictionary_field}
 use Rattle.sfv_spec.specs.Events.{TreeEvent, entry, keyed_entry, begins_item, begins_inner_list, bare_item}
 use Rattle.sfv_spec.specs.Events.{parameter, parameters_end, inner_list_end, parameters_events, inner_item_events}
 use Rattle.sfv_spec.specs.Events.{member_events, events}
@@ -34,10 +35,10 @@ entry_in entry = Some tt
 entry_in e = None
 
 -- all events of a member but the one that leads it are such
-all_behind : (xs ys : List TreeEvent) → AllByRecursion IsInside xs → AllByRecursion IsInside ys
+all_after : (xs ys : List TreeEvent) → AllByRecursion IsInside xs → AllByRecursion IsInside ys
     → AllByRecursion IsInside (xs ++ ys)
-all_behind [] ys h k = k
-all_behind (x ∷ xs) ys h k = (h.0, all_behind xs ys h.1 k)
+all_after [] ys h k = k
+all_after (x ∷ xs) ys h k = (h.0, all_after xs ys h.1 k)
 
 parameters_inside : (ps : RawParameters) → AllByRecursion IsInside (parameters_events ps)
 parameters_inside [] = (tt, tt)
@@ -45,14 +46,14 @@ parameters_inside (p ∷ ps) = (tt, parameters_inside ps)
 
 items_inside : (xs : List RawItem) → AllByRecursion IsInside (flat_map inner_item_events xs)
 items_inside [] = tt
-items_inside (x ∷ xs) = all_behind (inner_item_events x) (flat_map inner_item_events xs)
+items_inside (x ∷ xs) = all_after (inner_item_events x) (flat_map inner_item_events xs)
     (tt, (tt, parameters_inside x.parameters)) (items_inside xs)
 
 pub member_inside : (m : RawMember) → AllByRecursion IsInside (member_events m)
 member_inside (item i) = (tt, (tt, parameters_inside i.parameters))
 member_inside (inner_list l) = (
   tt,
-  all_behind (flat_map inner_item_events l.items) (inner_list_end ∷ parameters_events l.parameters)
+  all_after (flat_map inner_item_events l.items) (inner_list_end ∷ parameters_events l.parameters)
       (items_inside l.items) (tt, parameters_inside l.parameters),
 )
 

@@ -3,9 +3,9 @@ use Rattle.std.proofs.Common.{◌≡◌, ◌≤◌, ℕ, Bool, List, [], ◌++�
 use Rattle.std.proofs.Common.{string_bytes, string_capacity}
 use Rattle.std.specs.Prelude.{OnErr}
 use Rattle.std.proofs.lemmas.List.{append-nil}
-use Rattle.sfv.specs.declared.Parts.{Parts}
+use Rattle.sfv.specs.declared.SequenceSerializer.{SequenceSerializer}
 use Rattle.sfv.specs.declared.Sink.{Ghosts as Sink}
-use Rattle.sfv.specs.Serializers.{HasMoreParts, KeepsParts}
+use Rattle.sfv.specs.Serializers.{HasAppended, KeepsSequence}
 use Rattle.sfv.specs.Written.{Extends}
 use Rattle.sfv.proofs.Callers.{no_less}
 
@@ -15,7 +15,7 @@ with_param front part param = ap (λ t. front ++ (part ++ t)) (append-nil param)
 
 module _ {W K : Type 0} (w : Sink W) where
   -- more stands at the end, whatever it is
-  pub grown_as : (s t : Parts W K) (b : W) (k : K) (more : List ℕ) (is_first : Bool) → HasMoreParts w s t more is_first
+  pub grown_as : (s t : SequenceSerializer W K) (b : W) (k : K) (more : List ℕ) (is_first : Bool) → HasAppended w s t more is_first
       → b ≡ t.sink → k ≡ t.kind
       → w.same s.sink b × Extends (string_bytes (w.text s.sink)) (string_bytes (w.text b)) × (k ≡ s.kind)
       × (string_capacity (w.text s.sink) ≤ string_capacity (w.text b))
@@ -23,13 +23,13 @@ module _ {W K : Type 0} (w : Sink W) where
 
 module _ {W K : Type 0} (w : Sink W) (again : (r s t : W) → w.same r s → w.same s t → w.same r t) where
   -- more was written, and the next call failed
-  pub grown_rests : {A E : Type 0} (s t u : Parts W K) (b : W) (k : K) (more : List ℕ) (is_first : Bool)
-      (r : Result A E) (e : E) → HasMoreParts w s t more is_first → r ≡ Err e → OnErr r (KeepsParts w t u)
+  pub grown_rests : {A E : Type 0} (s t u : SequenceSerializer W K) (b : W) (k : K) (more : List ℕ) (is_first : Bool)
+      (r : Result A E) (e : E) → HasAppended w s t more is_first → r ≡ Err e → OnErr r (KeepsSequence w t u)
       → b ≡ u.sink → k ≡ u.kind
       → w.same s.sink b × Extends (string_bytes (w.text s.sink)) (string_bytes (w.text b)) × (k ≡ s.kind)
       × (string_capacity (w.text s.sink) ≤ string_capacity (w.text b))
   grown_rests s t u b k more is_first r e begun is h last kind =
-      let kept : KeepsParts w t u = subst (λ (r : Result _ _). OnErr r (KeepsParts w t u)) is h in
+      let kept : KeepsSequence w t u = subst (λ (r : Result _ _). OnErr r (KeepsSequence w t u)) is h in
       rw last (
         again _ _ _ begun.0 kept.0,
         (more, kept.1 ∙ begun.1),

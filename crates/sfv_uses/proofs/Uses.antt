@@ -7,7 +7,9 @@ use Rattle.std.specs.Prelude.{option_map}
 use Rattle.std.specs.List.{cons_option}
 use Rattle.std.proofs.lemmas.List.{length-append, length-map}
 use Rattle.std.proofs.lemmas.List.Elements.{filter_map-append}
-use Rattle.sfv.specs.Values.{rfc9651, FieldKind, item_field, dictionary_field, RawItem, BareValue, integer, decimal}
+use Rattle.sfv.specs.Values.{RawItem, BareValue, integer, decimal}
+use Rattle.sfv.specs.Types.{FieldKind, item_field, dictionary_field}
+use Rattle.sfv.specs.Types.{Rfc9651}
 use Rattle.sfv.specs.Values.{string, token, byte_sequence}
 use Rattle.sfv.specs.Values.{boolean, date, display_string, RawMember, item, inner_list}
 use Rattle.sfv.specs.Events.{TreeEvent, entry, keyed_entry, begins_item, begins_inner_list, bare_item, parameter}
@@ -16,8 +18,8 @@ use Rattle.sfv.specs.Grammar.{IsFieldText, IsAccepted, StandsFirst, BeginsWithBa
 use Rattle.sfv.specs.Ordered.{last_of, ordered_member}
 use Rattle.sfv.specs.Statements.{IsParsedAs}
 use Rattle.sfv.specs.Visiting.{RunsTo, IsVisitorError}
-use Rattle.sfv.specs.Parsers.{IsParseError, IsAnswerOf, IsSyntaxOf, IsVisitorErrorOf, VisitsFirst, IsLent, OfMade}
-use Rattle.sfv.specs.Given.{ReadBareItem, item_kept, KeepTakes, KeepFails}
+use Rattle.sfv.specs.Parsers.{IsParseError, IsAnswerOf, IsSyntaxOf, IsVisitorErrorOf, VisitsFirst, IsBorrowedIfPlain, OfMade}
+use Rattle.sfv.specs.ProvidedVisitors.{ReadBareItem, item_kept, KeepTakes, KeepFails}
 use Rattle.sfv.specs.Types.{Error, ParseError, OutOfMemory, ItemFault, ExpectItem}
 use Rattle.sfv.specs.BareItems.{input_value}
 use Rattle.sfv.specs.Types.{StringFromInput}
@@ -49,10 +51,10 @@ integer_or-other default (display_string s) h = refl
 
 -- a parameter in a dictionary that was read is the last of the text
 pub param_read : (t : List ℕ) (value : List (List ℕ × RawMember)) (key param : List ℕ)
-    → (h : IsParsedAs rfc9651 dictionary_field t value)
+    → (h : IsParsedAs Rfc9651 dictionary_field t value)
     → param_in param (last_of key value) ≡ param_in param (last_of key h.raw)
 param_read t value key param h =
-    ap (param_in param) (member_read rfc9651 t value key h) ∙ go (last_of key h.raw)
+    ap (param_in param) (member_read Rfc9651 t value key h) ∙ go (last_of key h.raw)
   where
     go : (m : Option RawMember) → param_in param (option_map ordered_member m) ≡ param_in param m
     go None = refl
@@ -61,8 +63,8 @@ param_read t value key param h =
 
 -- the second of two lines fails as `parse` does, or for memory
 pub second_fails : {S O T : Type 0} (kind : FieldKind) (takes : S → TreeEvent → S → Type 0) (finishes : S → O → Type 0)
-    (first second : List ℕ) (from : S) (r : Result T (ParseError OutOfMemory)) → IsAccepted rfc9651 kind first
-    → IfErr r (IsSyntaxOf takes finishes rfc9651 kind second from) → IfErr r (IsErrorOfLines kind first second)
+    (first second : List ℕ) (from : S) (r : Result T (ParseError OutOfMemory)) → IsAccepted Rfc9651 kind first
+    → IfErr r (IsSyntaxOf takes finishes Rfc9651 kind second from) → IfErr r (IsErrorOfLines kind first second)
 second_fails kind takes finishes first second from (Ok x) a h = tt
 second_fails kind takes finishes first second from (Err (Syntax e)) a h = inr (a, h.0)
 second_fails kind takes finishes first second from (Err (Visitor fault)) a h = a
@@ -113,10 +115,10 @@ FinishFails s fault = ⊥
 
 module _ (t : List ℕ) (from : MemberCounter) (start : from.members ≡ 0) where
   pub count_answered : (r : Result ℕ (ParseError TooMany))
-      → IfOk r (IsAnswerOf Takes Finishes rfc9651 dictionary_field t from) → IfOk r (HasMembers t from.limit)
+      → IfOk r (IsAnswerOf Takes Finishes Rfc9651 dictionary_field t from) → IfOk r (HasMembers t from.limit)
   count_answered (Ok n) h =
-      let run = run_counted (events dictionary_field h.raw) from h.visited.last start h.visited.taken in
-      let last = h.visited.answered in
+      let run = run_counted (events dictionary_field h.raw) from h.holds.last start h.holds.taken in
+      let last = h.holds.answered in
       record {
         raw = h.raw;
         accepted = h.accepted;
@@ -144,8 +146,8 @@ module _ (t : List ℕ) (from : MemberCounter) (start : from.members ≡ 0) wher
   failed_late raw fault (inr h) = absurd h.2
 
   pub count_failed : (r : Result ℕ (ParseError TooMany))
-      → IfErr r (IsSyntaxOf Takes Finishes rfc9651 dictionary_field t from)
-      → IfErr r (IsVisitorErrorOf Takes Fails FinishFails rfc9651 dictionary_field t from)
+      → IfErr r (IsSyntaxOf Takes Finishes Rfc9651 dictionary_field t from)
+      → IfErr r (IsVisitorErrorOf Takes Fails FinishFails Rfc9651 dictionary_field t from)
       → IfErr r (IsCountError t from.limit)
   count_failed (Ok n) h k = tt
   count_failed (Err (Syntax e)) h k = h.0
@@ -163,39 +165,39 @@ module _ {T : Type 0} (holds : T → BareValue) (fails : BareValue → ItemFault
   KeepsNone s fault = (item_kept s ≡ None) × (fault ≡ item_faults.NoItem)
 
   pub expected : (t : List ℕ) (r : Result T (ParseError ItemFault))
-      → IfOk r (OfMade Waits (IsAnswerOf (KeepTakes holds) Keeps rfc9651 item_field t))
-      → IfErr r (OfMade Waits (IsSyntaxOf (KeepTakes holds) Keeps rfc9651 item_field t))
-      → IfErr r (OfMade Waits (IsVisitorErrorOf (KeepTakes holds) (KeepFails fails) KeepsNone rfc9651 item_field t))
-      → (raw : RawItem) → IsFieldText rfc9651 item_field raw t
+      → IfOk r (OfMade Waits (IsAnswerOf (KeepTakes holds) Keeps Rfc9651 item_field t))
+      → IfErr r (OfMade Waits (IsSyntaxOf (KeepTakes holds) Keeps Rfc9651 item_field t))
+      → IfErr r (OfMade Waits (IsVisitorErrorOf (KeepTakes holds) (KeepFails fails) KeepsNone Rfc9651 item_field t))
+      → (raw : RawItem) → IsFieldText Rfc9651 item_field raw t
       → MatchResult r (λ held. holds held ≡ raw.bare) (IsExpectError fails raw.bare)
   expected t (Ok held) h k l raw accepted =
-      let read = expect_answers holds fails rfc9651 t (Ok held) h in
+      let read = expect_answers holds fails Rfc9651 t (Ok held) h in
       read.2 ∙ ap (λ (i : RawItem). i.bare) (h.2.only read.0 read.1 ∙ sym (h.2.only raw accepted))
-  expected t (Err (Syntax e)) h k l raw accepted = accepted_error rfc9651 item_field t raw e accepted k.2.0
-  expected t (Err (Visitor fault)) h k l raw accepted = expect_fails holds fails rfc9651 t raw fault accepted l
+  expected t (Err (Syntax e)) h k l raw accepted = accepted_error Rfc9651 item_field t raw e accepted k.2.0
+  expected t (Err (Visitor fault)) h k l raw accepted = expect_fails holds fails Rfc9651 t raw fault accepted l
 
   pub expected_first : (t : List ℕ) (r : Result T (ParseError ItemFault))
-      → IfOk r (OfMade Waits (IsAnswerOf (KeepTakes holds) Keeps rfc9651 item_field t))
-      → IfErr r (OfMade Waits (VisitsFirst (KeepTakes holds) (KeepFails fails) KeepsNone rfc9651 t))
-      → (value : BareValue) → BeginsWithBareItem rfc9651 value t → ((held : T) → ¬ (holds held ≡ value))
+      → IfOk r (OfMade Waits (IsAnswerOf (KeepTakes holds) Keeps Rfc9651 item_field t))
+      → IfErr r (OfMade Waits (VisitsFirst (KeepTakes holds) (KeepFails fails) KeepsNone Rfc9651 t))
+      → (value : BareValue) → BeginsWithBareItem Rfc9651 value t → ((held : T) → ¬ (holds held ≡ value))
       → MatchResult r (λ _. ⊥) (IsExpectError fails value)
   expected_first t (Ok held) h k value begins none =
-      let read = expect_answers holds fails rfc9651 t (Ok held) h in
-      none held (read.2 ∙ begins_with_its rfc9651 value t read.0 read.1 begins)
-  expected_first t (Err (Syntax e)) h k value begins none = (expect_first holds fails rfc9651 t value begins none).0 e k
+      let read = expect_answers holds fails Rfc9651 t (Ok held) h in
+      none held (read.2 ∙ begins_with_its Rfc9651 value t read.0 read.1 begins)
+  expected_first t (Err (Syntax e)) h k value begins none = (expect_first holds fails Rfc9651 t value begins none).0 e k
   expected_first t (Err (Visitor fault)) h k value begins none =
-      (expect_first holds fails rfc9651 t value begins none).1 fault k
+      (expect_first holds fails Rfc9651 t value begins none).1 fault k
 
 -- a string that was kept is the one that was read
 pub lent_string : {E : Type 0} (t : List ℕ) (r : Result StringFromInput E)
     → IfOk r (λ text. (read : ReadBareItem) × (read ≡ bare_items.String text)
-    × (stands : StandsFirst rfc9651 (input_value read) t) × IsLent read stands.first.front)
+    × (stands : StandsFirst Rfc9651 (input_value read) t) × IsBorrowedIfPlain read stands.first.front)
     → IfOk r (λ text. IsLentString text t)
 lent_string t (Ok text) h =
-    let k : (stands : StandsFirst rfc9651 (input_value (bare_items.String text)) t)
-    × IsLent (bare_items.String text) stands.first.front =
-    subst (λ (read : ReadBareItem). (stands : StandsFirst rfc9651 (input_value read) t)
-    × IsLent read stands.first.front) h.1 (h.2, h.3) in
+    let k : (stands : StandsFirst Rfc9651 (input_value (bare_items.String text)) t)
+    × IsBorrowedIfPlain (bare_items.String text) stands.first.front =
+    subst (λ (read : ReadBareItem). (stands : StandsFirst Rfc9651 (input_value read) t)
+    × IsBorrowedIfPlain read stands.first.front) h.1 (h.2, h.3) in
     (k.0, k.1)
 lent_string t (Err e) h = tt
 
@@ -206,7 +208,7 @@ of_error_alone P Q (Err e) h = h
 
 -- what a reading with a visitor rejects, `parse` rejects, or the visitor does
 pub read_failed : {O E : Type 0} (P Q : ParseError E → Type 0) (holds : E → Type 0) (kind : FieldKind) (t : List ℕ)
-    → ((e : Error) → P (Syntax e) → IsParseError rfc9651 kind t e) → ((f : E) → Q (Visitor f) → holds f)
+    → ((e : Error) → P (Syntax e) → IsParseError Rfc9651 kind t e) → ((f : E) → Q (Visitor f) → holds f)
     → (r : Result O (ParseError E)) → IfErr r P → IfErr r Q → IfErr r (IsReadError holds kind t)
 read_failed P Q holds kind t syntax visitor (Ok value) h k = tt
 read_failed P Q holds kind t syntax visitor (Err (Syntax e)) h k = syntax e h

@@ -2,7 +2,9 @@
 use Rattle.std.specs.Prelude.{◌≡◌, ℕ, List, Bool, false, Option, Some, None, Result, Ok, Err, bytes_eq}
 use Rattle.std.specs.Prelude.{if◌then◌else◌}
 use Rattle.std.specs.Prelude.{codes}
-use Rattle.sfv.specs.Values.{Edition, dictionary_field, BareValue, token, boolean, RawMember, item, inner_list}
+use Rattle.sfv.specs.Values.{BareValue, token, boolean, RawMember, item, inner_list}
+use Rattle.sfv.specs.Types.{dictionary_field}
+use Rattle.sfv.specs.Types.{Version}
 use Rattle.sfv.specs.Ordered.{last_of}
 use Rattle.sfv.specs.Statements.{IsParsedAs}
 use Rattle.sfv.specs.Parsers.{IsParseError}
@@ -66,11 +68,11 @@ abbrev pub foo : List (List ℕ × RawMember) → Result Foo FooFault
 foo members = foo_in (last_of color_key members)
 
 -- the text parses to a dictionary with this field, or with this error
-abbrev pub IsFooOf : Edition → List ℕ → Result Foo FooFault → Type 0
-IsFooOf edition t found = (value : List (List ℕ × RawMember)) × IsParsedAs edition dictionary_field t value
+abbrev pub IsFooOf : Version → List ℕ → Result Foo FooFault → Type 0
+IsFooOf version t found = (value : List (List ℕ × RawMember)) × IsParsedAs version dictionary_field t value
     × (foo value ≡ found)
 
 -- memory ran out, or the text is not a dictionary; or it is a dictionary with this error
-abbrev pub IsFooError : Edition → List ℕ → ParseError FooFault → Type 0
-IsFooError edition t (Syntax e) = IsParseError edition dictionary_field t e
-IsFooError edition t (Visitor fault) = IsFooOf edition t (Err fault)
+abbrev pub IsFooError : Version → List ℕ → ParseError FooFault → Type 0
+IsFooError version t (Syntax e) = IsParseError version dictionary_field t e
+IsFooError version t (Visitor fault) = IsFooOf version t (Err fault)

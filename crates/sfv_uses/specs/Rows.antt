@@ -1,5 +1,5 @@
 -- The integers of inner lists.
-use Rattle.sfv_field.specs.Field.{◌≡◌, ℕ, ℤ, List, Option, Some, None, fold, Edition, list_field, BareValue, integer}
+use Rattle.sfv_field.specs.Field.{◌≡◌, ℕ, ℤ, List, Option, Some, None, fold, Version, list_field, BareValue, integer}
 use Rattle.sfv_field.specs.Field.{RawItem, RawMember, IsParsedAs, Head, of_item, of_inner_list, head_of}
 use Rattle.std.specs.Prelude.{filter_map}
 
@@ -17,6 +17,6 @@ row_in (of_inner_list items) = Some (integers_of items)
 abbrev pub row_of : RawMember → Option (List ℤ)
 row_of m = row_in (head_of m)
 
-abbrev pub IsLastRowOf : Edition → List ℕ → Option (List ℤ) → Type 0
-IsLastRowOf edition t found = (value : List RawMember) × IsParsedAs edition list_field t value
+abbrev pub IsLastRowOf : Version → List ℕ → Option (List ℤ) → Type 0
+IsLastRowOf version t found = (value : List RawMember) × IsParsedAs version list_field t value
     × (found ≡ fold (λ before m. row_of m) None value)

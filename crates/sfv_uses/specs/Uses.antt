@@ -5,7 +5,9 @@ use Rattle.std.specs.Borrow.{Bor}
 use Rattle.std.specs.declared.alloc.Global.{Global}
 use Rattle.std.specs.declared.string.String.{String}
 use Rattle.std.specs.List.{repeat}
-use Rattle.sfv.specs.Values.{rfc9651, FieldKind, item_field, list_field, dictionary_field, BareValue, integer}
+use Rattle.sfv.specs.Values.{BareValue, integer}
+use Rattle.sfv.specs.Types.{FieldKind, item_field, list_field, dictionary_field}
+use Rattle.sfv.specs.Types.{Rfc9651}
 use Rattle.sfv.specs.Values.{string, token}
 use Rattle.sfv.specs.Values.{RawParameters, RawItem, RawMember}
 use Rattle.sfv.specs.Values.{item, inner_list}
@@ -23,9 +25,10 @@ use Rattle.sfv.specs.Types.{ParseError, OutOfMemory}
 use Rattle.sfv.specs.Types.parse_errors.{Syntax, Visitor}
 use Rattle.sfv.specs.Parsers.{IsParseError, IsPlainString}
 use Rattle.sfv_uses.specs.declared.visiting.TooMany.{TooMany}
-use Rattle.sfv.specs.Faults.{SyntaxFault, IsFaultAt}
-use Rattle.sfv.specs.Errors.{error_kind, out_of_memory}
-use Rattle.sfv.specs.Given.{IsWrongType}
+use Rattle.sfv.specs.Faults.{IsFaultAt}
+use Rattle.sfv.specs.Types.{ErrorKind}
+use Rattle.sfv.specs.Errors.{out_of_memory}
+use Rattle.sfv.specs.ProvidedVisitors.{IsWrongType}
 use Rattle.sfv.specs.Types.{ItemFault}
 use Rattle.sfv.specs.Types.bare_item_types as kinds
 use Rattle.sfv.specs.Types.{GenericBareItem, StringFromInput}
@@ -33,21 +36,21 @@ use Rattle.sfv.specs.Messages.{message_of}
 
 -- the text parses to a dictionary, and the line is its serialization
 abbrev pub IsWrittenAgain : List ℕ → Option (String Global) → Type 0
-IsWrittenAgain t line = (value : List (List ℕ × RawMember)) × IsParsedAs rfc9651 dictionary_field t value
-    × IsSerializedAs rfc9651 dictionary_field value (option_map string_bytes line)
+IsWrittenAgain t line = (value : List (List ℕ × RawMember)) × IsParsedAs Rfc9651 dictionary_field t value
+    × IsSerializedAs Rfc9651 dictionary_field value (option_map string_bytes line)
 
 -- a caret at the index of the syntax error, and its message
 pub record IsExplained (t text : List ℕ) : Type 0 where
-  pub fault : SyntaxFault
+  pub fault : ErrorKind
   pub index : ℕ
-  pub located : IsFaultAt rfc9651 list_field t fault index
-  pub text_is : text ≡ repeat index (codes " ") ++ codes "^ " ++ message_of (error_kind fault)
+  pub located : IsFaultAt Rfc9651 list_field t fault index
+  pub text_is : text ≡ repeat index (codes " ") ++ codes "^ " ++ message_of fault
 
 -- the error of `parse` for the first of two lines that is rejected, or out of memory
 abbrev pub IsErrorOfLines : FieldKind → List ℕ → List ℕ → ParseError OutOfMemory → Type 0
-IsErrorOfLines kind first second (Syntax e) = IsParseError rfc9651 kind first e
-    ⊎ (IsAccepted rfc9651 kind first × IsParseError rfc9651 kind second e)
-IsErrorOfLines kind first second (Visitor fault) = IsAccepted rfc9651 kind first
+IsErrorOfLines kind first second (Syntax e) = IsParseError Rfc9651 kind first e
+    ⊎ (IsAccepted Rfc9651 kind first × IsParseError Rfc9651 kind second e)
+IsErrorOfLines kind first second (Visitor fault) = IsAccepted Rfc9651 kind first
 
 -- the value of an integer, and the default for another kind
 abbrev pub integer_or : ℤ → BareValue → ℤ
@@ -71,14 +74,14 @@ counts place e = place
 -- the text is a dictionary with `n` members, repeated keys included, and `n` is at most `limit`
 pub record HasMembers (t : List ℕ) (limit n : ℕ) : Type 0 where
   pub raw : List (List ℕ × RawMember)
-  pub accepted : IsFieldText rfc9651 dictionary_field raw t
+  pub accepted : IsFieldText Rfc9651 dictionary_field raw t
   pub count : n ≡ length raw
   pub within : n ≤ limit
 
 -- A syntax error is the parser's. If the text is a dictionary, `TooMany` means that it has more members than `limit`.
 abbrev pub IsCountError : List ℕ → ℕ → ParseError TooMany → Type 0
-IsCountError t limit (Syntax e) = IsParseError rfc9651 dictionary_field t e
-IsCountError t limit (Visitor fault) = (raw : List (List ℕ × RawMember)) → IsFieldText rfc9651 dictionary_field raw t
+IsCountError t limit (Syntax e) = IsParseError Rfc9651 dictionary_field t e
+IsCountError t limit (Visitor fault) = (raw : List (List ℕ × RawMember)) → IsFieldText Rfc9651 dictionary_field raw t
     → limit < length raw
 
 -- an item with one parameter
@@ -107,7 +110,7 @@ AddsAtMost old new more = (string_bytes new ≡ string_bytes old) ⊎ Adds old n
 
 -- the text of the item parses to this item
 abbrev pub IsReadAsItself : RawItem → Type 0
-IsReadAsItself raw = IsParsedAs rfc9651 item_field (item_text raw) raw
+IsReadAsItself raw = IsParsedAs Rfc9651 item_field (item_text raw) raw
 
 -- two items, the first with a parameter
 abbrev pub pair_of : BareValue → List ℕ → BareValue → BareValue → List RawItem
@@ -119,16 +122,16 @@ item_of_two value key first second = record { bare = value; parameters = (key, f
 
 -- the text is an item with this bare item and any parameters
 abbrev pub HasBareItem : List ℕ → BareValue → Type 0
-HasBareItem t value = (raw : RawItem) × IsFieldText rfc9651 item_field raw t × (value ≡ raw.bare)
+HasBareItem t value = (raw : RawItem) × IsFieldText Rfc9651 item_field raw t × (value ≡ raw.bare)
 
 -- a syntax error is the error of `parse`, and `holds` is true of a visitor's error
 abbrev pub IsReadError : {E : Type 0} → (E → Type 0) → FieldKind → List ℕ → ParseError E → Type 0
-IsReadError holds kind t (Syntax e) = IsParseError rfc9651 kind t e
+IsReadError holds kind t (Syntax e) = IsParseError Rfc9651 kind t e
 IsReadError holds kind t (Visitor fault) = holds fault
 
 -- a bare item comes first in the text, and the type rejects it with this error
 abbrev pub FailsAtFirst : (BareValue → ItemFault → Type 0) → List ℕ → ItemFault → Type 0
-FailsAtFirst fails t fault = (value : BareValue) × StandsFirst rfc9651 value t × fails value fault
+FailsAtFirst fails t fault = (value : BareValue) × StandsFirst Rfc9651 value t × fails value fault
 
 -- memory ran out, or the type rejects the value with this error
 abbrev pub IsExpectError : (BareValue → ItemFault → Type 0) → BareValue → ParseError ItemFault → Type 0
@@ -150,27 +153,27 @@ RefusesOther value result =
 
 -- the string comes first in the text, and is borrowed from it if and only if it has no escape there
 abbrev pub IsLentString : StringFromInput → List ℕ → Type 0
-IsLentString text t = (stands : StandsFirst rfc9651 (string (read_text text)) t)
+IsLentString text t = (stands : StandsFirst Rfc9651 (string (read_text text)) t)
     × (IsTrue (is_borrowed_string text) ↔ IsPlainString stands.first.front)
 
 -- the text parses to an item: its integer, or the default for another kind
 abbrev pub HasIntegerOr : ℤ → List ℕ → ℤ → Type 0
 HasIntegerOr default t z =
-    (value : RawItem) × IsParsedAs rfc9651 item_field t value × (z ≡ integer_or default value.bare)
+    (value : RawItem) × IsParsedAs Rfc9651 item_field t value × (z ≡ integer_or default value.bare)
 
 -- the text is a dictionary; the last member with the key `member` has this last value of the parameter `param`
 abbrev pub HasParam : List ℕ → KeyRef → KeyRef → Option OwnedBareItem → Type 0
-HasParam t member param found = (raw : List (List ℕ × RawMember)) × IsFieldText rfc9651 dictionary_field raw t
+HasParam t member param found = (raw : List (List ℕ × RawMember)) × IsFieldText Rfc9651 dictionary_field raw t
     × (option_map bare_value found ≡ param_in (key_text param) (last_of (key_text member) raw))
 
 -- both texts are lists, and `list` has the members of both
 abbrev pub IsListOfBoth : List ℕ → List ℕ → List RawMember → Type 0
 IsListOfBoth first second list = (held : List RawMember) × (raw : List RawMember)
-    × IsParsedAs rfc9651 list_field first held × IsFieldText rfc9651 list_field raw second
+    × IsParsedAs Rfc9651 list_field first held × IsFieldText Rfc9651 list_field raw second
     × (list ≡ held ++ ordered list_field raw)
 
 -- the same for dictionaries; a member of the second text replaces the member with the same key
 abbrev pub IsDictionaryOfBoth : List ℕ → List ℕ → List (List ℕ × RawMember) → Type 0
 IsDictionaryOfBoth first second dictionary = (held : List (List ℕ × RawMember)) × (raw : List (List ℕ × RawMember))
-    × IsParsedAs rfc9651 dictionary_field first held × IsFieldText rfc9651 dictionary_field raw second
+    × IsParsedAs Rfc9651 dictionary_field first held × IsFieldText Rfc9651 dictionary_field raw second
     × (dictionary ≡ ordered dictionary_field (held ++ raw))

@@ -1,7 +1,9 @@
 //! Parsing of a field to the expected type.
 
 ghost use Rattle.std.specs.Prelude.{◌≡◌, ⊤, IfOk, IfErr, MatchResult};
-ghost use Rattle.sfv.specs.Values.{rfc9651, item_field, list_field, dictionary_field, BareValue, RawItem};
+ghost use Rattle.sfv.specs.Values.{BareValue, RawItem};
+ghost use Rattle.sfv.specs.Types.{item_field, list_field, dictionary_field};
+ghost use Rattle.sfv.specs.Types.{Rfc9651};
 ghost use Rattle.sfv.specs.Grammar.{IsFieldText, BeginsWithBareItem};
 ghost use Rattle.sfv.specs.Statements.{IsParsedAs};
 ghost use Rattle.sfv.specs.Trees.{item_tree, list_tree, dictionary_tree};
@@ -26,9 +28,9 @@ pub fn expect<'de, T: ExpectedItem<'de>>(
     input: &'de [u8],
 ) -> Result<T, ParseError<ItemFault>>
     ensures held { IfOk result (λ item. HasBareItem input.now (T.holds item)) }
-    ensures of_an_item { (raw : RawItem) → IsFieldText rfc9651 item_field raw input.now
+    ensures of_an_item { (raw : RawItem) → IsFieldText Rfc9651 item_field raw input.now
         → MatchResult result (λ item. T.holds item ≡ raw.bare) (IsExpectError T.fails raw.bare) }
-    ensures of_another_kind { (value : BareValue) → BeginsWithBareItem rfc9651 value input.now
+    ensures of_another_kind { (value : BareValue) → BeginsWithBareItem Rfc9651 value input.now
         → ((item : T) → ¬ (T.holds item ≡ value)) → MatchResult result (λ _. ⊥) (IsExpectError T.fails value) }
     ensures rejected { IfErr result (IsReadError (FailsAtFirst T.fails input.now) item_field input.now) }
 {
@@ -42,8 +44,8 @@ pub fn expect<'de, T: ExpectedItem<'de>>(
 /// If a complete bare item of another kind comes first, returns `ItemFault::WrongType` with its kind, or out of memory,
 /// whatever follows the bare item. Otherwise, if the input is not an item, returns the error of `Parser::parse`.
 pub fn token<'de>(alloc: Global, input: &'de [u8]) -> Result<TokenRef<'de>, ParseError<ItemFault>>
-    ensures of_an_item { (raw : RawItem) → IsFieldText rfc9651 item_field raw input.now → GivesToken raw.bare result }
-    ensures of_another_kind { (value : BareValue) → BeginsWithBareItem rfc9651 value input.now → RefusesOther value result }
+    ensures of_an_item { (raw : RawItem) → IsFieldText Rfc9651 item_field raw input.now → GivesToken raw.bare result }
+    ensures of_another_kind { (value : BareValue) → BeginsWithBareItem Rfc9651 value input.now → RefusesOther value result }
 {
     expect::<TokenRef>(alloc, input)
 }
@@ -69,7 +71,7 @@ pub fn string<'de>(
 ///
 /// Returns the errors of `Parser::parse`, or `ItemFault::OutOfMemory` if memory runs out.
 pub fn item(alloc: Global, input: &[u8]) -> Result<Item, ParseError<ItemFault>>
-    ensures read { IfOk result (λ item. IsParsedAs rfc9651 item_field input.now (item_tree item)) }
+    ensures read { IfOk result (λ item. IsParsedAs Rfc9651 item_field input.now (item_tree item)) }
     ensures seed { IfOk result (ItemHasSeed library_seed) }
     ensures rejected { IfErr result (IsReadError (λ fault. fault ≡ item_faults.OutOfMemory) item_field input.now) }
 {
@@ -82,7 +84,7 @@ pub fn item(alloc: Global, input: &[u8]) -> Result<Item, ParseError<ItemFault>>
 ///
 /// Returns the errors of `Parser::parse`.
 pub fn list(alloc: Global, input: &[u8]) -> Result<List, ParseError<OutOfMemory>>
-    ensures read { IfOk result (λ list. IsParsedAs rfc9651 list_field input.now (list_tree list.items)) }
+    ensures read { IfOk result (λ list. IsParsedAs Rfc9651 list_field input.now (list_tree list.items)) }
     ensures seed { IfOk result (λ list. ListHasSeed library_seed list.items) }
     ensures rejected { IfErr result (IsReadError (λ _. ⊤) list_field input.now) }
 {
@@ -95,7 +97,7 @@ pub fn list(alloc: Global, input: &[u8]) -> Result<List, ParseError<OutOfMemory>
 ///
 /// Returns the errors of `Parser::parse`.
 pub fn dictionary(alloc: Global, input: &[u8]) -> Result<Dictionary, ParseError<OutOfMemory>>
-    ensures read { IfOk result (λ value. IsParsedAs rfc9651 dictionary_field input.now (dictionary_tree value.entries)) }
+    ensures read { IfOk result (λ value. IsParsedAs Rfc9651 dictionary_field input.now (dictionary_tree value.entries)) }
     ensures seed { IfOk result (DictionaryHasSeed library_seed) }
     ensures rejected { IfErr result (IsReadError (λ _. ⊤) dictionary_field input.now) }
 {

@@ -3,7 +3,7 @@
 //! The field is a dictionary. Its member `color` is the token `red` or `blue`. The parameter `strong` of this member is
 //! a Boolean, and false if it is absent. Other members and parameters are ignored.
 
-ghost use Rattle.sfv_field.specs.Field.{◌≡◌, Some, Ok, Err, IfOk, IfErr, ref_value, edition_of, dictionary_tree};
+ghost use Rattle.sfv_field.specs.Field.{◌≡◌, Some, Ok, Err, IfOk, IfErr, ref_value, dictionary_tree};
 ghost use Rattle.sfv_field.specs.Field.{last_of};
 ghost use Rattle.sfv_uses.specs.Foo.{fault_text, foo, foo_of, color_key, color_in, strong_in, IsFooOf, IsFooError};
 
@@ -184,8 +184,8 @@ impl<'de> DictionaryReader<'de> for FooReader {
 /// field.
 #[tactic(auto, unfolding(sfv_field::specs::Field::last_of))]
 pub fn read_foo(alloc: Global, version: Version, input: &[u8]) -> Result<Foo, ParseError<FooFault>>
-    ensures read { IfOk result (λ found. IsFooOf (edition_of version) input.now (Ok found)) }
-    ensures failed { IfErr result (IsFooError (edition_of version) input.now) }
+    ensures read { IfOk result (λ found. IsFooOf version input.now (Ok found)) }
+    ensures failed { IfErr result (IsFooError version input.now) }
 {
     let unread = FooReader {
         color: Err(FooFault::ColorMissing),

@@ -1,7 +1,8 @@
 //! Parsing of a field to a value.
 
 ghost use Rattle.std.specs.Prelude.{◌≡◌, IsNone, IfOk, IfErr, IfSome, option_copied, option_map, string_bytes};
-ghost use Rattle.sfv.specs.Values.{rfc9651, rfc8941, item_field, list_field, dictionary_field};
+ghost use Rattle.sfv.specs.Types.{item_field, list_field, dictionary_field};
+ghost use Rattle.sfv.specs.Types.{Rfc9651, Rfc8941};
 ghost use Rattle.sfv.specs.Grammar.{IsAccepted};
 ghost use Rattle.sfv.specs.Ordered.{last_of};
 ghost use Rattle.sfv.specs.Statements.{IsParsedAs};
@@ -27,8 +28,8 @@ use std::alloc::Global;
 ///
 /// Returns the errors of `Parser::parse`.
 pub fn read_older_list(alloc: Global, input: &[u8]) -> Result<List, Error>
-    ensures read { IfOk result (λ list. IsParsedAs rfc8941 list_field input.now (list_tree list.items)) }
-    ensures rejected { IfErr result (IsParseError rfc8941 list_field input.now) }
+    ensures read { IfOk result (λ list. IsParsedAs Rfc8941 list_field input.now (list_tree list.items)) }
+    ensures rejected { IfErr result (IsParseError Rfc8941 list_field input.now) }
 {
     Parser::new(input)
         .with_version(Version::Rfc8941)
@@ -42,7 +43,7 @@ pub fn read_older_list(alloc: Global, input: &[u8]) -> Result<List, Error>
 ///
 /// Returns `OutOfMemory` if memory runs out.
 pub fn explain(alloc: Global, input: &[u8]) -> Result<Option<String>, OutOfMemory>
-    ensures accepted { IfOk result (λ line. IsNone line → IsAccepted rfc9651 list_field input.now) }
+    ensures accepted { IfOk result (λ line. IsNone line → IsAccepted Rfc9651 list_field input.now) }
     ensures explained { IfOk result (λ line. IfSome line (λ text. IsExplained input.now (string_bytes text))) }
 {
     let Err(error) = Parser::new(input).parse::<List>(alloc) else {
@@ -64,7 +65,7 @@ pub fn explain(alloc: Global, input: &[u8]) -> Result<Option<String>, OutOfMemor
 /// Returns the errors of `Parser::parse`.
 pub fn integer_with_default(alloc: Global, input: &[u8], default: Integer) -> Result<Integer, Error>
     ensures integer { IfOk result (λ z. HasIntegerOr (integer_of default) input.now (integer_of z)) }
-    ensures rejected { IfErr result (IsParseError rfc9651 item_field input.now) }
+    ensures rejected { IfErr result (IsParseError Rfc9651 item_field input.now) }
 {
     let item = Parser::new(input).parse::<Item>(alloc)?;
     let Some(integer) = item.bare_item.as_integer() else {
@@ -109,7 +110,7 @@ pub fn param_of_member(
     param: KeyRef<'_>,
 ) -> Result<Option<BareItem>, Error>
     ensures param { IfOk result (HasParam input.now member.entry param.entry) }
-    ensures rejected { IfErr result (IsParseError rfc9651 dictionary_field input.now) }
+    ensures rejected { IfErr result (IsParseError Rfc9651 dictionary_field input.now) }
 {
     let dictionary = Parser::new(input).parse::<Dictionary>(alloc)?;
     let Some(value) = param_of(&dictionary, member, param) else {

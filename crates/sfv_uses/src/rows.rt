@@ -1,6 +1,6 @@
 //! The integers of the last inner list of a list, as in `(1 2), (3 4;a)`.
 
-ghost use Rattle.sfv_field.specs.Field.{◌≡◌, IfOk, IfErr, list_field, edition_of, IsParseError, fold, vec_items, None};
+ghost use Rattle.sfv_field.specs.Field.{◌≡◌, IfOk, IfErr, list_field, IsParseError, fold, vec_items, None};
 ghost use Rattle.sfv_field.specs.Field.{option_map, OnOk, List, [], ◌∷◌, ◌++◌, raw_item, input_value};
 ghost use Rattle.sfv_uses.specs.Rows.{integers_of, row_of, row_in, IsLastRowOf};
 
@@ -92,8 +92,8 @@ impl<'de> ListReader<'de> for LastRow {
 ///
 /// Returns the error of `Parser::parse` if the input is not a list, or if memory runs out.
 pub fn last_row(alloc: Global, input: &[u8], version: Version) -> Result<Option<Vec<i64>>, Error>
-    ensures read { IfOk result (λ found. IsLastRowOf (edition_of version) input.now (option_map vec_items found)) }
-    ensures rejected { IfErr result (IsParseError (edition_of version) list_field input.now) }
+    ensures read { IfOk result (λ found. IsLastRowOf version input.now (option_map vec_items found)) }
+    ensures rejected { IfErr result (IsParseError version list_field input.now) }
 {
     let read = read_list(alloc, input, version, LastRow { row: None })?;
     match read.row {

@@ -2,24 +2,25 @@
 
 ghost use Rattle.std.specs.Prelude.{◌≡◌, ◌++◌, ◌∷◌, [], true, false, OnOk, IfOk, IfErr, map, codes, string_bytes};
 ghost use Rattle.sfv.specs.Canonical.{bare_text, item_text, inner_list_text, dictionary_member_text};
-ghost use Rattle.sfv.specs.Values.{item, inner_list, list_field};
+ghost use Rattle.sfv.specs.Values.{item, inner_list};
+ghost use Rattle.sfv.specs.Types.{list_field};
 ghost use Rattle.sfv.specs.Ordered.{ordered};
 ghost use Rattle.sfv.specs.Trees.{list_tree};
 ghost use Rattle.sfv.specs.Scripts.{described_list};
 ghost use Rattle.sfv.specs.Errors.{out_of_memory};
 ghost use Rattle.sfv.specs.BareItems.{ref_value};
 ghost use Rattle.sfv.specs.KeyText.{key_text};
-ghost use Rattle.sfv.specs.Written.{keyed_text, in_a_row};
-ghost use Rattle.sfv.specs.Serializers.{lent_parts, HasMoreParts, HasNextPart, GrowsParts, KeepsParts};
-ghost use Rattle.sfv.specs.Serializers.{inner_list_name, has_no_part};
+ghost use Rattle.sfv.specs.Written.{keyed_text, with_separators};
+ghost use Rattle.sfv.specs.Serializers.{lent_sequence, HasAppended, HasAppendedNext, GrowsSequence, KeepsSequence};
+ghost use Rattle.sfv.specs.Serializers.{inner_list_name, is_empty_so_far};
 ghost use Rattle.sfv_uses.specs.Uses.{item_of_one, item_of_two, pair_of, example_dictionary, Adds};
 
 use crate::writing::write_item;
 use sfv::script::{MemberCalls, run_list};
 use sfv::{
     Decimal, DictSerializer, Error, GenericBareItem, InnerListSerializer, KeyRef, List,
-    ListSerializer, Parser, Parts, RefBareItem, SerializeError, Sink, integer, key_ref, string_ref,
-    token_ref,
+    ListSerializer, Parser, RefBareItem, SequenceSerializer, SerializeError, Sink, integer,
+    key_ref, string_ref, token_ref,
 };
 use std::alloc::Global;
 
@@ -35,7 +36,7 @@ pub fn write_member<W: Sink>(
     first: RefBareItem<'_>,
     second: RefBareItem<'_>,
 ) -> Result<(), SerializeError>
-    ensures { OnOk result (HasNextPart W.Sink (codes ", ") list.old list.new
+    ensures { OnOk result (HasAppendedNext W.Sink (codes ", ") list.old list.new
         (item_text (item_of_two (ref_value value.entry) (key_text key.entry)
         (ref_value first.entry) (ref_value second.entry))) false) }
 {
@@ -52,9 +53,9 @@ fn put<X: Sink>(
     inner: &mut InnerListSerializer<X>,
     value: RefBareItem<'_>,
 ) -> Result<(), SerializeError>
-    ensures text { OnOk result (HasNextPart X.Sink (codes " ") inner.old inner.new
+    ensures text { OnOk result (HasAppendedNext X.Sink (codes " ") inner.old inner.new
         (bare_text (ref_value value.entry)) false) }
-    ensures grows { GrowsParts X.Sink inner.old inner.new }
+    ensures grows { GrowsSequence X.Sink inner.old inner.new }
 {
     inner.bare_item(value)?.finish();
     Ok(())
@@ -66,10 +67,10 @@ fn put_with<X: Sink>(
     value: RefBareItem<'_>,
     param: (KeyRef<'_>, RefBareItem<'_>),
 ) -> Result<(), SerializeError>
-    ensures text { OnOk result (HasNextPart X.Sink (codes " ") inner.old inner.new
+    ensures text { OnOk result (HasAppendedNext X.Sink (codes " ") inner.old inner.new
         (item_text (item_of_one (ref_value value.entry)
         (key_text param.entry.0) (ref_value param.entry.1))) false) }
-    ensures grows { GrowsParts X.Sink inner.old inner.new }
+    ensures grows { GrowsSequence X.Sink inner.old inner.new }
 {
     let (key, param) = param;
     let params = inner.bare_item(value)?;
@@ -83,13 +84,13 @@ fn put_with<X: Sink>(
 ///
 /// Returns the errors of the serializer.
 pub fn write_inner<W: Sink, K>(
-    inner: &mut InnerListSerializer<&mut Parts<W, K>>,
+    inner: &mut InnerListSerializer<&mut SequenceSerializer<W, K>>,
     value: RefBareItem<'_>,
 ) -> Result<(), SerializeError>
     ensures lent { inner_list_name inner.new ≡ inner_list_name inner.old }
-    ensures text { OnOk result (HasNextPart (lent_parts W.Sink) (codes " ") inner.old inner.new
+    ensures text { OnOk result (HasAppendedNext (lent_sequence W.Sink) (codes " ") inner.old inner.new
         (bare_text (ref_value value.entry)) false) }
-    ensures grows { GrowsParts (lent_parts W.Sink) inner.old inner.new }
+    ensures grows { GrowsSequence (lent_sequence W.Sink) inner.old inner.new }
 {
     put(inner, value)
 }
@@ -103,7 +104,7 @@ pub fn abandon_one<W: Sink>(
     list: &mut ListSerializer<W>,
     value: RefBareItem<'_>,
 ) -> Result<(), SerializeError>
-    ensures { OnOk result (KeepsParts W.Sink list.old list.new) }
+    ensures { OnOk result (KeepsSequence W.Sink list.old list.new) }
 {
     let mut inner = list.inner_list()?;
     let written = write_inner(&mut inner, value);
@@ -121,7 +122,7 @@ pub fn write_empty<W: Sink>(
     key: KeyRef<'_>,
     param: RefBareItem<'_>,
 ) -> Result<(), SerializeError>
-    ensures { OnOk result (HasNextPart W.Sink (codes ", ") list.old list.new
+    ensures { OnOk result (HasAppendedNext W.Sink (codes ", ") list.old list.new
         (inner_list_text (record { items = []; parameters = (key_text key.entry, ref_value param.entry) ∷ [] }))
         false) }
 {
@@ -131,7 +132,7 @@ pub fn write_empty<W: Sink>(
 
 /// Writes the member `1;a;a=2`.
 fn write_one<W: Sink>(list: &mut ListSerializer<W>) -> Result<(), SerializeError>
-    ensures { OnOk result (HasNextPart W.Sink (codes ", ") list.old list.new
+    ensures { OnOk result (HasAppendedNext W.Sink (codes ", ") list.old list.new
         (codes "1;a;a=2") false) }
 {
     let one: RefBareItem = GenericBareItem::Integer(integer(1));
@@ -143,7 +144,7 @@ fn write_one<W: Sink>(list: &mut ListSerializer<W>) -> Result<(), SerializeError
 
 /// Writes the member `();b=?0`.
 fn write_none<W: Sink>(list: &mut ListSerializer<W>) -> Result<(), SerializeError>
-    ensures { OnOk result (HasNextPart W.Sink (codes ", ") list.old list.new
+    ensures { OnOk result (HasAppendedNext W.Sink (codes ", ") list.old list.new
         (codes "();b=?0") false) }
 {
     let no: RefBareItem = GenericBareItem::Boolean(false);
@@ -153,7 +154,7 @@ fn write_none<W: Sink>(list: &mut ListSerializer<W>) -> Result<(), SerializeErro
 
 /// Writes both members, with an abandoned inner list between them.
 fn write_members<W: Sink>(list: &mut ListSerializer<W>) -> Result<(), SerializeError>
-    ensures { OnOk result (HasNextPart W.Sink (codes ", ") list.old list.new
+    ensures { OnOk result (HasAppendedNext W.Sink (codes ", ") list.old list.new
         (codes "1;a;a=2, ();b=?0") false) }
 {
     let word: RefBareItem = GenericBareItem::Token(token_ref("x"));
@@ -182,7 +183,7 @@ fn abandon_named<W: Sink>(
     dictionary: &mut DictSerializer<W>,
     name: KeyRef<'_>,
 ) -> Result<(), SerializeError>
-    ensures { OnOk result (KeepsParts W.Sink dictionary.old dictionary.new) }
+    ensures { OnOk result (KeepsSequence W.Sink dictionary.old dictionary.new) }
 {
     let inner = dictionary.inner_list(name)?;
     inner.abandon();
@@ -229,7 +230,7 @@ pub fn write_named<W: Sink>(
     key: KeyRef<'_>,
     param: RefBareItem<'_>,
 ) -> Result<(), SerializeError>
-    ensures { OnOk result (HasNextPart W.Sink (codes ", ") dictionary.old dictionary.new
+    ensures { OnOk result (HasAppendedNext W.Sink (codes ", ") dictionary.old dictionary.new
         (dictionary_member_text (
           key_text name.entry,
           item (item_of_one (ref_value value.entry) (key_text key.entry) (ref_value param.entry)),
@@ -250,7 +251,7 @@ pub fn write_bare<W: Sink>(
     name: KeyRef<'_>,
     value: RefBareItem<'_>,
 ) -> Result<(), SerializeError>
-    ensures { OnOk result (HasNextPart W.Sink (codes ", ") dictionary.old dictionary.new
+    ensures { OnOk result (HasAppendedNext W.Sink (codes ", ") dictionary.old dictionary.new
         (keyed_text (key_text name.entry) (ref_value value.entry))
         false) }
 {
@@ -260,14 +261,14 @@ pub fn write_bare<W: Sink>(
 
 /// Writes two items of an inner list, the first with a parameter.
 fn write_pair<W: Sink, K>(
-    inner: &mut InnerListSerializer<&mut Parts<W, K>>,
+    inner: &mut InnerListSerializer<&mut SequenceSerializer<W, K>>,
     first: RefBareItem<'_>,
     param: (KeyRef<'_>, RefBareItem<'_>),
     second: RefBareItem<'_>,
 ) -> Result<(), SerializeError>
     ensures lent { inner_list_name inner.new ≡ inner_list_name inner.old }
-    ensures text { OnOk result (HasMoreParts (lent_parts W.Sink) inner.old inner.new
-        (in_a_row (has_no_part inner.old) (codes " ") (map item_text (pair_of (ref_value first.entry)
+    ensures text { OnOk result (HasAppended (lent_sequence W.Sink) inner.old inner.new
+        (with_separators (is_empty_so_far inner.old) (codes " ") (map item_text (pair_of (ref_value first.entry)
         (key_text param.entry.0) (ref_value param.entry.1) (ref_value second.entry)))) false) }
 {
     put_with(inner, first, param)?;
@@ -283,7 +284,7 @@ fn write_named_pair<W: Sink>(
     second: RefBareItem<'_>,
     ending: (KeyRef<'_>, RefBareItem<'_>),
 ) -> Result<(), SerializeError>
-    ensures { OnOk result (HasNextPart W.Sink (codes ", ") dictionary.old dictionary.new
+    ensures { OnOk result (HasAppendedNext W.Sink (codes ", ") dictionary.old dictionary.new
         (dictionary_member_text (
           key_text name.entry,
           inner_list (record {
@@ -305,7 +306,7 @@ fn write_named_pair<W: Sink>(
 
 /// Writes the member `member1=11;foo`.
 fn write_first<W: Sink>(dictionary: &mut DictSerializer<W>) -> Result<(), SerializeError>
-    ensures { OnOk result (HasNextPart W.Sink (codes ", ") dictionary.old dictionary.new
+    ensures { OnOk result (HasAppendedNext W.Sink (codes ", ") dictionary.old dictionary.new
         (codes "member1=11;foo") false) }
 {
     let eleven: RefBareItem = GenericBareItem::Integer(integer(11));
@@ -316,7 +317,7 @@ fn write_first<W: Sink>(dictionary: &mut DictSerializer<W>) -> Result<(), Serial
 
 /// Writes the member `member2=(abc;abc_param=?0 def);bar="val"`.
 fn write_second<W: Sink>(dictionary: &mut DictSerializer<W>) -> Result<(), SerializeError>
-    ensures { OnOk result (HasNextPart W.Sink (codes ", ") dictionary.old dictionary.new
+    ensures { OnOk result (HasAppendedNext W.Sink (codes ", ") dictionary.old dictionary.new
         (codes "member2=(abc;abc_param=?0 def);bar=\"val\"") false) }
 {
     let no: RefBareItem = GenericBareItem::Boolean(false);
@@ -330,7 +331,7 @@ fn write_second<W: Sink>(dictionary: &mut DictSerializer<W>) -> Result<(), Seria
 
 /// Writes the member `member3=12.346`.
 fn write_third<W: Sink>(dictionary: &mut DictSerializer<W>) -> Result<(), SerializeError>
-    ensures { OnOk result (HasNextPart W.Sink (codes ", ") dictionary.old dictionary.new
+    ensures { OnOk result (HasAppendedNext W.Sink (codes ", ") dictionary.old dictionary.new
         (codes "member3=12.346") false) }
 {
     let thousandths = integer(12346);
@@ -343,7 +344,7 @@ fn write_third<W: Sink>(dictionary: &mut DictSerializer<W>) -> Result<(), Serial
 
 /// Writes the three members, in this order.
 fn write_three<W: Sink>(dictionary: &mut DictSerializer<W>) -> Result<(), SerializeError>
-    ensures { OnOk result (HasNextPart W.Sink (codes ", ") dictionary.old dictionary.new
+    ensures { OnOk result (HasAppendedNext W.Sink (codes ", ") dictionary.old dictionary.new
         example_dictionary false) }
 {
     write_first(dictionary)?;

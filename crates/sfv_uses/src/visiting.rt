@@ -1,7 +1,8 @@
 //! Parsing of a field with a visitor, without a value.
 
 ghost use Rattle.std.specs.Prelude.{◌≡◌, ⊤, ◌≤◌, IsSome, IfOk, IfErr, OnOk};
-ghost use Rattle.sfv.specs.Values.{rfc9651, item_field, dictionary_field};
+ghost use Rattle.sfv.specs.Types.{item_field, dictionary_field};
+ghost use Rattle.sfv.specs.Types.{Rfc9651};
 ghost use Rattle.sfv.specs.Grammar.{IsAccepted};
 ghost use Rattle.sfv.specs.EventRuns.{key_in};
 ghost use Rattle.sfv.specs.Parsers.{IsMemoryError};
@@ -56,8 +57,8 @@ pub fn each_key<F: FnMut(&str) + Drop>(
     visit: F,
 ) -> Result<(), ParseError<Infallible>>
     requires { F.IsAlwaysCallable visit }
-    ensures visited { OnOk result (IsAccepted rfc9651 dictionary_field input.now) }
-    ensures accepted { IsAccepted rfc9651 dictionary_field input.now → IfErr result (IsMemoryError (λ _. ⊥)) }
+    ensures visited { OnOk result (IsAccepted Rfc9651 dictionary_field input.now) }
+    ensures accepted { IsAccepted Rfc9651 dictionary_field input.now → IfErr result (IsMemoryError (λ _. ⊥)) }
 {
     Parser::new(input).parse_dictionary_with_visitor(alloc, EachKey { visit })
 }
@@ -81,8 +82,8 @@ pub fn with_bare_item<
     F: FnOnce(BareItemFromInput<'de>) -> Result<T, OutOfMemory> + Drop,
 >(alloc: Global, input: &'de [u8], f: F) -> Result<Option<T>, ParseError<OutOfMemory>>
     requires { F.IsAlwaysCallable f }
-    ensures read { OnOk result (IsAccepted rfc9651 item_field input.now) }
-    ensures accepted { IsAccepted rfc9651 item_field input.now → IfErr result (IsMemoryError (λ _. ⊤)) }
+    ensures read { OnOk result (IsAccepted Rfc9651 item_field input.now) }
+    ensures accepted { IsAccepted Rfc9651 item_field input.now → IfErr result (IsMemoryError (λ _. ⊤)) }
 {
     let visitor = item_visitor_with(f).with_memory_errors::<OnlyMemory>();
     Parser::new(input).parse_item_with_visitor(alloc, visitor)

@@ -1,9 +1,10 @@
 -- The text of two members, and the errors of writing them.
 use Rattle.std.specs.Prelude.{◌≡◌, ◌⊎◌, ℕ, List, [], ◌∷◌, ◌++◌, codes}
-use Rattle.sfv.specs.Values.{Edition, BareValue}
+use Rattle.sfv.specs.Values.{BareValue}
+use Rattle.sfv.specs.Types.{Version}
 use Rattle.sfv.specs.Canonical.{bare_text}
-use Rattle.sfv.specs.Calls.{AllFit}
-use Rattle.sfv.specs.Versions.{NamesFirst}
+use Rattle.sfv.specs.Values.{AllFit}
+use Rattle.sfv.specs.Versions.{NamesFirstUnfit}
 use Rattle.sfv.specs.Types.{SerializeError}
 use Rattle.sfv.specs.Types.serialize_errors as errors
 
@@ -13,7 +14,7 @@ two_members first second = bare_text first ++ codes ", " ++ bare_text second
 
 -- The error of writing two values in order: out of memory if the version has the first, or the kind of the first value
 -- that it lacks.
-abbrev pub IsPairError : Edition → BareValue → BareValue → SerializeError → Type 0
-IsPairError edition first second error =
-    ((error ≡ errors.OutOfMemory) × AllFit edition (first ∷ []))
-    ⊎ NamesFirst edition (first ∷ second ∷ []) error
+abbrev pub IsPairError : Version → BareValue → BareValue → SerializeError → Type 0
+IsPairError version first second error =
+    ((error ≡ errors.OutOfMemory) × AllFit version (first ∷ []))
+    ⊎ NamesFirstUnfit version (first ∷ second ∷ []) error

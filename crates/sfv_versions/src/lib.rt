@@ -2,15 +2,15 @@
 #![tactic(auto)]
 
 ghost use Rattle.std.specs.Prelude.{◌≡◌, ◌∷◌, ◌++◌, [], false, OnOk, IfOk, IfErr, codes, string_bytes};
-ghost use Rattle.sfv.specs.Values.{list_field};
+ghost use Rattle.sfv.specs.Types.{list_field};
 ghost use Rattle.sfv.specs.Ordered.{ordered};
-ghost use Rattle.sfv.specs.Events.{bare_values};
-ghost use Rattle.sfv.specs.Calls.{AllFit};
-ghost use Rattle.sfv.specs.BareItems.{ref_value, edition_of};
+ghost use Rattle.sfv.specs.Values.{bare_values};
+ghost use Rattle.sfv.specs.Values.{AllFit};
+ghost use Rattle.sfv.specs.BareItems.{ref_value};
 ghost use Rattle.sfv.specs.Trees.{list_tree};
-ghost use Rattle.sfv.specs.Scripts.{described_list, handed_list};
-ghost use Rattle.sfv.specs.Serializers.{HasNextPart, parts_edition};
-ghost use Rattle.sfv.specs.Versions.{LooksFirst};
+ghost use Rattle.sfv.specs.Scripts.{described_list, supplied_list};
+ghost use Rattle.sfv.specs.Serializers.{HasAppendedNext, sequence_version};
+ghost use Rattle.sfv.specs.Versions.{ChecksVersionFirst};
 ghost use Rattle.sfv_versions.specs.Pairs.{two_members, IsPairError};
 
 use sfv::script::{MemberCalls, run_list_for};
@@ -28,12 +28,12 @@ pub fn write_both<W: Sink>(
     second: RefBareItem<'_>,
 ) -> Result<(), SerializeError>
     ensures text { OnOk result
-        (HasNextPart W.Sink (codes ", ") list.old list.new
+        (HasAppendedNext W.Sink (codes ", ") list.old list.new
         (two_members (ref_value first.entry) (ref_value second.entry)) false) }
     ensures fit { OnOk result
-        (AllFit (parts_edition list.old) (ref_value first.entry ∷ ref_value second.entry ∷ [])) }
+        (AllFit (sequence_version list.old) (ref_value first.entry ∷ ref_value second.entry ∷ [])) }
     ensures failed { IfErr result
-        (IsPairError (parts_edition list.old) (ref_value first.entry) (ref_value second.entry)) }
+        (IsPairError (sequence_version list.old) (ref_value first.entry) (ref_value second.entry)) }
 {
     list.bare_item(first)?.finish();
     list.bare_item(second)?.finish();
@@ -53,8 +53,8 @@ pub fn write_both_for(
 ) -> Result<(), SerializeError>
     ensures text { OnOk result (string_bytes text.new
         ≡ string_bytes text.old ++ two_members (ref_value first.entry) (ref_value second.entry)) }
-    ensures fit { OnOk result (AllFit (edition_of version) (ref_value first.entry ∷ ref_value second.entry ∷ [])) }
-    ensures failed { IfErr result (IsPairError (edition_of version) (ref_value first.entry) (ref_value second.entry)) }
+    ensures fit { OnOk result (AllFit version (ref_value first.entry ∷ ref_value second.entry ∷ [])) }
+    ensures failed { IfErr result (IsPairError version (ref_value first.entry) (ref_value second.entry)) }
 {
     let mut list = ListSerializer::with_buffer_for(text, version);
     write_both(&mut list, first, second)
@@ -72,7 +72,7 @@ pub fn performed_and_read_for(
     calls: &[MemberCalls<'_>],
 ) -> Result<List, SerializeError>
     ensures read { IfOk result (λ list. list_tree list.items ≡ ordered list_field (described_list calls.now)) }
-    ensures looks { LooksFirst (edition_of version) (bare_values list_field (handed_list calls.now)) result }
+    ensures unsupported { ChecksVersionFirst version (bare_values list_field (supplied_list calls.now)) result }
 {
     let mut text = String::new(alloc);
     run_list_for(version, &mut text, calls)?;

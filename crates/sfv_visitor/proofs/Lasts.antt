@@ -12,16 +12,16 @@ use Rattle.sfv_spec.specs.Values.{BareValue, RawParameters, RawItem, RawInnerLis
 use Rattle.sfv_tree.specs.Trees.{item_tree, member_tree, list_tree}
 use Rattle.sfv_tree.specs.declared.parsed.Item.{Item}
 use Rattle.sfv_tree.specs.declared.parsed.ListEntry.{ListEntry}
-use Rattle.sfv_visitor.specs.Builders.{MemberPlace, ListPlace, between, within}
-use Rattle.sfv_visitor.specs.Builders.{split_from, split_last, among_items, place_in, held_place, with_last, at_last}
+use Rattle.sfv_visitor.specs.Builders.{MemberState, ListState, between, within}
+use Rattle.sfv_visitor.specs.Builders.{split_from, split_last, among_items, state_in, held_state, with_last, at_last}
 use Rattle.sfv_visitor.specs.Builders.{held_shown, list_shown}
-use Rattle.sfv_visitor.specs.InPlace.{is_open, is_open_at}
+use Rattle.sfv_visitor.specs.BuilderStages.{is_open, is_open_at}
 use Rattle.sfv_visitor.specs.Builders.{enters, inner_items, list_step, list_members}
-use Rattle.sfv_visitor.specs.InPlace.{EntersLast, enters_last}
-use Rattle.sfv_visitor.specs.InPlace.{LeadsIn}
+use Rattle.sfv_visitor.specs.BuilderStages.{EntersLast, enters_last}
+use Rattle.sfv_visitor.specs.BuilderStages.{LeadsIn}
 use Rattle.sfv_visitor.specs.declared.visitor.list_builder.Stage.{Stage}
 use Rattle.sfv_visitor.specs.declared.visitor.list_builder.Stage.TheVariants as stages
-use Rattle.sfv_visitor.specs.declared.visitor.part.Part.TheVariants as parts
+use Rattle.sfv_visitor.specs.declared.visitor.member_stage.MemberStage.TheVariants as member_stages
 
 split_from-push : {X : Type 0} (x : X) (xs : List X) (y : X) → split_from x (xs ++ y ∷ []) ≡ (x ∷ xs, y)
 split_from-push x [] y = refl
@@ -103,23 +103,23 @@ map_last {X} {Y} f xs n x z last same =
 
 -- the parameters of the last member end, and with them the member
 params_end : (ms : List RawMember) (o : Option (List RawMember × RawMember)) → split_last ms ≡ o
-    → list_step (at_last (place_in parts.Params) o) parameters_end ≡ between ms
+    → list_step (at_last (state_in member_stages.Params) o) parameters_end ≡ between ms
 params_end ms None e = ap between (sym (split_last-none ms e))
 params_end ms (Some (ns, item i)) e = ap between (sym (split_last-whole ms ns (item i) e))
 params_end ms (Some (ns, inner_list l)) e = ap between (sym (split_last-whole ms ns (inner_list l) e))
 
 pub item_ends : (held : Option BareValue) (ms : List RawMember)
-    → list_step (list_shown (stages.Within parts.Params) held ms) parameters_end ≡ between ms
+    → list_step (list_shown (stages.Within member_stages.Params) held ms) parameters_end ≡ between ms
 item_ends held ms = params_end ms (split_last ms) refl
 
 list_params_end : (ms : List RawMember) (o : Option (List RawMember × RawMember)) → split_last ms ≡ o
-    → list_step (at_last (place_in parts.ListParams) o) parameters_end ≡ between ms
+    → list_step (at_last (state_in member_stages.ListParams) o) parameters_end ≡ between ms
 list_params_end ms None e = ap between (sym (split_last-none ms e))
 list_params_end ms (Some (ns, item i)) e = ap between (sym (split_last-whole ms ns (item i) e))
 list_params_end ms (Some (ns, inner_list l)) e = ap between (sym (split_last-whole ms ns (inner_list l) e))
 
 pub inner_list_ends : (held : Option BareValue) (ms : List RawMember)
-    → list_step (list_shown (stages.Within parts.ListParams) held ms) parameters_end ≡ between ms
+    → list_step (list_shown (stages.Within member_stages.ListParams) held ms) parameters_end ≡ between ms
 inner_list_ends held ms = list_params_end ms (split_last ms) refl
 
 -- the parameters of an item of an inner list end
@@ -132,34 +132,34 @@ inner_params_end ns ps xs (Some (ys, y)) e = ap (λ (zs : List RawItem).
     within ns (inner_items (record { items = zs; parameters = ps }))) (sym (split_last-whole xs ys y e))
 
 inner_end : (o : Option (List RawMember × RawMember))
-    → list_step (at_last (place_in parts.InnerParams) o) parameters_end ≡ at_last (place_in parts.Items) o
+    → list_step (at_last (state_in member_stages.InnerParams) o) parameters_end ≡ at_last (state_in member_stages.Items) o
 inner_end None = refl
 inner_end (Some (ns, item i)) = refl
 inner_end (Some (ns, inner_list l)) = inner_params_end ns l.parameters l.items (split_last l.items) refl
 
 pub inner_item_ends : (held : Option BareValue) (ms : List RawMember)
-    → list_step (list_shown (stages.Within parts.InnerParams) held ms) parameters_end
-    ≡ list_shown (stages.Within parts.Items) held ms
+    → list_step (list_shown (stages.Within member_stages.InnerParams) held ms) parameters_end
+    ≡ list_shown (stages.Within member_stages.Items) held ms
 inner_item_ends held ms = inner_end (split_last ms)
 
 -- the end of parameters changes nothing at another stage
 items_stay : (o : Option (List RawMember × RawMember))
-    → list_step (at_last (place_in parts.Items) o) parameters_end ≡ at_last (place_in parts.Items) o
+    → list_step (at_last (state_in member_stages.Items) o) parameters_end ≡ at_last (state_in member_stages.Items) o
 items_stay None = refl
 items_stay (Some (ns, item i)) = refl
 items_stay (Some (ns, inner_list l)) = refl
 
 head_stays : (o : Option (List RawMember × RawMember))
-    → list_step (at_last (place_in parts.InnerHead) o) parameters_end ≡ at_last (place_in parts.InnerHead) o
+    → list_step (at_last (state_in member_stages.InnerHead) o) parameters_end ≡ at_last (state_in member_stages.InnerHead) o
 head_stays None = refl
 head_stays (Some (ns, item i)) = refl
 head_stays (Some (ns, inner_list l)) = refl
 
 pub no_parameters_end : (held : Option BareValue) (ms : List RawMember)
-    → (list_step (list_shown (stages.Within parts.Items) held ms) parameters_end
-    ≡ list_shown (stages.Within parts.Items) held ms)
-    × (list_step (list_shown (stages.Within parts.InnerHead) held ms) parameters_end
-    ≡ list_shown (stages.Within parts.InnerHead) held ms)
+    → (list_step (list_shown (stages.Within member_stages.Items) held ms) parameters_end
+    ≡ list_shown (stages.Within member_stages.Items) held ms)
+    × (list_step (list_shown (stages.Within member_stages.InnerHead) held ms) parameters_end
+    ≡ list_shown (stages.Within member_stages.InnerHead) held ms)
 no_parameters_end held ms = (items_stay (split_last ms), head_stays (split_last ms))
 
 -- a parameter of the last item of an inner list
@@ -177,7 +177,7 @@ pub inner_enters : (ms : List RawMember) (ps : RawParameters) (is js : List RawI
 inner_enters ms ps is js k v e = inner_go ms ps js k v (split_last is) e
 
 -- the last member steps where it stays
-pub lead_last : (f : ListPlace → ListPlace) (p q : RawMember → Option MemberPlace) (es : List ListEntry) (n : ℕ)
+pub lead_last : (f : ListState → ListState) (p q : RawMember → Option MemberState) (es : List ListEntry) (n : ℕ)
     (x y : ListEntry) → IsLast es n x
     → LeadsIn f (p (member_tree x)) (member_tree x) (q (member_tree y)) (member_tree y)
     → at_last q (split_last (list_tree (slice_set es (n - 1) y))) ≡ f (at_last p (split_last (list_tree es)))
@@ -187,8 +187,8 @@ lead_last f p q es n x y last leads =
     ∙ ap (λ (o : Option (List RawMember × RawMember)). f (at_last p o)) (sym (tree_push last.0 x))
     ∙ ap (λ (xs : List ListEntry). f (at_last p (split_last (list_tree xs)))) (sym last.1)
 
-pub memory_last : (p : RawMember → Option MemberPlace) (es : List ListEntry) (n : ℕ) (x : ListEntry)
-    (P : ListPlace → Type 0) → IsLast es n x
+pub memory_last : (p : RawMember → Option MemberState) (es : List ListEntry) (n : ℕ) (x : ListEntry)
+    (P : ListState → Type 0) → IsLast es n x
     → ((ms : List RawMember) → P (with_last ms (member_tree x) (p (member_tree x))))
     → P (at_last p (split_last (list_tree es)))
 memory_last p es n x P last takes =
@@ -224,35 +224,35 @@ pub last_seen : (es : List ListEntry) (e : ListEntry) → slice_get es (length e
 last_seen es e k = seen_go es e (split_last es) refl k
 
 -- where the last member is not being read, all are whole
-lost_in : (ns : List RawMember) (m : RawMember) (q : Option MemberPlace) → is_some q ≡ false
+lost_in : (ns : List RawMember) (m : RawMember) (q : Option MemberState) → is_some q ≡ false
     → with_last ns m q ≡ between (ns ++ m ∷ [])
 lost_in ns m None h = refl
 lost_in ns m (Some p) h = cc
 
-lost_go : (p : RawMember → Option MemberPlace) (ms : List RawMember) (o : Option (List RawMember × RawMember))
+lost_go : (p : RawMember → Option MemberState) (ms : List RawMember) (o : Option (List RawMember × RawMember))
     → split_last ms ≡ o → is_open_at p o ≡ false → at_last p o ≡ between ms
 lost_go p ms None e h = ap between (sym (split_last-none ms e))
 lost_go p ms (Some (ns, m)) e h = lost_in ns m (p m) h ∙ ap between (sym (split_last-whole ms ns m e))
 
-pub lost : (p : RawMember → Option MemberPlace) (ms : List RawMember) → is_open_at p (split_last ms) ≡ false
+pub lost : (p : RawMember → Option MemberState) (ms : List RawMember) → is_open_at p (split_last ms) ≡ false
     → at_last p (split_last ms) ≡ between ms
 lost p ms h = lost_go p ms (split_last ms) refl h
 
 -- where nothing is held, all are whole
-none_held_go : (o : Option (List RawMember × RawMember)) → is_open_at (held_place None) o ≡ false
+none_held_go : (o : Option (List RawMember × RawMember)) → is_open_at (held_state None) o ≡ false
 none_held_go None = refl
 none_held_go (Some (ns, m)) = refl
 
-pub none_held : (ms : List RawMember) → at_last (held_place None) (split_last ms) ≡ between ms
-none_held ms = lost (held_place None) ms (none_held_go (split_last ms))
+pub none_held : (ms : List RawMember) → at_last (held_state None) (split_last ms) ≡ between ms
+none_held ms = lost (held_state None) ms (none_held_go (split_last ms))
 
 -- a bare item is held of an item of an inner list alone
 pub held_in : {X : Type 0} (f : X → BareValue) (h : Option X) (l : RawInnerList) → is_some h ≡ true
-    → is_some (held_place (option_map f h) (inner_list l)) ≡ true
+    → is_some (held_state (option_map f h) (inner_list l)) ≡ true
 held_in f None l e = cc
 held_in f (Some x) l e = refl
 
-pub no_held_item : (h : Option BareValue) (i : RawItem) → held_place h (item i) ≡ None
+pub no_held_item : (h : Option BareValue) (i : RawItem) → held_state h (item i) ≡ None
 no_held_item None i = refl
 no_held_item (Some v) i = refl
 
@@ -267,15 +267,15 @@ all_whole stages.Between h ms e = refl
 all_whole stages.Begun h ms e = refl
 all_whole stages.Head h ms e = refl
 all_whole stages.Held h ms e = whole_held h ms
-all_whole stages.InnerHeld h ms e = ap list_members (sym (lost (held_place h) ms e))
-all_whole (stages.Within p) h ms e = ap list_members (sym (lost (place_in p) ms e))
+all_whole stages.InnerHeld h ms e = ap list_members (sym (lost (held_state h) ms e))
+all_whole (stages.Within p) h ms e = ap list_members (sym (lost (state_in p) ms e))
 
-open_in : (ns : List RawMember) (m : RawMember) (q : Option MemberPlace) → is_some q ≡ true
+open_in : (ns : List RawMember) (m : RawMember) (q : Option MemberState) → is_some q ≡ true
     → ns ≡ list_members (with_last ns m q)
 open_in ns m None h = cc
 open_in ns m (Some p) h = refl
 
-open_last : (p : RawMember → Option MemberPlace) (ys : List ListEntry) (y : ListEntry)
+open_last : (p : RawMember → Option MemberState) (ys : List ListEntry) (y : ListEntry)
     → is_open_at p (split_last (list_tree (ys ++ y ∷ []))) ≡ true
     → list_tree ys ≡ list_members (at_last p (split_last (list_tree (ys ++ y ∷ []))))
 open_last p ys y h =
@@ -289,8 +289,8 @@ open_at stages.Between h ys y e = cc
 open_at stages.Begun h ys y e = cc
 open_at stages.Head h ys y e = cc
 open_at stages.Held h ys y e = cc
-open_at stages.InnerHeld h ys y e = open_last (held_place h) ys y e
-open_at (stages.Within p) h ys y e = open_last (place_in p) ys y e
+open_at stages.InnerHeld h ys y e = open_last (held_state h) ys y e
+open_at (stages.Within p) h ys y e = open_last (state_in p) ys y e
 
 none_open : (s : Stage) (h : Option BareValue) → is_open s h [] ≡ false
 none_open stages.Between h = refl

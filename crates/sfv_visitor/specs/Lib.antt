@@ -1,5 +1,5 @@
 pub mod Events
 pub mod ItemFaults
 pub mod Builders
-pub mod InPlace
-pub mod Given
+pub mod BuilderStages
+pub mod ProvidedVisitors

@@ -11,8 +11,8 @@ ghost use Rattle.sfv_bare.specs.declared.bare.BareItemType.TheVariants as kinds;
 ghost use Rattle.sfv_visitor.specs.declared.visitor.ItemFault.{ItemFault};
 ghost use Rattle.sfv_visitor.specs.declared.visitor.ItemFault.TheVariants as faults;
 ghost use Rattle.sfv_bare.specs.Kinds.{kind_of_value};
-ghost use Rattle.sfv_visitor.specs.Given.{IsWrongType, LacksMemory, item_kept, KeepTakes, KeepFails};
-ghost use Rattle.sfv_visitor.specs.Given.{ReadBareItem, KeepTakesRead, KeepFailsRead};
+ghost use Rattle.sfv_visitor.specs.ProvidedVisitors.{IsWrongType, LacksMemory, item_kept, KeepTakes, KeepFails};
+ghost use Rattle.sfv_visitor.specs.ProvidedVisitors.{ReadBareItem, KeepTakesRead, KeepFailsRead};
 
 use crate::visitor::{BareItemType, Event, ItemFault, Visitor};
 use sfv_bare::bare::{BareItem, BareItemFromInput, GenericBareItem, StringFromInput};

@@ -1,8 +1,8 @@
 //! A visitor that calls a function on a bare item.
 
 ghost use Rattle.std.specs.Prelude.{◌≡◌, ⊤, Some, None, MatchOption};
-ghost use Rattle.sfv_visitor.specs.Given.{function_waiting, answer_kept, CallTakes, CallFails};
-ghost use Rattle.sfv_visitor.specs.Given.{CallTakesRead, CallFailsRead};
+ghost use Rattle.sfv_visitor.specs.ProvidedVisitors.{function_waiting, answer_kept, CallTakes, CallFails};
+ghost use Rattle.sfv_visitor.specs.ProvidedVisitors.{CallTakesRead, CallFailsRead};
 
 use crate::visitor::{Event, Visitor};
 use sfv_bare::bare::BareItemFromInput;

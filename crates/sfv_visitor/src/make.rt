@@ -2,10 +2,10 @@
 
 ghost use Rattle.std.specs.Prelude.{◌≡◌, [], None};
 ghost use Rattle.sfv_tree.specs.declared.hash_seed.HashSeed.{HashSeed};
-ghost use Rattle.sfv_visitor.specs.Builders.{item_place, item_seed, at_head, list_place, list_seed, between};
-ghost use Rattle.sfv_visitor.specs.Builders.{dictionary_place, dictionary_seed, between_pairs};
+ghost use Rattle.sfv_visitor.specs.Builders.{item_state, item_seed, item_head, list_state, list_seed, between};
+ghost use Rattle.sfv_visitor.specs.Builders.{dictionary_state, dictionary_seed, between_pairs};
 ghost use Rattle.sfv_visitor.specs.Builders.{IsItemSeeded, IsListSeeded, IsDictionarySeeded};
-ghost use Rattle.sfv_visitor.specs.Given.{item_kept};
+ghost use Rattle.sfv_visitor.specs.ProvidedVisitors.{item_kept};
 
 use crate::expect_item::{ExpectItem, ExpectedItem};
 use crate::visitor::{DictionaryBuilder, ItemBuilder, ListBuilder, Visitor};
@@ -59,7 +59,7 @@ impl<'de> MakeItemVisitor<'de> for Item {
     type Visitor = ItemBuilder;
 
     ghost is_made = { λ seed visitor.
-        (item_place visitor ≡ at_head) × (item_seed visitor ≡ seed) × IsItemSeeded visitor };
+        (item_state visitor ≡ item_head) × (item_seed visitor ≡ seed) × IsItemSeeded visitor };
 
     fn make_item_visitor(alloc: Global, seed: HashSeed) -> ItemBuilder {
         ItemBuilder::new(alloc, seed)
@@ -80,7 +80,7 @@ impl<'de> MakeListVisitor<'de> for List {
     type Visitor = ListBuilder;
 
     ghost is_made = { λ seed visitor.
-        (list_place visitor ≡ between []) × (list_seed visitor ≡ seed) × IsListSeeded visitor };
+        (list_state visitor ≡ between []) × (list_seed visitor ≡ seed) × IsListSeeded visitor };
 
     fn make_list_visitor(alloc: Global, seed: HashSeed) -> ListBuilder {
         ListBuilder::new(List::new(alloc), seed)
@@ -91,7 +91,7 @@ impl<'de> MakeDictionaryVisitor<'de> for Dictionary {
     type Visitor = DictionaryBuilder;
 
     ghost is_made = { λ seed visitor.
-        (dictionary_place visitor ≡ between_pairs []) × (dictionary_seed visitor ≡ seed) × IsDictionarySeeded visitor };
+        (dictionary_state visitor ≡ between_pairs []) × (dictionary_seed visitor ≡ seed) × IsDictionarySeeded visitor };
 
     fn make_dictionary_visitor(alloc: Global, seed: HashSeed) -> DictionaryBuilder {
         DictionaryBuilder::new(Dictionary::with_hasher(alloc, seed))

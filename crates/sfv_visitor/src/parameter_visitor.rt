@@ -1,8 +1,8 @@
 //! A visitor that passes the result of another visitor to a function.
 
 ghost use Rattle.std.specs.Prelude.{◌≡◌, ◌⊎◌, Ok, Err};
-ghost use Rattle.sfv_visitor.specs.Given.{visitor_within, function_after, ForwardTakes, ForwardTakesRead};
-ghost use Rattle.sfv_visitor.specs.Given.{GivesAfter};
+ghost use Rattle.sfv_visitor.specs.ProvidedVisitors.{visitor_within, function_after, ForwardTakes, ForwardTakesRead};
+ghost use Rattle.sfv_visitor.specs.ProvidedVisitors.{GivesAfter};
 
 use crate::visitor::{Event, Visitor};
 use std::marker::PhantomData;

@@ -9,9 +9,9 @@ ghost use Rattle.sfv_visitor.specs.declared.visitor.Event.{Event};
 mod dictionary_builder;
 mod item_builder;
 mod list_builder;
+mod member_stage;
 mod option;
 mod parameters;
-mod part;
 
 pub use dictionary_builder::DictionaryBuilder;
 pub use item_builder::ItemBuilder;

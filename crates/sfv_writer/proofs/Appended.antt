@@ -5,7 +5,7 @@ use Rattle.std.proofs.lemmas.List.{append-nil}
 use Rattle.std.proofs.lemmas.Result.{MatchResult-from_err}
 use Rattle.sfv_writer.specs.Written.{Extends}
 
--- it stands behind both
+-- it stands after both
 pub next : (old text mid more new : List ℕ) → mid ≡ old ++ text → new ≡ mid ++ more → new ≡ old ++ (text ++ more)
 next old text mid more new e f = f ∙ ap (λ (l : List ℕ). l ++ more) e ∙ append_assoc old text more
 
@@ -22,25 +22,25 @@ between f old front first x same second back new a e b d =
     (next old front first (f same) second a (put first (f x) (f same) second b (ap f e))) d
 
 -- the same of what may fail
-pub behind : {T E : Type 0} (old text mid more new : List ℕ) (r : Result T E) → mid ≡ old ++ text
+pub after : {T E : Type 0} (old text mid more new : List ℕ) (r : Result T E) → mid ≡ old ++ text
     → MatchResult r (λ _. new ≡ mid ++ more) (λ _. Extends mid new)
     → MatchResult r (λ _. new ≡ old ++ (text ++ more)) (λ _. Extends old new)
-behind old text mid more new (Ok x) e h = next old text mid more new e h
-behind old text mid more new (Err y) e h = (text ++ h.0, next old text mid h.0 new e h.1)
+after old text mid more new (Ok x) e h = next old text mid more new e h
+after old text mid more new (Err y) e h = (text ++ h.0, next old text mid h.0 new e h.1)
 
 -- two texts, of which a call adds both
-pub both_behind : {T E : Type 0} (old text mid more rest new : List ℕ) (r : Result T E) → mid ≡ old ++ text
+pub both_after : {T E : Type 0} (old text mid more rest new : List ℕ) (r : Result T E) → mid ≡ old ++ text
     → MatchResult r (λ _. new ≡ mid ++ (more ++ rest)) (λ _. Extends mid new)
     → MatchResult r (λ _. new ≡ old ++ (text ++ more ++ rest)) (λ _. Extends old new)
-both_behind {T} {E} old text mid more rest new r e h =
+both_after {T} {E} old text mid more rest new r e h =
     subst (λ t. MatchResult r (λ _. new ≡ old ++ t) (λ _. Extends old new)) (sym (append_assoc text more rest))
-    (behind old text mid (more ++ rest) new r e h)
+    (after old text mid (more ++ rest) new r e h)
 
--- what may have been added behind both
-pub grows_behind : {T E : Type 0} (old text mid new : List ℕ) (r : Result T E) → mid ≡ old ++ text
+-- what may have been added after both
+pub grows_after : {T E : Type 0} (old text mid new : List ℕ) (r : Result T E) → mid ≡ old ++ text
     → OnErr r (Extends mid new) → OnErr r (Extends old new)
-grows_behind old text mid new (Ok x) e h = tt
-grows_behind old text mid new (Err y) e h = (text ++ h.0, next old text mid h.0 new e h.1)
+grows_after old text mid new (Ok x) e h = tt
+grows_after old text mid new (Err y) e h = (text ++ h.0, next old text mid h.0 new e h.1)
 
 -- a text that was left as it was
 pub unchanged : (old new : List ℕ) → new ≡ old → Extends old new

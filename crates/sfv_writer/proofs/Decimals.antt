@@ -8,7 +8,7 @@ use Rattle.sfv_spec.specs.Ascii.{digit_zero}
 use Rattle.sfv_spec.specs.Numbers.{minus_text, is_negative}
 use Rattle.sfv_spec.specs.Canonical.{fraction_digits, decimal_text}
 use Rattle.sfv_writer.specs.Written.{Extends}
-use Rattle.sfv_writer.proofs.Appended.{put, next, behind}
+use Rattle.sfv_writer.proofs.Appended.{put, next, after}
 
 pub fraction_one : (f : ℕ) → eqb (f % 100) 0 ≡ true → fraction_digits f ≡ (digit_zero + f / 100) ∷ []
 fraction_one f e = rw e refl
@@ -54,7 +54,7 @@ decimal_parts {T} {E} old front digits whole dot point new z m r e a d b k c h =
     let minus : List ℕ = minus_text (is_negative z) in
     subst (λ (n : ℕ). MatchResult r (λ _. new ≡ old ++ (minus ++ decimal_digits (n / 1000) ++ codes "."
     ++ fraction_digits (n % 1000))) (λ _. Extends old new)) e
-    (behind old (minus ++ decimal_digits (m / 1000) ++ codes ".") point _ new r
+    (after old (minus ++ decimal_digits (m / 1000) ++ codes ".") point _ new r
     (next old (minus ++ decimal_digits (m / 1000)) whole (codes ".") point
     (next old minus front (decimal_digits (m / 1000)) whole a (put front digits (decimal_digits (m / 1000)) whole b d))
     (put whole dot (codes ".") point c k)) h)

@@ -5,7 +5,7 @@ use Rattle.std.specs.List.{AllByRecursion}
 use Rattle.std.specs.declared.string.String.{String}
 use Rattle.std.proofs.lemmas.Simd.{map-map}
 use Rattle.sfv_spec.specs.Texts.{joined}
-use Rattle.sfv_writer.specs.Written.{in_a_row}
+use Rattle.sfv_writer.specs.Written.{with_separators}
 use Rattle.sfv_writer.proofs.Rows.{in_a_row_first}
 
 -- what holds of what each lends holds of all that is lent
@@ -17,7 +17,7 @@ lent_each lent P (x ∷ xs) h = (h.0, lent_each lent P xs h.1)
 -- parts that are taken from the first on, to the end, are written as the whole is
 pub all_written : {Z A B : Type 0} (lent : A → B) (text_of : B → List ℕ) (IsGood : B → Type 0) (s : List ℕ)
     (ys : List B) (Whole : Type 0) (old new : String Z) (xs : List A) → map lent xs ≡ ys → (AllByRecursion IsGood ys → Whole)
-    → string_bytes new ≡ string_bytes old ++ in_a_row true s (map (λ x. text_of (lent x)) xs)
+    → string_bytes new ≡ string_bytes old ++ with_separators true s (map (λ x. text_of (lent x)) xs)
     → AllByRecursion (λ x. IsGood (lent x)) xs
     → (string_bytes new ≡ string_bytes old ++ joined s (map text_of ys)) × Whole
 all_written lent text_of IsGood s ys Whole old new xs is whole w good = (

@@ -11,7 +11,7 @@ use Rattle.std.proofs.lemmas.Map.Iter.{rest_so_far}
 use Rattle.std.proofs.lemmas.Simd.{map-map}
 use Rattle.sfv_tree.specs.Trees.{OwnedBareItem, pair_tree, pairs_tree, member_tree, list_tree, entry_tree, dictionary_tree}
 use Rattle.sfv_tree.specs.declared.parsed.ListEntry.{ListEntry}
-use Rattle.sfv_writer.specs.Written.{lent_pairs, lent_entry, lent_member}
+use Rattle.sfv_writer.specs.Written.{lent_pairs, lent_list_member, lent_dictionary_member}
 
 -- what was taken from a map, to the end, is all of it
 all_of_map : {X : Type 0} (es : List (List ℕ × X)) (xs : List (Bor (List ℕ) × Bor X))
@@ -29,12 +29,12 @@ lent_all es xs runs all = ap pairs_tree (all_of_map es xs runs all)
 -- and of members of a dictionary
 pub members_all : (es : List (List ℕ × ListEntry)) (xs : List (Bor (List ℕ) × Bor ListEntry))
     → ShowsInOrder (deref_pair {K = List ℕ} {X = ListEntry}) → Drains (TakesFirst deref_pair) es xs
-    → map lent_member xs ≡ dictionary_tree es
+    → map lent_dictionary_member xs ≡ dictionary_tree es
 members_all es xs runs all = sym (map-map entry_tree deref_pair xs) ∙ ap dictionary_tree (all_of_map es xs runs all)
 
 -- what was taken from a slice of members, to the end, is all of it
 pub entries_all : (s : Iter ListEntry) (xs : List (Bor ListEntry)) → Drains iter_steps s xs
-    → map lent_entry xs ≡ list_tree (iter_rest s)
+    → map lent_list_member xs ≡ list_tree (iter_rest s)
 entries_all s xs all =
     sym (map-map member_tree (λ (m : Bor ListEntry). m.now) xs)
     ∙ ap list_tree (items_from_drains xs (all.1.0, all.1.1, λ _. (all.0, all.1.2)) (YieldsList-from_slice (iter_rest s) refl))
@@ -47,7 +47,7 @@ pairs_front s t xs ran =
     ap pairs_tree (rest_so_far deref_pair xs s t ran) ∙ map-append pair_tree (map deref_pair xs) t
 
 pub members_front : (s t : List (List ℕ × ListEntry)) (xs : List (Bor (List ℕ) × Bor ListEntry))
-    → Yields (TakesFirst deref_pair) s xs t → dictionary_tree s ≡ map lent_member xs ++ dictionary_tree t
+    → Yields (TakesFirst deref_pair) s xs t → dictionary_tree s ≡ map lent_dictionary_member xs ++ dictionary_tree t
 members_front s t xs ran =
     ap dictionary_tree (rest_so_far deref_pair xs s t ran) ∙ map-append entry_tree (map deref_pair xs) t
     ∙ ap (λ ms. ms ++ dictionary_tree t) (map-map entry_tree deref_pair xs)
@@ -58,7 +58,7 @@ slice_so_far [] s t y = ap iter_rest y
 slice_so_far (x ∷ xs) s t y = y.1 ∙ ap (λ l. x.now ∷ l) (slice_so_far xs y.0 t y.2)
 
 pub entries_front : (s t : Iter ListEntry) (xs : List (Bor ListEntry)) → Yields iter_steps s xs t
-    → list_tree (iter_rest s) ≡ map lent_entry xs ++ list_tree (iter_rest t)
+    → list_tree (iter_rest s) ≡ map lent_list_member xs ++ list_tree (iter_rest t)
 entries_front s t xs ran =
     ap list_tree (slice_so_far xs s t ran) ∙ map-append member_tree (map (λ (m : Bor ListEntry). m.now) xs) (iter_rest t)
     ∙ ap (λ ms. ms ++ list_tree (iter_rest t)) (map-map member_tree (λ (m : Bor ListEntry). m.now) xs)

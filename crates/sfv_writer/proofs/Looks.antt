@@ -12,33 +12,41 @@ use Rattle.std.proofs.lemmas.List.Elements.{filter_map-append}
 use Rattle.std.proofs.lemmas.Map.Iter.{rest_so_far, rest_more, iter_end}
 use Rattle.std.proofs.lemmas.List.{map-append}
 use Rattle.std.proofs.iter.Next.{Yields-more}
-use Rattle.sfv_spec.specs.Values.{Edition, rfc9651, FieldKind, item_field, list_field, dictionary_field, BareValue}
+use Rattle.sfv_spec.specs.Values.{BareValue}
+use Rattle.sfv_spec.specs.declared.field_kind.FieldKind.{FieldKind}
+use Rattle.sfv_spec.specs.declared.field_kind.FieldKind.TheVariants.{Item as item_field, List as list_field}
+use Rattle.sfv_spec.specs.declared.field_kind.FieldKind.TheVariants.{Dictionary as dictionary_field}
+use Rattle.sfv_spec.specs.declared.version.Version.{Version}
+use Rattle.sfv_spec.specs.declared.version.Version.TheVariants.{Rfc9651}
 use Rattle.sfv_spec.specs.Values.{RawParameters, RawItem, RawMember, item, inner_list, RawField, HasMember}
 use Rattle.sfv_spec.specs.Events.{TreeEvent, value_in, parameters_events, item_events, inner_item_events, inner_list_end}
-use Rattle.sfv_spec.specs.Events.{member_events, entry_events, keyed_events, bare_values}
-use Rattle.sfv_spec.specs.Calls.{fits_bare, AllFit}
+use Rattle.sfv_spec.specs.Events.{member_events, entry_events, keyed_events}
+use Rattle.sfv_spec.specs.Values.{bare_values}
+use Rattle.sfv_spec.specs.Values.{fits_bare, AllFit}
 use Rattle.sfv_bare.specs.Kinds.{kind_of_value}
 use Rattle.sfv_bare.specs.BareItems.{bare_value}
 use Rattle.sfv_tree.specs.Trees.{OwnedBareItem, pairs_tree, member_tree, dictionary_tree}
 use Rattle.sfv_tree.specs.declared.parsed.ListEntry.{ListEntry}
 use Rattle.std.specs.Map.{values_of}
-use Rattle.sfv_spec.proofs.Given.{fit_append, newer_has_all}
+use Rattle.sfv_spec.proofs.Given.{newer_has_all}
 use Rattle.sfv_writer.proofs.Rows.{mapped_more}
-use Rattle.sfv_writer.specs.Versions.{NamesFirst, LooksAt, LooksFirst, IsSerializeError, FailsAmong, FailsFrom, values_of_parameters, values_of_item, values_of_member}
+use Rattle.sfv_writer.specs.Versions.{NamesFirstUnfit, ChecksVersion, ChecksVersionFirst, IsSerializeError, FailsAmong, FailsFrom}
+use Rattle.sfv_spec.specs.Values.{parameter_values, item_values, member_values}
+use Rattle.sfv_spec.proofs.Fields.{fit_append}
 use Rattle.sfv_writer.specs.declared.serialize_error.SerializeError.{SerializeError}
 use Rattle.sfv_writer.specs.declared.serialize_error.SerializeError.TheVariants as errors
 
 -- one value that doesn't fit
-pub lacks : (edition : Edition) (b : BareValue) → fits_bare edition b ≡ false
-    → NamesFirst edition (b ∷ []) (errors.Unsupported (kind_of_value b))
-lacks edition b h = (b, record { before = []; after = []; split = refl; fit = tt; unfit = h }, refl)
+pub lacks : (version : Version) (b : BareValue) → fits_bare version b ≡ false
+    → NamesFirstUnfit version (b ∷ []) (errors.Unsupported (kind_of_value b))
+lacks version b h = (b, record { before = []; after = []; split = refl; fit = tt; unfit = h }, refl)
 
 -- ---- in front of others and after them
 
 -- the first that doesn't fit is that of more
-pub names_front : (edition : Edition) (bs cs : List BareValue) (e : SerializeError) → NamesFirst edition bs e
-    → NamesFirst edition (bs ++ cs) e
-names_front edition bs cs e h = (
+pub names_front : (version : Version) (bs cs : List BareValue) (e : SerializeError) → NamesFirstUnfit version bs e
+    → NamesFirstUnfit version (bs ++ cs) e
+names_front version bs cs e h = (
   h.0,
   record {
     before = h.1.before;
@@ -50,25 +58,25 @@ names_front edition bs cs e h = (
   h.2,
 )
 
-pub names_behind : (edition : Edition) (bs cs : List BareValue) (e : SerializeError) → AllFit edition bs
-    → NamesFirst edition cs e → NamesFirst edition (bs ++ cs) e
-names_behind edition bs cs e f h = (
+pub names_after : (version : Version) (bs cs : List BareValue) (e : SerializeError) → AllFit version bs
+    → NamesFirstUnfit version cs e → NamesFirstUnfit version (bs ++ cs) e
+names_after version bs cs e f h = (
   h.0,
   record {
     before = bs ++ h.1.before;
     after = h.1.after;
     split = ap (λ (l : List BareValue). bs ++ l) h.1.split ∙ sym (append_assoc bs h.1.before (h.0 ∷ h.1.after));
-    fit = fit_append edition bs h.1.before f h.1.fit;
+    fit = fit_append version bs h.1.before f h.1.fit;
     unfit = h.1.unfit;
   },
   h.2,
 )
 
 -- others are looked at after those that fit
-pub looks_behind : {T : Type 0} (edition : Edition) (bs cs : List BareValue) (r : Result T SerializeError)
-    → AllFit edition bs → LooksAt edition cs r → LooksAt edition (bs ++ cs) r
-looks_behind edition bs cs (Ok x) f h = fit_append edition bs cs f h
-looks_behind edition bs cs (Err e) f h = names_behind edition bs cs e f h
+pub looks_after : {T : Type 0} (version : Version) (bs cs : List BareValue) (r : Result T SerializeError)
+    → AllFit version bs → ChecksVersion version cs r → ChecksVersion version (bs ++ cs) r
+looks_after version bs cs (Ok x) f h = fit_append version bs cs f h
+looks_after version bs cs (Err e) f h = names_after version bs cs e f h
 
 -- what an error says, where a `?` returns it
 pub at_exit : {T E : Type 0} (r : Result T E) (e : E) (P : T → Type 0) (Q : E → Type 0) → IsErrAnd r (λ y. y ≡ e) → Q e
@@ -76,26 +84,26 @@ pub at_exit : {T E : Type 0} (r : Result T E) (e : E) (P : T → Type 0) (Q : E 
 at_exit r e P Q exit h = let p = err_from_is_err_and r exit in rw (p.1, p.2) h
 
 -- such an error after values that fit
-error_behind : (edition : Edition) (bs cs : List BareValue) (e : SerializeError) → AllFit edition bs
-    → IsSerializeError edition cs e → IsSerializeError edition (bs ++ cs) e
-error_behind edition bs cs e f (inl h) = inl (h.0, fit_append edition bs cs f h.1)
-error_behind edition bs cs e f (inr h) = inr (names_behind edition bs cs e f h)
+error_after : (version : Version) (bs cs : List BareValue) (e : SerializeError) → AllFit version bs
+    → IsSerializeError version cs e → IsSerializeError version (bs ++ cs) e
+error_after version bs cs e f (inl h) = inl (h.0, fit_append version bs cs f h.1)
+error_after version bs cs e f (inr h) = inr (names_after version bs cs e f h)
 
 -- the error of what is given after a first value that fits
-pub fails_behind : {S A T : Type 0} (steps : S → Option A → S → Type 0) (rest : S) (values : List A → List BareValue)
-    (edition : Edition) (b : BareValue) (r : Result T SerializeError) → AllFit edition (b ∷ [])
-    → IfErr r (FailsAmong steps rest values edition) → IfErr r (FailsFrom steps rest (λ taken. b ∷ values taken) edition)
-fails_behind steps rest values edition b (Ok x) f h = tt
-fails_behind steps rest values edition b (Err e) f h =
-    (h.0, h.1, h.2, error_behind edition (b ∷ []) (values h.0) e f h.4)
+pub fails_after : {S A T : Type 0} (steps : S → Option A → S → Type 0) (rest : S) (values : List A → List BareValue)
+    (version : Version) (b : BareValue) (r : Result T SerializeError) → AllFit version (b ∷ [])
+    → IfErr r (FailsAmong steps rest values version) → IfErr r (FailsFrom steps rest (λ taken. b ∷ values taken) version)
+fails_after steps rest values version b (Ok x) f h = tt
+fails_after steps rest values version b (Err e) f h =
+    (h.0, h.1, h.2, error_after version (b ∷ []) (values h.0) e f h.4)
 
 -- what the iterator gave first, and the rest, are what it gave
 pub fails_from_first : {S A T : Type 0} (steps : S → Option A → S → Type 0) (s : S) (x : A) (rest : S)
-    (values : List A → List BareValue) (edition : Edition) (r : Result T SerializeError) → steps s (Some x) rest
-    → IfErr r (FailsFrom steps rest (λ taken. values (x ∷ taken)) edition)
-    → IfErr r (FailsAmong steps s values edition)
-fails_from_first steps s x rest values edition (Ok y) step h = tt
-fails_from_first steps s x rest values edition (Err e) step h =
+    (values : List A → List BareValue) (version : Version) (r : Result T SerializeError) → steps s (Some x) rest
+    → IfErr r (FailsFrom steps rest (λ taken. values (x ∷ taken)) version)
+    → IfErr r (FailsAmong steps s values version)
+fails_from_first steps s x rest values version (Ok y) step h = tt
+fails_from_first steps s x rest values version (Err e) step h =
     (x ∷ h.0, h.1, (rest, step, h.2), omega arith, h.3)
 
 pub drains_from_first : {S A : Type 0} (steps : S → Option A → S → Type 0) (s : S) (x : A) (rest : S)
@@ -104,7 +112,7 @@ drains_from_first steps s x rest xs step h = (h.0, (h.1.0, (rest, step, h.1.1), 
 
 -- RFC 9651 has every value
 pub newer_fails : {S A : Type 0} (steps : S → Option A → S → Type 0) (s : S) (values : List A → List BareValue)
-    (e : SerializeError) → FailsAmong steps s values rfc9651 e → e ≡ errors.OutOfMemory
+    (e : SerializeError) → FailsAmong steps s values Rfc9651 e → e ≡ errors.OutOfMemory
 newer_fails steps s values e h = elim h.4 [
   | inl k ↦ k.0
   | inr k ↦ absurd (newer_has_all (values h.0) k.0 k.1)
@@ -112,56 +120,56 @@ newer_fails steps s values e h = elim h.4 [
 
 -- ---- each of a list
 
-module _ {A : Type 0} (edition : Edition) (values : A → List BareValue) where
+module _ {A : Type 0} (version : Version) (values : A → List BareValue) where
   -- one more
-  pub each_more : (front : List A) (x : A) → AllFit edition (flat_map values front) → AllFit edition (values x)
-      → AllFit edition (flat_map values (front ++ x ∷ []))
-  each_more front x h k = subst (AllFit edition) (sym (flat_map-append values front (x ∷ [])))
-      (fit_append edition (flat_map values front) (values x ++ []) h (fit_append edition (values x) [] k tt))
+  pub each_more : (front : List A) (x : A) → AllFit version (flat_map values front) → AllFit version (values x)
+      → AllFit version (flat_map values (front ++ x ∷ []))
+  each_more front x h k = subst (AllFit version) (sym (flat_map-append values front (x ∷ [])))
+      (fit_append version (flat_map values front) (values x ++ []) h (fit_append version (values x) [] k tt))
 
   -- one has a value that doesn't fit
   pub each_stops : (front : List A) (x : A) (rest : List A) (e : SerializeError)
-      → AllFit edition (flat_map values front) → NamesFirst edition (values x) e
-      → NamesFirst edition (flat_map values (front ++ x ∷ rest)) e
+      → AllFit version (flat_map values front) → NamesFirstUnfit version (values x) e
+      → NamesFirstUnfit version (flat_map values (front ++ x ∷ rest)) e
   each_stops front x rest e h k =
-      subst (λ (bs : List BareValue). NamesFirst edition bs e) (sym (flat_map-append values front (x ∷ rest)))
-      (names_behind edition (flat_map values front) (values x ++ flat_map values rest) e h
-      (names_front edition (values x) (flat_map values rest) e k))
+      subst (λ (bs : List BareValue). NamesFirstUnfit version bs e) (sym (flat_map-append values front (x ∷ rest)))
+      (names_after version (flat_map values front) (values x ++ flat_map values rest) e h
+      (names_front version (values x) (flat_map values rest) e k))
 
 -- with one more there is one
 not_none : {A : Type 0} (xs : List A) (x : A) → 0 < length (xs ++ x ∷ [])
 not_none xs x = omega (arith, length-append xs (x ∷ []))
 
 -- what an iterator gave, and then a value that doesn't fit
-pub fails_among : {S A T : Type 0} (steps : S → Option A → S → Type 0) (edition : Edition) (values : A → List BareValue)
+pub fails_among : {S A T : Type 0} (steps : S → Option A → S → Type 0) (version : Version) (values : A → List BareValue)
     (all : List A → List BareValue) → ((xs : List A) → flat_map values xs ≡ all xs) → (s t u : S) (xs : List A) (x : A)
     (r : Result T SerializeError) (e : SerializeError) → IsErrAnd r (λ y. y ≡ e) → Yields steps s xs t
-    → steps t (Some x) u → AllFit edition (all xs) → NamesFirst edition (values x) e
-    → MatchResult r (λ _. ⊤) (FailsAmong steps s all edition)
-fails_among steps edition values all same s t u xs x r e exit ran step fit names =
-    let fit' : AllFit edition (flat_map values xs) = subst (AllFit edition) (sym (same xs)) fit in
+    → steps t (Some x) u → AllFit version (all xs) → NamesFirstUnfit version (values x) e
+    → MatchResult r (λ _. ⊤) (FailsAmong steps s all version)
+fails_among steps version values all same s t u xs x r e exit ran step fit names =
+    let fit' : AllFit version (flat_map values xs) = subst (AllFit version) (sym (same xs)) fit in
     at_exit r e _ _ exit (
       xs ++ x ∷ [],
       u,
       Yields-more steps s xs t x u ran step,
       not_none xs x,
-      inr (subst (λ bs. NamesFirst edition bs e) (same (xs ++ x ∷ [])) (each_stops edition values xs x [] e fit' names)),
+      inr (subst (λ bs. NamesFirstUnfit version bs e) (same (xs ++ x ∷ [])) (each_stops version values xs x [] e fit' names)),
     )
 
 -- what an iterator gave, of which all values fit, and then no memory for the last
-pub memory_among : {S A T : Type 0} (steps : S → Option A → S → Type 0) (edition : Edition) (values : A → List BareValue)
+pub memory_among : {S A T : Type 0} (steps : S → Option A → S → Type 0) (version : Version) (values : A → List BareValue)
     (all : List A → List BareValue) → ((xs : List A) → flat_map values xs ≡ all xs) → (s t u : S) (xs : List A) (x : A)
     (r : Result T SerializeError) → IsErrAnd r (λ y. y ≡ errors.OutOfMemory) → Yields steps s xs t
-    → steps t (Some x) u → AllFit edition (all xs) → AllFit edition (values x)
-    → MatchResult r (λ _. ⊤) (FailsAmong steps s all edition)
-memory_among steps edition values all same s t u xs x r exit ran step fit last =
-    let fit' : AllFit edition (flat_map values xs) = subst (AllFit edition) (sym (same xs)) fit in
+    → steps t (Some x) u → AllFit version (all xs) → AllFit version (values x)
+    → MatchResult r (λ _. ⊤) (FailsAmong steps s all version)
+memory_among steps version values all same s t u xs x r exit ran step fit last =
+    let fit' : AllFit version (flat_map values xs) = subst (AllFit version) (sym (same xs)) fit in
     at_exit r errors.OutOfMemory _ _ exit (
       xs ++ x ∷ [],
       u,
       Yields-more steps s xs t x u ran step,
       not_none xs x,
-      inl (refl, subst (AllFit edition) (same (xs ++ x ∷ [])) (each_more edition values xs x fit' last)),
+      inl (refl, subst (AllFit version) (same (xs ++ x ∷ [])) (each_more version values xs x fit' last)),
     )
 
 -- a list at one of its places
@@ -171,83 +179,50 @@ split_at [] n x lt is = absurd (omega (arith, lt))
 split_at (y ∷ ys) zero x lt is = (ys, ap (λ z. z ∷ ys) (sym is))
 split_at (y ∷ ys) (suc n) x lt is = let p = split_at ys n x (omega (arith, lt)) is in (p.0, ap (λ zs. y ∷ zs) p.1)
 
--- ---- the values of events, in their order
-
-parameters_values : (ps : RawParameters) → filter_map value_in (parameters_events ps) ≡ values_of_parameters ps
-parameters_values [] = refl
-parameters_values (p ∷ ps) = ap (λ (l : List BareValue). p.1 ∷ l) (parameters_values ps)
-
-pub item_values : (i : RawItem) → filter_map value_in (item_events i) ≡ values_of_item i
-item_values i = ap (λ (l : List BareValue). i.bare ∷ l) (parameters_values i.parameters)
-
-pub each_values : {A : Type 0} (f : A → List TreeEvent) (values : A → List BareValue)
-    → ((x : A) → filter_map value_in (f x) ≡ values x) → (xs : List A)
-    → filter_map value_in (flat_map f xs) ≡ flat_map values xs
-each_values f values same [] = refl
-each_values f values same (x ∷ xs) =
-    filter_map-append value_in (f x) (flat_map f xs)
-    ∙ ap (λ (l : List BareValue). l ++ filter_map value_in (flat_map f xs)) (same x)
-    ∙ ap (λ (l : List BareValue). values x ++ l) (each_values f values same xs)
-
-pub member_values : (m : RawMember) → filter_map value_in (member_events m) ≡ values_of_member m
-member_values (item i) = item_values i
-member_values (inner_list l) =
-    filter_map-append value_in (flat_map inner_item_events l.items) (inner_list_end ∷ parameters_events l.parameters)
-    ∙ ap (λ (k : List BareValue). k ++ filter_map value_in (parameters_events l.parameters))
-    (each_values inner_item_events values_of_item item_values l.items)
-    ∙ ap (λ (k : List BareValue). flat_map values_of_item l.items ++ k) (parameters_values l.parameters)
-
-pub list_values : (ms : List RawMember) → bare_values list_field ms ≡ flat_map values_of_member ms
-list_values ms = each_values entry_events values_of_member member_values ms
-
-pub dictionary_values : (ms : List (List ℕ × RawMember))
-    → bare_values dictionary_field ms ≡ flat_map (λ m. values_of_member m.1) ms
-dictionary_values ms = each_values keyed_events (λ m. values_of_member m.1) (λ m. member_values m.1) ms
-
 -- ---- each value of a map, as an iterator lends it
 
-module _ {X : Type 0} (edition : Edition) (values : X → List BareValue) where
+module _ {X : Type 0} (version : Version) (values : X → List BareValue) where
   -- what was lent so far, seen without the loan
-  so_far : (xs : List (Bor X)) → AllFit edition (flat_map (λ x. values x.now) xs)
-      → AllFit edition (flat_map values (map deref xs))
-  so_far xs h = subst (AllFit edition) (sym (flat_map-map values deref xs)) h
+  so_far : (xs : List (Bor X)) → AllFit version (flat_map (λ x. values x.now) xs)
+      → AllFit version (flat_map values (map deref xs))
+  so_far xs h = subst (AllFit version) (sym (flat_map-map values deref xs)) h
 
   -- one has a value that doesn't fit
   pub shown_stops : (s t u : List X) (xs : List (Bor X)) (r : Option (Bor X)) (x : Bor X) (e : SerializeError)
       → Yields (TakesFirst deref) s xs t → r ≡ Some x → TakesFirst deref t r u
-      → AllFit edition (flat_map (λ x. values x.now) xs) → NamesFirst edition (values x.now) e
-      → NamesFirst edition (flat_map values s) e
+      → AllFit version (flat_map (λ x. values x.now) xs) → NamesFirstUnfit version (values x.now) e
+      → NamesFirstUnfit version (flat_map values s) e
   shown_stops s t u xs r x e y is step h k =
       let whole : s ≡ map deref xs ++ x.now ∷ u =
       rest_so_far deref xs s t y ∙ ap (λ l. map deref xs ++ l) (rest_more deref t u r x is step) in
-      subst (λ l. NamesFirst edition (flat_map values l) e) (sym whole)
-      (each_stops edition values (map deref xs) x.now u e (so_far xs h) k)
+      subst (λ l. NamesFirstUnfit version (flat_map values l) e) (sym whole)
+      (each_stops version values (map deref xs) x.now u e (so_far xs h) k)
 
   -- all that was lent is all of it
   pub shown_all : (all s t u : List X) (xs : List (Bor X)) (r : Option (Bor X)) → s ≡ all
       → Yields (TakesFirst deref) s xs t → r ≡ None → TakesFirst deref t r u
-      → AllFit edition (flat_map (λ x. values x.now) xs) → AllFit edition (flat_map values all)
+      → AllFit version (flat_map (λ x. values x.now) xs) → AllFit version (flat_map values all)
   shown_all all s t u xs r start y is step h =
-      subst (λ l. AllFit edition (flat_map values l)) (iter_end deref all xs s t u r start y is step).0 (so_far xs h)
+      subst (λ l. AllFit version (flat_map values l)) (iter_end deref all xs s t u r start y is step).0 (so_far xs h)
 
 -- ---- each of a slice
 
-module _ {A B : Type 0} (edition : Edition) (tree : A → B) (values : B → List BareValue) where
+module _ {A B : Type 0} (version : Version) (tree : A → B) (values : B → List BareValue) where
   pub slice_more : (xs : List A) (n : ℕ) (x : A) → n < length xs → x ≡ get_or xs n x
-      → AllFit edition (flat_map values (map tree (take n xs))) → AllFit edition (values (tree x))
-      → AllFit edition (flat_map values (map tree (take (n + 1) xs)))
+      → AllFit version (flat_map values (map tree (take n xs))) → AllFit version (values (tree x))
+      → AllFit version (flat_map values (map tree (take (n + 1) xs)))
   slice_more xs n x lt is h k =
-      subst (λ l. AllFit edition (flat_map values l)) (sym (mapped_more tree xs n x lt is))
-      (each_more edition values (map tree (take n xs)) (tree x) h k)
+      subst (λ l. AllFit version (flat_map values l)) (sym (mapped_more tree xs n x lt is))
+      (each_more version values (map tree (take n xs)) (tree x) h k)
 
   pub slice_stops : (xs : List A) (n : ℕ) (x : A) (e : SerializeError) → n < length xs → x ≡ get_or xs n x
-      → AllFit edition (flat_map values (map tree (take n xs))) → NamesFirst edition (values (tree x)) e
-      → NamesFirst edition (flat_map values (map tree xs)) e
+      → AllFit version (flat_map values (map tree (take n xs))) → NamesFirstUnfit version (values (tree x)) e
+      → NamesFirstUnfit version (flat_map values (map tree xs)) e
   slice_stops xs n x e lt is h k =
       let p = split_at xs n x lt is in
-      subst (λ l. NamesFirst edition (flat_map values l) e)
+      subst (λ l. NamesFirstUnfit version (flat_map values l) e)
       (sym (map-append tree (take n xs) (x ∷ p.0)) ∙ ap (map tree) (sym p.1))
-      (each_stops edition values (map tree (take n xs)) (tree x) (map tree p.0) e h k)
+      (each_stops version values (map tree (take n xs)) (tree x) (map tree p.0) e h k)
 
 -- the values of parameters, one by one
 pub singles : {A : Type 0} (f : A → BareValue) (xs : List A) → flat_map (λ x. f x ∷ []) xs ≡ map f xs
@@ -257,40 +232,36 @@ singles f (x ∷ xs) = ap (λ l. f x ∷ l) (singles f xs)
 -- ---- calls that look first
 
 -- a value doesn't fit
-pub look_fails : {T : Type 0} (edition : Edition) (values : List BareValue) (r : Result T SerializeError)
-    (e : SerializeError) → IsErrAnd r (λ y. y ≡ e) → NamesFirst edition values e → LooksFirst edition values r
-look_fails edition values r e exit h = at_exit r e _ _ exit (inr h)
+pub look_fails : {T : Type 0} (version : Version) (values : List BareValue) (r : Result T SerializeError)
+    (e : SerializeError) → IsErrAnd r (λ y. y ≡ e) → NamesFirstUnfit version values e → ChecksVersionFirst version values r
+look_fails version values r e exit h = at_exit r e _ _ exit (inr h)
 
 -- out of memory when all were looked at
-pub memory_fails : {T : Type 0} (edition : Edition) (values : List BareValue) (r : Result T SerializeError)
-    → IsErrAnd r (λ y. y ≡ errors.OutOfMemory) → AllFit edition values → LooksFirst edition values r
-memory_fails edition values r exit h = at_exit r errors.OutOfMemory _ _ exit (inl (refl, h))
+pub memory_fails : {T : Type 0} (version : Version) (values : List BareValue) (r : Result T SerializeError)
+    → IsErrAnd r (λ y. y ≡ errors.OutOfMemory) → AllFit version values → ChecksVersionFirst version values r
+memory_fails version values r exit h = at_exit r errors.OutOfMemory _ _ exit (inl (refl, h))
 
 pub not_of_none : {A : Type 0} (xs : List A) (y : A) (ys : List A) → ¬ ([] ≡ xs ++ y ∷ ys)
 not_of_none [] y ys = λ e. cc
 not_of_none (x ∷ xs) y ys = λ e. cc
 
 -- what has a value that doesn't fit has a member
-pub named_has_member : (edition : Edition) (kind : FieldKind) (raw : RawField kind) (e : SerializeError)
-    → NamesFirst edition (bare_values kind raw) e → HasMember kind raw
-named_has_member edition item_field i e h = tt
-named_has_member edition list_field [] e h = absurd (not_of_none h.1.before h.0 h.1.after h.1.split)
-named_has_member edition list_field (m ∷ ms) e h = (m, ms, refl)
-named_has_member edition dictionary_field [] e h = absurd (not_of_none h.1.before h.0 h.1.after h.1.split)
-named_has_member edition dictionary_field (m ∷ ms) e h = (m, ms, refl)
+pub named_has_member : (version : Version) (kind : FieldKind) (raw : RawField kind) (e : SerializeError)
+    → NamesFirstUnfit version (bare_values kind raw) e → HasMember kind raw
+named_has_member version item_field i e h = tt
+named_has_member version list_field [] e h = absurd (not_of_none h.1.before h.0 h.1.after h.1.split)
+named_has_member version list_field (m ∷ ms) e h = (m, ms, refl)
+named_has_member version dictionary_field [] e h = absurd (not_of_none h.1.before h.0 h.1.after h.1.split)
+named_has_member version dictionary_field (m ∷ ms) e h = (m, ms, refl)
 
 -- the values of parameters, as a map lends them
 pub param_values : (es : List (List ℕ × OwnedBareItem))
-    → flat_map (λ v. bare_value v ∷ []) (values_of es) ≡ values_of_parameters (pairs_tree es)
+    → flat_map (λ v. bare_value v ∷ []) (values_of es) ≡ parameter_values (pairs_tree es)
 param_values [] = refl
 param_values (e ∷ es) = ap (λ l. bare_value e.1 ∷ l) (param_values es)
 
 -- and those of the members of a dictionary
 pub entry_values : (es : List (List ℕ × ListEntry))
-    → flat_map (λ m. values_of_member (member_tree m)) (values_of es) ≡ bare_values dictionary_field (dictionary_tree es)
-entry_values es = go es ∙ sym (dictionary_values (dictionary_tree es))
-  where
-    go : (es : List (List ℕ × ListEntry)) → flat_map (λ m. values_of_member (member_tree m)) (values_of es)
-        ≡ flat_map (λ m. values_of_member m.1) (dictionary_tree es)
-    go [] = refl
-    go (e ∷ es) = ap (λ l. values_of_member (member_tree e.1) ++ l) (go es)
+    → flat_map (λ m. member_values (member_tree m)) (values_of es) ≡ bare_values dictionary_field (dictionary_tree es)
+entry_values [] = refl
+entry_values (e ∷ es) = ap (λ l. member_values (member_tree e.1) ++ l) (entry_values es)

@@ -4,17 +4,18 @@ use Rattle.std.specs.Prelude.{IsTrue}
 use Rattle.std.specs.Borrow.{Bor}
 use Rattle.std.proofs.lemmas.List.{append-nil}
 use Rattle.sfv_spec.specs.Classes.{is_key}
-use Rattle.sfv_spec.specs.Values.{Edition, BareValue, RawParameters, IsBareValue, AreParameters}
+use Rattle.sfv_spec.specs.Values.{BareValue, RawParameters, IsBareValue, AreParameters}
+use Rattle.sfv_spec.specs.declared.version.Version.{Version}
 use Rattle.sfv_spec.specs.Ordered.{keys, no_repeats}
 use Rattle.sfv_spec.specs.Canonical.{parameters_text}
-use Rattle.sfv_spec.specs.Calls.{AllFit}
+use Rattle.sfv_spec.specs.Values.{AllFit}
 use Rattle.sfv_bare.specs.BareItems.{bare_value}
 use Rattle.sfv_tree.specs.Trees.{OwnedBareItem, pairs_tree}
 use Rattle.sfv_writer.specs.Written.{lent_pairs, param_text}
 use Rattle.sfv_writer.specs.Versions.{values_of_pairs}
 use Rattle.sfv_writer.proofs.Appended.{next}
 
--- the text of one more, behind those of all before
+-- the text of one more, after those of all before
 pub parameters_push : (ps : RawParameters) (p : List ℕ × BareValue)
     → parameters_text (ps ++ p ∷ []) ≡ parameters_text ps ++ param_text p.0 p.1
 parameters_push [] p = append-nil (param_text p.0 p.1)
@@ -52,11 +53,11 @@ module _ (k : Bor (List ℕ)) (v : Bor OwnedBareItem) where
       subst AreParameters (sym (lent_push ps)) (valid_push (lent_pairs ps) (k.now, bare_value v.now) h key value)
 
   -- whose value fits
-  pub fit_more : (edition : Edition) (ps : List (Bor (List ℕ) × Bor OwnedBareItem))
-      → AllFit edition (values_of_pairs ps) → AllFit edition (bare_value v.now ∷ [])
-      → AllFit edition (values_of_pairs (ps ++ (k, v) ∷ []))
-  fit_more edition [] h fit = fit
-  fit_more edition (p ∷ ps) h fit = (h.0, fit_more edition ps h.1 fit)
+  pub fit_more : (version : Version) (ps : List (Bor (List ℕ) × Bor OwnedBareItem))
+      → AllFit version (values_of_pairs ps) → AllFit version (bare_value v.now ∷ [])
+      → AllFit version (values_of_pairs (ps ++ (k, v) ∷ []))
+  fit_more version [] h fit = fit
+  fit_more version (p ∷ ps) h fit = (h.0, fit_more version ps h.1 fit)
 
 -- without parameters nothing is written
 pub none_written : (old : List ℕ) (es : List (List ℕ × OwnedBareItem)) → length es ≡ 0

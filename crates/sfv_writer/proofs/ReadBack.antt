@@ -1,9 +1,12 @@
 -- What is written is read back.
 use Rattle.std.proofs.Common.{◌≡◌, ℕ, List, sym, subst, refl}
 use Rattle.std.specs.Prelude.{Option, Some, None}
-use Rattle.sfv_spec.specs.Values.{Edition, rfc9651, FieldKind, RawField, IsFieldValue}
-use Rattle.sfv_spec.specs.Events.{bare_values}
-use Rattle.sfv_spec.specs.Calls.{Fits}
+use Rattle.sfv_spec.specs.Values.{RawField, IsFieldValue}
+use Rattle.sfv_spec.specs.declared.field_kind.FieldKind.{FieldKind}
+use Rattle.sfv_spec.specs.declared.version.Version.{Version}
+use Rattle.sfv_spec.specs.declared.version.Version.TheVariants.{Rfc9651}
+use Rattle.sfv_spec.specs.Values.{bare_values}
+use Rattle.sfv_spec.specs.Values.{Fits}
 use Rattle.sfv_spec.specs.Ordered.{ordered}
 use Rattle.sfv_spec.specs.Statements.{IsValue, IsParsedAs, IsWrittenAs, IsSerializedAs}
 use Rattle.sfv_spec.specs.Canonical.{canonical}
@@ -11,41 +14,41 @@ use Rattle.sfv_spec.proofs.Fields.{all_fit_newer}
 use Rattle.sfv_spec.proofs.Laws.{round_trip_lem}
 use Rattle.sfv_spec.proofs.Structure.{one_field_lem}
 
--- what is written of a field that fits an edition is read by it as its ordered value: repeated keys too
-pub read_back : (edition : Edition) (kind : FieldKind) (raw : RawField kind) → IsFieldValue kind raw → Fits edition kind raw
-    → IsParsedAs edition kind (canonical kind raw) (ordered kind raw)
-read_back edition kind raw h fits =
-    let accepted = (round_trip_lem edition kind raw h fits).0 in
+-- what is written of a field that fits a version is read by it as its ordered value: repeated keys too
+pub read_back : (version : Version) (kind : FieldKind) (raw : RawField kind) → IsFieldValue kind raw → Fits version kind raw
+    → IsParsedAs version kind (canonical kind raw) (ordered kind raw)
+read_back version kind raw h fits =
+    let accepted = (round_trip_lem version kind raw h fits).0 in
     record {
       raw = raw;
       accepted = accepted;
-      only = λ other k. one_field_lem edition kind (canonical kind raw) other raw k accepted;
-      ordered_value = refl;
+      only = λ other k. one_field_lem version kind (canonical kind raw) other raw k accepted;
+      holds = refl;
     }
 
 -- and a value as itself
-pub value_read_back : (edition : Edition) (kind : FieldKind) (value : RawField kind) → IsValue kind value
-    → Fits edition kind value → IsParsedAs edition kind (canonical kind value) value
-value_read_back edition kind value v fits = subst (IsParsedAs edition kind (canonical kind value))
-    ((round_trip_lem edition kind value v.parts fits).1 v.distinct) (read_back edition kind value v.parts fits)
+pub value_read_back : (version : Version) (kind : FieldKind) (value : RawField kind) → IsValue kind value
+    → Fits version kind value → IsParsedAs version kind (canonical kind value) value
+value_read_back version kind value v fits = subst (IsParsedAs version kind (canonical kind value))
+    ((round_trip_lem version kind value v.parts fits).1 v.distinct) (read_back version kind value v.parts fits)
 
--- the canonical text of a value that fits an edition is read back by it as this value
-pub written_for : (edition : Edition) (kind : FieldKind) (value : RawField kind) (t : List ℕ) → IsValue kind value
-    → Fits edition kind value → t ≡ canonical kind value → IsWrittenAs edition kind value t
-written_for edition kind value t v fits e = record {
+-- the canonical text of a value that fits a version is read back by it as this value
+pub written_for : (version : Version) (kind : FieldKind) (value : RawField kind) (t : List ℕ) → IsValue kind value
+    → Fits version kind value → t ≡ canonical kind value → IsWrittenAs version kind value t
+written_for version kind value t v fits e = record {
   is_value = v;
   fits = fits;
   text = e;
-  read_back = subst (λ s. IsParsedAs edition kind s value) (sym e) (value_read_back edition kind value v fits);
+  read_back = subst (λ s. IsParsedAs version kind s value) (sym e) (value_read_back version kind value v fits);
 }
 
 -- under RFC 9651 every value fits
 pub written : (kind : FieldKind) (value : RawField kind) (t : List ℕ) → IsValue kind value → t ≡ canonical kind value
-    → IsWrittenAs rfc9651 kind value t
-written kind value t v e = written_for rfc9651 kind value t v (all_fit_newer (bare_values kind value)) e
+    → IsWrittenAs Rfc9651 kind value t
+written kind value t v e = written_for Rfc9651 kind value t v (all_fit_newer (bare_values kind value)) e
 
--- what is serialized under RFC 9651 is so under every edition that the value fits
-pub serialized_for : (edition : Edition) (kind : FieldKind) (value : RawField kind) (o : Option (List ℕ))
-    → Fits edition kind value → IsSerializedAs rfc9651 kind value o → IsSerializedAs edition kind value o
-serialized_for edition kind value None fits h = h
-serialized_for edition kind value (Some t) fits h = (h.0, written_for edition kind value t h.1.is_value fits h.1.text)
+-- what is serialized under RFC 9651 is so under every version that the value fits
+pub serialized_for : (version : Version) (kind : FieldKind) (value : RawField kind) (o : Option (List ℕ))
+    → Fits version kind value → IsSerializedAs Rfc9651 kind value o → IsSerializedAs version kind value o
+serialized_for version kind value None fits h = h
+serialized_for version kind value (Some t) fits h = (h.0, written_for version kind value t h.1.is_value fits h.1.text)

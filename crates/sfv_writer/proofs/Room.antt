@@ -14,10 +14,10 @@ use Rattle.sfv_writer.proofs.Written.{IsWrittenUpTo}
 pub len_of : {Z : Type 0} (s : String Z) → string_len s ≡ length (string_bytes s)
 len_of s = s.bytes.ok.0
 
--- where there is no room behind a text that was added, there is none for both
-pub room_behind : {Z : Type 0} (old mid : String Z) (text more : List ℕ) → string_bytes mid ≡ string_bytes old ++ text
+-- where there is no room after a text that was added, there is none for both
+pub room_after : {Z : Type 0} (old mid : String Z) (text more : List ℕ) → string_bytes mid ≡ string_bytes old ++ text
     → string_capacity old ≤ string_capacity mid → LacksRoom mid more → LacksRoom old (text ++ more)
-room_behind old mid text more e c h =
+room_after old mid text more e c h =
     omega (
       arith,
       len_of old,
@@ -57,19 +57,19 @@ flat_map_len f (x ∷ xs) ys =
     omega (arith, length-append (f x) (flat_map f (xs ++ ys)), length-append (f x) (flat_map f xs), flat_map_len f xs ys)
 
 -- where there is none for some of what is written in quotes, there is none for all of it
-pub room_inside : {Z : Type 0} (piece : ℕ → List ℕ) (old output : String Z) (bytes rest run behind : List ℕ)
-    → IsWrittenUpTo piece (string_bytes old) bytes rest (string_bytes output) → rest ≡ run ++ behind
+pub room_inside : {Z : Type 0} (piece : ℕ → List ℕ) (old output : String Z) (bytes rest run after : List ℕ)
+    → IsWrittenUpTo piece (string_bytes old) bytes rest (string_bytes output) → rest ≡ run ++ after
     → string_capacity old ≤ string_capacity output → LacksRoom output (flat_map piece run)
     → LacksRoom old (flat_map piece bytes)
-room_inside piece old output bytes rest run behind w e c h =
+room_inside piece old output bytes rest run after w e c h =
     rw (w.whole, e) (omega (
       arith,
       len_of old,
       len_of output,
       ap (length {A = ℕ}) w.done,
       length-append (string_bytes old) (flat_map piece w.front),
-      flat_map_len piece w.front (run ++ behind),
-      flat_map_len piece run behind,
+      flat_map_len piece w.front (run ++ after),
+      flat_map_len piece run after,
       c,
       h,
     ))

@@ -6,7 +6,7 @@ use Rattle.std.specs.Prelude.{IfErr, OnOk}
 use Rattle.std.specs.List.{AllByRecursion}
 use Rattle.std.proofs.lemmas.List.{take_more, take_all, map-append, append-nil}
 use Rattle.sfv_spec.specs.Texts.{joined}
-use Rattle.sfv_writer.specs.Written.{lead, in_a_row, still_first}
+use Rattle.sfv_writer.specs.Written.{separator_before, with_separators, is_first_after}
 
 -- whether there are none
 abbrev pub is_none : {A : Type 0} → List A → Bool
@@ -20,10 +20,10 @@ pub record IsRow {A : Type 0} (text_of : A → List ℕ)
   pub text : output ≡ before ++ joined separator (map text_of xs)
   pub good : AllByRecursion IsGood xs
 
-joined_behind : (s x y : List ℕ) (ys : List (List ℕ)) → joined s ((y ∷ ys) ++ x ∷ []) ≡ (joined s (y ∷ ys) ++ s) ++ x
-joined_behind s x y [] = refl
-joined_behind s x y (z ∷ zs) =
-    ap (λ (t : List ℕ). (y ++ s) ++ t) (joined_behind s x z zs)
+joined_after : (s x y : List ℕ) (ys : List (List ℕ)) → joined s ((y ∷ ys) ++ x ∷ []) ≡ (joined s (y ∷ ys) ++ s) ++ x
+joined_after s x y [] = refl
+joined_after s x y (z ∷ zs) =
+    ap (λ (t : List ℕ). (y ++ s) ++ t) (joined_after s x z zs)
     ∙ sym (append_assoc (y ++ s) (joined s (z ∷ zs) ++ s) x)
     ∙ ap (λ (t : List ℕ). t ++ x) (sym (append_assoc (y ++ s) (joined s (z ∷ zs)) s))
 
@@ -31,7 +31,7 @@ joined_behind s x y (z ∷ zs) =
 joined_push : (s x : List ℕ) (ys : List (List ℕ)) → joined s (ys ++ x ∷ [])
     ≡ (joined s ys ++ cond (is_none ys) [] s) ++ x
 joined_push s x [] = refl
-joined_push s x (y ∷ ys) = joined_behind s x y ys
+joined_push s x (y ∷ ys) = joined_after s x y ys
 
 all_push : {A : Type 0} (P : A → Type 0) (xs : List A) (x : A) → AllByRecursion P xs → P x
     → AllByRecursion P (xs ++ x ∷ [])
@@ -88,16 +88,16 @@ mapped_more f xs i x lt e =
     ∙ ap (λ y. map f (take i xs) ++ f y ∷ []) (sym e)
 
 -- the values of one more of a list, whose first was taken before
-pub mapped_behind : {A B : Type 0} (f : A → B) (xs : List A) (first : A) (others : List A) (i : ℕ) (x : A)
+pub mapped_after : {A B : Type 0} (f : A → B) (xs : List A) (first : A) (others : List A) (i : ℕ) (x : A)
     → xs ≡ first ∷ others → i < length others → x ≡ get_or others i x
     → map f (take (suc (i + 1)) xs) ≡ map f (take (suc i) xs) ++ f x ∷ []
-mapped_behind {B = B} f xs first others i x whole lt e =
+mapped_after {B = B} f xs first others i x whole lt e =
     rw whole (ap (λ (ys : List B). f first ∷ ys) (mapped_more f others i x lt e))
 
 -- all of a list, whose first was taken before
-pub all_behind : {A : Type 0} (xs : List A) (first : A) (others : List A) (i : ℕ) → xs ≡ first ∷ others
+pub all_after : {A : Type 0} (xs : List A) (first : A) (others : List A) (i : ℕ) → xs ≡ first ∷ others
     → length others ≤ i → take (suc i) xs ≡ xs
-all_behind {A} xs first others i whole le = rw whole (ap (λ (ys : List A). first ∷ ys) (take_all i others le))
+all_after {A} xs first others i whole le = rw whole (ap (λ (ys : List A). first ∷ ys) (take_all i others le))
 
 -- both of what holds of each
 pub all_both : {A : Type 0} (P Q : A → Type 0) (xs : List A) → AllByRecursion (λ x. P x × Q x) xs
@@ -131,29 +131,29 @@ anyway X (Err e) x = x
 -- What is known when these parts are written after others: whether none stands, the text, and that each is good.
 pub record IsLed {A : Type 0} (text_of : A → List ℕ) (IsGood : A → Type 0) (separator : List ℕ) (xs : List A)
     (was_first is_first : Bool) (before output : List ℕ) : Type 0 where
-  pub first : is_first ≡ still_first was_first xs
-  pub text : output ≡ before ++ in_a_row was_first separator (map text_of xs)
+  pub first : is_first ≡ is_first_after was_first xs
+  pub text : output ≡ before ++ with_separators was_first separator (map text_of xs)
   pub good : AllByRecursion IsGood xs
 
-still_first-push : {A : Type 0} (b : Bool) (xs : List A) (x : A) → still_first b (xs ++ x ∷ []) ≡ false
-still_first-push b [] x = refl
-still_first-push b (y ∷ ys) x = refl
+is_first_after-push : {A : Type 0} (b : Bool) (xs : List A) (x : A) → is_first_after b (xs ++ x ∷ []) ≡ false
+is_first_after-push b [] x = refl
+is_first_after-push b (y ∷ ys) x = refl
 
 -- when one stands, one stands from then on
-pub still_first-false : {A : Type 0} (xs : List A) → still_first false xs ≡ false
-still_first-false [] = refl
-still_first-false (y ∷ ys) = refl
+pub is_first_after-false : {A : Type 0} (xs : List A) → is_first_after false xs ≡ false
+is_first_after-false [] = refl
+is_first_after-false (y ∷ ys) = refl
 
 -- one more text, after the separator unless it is the first
 pub in_a_row_push : {A : Type 0} (text_of : A → List ℕ) (s : List ℕ) (b : Bool) (xs : List A) (x : A)
-    → in_a_row b s (map text_of (xs ++ x ∷ []))
-    ≡ (in_a_row b s (map text_of xs) ++ lead (still_first b xs) s) ++ text_of x
-in_a_row_push text_of s b [] x = append-nil (lead b s ++ text_of x)
+    → with_separators b s (map text_of (xs ++ x ∷ []))
+    ≡ (with_separators b s (map text_of xs) ++ separator_before (is_first_after b xs) s) ++ text_of x
+in_a_row_push text_of s b [] x = append-nil (separator_before b s ++ text_of x)
 in_a_row_push text_of s b (y ∷ ys) x =
-    let rest : List ℕ = in_a_row false s (map text_of ys) in
-    let front : List ℕ = lead b s ++ text_of y in
+    let rest : List ℕ = with_separators false s (map text_of ys) in
+    let front : List ℕ = separator_before b s ++ text_of y in
     ap (λ (t : List ℕ). front ++ t) (in_a_row_push text_of s false ys x
-    ∙ ap (λ (f : Bool). (rest ++ lead f s) ++ text_of x) (still_first-false ys))
+    ∙ ap (λ (f : Bool). (rest ++ separator_before f s) ++ text_of x) (is_first_after-false ys))
     ∙ sym (append_assoc front (rest ++ s) (text_of x))
     ∙ ap (λ (t : List ℕ). t ++ text_of x) (sym (append_assoc front rest s))
 
@@ -161,26 +161,26 @@ in_a_row_push text_of s b (y ∷ ys) x =
 pub in_a_row_more : {A : Type 0} (text_of : A → List ℕ) (IsGood : A → Type 0) (s : List ℕ) (xs : List A)
     (was_first is_first is_next : Bool) (before output front new : List ℕ) (x : A)
     → IsLed text_of IsGood s xs was_first is_first before output → is_next ≡ false
-    → front ≡ output ++ lead is_first s → new ≡ front ++ text_of x → IsGood x
+    → front ≡ output ++ separator_before is_first s → new ≡ front ++ text_of x → IsGood x
     → IsLed text_of IsGood s (xs ++ x ∷ []) was_first is_next before new
 in_a_row_more text_of IsGood s xs was_first is_first is_next before output front new x row f l n g =
-    let so_far : List ℕ = in_a_row was_first s (map text_of xs) in
-    let between : List ℕ = lead (still_first was_first xs) s in
+    let so_far : List ℕ = with_separators was_first s (map text_of xs) in
+    let between : List ℕ = separator_before (is_first_after was_first xs) s in
     record {
-      first = f ∙ sym (still_first-push was_first xs x);
-      text = n ∙ ap (λ (t : List ℕ). t ++ text_of x) (l ∙ ap (λ (t : List ℕ). t ++ lead is_first s) row.text
-          ∙ ap (λ (b : Bool). (before ++ so_far) ++ lead b s) row.first ∙ append_assoc before so_far between)
+      first = f ∙ sym (is_first_after-push was_first xs x);
+      text = n ∙ ap (λ (t : List ℕ). t ++ text_of x) (l ∙ ap (λ (t : List ℕ). t ++ separator_before is_first s) row.text
+          ∙ ap (λ (b : Bool). (before ++ so_far) ++ separator_before b s) row.first ∙ append_assoc before so_far between)
           ∙ append_assoc before (so_far ++ between) (text_of x)
           ∙ ap (λ (t : List ℕ). before ++ t) (sym (in_a_row_push text_of s was_first xs x));
       good = all_push IsGood xs x row.good g;
     }
 
 -- the first part has no separator
-pub in_a_row_first : (s : List ℕ) (xs : List (List ℕ)) → in_a_row true s xs ≡ joined s xs
+pub in_a_row_first : (s : List ℕ) (xs : List (List ℕ)) → with_separators true s xs ≡ joined s xs
 in_a_row_first s [] = refl
 in_a_row_first s (x ∷ []) = append-nil x
 in_a_row_first s (x ∷ y ∷ xs) =
-    let behind : List ℕ = in_a_row false s xs in
-    ap (λ (t : List ℕ). x ++ t) (append_assoc s y behind)
-    ∙ sym (append_assoc x s (y ++ behind))
+    let after : List ℕ = with_separators false s xs in
+    ap (λ (t : List ℕ). x ++ t) (append_assoc s y after)
+    ∙ sym (append_assoc x s (y ++ after))
     ∙ ap (λ (t : List ℕ). (x ++ s) ++ t) (in_a_row_first s (y ∷ xs))

@@ -15,7 +15,7 @@ use Rattle.sfv_spec.specs.Classes.{is_string_byte}
 use Rattle.sfv_spec.specs.Strings.{is_escaped_in_string, is_plain_in_string}
 use Rattle.sfv_reading.proofs.quoted.StringSteps as in_string
 use Rattle.sfv_reading.proofs.quoted.DisplaySteps as in_display
-use Rattle.sfv_writer.specs.Written.{Extends, IsCutBack}
+use Rattle.sfv_writer.specs.Written.{Extends, IsTruncatedTo}
 use Rattle.sfv_spec.proofs.Marks.{plain_of}
 use Rattle.sfv_writer.specs.Quoted.{piece_of}
 
@@ -32,11 +32,11 @@ pub record IsWrittenUpTo (piece : ℕ → List ℕ) (before bytes rest output : 
 
 module _ (piece : ℕ → List ℕ) (before bytes : List ℕ) where
   -- more bytes are written
-  more_written : (rest output front behind new : List ℕ) → IsWrittenUpTo piece before bytes rest output
-      → rest ≡ front ++ behind → new ≡ output ++ flat_map piece front → IsWrittenUpTo piece before bytes behind new
-  more_written rest output front behind new w e n = record {
+  more_written : (rest output front after new : List ℕ) → IsWrittenUpTo piece before bytes rest output
+      → rest ≡ front ++ after → new ≡ output ++ flat_map piece front → IsWrittenUpTo piece before bytes after new
+  more_written rest output front after new w e n = record {
     front = w.front ++ front;
-    whole = w.whole ∙ ap (λ (l : List ℕ). w.front ++ l) e ∙ sym (append_assoc w.front front behind);
+    whole = w.whole ∙ ap (λ (l : List ℕ). w.front ++ l) e ∙ sym (append_assoc w.front front after);
     done = n ∙ ap (λ (l : List ℕ). l ++ flat_map piece front) w.done
         ∙ append_assoc before (flat_map piece w.front) (flat_map piece front)
         ∙ ap (λ (l : List ℕ). before ++ l) (sym (flat_map_append piece w.front front));
@@ -44,21 +44,21 @@ module _ (piece : ℕ → List ℕ) (before bytes : List ℕ) where
 
   -- a run of bytes that are written for themselves
   pub run_written : (plain : ℕ → Bool) → ((c : ℕ) → plain c ≡ true → piece c ≡ c ∷ [])
-      → (rest output run behind new : List ℕ)
-      → IsWrittenUpTo piece before bytes rest output → rest ≡ run ++ behind → RunOf plain run → new ≡ output ++ run
-      → IsWrittenUpTo piece before bytes behind new
-  run_written plain itself rest output run behind new w e h n =
-      more_written rest output run behind new w e (n ∙ ap (λ (l : List ℕ). output ++ l) (sym (run_itself run h)))
+      → (rest output run after new : List ℕ)
+      → IsWrittenUpTo piece before bytes rest output → rest ≡ run ++ after → RunOf plain run → new ≡ output ++ run
+      → IsWrittenUpTo piece before bytes after new
+  run_written plain itself rest output run after new w e h n =
+      more_written rest output run after new w e (n ∙ ap (λ (l : List ℕ). output ++ l) (sym (run_itself run h)))
     where
       run_itself : (run : List ℕ) → RunOf plain run → flat_map piece run ≡ run
       run_itself [] h = refl
       run_itself (c ∷ run) h = let a = and_parts (plain c) (list_all plain run) h in
           ap (λ (l : List ℕ). l ++ flat_map piece run) (itself c a.0) ∙ ap (λ (l : List ℕ). c ∷ l) (run_itself run a.1)
 
-  pub byte_written : (rest output behind new : List ℕ) (byte : ℕ) → IsWrittenUpTo piece before bytes rest output
-      → rest ≡ byte ∷ behind → new ≡ output ++ piece byte → IsWrittenUpTo piece before bytes behind new
-  byte_written rest output behind new byte w e n =
-      more_written rest output (byte ∷ []) behind new w e (n
+  pub byte_written : (rest output after new : List ℕ) (byte : ℕ) → IsWrittenUpTo piece before bytes rest output
+      → rest ≡ byte ∷ after → new ≡ output ++ piece byte → IsWrittenUpTo piece before bytes after new
+  byte_written rest output after new byte w e n =
+      more_written rest output (byte ∷ []) after new w e (n
       ∙ ap (λ (l : List ℕ). output ++ l) (sym (append-nil (piece byte))))
 
   -- none is written at the start
@@ -77,24 +77,24 @@ module _ (piece : ℕ → List ℕ) (before bytes : List ℕ) where
   whole_written (c ∷ rest) output w e = absurd (omega (arith, e))
 
   -- the next byte passes a test that all pass
-  pub next_held : (held : ℕ → Bool) (rest output behind : List ℕ) (byte : ℕ) → RunOf held bytes
-      → IsWrittenUpTo piece before bytes rest output → rest ≡ byte ∷ behind → held byte ≡ true
-  next_held held rest output behind byte h w e =
-      let all : RunOf held (w.front ++ byte ∷ behind) =
+  pub next_held : (held : ℕ → Bool) (rest output after : List ℕ) (byte : ℕ) → RunOf held bytes
+      → IsWrittenUpTo piece before bytes rest output → rest ≡ byte ∷ after → held byte ≡ true
+  next_held held rest output after byte h w e =
+      let all : RunOf held (w.front ++ byte ∷ after) =
       subst (RunOf held) (w.whole ∙ ap (λ (l : List ℕ). w.front ++ l) e) h in
-      let parts = and_parts (list_all held w.front) (list_all held (byte ∷ behind))
-      (sym (list_all-append held w.front (byte ∷ behind)) ∙ all) in
-      (and_parts (held byte) (list_all held behind) parts.1).0
+      let parts = and_parts (list_all held w.front) (list_all held (byte ∷ after))
+      (sym (list_all-append held w.front (byte ∷ after)) ∙ all) in
+      (and_parts (held byte) (list_all held after) parts.1).0
 
 -- a run that begins with a plain byte isn't empty
-pub run_shortens : (plain : ℕ → Bool) (rest run behind others : List ℕ) (byte : ℕ) → rest ≡ run ++ behind
-    → rest ≡ byte ∷ others → plain byte ≡ true → (0 < length behind → plain (slice_index behind 0) ≡ false)
-    → length behind < length rest
-run_shortens plain rest [] behind others byte w e p ends =
+pub run_shortens : (plain : ℕ → Bool) (rest run after others : List ℕ) (byte : ℕ) → rest ≡ run ++ after
+    → rest ≡ byte ∷ others → plain byte ≡ true → (0 < length after → plain (slice_index after 0) ≡ false)
+    → length after < length rest
+run_shortens plain rest [] after others byte w e p ends =
     let next = subst (λ l. 0 < length l → plain (slice_index l 0) ≡ false) (sym w ∙ e) ends (omega arith) in
     absurd (both_ways (plain byte) next p)
-run_shortens plain rest (c ∷ run) behind others byte w e p ends =
-    omega (arith, ap (length {A = ℕ}) w, length-append run behind)
+run_shortens plain rest (c ∷ run) after others byte w e p ends =
+    omega (arith, ap (length {A = ℕ}) w, length-append run after)
 
 -- a plain byte is written for itself
 pub plain_itself : (display : Bool) (c : ℕ) → plain_of display c ≡ true → piece_of display c ≡ c ∷ []
@@ -126,14 +126,14 @@ front_of before text len utf8 whole is more =
     )
 
 -- cut where a character begins
-pub cut_there : (text new : List ℕ) (len : ℕ) → IsUtf8 text → new ≡ take len text → IsCutBack len text new
+pub cut_there : (text new : List ℕ) (len : ℕ) → IsUtf8 text → new ≡ take len text → IsTruncatedTo len text new
 cut_there text new len whole is = record {
   back = λ before utf8 at more.
       is ∙ (front_of before text len utf8 whole at more).1;
 }
 
 -- where none begins, no text ended
-pub cut_nowhere : (text : List ℕ) (len : ℕ) → IsUtf8 text → ¬ IsCharBoundary text len → IsCutBack len text text
+pub cut_nowhere : (text : List ℕ) (len : ℕ) → IsUtf8 text → ¬ IsCharBoundary text len → IsTruncatedTo len text text
 cut_nowhere text len whole none = record {
   back = λ before utf8 at more.
       absurd (none (front_of before text len utf8 whole at more).0);
@@ -141,6 +141,6 @@ cut_nowhere text len whole none = record {
 
 -- a text that was added to and cut back is as it was
 pub cut_to : {Z : Type 0} (old more new : String Z) (len : ℕ) → len ≡ length (string_bytes old)
-    → Extends (string_bytes old) (string_bytes more) → IsCutBack len (string_bytes more) (string_bytes new)
+    → Extends (string_bytes old) (string_bytes more) → IsTruncatedTo len (string_bytes more) (string_bytes new)
     → string_bytes new ≡ string_bytes old
 cut_to old more new len is grown cut = cut.back (string_bytes old) (IsUtf8-string_bytes old) is grown

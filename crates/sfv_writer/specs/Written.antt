@@ -6,7 +6,10 @@ use Rattle.std.specs.Borrow.{Bor}
 use Rattle.std.specs.List.{AllByRecursion}
 use Rattle.std.specs.declared.alloc.Global.{Global}
 use Rattle.std.specs.declared.string.String.{String}
-use Rattle.sfv_spec.specs.Values.{Edition, rfc9651, FieldKind, RawField, BareValue, RawParameters, RawItem, RawMember}
+use Rattle.sfv_spec.specs.Values.{RawField, BareValue, RawParameters, RawItem, RawMember}
+use Rattle.sfv_spec.specs.declared.field_kind.FieldKind.{FieldKind}
+use Rattle.sfv_spec.specs.declared.version.Version.{Version}
+use Rattle.sfv_spec.specs.declared.version.Version.TheVariants.{Rfc9651}
 use Rattle.sfv_spec.specs.Values.{IsItem, IsMember}
 use Rattle.sfv_spec.specs.Ordered.{ordered, IsOrderedItem, IsOrderedMember}
 use Rattle.sfv_spec.specs.Classes.{is_key}
@@ -52,57 +55,57 @@ param_text key value = codes ";" ++ keyed_text key value
 
 -- the serialization of a list or a dictionary under RFC 9651: nothing if it has no member
 abbrev pub IsSerialized : (kind : FieldKind) → RawField kind → Option (String Global) → Type 0
-IsSerialized kind value text = IsSerializedAs rfc9651 kind value (option_map string_bytes text)
+IsSerialized kind value text = IsSerializedAs Rfc9651 kind value (option_map string_bytes text)
 
 -- the canonical text of this field parses to its ordered value
-abbrev pub IsReadBack : Edition → (kind : FieldKind) → RawField kind → Type 0
-IsReadBack edition kind raw = IsParsedAs edition kind (canonical kind raw) (ordered kind raw)
+abbrev pub IsReadBack : Version → (kind : FieldKind) → RawField kind → Type 0
+IsReadBack version kind raw = IsParsedAs version kind (canonical kind raw) (ordered kind raw)
 
 -- the text before a part: the separator, unless the part is the first
-abbrev pub lead : Bool → List ℕ → List ℕ
-lead is_first separator = if is_first then [] else separator
+abbrev pub separator_before : Bool → List ℕ → List ℕ
+separator_before is_first separator = if is_first then [] else separator
 
 -- If the old text begins with a UTF-8 text of this length, the new text is that one.
-pub record IsCutBack (len : ℕ) (old new : List ℕ) : Type 0 where
+pub record IsTruncatedTo (len : ℕ) (old new : List ℕ) : Type 0 where
   pub back : (before : List ℕ) → IsUtf8 before → len ≡ length before → Extends before old → new ≡ before
 
 -- parts in order, each after the separator unless it is the first
-abbrev pub in_a_row : Bool → List ℕ → List (List ℕ) → List ℕ
-in_a_row is_first separator [] = []
-in_a_row is_first separator (t ∷ ts) = lead is_first separator ++ t ++ in_a_row false separator ts
+abbrev pub with_separators : Bool → List ℕ → List (List ℕ) → List ℕ
+with_separators is_first separator [] = []
+with_separators is_first separator (t ∷ ts) = separator_before is_first separator ++ t ++ with_separators false separator ts
 
 -- no part is written yet, after these parts
-abbrev pub still_first : {A : Type 0} → Bool → List A → Bool
-still_first is_first [] = is_first
-still_first is_first (x ∷ xs) = false
+abbrev pub is_first_after : {A : Type 0} → Bool → List A → Bool
+is_first_after is_first [] = is_first
+is_first_after is_first (x ∷ xs) = false
 
 -- a borrowed argument, as a part of a field
 abbrev pub lent_item : Bor Item → RawItem
 lent_item item = item_tree item.now
 
-abbrev pub lent_entry : Bor ListEntry → RawMember
-lent_entry member = member_tree member.now
+abbrev pub lent_list_member : Bor ListEntry → RawMember
+lent_list_member member = member_tree member.now
 
-abbrev pub lent_member : Bor (List ℕ) × Bor ListEntry → List ℕ × RawMember
-lent_member member = (member.0.now, member_tree member.1.now)
+abbrev pub lent_dictionary_member : Bor (List ℕ) × Bor ListEntry → List ℕ × RawMember
+lent_dictionary_member member = (member.0.now, member_tree member.1.now)
 
 -- Each part is in its range or class, and no key occurs twice in parameters.
 abbrev pub AreItems : List (Bor Item) → Type 0
 AreItems = AllByRecursion (λ i. IsItem (lent_item i) × IsOrderedItem (lent_item i))
 
-abbrev pub AreEntries : List (Bor ListEntry) → Type 0
-AreEntries = AllByRecursion (λ m. IsMember (lent_entry m) × IsOrderedMember (lent_entry m))
+abbrev pub AreListMembers : List (Bor ListEntry) → Type 0
+AreListMembers = AllByRecursion (λ m. IsMember (lent_list_member m) × IsOrderedMember (lent_list_member m))
 
-abbrev pub AreMembers : List (Bor (List ℕ) × Bor ListEntry) → Type 0
-AreMembers = AllByRecursion (λ m. (IsTrue (is_key m.0.now) × IsMember (member_tree m.1.now))
+abbrev pub AreDictionaryMembers : List (Bor (List ℕ) × Bor ListEntry) → Type 0
+AreDictionaryMembers = AllByRecursion (λ m. (IsTrue (is_key m.0.now) × IsMember (member_tree m.1.now))
     × IsOrderedMember (member_tree m.1.now))
 
 -- their texts
 abbrev pub items_text : Bool → List (Bor Item) → List ℕ
-items_text is_first items = in_a_row is_first (codes " ") (map (λ i. item_text (lent_item i)) items)
+items_text is_first items = with_separators is_first (codes " ") (map (λ i. item_text (lent_item i)) items)
 
-abbrev pub entries_text : Bool → List (Bor ListEntry) → List ℕ
-entries_text is_first members = in_a_row is_first (codes ", ") (map (λ m. member_text (lent_entry m)) members)
+abbrev pub list_members_text : Bool → List (Bor ListEntry) → List ℕ
+list_members_text is_first members = with_separators is_first (codes ", ") (map (λ m. member_text (lent_list_member m)) members)
 
-abbrev pub members_text : Bool → List (Bor (List ℕ) × Bor ListEntry) → List ℕ
-members_text is_first members = in_a_row is_first (codes ", ") (map (λ m. dictionary_member_text (lent_member m)) members)
+abbrev pub dictionary_members_text : Bool → List (Bor (List ℕ) × Bor ListEntry) → List ℕ
+dictionary_members_text is_first members = with_separators is_first (codes ", ") (map (λ m. dictionary_member_text (lent_dictionary_member m)) members)

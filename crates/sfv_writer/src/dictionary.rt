@@ -1,16 +1,17 @@
 //! Serialization of dictionaries (RFC 9651, section 4.1.2).
 
 ghost use Rattle.std.specs.Prelude.{OnOk, IfOk, IfErr};
-ghost use Rattle.sfv_spec.specs.Values.{HasMember, dictionary_field};
+ghost use Rattle.sfv_spec.specs.Values.{HasMember};
+ghost use Rattle.sfv_spec.specs.declared.field_kind.FieldKind.TheVariants.{Dictionary as dictionary_field};
 ghost use Rattle.sfv_spec.specs.Canonical.{canonical};
 ghost use Rattle.sfv_spec.specs.Statements.{IsValue};
 ghost use Rattle.sfv_tree.specs.Trees.{dictionary_tree};
 ghost use Rattle.sfv_writer.specs.Written.{AsksForRoom, Appends, IsSerialized};
 
 use crate::element::serialize_each;
-use crate::serialize_error::only_memory;
-use sfv_bare::bare::Version;
+use crate::serialize_error::expect_out_of_memory;
 use sfv_base::error::OutOfMemory;
+use sfv_spec::version::Version;
 use sfv_tree::parsed::Dictionary;
 use std::alloc::{Allocator, Global};
 use std::string::String as StdString;
@@ -27,7 +28,7 @@ pub(crate) fn serialize_dictionary<A: Allocator>(
 {
     let written = serialize_each(Version::Rfc9651, true, ", ", dictionary.iter(), output);
     if let Err(error) = written {
-        return Err(only_memory(error));
+        return Err(expect_out_of_memory(error));
     }
     Ok(())
 }

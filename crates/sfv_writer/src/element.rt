@@ -9,19 +9,19 @@ ghost use Rattle.sfv_spec.specs.Classes.{is_key};
 ghost use Rattle.sfv_spec.specs.Values.{BareValue, IsItem, IsMember};
 ghost use Rattle.sfv_spec.specs.Ordered.{IsOrderedItem, IsOrderedMember};
 ghost use Rattle.sfv_spec.specs.Canonical.{item_text, member_text, dictionary_member_text};
-ghost use Rattle.sfv_spec.specs.Calls.{AllFit};
-ghost use Rattle.sfv_bare.specs.BareItems.{edition_of};
+ghost use Rattle.sfv_spec.specs.Values.{AllFit};
 ghost use Rattle.sfv_tree.specs.Trees.{member_tree};
-ghost use Rattle.sfv_writer.specs.Versions.{LooksAt, FailsAmong, LacksAmong, values_of_item, values_of_member};
-ghost use Rattle.sfv_writer.specs.Written.{AsksForRoom, Appends, Extends, in_a_row, still_first, lent_item, lent_entry, lent_member};
+ghost use Rattle.sfv_writer.specs.Versions.{ChecksVersion, FailsAmong, LacksAmong};
+ghost use Rattle.sfv_spec.specs.Values.{item_values, member_values};
+ghost use Rattle.sfv_writer.specs.Written.{AsksForRoom, Appends, Extends, with_separators, is_first_after, lent_item, lent_list_member, lent_dictionary_member};
 
 use crate::item::serialize_item;
-use crate::look::{look_at_item, look_at_member};
 use crate::member::{serialize_dictionary_member, serialize_member};
-use crate::output::{cut_back, serialize_separator};
+use crate::output::{serialize_separator, truncate_to};
 use crate::serialize_error::SerializeError;
-use sfv_bare::bare::Version;
+use crate::version_check::{check_item, check_member};
 use sfv_base::error::OutOfMemory;
+use sfv_spec::version::Version;
 use sfv_text::key::Key;
 use sfv_tree::parsed::{Item, ListEntry};
 use std::alloc::Allocator;
@@ -42,8 +42,8 @@ pub trait Element: Copy {
     /// # Errors
     ///
     /// Returns `SerializeError::Unsupported` with the kind of the first value that `version` lacks.
-    fn look(self, version: Version) -> Result<(), SerializeError>
-        ensures { LooksAt (edition_of version) (values self) result };
+    fn check(self, version: Version) -> Result<(), SerializeError>
+        ensures { ChecksVersion version (values self) result };
 
     /// Appends the text of the element.
     ///
@@ -61,10 +61,10 @@ impl<'m> Element for &'m Item {
 
     ghost is_valid = { λ i. IsItem (lent_item i) × IsOrderedItem (lent_item i) };
 
-    ghost values = { λ i. values_of_item (lent_item i) };
+    ghost values = { λ i. item_values (lent_item i) };
 
-    fn look(self, version: Version) -> Result<(), SerializeError> {
-        look_at_item(version, self)
+    fn check(self, version: Version) -> Result<(), SerializeError> {
+        check_item(version, self)
     }
 
     #[inline(always)]
@@ -74,14 +74,14 @@ impl<'m> Element for &'m Item {
 }
 
 impl<'m> Element for &'m ListEntry {
-    ghost text = { λ m. member_text (lent_entry m) };
+    ghost text = { λ m. member_text (lent_list_member m) };
 
-    ghost is_valid = { λ m. IsMember (lent_entry m) × IsOrderedMember (lent_entry m) };
+    ghost is_valid = { λ m. IsMember (lent_list_member m) × IsOrderedMember (lent_list_member m) };
 
-    ghost values = { λ m. values_of_member (lent_entry m) };
+    ghost values = { λ m. member_values (lent_list_member m) };
 
-    fn look(self, version: Version) -> Result<(), SerializeError> {
-        look_at_member(version, self)
+    fn check(self, version: Version) -> Result<(), SerializeError> {
+        check_member(version, self)
     }
 
     #[inline(always)]
@@ -91,15 +91,15 @@ impl<'m> Element for &'m ListEntry {
 }
 
 impl<'m> Element for (&'m Key, &'m ListEntry) {
-    ghost text = { λ m. dictionary_member_text (lent_member m) };
+    ghost text = { λ m. dictionary_member_text (lent_dictionary_member m) };
 
     ghost is_valid = { λ m. (IsTrue (is_key m.0.now) × IsMember (member_tree m.1.now))
         × IsOrderedMember (member_tree m.1.now) };
 
-    ghost values = { λ m. values_of_member (lent_member m).1 };
+    ghost values = { λ m. member_values (lent_dictionary_member m).1 };
 
-    fn look(self, version: Version) -> Result<(), SerializeError> {
-        look_at_member(version, self.1)
+    fn check(self, version: Version) -> Result<(), SerializeError> {
+        check_member(version, self.1)
     }
 
     #[inline(always)]
@@ -120,18 +120,18 @@ pub(crate) fn serialize_each<E: Element, A: Allocator, I: Iterator<Item = E> + D
     requires can { I.can_next elements }
     requires ends { IsFinite (I.remaining elements) }
     ensures text { IfOk result (λ none. (taken : List _) × Drains I.next_gives elements taken
-        × (string_bytes output.new ≡ string_bytes output.old ++ in_a_row is_first separator.now (map E.text taken))
-        × (none ≡ still_first is_first taken) × AllByRecursion E.is_valid taken
-        × AllFit (edition_of version) (flat_map E.values taken)) }
-    ensures failed { IfErr result (FailsAmong I.next_gives elements (flat_map E.values) (edition_of version)) }
-    ensures room { IfErr result (LacksAmong I.next_gives elements (flat_map E.values) (edition_of version) output.old
-        (λ taken. in_a_row is_first separator.now (map E.text taken))) }
+        × (string_bytes output.new ≡ string_bytes output.old ++ with_separators is_first separator.now (map E.text taken))
+        × (none ≡ is_first_after is_first taken) × AllByRecursion E.is_valid taken
+        × AllFit version (flat_map E.values taken)) }
+    ensures failed { IfErr result (FailsAmong I.next_gives elements (flat_map E.values) version) }
+    ensures room { IfErr result (LacksAmong I.next_gives elements (flat_map E.values) version output.old
+        (λ taken. with_separators is_first separator.now (map E.text taken))) }
     ensures stays { string_capacity output.old ≤ string_capacity output.new }
     ensures kept { OnErr result (Extends (string_bytes output.old) (string_bytes output.new)) }
 {
     let mut none = is_first;
     for element in elements {
-        element.look(version)?;
+        element.check(version)?;
         serialize_separator(none, separator, output)?;
         element.serialize(output)?;
         none = false;
@@ -155,12 +155,12 @@ pub fn append_each<E: Element, A: Allocator, I: Iterator<Item = E> + Drop>(
     requires can { I.can_next elements }
     requires ends { IsFinite (I.remaining elements) }
     ensures text { IfOk result (λ none. (taken : List _) × Drains I.next_gives elements taken
-        × (string_bytes output.new ≡ string_bytes output.old ++ in_a_row is_first separator.now (map E.text taken))
-        × (none ≡ still_first is_first taken) × AllByRecursion E.is_valid taken
-        × AllFit (edition_of version) (flat_map E.values taken)) }
-    ensures failed { IfErr result (FailsAmong I.next_gives elements (flat_map E.values) (edition_of version)) }
-    ensures room { IfErr result (LacksAmong I.next_gives elements (flat_map E.values) (edition_of version) output.old
-        (λ taken. in_a_row is_first separator.now (map E.text taken))) }
+        × (string_bytes output.new ≡ string_bytes output.old ++ with_separators is_first separator.now (map E.text taken))
+        × (none ≡ is_first_after is_first taken) × AllByRecursion E.is_valid taken
+        × AllFit version (flat_map E.values taken)) }
+    ensures failed { IfErr result (FailsAmong I.next_gives elements (flat_map E.values) version) }
+    ensures room { IfErr result (LacksAmong I.next_gives elements (flat_map E.values) version output.old
+        (λ taken. with_separators is_first separator.now (map E.text taken))) }
     ensures stays { string_capacity output.old ≤ string_capacity output.new }
     ensures kept { OnErr result (string_bytes output.new ≡ string_bytes output.old) }
 {
@@ -168,7 +168,7 @@ pub fn append_each<E: Element, A: Allocator, I: Iterator<Item = E> + Drop>(
     match serialize_each(version, is_first, separator, elements, output) {
         Ok(none) => Ok(none),
         Err(error) => {
-            cut_back(len, output);
+            truncate_to(len, output);
             Err(error)
         }
     }

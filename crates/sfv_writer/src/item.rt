@@ -4,13 +4,14 @@ ghost use Rattle.std.specs.Prelude.{◌≡◌, ◌∷◌, ◌++◌, List, true, 
 ghost use Rattle.std.specs.Prelude.{◌≤◌, string_capacity};
 ghost use Rattle.std.specs.Iterator.{IsFinite, Drains};
 ghost use Rattle.sfv_spec.specs.Classes.{is_key, is_token};
-ghost use Rattle.sfv_spec.specs.Values.{IsBareValue, AreParameters, boolean, item_field};
+ghost use Rattle.sfv_spec.specs.Values.{IsBareValue, AreParameters, boolean};
+ghost use Rattle.sfv_spec.specs.declared.field_kind.FieldKind.TheVariants.{Item as item_field};
 ghost use Rattle.sfv_spec.specs.Ordered.{keys, no_repeats};
 ghost use Rattle.sfv_spec.specs.Grammar.{boolean_text};
 ghost use Rattle.sfv_spec.specs.Canonical.{bare_text, value_text, parameters_text, item_text};
 ghost use Rattle.sfv_spec.specs.Statements.{IsValue};
-ghost use Rattle.sfv_spec.specs.Calls.{AllFit};
-ghost use Rattle.sfv_bare.specs.BareItems.{ref_value, bare_value, edition_of};
+ghost use Rattle.sfv_spec.specs.Values.{AllFit};
+ghost use Rattle.sfv_bare.specs.BareItems.{ref_value, bare_value};
 ghost use Rattle.sfv_text.specs.KeyText.{key_text};
 ghost use Rattle.sfv_text.specs.TokenText.{token_text};
 ghost use Rattle.sfv_tree.specs.Trees.{pairs_tree, item_tree};
@@ -19,13 +20,14 @@ ghost use Rattle.sfv_writer.specs.Versions.{FailsAmong, FailsFrom, LacksAmong, v
 
 use crate::byte_sequence::serialize_byte_sequence;
 use crate::display_string::serialize_display_string;
-use crate::look::look_at_bare_item;
 use crate::number::{serialize_date, serialize_decimal, serialize_integer};
-use crate::output::cut_back;
-use crate::serialize_error::{SerializeError, only_memory};
+use crate::output::truncate_to;
+use crate::serialize_error::{SerializeError, expect_out_of_memory};
 use crate::string::serialize_string;
-use sfv_bare::bare::{BareItem, GenericBareItem, RefBareItem, Version};
+use crate::version_check::check_bare_item;
+use sfv_bare::bare::{BareItem, GenericBareItem, RefBareItem};
 use sfv_base::error::OutOfMemory;
+use sfv_spec::version::Version;
 use sfv_text::key::Key;
 use sfv_text::key_ref::KeyRef;
 use sfv_text::token_ref::TokenRef;
@@ -163,15 +165,15 @@ pub(crate) fn serialize_parameters<
     requires ends { IsFinite (I.remaining params) }
     ensures text { OnOk result ((pairs : List _) × Drains I.next_gives params pairs
         × (string_bytes output.new ≡ string_bytes output.old ++ parameters_text (lent_pairs pairs))
-        × AreParameters (lent_pairs pairs) × AllFit (edition_of version) (values_of_pairs pairs)) }
-    ensures failed { IfErr result (FailsAmong I.next_gives params values_of_pairs (edition_of version)) }
-    ensures room { IfErr result (LacksAmong I.next_gives params values_of_pairs (edition_of version) output.old
+        × AreParameters (lent_pairs pairs) × AllFit version (values_of_pairs pairs)) }
+    ensures failed { IfErr result (FailsAmong I.next_gives params values_of_pairs version) }
+    ensures room { IfErr result (LacksAmong I.next_gives params values_of_pairs version output.old
         (λ taken. parameters_text (lent_pairs taken))) }
     ensures stays { string_capacity output.old ≤ string_capacity output.new }
     ensures grows { OnErr result (Extends (string_bytes output.old) (string_bytes output.new)) }
 {
     for (key, value) in params {
-        look_at_bare_item(version, value.as_ref_item())?;
+        check_bare_item(version, value.as_ref_item())?;
         serialize_parameter(key, value, output)?;
     }
     Ok(())
@@ -189,16 +191,16 @@ fn serialize_first_and_rest<'k, A: Allocator, I: Iterator<Item = (&'k Key, &'k B
     requires ends { IsFinite (I.remaining rest) }
     ensures text { OnOk result ((pairs : List _) × Drains I.next_gives rest pairs
         × (string_bytes output.new ≡ string_bytes output.old ++ parameters_text (lent_pairs (first.entry ∷ pairs)))
-        × AreParameters (lent_pairs (first.entry ∷ pairs)) × AllFit (edition_of version) (values_of_pairs (first.entry ∷ pairs))) }
+        × AreParameters (lent_pairs (first.entry ∷ pairs)) × AllFit version (values_of_pairs (first.entry ∷ pairs))) }
     ensures failed { IfErr result
-        (FailsFrom I.next_gives rest (λ taken. values_of_pairs (first.entry ∷ taken)) (edition_of version)) }
+        (FailsFrom I.next_gives rest (λ taken. values_of_pairs (first.entry ∷ taken)) version) }
     ensures room { IfErr result (LacksAmong I.next_gives rest (λ taken. values_of_pairs (first.entry ∷ taken))
-        (edition_of version) output.old (λ taken. parameters_text (lent_pairs (first.entry ∷ taken)))) }
+        version output.old (λ taken. parameters_text (lent_pairs (first.entry ∷ taken)))) }
     ensures stays { string_capacity output.old ≤ string_capacity output.new }
     ensures grows { OnErr result (Extends (string_bytes output.old) (string_bytes output.new)) }
 {
     let (key, value) = first;
-    look_at_bare_item(version, value.as_ref_item())?;
+    check_bare_item(version, value.as_ref_item())?;
     serialize_parameter(key, value, output)?;
     serialize_parameters(version, rest, output)
 }
@@ -216,17 +218,17 @@ fn append_first_and_rest<'k, A: Allocator, I: Iterator<Item = (&'k Key, &'k Bare
     requires ends { IsFinite (I.remaining rest) }
     ensures text { OnOk result ((pairs : List _) × Drains I.next_gives rest pairs
         × (string_bytes output.new ≡ string_bytes output.old ++ parameters_text (lent_pairs (first.entry ∷ pairs)))
-        × AreParameters (lent_pairs (first.entry ∷ pairs)) × AllFit (edition_of version) (values_of_pairs (first.entry ∷ pairs))) }
+        × AreParameters (lent_pairs (first.entry ∷ pairs)) × AllFit version (values_of_pairs (first.entry ∷ pairs))) }
     ensures failed { IfErr result
-        (FailsFrom I.next_gives rest (λ taken. values_of_pairs (first.entry ∷ taken)) (edition_of version)) }
+        (FailsFrom I.next_gives rest (λ taken. values_of_pairs (first.entry ∷ taken)) version) }
     ensures room { IfErr result (LacksAmong I.next_gives rest (λ taken. values_of_pairs (first.entry ∷ taken))
-        (edition_of version) output.old (λ taken. parameters_text (lent_pairs (first.entry ∷ taken)))) }
+        version output.old (λ taken. parameters_text (lent_pairs (first.entry ∷ taken)))) }
     ensures stays { string_capacity output.old ≤ string_capacity output.new }
     ensures kept { OnErr result (string_bytes output.new ≡ string_bytes output.old) }
 {
     let len = output.len();
     if let Err(error) = serialize_first_and_rest(version, first, rest, output) {
-        cut_back(len, output);
+        truncate_to(len, output);
         return Err(error);
     }
     Ok(())
@@ -249,9 +251,9 @@ pub fn append_parameters<'k, A: Allocator, I: Iterator<Item = (&'k Key, &'k Bare
     requires ends { IsFinite (I.remaining params) }
     ensures text { OnOk result ((pairs : List _) × Drains I.next_gives params pairs
         × (string_bytes output.new ≡ string_bytes output.old ++ parameters_text (lent_pairs pairs))
-        × AreParameters (lent_pairs pairs) × AllFit (edition_of version) (values_of_pairs pairs)) }
-    ensures failed { IfErr result (FailsAmong I.next_gives params values_of_pairs (edition_of version)) }
-    ensures room { IfErr result (LacksAmong I.next_gives params values_of_pairs (edition_of version) output.old
+        × AreParameters (lent_pairs pairs) × AllFit version (values_of_pairs pairs)) }
+    ensures failed { IfErr result (FailsAmong I.next_gives params values_of_pairs version) }
+    ensures room { IfErr result (LacksAmong I.next_gives params values_of_pairs version output.old
         (λ taken. parameters_text (lent_pairs taken))) }
     ensures stays { string_capacity output.old ≤ string_capacity output.new }
     ensures kept { OnErr result (string_bytes output.new ≡ string_bytes output.old) }
@@ -278,7 +280,7 @@ pub(crate) fn serialize_all_parameters<A: Allocator>(
         return Ok(());
     }
     if let Err(error) = serialize_parameters(Version::Rfc9651, params.iter(), output) {
-        return Err(only_memory(error));
+        return Err(expect_out_of_memory(error));
     }
     Ok(())
 }

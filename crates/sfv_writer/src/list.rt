@@ -1,16 +1,17 @@
 //! Serialization of lists (RFC 9651, section 4.1.1).
 
 ghost use Rattle.std.specs.Prelude.{OnOk, IfOk, IfErr};
-ghost use Rattle.sfv_spec.specs.Values.{HasMember, list_field};
+ghost use Rattle.sfv_spec.specs.Values.{HasMember};
+ghost use Rattle.sfv_spec.specs.declared.field_kind.FieldKind.TheVariants.{List as list_field};
 ghost use Rattle.sfv_spec.specs.Canonical.{canonical};
 ghost use Rattle.sfv_spec.specs.Statements.{IsValue};
 ghost use Rattle.sfv_tree.specs.Trees.{list_tree};
 ghost use Rattle.sfv_writer.specs.Written.{AsksForRoom, Appends, IsSerialized};
 
 use crate::element::serialize_each;
-use crate::serialize_error::only_memory;
-use sfv_bare::bare::Version;
+use crate::serialize_error::expect_out_of_memory;
 use sfv_base::error::OutOfMemory;
+use sfv_spec::version::Version;
 use sfv_tree::parsed::List;
 use std::alloc::{Allocator, Global};
 use std::string::String as StdString;
@@ -24,7 +25,7 @@ pub(crate) fn serialize_list<A: Allocator>(
     ensures value { OnOk result (IsValue list_field (list_tree list.now.items)) }
 {
     if let Err(error) = serialize_each(Version::Rfc9651, true, ", ", list.iter(), output) {
-        return Err(only_memory(error));
+        return Err(expect_out_of_memory(error));
     }
     Ok(())
 }

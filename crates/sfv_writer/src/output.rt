@@ -1,15 +1,15 @@
 //! Separators, and truncation of text that was just appended.
 
 ghost use Rattle.std.specs.Prelude.{◌≡◌, string_bytes, string_capacity};
-ghost use Rattle.sfv_writer.specs.Written.{AsksForRoom, Appends, IsCutBack, lead};
+ghost use Rattle.sfv_writer.specs.Written.{AsksForRoom, Appends, IsTruncatedTo, separator_before};
 
 use sfv_base::error::OutOfMemory;
 use std::alloc::Allocator;
 use std::string::String as StdString;
 
 /// Truncates `output` to `len` bytes, an earlier length of the same text.
-pub fn cut_back<A: Allocator>(len: usize, output: &mut StdString<A>)
-    ensures text { IsCutBack len (string_bytes output.old) (string_bytes output.new) }
+pub fn truncate_to<A: Allocator>(len: usize, output: &mut StdString<A>)
+    ensures text { IsTruncatedTo len (string_bytes output.old) (string_bytes output.new) }
     ensures room { string_capacity output.new ≡ string_capacity output.old }
 {
     // `len` is always a character boundary. A check here is cheaper than a proof in every caller.
@@ -29,8 +29,8 @@ pub fn serialize_separator<A: Allocator>(
     separator: &str,
     output: &mut StdString<A>,
 ) -> Result<(), OutOfMemory>
-    ensures text { Appends output.old output.new (lead is_first separator.now) result }
-    ensures room { AsksForRoom output.old output.new (lead is_first separator.now) result }
+    ensures text { Appends output.old output.new (separator_before is_first separator.now) result }
+    ensures room { AsksForRoom output.old output.new (separator_before is_first separator.now) result }
 {
     if is_first {
         return Ok(());

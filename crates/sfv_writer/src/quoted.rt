@@ -42,16 +42,16 @@ pub(super) fn serialize_inside<Q: Escaping, A: Allocator>(
     ensures room { AsksForRoom output.old output.new (flat_map (piece_of Q.display) bytes.now) result }
 {
     let mut rest = bytes;
-    while let Some((byte, behind)) = rest.split_first() {
+    while let Some((byte, after)) = rest.split_first() {
         // Between neighbouring escapes the run is empty. To split off empty runs takes three times as long.
         if Q::is_plain(*byte) {
-            let (run, behind) = Q::split_plain(rest);
+            let (run, after) = Q::split_plain(rest);
             // SAFETY: plain bytes are ASCII.
             output.push_str(unsafe { std::str::from_utf8_unchecked(run) })?;
-            rest = behind;
+            rest = after;
         } else {
             Q::push_escape(output, *byte)?;
-            rest = behind;
+            rest = after;
         }
     }
     Ok(())

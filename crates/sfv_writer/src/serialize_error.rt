@@ -41,7 +41,7 @@ impl From<OutOfMemory> for SerializeError {
 }
 
 /// Converts an error of serialization under RFC 9651. That version has every value, so only memory can run out.
-pub fn only_memory(error: SerializeError) -> OutOfMemory
+pub fn expect_out_of_memory(error: SerializeError) -> OutOfMemory
     requires { error ≡ errors.OutOfMemory }
 {
     match error {

@@ -6,7 +6,9 @@ use Rattle.std.specs.Prelude.{bytes_eq, fold, Option, Some, None, option_map, un
 use Rattle.std.proofs.lemmas.List.{append-nil, map-append}
 use Rattle.std.proofs.lemmas.List.Sums.{fold-append}
 use Rattle.indexmap.specs.IndexMap.{IndexMap}
-use Rattle.sfv_spec.specs.Values.{Edition, dictionary_field, RawMember}
+use Rattle.sfv_spec.specs.Values.{RawMember}
+use Rattle.sfv_spec.specs.declared.field_kind.FieldKind.TheVariants.{Dictionary as dictionary_field}
+use Rattle.sfv_spec.specs.declared.version.Version.{Version}
 use Rattle.sfv_spec.specs.Grammar.{IsFieldText}
 use Rattle.sfv_spec.specs.Events.{TreeEvent, member_events, events}
 use Rattle.sfv_spec.specs.Ordered.{keys, last_of, without, collapse, ordered, ordered_member, no_repeats, IsOrdered}
@@ -17,10 +19,10 @@ use Rattle.sfv_spec.proofs.Last.{over, last_of-over}
 use Rattle.sfv_spec.proofs.Laws.{ordered_same}
 use Rattle.sfv_spec.proofs.Runs.{runs_fold}
 use Rattle.sfv_tree.specs.Trees.{dictionary_tree}
-use Rattle.sfv_visitor.specs.Builders.{MemberPlace, begun, item_head, item_parameters, inner_items, inner_head}
-use Rattle.sfv_visitor.specs.Builders.{inner_parameters, list_parameters, ended, member_step, DictionaryPlace}
+use Rattle.sfv_visitor.specs.Builders.{MemberState, begun, item_head, item_parameters, inner_items, inner_head}
+use Rattle.sfv_visitor.specs.Builders.{inner_parameters, list_parameters, ended, member_step, DictionaryState}
 use Rattle.sfv_visitor.specs.Builders.{between_pairs, within_pair, settle_pair, dictionary_step, dictionary_members}
-use Rattle.sfv_visitor.specs.Builders.{dictionary_place}
+use Rattle.sfv_visitor.specs.Builders.{dictionary_state}
 use Rattle.sfv_tree.specs.declared.parsed.ListEntry.{ListEntry}
 use Rattle.sfv_visitor.specs.declared.visitor.dictionary_builder.DictionaryBuilder.{DictionaryBuilder}
 use Rattle.sfv.specs.Parsers.{IsAnswerOf}
@@ -63,16 +65,16 @@ ordered_pairs ms = map (λ m. (m.0, ordered_member m.1)) ms
 
 -- what the builder does with an event, and with the end
 abbrev Places : DictionaryBuilder → TreeEvent → DictionaryBuilder → Type 0
-Places s e after = dictionary_place after ≡ dictionary_step (dictionary_place s) e
+Places s e after = dictionary_state after ≡ dictionary_step (dictionary_state s) e
 
 abbrev Steps : DictionaryBuilder → TreeEvent → DictionaryBuilder → Type 0
-Steps s e after = (dictionary_place after ≡ dictionary_step (dictionary_place s) e) × KeepsDictionarySeed s after
+Steps s e after = (dictionary_state after ≡ dictionary_step (dictionary_state s) e) × KeepsDictionarySeed s after
 
 abbrev Ends : DictionaryBuilder → IndexMap (List ℕ) ListEntry HashSeed → Type 0
-Ends s dictionary = (dictionary_tree dictionary.entries ≡ dictionary_members (dictionary_place s))
+Ends s dictionary = (dictionary_tree dictionary.entries ≡ dictionary_members (dictionary_state s))
     × DictionaryAnswersSeeded s dictionary
 
-within_each : (ms : List (List ℕ × RawMember)) (key : List ℕ) (p : MemberPlace) (e : TreeEvent) → IsOpen p
+within_each : (ms : List (List ℕ × RawMember)) (key : List ℕ) (p : MemberState) (e : TreeEvent) → IsOpen p
     → dictionary_step (settle_pair ms key p) e ≡ settle_pair ms key (member_step p e)
 within_each ms key begun e h = refl
 within_each ms key item_head e h = refl
@@ -97,20 +99,20 @@ pairs_built : (ms raw : List (List ℕ × RawMember))
 pairs_built ms [] = ap (λ (qs : List (List ℕ × RawMember)). between_pairs (collapse qs)) (sym (append-nil ms))
 pairs_built ms (m ∷ raw) =
     fold-append dictionary_step (within_pair (collapse ms) m.0 begun) (member_events m.1) (events dictionary_field raw)
-    ∙ ap (λ (p : DictionaryPlace). fold dictionary_step p (events dictionary_field raw)) (pair_built ms m.0 m.1)
+    ∙ ap (λ (p : DictionaryState). fold dictionary_step p (events dictionary_field raw)) (pair_built ms m.0 m.1)
     ∙ pairs_built (ms ++ (m.0, ordered_member m.1) ∷ []) raw
     ∙ ap (λ (qs : List (List ℕ × RawMember)). between_pairs (collapse qs))
     (append_assoc ms ((m.0, ordered_member m.1) ∷ []) (ordered_pairs raw))
 
 -- after all events the pairs are entered in turn, each member ordered
 pub dictionary_built : (held raw : List (List ℕ × RawMember)) (s last : DictionaryBuilder)
-    → no_repeats (keys held) ≡ true → dictionary_place s ≡ between_pairs held
+    → no_repeats (keys held) ≡ true → dictionary_state s ≡ between_pairs held
     → RunsTo Steps s (events dictionary_field raw) last
-    → dictionary_place last ≡ between_pairs (collapse (held ++ ordered_pairs raw))
+    → dictionary_state last ≡ between_pairs (collapse (held ++ ordered_pairs raw))
 dictionary_built held raw s last distinct here run =
-    runs_fold dictionary_place dictionary_step (events dictionary_field raw) s last
+    runs_fold dictionary_state dictionary_step (events dictionary_field raw) s last
     (runs_weaker Steps Places (λ s e t k. k.0) (events dictionary_field raw) s last run)
-    ∙ ap (λ (p : DictionaryPlace). fold dictionary_step p (events dictionary_field raw)) (here
+    ∙ ap (λ (p : DictionaryState). fold dictionary_step p (events dictionary_field raw)) (here
     ∙ ap between_pairs (sym (collapse-distinct held distinct)))
     ∙ pairs_built held raw
 
@@ -125,19 +127,19 @@ joined held raw h =
     ∙ collapse-over ordered_member (held ++ raw)
 
 -- what was built from the pairs of earlier lines: the pairs of the only tree are entered into them
-pub built_dictionary_behind : (edition : Edition) (t : List ℕ) (held : List (List ℕ
+pub built_dictionary_after : (version : Version) (t : List ℕ) (held : List (List ℕ
     × RawMember)) (from : DictionaryBuilder) (dictionary : IndexMap (List ℕ) ListEntry HashSeed)
-    → no_repeats (keys held) ≡ true → dictionary_place from ≡ between_pairs held
-    → IsAnswerOf Steps Ends edition dictionary_field t from dictionary
-    → (raw : List (List ℕ × RawMember)) × IsFieldText edition dictionary_field raw t
-    × ((other : List (List ℕ × RawMember)) → IsFieldText edition dictionary_field other t → other ≡ raw)
+    → no_repeats (keys held) ≡ true → dictionary_state from ≡ between_pairs held
+    → IsAnswerOf Steps Ends version dictionary_field t from dictionary
+    → (raw : List (List ℕ × RawMember)) × IsFieldText version dictionary_field raw t
+    × ((other : List (List ℕ × RawMember)) → IsFieldText version dictionary_field other t → other ≡ raw)
     × (dictionary_tree dictionary.entries ≡ collapse (held ++ ordered_pairs raw))
     × (IsOrdered dictionary_field held → dictionary_tree dictionary.entries
     ≡ ordered dictionary_field (held ++ raw))
-built_dictionary_behind edition t held from dictionary distinct here h =
-    let whole : dictionary_place h.visited.last ≡ between_pairs (collapse (held ++ ordered_pairs h.raw)) =
-    dictionary_built held h.raw from h.visited.last distinct here h.visited.taken in
-    let there : dictionary_tree dictionary.entries ≡ collapse (held ++ ordered_pairs h.raw) = h.visited.answered.0
+built_dictionary_after version t held from dictionary distinct here h =
+    let whole : dictionary_state h.holds.last ≡ between_pairs (collapse (held ++ ordered_pairs h.raw)) =
+    dictionary_built held h.raw from h.holds.last distinct here h.holds.taken in
+    let there : dictionary_tree dictionary.entries ≡ collapse (held ++ ordered_pairs h.raw) = h.holds.answered.0
     ∙ ap dictionary_members whole in (
       h.raw,
       h.accepted,
@@ -148,18 +150,18 @@ built_dictionary_behind edition t held from dictionary distinct here h =
     )
 
 -- what was built is the ordered dictionary of the only tree
-pub built_dictionary : (edition : Edition) (t : List ℕ) (from : DictionaryBuilder)
-    (dictionary : IndexMap (List ℕ) ListEntry HashSeed) → dictionary_place from ≡ between_pairs []
-    → IsAnswerOf Steps Ends edition dictionary_field t from dictionary
-    → IsParsedAs edition dictionary_field t (dictionary_tree dictionary.entries)
-built_dictionary edition t from dictionary here h =
-    let whole = built_dictionary_behind edition t [] from dictionary refl here h in
-    record { raw = whole.0; accepted = whole.1; only = whole.2; ordered_value = whole.4 (refl, tt) }
+pub built_dictionary : (version : Version) (t : List ℕ) (from : DictionaryBuilder)
+    (dictionary : IndexMap (List ℕ) ListEntry HashSeed) → dictionary_state from ≡ between_pairs []
+    → IsAnswerOf Steps Ends version dictionary_field t from dictionary
+    → IsParsedAs version dictionary_field t (dictionary_tree dictionary.entries)
+built_dictionary version t from dictionary here h =
+    let whole = built_dictionary_after version t [] from dictionary refl here h in
+    record { raw = whole.0; accepted = whole.1; only = whole.2; holds = whole.4 (refl, tt) }
 
 -- what was built is under the builder's seed
-pub dictionary_seeded : (edition : Edition) (t : List ℕ) (from : DictionaryBuilder)
+pub dictionary_seeded : (version : Version) (t : List ℕ) (from : DictionaryBuilder)
     (dictionary : IndexMap (List ℕ) ListEntry HashSeed) (seed : HashSeed) → dictionary_seed from ≡ seed
-    → IsDictionarySeeded from → IsAnswerOf Steps Ends edition dictionary_field t from dictionary
+    → IsDictionarySeeded from → IsAnswerOf Steps Ends version dictionary_field t from dictionary
     → DictionaryHasSeed seed dictionary
-dictionary_seeded edition t from dictionary seed same start h = answer_seeded dictionary_seed IsDictionarySeeded Steps
-    (λ s e t k. k.1) Ends DictionaryHasSeed (λ s out k. k.1) edition dictionary_field t from dictionary seed same start h
+dictionary_seeded version t from dictionary seed same start h = answer_seeded dictionary_seed IsDictionarySeeded Steps
+    (λ s e t k. k.1) Ends DictionaryHasSeed (λ s out k. k.1) version dictionary_field t from dictionary seed same start h

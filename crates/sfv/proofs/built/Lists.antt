@@ -5,7 +5,9 @@ use Rattle.std.specs.declared.alloc.Global.{Global}
 use Rattle.std.specs.declared.vec.Vec.{Vec}
 use Rattle.std.proofs.lemmas.List.{append-nil}
 use Rattle.std.proofs.lemmas.List.Sums.{fold-append}
-use Rattle.sfv_spec.specs.Values.{Edition, list_field, RawMember}
+use Rattle.sfv_spec.specs.Values.{RawMember}
+use Rattle.sfv_spec.specs.declared.field_kind.FieldKind.TheVariants.{List as list_field}
+use Rattle.sfv_spec.specs.declared.version.Version.{Version}
 use Rattle.sfv_spec.specs.Grammar.{IsFieldText}
 use Rattle.sfv_spec.specs.Events.{TreeEvent, member_events, events}
 use Rattle.sfv_spec.specs.Ordered.{ordered, ordered_member}
@@ -13,9 +15,9 @@ use Rattle.sfv_spec.specs.Statements.{IsParsedAs}
 use Rattle.sfv_spec.specs.Visiting.{RunsTo}
 use Rattle.sfv_spec.proofs.Runs.{runs_fold}
 use Rattle.sfv_tree.specs.Trees.{list_tree}
-use Rattle.sfv_visitor.specs.Builders.{MemberPlace, begun, item_head, item_parameters, inner_items, inner_head}
-use Rattle.sfv_visitor.specs.Builders.{inner_parameters, list_parameters, ended, member_step, ListPlace, between, within}
-use Rattle.sfv_visitor.specs.Builders.{settle, list_step, list_members, list_place}
+use Rattle.sfv_visitor.specs.Builders.{MemberState, begun, item_head, item_parameters, inner_items, inner_head}
+use Rattle.sfv_visitor.specs.Builders.{inner_parameters, list_parameters, ended, member_step, ListState, between, within}
+use Rattle.sfv_visitor.specs.Builders.{settle, list_step, list_members, list_state}
 use Rattle.sfv_tree.specs.declared.parsed.ListEntry.{ListEntry}
 use Rattle.sfv_visitor.specs.declared.visitor.list_builder.ListBuilder.{ListBuilder}
 use Rattle.sfv.specs.Parsers.{IsAnswerOf}
@@ -27,15 +29,15 @@ use Rattle.sfv.proofs.built.Members.{IsOpen, member_built}
 
 -- what the builder does with an event, and with the end
 abbrev Places : ListBuilder → TreeEvent → ListBuilder → Type 0
-Places s e after = list_place after ≡ list_step (list_place s) e
+Places s e after = list_state after ≡ list_step (list_state s) e
 
 abbrev Steps : ListBuilder → TreeEvent → ListBuilder → Type 0
-Steps s e after = (list_place after ≡ list_step (list_place s) e) × KeepsListSeed s after
+Steps s e after = (list_state after ≡ list_step (list_state s) e) × KeepsListSeed s after
 
 abbrev Ends : ListBuilder → Vec ListEntry Global → Type 0
-Ends s list = (list_tree list.items ≡ list_members (list_place s)) × ListAnswersSeeded s list.items
+Ends s list = (list_tree list.items ≡ list_members (list_state s)) × ListAnswersSeeded s list.items
 
-within_each : (ms : List RawMember) (p : MemberPlace) (e : TreeEvent) → IsOpen p
+within_each : (ms : List RawMember) (p : MemberState) (e : TreeEvent) → IsOpen p
     → list_step (settle ms p) e ≡ settle ms (member_step p e)
 within_each ms begun e h = refl
 within_each ms item_head e h = refl
@@ -51,43 +53,43 @@ members_built : (ms raw : List RawMember) → fold list_step (between ms) (event
 members_built ms [] = ap between (sym (append-nil ms))
 members_built ms (m ∷ raw) =
     fold-append list_step (within ms begun) (member_events m) (events list_field raw)
-    ∙ ap (λ (p : ListPlace). fold list_step p (events list_field raw))
+    ∙ ap (λ (p : ListState). fold list_step p (events list_field raw))
     (member_built list_step (settle ms) (within_each ms) m)
     ∙ members_built (ms ++ ordered_member m ∷ []) raw
     ∙ ap between (append_assoc ms (ordered_member m ∷ []) (map ordered_member raw))
 
 -- after all events the members stand last, each of them ordered
-pub list_built : (ms raw : List RawMember) (s last : ListBuilder) → list_place s ≡ between ms
-    → RunsTo Steps s (events list_field raw) last → list_place last ≡ between (ms ++ ordered list_field raw)
+pub list_built : (ms raw : List RawMember) (s last : ListBuilder) → list_state s ≡ between ms
+    → RunsTo Steps s (events list_field raw) last → list_state last ≡ between (ms ++ ordered list_field raw)
 list_built ms raw s last here run =
-    runs_fold list_place list_step (events list_field raw) s last
+    runs_fold list_state list_step (events list_field raw) s last
     (runs_weaker Steps Places (λ s e t k. k.0) (events list_field raw) s last run)
-    ∙ ap (λ (p : ListPlace). fold list_step p (events list_field raw)) here
+    ∙ ap (λ (p : ListState). fold list_step p (events list_field raw)) here
     ∙ members_built ms raw
 
 -- what was built after the members of earlier lines is those, and then the ordered members of the only tree
-pub built_list_behind : (edition : Edition) (t : List ℕ) (held : List RawMember) (from : ListBuilder)
-    (list : Vec ListEntry Global) → list_place from ≡ between held
-    → IsAnswerOf Steps Ends edition list_field t from list
-    → (raw : List RawMember) × IsFieldText edition list_field raw t
-    × ((other : List RawMember) → IsFieldText edition list_field other t → other ≡ raw)
+pub built_list_after : (version : Version) (t : List ℕ) (held : List RawMember) (from : ListBuilder)
+    (list : Vec ListEntry Global) → list_state from ≡ between held
+    → IsAnswerOf Steps Ends version list_field t from list
+    → (raw : List RawMember) × IsFieldText version list_field raw t
+    × ((other : List RawMember) → IsFieldText version list_field other t → other ≡ raw)
     × (list_tree list.items ≡ held ++ ordered list_field raw)
-built_list_behind edition t held from list here h =
-    let whole : list_place h.visited.last ≡ between (held ++ ordered list_field h.raw) =
-    list_built held h.raw from h.visited.last here h.visited.taken in
-    (h.raw, h.accepted, h.only, h.visited.answered.0 ∙ ap list_members whole)
+built_list_after version t held from list here h =
+    let whole : list_state h.holds.last ≡ between (held ++ ordered list_field h.raw) =
+    list_built held h.raw from h.holds.last here h.holds.taken in
+    (h.raw, h.accepted, h.only, h.holds.answered.0 ∙ ap list_members whole)
 
 -- what was built is the ordered list of the only tree
-pub built_list : (edition : Edition) (t : List ℕ) (from : ListBuilder) (list : Vec ListEntry Global)
-    → list_place from ≡ between [] → IsAnswerOf Steps Ends edition list_field t from list
-    → IsParsedAs edition list_field t (list_tree list.items)
-built_list edition t from list here h =
-    let whole = built_list_behind edition t [] from list here h in
-    record { raw = whole.0; accepted = whole.1; only = whole.2; ordered_value = whole.3 }
+pub built_list : (version : Version) (t : List ℕ) (from : ListBuilder) (list : Vec ListEntry Global)
+    → list_state from ≡ between [] → IsAnswerOf Steps Ends version list_field t from list
+    → IsParsedAs version list_field t (list_tree list.items)
+built_list version t from list here h =
+    let whole = built_list_after version t [] from list here h in
+    record { raw = whole.0; accepted = whole.1; only = whole.2; holds = whole.3 }
 
 -- what was built is under the builder's seed
-pub list_seeded : (edition : Edition) (t : List ℕ) (from : ListBuilder) (list : Vec ListEntry Global) (seed : HashSeed)
-    → list_seed from ≡ seed → IsListSeeded from → IsAnswerOf Steps Ends edition list_field t from list
+pub list_seeded : (version : Version) (t : List ℕ) (from : ListBuilder) (list : Vec ListEntry Global) (seed : HashSeed)
+    → list_seed from ≡ seed → IsListSeeded from → IsAnswerOf Steps Ends version list_field t from list
     → ListHasSeed seed list.items
-list_seeded edition t from list seed same start h = answer_seeded list_seed IsListSeeded Steps (λ s e t k. k.1) Ends
-    (λ seed (list : Vec ListEntry Global). ListHasSeed seed list.items) (λ s out k. k.1) edition list_field t from list seed same start h
+list_seeded version t from list seed same start h = answer_seeded list_seed IsListSeeded Steps (λ s e t k. k.1) Ends
+    (λ seed (list : Vec ListEntry Global). ListHasSeed seed list.items) (λ s out k. k.1) version list_field t from list seed same start h

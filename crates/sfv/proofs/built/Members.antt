@@ -8,26 +8,26 @@ use Rattle.sfv_spec.specs.Events.{TreeEvent, begins_item, parameter, parameters_
 use Rattle.sfv_spec.specs.Events.{item_events, member_events}
 use Rattle.sfv_spec.specs.Ordered.{collapse, ordered_item, ordered_member}
 use Rattle.sfv_spec.proofs.Collapse.{collapse-push}
-use Rattle.sfv_visitor.specs.Builders.{MemberPlace, begun, item_head, item_parameters, inner_items, inner_head}
+use Rattle.sfv_visitor.specs.Builders.{MemberState, begun, item_head, item_parameters, inner_items, inner_head}
 use Rattle.sfv_visitor.specs.Builders.{inner_parameters, list_parameters, ended, adds, member_step}
 use Rattle.sfv.proofs.built.Items.{insert_entry-entered, with_bare}
 
 -- a member that has not ended
-abbrev pub IsOpen : MemberPlace → Type 0
+abbrev pub IsOpen : MemberState → Type 0
 IsOpen (ended m) = ⊥
 IsOpen p = ⊤
 
 -- the events lead from the one place to the other, and before none of them the member has ended
-abbrev pub Goes : MemberPlace → List TreeEvent → MemberPlace → Type 0
+abbrev pub Goes : MemberState → List TreeEvent → MemberState → Type 0
 Goes p [] q = p ≡ q
 Goes p (e ∷ es) q = IsOpen p × Goes (member_step p e) es q
 
-goes_on : (es fs : List TreeEvent) (p q r : MemberPlace) → Goes p es q → Goes q fs r → Goes p (es ++ fs) r
-goes_on [] fs p q r h k = subst (λ (s : MemberPlace). Goes s fs r) (sym h) k
+goes_on : (es fs : List TreeEvent) (p q r : MemberState) → Goes p es q → Goes q fs r → Goes p (es ++ fs) r
+goes_on [] fs p q r h k = subst (λ (s : MemberState). Goes s fs r) (sym h) k
 goes_on (e ∷ es) fs p q r h k = (h.0, goes_on es fs (member_step p e) q r h.1 k)
 
 -- parameters, wherever they stand in a member
-module _ (place after : RawParameters → MemberPlace) (opened : (ps : RawParameters) → IsOpen (place ps))
+module _ (place after : RawParameters → MemberState) (opened : (ps : RawParameters) → IsOpen (place ps))
     (enters : (ps : RawParameters) (k : List ℕ) (v : BareValue)
     → member_step (place ps) (parameter k v) ≡ place (insert_entry bytes_eq ps k v))
     (closes : (ps : RawParameters) → member_step (place ps) parameters_end ≡ after ps) where
@@ -47,7 +47,7 @@ module _ (place after : RawParameters → MemberPlace) (opened : (ps : RawParame
       subst (λ (qs : RawParameters). Goes (place (collapse (front ++ p ∷ []))) (parameters_events ps)
       (after (collapse qs))) (append_assoc front (p ∷ []) ps) (parameters_go ps (front ++ p ∷ [])) in (
         opened (collapse front),
-        subst (λ (s : MemberPlace).
+        subst (λ (s : MemberState).
             Goes s (parameters_events ps) (after (collapse (front ++ p ∷ ps)))) (sym next) rest,
       )
 
@@ -90,14 +90,14 @@ inner_list_goes : (l : RawInnerList) → Goes begun (member_events (inner_list l
 unfolding collapse
 inner_list_goes l =
     let xs = map ordered_item l.items in
-    let behind : Goes (list_parameters (list_of xs [])) (parameters_events l.parameters)
+    let past : Goes (list_parameters (list_of xs [])) (parameters_events l.parameters)
     (ended (inner_list (list_of xs (collapse l.parameters)))) =
     parameters_go (λ ps. list_parameters (list_of xs ps)) (λ ps. ended (inner_list (list_of xs ps))) (λ ps. tt)
     (λ ps k v. refl) (λ ps. refl) l.parameters [] in (
       tt,
       goes_on (items_events l.items) (inner_list_end ∷ parameters_events l.parameters) (inner_items (list_of [] []))
           (inner_items (list_of xs [])) (ended (inner_list (list_of xs (collapse l.parameters))))
-          (inner_items_go l.items []) (tt, behind),
+          (inner_items_go l.items []) (tt, past),
     )
 
 pub member_goes : (m : RawMember) → Goes begun (member_events m) (ended (ordered_member m))
@@ -105,9 +105,9 @@ member_goes (item i) = (tt, item_goes i)
 member_goes (inner_list l) = inner_list_goes l
 
 -- a builder whose place holds that of a member goes with it
-module _ {P : Type 0} (step : P → TreeEvent → P) (settled : MemberPlace → P) (each : (p : MemberPlace) (e : TreeEvent)
+module _ {P : Type 0} (step : P → TreeEvent → P) (settled : MemberState → P) (each : (p : MemberState) (e : TreeEvent)
     → IsOpen p → step (settled p) e ≡ settled (member_step p e)) where
-  goes_along : (es : List TreeEvent) (p q : MemberPlace) → Goes p es q → fold step (settled p) es ≡ settled q
+  goes_along : (es : List TreeEvent) (p q : MemberState) → Goes p es q → fold step (settled p) es ≡ settled q
   goes_along [] p q h = ap settled h
   goes_along (e ∷ es) p q h = ap (λ (s : P). fold step s es) (each p e h.0) ∙ goes_along es (member_step p e) q h.1
 

@@ -1,6 +1,7 @@
 -- What was built is under the seed of its builder.
 use Rattle.std.proofs.Common.{◌≡◌, ℕ, List, [], ◌∷◌, ◌∙◌, refl, subst}
-use Rattle.sfv_spec.specs.Values.{Edition, FieldKind}
+use Rattle.sfv_spec.specs.declared.field_kind.FieldKind.{FieldKind}
+use Rattle.sfv_spec.specs.declared.version.Version.{Version}
 use Rattle.sfv_spec.specs.Events.{TreeEvent}
 use Rattle.sfv_spec.specs.Visiting.{RunsTo}
 use Rattle.sfv_tree.specs.declared.hash_seed.HashSeed.{HashSeed}
@@ -28,10 +29,10 @@ module _ {S : Type 0} (seed : S → HashSeed) (seeded : S → Type 0) (takes : S
 
   -- the answer is under the seed that the builder was made with
   pub answer_seeded : {O : Type 0} (finishes : S → O → Type 0) (has : HashSeed → O → Type 0)
-      → ((s : S) (out : O) → finishes s out → seeded s → has (seed s) out) → (edition : Edition) (kind : FieldKind)
+      → ((s : S) (out : O) → finishes s out → seeded s → has (seed s) out) → (version : Version) (kind : FieldKind)
       → (t : List ℕ) (from : S) (out : O) (given : HashSeed) → seed from ≡ given → seeded from
-      → IsAnswerOf takes finishes edition kind t from out → has given out
-  answer_seeded finishes has answers edition kind t from out given same start h =
-      let kept = runs_keep _ from h.visited.last h.visited.taken in
+      → IsAnswerOf takes finishes version kind t from out → has given out
+  answer_seeded finishes has answers version kind t from out given same start h =
+      let kept = runs_keep _ from h.holds.last h.holds.taken in
       subst (λ (seed : HashSeed). has seed out) (kept.0 ∙ same)
-      (answers h.visited.last out h.visited.answered (kept.1 start))
+      (answers h.holds.last out h.holds.answered (kept.1 start))

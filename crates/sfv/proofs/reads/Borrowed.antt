@@ -26,11 +26,11 @@ same_tail : (a b : ℕ) (r q : List ℕ) → a ∷ r ≡ b ∷ q → r ≡ q
 same_tail a b r q h = cc
 
 -- after the equals sign
-pub behind_equals : (t r left : List ℕ)
+pub after_equals : (t r left : List ℕ)
     (result : Result (GenericBareItem StringFromInput (Vec ℕ Global) TokenRef (CowStr Global)) Error)
     → TakesIf (byte equals_sign) true t r → IfOk result (λ item. IsBorrowedUpTo item r left)
     → IfOk result (λ item. IsBorrowedValue item t left)
-behind_equals t r left result takes h = IfOk-weaker result (λ item. IsBorrowedUpTo item r left)
+after_equals t r left result takes h = IfOk-weaker result (λ item. IsBorrowedUpTo item r left)
     (λ item. IsBorrowedValue item t left) (λ item k q e. subst (λ (l : List ℕ). IsBorrowedUpTo item l left)
     (same_tail takes.0 equals_sign r q (sym takes.1 ∙ e)) k) h
 

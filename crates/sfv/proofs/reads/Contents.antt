@@ -10,7 +10,7 @@ use Rattle.std.proofs.lemmas.List.{drop_all, get_or-drop, take_rest}
 use Rattle.std.proofs.Math.Seq.{take-add}
 use Rattle.sfv_spec.specs.Ascii.{colon, equals_sign}
 use Rattle.sfv_spec.proofs.Settled.{NotBegun}
-use Rattle.sfv_base.specs.declared.error.ErrorKind.TheVariants.{InvalidByteSequence, UnterminatedByteSequence}
+use Rattle.sfv_spec.specs.declared.error_kind.ErrorKind.TheVariants.{InvalidByteSequence, UnterminatedByteSequence}
 use Rattle.sfv_reading.specs.Reader.{Apart}
 use Rattle.sfv_spec.proofs.Marks.{is_symbol}
 use Rattle.sfv_reading.specs.Content.{most_padding, valid_from, fault_place, HasNoColon, bytes_at}
@@ -57,13 +57,13 @@ valid_runs : (t : List ℕ) (n p : ℕ) → Runs t n p → valid_from 0 t ≡ n 
 valid_runs t n p r =
     let size : length (take n t) ≡ n = length-take-le n t r.symbols.within in
     let z : 0 + length (take n t) ≡ n = omega (arith, size) in
-    let behind : drop n t ≡ replicate p equals_sign ++ drop (n + p) t = sym (take-append-drop p (drop n t))
+    let after : drop n t ≡ replicate p equals_sign ++ drop (n + p) t = sym (take-append-drop p (drop n t))
     ∙ rw (r.padding.each, drop-drop p n t) refl in
     let s : Shape 0 t = record {
       run = take n t;
       padding = p;
       rest = drop (n + p) t;
-      text = sym (take-append-drop n t) ∙ ap (λ (u : List ℕ). take n t ++ u) behind;
+      text = sym (take-append-drop n t) ∙ ap (λ (u : List ℕ). take n t ++ u) after;
       symbols = r.symbols.each;
       within = rw z r.padding.room;
       ends = rw z (elim r.padding.ends [
@@ -71,7 +71,7 @@ valid_runs t n p r =
         | inr a ↦ inr (subst (λ (u : List ℕ). NotBegun is_equals u) (drop-drop p n t)
             (begun is_equals (drop p (drop n t)) a))
       ]);
-      apart = subst (λ (u : List ℕ). NotBegun is_symbol u) behind (begun is_symbol (drop n t) r.symbols.ends);
+      apart = subst (λ (u : List ℕ). NotBegun is_symbol u) after (begun is_symbol (drop n t) r.symbols.ends);
     } in
     (shape_valid 0 t s).0 ∙ ap (λ k. k + p) size
 

@@ -5,12 +5,12 @@ use Rattle.std.specs.Prelude.{is_some}
 use Rattle.std.proofs.lemmas.Bool.{true≢false}
 use Rattle.sfv_spec.proofs.Marks.{right_parenthesis, comma}
 use Rattle.sfv_spec.specs.Classes.{is_space, is_space_or_tab}
-use Rattle.sfv_spec.specs.Values.{Edition, RawItem}
+use Rattle.sfv_spec.specs.Values.{RawItem}
+use Rattle.sfv_spec.specs.declared.version.Version.{Version}
 use Rattle.sfv_spec.specs.Events.{TreeEvent, inner_item_events}
-use Rattle.sfv_spec.specs.Faults.{trailing_comma, trailing_characters_after_member, expected_inner_list_delimiter}
-use Rattle.sfv_spec.specs.Faults.{unterminated_inner_list}
-use Rattle.sfv_base.specs.declared.error.ErrorKind.TheVariants.{ExpectedInnerListDelimiter, UnterminatedInnerList}
-use Rattle.sfv_base.specs.declared.error.ErrorKind.TheVariants.{TrailingCharactersAfterMember, TrailingComma}
+use Rattle.sfv_spec.specs.declared.error_kind.ErrorKind.TheVariants.{TrailingComma, TrailingCharactersAfterMember}
+use Rattle.sfv_spec.specs.declared.error_kind.ErrorKind.TheVariants.{ExpectedInnerListDelimiter}
+use Rattle.sfv_spec.specs.declared.error_kind.ErrorKind.TheVariants.{UnterminatedInnerList}
 use Rattle.sfv_reading.specs.Reader.{Answer, Reader, first, byte, any, give, fail, back, ahead, branch, and_then, bind}
 use Rattle.sfv_reading.specs.Reader.{span, led, many, ◌>>=◌}
 use Rattle.sfv_reading.specs.Members.{inner_item_at, next_item_at, inner_items_at}
@@ -56,7 +56,7 @@ unfolding item_delimiter_at give
 closed_item t r q sp m = branch_false is_space _ _ t r sp ∙ branch_true (byte right_parenthesis) _ _ r q m
 
 no_item_here : (t r q : List ℕ) → TakesIf is_space false t r → TakesIf (byte right_parenthesis) false r q
-    → item_delimiter_at t ≡ ahead any (fail expected_inner_list_delimiter) (fail unterminated_inner_list) q
+    → item_delimiter_at t ≡ ahead any (fail ExpectedInnerListDelimiter) (fail UnterminatedInnerList) q
 unfolding item_delimiter_at
 no_item_here t r q sp m = branch_false is_space _ _ t r sp ∙ branch_false (byte right_parenthesis) _ _ r q m
 
@@ -66,7 +66,7 @@ unfolding ahead fail
 undelimited_item t r q sp m h = ap located (no_item_here t r q sp m) ∙ on q h
   where
     on : (q : List ℕ) → is_some (first q) ≡ true → located {A =
-        Bool} (ahead any (fail expected_inner_list_delimiter) (fail unterminated_inner_list) q)
+        Bool} (ahead any (fail ExpectedInnerListDelimiter) (fail UnterminatedInnerList) q)
         ≡ Err (ExpectedInnerListDelimiter, q)
     on [] h = absurd cc
     on (c ∷ q) h = refl
@@ -77,68 +77,68 @@ unfolding ahead fail
 unended_item t r q sp m h = ap located (no_item_here t r q sp m) ∙ on q h
   where
     on : (q : List ℕ) → is_some (first q) ≡ false → located {A =
-        Bool} (ahead any (fail expected_inner_list_delimiter) (fail unterminated_inner_list) q)
+        Bool} (ahead any (fail ExpectedInnerListDelimiter) (fail UnterminatedInnerList) q)
         ≡ Err (UnterminatedInnerList, q)
     on [] h = refl
     on (c ∷ q) h = absurd cc
 
 -- an item after its delimiter is the next one
-pub next_item_is : (edition : Edition) (t : List ℕ)
-    → next_item_at edition t ≡ (item_delimiter_at >>= one_if (inner_item_at edition)) t
+pub next_item_is : (version : Version) (t : List ℕ)
+    → next_item_at version t ≡ (item_delimiter_at >>= one_if (inner_item_at version)) t
 unfolding next_item_at item_delimiter_at bind branch ahead give fail
-next_item_is edition [] = refl
-next_item_is edition (c ∷ r) = on (is_space c) refl
+next_item_is version [] = refl
+next_item_is version (c ∷ r) = on (is_space c) refl
   where
-    parted : (q : List ℕ) → branch (byte right_parenthesis) (λ _. give None) (one_if (inner_item_at edition) true) q
-        ≡ and_then (branch (byte right_parenthesis) (λ _. give false) (give true) q) (one_if (inner_item_at edition))
+    parted : (q : List ℕ) → branch (byte right_parenthesis) (λ _. give None) (one_if (inner_item_at version) true) q
+        ≡ and_then (branch (byte right_parenthesis) (λ _. give false) (give true) q) (one_if (inner_item_at version))
     parted [] = refl
     parted (d ∷ q) = here (byte right_parenthesis d) refl
       where
         here : (b : Bool) → byte right_parenthesis d ≡ b
-            → branch (byte right_parenthesis) (λ _. give None) (one_if (inner_item_at edition) true) (d ∷ q)
+            → branch (byte right_parenthesis) (λ _. give None) (one_if (inner_item_at version) true) (d ∷ q)
             ≡ and_then (branch (byte right_parenthesis) (λ _. give false) (give true) (d ∷ q))
-            (one_if (inner_item_at edition))
+            (one_if (inner_item_at version))
         here true e = rw e refl
         here false e = rw e refl
 
     closed : (b : Bool) → is_space c ≡ false → byte right_parenthesis c ≡ b
-        → next_item_at edition (c ∷ r) ≡ (item_delimiter_at >>= one_if (inner_item_at edition)) (c ∷ r)
+        → next_item_at version (c ∷ r) ≡ (item_delimiter_at >>= one_if (inner_item_at version)) (c ∷ r)
     closed true n e = rw (n, e) refl
     closed false n e = rw (n, e) refl
 
-    on : (b : Bool) → is_space c ≡ b → next_item_at edition (c ∷ r)
-        ≡ (item_delimiter_at >>= one_if (inner_item_at edition)) (c ∷ r)
+    on : (b : Bool) → is_space c ≡ b → next_item_at version (c ∷ r)
+        ≡ (item_delimiter_at >>= one_if (inner_item_at version)) (c ∷ r)
     on true e = let q = span_total is_space r in rw (e, q.2) (parted q.1)
     on false e = closed (byte right_parenthesis c) e refl
 
-pub items_none : (edition : Edition) (t : List ℕ) → is_some (first t) ≡ false
-    → located (inner_items_at edition t) ≡ Err (UnterminatedInnerList, t)
+pub items_none : (version : Version) (t : List ℕ) → is_some (first t) ≡ false
+    → located (inner_items_at version t) ≡ Err (UnterminatedInnerList, t)
 unfolding inner_items_at ahead fail
-items_none edition [] h = refl
-items_none edition (c ∷ t) h = absurd cc
+items_none version [] h = refl
+items_none version (c ∷ t) h = absurd cc
 
 -- after the spaces before the first item
-abbrev pub items_behind : Edition → Reader (List RawItem)
-items_behind edition =
-    branch (byte right_parenthesis) (λ _. give []) (inner_item_at edition
-    >>= λ i. led (inner_item_events i) (many inner_item_events (next_item_at edition) >>= λ is. give (i ∷ is)))
+abbrev pub items_after : Version → Reader (List RawItem)
+items_after version =
+    branch (byte right_parenthesis) (λ _. give []) (inner_item_at version
+    >>= λ i. led (inner_item_events i) (many inner_item_events (next_item_at version) >>= λ is. give (i ∷ is)))
 
-items_some : (edition : Edition) (t s q : List ℕ) → is_some (first t) ≡ true → span is_space t ≡ Ok (s, q)
-    → inner_items_at edition t ≡ items_behind edition q
+items_some : (version : Version) (t s q : List ℕ) → is_some (first t) ≡ true → span is_space t ≡ Ok (s, q)
+    → inner_items_at version t ≡ items_after version q
 unfolding inner_items_at ahead
-items_some edition [] s q h e = absurd cc
-items_some edition (c ∷ t) s q h e = bind_complete (span is_space) (λ _. items_behind edition) (c ∷ t) q s e
+items_some version [] s q h e = absurd cc
+items_some version (c ∷ t) s q h e = bind_complete (span is_space) (λ _. items_after version) (c ∷ t) q s e
 
-pub items_closed : (edition : Edition) (t s q w : List ℕ) → is_some (first t) ≡ true → span is_space t ≡ Ok (s, q)
-    → TakesIf (byte right_parenthesis) true q w → inner_items_at edition t ≡ Ok ([], w)
+pub items_closed : (version : Version) (t s q w : List ℕ) → is_some (first t) ≡ true → span is_space t ≡ Ok (s, q)
+    → TakesIf (byte right_parenthesis) true q w → inner_items_at version t ≡ Ok ([], w)
 unfolding give
-items_closed edition t s q w h e m = items_some edition t s q h e ∙ branch_true (byte right_parenthesis) _ _ q w m
+items_closed version t s q w h e m = items_some version t s q h e ∙ branch_true (byte right_parenthesis) _ _ q w m
 
-pub items_first : (edition : Edition) (t s q w : List ℕ) → is_some (first t) ≡ true → span is_space t ≡ Ok (s, q)
-    → TakesIf (byte right_parenthesis) false q w → inner_items_at edition t
-    ≡ first_of inner_item_events (inner_item_at edition) (next_item_at edition) w
+pub items_first : (version : Version) (t s q w : List ℕ) → is_some (first t) ≡ true → span is_space t ≡ Ok (s, q)
+    → TakesIf (byte right_parenthesis) false q w → inner_items_at version t
+    ≡ first_of inner_item_events (inner_item_at version) (next_item_at version) w
 unfolding first_of
-items_first edition t s q w h e m = items_some edition t s q h e ∙ branch_false (byte right_parenthesis) _ _ q w m
+items_first version t s q w h e m = items_some version t s q h e ∙ branch_false (byte right_parenthesis) _ _ q w m
 
 -- ---- members
 
@@ -148,8 +148,8 @@ at_end (c ∷ q) h = absurd cc
 
 -- after optional whitespace
 abbrev at_comma : Reader Bool
-at_comma = ahead any (ahead (byte comma) (back trailing_comma comma_at
-    >>= λ _. give true) (fail trailing_characters_after_member)) (give false)
+at_comma = ahead any (ahead (byte comma) (back TrailingComma comma_at
+    >>= λ _. give true) (fail TrailingCharactersAfterMember)) (give false)
 
 member_is : (t s q : List ℕ) → span is_space_or_tab t ≡ Ok (s, q) → member_delimiter_at t ≡ at_comma q
 unfolding member_delimiter_at
@@ -166,22 +166,22 @@ no_member t s q e h = member_is t s q e ∙ on q h
 
 -- a member after its delimiter, or the end
 abbrev wanted : {A : Type 0} → Reader A → Reader (Option A)
-wanted one = ahead any (ahead (byte comma) (back trailing_comma comma_at >>= λ _. one
-    >>= λ m. give (Some m)) (fail trailing_characters_after_member)) (give None)
+wanted one = ahead any (ahead (byte comma) (back TrailingComma comma_at >>= λ _. one
+    >>= λ m. give (Some m)) (fail TrailingCharactersAfterMember)) (give None)
 
 -- a member after its delimiter is the next one
 pub next_member_is : {A : Type 0} (one : Reader A) (t : List ℕ) → next_at one t ≡ (member_delimiter_at >>= one_if one) t
 unfolding next_at member_delimiter_at bind ahead fail give
 next_member_is {A} one t = let q = span_total is_space_or_tab t in rw q.2 (on q.1)
   where
-    behind : (a : Answer (Unit {0})) → and_then a (λ _. one >>= λ m. give (Some m))
+    after : (a : Answer (Unit {0})) → and_then a (λ _. one >>= λ m. give (Some m))
         ≡ and_then (and_then a (λ _. give true)) (one_if one)
-    behind (Ok x) = refl
-    behind (Err f) = refl
+    after (Ok x) = refl
+    after (Err f) = refl
 
     at : (c : ℕ) (r : List ℕ) (b : Bool) → byte comma c ≡ b
         → wanted one (c ∷ r) ≡ and_then (at_comma (c ∷ r)) (one_if one)
-    at c r true e = rw e (behind (back trailing_comma comma_at (c ∷ r)))
+    at c r true e = rw e (after (back TrailingComma comma_at (c ∷ r)))
     at c r false e = rw e refl
 
     on : (q : List ℕ) → wanted one q ≡ and_then (at_comma q) (one_if one)
@@ -224,7 +224,7 @@ ends_there t r e = let q = span_total is_space_or_tab t in on q.1 (sym (member_i
     never (Err f) e = absurd cc
 
     at : (c : ℕ) (q : List ℕ) (b : Bool) → byte comma c ≡ b → at_comma (c ∷ q) ≡ Ok (false, r) → r ≡ []
-    at c q true e h = never (back trailing_comma comma_at (c ∷ q)) (rw e at h)
+    at c q true e h = never (back TrailingComma comma_at (c ∷ q)) (rw e at h)
     at c q false e h = let n = rw e at h in absurd cc
 
     on : (q : List ℕ) → at_comma q ≡ Ok (false, r) → r ≡ []
@@ -236,12 +236,12 @@ ends_there t r e = let q = span_total is_space_or_tab t in on q.1 (sym (member_i
     on (c ∷ q) h = at c q (byte comma c) refl h
 
 -- after the comma
-abbrev behind_comma : Reader Bool
-behind_comma = back trailing_comma comma_at >>= λ _. give true
+abbrev past_comma : Reader Bool
+past_comma = back TrailingComma comma_at >>= λ _. give true
 
-comma_met : (q w : List ℕ) → TakesIf (byte comma) true q w → at_comma q ≡ behind_comma q
+comma_met : (q w : List ℕ) → TakesIf (byte comma) true q w → at_comma q ≡ past_comma q
 unfolding ahead
-comma_met q w m = ap at_comma m.1 ∙ rw m.2 refl ∙ ap behind_comma (sym m.1)
+comma_met q w m = ap at_comma m.1 ∙ rw m.2 refl ∙ ap past_comma (sym m.1)
 
 pub no_comma : (t s q w : List ℕ) → span is_space_or_tab t ≡ Ok (s, q) → is_some (first q) ≡ true
     → TakesIf (byte comma) false q w → located (member_delimiter_at t) ≡ Err (TrailingCharactersAfterMember, w)

@@ -3,14 +3,14 @@ use Rattle.std.proofs.Common.{◌≡◌, ℕ, ◌≤◌, List, length, Option, S
 use Rattle.std.specs.Prelude.{MatchOption, Result, IsErrAnd}
 use Rattle.std.proofs.lemmas.Result.{err_from_is_err_and}
 use Rattle.std.specs.declared.alloc.Global.{Global}
-use Rattle.sfv_spec.specs.Values.{Edition}
+use Rattle.sfv_spec.specs.declared.version.Version.{Version}
 use Rattle.sfv_base.specs.declared.error.Error.{Error}
-use Rattle.sfv_base.specs.declared.error.ErrorKind.{ErrorKind}
+use Rattle.sfv_spec.specs.declared.error_kind.ErrorKind.{ErrorKind}
 use Rattle.sfv_base.specs.Errors.{error_of}
 use Rattle.sfv_reading.specs.Reader.{Answer, Reader, and_then, bind, ◌>>=◌}
 use Rattle.sfv.specs.declared.parser.Parser.{Parser}
 use Rattle.sfv.specs.declared.parser.cursor.Cursor.{Cursor}
-use Rattle.sfv.specs.parser.Cursor.{kept, kept_input, kept_edition, rest, located, IsFaultOf, IsErrorOf, Reads}
+use Rattle.sfv.specs.parser.Cursor.{kept, kept_input, kept_version, rest, located, IsFaultOf, IsErrorOf, Reads}
 use Rattle.sfv.specs.Memory.{IsRefusal}
 
 -- what `?` returns
@@ -26,10 +26,10 @@ fault_bind {A} {B} f g t k r = on (f t)
     on (Ok x) h = absurd cc
     on (Err f) h = ap (λ (p : ErrorKind × List ℕ). Err p) cc
 
--- a cursor that has kept its parser reads the same edition
-pub kept_reads : {A : Type 0} (f : Edition → Reader A) (t : List ℕ) (i j : Parser × Global) → i ≡ j
-    → f (kept_edition j) t ≡ f (kept_edition i) t
-kept_reads f t i j same = ap (λ (k : Parser × Global). f (kept_edition k) t) (sym same)
+-- a cursor that has kept its parser reads the same version
+pub kept_reads : {A : Type 0} (f : Version → Reader A) (t : List ℕ) (i j : Parser × Global) → i ≡ j
+    → f (kept_version j) t ≡ f (kept_version i) t
+kept_reads f t i j same = ap (λ (k : Parser × Global). f (kept_version k) t) (sym same)
 
 -- a reading of a part, after which nothing stands
 pub reads_same : {X Y : Type 0} (view : X → Y) (before middle after : Cursor) (r : Result X Error) (f g : Reader Y)
@@ -65,26 +65,26 @@ ErrorOf-kept i j e n f same h = ErrorOf-fault (kept_input j) e (f (drop n (kept_
     (subst (λ (k : Parser × Global). IsFaultOf (kept_input k) e (f (drop n (kept_input k)))) same h)
 
 -- the whole is that part
-pub ErrorOf-same : {A : Type 0} (i j : Parser × Global) (e : Error) (f : Edition → Reader A) (t : List ℕ) (a : Answer A)
-    → i ≡ j → a ≡ f (kept_edition j) t → IsErrorOf (kept_input i) e (f (kept_edition i) t)
+pub ErrorOf-same : {A : Type 0} (i j : Parser × Global) (e : Error) (f : Version → Reader A) (t : List ℕ) (a : Answer A)
+    → i ≡ j → a ≡ f (kept_version j) t → IsErrorOf (kept_input i) e (f (kept_version i) t)
     → IsErrorOf (kept_input j) e a
 ErrorOf-same i j e f t a same eq h = rw eq (subst (λ (k : Parser
-    × Global). IsErrorOf (kept_input k) e (f (kept_edition k) t)) same h)
+    × Global). IsErrorOf (kept_input k) e (f (kept_version k) t)) same h)
 
 -- the whole goes on after that part
-pub ErrorOf-part : {A B : Type 0} (i j : Parser × Global) (e : Error) (f : Edition → Reader A) (g : A
-    → Reader B) (t : List ℕ) (a : Answer B) → i ≡ j → a ≡ (f (kept_edition j) >>= g) t
-    → IsErrorOf (kept_input i) e (f (kept_edition i) t) → IsErrorOf (kept_input j) e a
+pub ErrorOf-part : {A B : Type 0} (i j : Parser × Global) (e : Error) (f : Version → Reader A) (g : A
+    → Reader B) (t : List ℕ) (a : Answer B) → i ≡ j → a ≡ (f (kept_version j) >>= g) t
+    → IsErrorOf (kept_input i) e (f (kept_version i) t) → IsErrorOf (kept_input j) e a
 ErrorOf-part i j e f g t a same eq h = rw eq (on e.index
-    (subst (λ (k : Parser × Global). IsErrorOf (kept_input k) e (f (kept_edition k) t)) same h))
+    (subst (λ (k : Parser × Global). IsErrorOf (kept_input k) e (f (kept_version k) t)) same h))
   where
     on : (o : Option ℕ) → MatchOption o (IsRefusal (kept_input j) e)
-        (λ index. (located (f (kept_edition j) t) ≡ Err (e.kind, drop index (kept_input j)))
+        (λ index. (located (f (kept_version j) t) ≡ Err (e.kind, drop index (kept_input j)))
         × (index ≤ length (kept_input j)))
-        → MatchOption o (IsRefusal (kept_input j) e) (λ index. (located ((f (kept_edition j) >>= g) t)
+        → MatchOption o (IsRefusal (kept_input j) e) (λ index. (located ((f (kept_version j) >>= g) t)
         ≡ Err (e.kind, drop index (kept_input j))) × (index ≤ length (kept_input j)))
     on None h = h
-    on (Some n) h = (fault_bind (f (kept_edition j)) g t _ _ h.0, h.1)
+    on (Some n) h = (fault_bind (f (kept_version j)) g t _ _ h.0, h.1)
 
 -- the whole is told as that part
 pub ErrorOf-located : {A : Type 0} (i : List ℕ) (e : Error) (a b : Answer A) → located a ≡ located b → IsErrorOf i e b

@@ -14,15 +14,15 @@ use Rattle.sfv_spec.specs.Texts.{RunOf}
 use Rattle.sfv_spec.specs.Classes.{is_string_byte, is_lower_hexadecimal}
 use Rattle.sfv_spec.specs.Strings.{is_escaped_in_string, hexadecimal_value, IsStringPiece, IsDisplayPiece}
 use Rattle.sfv_base.specs.declared.error.Error.{Error}
-use Rattle.sfv_base.specs.declared.error.ErrorKind.{ErrorKind}
-use Rattle.sfv_base.specs.declared.error.ErrorKind.TheVariants.{UnterminatedEscapeSequence}
-use Rattle.sfv_base.specs.declared.error.ErrorKind.TheVariants.{InvalidEscapeSequence}
+use Rattle.sfv_spec.specs.declared.error_kind.ErrorKind.{ErrorKind}
+use Rattle.sfv_spec.specs.declared.error_kind.ErrorKind.TheVariants.{UnterminatedEscapeSequence}
+use Rattle.sfv_spec.specs.declared.error_kind.ErrorKind.TheVariants.{InvalidEscapeSequence}
 use Rattle.sfv_base.specs.Digits.{digit_value}
 use Rattle.sfv_base.specs.Errors.{kind_of, index_of}
 use Rattle.sfv_reading.specs.Reader.{Answer, first, byte, Apart}
-use Rattle.sfv_reading.specs.Quoted.{behind_bytes, string_from, outside, percent, digit, pieces_from, checked}
+use Rattle.sfv_reading.specs.Quoted.{after_bytes, string_from, outside, percent, digit, pieces_from, checked}
 use Rattle.sfv_reading.specs.Quoted.{display_at, StringStops, DisplayStops, Traced}
-use Rattle.sfv_reading.proofs.quoted.Pieces.{behind_bytes_none, behind_bytes_more, behind_bytes_ok, step_string}
+use Rattle.sfv_reading.proofs.quoted.Pieces.{after_bytes_none, after_bytes_more, after_bytes_ok, step_string}
 use Rattle.sfv_reading.proofs.quoted.Pieces.{step_display}
 use Rattle.sfv_reading.proofs.quoted.Traces.{Ends, trace_of_string, trace_of_display}
 use Rattle.sfv_reading.proofs.quoted.DisplaySteps.{outside_byte}
@@ -31,12 +31,12 @@ use Rattle.sfv.specs.declared.parser.Parser.{Parser}
 use Rattle.sfv.specs.declared.parser.cursor.Cursor.{Cursor}
 use Rattle.sfv.specs.parser.Cursor.{kept_input, rest, located, IsFaultOf, IsErrorOf, NextIs, TakesIf, Skips}
 use Rattle.sfv_spec.proofs.Marks.{plain_of}
-use Rattle.sfv.specs.parser.Quoted.{mark_of, stop_of, inside, behind_mark, opening, HasNoMark, HasNoMarkInside}
+use Rattle.sfv.specs.parser.Quoted.{mark_of, end_error_of, inside, after_mark, opening, HasNoMark, HasNoMarkInside}
 use Rattle.sfv.specs.Memory.{IsRefusal}
 
 -- ---- one byte of a quoted text
 
-opens : (d : Bool) (t : List ℕ) → inside d (mark_of d ∷ t) ≡ behind_mark d t
+opens : (d : Bool) (t : List ℕ) → inside d (mark_of d ∷ t) ≡ after_mark d t
 unfolding string_from pieces_from
 opens true t = refl
 opens false t = refl
@@ -47,7 +47,7 @@ closes true t = refl
 closes false t = refl
 
 plain_byte : (d : Bool) (c : ℕ) (t : List ℕ) → plain_of d c ≡ true
-    → inside d (c ∷ t) ≡ behind_bytes (c ∷ []) (inside d t)
+    → inside d (c ∷ t) ≡ after_bytes (c ∷ []) (inside d t)
 plain_byte true c t h = step_display c (c ∷ []) t (inl (h, refl))
 plain_byte false c t h = step_string c (c ∷ []) t (inl (h, refl))
 
@@ -63,7 +63,7 @@ no_string_byte false c h q m = elim (and_cases (is_string_byte c) (not (is_escap
     ]
 
 pub stops : (d : Bool) (t : List ℕ) → Apart (plain_of d) t → Apart (byte double_quote) t → Apart (byte (mark_of d)) t
-    → located (inside d t) ≡ Err (stop_of d (is_some (first t)), t)
+    → located (inside d t) ≡ Err (end_error_of d (is_some (first t)), t)
 unfolding string_from pieces_from
 stops true [] p q m = refl
 stops false [] p q m = refl
@@ -80,18 +80,18 @@ stops false (c ∷ t) p q m = rw (
 
 -- ---- the bytes that stand for themselves
 
-plain_reads : (d : Bool) (run t : List ℕ) → RunOf (plain_of d) run → inside d (run ++ t) ≡ behind_bytes run (inside d t)
-plain_reads d [] t h = sym (behind_bytes_none (inside d t))
+plain_reads : (d : Bool) (run t : List ℕ) → RunOf (plain_of d) run → inside d (run ++ t) ≡ after_bytes run (inside d t)
+plain_reads d [] t h = sym (after_bytes_none (inside d t))
 plain_reads d (c ∷ run) t h =
     let p = and_parts _ _ h in
-    plain_byte d c (run ++ t) p.0 ∙ ap (behind_bytes (c ∷ [])) (plain_reads d run t p.1)
-    ∙ behind_bytes_more (c ∷ []) run (inside d t)
+    plain_byte d c (run ++ t) p.0 ∙ ap (after_bytes (c ∷ [])) (plain_reads d run t p.1)
+    ∙ after_bytes_more (c ∷ []) run (inside d t)
 
 -- a text begins with them
 pub begins : (d : Bool) (run t p q : List ℕ) → RunOf (plain_of d) run → t ≡ run ++ p → q ≡ p
-    → inside d t ≡ behind_bytes run (inside d q)
+    → inside d t ≡ after_bytes run (inside d q)
 begins d run t p q each taken same = ap (inside d) taken ∙ plain_reads d run p each
-    ∙ ap (λ (l : List ℕ). behind_bytes run (inside d l)) (sym same)
+    ∙ ap (λ (l : List ℕ). after_bytes run (inside d l)) (sym same)
 
 at_byte : (m : ℕ) (t r : List ℕ) → TakesIf (byte m) true t r → t ≡ m ∷ r
 at_byte m t r h = h.1 ∙ ap (λ (c : ℕ). c ∷ r) (eqb-true h.0 m h.2)
@@ -102,58 +102,58 @@ closed d t r h = ap (inside d) (at_byte double_quote t r h) ∙ closes d r
 -- and the quote stands after them
 pub all_plain : (d : Bool) (run t p r : List ℕ) → RunOf (plain_of d) run → t ≡ run ++ p
     → TakesIf (byte double_quote) true p r → inside d t ≡ Ok (run, r)
-all_plain d run t p r each taken quote = begins d run t p p each taken refl ∙ ap (behind_bytes run) (closed d p r quote)
+all_plain d run t p r each taken quote = begins d run t p p each taken refl ∙ ap (after_bytes run) (closed d p r quote)
     ∙ ap (λ (l : List ℕ). Ok (l, r)) (append-nil run)
 
 -- the closing quote after bytes that were read
-pub closed_behind : (d : Bool) (bytes t r : List ℕ) (whole : Answer (List ℕ)) → behind_bytes bytes (inside d t) ≡ whole
+pub closed_after : (d : Bool) (bytes t r : List ℕ) (whole : Answer (List ℕ)) → after_bytes bytes (inside d t) ≡ whole
     → TakesIf (byte double_quote) true t r → whole ≡ Ok (bytes, r)
-closed_behind d bytes t r whole sofar quote = sym sofar ∙ ap (behind_bytes bytes) (closed d t r quote)
+closed_after d bytes t r whole sofar quote = sym sofar ∙ ap (after_bytes bytes) (closed d t r quote)
     ∙ ap (λ (l : List ℕ). Ok (l, r)) (append-nil bytes)
 
 -- ---- escapes
 
-at_mark : (d : Bool) (t q r : List ℕ) → q ≡ t → TakesIf (byte (mark_of d)) true q r → inside d t ≡ behind_mark d r
+at_mark : (d : Bool) (t q r : List ℕ) → q ≡ t → TakesIf (byte (mark_of d)) true q r → inside d t ≡ after_mark d r
 at_mark d t q r same mark = ap (inside d) (sym same ∙ at_byte (mark_of d) q r mark) ∙ opens d r
 
 -- after an escape
 pub past_escape : (d : Bool) (bytes : List ℕ) (c : ℕ) (t q r e : List ℕ) → q ≡ t → TakesIf (byte (mark_of d)) true q r
-    → behind_mark d r ≡ behind_bytes (c ∷ []) (inside d e)
-    → behind_bytes (bytes ++ c ∷ []) (inside d e) ≡ behind_bytes bytes (inside d t)
-past_escape d bytes c t q r e same mark escaped = sym (behind_bytes_more bytes (c ∷ []) (inside d e))
-    ∙ ap (behind_bytes bytes) (sym (at_mark d t q r same mark ∙ escaped))
+    → after_mark d r ≡ after_bytes (c ∷ []) (inside d e)
+    → after_bytes (bytes ++ c ∷ []) (inside d e) ≡ after_bytes bytes (inside d t)
+past_escape d bytes c t q r e same mark escaped = sym (after_bytes_more bytes (c ∷ []) (inside d e))
+    ∙ ap (after_bytes bytes) (sym (at_mark d t q r same mark ∙ escaped))
 
 -- after plain bytes
 pub past_run : (d : Bool) (bytes run t q n : List ℕ) → q ≡ t → RunOf (plain_of d) run → q ≡ run ++ n
-    → behind_bytes (bytes ++ run) (inside d n) ≡ behind_bytes bytes (inside d t)
-past_run d bytes run t q n same each taken = sym (behind_bytes_more bytes run (inside d n))
-    ∙ ap (behind_bytes bytes) (sym (ap (inside d) (sym same) ∙ begins d run q n n each taken refl))
+    → after_bytes (bytes ++ run) (inside d n) ≡ after_bytes bytes (inside d t)
+past_run d bytes run t q n same each taken = sym (after_bytes_more bytes run (inside d n))
+    ∙ ap (after_bytes bytes) (sym (ap (inside d) (sym same) ∙ begins d run q n n each taken refl))
 
 -- ---- errors
 
-behind_located : (bytes : List ℕ) (a : Answer (List ℕ)) (x : ErrorKind × List ℕ) → located a ≡ Err x
-    → located (behind_bytes bytes a) ≡ Err x
-behind_located bytes (Ok y) x h = absurd cc
-behind_located bytes (Err f) x h = h
+after_located : (bytes : List ℕ) (a : Answer (List ℕ)) (x : ErrorKind × List ℕ) → located a ≡ Err x
+    → located (after_bytes bytes a) ≡ Err x
+after_located bytes (Ok y) x h = absurd cc
+after_located bytes (Err f) x h = h
 
 -- a fault after bytes that were read
-pub behind_fault : (i j : Parser × Global) (e : Error) (bytes : List ℕ) (a whole : Answer (List ℕ)) → i ≡ j
-    → behind_bytes bytes a ≡ whole → IsFaultOf (kept_input i) e a → IsErrorOf (kept_input j) e whole
-behind_fault i j e bytes a whole same eq h = rw (← eq)
+pub after_fault : (i j : Parser × Global) (e : Error) (bytes : List ℕ) (a whole : Answer (List ℕ)) → i ≡ j
+    → after_bytes bytes a ≡ whole → IsFaultOf (kept_input i) e a → IsErrorOf (kept_input j) e whole
+after_fault i j e bytes a whole same eq h = rw (← eq)
     (on (index_of e) (subst (λ (k : Parser × Global). IsFaultOf (kept_input k) e a) same h))
   where
     on : (o : Option ℕ) → MatchOption o ⊥ (λ n. (located a ≡ Err (kind_of e, drop n (kept_input j)))
-        × (n ≤ length (kept_input j))) → MatchOption o (IsRefusal (kept_input j) e) (λ n. (located (behind_bytes bytes a) ≡ Err (kind_of e, drop n (kept_input j)))
+        × (n ≤ length (kept_input j))) → MatchOption o (IsRefusal (kept_input j) e) (λ n. (located (after_bytes bytes a) ≡ Err (kind_of e, drop n (kept_input j)))
         × (n ≤ length (kept_input j)))
     on None h = absurd h
-    on (Some n) h = (behind_located bytes a _ h.0, h.1)
+    on (Some n) h = (after_located bytes a _ h.0, h.1)
 
 -- that of an escape
 pub escape_fails : (d : Bool) (i j : Parser × Global) (e : Error) (bytes t q r : List ℕ) (whole : Answer (List ℕ))
-    → i ≡ j → behind_bytes bytes (inside d t) ≡ whole → q ≡ t → TakesIf (byte (mark_of d)) true q r
-    → IsFaultOf (kept_input i) e (behind_mark d r) → IsErrorOf (kept_input j) e whole
+    → i ≡ j → after_bytes bytes (inside d t) ≡ whole → q ≡ t → TakesIf (byte (mark_of d)) true q r
+    → IsFaultOf (kept_input i) e (after_mark d r) → IsErrorOf (kept_input j) e whole
 escape_fails d i j e bytes t q r whole same sofar at mark h =
-    behind_fault i j e bytes (behind_mark d r) whole same (ap (behind_bytes bytes) (sym (at_mark d t q r at mark))
+    after_fault i j e bytes (after_mark d r) whole same (ap (after_bytes bytes) (sym (at_mark d t q r at mark))
     ∙ sofar) h
 
 checked_located : (t : List ℕ) (a : Answer (List ℕ)) (x : ErrorKind × List ℕ) → located a ≡ Err x
@@ -228,9 +228,9 @@ holds_mark d (x ∷ run) [] t r m mark e less h = let n = ap (length {A = ℕ}) 
 holds_mark d (x ∷ run) (c ∷ s) t r m mark e less h = holds_mark d run s t r m mark (cc) less (and_parts _ _ h).1
 
 pub some_escape : (d : Bool) (run t p q s r : List ℕ) (m : ℕ) (u bytes : List ℕ) → t ≡ run ++ p → q ≡ p → q ≡ m ∷ u
-    → byte (mark_of d) m ≡ true → behind_bytes run (inside d q) ≡ Ok (bytes, r) → t ≡ s ++ r → RunOf (no_mark d) s → ⊥
+    → byte (mark_of d) m ≡ true → after_bytes run (inside d q) ≡ Ok (bytes, r) → t ≡ s ++ r → RunOf (no_mark d) s → ⊥
 some_escape d run t p q s r m u bytes taken same at mark read past h =
-    let w = behind_bytes_ok run (inside d q) bytes r read in
+    let w = after_bytes_ok run (inside d q) bytes r read in
     let less = ok_shorter d q w.0 r w.1 in
     let n = ap (length {A = ℕ}) at in
     holds_mark d run s u r m mark (ap (λ (l : List ℕ). run ++ l) (sym (sym same ∙ at)) ∙ sym taken
@@ -249,7 +249,7 @@ first_is (x ∷ t) r c b h e = cc
 -- ---- the escapes of a string
 
 pub string_escaped : (c : ℕ) (t r : List ℕ) → t ≡ c ∷ r → is_escaped_in_string c ≡ true
-    → string_from true t ≡ behind_bytes (c ∷ []) (string_from false r)
+    → string_from true t ≡ after_bytes (c ∷ []) (string_from false r)
 unfolding string_from
 string_escaped c t r e h = rw (e, h) refl
 
@@ -271,14 +271,14 @@ unfolding pieces_from
 first_digit c t h = rw h refl
 
 second_digit : (high c : ℕ) (t : List ℕ) → is_lower_hexadecimal c ≡ true
-    → pieces_from (digit high) (c ∷ t) ≡ behind_bytes ((16 * hexadecimal_value high + hexadecimal_value c) ∷ [])
+    → pieces_from (digit high) (c ∷ t) ≡ after_bytes ((16 * hexadecimal_value high + hexadecimal_value c) ∷ [])
     (pieces_from outside t)
 unfolding pieces_from
 second_digit high c t h = rw h refl
 
 pub both_digits : (t r s : List ℕ) (high low : ℕ) → t ≡ high ∷ r → is_lower_hexadecimal high ≡ true → r ≡ low ∷ s
     → is_lower_hexadecimal low ≡ true
-    → pieces_from percent t ≡ behind_bytes ((16 * hexadecimal_value high + hexadecimal_value low) ∷ [])
+    → pieces_from percent t ≡ after_bytes ((16 * hexadecimal_value high + hexadecimal_value low) ∷ [])
     (pieces_from outside s)
 both_digits t r s high low e h f l = ap (pieces_from percent) e ∙ first_digit high r h ∙ ap (pieces_from (digit high)) f
     ∙ second_digit high low s l
@@ -331,9 +331,9 @@ opened true t u h = cc
 opened false t u h = cc
 
 -- no mark stands in what was taken after the opening
-pub behind_opening : (d : Bool) (A : Type 0) (before middle after : Cursor) → rest before ≡ opening d ++ rest middle
+pub after_opening : (d : Bool) (A : Type 0) (before middle after : Cursor) → rest before ≡ opening d ++ rest middle
     → (A ↔ HasNoMark d middle after) → (A ↔ HasNoMarkInside d before after)
-behind_opening d A before middle after opens h = (
+after_opening d A before middle after opens h = (
   λ a. let n = h.0 a in (n.0, opens ∙ ap (λ (l : List ℕ). opening d ++ l) n.1, n.2),
   λ n. h.1 (n.0, opened d _ _ (sym opens ∙ n.1), n.2),
 )

@@ -10,19 +10,22 @@ use Rattle.sfv_spec.proofs.Marks.{question_mark, at_sign}
 use Rattle.sfv_spec.specs.Texts.{RunOf}
 use Rattle.sfv_spec.specs.Classes.{is_digit, is_space, is_key_start, is_key_inner, is_key, is_token_start}
 use Rattle.sfv_spec.specs.Classes.{is_token_inner, is_token}
-use Rattle.sfv_spec.specs.Values.{Edition, rfc8941, rfc9651, RawParameters, RawItem, BareValue, integer, decimal, token}
+use Rattle.sfv_spec.specs.Values.{RawParameters, RawItem, BareValue, integer, decimal, token}
+use Rattle.sfv_spec.specs.declared.version.Version.{Version}
+use Rattle.sfv_spec.specs.declared.version.Version.TheVariants.{Rfc8941, Rfc9651}
 use Rattle.sfv_spec.specs.Values.{boolean, date, display_string, string, byte_sequence}
 use Rattle.sfv_base.specs.declared.error.Error.{Error}
 use Rattle.std.specs.declared.alloc.Global.{Global}
-use Rattle.sfv_base.specs.declared.error.ErrorKind.{ErrorKind}
+use Rattle.sfv_spec.specs.declared.error_kind.ErrorKind.{ErrorKind}
 use Rattle.sfv_spec.specs.Numbers.{place_value, signed}
-use Rattle.sfv_base.specs.declared.error.ErrorKind.TheVariants.{ExpectedQuote, Rfc8941DisplayString, ExpectedBoolean}
-use Rattle.sfv_base.specs.declared.error.ErrorKind.TheVariants.{Rfc8941Date, NonIntegerDate, ExpectedStartOfKey}
-use Rattle.sfv_base.specs.declared.error.ErrorKind.TheVariants.{ExpectedStartOfBareItem, ExpectedDigit, TooManyDigits}
-use Rattle.sfv_base.specs.declared.error.ErrorKind.TheVariants.{TooManyDigitsBeforeDecimalPoint}
-use Rattle.sfv_base.specs.declared.error.ErrorKind.TheVariants.{TooManyDigitsAfterDecimalPoint, TrailingDecimalPoint}
-use Rattle.sfv_spec.specs.Faults.{expected_quote, non_integer_date, too_many_digits_before_decimal_point}
-use Rattle.sfv_spec.specs.Faults.{trailing_decimal_point}
+use Rattle.sfv_spec.specs.declared.error_kind.ErrorKind.TheVariants.{ExpectedQuote, Rfc8941DisplayString}
+use Rattle.sfv_spec.specs.declared.error_kind.ErrorKind.TheVariants.{ExpectedBoolean}
+use Rattle.sfv_spec.specs.declared.error_kind.ErrorKind.TheVariants.{Rfc8941Date, NonIntegerDate, ExpectedStartOfKey}
+use Rattle.sfv_spec.specs.declared.error_kind.ErrorKind.TheVariants.{ExpectedStartOfBareItem, ExpectedDigit}
+use Rattle.sfv_spec.specs.declared.error_kind.ErrorKind.TheVariants.{TooManyDigits}
+use Rattle.sfv_spec.specs.declared.error_kind.ErrorKind.TheVariants.{TooManyDigitsBeforeDecimalPoint}
+use Rattle.sfv_spec.specs.declared.error_kind.ErrorKind.TheVariants.{TooManyDigitsAfterDecimalPoint}
+use Rattle.sfv_spec.specs.declared.error_kind.ErrorKind.TheVariants.{TrailingDecimalPoint}
 use Rattle.sfv_reading.specs.Reader.{Answer, Reader, led, led_answer, give, fail, ruled, ◌>>=◌, branch, ahead, at_start}
 use Rattle.sfv_reading.specs.Reader.{back, up_to, span, byte, Apart}
 use Rattle.sfv_reading.specs.Bare.{is_number_start, bare_at, boolean_at, as_date, date_at, quoted_at, sign_at, long_at}
@@ -86,7 +89,7 @@ pub whole_long : (dated negative : Bool) (whole t : List ℕ) → eqb (length wh
     → located (whole_at dated negative whole t) ≡ Err (TooManyDigitsBeforeDecimalPoint, t)
 unfolding whole_at fail
 whole_long dated negative whole t e m k l =
-    let long : whole_at dated negative whole t ≡ fail too_many_digits_before_decimal_point t =
+    let long : whole_at dated negative whole t ≡ fail TooManyDigitsBeforeDecimalPoint t =
     rw e (ahead_past _ _ _ t m ∙ ahead_true _ _ _ t k ∙ rw l refl) in
     ap located long
 
@@ -102,12 +105,12 @@ pub ruleset whole_steps = (whole_empty, whole_digit, whole_integer, whole_long, 
 
 -- the byte that was skipped is the point
 at_point : (dated negative : Bool) (whole t r : List ℕ) → NextIs (byte dot) true t → Skips t r
-    → point_at dated negative whole t ≡ at_start trailing_decimal_point t (fraction_at dated negative whole r)
+    → point_at dated negative whole t ≡ at_start TrailingDecimalPoint t (fraction_at dated negative whole r)
 unfolding point_at back
 at_point dated negative whole t r m k =
     let same : m.0 ∷ m.1 ≡ k.0 ∷ r = sym m.2 ∙ k.1 in
     let after : m.1 ≡ r = cc in
-    ap (at_start trailing_decimal_point t) (branch_true (byte dot) _ _ t r (
+    ap (at_start TrailingDecimalPoint t) (branch_true (byte dot) _ _ t r (
       m.0,
       m.2
           ∙ ap (λ (l : List ℕ). m.0 ∷ l) after,
@@ -120,10 +123,10 @@ pub point_empty : (dated negative : Bool) (whole t r f q : List ℕ) → NextIs 
 unfolding fraction_at decimal_at give
 point_empty dated negative whole t r f q m k d e =
     let inner : fraction_at dated negative whole r ≡ Ok (None, q) = bind_complete _ _ r q f d ∙ rw e refl in
-    ap located (at_point dated negative whole t r m k ∙ ap (at_start trailing_decimal_point t) inner)
+    ap located (at_point dated negative whole t r m k ∙ ap (at_start TrailingDecimalPoint t) inner)
 
 long_located : (dated : Bool) (q : List ℕ) (k t : List ℕ)
-    → located (at_start trailing_decimal_point k (long_at dated q)) ≡ Err (TooManyDigitsAfterDecimalPoint, q)
+    → located (at_start TrailingDecimalPoint k (long_at dated q)) ≡ Err (TooManyDigitsAfterDecimalPoint, q)
 unfolding long_at fail ruled
 long_located true q k t = refl
 long_located false q k t = refl
@@ -135,7 +138,7 @@ unfolding fraction_at decimal_at
 point_digit dated negative whole t r f q m k d e n =
     let inner : fraction_at dated negative whole r ≡ long_at dated q = bind_complete _ _ r q f d
     ∙ rw e (ahead_true _ _ _ q n) in
-    ap located (at_point dated negative whole t r m k ∙ ap (at_start trailing_decimal_point t) inner)
+    ap located (at_point dated negative whole t r m k ∙ ap (at_start TrailingDecimalPoint t) inner)
     ∙ long_located dated q t t
 
 pub point_decimal : (dated negative : Bool) (whole t r f q : List ℕ) → NextIs (byte dot) true t → Skips t r
@@ -151,7 +154,7 @@ point_decimal dated negative whole t r f q m k d e n =
     (place_value whole * 1000 + place_value f * 10 ^ (3 - length f))) in
     let inner : fraction_at dated negative whole r ≡ Ok (Some value, q) = bind_complete _ _ r q f d
     ∙ rw e (ahead_past _ _ _ q n) in
-    at_point dated negative whole t r m k ∙ ap (at_start trailing_decimal_point t) inner
+    at_point dated negative whole t r m k ∙ ap (at_start TrailingDecimalPoint t) inner
 
 pub ruleset point_steps = (point_empty, point_digit, point_decimal)
 
@@ -230,17 +233,17 @@ pub ruleset boolean_steps = (boolean_false, boolean_true, boolean_none)
 
 -- ---- dates
 
-date_older : (t : List ℕ) → located (date_at rfc8941 t) ≡ Err (Rfc8941Date, t)
+date_older : (t : List ℕ) → located (date_at Rfc8941 t) ≡ Err (Rfc8941Date, t)
 unfolding date_at fail
 date_older t = refl
 
 date_is : (t r : List ℕ) → NextIs (byte at_sign) true t → Skips t r
-    → date_at rfc9651 t ≡ at_start non_integer_date t ((number_at true >>= λ v. give (as_date v)) r)
+    → date_at Rfc9651 t ≡ at_start NonIntegerDate t ((number_at true >>= λ v. give (as_date v)) r)
 unfolding date_at back
 date_is t r m k =
     let same : m.0 ∷ m.1 ≡ k.0 ∷ r = sym m.2 ∙ k.1 in
     let after : m.1 ≡ r = cc in
-    ap (at_start non_integer_date t) (branch_true (byte at_sign) _ _ t r (
+    ap (at_start NonIntegerDate t) (branch_true (byte at_sign) _ _ t r (
       m.0,
       m.2
           ∙ ap (λ (l : List ℕ). m.0 ∷ l) after,
@@ -248,46 +251,46 @@ date_is t r m k =
     ))
 
 pub date_integer : (t r q : List ℕ) (z : ℤ) → NextIs (byte at_sign) true t → Skips t r
-    → number_at true r ≡ Ok (integer z, q) → date_at rfc9651 t ≡ Ok (date z, q)
+    → number_at true r ≡ Ok (integer z, q) → date_at Rfc9651 t ≡ Ok (date z, q)
 unfolding give
-date_integer t r q z m k n = date_is t r m k ∙ ap (at_start non_integer_date t) (bind_complete _ _ r q (integer z) n)
+date_integer t r q z m k n = date_is t r m k ∙ ap (at_start NonIntegerDate t) (bind_complete _ _ r q (integer z) n)
 
 pub date_decimal : (t r q : List ℕ) (z : ℤ) → NextIs (byte at_sign) true t → Skips t r
-    → number_at true r ≡ Ok (decimal z, q) → located (date_at rfc9651 t) ≡ Err (NonIntegerDate, t)
+    → number_at true r ≡ Ok (decimal z, q) → located (date_at Rfc9651 t) ≡ Err (NonIntegerDate, t)
 unfolding give
 date_decimal t r q z m k n = ap located (date_is t r m k
-    ∙ ap (at_start non_integer_date t) (bind_complete _ _ r q (decimal z) n))
+    ∙ ap (at_start NonIntegerDate t) (bind_complete _ _ r q (decimal z) n))
 
 start_fault : (k t s : List ℕ) (o : Answer (Option BareValue)) (kind : ErrorKind) → located o ≡ Err (kind, s)
-    → located (at_start non_integer_date t o) ≡ Err (kind, s)
+    → located (at_start NonIntegerDate t o) ≡ Err (kind, s)
 start_fault k t s (Ok x) kind h = absurd cc
 start_fault k t s (Err f) kind h = ap (λ (p : ErrorKind × List ℕ). Err p) cc
 
 date_faulty : (t r : List ℕ) (kind : ErrorKind) (s : List ℕ) → NextIs (byte at_sign) true t → Skips t r
-    → located (number_at true r) ≡ Err (kind, s) → located (date_at rfc9651 t) ≡ Err (kind, s)
+    → located (number_at true r) ≡ Err (kind, s) → located (date_at Rfc9651 t) ≡ Err (kind, s)
 date_faulty t r kind s m k n = ap located (date_is t r m k) ∙ start_fault t t s _ kind (fault_bind _ _ r kind s n)
 
 pub date_fault : (t r : List ℕ) (i j : Parser × Global) (e : Error) → NextIs (byte at_sign) true t → Skips t r → i ≡ j
-    → IsFaultOf (kept_input i) e (number_at true r) → IsFaultOf (kept_input j) e (date_at rfc9651 t)
+    → IsFaultOf (kept_input i) e (number_at true r) → IsFaultOf (kept_input j) e (date_at Rfc9651 t)
 date_fault t r i j e m k same h = subst (λ (i : Parser
-    × Global). IsFaultOf (kept_input i) e (date_at rfc9651 t)) same (on e.index h)
+    × Global). IsFaultOf (kept_input i) e (date_at Rfc9651 t)) same (on e.index h)
   where
     on : (o : Option ℕ) → MatchOption o ⊥ (λ index. (located (number_at true r)
         ≡ Err (e.kind, drop index (kept_input i))) × (index ≤ length (kept_input i)))
-        → MatchOption o ⊥ (λ index. (located (date_at rfc9651 t) ≡ Err (e.kind, drop index (kept_input i)))
+        → MatchOption o ⊥ (λ index. (located (date_at Rfc9651 t) ≡ Err (e.kind, drop index (kept_input i)))
         × (index ≤ length (kept_input i)))
     on None h = h
     on (Some i) h = (date_faulty t r _ _ m k h.0, h.1)
 
 -- ---- display strings
 
-quoted_older : (t : List ℕ) → located (quoted_at rfc8941 t) ≡ Err (Rfc8941DisplayString, t)
+quoted_older : (t : List ℕ) → located (quoted_at Rfc8941 t) ≡ Err (Rfc8941DisplayString, t)
 unfolding quoted_at fail
 quoted_older t = refl
 
 quoted_is : (t r : List ℕ) → NextIs (byte percent_sign) true t → Skips t r
-    → quoted_at rfc9651 t ≡ branch (byte double_quote) (λ _. display_at
-    >>= λ s. give (display_string s)) (fail expected_quote) r
+    → quoted_at Rfc9651 t ≡ branch (byte double_quote) (λ _. display_at
+    >>= λ s. give (display_string s)) (fail ExpectedQuote) r
 unfolding quoted_at
 quoted_is t r m k =
     let same : m.0 ∷ m.1 ≡ k.0 ∷ r = sym m.2 ∙ k.1 in
@@ -295,12 +298,12 @@ quoted_is t r m k =
     branch_true (byte percent_sign) _ _ t r (m.0, m.2 ∙ ap (λ (l : List ℕ). m.0 ∷ l) after, m.3)
 
 pub quoted_no_quote : (t r q : List ℕ) → NextIs (byte percent_sign) true t → Skips t r
-    → TakesIf (byte double_quote) false r q → located (quoted_at rfc9651 t) ≡ Err (ExpectedQuote, q)
+    → TakesIf (byte double_quote) false r q → located (quoted_at Rfc9651 t) ≡ Err (ExpectedQuote, q)
 unfolding fail
 quoted_no_quote t r q m k n = ap located (quoted_is t r m k ∙ branch_false _ _ _ r q n)
 
 pub quoted_reads : (t r q : List ℕ) → NextIs (byte percent_sign) true t → Skips t r
-    → TakesIf (byte double_quote) true r q → quoted_at rfc9651 t ≡ (display_at >>= λ s. give (display_string s)) q
+    → TakesIf (byte double_quote) true r q → quoted_at Rfc9651 t ≡ (display_at >>= λ s. give (display_string s)) q
 quoted_reads t r q m k n = quoted_is t r m k ∙ branch_true _ _ _ r q n
 
 -- ---- bare items
@@ -315,37 +318,37 @@ passed c t r m k =
     let after : m.1 ≡ r = cc in
     next_byte c t m ∙ ap (λ (l : List ℕ). c ∷ l) after
 
-pub bare_boolean : (edition : Edition) (t r : List ℕ) → NextIs (byte question_mark) true t → Skips t r
-    → bare_at edition t ≡ boolean_at r
+pub bare_boolean : (version : Version) (t r : List ℕ) → NextIs (byte question_mark) true t → Skips t r
+    → bare_at version t ≡ boolean_at r
 unfolding bare_at branch
-bare_boolean edition t r m k = ap (bare_at edition) (passed question_mark t r m k)
+bare_boolean version t r m k = ap (bare_at version) (passed question_mark t r m k)
 
-pub bare_string : (edition : Edition) (t r : List ℕ) → NextIs (byte double_quote) true t → Skips t r
-    → bare_at edition t ≡ (string_at >>= λ s. give (string s)) r
+pub bare_string : (version : Version) (t r : List ℕ) → NextIs (byte double_quote) true t → Skips t r
+    → bare_at version t ≡ (string_at >>= λ s. give (string s)) r
 unfolding bare_at branch
-bare_string edition t r m k = ap (bare_at edition) (passed double_quote t r m k)
+bare_string version t r m k = ap (bare_at version) (passed double_quote t r m k)
 
-pub bare_bytes : (edition : Edition) (t r : List ℕ) → NextIs (byte colon) true t → Skips t r
-    → bare_at edition t ≡ (bytes_at >>= λ s. give (byte_sequence s)) r
+pub bare_bytes : (version : Version) (t r : List ℕ) → NextIs (byte colon) true t → Skips t r
+    → bare_at version t ≡ (bytes_at >>= λ s. give (byte_sequence s)) r
 unfolding bare_at branch
-bare_bytes edition t r m k = ap (bare_at edition) (passed colon t r m k)
+bare_bytes version t r m k = ap (bare_at version) (passed colon t r m k)
 
-pub bare_date : (edition : Edition) (t : List ℕ) → NextIs (byte at_sign) true t → bare_at edition t ≡ date_at edition t
+pub bare_date : (version : Version) (t : List ℕ) → NextIs (byte at_sign) true t → bare_at version t ≡ date_at version t
 unfolding bare_at branch ahead
-bare_date edition t m = let e = next_byte at_sign t m in ap (bare_at edition) e ∙ sym (ap (date_at edition) e)
+bare_date version t m = let e = next_byte at_sign t m in ap (bare_at version) e ∙ sym (ap (date_at version) e)
 
-pub bare_quoted : (edition : Edition) (t : List ℕ) → NextIs (byte percent_sign) true t
-    → bare_at edition t ≡ quoted_at edition t
+pub bare_quoted : (version : Version) (t : List ℕ) → NextIs (byte percent_sign) true t
+    → bare_at version t ≡ quoted_at version t
 unfolding bare_at branch ahead
-bare_quoted edition t m = let e = next_byte percent_sign t m in ap (bare_at edition) e ∙ sym (ap (quoted_at edition) e)
+bare_quoted version t m = let e = next_byte percent_sign t m in ap (bare_at version) e ∙ sym (ap (quoted_at version) e)
 
 -- what RFC 8941 has not
-pub bare_older_date : (t : List ℕ) → NextIs (byte at_sign) true t → located (bare_at rfc8941 t) ≡ Err (Rfc8941Date, t)
-bare_older_date t m = ap located (bare_date rfc8941 t m) ∙ date_older t
+pub bare_older_date : (t : List ℕ) → NextIs (byte at_sign) true t → located (bare_at Rfc8941 t) ≡ Err (Rfc8941Date, t)
+bare_older_date t m = ap located (bare_date Rfc8941 t m) ∙ date_older t
 
 pub bare_older_quoted : (t : List ℕ) → NextIs (byte percent_sign) true t
-    → located (bare_at rfc8941 t) ≡ Err (Rfc8941DisplayString, t)
-bare_older_quoted t m = ap located (bare_quoted rfc8941 t m) ∙ quoted_older t
+    → located (bare_at Rfc8941 t) ≡ Err (Rfc8941DisplayString, t)
+bare_older_quoted t m = ap located (bare_quoted Rfc8941 t m) ∙ quoted_older t
 
 pub ruleset older_steps = (bare_older_date, bare_older_quoted)
 
@@ -353,11 +356,11 @@ pub ruleset older_steps = (bare_older_date, bare_older_quoted)
 no_opener : (b c : ℕ) → is_number_start b ≡ true → is_number_start c ≡ false → byte c b ≡ false
 no_opener b c h n = ne_eqb b c (λ e. both_ways (is_number_start b) (rw e n) h)
 
-pub bare_number : (edition : Edition) (t : List ℕ) → NextIs is_number_start true t
-    → bare_at edition t ≡ number_at false t
+pub bare_number : (version : Version) (t : List ℕ) → NextIs is_number_start true t
+    → bare_at version t ≡ number_at false t
 unfolding bare_at branch ahead
-bare_number edition t m =
-    let all : bare_at edition (m.0 ∷ m.1) ≡ number_at false (m.0 ∷ m.1) = rw (
+bare_number version t m =
+    let all : bare_at version (m.0 ∷ m.1) ≡ number_at false (m.0 ∷ m.1) = rw (
       no_opener m.0 question_mark m.3 refl,
       no_opener m.0 double_quote m.3 refl,
       no_opener m.0 colon m.3 refl,
@@ -365,7 +368,7 @@ bare_number edition t m =
       no_opener m.0 percent_sign m.3 refl,
       m.3,
     ) refl in
-    ap (bare_at edition) m.2 ∙ all ∙ sym (ap (number_at false) m.2)
+    ap (bare_at version) m.2 ∙ all ∙ sym (ap (number_at false) m.2)
 
 -- nothing stands next that opens another item than a token
 pub record NoOpener (t : List ℕ) : Type 0 where
@@ -376,9 +379,9 @@ pub record NoOpener (t : List ℕ) : Type 0 where
   pub no_date : Apart (byte at_sign) t
   pub no_quoted : Apart (byte percent_sign) t
 
-pub bare_token : (edition : Edition) (t : List ℕ) → NoOpener t → bare_at edition t ≡ token_at t
+pub bare_token : (version : Version) (t : List ℕ) → NoOpener t → bare_at version t ≡ token_at t
 unfolding bare_at
-bare_token edition t h = branch_past _ _ _ t h.no_boolean ∙ branch_past _ _ _ t h.no_string
+bare_token version t h = branch_past _ _ _ t h.no_boolean ∙ branch_past _ _ _ t h.no_string
     ∙ branch_past _ _ _ t h.no_bytes ∙ ahead_past _ _ _ t h.no_date ∙ ahead_past _ _ _ t h.no_quoted
     ∙ ahead_past _ _ _ t h.no_number
 
@@ -390,40 +393,40 @@ given f view t r v e = bind_complete f _ t r v e
 
 -- ---- parameters
 
-pub value_given : (edition : Edition) (t r : List ℕ) → TakesIf (byte equals_sign) true t r
-    → value_at edition t ≡ bare_at edition r
+pub value_given : (version : Version) (t r : List ℕ) → TakesIf (byte equals_sign) true t r
+    → value_at version t ≡ bare_at version r
 unfolding value_at
-value_given edition t r m = branch_true _ _ _ t r m
+value_given version t r m = branch_true _ _ _ t r m
 
-pub value_left_out : (edition : Edition) (t r : List ℕ) → TakesIf (byte equals_sign) false t r
-    → value_at edition t ≡ Ok (boolean true, r)
+pub value_left_out : (version : Version) (t r : List ℕ) → TakesIf (byte equals_sign) false t r
+    → value_at version t ≡ Ok (boolean true, r)
 unfolding value_at give
-value_left_out edition t r m = branch_false _ _ _ t r m
+value_left_out version t r m = branch_false _ _ _ t r m
 
 pub ruleset value_steps = (value_given, value_left_out)
 
-pub parameter_none : (edition : Edition) (t r : List ℕ) → TakesIf (byte semicolon) false t r
-    → parameter_at edition t ≡ Ok (None, r)
+pub parameter_none : (version : Version) (t r : List ℕ) → TakesIf (byte semicolon) false t r
+    → parameter_at version t ≡ Ok (None, r)
 unfolding parameter_at give
-parameter_none edition t r m = branch_false _ _ _ t r m
+parameter_none version t r m = branch_false _ _ _ t r m
 
 -- after the semicolon and spaces
-pub parameter_is : (edition : Edition) (t r s q : List ℕ) → TakesIf (byte semicolon) true t r
-    → span is_space r ≡ Ok (s, q) → parameter_at edition t
-    ≡ (key_at >>= λ key. value_at edition >>= λ v. give (Some (key, v))) q
+pub parameter_is : (version : Version) (t r s q : List ℕ) → TakesIf (byte semicolon) true t r
+    → span is_space r ≡ Ok (s, q) → parameter_at version t
+    ≡ (key_at >>= λ key. value_at version >>= λ v. give (Some (key, v))) q
 unfolding parameter_at
-parameter_is edition t r s q m i = branch_true _ _ _ t r m ∙ bind_complete _ _ r q s i
+parameter_is version t r s q m i = branch_true _ _ _ t r m ∙ bind_complete _ _ r q s i
 
-pub parameter_keyed : (edition : Edition) (t r s q key w : List ℕ) → TakesIf (byte semicolon) true t r
+pub parameter_keyed : (version : Version) (t r s q key w : List ℕ) → TakesIf (byte semicolon) true t r
     → span is_space r ≡ Ok (s, q) → key_at q ≡ Ok (key, w)
-    → parameter_at edition t ≡ (value_at edition >>= λ v. give (Some (key, v))) w
-parameter_keyed edition t r s q key w m i k = parameter_is edition t r s q m i ∙ bind_complete _ _ q w key k
+    → parameter_at version t ≡ (value_at version >>= λ v. give (Some (key, v))) w
+parameter_keyed version t r s q key w m i k = parameter_is version t r s q m i ∙ bind_complete _ _ q w key k
 
-pub parameter_some : (edition : Edition) (t r s q key w x : List ℕ) (v : BareValue) → TakesIf (byte semicolon) true t r
-    → span is_space r ≡ Ok (s, q) → key_at q ≡ Ok (key, w) → value_at edition w ≡ Ok (v, x)
-    → parameter_at edition t ≡ Ok (Some (key, v), x)
+pub parameter_some : (version : Version) (t r s q key w x : List ℕ) (v : BareValue) → TakesIf (byte semicolon) true t r
+    → span is_space r ≡ Ok (s, q) → key_at q ≡ Ok (key, w) → value_at version w ≡ Ok (v, x)
+    → parameter_at version t ≡ Ok (Some (key, v), x)
 unfolding give
-parameter_some edition t r s q key w x v m i k e = parameter_keyed edition t r s q key w m i k
+parameter_some version t r s q key w x v m i k e = parameter_keyed version t r s q key w m i k
     ∙ bind_complete _ _ w x v e
 
 pub ruleset parameter_steps = parameter_none
@@ -431,29 +434,29 @@ pub ruleset parameter_steps = parameter_none
 -- ---- items
 
 -- what stands after a bare item
-pub item_behind : Edition → BareValue → Reader RawItem
-item_behind edition bare = led (bare_item bare ∷ []) (parameters_at edition >>= λ ps. give (item_of bare ps))
+pub item_after : Version → BareValue → Reader RawItem
+item_after version bare = led (bare_item bare ∷ []) (parameters_at version >>= λ ps. give (item_of bare ps))
 
-pub item_is : (edition : Edition) (t : List ℕ) → item_at edition t ≡ (bare_at edition >>= item_behind edition) t
-unfolding item_at item_behind
-item_is edition t = refl
+pub item_is : (version : Version) (t : List ℕ) → item_at version t ≡ (bare_at version >>= item_after version) t
+unfolding item_at item_after
+item_is version t = refl
 
 located_led : {A : Type 0} (es : List TreeEvent) (a : Answer A) → located (led_answer es a) ≡ located a
 located_led es (Ok x) = refl
 located_led es (Err f) = refl
 
-pub item_located : (edition : Edition) (t r : List ℕ) (bare : BareValue) → bare_at edition t ≡ Ok (bare, r)
-    → located (item_at edition t) ≡ located ((parameters_at edition >>= λ ps. give (item_of bare ps)) r)
-unfolding item_behind led
-item_located edition t r bare e = ap located (item_is edition t
-    ∙ bind_complete (bare_at edition) (item_behind edition) t r bare e)
-    ∙ located_led (bare_item bare ∷ []) ((parameters_at edition >>= λ ps. give (item_of bare ps)) r)
+pub item_located : (version : Version) (t r : List ℕ) (bare : BareValue) → bare_at version t ≡ Ok (bare, r)
+    → located (item_at version t) ≡ located ((parameters_at version >>= λ ps. give (item_of bare ps)) r)
+unfolding item_after led
+item_located version t r bare e = ap located (item_is version t
+    ∙ bind_complete (bare_at version) (item_after version) t r bare e)
+    ∙ located_led (bare_item bare ∷ []) ((parameters_at version >>= λ ps. give (item_of bare ps)) r)
 
-pub item_some : (edition : Edition) (t r q : List ℕ) (bare : BareValue) (ps : RawParameters)
-    → bare_at edition t ≡ Ok (bare, r) → parameters_at edition r ≡ Ok (ps, q)
-    → item_at edition t ≡ Ok (item_of bare ps, q)
-unfolding item_behind give
-item_some edition t r q bare ps e k = item_is edition t
-    ∙ bind_complete (bare_at edition) (item_behind edition) t r bare e
-    ∙ led_complete (bare_item bare ∷ []) (parameters_at edition
+pub item_some : (version : Version) (t r q : List ℕ) (bare : BareValue) (ps : RawParameters)
+    → bare_at version t ≡ Ok (bare, r) → parameters_at version r ≡ Ok (ps, q)
+    → item_at version t ≡ Ok (item_of bare ps, q)
+unfolding item_after give
+item_some version t r q bare ps e k = item_is version t
+    ∙ bind_complete (bare_at version) (item_after version) t r bare e
+    ∙ led_complete (bare_item bare ∷ []) (parameters_at version
     >>= λ ps. give (item_of bare ps)) r q (item_of bare ps) (bind_complete _ _ r q ps k)

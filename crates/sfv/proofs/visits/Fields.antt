@@ -6,9 +6,14 @@ use Rattle.std.specs.Prelude.{⊤, codes, Bool, true, false, MatchOption, IfOk, 
 use Rattle.std.specs.declared.alloc.Global.{Global}
 use Rattle.sfv_spec.specs.Classes.{is_space}
 use Rattle.sfv_spec.proofs.Marks.{comma}
-use Rattle.sfv_spec.specs.Values.{Edition, FieldKind, item_field, list_field, dictionary_field, RawField, RawItem}
+use Rattle.sfv_spec.specs.Values.{RawField, RawItem}
+use Rattle.sfv_spec.specs.declared.field_kind.FieldKind.{FieldKind}
+use Rattle.sfv_spec.specs.declared.field_kind.FieldKind.TheVariants.{Item as item_field, List as list_field}
+use Rattle.sfv_spec.specs.declared.field_kind.FieldKind.TheVariants.{Dictionary as dictionary_field}
+use Rattle.sfv_spec.specs.declared.version.Version.{Version}
 use Rattle.sfv_spec.specs.Values.{IsFieldValue}
-use Rattle.sfv_spec.specs.Faults.{SyntaxFault, trailing_characters_after_parsed_value}
+use Rattle.sfv_spec.specs.declared.error_kind.ErrorKind.{ErrorKind}
+use Rattle.sfv_spec.specs.declared.error_kind.ErrorKind.TheVariants.{TrailingCharactersAfterParsedValue}
 use Rattle.sfv_spec.specs.Grammar.{IsFieldText, IsAccepted}
 use Rattle.sfv_spec.specs.Reach.{IsReach}
 use Rattle.sfv_spec.specs.Events.{TreeEvent, events, item_events}
@@ -16,12 +21,10 @@ use Rattle.sfv_spec.specs.Visiting.{RunsTo, IsVisited, IsVisitorError, IsEarlyVi
 use Rattle.sfv_spec.specs.Visiting.{IsVisitorErrorFrom}
 use Rattle.sfv_spec.proofs.Valid.{accepted_is_value_lem}
 use Rattle.sfv_spec.proofs.Structure.{one_field_lem}
-use Rattle.sfv_spec.proofs.Editions.{one_reach_lem}
+use Rattle.sfv_spec.proofs.Versions.{one_reach_lem}
 use Rattle.sfv_spec.proofs.Visits.{fails_for_memory}
 use Rattle.sfv_base.specs.declared.error.Error.{Error}
-use Rattle.sfv_base.specs.declared.error.ErrorKind.{ErrorKind}
-use Rattle.sfv_base.specs.declared.error.ErrorKind.TheVariants.{TrailingCharactersAfterParsedValue}
-use Rattle.sfv_base.specs.Errors.{kind_of, index_of, error_kind, out_of_memory}
+use Rattle.sfv_base.specs.Errors.{kind_of, index_of, out_of_memory}
 use Rattle.sfv_base.specs.declared.error.ParseError.{ParseError}
 use Rattle.sfv_base.specs.declared.error.ParseError.TheVariants.{Syntax, Visitor}
 use Rattle.sfv_reading.specs.Reader.{Answer, Fault, and_then, bind, give, span, visited, ◌>>=◌}
@@ -51,47 +54,47 @@ use Rattle.sfv.proofs.Parsed.{located_fault, parse_error}
 use Rattle.sfv.proofs.reads.Delimiters.{span_total}
 use Rattle.sfv.specs.Memory.{IsRefusal}
 
-whole_is : (edition : Edition) (t s r : List ℕ) → span is_space t ≡ Ok (s, r)
-    → whole_field_at edition item_field t ≡ spaced edition r
+whole_is : (version : Version) (t s r : List ℕ) → span is_space t ≡ Ok (s, r)
+    → whole_field_at version item_field t ≡ spaced version r
 unfolding whole_field_at spaced
-whole_is edition t s r e = bind_complete (span is_space) _ t r s e
+whole_is version t s r e = bind_complete (span is_space) _ t r s e
 
-whole_some : (edition : Edition) (t s r q : List ℕ) (raw : RawItem) → span is_space t ≡ Ok (s, r)
-    → item_at edition r ≡ Ok (raw, q) → (w : List ℕ) × (whole_field_at edition item_field t ≡ Ok (raw, w))
+whole_some : (version : Version) (t s r q : List ℕ) (raw : RawItem) → span is_space t ≡ Ok (s, r)
+    → item_at version r ≡ Ok (raw, q) → (w : List ℕ) × (whole_field_at version item_field t ≡ Ok (raw, w))
 unfolding spaced give
-whole_some edition t s r q raw e k =
+whole_some version t s r q raw e k =
     let h = span_total is_space q in (
       h.1,
-      whole_is edition t s r e ∙ bind_complete (item_at edition) _ r q raw k
+      whole_is version t s r e ∙ bind_complete (item_at version) _ r q raw k
           ∙ bind_complete (span is_space) _ q h.1 h.0 h.2,
     )
 
-whole_fault : (edition : Edition) (t s r : List ℕ) (f : Fault) → span is_space t ≡ Ok (s, r) → item_at edition r ≡ Err f
-    → whole_field_at edition item_field t ≡ Err f
+whole_fault : (version : Version) (t s r : List ℕ) (f : Fault) → span is_space t ≡ Ok (s, r) → item_at version r ≡ Err f
+    → whole_field_at version item_field t ≡ Err f
 unfolding spaced bind
-whole_fault edition t s r f e k = whole_is edition t s r e ∙ ap (λ a. and_then a (λ i. span is_space >>= λ _. give i)) k
+whole_fault version t s r f e k = whole_is version t s r e ∙ ap (λ a. and_then a (λ i. span is_space >>= λ _. give i)) k
 
 -- the spaces before and after an item hand out nothing
-pub whole_visited : (edition : Edition) (t s r : List ℕ) → span is_space t ≡ Ok (s, r)
-    → visited (events item_field) (whole_field_at edition item_field t) ≡ visited item_events (item_at edition r)
-whole_visited edition t s r e = on (item_at edition r) refl
+pub whole_visited : (version : Version) (t s r : List ℕ) → span is_space t ≡ Ok (s, r)
+    → visited (events item_field) (whole_field_at version item_field t) ≡ visited item_events (item_at version r)
+whole_visited version t s r e = on (item_at version r) refl
   where
-    on : (a : Answer RawItem) → item_at edition r ≡ a
-        → visited (events item_field) (whole_field_at edition item_field t) ≡ visited item_events a
-    on (Ok x) k = ap (visited (events item_field)) (whole_some edition t s r x.1 x.0 e k).1
-    on (Err f) k = ap (visited (events item_field)) (whole_fault edition t s r f e k)
+    on : (a : Answer RawItem) → item_at version r ≡ a
+        → visited (events item_field) (whole_field_at version item_field t) ≡ visited item_events a
+    on (Ok x) k = ap (visited (events item_field)) (whole_some version t s r x.1 x.0 e k).1
+    on (Err f) k = ap (visited (events item_field)) (whole_fault version t s r f e k)
 
 -- a failure within the item
 pub whole_failed : {S E : Type 0} (takes : S → TreeEvent → S → Type 0) (fails : S → TreeEvent
-    → E → Type 0) (edition : Edition) (t s r : List ℕ) (from : S) (fault : E) → span is_space t ≡ Ok (s, r)
-    → VisitorFails takes fails item_events (item_at edition r) from fault
-    → VisitorFails takes fails (events item_field) (whole_field_at edition item_field t) from fault
-whole_failed takes fails edition t s r from fault e h = record {
+    → E → Type 0) (version : Version) (t s r : List ℕ) (from : S) (fault : E) → span is_space t ≡ Ok (s, r)
+    → VisitorFails takes fails item_events (item_at version r) from fault
+    → VisitorFails takes fails (events item_field) (whole_field_at version item_field t) from fault
+whole_failed takes fails version t s r from fault e h = record {
   before = h.before;
   e = h.e;
   after = h.after;
   s = h.s;
-  all = whole_visited edition t s r e ∙ h.all;
+  all = whole_visited version t s r e ∙ h.all;
   taken = h.taken;
   failed = h.failed;
 }
@@ -111,109 +114,109 @@ no_fault : {A : Type 0} (a : Answer A) (v : A) (q : List ℕ) (k : ErrorKind) (r
 no_fault (Ok x) v q k r e h = absurd cc
 no_fault (Err f) v q k r e h = absurd cc
 
-fault_of_whole : (edition : Edition) (kind : FieldKind) (t : List ℕ) (k : ErrorKind) (r : List ℕ)
-    → located (whole_field_at edition kind t) ≡ Err (k, r) → located_whole (read_field edition kind t) ≡ Err (k, r)
+fault_of_whole : (version : Version) (kind : FieldKind) (t : List ℕ) (k : ErrorKind) (r : List ℕ)
+    → located (whole_field_at version kind t) ≡ Err (k, r) → located_whole (read_field version kind t) ≡ Err (k, r)
 unfolding read_field
-fault_of_whole edition kind t k r h = ending_located (events kind) (whole_field_at edition kind t) k r h
+fault_of_whole version kind t k r h = ending_located (events kind) (whole_field_at version kind t) k r h
 
 -- an item whose reading fails is none
 no_item : {S O : Type 0} (takes : S → TreeEvent → S → Type 0) (finishes : S
-    → O → Type 0) (edition : Edition) (t s r q : List ℕ) (from : S) (i : List ℕ) (e : Error) (raw : RawItem)
-    → span is_space t ≡ Ok (s, r) → IsErrorOf i e (item_at edition r)
-    → whole_field_at edition item_field t ≡ Ok (raw, q)
+    → O → Type 0) (version : Version) (t s r q : List ℕ) (from : S) (i : List ℕ) (e : Error) (raw : RawItem)
+    → span is_space t ≡ Ok (s, r) → IsErrorOf i e (item_at version r)
+    → whole_field_at version item_field t ≡ Ok (raw, q)
     → MatchOption (index_of e) ⊤ (λ index. (item_field ≡ item_field) × (out : O)
     × IsVisited takes finishes from (item_events raw) out)
-no_item {S} {O} takes finishes edition t s r q from i e raw skipped error whole = on (index_of e) error
+no_item {S} {O} takes finishes version t s r q from i e raw skipped error whole = on (index_of e) error
   where
-    never : (a : Answer RawItem) (k : ErrorKind) (rest : List ℕ) → item_at edition r ≡ a → located a ≡ Err (k, rest) → ⊥
+    never : (a : Answer RawItem) (k : ErrorKind) (rest : List ℕ) → item_at version r ≡ a → located a ≡ Err (k, rest) → ⊥
     never (Ok x) k rest h n = absurd cc
-    never (Err f) k rest h n = let w = sym (whole_fault edition t s r f skipped h) ∙ whole in absurd cc
+    never (Err f) k rest h n = let w = sym (whole_fault version t s r f skipped h) ∙ whole in absurd cc
 
-    on : (o : Option ℕ) → MatchOption o (IsRefusal i e) (λ index. (located (item_at edition r) ≡ Err (kind_of e, drop index i)) × (index ≤ length i))
+    on : (o : Option ℕ) → MatchOption o (IsRefusal i e) (λ index. (located (item_at version r) ≡ Err (kind_of e, drop index i)) × (index ≤ length i))
         → MatchOption o ⊤ (λ index. (item_field ≡ item_field) × (out : O)
         × IsVisited takes finishes from (item_events raw) out)
     on None h = tt
-    on (Some n) h = absurd (never (item_at edition r) _ _ refl h.0)
+    on (Some n) h = absurd (never (item_at version r) _ _ refl h.0)
 
 -- what stands after an item is looked at after the answer
 pub finished_at : {S O : Type 0} (takes : S → TreeEvent → S → Type 0) (finishes : S
-    → O → Type 0) (edition : Edition) (t s r q : List ℕ) (item : RawItem) (from to : S) (out : O) (e : Error)
-    → span is_space t ≡ Ok (s, r) → item_at edition r ≡ Ok (item, q) → RunsTo takes from (item_events item) to
-    → finishes to out → IsFinishedAt takes finishes edition item_field t from e
-finished_at {S} {O} takes finishes edition t s r q item from to out e skipped read run finished raw w whole =
+    → O → Type 0) (version : Version) (t s r q : List ℕ) (item : RawItem) (from to : S) (out : O) (e : Error)
+    → span is_space t ≡ Ok (s, r) → item_at version r ≡ Ok (item, q) → RunsTo takes from (item_events item) to
+    → finishes to out → IsFinishedAt takes finishes version item_field t from e
+finished_at {S} {O} takes finishes version t s r q item from to out e skipped read run finished raw w whole =
     on (index_of e)
   where
     on : (o : Option ℕ) → MatchOption o ⊤ (λ index. (item_field ≡ item_field) × (out : O)
         × IsVisited takes finishes from (item_events raw) out)
     on None = tt
     on (Some n) =
-        let there = whole_some edition t s r q item skipped read in
-        let same = same_value (whole_field_at edition item_field t) item raw there.0 w there.1 whole in
+        let there = whole_some version t s r q item skipped read in
+        let same = same_value (whole_field_at version item_field t) item raw there.0 w there.1 whole in
         let taken = subst (λ (i : RawItem). RunsTo takes from (item_events i) to) same run in
         (refl, out, record { last = to; taken = taken; answered = finished })
 
 -- all events of the item were taken, which are those of the field
-took_item : {S : Type 0} (takes : S → TreeEvent → S → Type 0) (edition : Edition) (t s r : List ℕ) (from to : S) (e : Error)
-    → span is_space t ≡ Ok (s, r) → TookAll takes item_events e (item_at edition r) from to
-    → TookAllOf takes edition item_field t from e
-took_item {S} takes edition t s r from to e skipped h = on (index_of e) h
+took_item : {S : Type 0} (takes : S → TreeEvent → S → Type 0) (version : Version) (t s r : List ℕ) (from to : S) (e : Error)
+    → span is_space t ≡ Ok (s, r) → TookAll takes item_events e (item_at version r) from to
+    → TookAllOf takes version item_field t from e
+took_item {S} takes version t s r from to e skipped h = on (index_of e) h
   where
-    on : (o : Option ℕ) → MatchOption o ⊤ (λ index. RunsTo takes from (visited item_events (item_at edition r)) to)
-        → MatchOption o ⊤ (λ index. (to : S) × RunsTo takes from (visited (events item_field) (whole_field_at edition item_field t)) to)
+    on : (o : Option ℕ) → MatchOption o ⊤ (λ index. RunsTo takes from (visited item_events (item_at version r)) to)
+        → MatchOption o ⊤ (λ index. (to : S) × RunsTo takes from (visited (events item_field) (whole_field_at version item_field t)) to)
     on None m = tt
     on (Some n) m = (
       to,
-      subst (λ (es : List TreeEvent). RunsTo takes from es to) (sym (whole_visited edition t s r skipped)) m,
+      subst (λ (es : List TreeEvent). RunsTo takes from es to) (sym (whole_visited version t s r skipped)) m,
     )
 
 -- all events of an item that was read
-pub took_whole : {S : Type 0} (takes : S → TreeEvent → S → Type 0) (edition : Edition) (t s r q : List ℕ) (item : RawItem)
-    (from to : S) (e : Error) → span is_space t ≡ Ok (s, r) → item_at edition r ≡ Ok (item, q)
-    → RunsTo takes from (item_events item) to → TookAllOf takes edition item_field t from e
-took_whole {S} takes edition t s r q item from to e skipped read run =
-    took_item takes edition t s r from to e skipped (on (index_of e))
+pub took_whole : {S : Type 0} (takes : S → TreeEvent → S → Type 0) (version : Version) (t s r q : List ℕ) (item : RawItem)
+    (from to : S) (e : Error) → span is_space t ≡ Ok (s, r) → item_at version r ≡ Ok (item, q)
+    → RunsTo takes from (item_events item) to → TookAllOf takes version item_field t from e
+took_whole {S} takes version t s r q item from to e skipped read run =
+    took_item takes version t s r from to e skipped (on (index_of e))
   where
-    on : (o : Option ℕ) → MatchOption o ⊤ (λ index. RunsTo takes from (visited item_events (item_at edition r)) to)
+    on : (o : Option ℕ) → MatchOption o ⊤ (λ index. RunsTo takes from (visited item_events (item_at version r)) to)
     on None = tt
     on (Some n) = subst (λ (es : List TreeEvent). RunsTo takes from es to) (sym (ap (visited item_events) read)) run
 
 -- all events of a field that is at fault
-took_field : {S : Type 0} (takes : S → TreeEvent → S → Type 0) (edition : Edition) (kind : FieldKind) (t : List ℕ)
-    (from to : S) (e : Error) → TookAll takes (events kind) e (whole_field_at edition kind t) from to
-    → TookAllOf takes edition kind t from e
-took_field {S} takes edition kind t from to e h = on (index_of e) h
+took_field : {S : Type 0} (takes : S → TreeEvent → S → Type 0) (version : Version) (kind : FieldKind) (t : List ℕ)
+    (from to : S) (e : Error) → TookAll takes (events kind) e (whole_field_at version kind t) from to
+    → TookAllOf takes version kind t from e
+took_field {S} takes version kind t from to e h = on (index_of e) h
   where
-    on : (o : Option ℕ) → MatchOption o ⊤ (λ index. RunsTo takes from (visited (events kind) (whole_field_at edition kind t)) to)
-        → MatchOption o ⊤ (λ index. (to : S) × RunsTo takes from (visited (events kind) (whole_field_at edition kind t)) to)
+    on : (o : Option ℕ) → MatchOption o ⊤ (λ index. RunsTo takes from (visited (events kind) (whole_field_at version kind t)) to)
+        → MatchOption o ⊤ (λ index. (to : S) × RunsTo takes from (visited (events kind) (whole_field_at version kind t)) to)
     on None m = tt
     on (Some n) m = (to, m)
 
 -- an error within the item: a fault, or the visitor fails
 pub item_fails : {S O E : Type 0} (takes : S → TreeEvent → S → Type 0) (fails : S → TreeEvent
     → E → Type 0) (finishes : S → O → Type 0) (finish_fails : S
-    → E → Type 0) (edition : Edition) (k : Parser × Global) (s r : List ℕ) (from to : S) (after : Cursor)
+    → E → Type 0) (version : Version) (k : Parser × Global) (s r : List ℕ) (from to : S) (after : Cursor)
     (error : ParseError E) → span is_space (kept_input k) ≡ Ok (s, r)
-    → VisitsAnswer takes fails item_events k after from to (Err error) (item_at edition r)
-    → VisitsField takes fails finishes finish_fails edition item_field (kept_input k) from (Err error)
-item_fails takes fails finishes finish_fails edition k s r from to after (Syntax e) skipped h = (
-  field_error edition (kept_input k) s r (kept_input k) e skipped h.0,
-  λ raw q whole. no_item takes finishes edition (kept_input k) s r q from (kept_input k) e raw skipped h.0 whole,
-  took_item takes edition (kept_input k) s r from to e skipped h.1,
+    → VisitsAnswer takes fails item_events k after from to (Err error) (item_at version r)
+    → VisitsField takes fails finishes finish_fails version item_field (kept_input k) from (Err error)
+item_fails takes fails finishes finish_fails version k s r from to after (Syntax e) skipped h = (
+  field_error version (kept_input k) s r (kept_input k) e skipped h.0,
+  λ raw q whole. no_item takes finishes version (kept_input k) s r q from (kept_input k) e raw skipped h.0 whole,
+  took_item takes version (kept_input k) s r from to e skipped h.1,
 )
-item_fails takes fails finishes finish_fails edition k s r from to after (Visitor f) skipped h =
-    inl (whole_failed takes fails edition (kept_input k) s r from f skipped h)
+item_fails takes fails finishes finish_fails version k s r from to after (Visitor f) skipped h =
+    inl (whole_failed takes fails version (kept_input k) s r from f skipped h)
 
 -- the visitor fails to answer after the item
 pub finish_failed : {S O E : Type 0} (takes : S → TreeEvent → S → Type 0) (fails : S → TreeEvent
     → E → Type 0) (finishes : S → O → Type 0) (finish_fails : S
-    → E → Type 0) (edition : Edition) (t s r q : List ℕ) (raw : RawItem) (from to : S) (error : ParseError E)
-    → span is_space t ≡ Ok (s, r) → item_at edition r ≡ Ok (raw, q) → RunsTo takes from (item_events raw) to
+    → E → Type 0) (version : Version) (t s r q : List ℕ) (raw : RawItem) (from to : S) (error : ParseError E)
+    → span is_space t ≡ Ok (s, r) → item_at version r ≡ Ok (raw, q) → RunsTo takes from (item_events raw) to
     → IsOfVisitor (finish_fails to) error
-    → VisitsField takes fails finishes finish_fails edition item_field t from (Err error)
-finish_failed takes fails finishes finish_fails edition t s r q raw from to (Syntax e) skipped k run failed =
+    → VisitsField takes fails finishes finish_fails version item_field t from (Err error)
+finish_failed takes fails finishes finish_fails version t s r q raw from to (Syntax e) skipped k run failed =
     absurd failed
-finish_failed takes fails finishes finish_fails edition t s r q raw from to (Visitor fault) skipped k run failed =
-    let whole = whole_some edition t s r q raw skipped k in
+finish_failed takes fails finishes finish_fails version t s r q raw from to (Visitor fault) skipped k run failed =
+    let whole = whole_some version t s r q raw skipped k in
     inr (raw, whole.0, to, whole.1, run, failed, tt)
 
 -- ---- members, up to the end
@@ -221,84 +224,84 @@ finish_failed takes fails finishes finish_fails edition t s r q raw from to (Vis
 -- an error within the field: a fault, or the visitor fails
 pub field_fails : {S O E : Type 0} (takes : S → TreeEvent → S → Type 0) (fails : S → TreeEvent
     → E → Type 0) (finishes : S → O → Type 0) (finish_fails : S
-    → E → Type 0) (edition : Edition) (kind : FieldKind) (k : Parser
+    → E → Type 0) (version : Version) (kind : FieldKind) (k : Parser
     × Global) (from to : S) (after : Cursor) (error : ParseError E)
-    → VisitsAnswer takes fails (events kind) k after from to (Err error) (whole_field_at edition kind (kept_input k))
-    → VisitsField takes fails finishes finish_fails edition kind (kept_input k) from (Err error)
-field_fails {S} {O} takes fails finishes finish_fails edition kind k from to after (Visitor f) h = inl h
-field_fails {S} {O} takes fails finishes finish_fails edition kind k from to after (Syntax e) h = (
+    → VisitsAnswer takes fails (events kind) k after from to (Err error) (whole_field_at version kind (kept_input k))
+    → VisitsField takes fails finishes finish_fails version kind (kept_input k) from (Err error)
+field_fails {S} {O} takes fails finishes finish_fails version kind k from to after (Visitor f) h = inl h
+field_fails {S} {O} takes fails finishes finish_fails version kind k from to after (Syntax e) h = (
   on (index_of e) h.0,
   λ raw q whole. never raw q whole (index_of e) h.0,
-  took_field takes edition kind (kept_input k) from to e h.1,
+  took_field takes version kind (kept_input k) from to e h.1,
 )
   where
     t : List ℕ
     t = kept_input k
 
-    on : (o : Option ℕ) → MatchOption o (IsRefusal t e) (λ index. (located (whole_field_at edition kind t) ≡ Err (kind_of e, drop index t))
-        × (index ≤ length t)) → MatchOption o (IsRefusal t e) (λ index. (located_whole (read_field edition kind t) ≡ Err (kind_of e, drop index t))
+    on : (o : Option ℕ) → MatchOption o (IsRefusal t e) (λ index. (located (whole_field_at version kind t) ≡ Err (kind_of e, drop index t))
+        × (index ≤ length t)) → MatchOption o (IsRefusal t e) (λ index. (located_whole (read_field version kind t) ≡ Err (kind_of e, drop index t))
         × (index ≤ length t))
     on None m = m
-    on (Some n) m = (fault_of_whole edition kind t _ _ m.0, m.1)
+    on (Some n) m = (fault_of_whole version kind t _ _ m.0, m.1)
 
-    never : (raw : RawField kind) (q : List ℕ) → whole_field_at edition kind t ≡ Ok (raw, q) → (o : Option ℕ)
-        → MatchOption o (IsRefusal t e) (λ index. (located (whole_field_at edition kind t)
+    never : (raw : RawField kind) (q : List ℕ) → whole_field_at version kind t ≡ Ok (raw, q) → (o : Option ℕ)
+        → MatchOption o (IsRefusal t e) (λ index. (located (whole_field_at version kind t)
         ≡ Err (kind_of e, drop index t)) × (index ≤ length t))
         → MatchOption o ⊤ (λ index. (kind ≡ item_field) × (out : O)
         × IsVisited takes finishes from (events kind raw) out)
     never raw q whole None m = tt
-    never raw q whole (Some n) m = absurd (no_fault (whole_field_at edition kind t) raw q _ _ whole m.0)
+    never raw q whole (Some n) m = absurd (no_fault (whole_field_at version kind t) raw q _ _ whole m.0)
 
 -- the visitor fails to answer at the end
 pub end_failed : {S O E : Type 0} (takes : S → TreeEvent → S → Type 0) (fails : S → TreeEvent
     → E → Type 0) (finishes : S → O → Type 0) (finish_fails : S
-    → E → Type 0) (edition : Edition) (kind : FieldKind) (t q : List ℕ) (raw : RawField kind) (from to : S)
-    (error : ParseError E) → whole_field_at edition kind t ≡ Ok (raw, q) → IsAskedThere kind q
+    → E → Type 0) (version : Version) (kind : FieldKind) (t q : List ℕ) (raw : RawField kind) (from to : S)
+    (error : ParseError E) → whole_field_at version kind t ≡ Ok (raw, q) → IsAskedThere kind q
     → RunsTo takes from (events kind raw) to
-    → IsOfVisitor (finish_fails to) error → VisitsField takes fails finishes finish_fails edition kind t from
+    → IsOfVisitor (finish_fails to) error → VisitsField takes fails finishes finish_fails version kind t from
     (Err error)
-end_failed takes fails finishes finish_fails edition kind t q raw from to (Syntax e) read asked run failed =
+end_failed takes fails finishes finish_fails version kind t q raw from to (Syntax e) read asked run failed =
     absurd failed
-end_failed takes fails finishes finish_fails edition kind t q raw from to (Visitor fault) read asked run failed =
+end_failed takes fails finishes finish_fails version kind t q raw from to (Visitor fault) read asked run failed =
     inr (raw, q, to, read, run, failed, asked)
 
-pub whole_read : (edition : Edition) (kind : FieldKind) (t q : List ℕ) (raw : RawField kind)
-    → whole_field_at edition kind t ≡ Ok (raw, q) → q ≡ [] → read_field edition kind t ≡ Ok raw
+pub whole_read : (version : Version) (kind : FieldKind) (t q : List ℕ) (raw : RawField kind)
+    → whole_field_at version kind t ≡ Ok (raw, q) → q ≡ [] → read_field version kind t ≡ Ok raw
 unfolding read_field
-whole_read edition kind t q raw e end = ap (ending (events kind)) (e ∙ ap (λ (l : List ℕ). Ok (raw, l)) end)
+whole_read version kind t q raw e end = ap (ending (events kind)) (e ∙ ap (λ (l : List ℕ). Ok (raw, l)) end)
 
 -- the members of a field are what it is read as
 pub members_fail : {S O E : Type 0} (takes : S → TreeEvent → S → Type 0) (fails : S → TreeEvent
     → E → Type 0) (finishes : S → O → Type 0) (finish_fails : S
-    → E → Type 0) (keyed : Bool) (edition : Edition) (k : Parser
+    → E → Type 0) (keyed : Bool) (version : Version) (k : Parser
     × Global) (from to : S) (after : Cursor) (error : ParseError E)
     → VisitsAnswer takes fails (λ members. flat_map (member_parts keyed) members) k after from to (Err error)
-    (members_at (member_parts keyed) (one_member_at keyed edition) (kept_input k))
-    → VisitsField takes fails finishes finish_fails edition (field_of keyed) (kept_input k) from (Err error)
+    (members_at (member_parts keyed) (one_member_at keyed version) (kept_input k))
+    → VisitsField takes fails finishes finish_fails version (field_of keyed) (kept_input k) from (Err error)
 unfolding whole_field_at
-members_fail takes fails finishes finish_fails true edition k from to after error h =
-    field_fails takes fails finishes finish_fails edition dictionary_field k from to after error h
-members_fail takes fails finishes finish_fails false edition k from to after error h =
-    field_fails takes fails finishes finish_fails edition list_field k from to after error h
+members_fail takes fails finishes finish_fails true version k from to after error h =
+    field_fails takes fails finishes finish_fails version dictionary_field k from to after error h
+members_fail takes fails finishes finish_fails false version k from to after error h =
+    field_fails takes fails finishes finish_fails version list_field k from to after error h
 
 -- what the visitor answers at the end
 pub members_finish : {S O E : Type 0} (takes : S → TreeEvent → S → Type 0) (fails : S → TreeEvent
     → E → Type 0) (finishes : S → O → Type 0) (finish_fails : S
-    → E → Type 0) (keyed : Bool) (edition : Edition) (t q : List ℕ) (from to : S) (r : Result O (ParseError E))
+    → E → Type 0) (keyed : Bool) (version : Version) (t q : List ℕ) (from to : S) (r : Result O (ParseError E))
     (ms : List (MemberValue keyed))
-    → members_at (member_parts keyed) (one_member_at keyed edition) t ≡ Ok (ms, q) → q ≡ []
+    → members_at (member_parts keyed) (one_member_at keyed version) t ≡ Ok (ms, q) → q ≡ []
     → RunsTo takes from (flat_map (member_parts keyed) ms) to → IfOk r (finishes to)
-    → IfErr r (IsOfVisitor (finish_fails to)) → VisitsField takes fails finishes finish_fails edition
+    → IfErr r (IsOfVisitor (finish_fails to)) → VisitsField takes fails finishes finish_fails version
     (field_of keyed) t from r
 unfolding whole_field_at
-members_finish takes fails finishes finish_fails true edition t q from to (Ok out) ms read end run answered failed =
-    (ms, whole_read edition dictionary_field t q ms read end, record { last = to; taken = run; answered = answered })
-members_finish takes fails finishes finish_fails false edition t q from to (Ok out) ms read end run answered failed =
-    (ms, whole_read edition list_field t q ms read end, record { last = to; taken = run; answered = answered })
-members_finish takes fails finishes finish_fails true edition t q from to (Err e) ms read end run answered failed =
-    end_failed takes fails finishes finish_fails edition dictionary_field t q ms from to e read end run failed
-members_finish takes fails finishes finish_fails false edition t q from to (Err e) ms read end run answered failed =
-    end_failed takes fails finishes finish_fails edition list_field t q ms from to e read end run failed
+members_finish takes fails finishes finish_fails true version t q from to (Ok out) ms read end run answered failed =
+    (ms, whole_read version dictionary_field t q ms read end, record { last = to; taken = run; answered = answered })
+members_finish takes fails finishes finish_fails false version t q from to (Ok out) ms read end run answered failed =
+    (ms, whole_read version list_field t q ms read end, record { last = to; taken = run; answered = answered })
+members_finish takes fails finishes finish_fails true version t q from to (Err e) ms read end run answered failed =
+    end_failed takes fails finishes finish_fails version dictionary_field t q ms from to e read end run failed
+members_finish takes fails finishes finish_fails false version t q from to (Err e) ms read end run answered failed =
+    end_failed takes fails finishes finish_fails version list_field t q ms from to e read end run failed
 
 -- ---- what this says in the words of the definitions
 
@@ -307,23 +310,23 @@ ending_ok parts (Ok (w, [])) v e = let same : w ≡ v = cc in ap (λ (x : _). Ok
 ending_ok parts (Ok (w, c ∷ r)) v e = absurd cc
 ending_ok parts (Err f) v e = absurd cc
 
-pub whole_accepted : (edition : Edition) (kind : FieldKind) (t : List ℕ) (raw : RawField kind)
-    → IsFieldText edition kind raw t → whole_field_at edition kind t ≡ Ok (raw, [])
+pub whole_accepted : (version : Version) (kind : FieldKind) (t : List ℕ) (raw : RawField kind)
+    → IsFieldText version kind raw t → whole_field_at version kind t ≡ Ok (raw, [])
 unfolding read_field
-whole_accepted edition kind t raw h = ending_ok (events kind) (whole_field_at edition kind t) raw
-    ((read_is_accepted edition kind t raw).1 h)
+whole_accepted version kind t raw h = ending_ok (events kind) (whole_field_at version kind t) raw
+    ((read_is_accepted version kind t raw).1 h)
 
 -- what was read of a text is a value
-whole_value : (edition : Edition) (kind : FieldKind) (t q : List ℕ) (raw : RawField kind)
-    → whole_field_at edition kind t ≡ Ok (raw, q) → IsFieldValue kind raw
-whole_value edition kind t q raw e =
-    let h : Reached (IsFieldText edition kind) (FieldGoes edition kind) (Somewhere (FieldGoes edition kind)) t (Ok (
+whole_value : (version : Version) (kind : FieldKind) (t q : List ℕ) (raw : RawField kind)
+    → whole_field_at version kind t ≡ Ok (raw, q) → IsFieldValue kind raw
+whole_value version kind t q raw e =
+    let h : Reached (IsFieldText version kind) (FieldGoes version kind) (Somewhere (FieldGoes version kind)) t (Ok (
       raw,
       q,
     )) = subst (λ (a : Answer (RawField kind)).
-    Reached (IsFieldText edition kind) (FieldGoes edition kind) (Somewhere (FieldGoes edition kind)) t a) e
-    ((Sound-field edition kind).sound t) in
-    (accepted_is_value_lem edition kind h.0 raw h.2).0
+    Reached (IsFieldText version kind) (FieldGoes version kind) (Somewhere (FieldGoes version kind)) t a) e
+    ((Sound-field version kind).sound t) in
+    (accepted_is_value_lem version kind h.0 raw h.2).0
 
 -- where a text is rejected, only an item's visitor was asked
 asked_of_item : (kind : FieldKind) (q : List ℕ) → IsAskedThere kind q → (q ≡ [] → ⊥) → kind ≡ item_field
@@ -339,15 +342,15 @@ an_item (inr a) h = h a
 -- the fault that more stands after a field
 abbrev after_field : (kind : FieldKind) → RawField kind → List ℕ → Fault
 after_field kind raw rest = record {
-  kind = trailing_characters_after_parsed_value;
+  kind = TrailingCharactersAfterParsedValue;
   exact = true;
   rest = rest;
   events = events kind raw;
 }
 
-trailing_kind : (k : SyntaxFault) → error_kind k ≡ TrailingCharactersAfterParsedValue
-    → k ≡ trailing_characters_after_parsed_value
-trailing_kind trailing_characters_after_parsed_value e = refl
+trailing_kind : (k : ErrorKind) → k ≡ TrailingCharactersAfterParsedValue
+    → k ≡ TrailingCharactersAfterParsedValue
+trailing_kind TrailingCharactersAfterParsedValue e = refl
 trailing_kind _ e = absurd cc
 
 front_is : (t front rest : List ℕ) (n : ℕ) → t ≡ front ++ rest → rest ≡ drop n t → front ≡ take n t
@@ -355,10 +358,10 @@ front_is t front rest n e d = append_cancel_right front (take n t) rest (sym e �
     ∙ ap (λ (l : List ℕ). take n t ++ l) (sym d))
 
 -- each beginning of events that begin a field's begins them too
-begins_to : (edition : Edition) (kind : FieldKind) (u : List ℕ) (es before : List TreeEvent) (e : TreeEvent)
-    (after : List TreeEvent) → BeginsEventsAfter edition kind u es → es ≡ before ++ e ∷ after
-    → BeginsEventsAfter edition kind u (before ++ e ∷ [])
-begins_to edition kind u es before e after h i = record {
+begins_to : (version : Version) (kind : FieldKind) (u : List ℕ) (es before : List TreeEvent) (e : TreeEvent)
+    (after : List TreeEvent) → BeginsEventsAfter version kind u es → es ≡ before ++ e ∷ after
+    → BeginsEventsAfter version kind u (before ++ e ∷ [])
+begins_to version kind u es before e after h i = record {
   raw = h.raw;
   more = h.more;
   accepted = h.accepted;
@@ -368,116 +371,116 @@ begins_to edition kind u es before e after h i = record {
 }
 
 -- where more stands after a field, the field is the text up to the reach
-text_before : (edition : Edition) (kind : FieldKind) (t q : List ℕ) (raw : RawField kind)
-    → whole_field_at edition kind t ≡ Ok (raw, q) → ¬ (q ≡ []) → (n : ℕ) → IsReach edition kind t n
-    → IsFieldText edition kind raw (take n t)
+text_before : (version : Version) (kind : FieldKind) (t q : List ℕ) (raw : RawField kind)
+    → whole_field_at version kind t ≡ Ok (raw, q) → ¬ (q ≡ []) → (n : ℕ) → IsReach version kind t n
+    → IsFieldText version kind raw (take n t)
 unfolding read_field
-text_before edition kind t [] raw e more n reach = absurd (more refl)
-text_before edition kind t (c ∷ q) raw e more n reach =
-    let fault : read_field edition kind t ≡ Err (after_field kind raw (c ∷ q)) = ap (ending (events kind)) e in
-    let before = read_before edition kind t (after_field kind raw (c ∷ q)) fault refl in
-    let place = (fault_is_placed edition kind t (after_field kind raw (c ∷ q)) fault).exact refl in
+text_before version kind t [] raw e more n reach = absurd (more refl)
+text_before version kind t (c ∷ q) raw e more n reach =
+    let fault : read_field version kind t ≡ Err (after_field kind raw (c ∷ q)) = ap (ending (events kind)) e in
+    let before = read_before version kind t (after_field kind raw (c ∷ q)) fault refl in
+    let place = (fault_is_placed version kind t (after_field kind raw (c ∷ q)) fault).exact refl in
     let here : c ∷ q ≡ drop n t =
-    sym place.1 ∙ ap (λ (n : ℕ). drop n t) (one_reach_lem edition kind t place.0 n place.2 reach) in
-    let same : before.raw ≡ raw = same_value (whole_field_at edition kind t) before.raw raw (c ∷ q) (c ∷ q) before.read e in
-    subst (λ (raw : RawField kind). IsFieldText edition kind raw (take n t)) same
-    (subst (IsFieldText edition kind before.raw) (front_is t before.front (c ∷ q) n before.text here) before.means)
+    sym place.1 ∙ ap (λ (n : ℕ). drop n t) (one_reach_lem version kind t place.0 n place.2 reach) in
+    let same : before.raw ≡ raw = same_value (whole_field_at version kind t) before.raw raw (c ∷ q) (c ∷ q) before.read e in
+    subst (λ (raw : RawField kind). IsFieldText version kind raw (take n t)) same
+    (subst (IsFieldText version kind before.raw) (front_is t before.front (c ∷ q) n before.text here) before.means)
 
 -- what stands after a whole field was looked at after the answer, and only after an item
-finished_first : {S O : Type 0} (takes : S → TreeEvent → S → Type 0) (finishes : S → O → Type 0) (edition : Edition)
+finished_first : {S O : Type 0} (takes : S → TreeEvent → S → Type 0) (finishes : S → O → Type 0) (version : Version)
     (kind : FieldKind) (t : List ℕ) (from : S) (e : Error) → ((index : ℕ) → e ≡ trailing_error index
-    → (kind ≡ item_field) × (out : O) × IsAnswerOf takes finishes edition kind (take index t) from out)
-    → IsFinishedFirst takes finishes edition kind t from e
-finished_first takes finishes edition item_field t from e h = λ index same. let w = h index same in (w.1, w.2)
-finished_first takes finishes edition list_field t from e h = λ index same. let w = (h index same).0 in cc
-finished_first takes finishes edition dictionary_field t from e h = λ index same. let w = (h index same).0 in cc
+    → (kind ≡ item_field) × (out : O) × IsAnswerOf takes finishes version kind (take index t) from out)
+    → IsFinishedFirst takes finishes version kind t from e
+finished_first takes finishes version item_field t from e h = λ index same. let w = h index same in (w.1, w.2)
+finished_first takes finishes version list_field t from e h = λ index same. let w = (h index same).0 in cc
+finished_first takes finishes version dictionary_field t from e h = λ index same. let w = (h index same).0 in cc
 
 module _ {S O E : Type 0} (takes : S → TreeEvent → S → Type 0) (fails : S → TreeEvent → E → Type 0) (finishes : S
-    → O → Type 0) (finish_fails : S → E → Type 0) (edition : Edition) (kind : FieldKind) (t : List ℕ) (from : S) where
-  failed_on_accepted : (f : E) → VisitsField takes fails finishes finish_fails edition kind t from (Err (Visitor f))
-      → (raw : RawField kind) → IsFieldText edition kind raw t
+    → O → Type 0) (finish_fails : S → E → Type 0) (version : Version) (kind : FieldKind) (t : List ℕ) (from : S) where
+  failed_on_accepted : (f : E) → VisitsField takes fails finishes finish_fails version kind t from (Err (Visitor f))
+      → (raw : RawField kind) → IsFieldText version kind raw t
       → IsVisitorError takes fails finish_fails from (events kind raw) f
   failed_on_accepted f (inl r) raw h =
       let e : events kind raw ≡ r.before ++ r.e ∷ r.after =
-      ap (visited (events kind)) (sym (whole_accepted edition kind t raw h)) ∙ r.all in
+      ap (visited (events kind)) (sym (whole_accepted version kind t raw h)) ∙ r.all in
       inl (r.before, r.e, r.after, r.s, e, r.taken, r.failed)
   failed_on_accepted f (inr x) raw h =
-      let same = same_value (whole_field_at edition kind t) x.0 raw x.1 [] x.3 (whole_accepted edition kind t raw h) in
+      let same = same_value (whole_field_at version kind t) x.0 raw x.1 [] x.3 (whole_accepted version kind t raw h) in
       inr (x.2, subst (λ (i : RawField kind). RunsTo takes from (events kind i) x.2) same x.4, x.5)
 
-  failed_early : (f : E) → VisitsField takes fails finishes finish_fails edition kind t from (Err (Visitor f))
-      → (kind ≡ item_field) ⊎ ((raw : RawField kind) → IsFieldText edition kind raw t → ⊥)
+  failed_early : (f : E) → VisitsField takes fails finishes finish_fails version kind t from (Err (Visitor f))
+      → (kind ≡ item_field) ⊎ ((raw : RawField kind) → IsFieldText version kind raw t → ⊥)
       → IsEarlyVisitorError takes fails finish_fails kind from f
   failed_early f (inl r) none =
-      let begins = visited_begins edition kind t in
+      let begins = visited_begins version kind t in
       inl (
         r.before,
         r.e,
         r.s,
-        failed_begins kind (visited (events kind) (whole_field_at edition kind t)) r.before r.e
+        failed_begins kind (visited (events kind) (whole_field_at version kind t)) r.before r.e
             r.after begins r.all,
         r.taken,
         r.failed,
       )
   failed_early f (inr x) none =
-      let accepted : x.1 ≡ [] → IsFieldText edition kind x.0 t =
-      λ end. (read_is_accepted edition kind t x.0).0 (whole_read edition kind t x.1 x.0 x.3 end) in
+      let accepted : x.1 ≡ [] → IsFieldText version kind x.0 t =
+      λ end. (read_is_accepted version kind t x.0).0 (whole_read version kind t x.1 x.0 x.3 end) in
       inr (
         an_item none (λ n. asked_of_item kind x.1 x.6 (λ end. n x.0 (accepted end))),
         x.0,
         x.2,
-        whole_value edition kind t x.1 x.0 x.3,
+        whole_value version kind t x.1 x.0 x.3,
         x.4,
         x.5,
       )
 
   -- on a rejected text: the events begin those of a field that begins as the text does up to its reach
-  failed_from : (f : E) → VisitsField takes fails finishes finish_fails edition kind t from (Err (Visitor f))
-      → ¬ IsAccepted edition kind t → (n : ℕ) → IsReach edition kind t n
-      → IsVisitorErrorFrom takes fails finish_fails edition kind (take n t) from f
+  failed_from : (f : E) → VisitsField takes fails finishes finish_fails version kind t from (Err (Visitor f))
+      → ¬ IsAccepted version kind t → (n : ℕ) → IsReach version kind t n
+      → IsVisitorErrorFrom takes fails finish_fails version kind (take n t) from f
   failed_from f (inl r) rejected n reach =
-      let all = visited_reach edition kind t rejected n reach in
+      let all = visited_reach version kind t rejected n reach in
       inl (
         r.before,
         r.e,
         r.s,
-        begins_to edition kind (take n t) (visited (events kind) (whole_field_at edition kind t)) r.before r.e r.after all
+        begins_to version kind (take n t) (visited (events kind) (whole_field_at version kind t)) r.before r.e r.after all
             r.all,
         r.taken,
         r.failed,
       )
   failed_from f (inr x) rejected n reach =
-      let accepted : x.1 ≡ [] → IsFieldText edition kind x.0 t =
-      λ end. (read_is_accepted edition kind t x.0).0 (whole_read edition kind t x.1 x.0 x.3 end) in
+      let accepted : x.1 ≡ [] → IsFieldText version kind x.0 t =
+      λ end. (read_is_accepted version kind t x.0).0 (whole_read version kind t x.1 x.0 x.3 end) in
       inr (
         asked_of_item kind x.1 x.6 (λ end. rejected (x.0, accepted end)),
         x.0,
         x.2,
-        text_before edition kind t x.1 x.0 x.3 (λ end. rejected (x.0, accepted end)) n reach,
+        text_before version kind t x.1 x.0 x.3 (λ end. rejected (x.0, accepted end)) n reach,
         x.4,
         x.5,
       )
 
   pub visits_answer : (r : Result O (ParseError E))
-      → VisitsField takes fails finishes finish_fails edition kind t from r
-      → IfOk r (IsAnswerOf takes finishes edition kind t from)
+      → VisitsField takes fails finishes finish_fails version kind t from r
+      → IfOk r (IsAnswerOf takes finishes version kind t from)
   visits_answer (Ok out) h =
-      let accepted = (read_is_accepted edition kind t h.0).0 h.1 in
+      let accepted = (read_is_accepted version kind t h.0).0 h.1 in
       record {
         raw = h.0;
         accepted = accepted;
-        only = λ other k. one_field_lem edition kind t other h.0 k accepted;
-        visited = h.2;
+        only = λ other k. one_field_lem version kind t other h.0 k accepted;
+        holds = h.2;
       }
   visits_answer (Err e) h = tt
 
   in_front : (index : ℕ)
-      → VisitsField takes fails finishes finish_fails edition kind t from (Err (Syntax (trailing_error index)))
-      → (kind ≡ item_field) × (out : O) × IsAnswerOf takes finishes edition kind (take index t) from out
+      → VisitsField takes fails finishes finish_fails version kind t from (Err (Syntax (trailing_error index)))
+      → (kind ≡ item_field) × (out : O) × IsAnswerOf takes finishes version kind (take index t) from out
   in_front index h =
-      let f = located_fault (read_field edition kind t) _ _ h.0.0 in
-      let before = read_before edition kind t f.0 f.1 (trailing_kind f.0.kind f.2) in
-      let accepted : IsFieldText edition kind before.raw (take index t) = subst (IsFieldText edition kind before.raw)
+      let f = located_fault (read_field version kind t) _ _ h.0.0 in
+      let before = read_before version kind t f.0 f.1 (trailing_kind f.0.kind f.2) in
+      let accepted : IsFieldText version kind before.raw (take index t) = subst (IsFieldText version kind before.raw)
       (front_is t before.front f.0.rest index before.text f.3) before.means in
       let answered = h.1 before.raw f.0.rest before.read in (
         answered.0,
@@ -485,74 +488,74 @@ module _ {S O E : Type 0} (takes : S → TreeEvent → S → Type 0) (fails : S 
         record {
           raw = before.raw;
           accepted = accepted;
-          only = λ other k. one_field_lem edition kind (take index t) other before.raw k accepted;
-          visited = answered.2;
+          only = λ other k. one_field_lem version kind (take index t) other before.raw k accepted;
+          holds = answered.2;
         },
       )
 
   pub visits_syntax : (r : Result O (ParseError E))
-      → VisitsField takes fails finishes finish_fails edition kind t from r
-      → IfErr r (IsSyntaxOf takes finishes edition kind t from)
+      → VisitsField takes fails finishes finish_fails version kind t from r
+      → IfErr r (IsSyntaxOf takes finishes version kind t from)
   visits_syntax (Ok out) h = tt
   visits_syntax (Err (Syntax e)) h = (
-    parse_error edition kind t e h.0,
-    finished_first takes finishes edition kind t from e (λ index same. in_front index (subst
-        (λ (e : Error). VisitsField takes fails finishes finish_fails edition kind t from (Err (Syntax e))) same h)),
+    parse_error version kind t e h.0,
+    finished_first takes finishes version kind t from e (λ index same. in_front index (subst
+        (λ (e : Error). VisitsField takes fails finishes finish_fails version kind t from (Err (Syntax e))) same h)),
   )
   visits_syntax (Err (Visitor f)) h = tt
 
   pub visits_taken : (r : Result O (ParseError E))
-      → VisitsField takes fails finishes finish_fails edition kind t from r
-      → IfErr r (TookBeforeFault takes edition kind t from)
+      → VisitsField takes fails finishes finish_fails version kind t from r
+      → IfErr r (TookBeforeFault takes version kind t from)
   visits_taken (Ok out) h = tt
   visits_taken (Err (Visitor f)) h = tt
-  visits_taken (Err (Syntax e)) h = on (parse_error edition kind t e h.0)
+  visits_taken (Err (Syntax e)) h = on (parse_error version kind t e h.0)
     where
       at_index : {n : ℕ} → (o : Option ℕ) → o ≡ Some n
-          → MatchOption o ⊤ (λ index. (to : S) × RunsTo takes from (visited (events kind) (whole_field_at edition kind t)) to)
-          → (to : S) × RunsTo takes from (visited (events kind) (whole_field_at edition kind t)) to
+          → MatchOption o ⊤ (λ index. (to : S) × RunsTo takes from (visited (events kind) (whole_field_at version kind t)) to)
+          → (to : S) × RunsTo takes from (visited (events kind) (whole_field_at version kind t)) to
       at_index None same m = absurd cc
       at_index (Some n) same m = m
 
       before : (raw : RawField kind) (front rest : List ℕ) → t ≡ front ++ codes "," ++ rest
-          → IsFieldText edition kind raw front
-          → (others : List TreeEvent) × (visited (events kind) (whole_field_at edition kind t) ≡ events kind raw ++ others)
+          → IsFieldText version kind raw front
+          → (others : List TreeEvent) × (visited (events kind) (whole_field_at version kind t) ≡ events kind raw ++ others)
       before raw front rest text accepted =
           let all : t ≡ front ++ comma ∷ rest = text ∙ simp append_assoc in
-          let b = visited_before edition kind raw front rest accepted in
-          (b.0, ap (λ (l : List ℕ). visited (events kind) (whole_field_at edition kind l)) all ∙ b.1)
+          let b = visited_before version kind raw front rest accepted in
+          (b.0, ap (λ (l : List ℕ). visited (events kind) (whole_field_at version kind l)) all ∙ b.1)
 
-      on : IsParseError edition kind t e → (e ≡ out_of_memory) ⊎ TakesUpTo takes edition kind t from
+      on : IsParseError version kind t e → (e ≡ out_of_memory) ⊎ TakesUpTo takes version kind t from
       on (inl same) = inl same
       on (inr s) =
           let took = at_index (index_of e) (ap index_of s.error) h.2 in
           inr (record {
-            es = visited (events kind) (whole_field_at edition kind t);
+            es = visited (events kind) (whole_field_at version kind t);
             to = took.0;
             taken = took.1;
-            begins = λ n reach. visited_reach edition kind t s.rejected n reach;
+            begins = λ n reach. visited_reach version kind t s.rejected n reach;
             whole = before;
           })
 
   pub visits_failure : (r : Result O (ParseError E))
-      → VisitsField takes fails finishes finish_fails edition kind t from r
-      → IfErr r (IsVisitorErrorOf takes fails finish_fails edition kind t from)
+      → VisitsField takes fails finishes finish_fails version kind t from r
+      → IfErr r (IsVisitorErrorOf takes fails finish_fails version kind t from)
   visits_failure (Ok out) h = tt
   visits_failure (Err (Syntax e)) h = tt
   visits_failure (Err (Visitor f)) h = (failed_on_accepted f h, failed_early f h, failed_from f h)
 
   pub visits_accepted : (is_memory : E → Type 0) (r : Result O (ParseError E))
-      → VisitsField takes fails finishes finish_fails edition kind t from r
-      → VisitsAccepted takes fails finishes finish_fails is_memory edition kind t from r
+      → VisitsField takes fails finishes finish_fails version kind t from r
+      → VisitsAccepted takes fails finishes finish_fails is_memory version kind t from r
   visits_accepted is_memory (Ok out) h never raw accepted =
-      let read = (read_is_accepted edition kind t h.0).0 h.1 in
+      let read = (read_is_accepted version kind t h.0).0 h.1 in
       subst (λ (i : RawField kind). IsVisited takes finishes from (events kind i) out)
-      (one_field_lem edition kind t h.0 raw read accepted) h.2
-  visits_accepted is_memory (Err (Syntax e)) h never raw accepted = on (parse_error edition kind t e h.0)
+      (one_field_lem version kind t h.0 raw read accepted) h.2
+  visits_accepted is_memory (Err (Syntax e)) h never raw accepted = on (parse_error version kind t e h.0)
     where
-      on : IsParseError edition kind t e → e ≡ out_of_memory
+      on : IsParseError version kind t e → e ≡ out_of_memory
       on (inl same) = same
       on (inr s) = absurd (s.rejected (raw, accepted))
   visits_accepted is_memory (Err (Visitor f)) h never raw accepted =
       fails_for_memory takes fails finish_fails is_memory kind from raw f never
-      (accepted_is_value_lem edition kind t raw accepted).0 (failed_on_accepted f h raw accepted)
+      (accepted_is_value_lem version kind t raw accepted).0 (failed_on_accepted f h raw accepted)

@@ -5,7 +5,9 @@ use Rattle.std.specs.Prelude.{IfErr}
 use Rattle.std.proofs.lemmas.Bool.{cases_Bool}
 use Rattle.std.proofs.lemmas.List.{append-nil}
 use Rattle.sfv_spec.specs.Classes.{is_space}
-use Rattle.sfv_spec.specs.Values.{Edition, item_field, BareValue, RawItem, RawParameters}
+use Rattle.sfv_spec.specs.Values.{BareValue, RawItem, RawParameters}
+use Rattle.sfv_spec.specs.declared.field_kind.FieldKind.TheVariants.{Item as item_field}
+use Rattle.sfv_spec.specs.declared.version.Version.{Version}
 use Rattle.sfv_spec.specs.Texts.{RunOf}
 use Rattle.sfv_spec.specs.Grammar.{IsFieldText, IsBareText, StandsFirst, BeginsWithBareItem}
 use Rattle.sfv_spec.specs.Events.{TreeEvent, bare_item, parameters_events, item_events, events}
@@ -32,10 +34,10 @@ use Rattle.sfv.proofs.visits.Fields.{whole_visited, whole_accepted}
 -- ---- what was taken before an error
 
 -- the visitor's own error
-pub visitor_failed : {S E : Type 0} (takes : S → TreeEvent → S → Type 0) (edition : Edition) (t : List ℕ) (from : S)
-    (is : E → Type 0) (error : ParseError E) → IsOfVisitor is error → TookBare takes edition t from error
-visitor_failed takes edition t from is (Syntax e) h = absurd h
-visitor_failed takes edition t from is (Visitor f) h = tt
+pub visitor_failed : {S E : Type 0} (takes : S → TreeEvent → S → Type 0) (version : Version) (t : List ℕ) (from : S)
+    (is : E → Type 0) (error : ParseError E) → IsOfVisitor is error → TookBare takes version t from error
+visitor_failed takes version t from is (Syntax e) h = absurd h
+visitor_failed takes version t from is (Visitor f) h = tt
 
 -- ---- in a whole text
 
@@ -49,22 +51,22 @@ same_rest {A} a v w q r e h =
     ap (λ (p : A × List ℕ). p.1) parts
 
 -- it stands after the spaces
-pub after_spaces : {S E : Type 0} (takes : S → TreeEvent → S → Type 0) (edition there : Edition) (t s r : List ℕ)
-    (from : S) (error : ParseError E) → there ≡ edition → span is_space t ≡ Ok (s, r)
-    → TookBare takes there r from error → TookFirst takes edition t from error
-after_spaces {S} {E} takes edition there t s r from error same skipped h z w other =
-    subst (λ (l : List ℕ). TookBare {E = E} takes edition l from error) (same_rest
+pub after_spaces : {S E : Type 0} (takes : S → TreeEvent → S → Type 0) (version there : Version) (t s r : List ℕ)
+    (from : S) (error : ParseError E) → there ≡ version → span is_space t ≡ Ok (s, r)
+    → TookBare takes there r from error → TookFirst takes version t from error
+after_spaces {S} {E} takes version there t s r from error same skipped h z w other =
+    subst (λ (l : List ℕ). TookBare {E = E} takes version l from error) (same_rest
     (span is_space t) s z r w skipped other)
-    (subst (λ (here : Edition). TookBare {E = E} takes here r from error) same h)
+    (subst (λ (here : Version). TookBare {E = E} takes here r from error) same h)
 
 -- the item begins with it
-item_begins : (edition : Edition) (t q : List ℕ) (value : BareValue) → bare_at edition t ≡ Ok (value, q)
-    → (more : List TreeEvent) × (visited item_events (item_at edition t) ≡ bare_item value ∷ more)
+item_begins : (version : Version) (t q : List ℕ) (value : BareValue) → bare_at version t ≡ Ok (value, q)
+    → (more : List TreeEvent) × (visited item_events (item_at version t) ≡ bare_item value ∷ more)
 unfolding item_at led bind give
-item_begins edition t q value read = on (parameters_at edition q) refl
+item_begins version t q value read = on (parameters_at version q) refl
   where
-    on : (a : Answer RawParameters) → parameters_at edition q ≡ a
-        → (more : List TreeEvent) × (visited item_events (item_at edition t) ≡ bare_item value ∷ more)
+    on : (a : Answer RawParameters) → parameters_at version q ≡ a
+        → (more : List TreeEvent) × (visited item_events (item_at version t) ≡ bare_item value ∷ more)
     on (Ok x) e = (parameters_events x.0, rw (read, e) refl)
     on (Err f) e = (f.events, rw (read, e) refl)
 
@@ -73,55 +75,55 @@ same_head a b xs ys h = cc
 
 -- all parts of the item were taken, and then comes an error of the text
 pub item_taken : {S E : Type 0} (takes : S → TreeEvent → S → Type 0) (fails : S → TreeEvent → E → Type 0)
-    (edition : Edition) (t s r q : List ℕ) (from to : S) (item : RawItem) (e : Error) → span is_space t ≡ Ok (s, r)
-    → item_at edition r ≡ Ok (item, q) → RunsTo takes from (item_events item) to
-    → TookFirst {E = E} takes edition t from (Syntax e)
-item_taken {S} {E} takes fails edition t s r q from to item e skipped read run =
-    after_spaces {E = E} takes edition edition t s r from (Syntax e) refl skipped (λ index value w here k.
-    let begun = item_begins edition r w value k in
+    (version : Version) (t s r q : List ℕ) (from to : S) (item : RawItem) (e : Error) → span is_space t ≡ Ok (s, r)
+    → item_at version r ≡ Ok (item, q) → RunsTo takes from (item_events item) to
+    → TookFirst {E = E} takes version t from (Syntax e)
+item_taken {S} {E} takes fails version t s r q from to item e skipped read run =
+    after_spaces {E = E} takes version version t s r from (Syntax e) refl skipped (λ index value w here k.
+    let begun = item_begins version r w value k in
     let events : bare_item item.bare ∷ parameters_events item.parameters ≡ bare_item value ∷ begun.0 =
     ap (visited item_events) (sym read) ∙ begun.1 in
     let same : bare_item item.bare ≡ bare_item value = ap bare_item (same_head item.bare value _ _ events) in
     (run.0, subst (λ (e : TreeEvent). takes from e run.0) same run.1))
 
 -- the field begins with it
-field_begins : (edition : Edition) (value : BareValue) (t : List ℕ) → BeginsWithBareItem edition value t
-    → (more : List TreeEvent) × (visited (events item_field) (whole_field_at edition item_field t)
+field_begins : (version : Version) (value : BareValue) (t : List ℕ) → BeginsWithBareItem version value t
+    → (more : List TreeEvent) × (visited (events item_field) (whole_field_at version item_field t)
     ≡ bare_item value ∷ more)
-field_begins edition value t h =
+field_begins version value t h =
     let f = h.first in
-    let read = first_bare edition value t h in
-    let begun = item_begins edition (f.front ++ f.rest) f.rest value read.1 in
-    (begun.0, whole_visited edition t f.spaces (f.front ++ f.rest) read.0 ∙ begun.1)
+    let read = first_bare version value t h in
+    let begun = item_begins version (f.front ++ f.rest) f.rest value read.1 in
+    (begun.0, whole_visited version t f.spaces (f.front ++ f.rest) read.0 ∙ begun.1)
 
 same_event : (e f : TreeEvent) (xs ys : List TreeEvent) → e ∷ xs ≡ f ∷ ys → e ≡ f
 same_event e f xs ys h = cc
 
 -- nothing is visited of an item without a bare item
-item_is_quiet : (edition : Edition) (r : List ℕ) (f : Fault) → bare_at edition r ≡ Err f
-    → visited item_events (item_at edition r) ≡ []
+item_is_quiet : (version : Version) (r : List ℕ) (f : Fault) → bare_at version r ≡ Err f
+    → visited item_events (item_at version r) ≡ []
 unfolding item_at bind
-item_is_quiet edition r f e =
-    let reached = subst (Reached (IsBareText edition) (BareGoes edition) (Somewhere (BareGoes edition)) r) e
-    ((Sound-bare edition).sound r) in
+item_is_quiet version r f e =
+    let reached = subst (Reached (IsBareText version) (BareGoes version) (Somewhere (BareGoes version)) r) e
+    ((Sound-bare version).sound r) in
     let quiet : f.events ≡ [] = elim (cases_Bool f.exact) [ inl x ↦ (reached.0 x).holds.2 | inr x ↦ (reached.1 x).0.1.2 ] in
     rw e quiet
 
 -- what is visited first of an item's text is a bare item that stands first in it
-visited_first : (edition : Edition) (t : List ℕ) (e : TreeEvent) (es : List TreeEvent)
-    → visited (events item_field) (whole_field_at edition item_field t) ≡ e ∷ es
-    → (value : BareValue) × (e ≡ bare_item value) × StandsFirst edition value t
-visited_first edition t e es h =
+visited_first : (version : Version) (t : List ℕ) (e : TreeEvent) (es : List TreeEvent)
+    → visited (events item_field) (whole_field_at version item_field t) ≡ e ∷ es
+    → (value : BareValue) × (e ≡ bare_item value) × StandsFirst version value t
+visited_first version t e es h =
     let skipped = (Steady-span is_space).steady t in
     on skipped.0 skipped.1 skipped.2 skipped.4 skipped.5
-    (sym (whole_visited edition t skipped.1 skipped.2 skipped.3) ∙ h) (bare_at edition skipped.2) refl
+    (sym (whole_visited version t skipped.1 skipped.2 skipped.3) ∙ h) (bare_at version skipped.2) refl
   where
     on : (s spaces r : List ℕ) → t ≡ s ++ r → IsSpan is_space spaces s
-        → visited item_events (item_at edition r) ≡ e ∷ es → (a : Answer BareValue) → bare_at edition r ≡ a
-        → (value : BareValue) × (e ≡ bare_item value) × StandsFirst edition value t
+        → visited item_events (item_at version r) ≡ e ∷ es → (a : Answer BareValue) → bare_at version r ≡ a
+        → (value : BareValue) × (e ≡ bare_item value) × StandsFirst version value t
     on s spaces r parts blank begins (Ok x) k =
-        let begun = item_begins edition r x.1 x.0 k in
-        let read = bare_is_exact.0 edition r x.0 x.1 k in (
+        let begun = item_begins version r x.1 x.0 k in
+        let read = bare_is_exact.0 version r x.0 x.1 k in (
           x.0,
           same_event e (bare_item x.0) es begun.0 (sym begins ∙ begun.1),
           record {
@@ -133,18 +135,18 @@ visited_first edition t e es h =
               blank = subst (RunOf is_space) (sym blank.0) blank.1;
               means = read.means;
             };
-            longest = longest_read edition r x.0 x.1 read;
+            longest = longest_read version r x.0 x.1 read;
           },
         )
-    on s spaces r parts blank begins (Err f) k = absurd (let none = sym (item_is_quiet edition r f k) ∙ begins in cc)
+    on s spaces r parts blank begins (Err f) k = absurd (let none = sym (item_is_quiet version r f k) ∙ begins in cc)
 
 -- an item that is accepted has this bare item
-pub begins_with_its : (edition : Edition) (value : BareValue) (t : List ℕ) (raw : RawItem)
-    → IsFieldText edition item_field raw t → BeginsWithBareItem edition value t → raw.bare ≡ value
-begins_with_its edition value t raw accepted h =
-    let begun = field_begins edition value t h in
+pub begins_with_its : (version : Version) (value : BareValue) (t : List ℕ) (raw : RawItem)
+    → IsFieldText version item_field raw t → BeginsWithBareItem version value t → raw.bare ≡ value
+begins_with_its version value t raw accepted h =
+    let begun = field_begins version value t h in
     same_head raw.bare value (parameters_events raw.parameters) begun.0
-    (ap (visited (events item_field)) (sym (whole_accepted edition item_field t raw accepted)) ∙ begun.1)
+    (ap (visited (events item_field)) (sym (whole_accepted version item_field t raw accepted)) ∙ begun.1)
 
 -- of events that aren't none there is a first
 first_of : (before : List TreeEvent) (e : TreeEvent) (after : List TreeEvent)
@@ -153,26 +155,26 @@ first_of [] e after = (e, after, refl)
 first_of (b ∷ before) e after = (b, before ++ e ∷ after, refl)
 
 module _ {S O E : Type 0} (takes : S → TreeEvent → S → Type 0) (fails : S → TreeEvent → E → Type 0) (finishes : S
-    → O → Type 0) (finish_fails : S → E → Type 0) (edition : Edition) (t : List ℕ) (from : S) where
+    → O → Type 0) (finish_fails : S → E → Type 0) (version : Version) (t : List ℕ) (from : S) where
   -- the bare item of an item whose events begin with those that were visited
   its_bare : (raw : RawItem) (e : TreeEvent) (es more : List TreeEvent)
-      → visited (events item_field) (whole_field_at edition item_field t) ≡ e ∷ es → item_events raw ≡ (e ∷ es) ++ more
-      → StandsFirst edition raw.bare t × ((value : BareValue) → BeginsWithBareItem edition value t → raw.bare ≡ value)
+      → visited (events item_field) (whole_field_at version item_field t) ≡ e ∷ es → item_events raw ≡ (e ∷ es) ++ more
+      → StandsFirst version raw.bare t × ((value : BareValue) → BeginsWithBareItem version value t → raw.bare ≡ value)
   its_bare raw e es more begins all =
-      let first = visited_first edition t e es begins in
+      let first = visited_first version t e es begins in
       let same : raw.bare ≡ first.0 =
       same_head raw.bare first.0 (parameters_events raw.parameters) (es ++ more)
       (all ∙ ap (λ (e : TreeEvent). e ∷ (es ++ more)) first.1) in (
-        subst (λ (b : BareValue). StandsFirst edition b t) (sym same) first.2,
-        λ value h. same ∙ (let begun = field_begins edition value t h in
+        subst (λ (b : BareValue). StandsFirst version b t) (sym same) first.2,
+        λ value h. same ∙ (let begun = field_begins version value t h in
             same_head first.0 value es begun.0
             (ap (λ (e : TreeEvent). e ∷ es) (sym first.1) ∙ sym begins ∙ begun.1)),
       )
 
-  failed_first : (f : E) → VisitsField takes fails finishes finish_fails edition item_field t from (Err (Visitor f))
-      → VisitsFirst takes fails finish_fails edition t from (Visitor f)
+  failed_first : (f : E) → VisitsField takes fails finishes finish_fails version item_field t from (Err (Visitor f))
+      → VisitsFirst takes fails finish_fails version t from (Visitor f)
   failed_first f (inl r) =
-      let some = visited_begins edition item_field t in
+      let some = visited_begins version item_field t in
       let all : item_events some.raw ≡ (r.before ++ r.e ∷ r.after) ++ some.more =
       some.all ∙ ap (λ (l : List TreeEvent). l ++ some.more) r.all in
       let split = first_of r.before r.e r.after in
@@ -198,16 +200,16 @@ module _ {S O E : Type 0} (takes : S → TreeEvent → S → Type 0) (fails : S 
       (x.0, bare.0, bare.1, inr (x.2, x.4, x.5))
 
   pub visits_first : (r : Result O (ParseError E))
-      → VisitsField takes fails finishes finish_fails edition item_field t from r
-      → IfErr r (TookFirst takes edition t from)
-      → IfErr r (VisitsFirst takes fails finish_fails edition t from)
+      → VisitsField takes fails finishes finish_fails version item_field t from r
+      → IfErr r (TookFirst takes version t from)
+      → IfErr r (VisitsFirst takes fails finish_fails version t from)
   visits_first (Ok out) h k = tt
-  visits_first (Err (Syntax e)) h k = on (parse_error edition item_field t e h.0)
+  visits_first (Err (Syntax e)) h k = on (parse_error version item_field t e h.0)
     where
-      on : IsParseError edition item_field t e → VisitsFirst takes fails finish_fails edition t from (Syntax e)
+      on : IsParseError version item_field t e → VisitsFirst takes fails finish_fails version t from (Syntax e)
       on (inl same) = inl same
       on (inr s) = inr (λ value begins.
-          let read = first_bare edition value t begins in
+          let read = first_bare version value t begins in
           let f = begins.first in
           k f.spaces (f.front ++ f.rest) read.0 s.index value f.rest (ap index_of s.error) read.1)
   visits_first (Err (Visitor f)) h k = failed_first f h

@@ -4,7 +4,8 @@ use Rattle.std.proofs.Common.{append_assoc, flat_map}
 use Rattle.std.specs.Prelude.{Result}
 use Rattle.std.specs.declared.alloc.Global.{Global}
 use Rattle.sfv_spec.proofs.Marks.{left_parenthesis}
-use Rattle.sfv_spec.specs.Values.{Edition, RawParameters, RawItem, RawMember, item, inner_list}
+use Rattle.sfv_spec.specs.Values.{RawParameters, RawItem, RawMember, item, inner_list}
+use Rattle.sfv_spec.specs.declared.version.Version.{Version}
 use Rattle.sfv_spec.specs.Events.{TreeEvent, begins_item, begins_inner_list, inner_list_end, parameters_events}
 use Rattle.sfv_spec.specs.Events.{item_events, member_events, inner_item_events}
 use Rattle.sfv_spec.specs.Visiting.{RunsTo}
@@ -17,12 +18,12 @@ use Rattle.sfv_reading.specs.Visits.{VisitorFails}
 use Rattle.sfv.specs.declared.parser.Parser.{Parser}
 use Rattle.sfv.specs.declared.parser.cursor.Cursor.{Cursor}
 use Rattle.sfv.specs.parser.Cursor.{TakesIf, kept_input}
-use Rattle.sfv.specs.parser.Members.{behind_begin}
+use Rattle.sfv.specs.parser.Members.{after_begin}
 use Rattle.sfv.specs.parser.Visits.{VisitsAnswer, IsOfVisitor}
 use Rattle.sfv.proofs.reads.Steps.{branch_true, branch_false}
 use Rattle.sfv.proofs.visits.Taken.{runs_on, took_part}
 use Rattle.sfv.proofs.visits.Parameters.{of_visitor}
-use Rattle.sfv.proofs.visits.Parts.{visits_as, map_visits, then_visits, first_failed, failed_longer, failed_behind}
+use Rattle.sfv.proofs.visits.Parts.{visits_as, map_visits, then_visits, first_failed, failed_longer, failed_after}
 use Rattle.sfv.proofs.visits.Parts.{led_visits, led_fails}
 
 -- the parameters after the items
@@ -31,140 +32,140 @@ list_parameters (item i) = []
 list_parameters (inner_list l) = parameters_events l.parameters
 
 -- what stands after the items
-abbrev closing : Edition → List RawItem → Reader RawMember
-closing edition is = parameters_at edition >>= λ ps. give (inner_of is ps)
+abbrev closing : Version → List RawItem → Reader RawMember
+closing version is = parameters_at version >>= λ ps. give (inner_of is ps)
 
-closing_events : (edition : Edition) (is : List RawItem) (q : List ℕ) (w : RawMember) (r : List ℕ)
-    → closing edition is q ≡ Ok (w, r) → behind_begin w ≡ closed_events is ++ list_parameters w
+closing_events : (version : Version) (is : List RawItem) (q : List ℕ) (w : RawMember) (r : List ℕ)
+    → closing version is q ≡ Ok (w, r) → after_begin w ≡ closed_events is ++ list_parameters w
 unfolding bind give list_parameters
-closing_events edition is q w r e = on (parameters_at edition q) e
+closing_events version is q w r e = on (parameters_at version q) e
   where
     on : (a : Answer RawParameters) → and_then a (λ ps. give (inner_of is ps)) ≡ Ok (w, r)
-        → behind_begin w ≡ closed_events is ++ list_parameters w
+        → after_begin w ≡ closed_events is ++ list_parameters w
     on (Ok x) h =
         let here : RawMember × List ℕ = (inner_of is x.0, x.1) in
         let there : RawMember × List ℕ = (w, r) in
         let same : here ≡ there = cc in
-        ap (λ (p : RawMember × List ℕ). behind_begin p.0) (sym same)
+        ap (λ (p : RawMember × List ℕ). after_begin p.0) (sym same)
         ∙ sym (append_assoc (flat_map inner_item_events is) (inner_list_end ∷ []) (parameters_events x.0))
         ∙ ap (λ (p : RawMember × List ℕ). closed_events is ++ list_parameters p.0) same
     on (Err f) h = absurd cc
 
 module _ {S E : Type 0} (takes : S → TreeEvent → S → Type 0) (fails : S → TreeEvent
-    → E → Type 0) (edition : Edition) where
+    → E → Type 0) (version : Version) where
   whole_failed : (t : List ℕ) (from : S) (fault : E)
-      → VisitorFails takes fails closed_events (inner_items_at edition t) from fault
-      → VisitorFails takes fails behind_begin (inner_at edition t) from fault
+      → VisitorFails takes fails closed_events (inner_items_at version t) from fault
+      → VisitorFails takes fails after_begin (inner_at version t) from fault
   unfolding inner_at
-  whole_failed t from fault h = first_failed takes fails (inner_items_at edition) (closing edition) closed_events
-      behind_begin list_parameters t from fault (λ v q w r e k. closing_events edition v q w r k) h
+  whole_failed t from fault h = first_failed takes fails (inner_items_at version) (closing version) closed_events
+      after_begin list_parameters t from fault (λ v q w r e k. closing_events version v q w r k) h
 
   -- the items are not read whole
   pub items_fail : (t : List ℕ) (from to : S) (k : Parser × Global) (after : Cursor) (error : ParseError E)
       → VisitsAnswer takes fails (λ is. flat_map inner_item_events is) k after from to (Err error)
-      (inner_items_at edition t) → VisitsAnswer takes fails behind_begin k after from to (Err error)
-      (inner_at edition t)
+      (inner_items_at version t) → VisitsAnswer takes fails after_begin k after from to (Err error)
+      (inner_at version t)
   unfolding inner_at
-  items_fail t from to k after (Syntax e) h = took_part takes (λ is. flat_map inner_item_events is) behind_begin
-      (kept_input k) e (inner_items_at edition) (λ is. led (closed_events is) (closing edition is)) t _ from to refl h
+  items_fail t from to k after (Syntax e) h = took_part takes (λ is. flat_map inner_item_events is) after_begin
+      (kept_input k) e (inner_items_at version) (λ is. led (closed_events is) (closing version is)) t _ from to refl h
   items_fail t from to k after (Visitor fault) h =
       whole_failed t from fault (failed_longer takes fails (λ is. flat_map inner_item_events is) closed_events
-      (inner_items_at edition t) from fault (λ is. (inner_list_end ∷ [], refl)) h)
+      (inner_items_at version t) from fault (λ is. (inner_list_end ∷ [], refl)) h)
 
   -- the visitor fails at their end
   pub end_fails : (t q : List ℕ) (is : List RawItem) (from middle to : S) (k : Parser
-      × Global) (after : Cursor) (error : ParseError E) → inner_items_at edition t ≡ Ok (is, q)
+      × Global) (after : Cursor) (error : ParseError E) → inner_items_at version t ≡ Ok (is, q)
       → RunsTo takes from (flat_map inner_item_events is) middle → IsOfVisitor (fails middle inner_list_end) error
-      → VisitsAnswer takes fails behind_begin k after from to (Err error) (inner_at edition t)
+      → VisitsAnswer takes fails after_begin k after from to (Err error) (inner_at version t)
   end_fails t q is from middle to k after error read run h =
-      of_visitor takes fails behind_begin k after from to (fails middle inner_list_end) error (inner_at edition t) h
-      (λ fault failed. whole_failed t from fault (failed_behind takes fails (λ is. flat_map inner_item_events is)
-      closed_events inner_list_end (inner_items_at edition t) is q from middle fault read refl run failed))
+      of_visitor takes fails after_begin k after from to (fails middle inner_list_end) error (inner_at version t) h
+      (λ fault failed. whole_failed t from fault (failed_after takes fails (λ is. flat_map inner_item_events is)
+      closed_events inner_list_end (inner_items_at version t) is q from middle fault read refl run failed))
 
   -- the items, their end and the parameters
   pub inner_list_visits : (t q : List ℕ) (is : List RawItem) (from middle end to : S) (k : Parser
-      × Global) (after : Cursor) (r : Result (Unit {0}) (ParseError E)) → inner_items_at edition t ≡ Ok (is, q)
+      × Global) (after : Cursor) (r : Result (Unit {0}) (ParseError E)) → inner_items_at version t ≡ Ok (is, q)
       → RunsTo takes from (flat_map inner_item_events is) middle → takes middle inner_list_end end
-      → VisitsAnswer takes fails parameters_events k after end to r (parameters_at edition q)
-      → VisitsAnswer takes fails behind_begin k after from to r (inner_at edition t)
+      → VisitsAnswer takes fails parameters_events k after end to r (parameters_at version q)
+      → VisitsAnswer takes fails after_begin k after from to r (inner_at version t)
   unfolding inner_at list_parameters
   inner_list_visits t q is from middle end to k after r read run taken h =
-      then_visits takes fails (inner_items_at edition) (closing edition) closed_events behind_begin list_parameters t q
+      then_visits takes fails (inner_items_at version) (closing version) closed_events after_begin list_parameters t q
       is from end to k after r read
       (runs_on takes (flat_map inner_item_events is) (inner_list_end ∷ []) from middle end run (end, taken, refl))
-      (λ w s e. closing_events edition is q w s e)
-      (map_visits takes fails (λ ps. inner_of is ps) parameters_events list_parameters (parameters_at edition) q end to
+      (λ w s e. closing_events version is q w s e)
+      (map_visits takes fails (λ ps. inner_of is ps) parameters_events list_parameters (parameters_at version) q end to
       k after r (λ ps. refl) h)
 
   -- ---- a member
 
   member_list : (t q : List ℕ) → TakesIf (byte left_parenthesis) true t q
-      → member_at edition t ≡ led (begins_inner_list ∷ []) (inner_at edition) q
+      → member_at version t ≡ led (begins_inner_list ∷ []) (inner_at version) q
   unfolding member_at
   member_list t q m = branch_true (byte left_parenthesis) _ _ t q m
 
   abbrev as_item : Reader RawMember
-  as_item = item_at edition >>= λ i. give (item i)
+  as_item = item_at version >>= λ i. give (item i)
 
   member_item : (t q : List ℕ) → TakesIf (byte left_parenthesis) false t q
-      → member_at edition t ≡ led (begins_item ∷ []) as_item q
+      → member_at version t ≡ led (begins_item ∷ []) as_item q
   unfolding member_at
   member_item t q m = branch_false (byte left_parenthesis) _ _ t q m
 
   -- what an inner list gives begins as one
   given_list : (is : List RawItem) (a : Answer RawParameters) (v : RawMember) (r : List ℕ)
       → led_answer (closed_events is) (and_then a (λ ps. give (inner_of is ps))) ≡ Ok (v, r)
-      → member_events v ≡ begins_inner_list ∷ behind_begin v
+      → member_events v ≡ begins_inner_list ∷ after_begin v
   unfolding give
   given_list is (Ok x) v r h =
       let here : RawMember × List ℕ = (inner_of is x.0, x.1) in
       let there : RawMember × List ℕ = (v, r) in
       let same : here ≡ there = cc in
-      subst (λ (p : RawMember × List ℕ). member_events p.0 ≡ begins_inner_list ∷ behind_begin p.0) same refl
+      subst (λ (p : RawMember × List ℕ). member_events p.0 ≡ begins_inner_list ∷ after_begin p.0) same refl
   given_list is (Err f) v r h = absurd cc
 
   begins_as_list : (q : List ℕ) (v : RawMember) (r : List ℕ)
-      → led (begins_inner_list ∷ []) (inner_at edition) q ≡ Ok (v, r)
-      → member_events v ≡ begins_inner_list ∷ behind_begin v
+      → led (begins_inner_list ∷ []) (inner_at version) q ≡ Ok (v, r)
+      → member_events v ≡ begins_inner_list ∷ after_begin v
   unfolding inner_at led bind
-  begins_as_list q v r e = on (inner_items_at edition q) e
+  begins_as_list q v r e = on (inner_items_at version q) e
     where
       inner : (b : Answer RawMember) → ((v : RawMember) (r : List ℕ) → b ≡ Ok (v, r)
-          → member_events v ≡ begins_inner_list ∷ behind_begin v) → led_answer (begins_inner_list ∷ []) b ≡ Ok (v, r)
-          → member_events v ≡ begins_inner_list ∷ behind_begin v
+          → member_events v ≡ begins_inner_list ∷ after_begin v) → led_answer (begins_inner_list ∷ []) b ≡ Ok (v, r)
+          → member_events v ≡ begins_inner_list ∷ after_begin v
       inner (Ok x) h e =
           let here : RawMember × List ℕ = x in
           let there : RawMember × List ℕ = (v, r) in
           let same : here ≡ there = cc in
           subst (λ (p : RawMember × List ℕ). member_events p.0
-          ≡ begins_inner_list ∷ behind_begin p.0) same (h x.0 x.1 refl)
+          ≡ begins_inner_list ∷ after_begin p.0) same (h x.0 x.1 refl)
       inner (Err f) h e = absurd cc
 
       on : (a : Answer (List RawItem)) → led_answer (begins_inner_list ∷ [])
           (and_then a (λ is q. led_answer (closed_events is)
-          (and_then (parameters_at edition q) (λ ps. give (inner_of is ps))))) ≡ Ok (v, r)
-          → member_events v ≡ begins_inner_list ∷ behind_begin v
+          (and_then (parameters_at version q) (λ ps. give (inner_of is ps))))) ≡ Ok (v, r)
+          → member_events v ≡ begins_inner_list ∷ after_begin v
       on (Ok x) e = inner (led_answer (closed_events x.0)
-          (and_then (parameters_at edition x.1) (λ ps. give (inner_of x.0 ps))))
-          (given_list x.0 (parameters_at edition x.1)) e
+          (and_then (parameters_at version x.1) (λ ps. give (inner_of x.0 ps))))
+          (given_list x.0 (parameters_at version x.1)) e
       on (Err f) e = absurd cc
 
   pub list_member_visits : (t q : List ℕ) (from middle to : S) (k : Parser
       × Global) (after : Cursor) (r : Result (Unit {0}) (ParseError E)) → TakesIf (byte left_parenthesis) true t q
       → takes from begins_inner_list middle
-      → VisitsAnswer takes fails behind_begin k after middle to r (inner_at edition q)
-      → VisitsAnswer takes fails member_events k after from to r (member_at edition t)
+      → VisitsAnswer takes fails after_begin k after middle to r (inner_at version q)
+      → VisitsAnswer takes fails member_events k after from to r (member_at version t)
   list_member_visits t q from middle to k after r m taken h =
-      visits_as takes fails (λ v. begins_inner_list ∷ behind_begin v) member_events
-      (led (begins_inner_list ∷ []) (inner_at edition) q) (member_at edition t) from to k after r
+      visits_as takes fails (λ v. begins_inner_list ∷ after_begin v) member_events
+      (led (begins_inner_list ∷ []) (inner_at version) q) (member_at version t) from to k after r
       (member_list t q m) (begins_as_list q)
-      (led_visits takes fails begins_inner_list behind_begin (inner_at edition) q from middle to k after r taken h)
+      (led_visits takes fails begins_inner_list after_begin (inner_at version) q from middle to k after r taken h)
 
   -- an item as a member
   item_first : (q : List ℕ) → led (begins_item ∷ []) as_item q
-      ≡ (led (begins_item ∷ []) (item_at edition) >>= λ i. give (item i)) q
+      ≡ (led (begins_item ∷ []) (item_at version) >>= λ i. give (item i)) q
   unfolding led bind give
-  item_first q = on (item_at edition q)
+  item_first q = on (item_at version q)
     where
       on : (a : Answer RawItem) → led_answer (begins_item ∷ []) (and_then a (λ i. give (item i)))
           ≡ and_then (led_answer (begins_item ∷ []) a) (λ i. give (item i))
@@ -174,33 +175,33 @@ module _ {S E : Type 0} (takes : S → TreeEvent → S → Type 0) (fails : S �
   pub item_member_visits : (t q : List ℕ) (from middle to : S) (k : Parser
       × Global) (after : Cursor) (r : Result (Unit {0}) (ParseError E)) → TakesIf (byte left_parenthesis) false t q
       → takes from begins_item middle
-      → VisitsAnswer takes fails item_events k after middle to r (item_at edition q)
-      → VisitsAnswer takes fails member_events k after from to r (member_at edition t)
+      → VisitsAnswer takes fails item_events k after middle to r (item_at version q)
+      → VisitsAnswer takes fails member_events k after from to r (member_at version t)
   item_member_visits t q from middle to k after r m taken h =
       visits_as takes fails member_events member_events
-      ((led (begins_item ∷ []) (item_at edition) >>= λ i. give (item i)) q) (member_at edition t) from to k after r
+      ((led (begins_item ∷ []) (item_at version) >>= λ i. give (item i)) q) (member_at version t) from to k after r
       (member_item t q m ∙ item_first q) (λ v s e. refl)
       (map_visits takes fails (λ i. item i) (λ i. begins_item ∷ item_events i) member_events
-      (led (begins_item ∷ []) (item_at edition)) q from to k after r (λ i. refl)
-      (led_visits takes fails begins_item item_events (item_at edition) q from middle to k after r taken h))
+      (led (begins_item ∷ []) (item_at version)) q from to k after r (λ i. refl)
+      (led_visits takes fails begins_item item_events (item_at version) q from middle to k after r taken h))
 
   -- the visitor fails at the beginning of a member
   pub list_begin_fails : (t q : List ℕ) (from to : S) (k : Parser × Global) (after : Cursor) (error : ParseError E)
       → TakesIf (byte left_parenthesis) true t q → IsOfVisitor (fails from begins_inner_list) error
-      → VisitsAnswer takes fails member_events k after from to (Err error) (member_at edition t)
+      → VisitsAnswer takes fails member_events k after from to (Err error) (member_at version t)
   list_begin_fails t q from to k after error m h =
-      visits_as takes fails (λ v. begins_inner_list ∷ behind_begin v) member_events
-      (led (begins_inner_list ∷ []) (inner_at edition) q) (member_at edition t) from to k after (Err error)
+      visits_as takes fails (λ v. begins_inner_list ∷ after_begin v) member_events
+      (led (begins_inner_list ∷ []) (inner_at version) q) (member_at version t) from to k after (Err error)
       (member_list t q m) (begins_as_list q)
-      (led_fails takes fails begins_inner_list behind_begin (inner_at edition) q from to k after error h)
+      (led_fails takes fails begins_inner_list after_begin (inner_at version) q from to k after error h)
 
   pub item_begin_fails : (t q : List ℕ) (from to : S) (k : Parser × Global) (after : Cursor) (error : ParseError E)
       → TakesIf (byte left_parenthesis) false t q → IsOfVisitor (fails from begins_item) error
-      → VisitsAnswer takes fails member_events k after from to (Err error) (member_at edition t)
+      → VisitsAnswer takes fails member_events k after from to (Err error) (member_at version t)
   item_begin_fails t q from to k after error m h =
       visits_as takes fails member_events member_events
-      ((led (begins_item ∷ []) (item_at edition) >>= λ i. give (item i)) q) (member_at edition t) from to k after
+      ((led (begins_item ∷ []) (item_at version) >>= λ i. give (item i)) q) (member_at version t) from to k after
       (Err error) (member_item t q m ∙ item_first q) (λ v s e. refl)
       (map_visits takes fails (λ i. item i) (λ i. begins_item ∷ item_events i) member_events
-      (led (begins_item ∷ []) (item_at edition)) q from to k after (Err error) (λ i. refl)
-      (led_fails takes fails begins_item item_events (item_at edition) q from to k after error h))
+      (led (begins_item ∷ []) (item_at version)) q from to k after (Err error) (λ i. refl)
+      (led_fails takes fails begins_item item_events (item_at version) q from to k after error h))

@@ -3,7 +3,8 @@ use Rattle.std.proofs.Common.{◌≡◌, ℕ, true, false, List, [], ◌∷◌, 
 use Rattle.std.specs.Prelude.{Result}
 use Rattle.std.specs.declared.alloc.Global.{Global}
 use Rattle.sfv_spec.specs.Ascii.{equals_sign}
-use Rattle.sfv_spec.specs.Values.{Edition, boolean, RawParameters, RawMember}
+use Rattle.sfv_spec.specs.Values.{boolean, RawParameters, RawMember}
+use Rattle.sfv_spec.specs.declared.version.Version.{Version}
 use Rattle.sfv_spec.specs.Events.{TreeEvent, keyed_entry, begins_item, bare_item, parameters_events, member_events}
 use Rattle.sfv_spec.specs.Events.{keyed_events}
 use Rattle.sfv_spec.specs.Grammar.{true_with}
@@ -23,50 +24,50 @@ use Rattle.sfv.proofs.visits.Parameters.{of_visitor}
 use Rattle.sfv.proofs.visits.Parts.{visits_as, map_visits, then_visits, led_visits, led_fails}
 
 -- the pair of a key and what stands after it
-abbrev pair_at : Edition → List ℕ → Reader (List ℕ × RawMember)
-pair_at edition key = member_value_at edition >>= λ m. give (key, m)
+abbrev pair_at : Version → List ℕ → Reader (List ℕ × RawMember)
+pair_at version key = member_value_at version >>= λ m. give (key, m)
 
 -- what is visited after the key
-abbrev behind_key : List ℕ × RawMember → List TreeEvent
-behind_key m = member_events m.1
+abbrev after_key : List ℕ × RawMember → List TreeEvent
+after_key m = member_events m.1
 
-pair_events : (edition : Edition) (key q : List ℕ) (w : List ℕ × RawMember) (r : List ℕ)
-    → pair_at edition key q ≡ Ok (w, r) → keyed_events w ≡ (keyed_entry key ∷ []) ++ behind_key w
+pair_events : (version : Version) (key q : List ℕ) (w : List ℕ × RawMember) (r : List ℕ)
+    → pair_at version key q ≡ Ok (w, r) → keyed_events w ≡ (keyed_entry key ∷ []) ++ after_key w
 unfolding bind give
-pair_events edition key q w r e = on (member_value_at edition q) e
+pair_events version key q w r e = on (member_value_at version q) e
   where
     on : (a : Answer RawMember) → and_then a (λ m. give (key, m)) ≡ Ok (w, r)
-        → keyed_events w ≡ (keyed_entry key ∷ []) ++ behind_key w
+        → keyed_events w ≡ (keyed_entry key ∷ []) ++ after_key w
     on (Ok x) h =
         let here : (List ℕ × RawMember) × List ℕ = ((key, x.0), x.1) in
         let there : (List ℕ × RawMember) × List ℕ = (w, r) in
         let same : here ≡ there = cc in
-        ap (λ (p : (List ℕ × RawMember) × List ℕ). keyed_entry p.0.0 ∷ behind_key w) (sym same)
+        ap (λ (p : (List ℕ × RawMember) × List ℕ). keyed_entry p.0.0 ∷ after_key w) (sym same)
     on (Err f) h = absurd cc
 
 module _ {S E : Type 0} (takes : S → TreeEvent → S → Type 0) (fails : S → TreeEvent
-    → E → Type 0) (edition : Edition) where
+    → E → Type 0) (version : Version) where
   -- ---- after the key
 
   pub value_visits : (t q : List ℕ) (from to : S) (k : Parser
       × Global) (after : Cursor) (r : Result (Unit {0}) (ParseError E)) → TakesIf (byte equals_sign) true t q
-      → VisitsAnswer takes fails member_events k after from to r (member_at edition q)
-      → VisitsAnswer takes fails member_events k after from to r (member_value_at edition t)
+      → VisitsAnswer takes fails member_events k after from to r (member_at version q)
+      → VisitsAnswer takes fails member_events k after from to r (member_value_at version t)
   unfolding member_value_at
-  value_visits t q from to k after r m h = visits_as takes fails member_events member_events (member_at edition q)
-      (member_value_at edition t) from to k after r (branch_true (byte equals_sign) _ _ t q m) (λ v s e. refl) h
+  value_visits t q from to k after r m h = visits_as takes fails member_events member_events (member_at version q)
+      (member_value_at version t) from to k after r (branch_true (byte equals_sign) _ _ t q m) (λ v s e. refl) h
 
   -- the item true, with its parameters
   abbrev true_at : Reader RawParameters
-  true_at = led (begins_item ∷ []) (led (bare_item (boolean true) ∷ []) (parameters_at edition))
+  true_at = led (begins_item ∷ []) (led (bare_item (boolean true) ∷ []) (parameters_at version))
 
   abbrev true_events : RawParameters → List TreeEvent
   true_events ps = begins_item ∷ bare_item (boolean true) ∷ parameters_events ps
 
   true_is : (t q : List ℕ) → TakesIf (byte equals_sign) false t q
-      → member_value_at edition t ≡ (true_at >>= λ ps. give (true_with ps)) q
+      → member_value_at version t ≡ (true_at >>= λ ps. give (true_with ps)) q
   unfolding member_value_at bind led give
-  true_is t q m = branch_false (byte equals_sign) _ _ t q m ∙ on (parameters_at edition q)
+  true_is t q m = branch_false (byte equals_sign) _ _ t q m ∙ on (parameters_at version q)
     where
       on : (a : Answer RawParameters) → led_answer (begins_item ∷ bare_item (boolean true) ∷ [])
           (and_then a (λ ps. give (true_with ps)))
@@ -77,21 +78,21 @@ module _ {S E : Type 0} (takes : S → TreeEvent → S → Type 0) (fails : S �
 
   as_true : (t q : List ℕ) (from to : S) (k : Parser × Global) (after : Cursor) (r : Result (Unit {0}) (ParseError E))
       → TakesIf (byte equals_sign) false t q → VisitsAnswer takes fails true_events k after from to r (true_at q)
-      → VisitsAnswer takes fails member_events k after from to r (member_value_at edition t)
+      → VisitsAnswer takes fails member_events k after from to r (member_value_at version t)
   as_true t q from to k after r m h =
       visits_as takes fails member_events member_events ((true_at >>= λ ps. give (true_with ps)) q)
-      (member_value_at edition t) from to k after r (true_is t q m) (λ v s e. refl)
+      (member_value_at version t) from to k after r (true_is t q m) (λ v s e. refl)
       (map_visits takes fails (λ ps. true_with ps) true_events member_events true_at q from to k after r (λ ps. refl) h)
 
   abbrev bare_true : Reader RawParameters
-  bare_true = led (bare_item (boolean true) ∷ []) (parameters_at edition)
+  bare_true = led (bare_item (boolean true) ∷ []) (parameters_at version)
 
   abbrev bare_true_events : RawParameters → List TreeEvent
   bare_true_events ps = bare_item (boolean true) ∷ parameters_events ps
 
   pub true_begin_fails : (t q : List ℕ) (from to : S) (k : Parser × Global) (after : Cursor) (error : ParseError E)
       → TakesIf (byte equals_sign) false t q → IsOfVisitor (fails from begins_item) error
-      → VisitsAnswer takes fails member_events k after from to (Err error) (member_value_at edition t)
+      → VisitsAnswer takes fails member_events k after from to (Err error) (member_value_at version t)
   true_begin_fails t q from to k after error m h =
       as_true t q from to k after (Err error) m (led_fails takes fails begins_item bare_true_events bare_true q from to
       k after error h)
@@ -99,46 +100,46 @@ module _ {S E : Type 0} (takes : S → TreeEvent → S → Type 0) (fails : S �
   pub true_bare_fails : (t q : List ℕ) (from middle to : S) (k : Parser
       × Global) (after : Cursor) (error : ParseError E) → TakesIf (byte equals_sign) false t q
       → takes from begins_item middle → IsOfVisitor (fails middle (bare_item (boolean true))) error
-      → VisitsAnswer takes fails member_events k after from to (Err error) (member_value_at edition t)
+      → VisitsAnswer takes fails member_events k after from to (Err error) (member_value_at version t)
   true_bare_fails t q from middle to k after error m taken h =
       as_true t q from to k after (Err error) m
       (led_visits takes fails begins_item bare_true_events bare_true q from middle to k after (Err error) taken
-      (led_fails takes fails (bare_item (boolean true)) parameters_events (parameters_at edition) q middle to k after
+      (led_fails takes fails (bare_item (boolean true)) parameters_events (parameters_at version) q middle to k after
       error h))
 
   pub true_visits : (t q : List ℕ) (from middle next to : S) (k : Parser
       × Global) (after : Cursor) (r : Result (Unit {0}) (ParseError E)) → TakesIf (byte equals_sign) false t q
       → takes from begins_item middle → takes middle (bare_item (boolean true)) next
-      → VisitsAnswer takes fails parameters_events k after next to r (parameters_at edition q)
-      → VisitsAnswer takes fails member_events k after from to r (member_value_at edition t)
+      → VisitsAnswer takes fails parameters_events k after next to r (parameters_at version q)
+      → VisitsAnswer takes fails member_events k after from to r (member_value_at version t)
   true_visits t q from middle next to k after r m taken bare h =
       as_true t q from to k after r m
       (led_visits takes fails begins_item bare_true_events bare_true q from middle to k after r taken
-      (led_visits takes fails (bare_item (boolean true)) parameters_events (parameters_at edition) q middle next to k
+      (led_visits takes fails (bare_item (boolean true)) parameters_events (parameters_at version) q middle next to k
       after r bare h))
 
   -- ---- the key
 
   pub key_fails : (t : List ℕ) (k : Parser × Global) (e : Error) (from : S) → IsErrorOf (kept_input k) e (key_at t)
-      → IsErrorOf (kept_input k) e (keyed_at edition t) × TookAll takes keyed_events e (keyed_at edition t) from from
+      → IsErrorOf (kept_input k) e (keyed_at version t) × TookAll takes keyed_events e (keyed_at version t) from from
   unfolding keyed_at
   key_fails t k e from h = took_part takes (λ _. []) keyed_events (kept_input k) e key_at
-      (λ key. led (keyed_entry key ∷ []) (pair_at edition key)) t _ from from refl
+      (λ key. led (keyed_entry key ∷ []) (pair_at version key)) t _ from from refl
       (took_none takes (λ _. []) (kept_input k) e (key_at t) from (key_quiet t) h)
 
   pub keyed_fails : (t q key : List ℕ) (from to : S) (k : Parser × Global) (after : Cursor) (error : ParseError E)
       → key_at t ≡ Ok (key, q) → IsOfVisitor (fails from (keyed_entry key)) error
-      → VisitsAnswer takes fails keyed_events k after from to (Err error) (keyed_at edition t)
+      → VisitsAnswer takes fails keyed_events k after from to (Err error) (keyed_at version t)
   unfolding keyed_at
   keyed_fails t q key from to k after error read h =
-      of_visitor takes fails keyed_events k after from to (fails from (keyed_entry key)) error (keyed_at edition t) h
+      of_visitor takes fails keyed_events k after from to (fails from (keyed_entry key)) error (keyed_at version t) h
       (λ fault failed. record {
         before = [];
         e = keyed_entry key;
-        after = visited behind_key (pair_at edition key q);
+        after = visited after_key (pair_at version key q);
         s = from;
-        all = visited_then key_at (pair_at edition) (λ key. keyed_entry key ∷ []) keyed_events behind_key t q key read
-            (λ w r e. pair_events edition key q w r e);
+        all = visited_then key_at (pair_at version) (λ key. keyed_entry key ∷ []) keyed_events after_key t q key read
+            (λ w r e. pair_events version key q w r e);
         taken = refl;
         failed = failed;
       })
@@ -146,11 +147,11 @@ module _ {S E : Type 0} (takes : S → TreeEvent → S → Type 0) (fails : S �
   pub keyed_visits : (t q key : List ℕ) (from middle to : S) (k : Parser
       × Global) (after : Cursor) (r : Result (Unit {0}) (ParseError E)) → key_at t ≡ Ok (key, q)
       → takes from (keyed_entry key) middle
-      → VisitsAnswer takes fails member_events k after middle to r (member_value_at edition q)
-      → VisitsAnswer takes fails keyed_events k after from to r (keyed_at edition t)
+      → VisitsAnswer takes fails member_events k after middle to r (member_value_at version q)
+      → VisitsAnswer takes fails keyed_events k after from to r (keyed_at version t)
   unfolding keyed_at
   keyed_visits t q key from middle to k after r read taken h =
-      then_visits takes fails key_at (pair_at edition) (λ key. keyed_entry key ∷ []) keyed_events behind_key t q key
-      from middle to k after r read (middle, taken, refl) (λ w r e. pair_events edition key q w r e)
-      (map_visits takes fails (λ m. (key, m)) member_events behind_key (member_value_at edition) q middle to k after r
+      then_visits takes fails key_at (pair_at version) (λ key. keyed_entry key ∷ []) keyed_events after_key t q key
+      from middle to k after r read (middle, taken, refl) (λ w r e. pair_events version key q w r e)
+      (map_visits takes fails (λ m. (key, m)) member_events after_key (member_value_at version) q middle to k after r
       (λ m. refl) h)

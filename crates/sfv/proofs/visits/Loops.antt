@@ -5,12 +5,13 @@ use Rattle.std.specs.Prelude.{flat_map}
 use Rattle.std.specs.declared.alloc.Global.{Global}
 use Rattle.std.proofs.lemmas.List.{append-nil}
 use Rattle.std.proofs.lemmas.List.Concat.{flat_map-append}
-use Rattle.sfv_spec.specs.Values.{Edition, RawItem}
+use Rattle.sfv_spec.specs.Values.{RawItem}
+use Rattle.sfv_spec.specs.declared.version.Version.{Version}
 use Rattle.sfv_spec.specs.Grammar.{IsMemberText, IsDictionaryMemberText}
 use Rattle.sfv_spec.specs.Events.{TreeEvent, inner_item_events, entry_events, keyed_events}
 use Rattle.sfv_spec.specs.Visiting.{RunsTo}
 use Rattle.sfv_base.specs.declared.error.Error.{Error}
-use Rattle.sfv_reading.specs.Reader.{Answer, Reader, Fault, behind_events, visited, and_then, bind, give, led, many, ◌>>=◌}
+use Rattle.sfv_reading.specs.Reader.{Answer, Reader, Fault, after_events, visited, and_then, bind, give, led, many, ◌>>=◌}
 use Rattle.sfv_reading.specs.Members.{inner_item_at, next_item_at, entry_at, keyed_at}
 use Rattle.sfv_reading.specs.Fields.{next_at}
 use Rattle.sfv_reading.specs.Visits.{VisitorFails}
@@ -24,11 +25,11 @@ use Rattle.sfv_base.specs.declared.error.ParseError.{ParseError}
 use Rattle.sfv_base.specs.declared.error.ParseError.TheVariants.{Syntax, Visitor}
 use Rattle.sfv.specs.declared.parser.Parser.{Parser}
 use Rattle.sfv.specs.declared.parser.cursor.Cursor.{Cursor}
-use Rattle.sfv.specs.parser.Cursor.{kept, kept_input, edition, input, rest, IsFaultOf, IsErrorOf}
+use Rattle.sfv.specs.parser.Cursor.{kept, kept_input, version, input, rest, IsFaultOf, IsErrorOf}
 use Rattle.sfv.specs.parser.Members.{item_delimiter_at, member_delimiter_at, MemberValue, member_parts, one_member_at}
 use Rattle.sfv.specs.parser.Visits.{VisitsAnswer, Visits, TookAll}
 use Rattle.sfv.proofs.reads.Errors.{ErrorOf-fault}
-use Rattle.sfv.proofs.visits.Taken.{runs_on, took_behind, took_part, took_none, IsQuiet, item_delimiter_quiet}
+use Rattle.sfv.proofs.visits.Taken.{runs_on, took_after, took_part, took_none, IsQuiet, item_delimiter_quiet}
 use Rattle.sfv.proofs.visits.Taken.{member_delimiter_quiet}
 use Rattle.sfv.proofs.reads.Delimiters.{one_if, first_of, next_item_is, next_member_is}
 use Rattle.sfv.proofs.visits.Parts.{kept_visits, first_failed}
@@ -37,9 +38,9 @@ use Rattle.sfv.proofs.visits.Parts.{kept_visits, first_failed}
 abbrev pub all_events : {A : Type 0} → (A → List TreeEvent) → List A → List TreeEvent
 all_events parts vs = flat_map parts vs
 
-abbrev pub behind : {A : Type 0} → List A → List A
-behind [] = []
-behind (v ∷ vs) = vs
+abbrev pub past : {A : Type 0} → List A → List A
+past [] = []
+past (v ∷ vs) = vs
 
 -- what one more hands out comes first
 put_visited : {A : Type 0} (parts : A → List TreeEvent) (v : A) (a : Answer (List A))
@@ -52,178 +53,178 @@ put_visited parts v (Err f) = refl
 -- read after that.
 pub record Loop (A : Type 0) : Type 0 where
   pub parts : A → List TreeEvent
-  pub one : Edition → Reader A
+  pub one : Version → Reader A
   pub delimiter : Reader Bool
-  pub next : Edition → Reader (Option A)
-  pub consumes : (edition : Edition) → Consumes (next edition)
-  pub is_next : (edition : Edition) (t : List ℕ) → next edition t ≡ (delimiter >>= one_if (one edition)) t
+  pub next : Version → Reader (Option A)
+  pub consumes : (version : Version) → Consumes (next version)
+  pub is_next : (version : Version) (t : List ℕ) → next version t ≡ (delimiter >>= one_if (one version)) t
   pub quiet : (t : List ℕ) → IsQuiet (delimiter t)
 
 -- what was read so far of a whole, and what the visitor has taken
 pub record SoFar {A S : Type 0} (takes : S → TreeEvent
-    → S → Type 0) (l : Loop A) (edition : Edition) (total : Answer (List A)) (now : List ℕ) (from to : S) : Type 0 where
+    → S → Type 0) (l : Loop A) (version : Version) (total : Answer (List A)) (now : List ℕ) (from to : S) : Type 0 where
   pub front : List A
-  pub so_far : in_front l.parts front (many l.parts (l.next edition) now) ≡ total
+  pub so_far : in_front l.parts front (many l.parts (l.next version) now) ≡ total
   pub taken : RunsTo takes from (all_events l.parts front) to
 
-module _ {A : Type 0} (l : Loop A) (edition : Edition) where
-  next_none : (t r : List ℕ) → l.delimiter t ≡ Ok (false, r) → (l.next edition) t ≡ Ok (None, r)
+module _ {A : Type 0} (l : Loop A) (version : Version) where
+  next_none : (t r : List ℕ) → l.delimiter t ≡ Ok (false, r) → (l.next version) t ≡ Ok (None, r)
   unfolding give
-  next_none t r e = l.is_next edition t ∙ bind_complete l.delimiter (one_if (l.one edition)) t r false e
+  next_none t r e = l.is_next version t ∙ bind_complete l.delimiter (one_if (l.one version)) t r false e
 
   next_one : (t r : List ℕ) → l.delimiter t ≡ Ok (true, r)
-      → (l.next edition) t ≡ ((l.one edition) >>= λ v. give (Some v)) r
-  next_one t r e = l.is_next edition t ∙ bind_complete l.delimiter (one_if (l.one edition)) t r true e
+      → (l.next version) t ≡ ((l.one version) >>= λ v. give (Some v)) r
+  next_one t r e = l.is_next version t ∙ bind_complete l.delimiter (one_if (l.one version)) t r true e
 
-  next_some : (t r q : List ℕ) (v : A) → l.delimiter t ≡ Ok (true, r) → (l.one edition) r ≡ Ok (v, q)
-      → (l.next edition) t ≡ Ok (Some v, q)
+  next_some : (t r q : List ℕ) (v : A) → l.delimiter t ≡ Ok (true, r) → (l.one version) r ≡ Ok (v, q)
+      → (l.next version) t ≡ Ok (Some v, q)
   unfolding give
-  next_some t r q v e k = next_one t r e ∙ bind_complete (l.one edition) (λ v. give (Some v)) r q v k
+  next_some t r q v e k = next_one t r e ∙ bind_complete (l.one version) (λ v. give (Some v)) r q v k
 
-  shorter_at : (t r q : List ℕ) (v : A) → l.delimiter t ≡ Ok (true, r) → (l.one edition) r ≡ Ok (v, q)
+  shorter_at : (t r q : List ℕ) (v : A) → l.delimiter t ≡ Ok (true, r) → (l.one version) r ≡ Ok (v, q)
       → length q < length t
-  shorter_at t r q v e k = (l.consumes edition).consumes t q v (next_some t r q v e k)
+  shorter_at t r q v e k = (l.consumes version).consumes t q v (next_some t r q v e k)
 
   -- a fault of the next one is the fault of the whole
   faulty : (front : List A) (t : List ℕ) (total : Answer (List A)) (f : Fault)
-      → in_front l.parts front (many l.parts (l.next edition) t) ≡ total → (l.next edition) t ≡ Err f
-      → total ≡ Err (behind_events (all_events l.parts front) f)
-  faulty front t total f so_far e = is_faulty l.parts (l.next edition) (l.consumes edition) front t f total e so_far
+      → in_front l.parts front (many l.parts (l.next version) t) ≡ total → (l.next version) t ≡ Err f
+      → total ≡ Err (after_events (all_events l.parts front) f)
+  faulty front t total f so_far e = is_faulty l.parts (l.next version) (l.consumes version) front t f total e so_far
 
   module _ {S E : Type 0} (takes : S → TreeEvent → S → Type 0) (fails : S → TreeEvent → E → Type 0) where
     -- after the first
-    begun_at : (t q : List ℕ) (v : A) (from to : S) → (l.one edition) t ≡ Ok (v, q) → RunsTo takes from (l.parts v) to
-        → SoFar takes l edition (first_of l.parts (l.one edition) (l.next edition) t) q from to
+    begun_at : (t q : List ℕ) (v : A) (from to : S) → (l.one version) t ≡ Ok (v, q) → RunsTo takes from (l.parts v) to
+        → SoFar takes l version (first_of l.parts (l.one version) (l.next version) t) q from to
     unfolding first_of bind led
     begun_at t q v from to e run = record {
       front = v ∷ [];
-      so_far = sym (regroup l.parts [] v (many l.parts (l.next edition) q))
-          ∙ starts l.parts (put l.parts v (many l.parts (l.next edition) q))
-          ∙ sym (ap (λ a. and_then a (λ v. led (l.parts v) (many l.parts (l.next edition) >>= λ vs. give (v ∷ vs)))) e);
+      so_far = sym (regroup l.parts [] v (many l.parts (l.next version) q))
+          ∙ starts l.parts (put l.parts v (many l.parts (l.next version) q))
+          ∙ sym (ap (λ a. and_then a (λ v. led (l.parts v) (many l.parts (l.next version) >>= λ vs. give (v ∷ vs)))) e);
       taken = subst (λ es. RunsTo takes from es to) (sym (append-nil (l.parts v))) run;
     }
 
     -- what the first of several hands out stands in front
-    first_parts : (t : List ℕ) (v : A) (q : List ℕ) (w : List A) (r : List ℕ) → (l.one edition) t ≡ Ok (v, q)
-        → (many l.parts (l.next edition) >>= λ vs. give (v ∷ vs)) q ≡ Ok (w, r)
-        → all_events l.parts w ≡ l.parts v ++ all_events l.parts (behind w)
+    first_parts : (t : List ℕ) (v : A) (q : List ℕ) (w : List A) (r : List ℕ) → (l.one version) t ≡ Ok (v, q)
+        → (many l.parts (l.next version) >>= λ vs. give (v ∷ vs)) q ≡ Ok (w, r)
+        → all_events l.parts w ≡ l.parts v ++ all_events l.parts (past w)
     unfolding bind give
-    first_parts t v q w r e = on (many l.parts (l.next edition) q)
+    first_parts t v q w r e = on (many l.parts (l.next version) q)
       where
         on : (a : Answer (List A)) → and_then a (λ vs. give (v ∷ vs)) ≡ Ok (w, r)
-            → all_events l.parts w ≡ l.parts v ++ all_events l.parts (behind w)
+            → all_events l.parts w ≡ l.parts v ++ all_events l.parts (past w)
         on (Ok x) h =
             let here : List A × List ℕ = (v ∷ x.0, x.1) in
             let there : List A × List ℕ = (w, r) in
             let same : here ≡ there = cc in
             ap (λ (p : List A × List ℕ). all_events l.parts p.0) (sym same)
-            ∙ ap (λ (p : List A × List ℕ). l.parts v ++ all_events l.parts (behind p.0)) same
+            ∙ ap (λ (p : List A × List ℕ). l.parts v ++ all_events l.parts (past p.0)) same
         on (Err f) h = absurd cc
 
     first_failure : (t : List ℕ) (from : S) (fault : E)
-        → VisitorFails takes fails l.parts ((l.one edition) t) from fault
-        → VisitorFails takes fails (all_events l.parts) (first_of l.parts (l.one edition) (l.next edition) t) from fault
+        → VisitorFails takes fails l.parts ((l.one version) t) from fault
+        → VisitorFails takes fails (all_events l.parts) (first_of l.parts (l.one version) (l.next version) t) from fault
     unfolding first_of
-    first_failure t from fault h = first_failed takes fails (l.one edition) (λ v. many l.parts (l.next edition)
-        >>= λ vs. give (v ∷ vs)) l.parts (all_events l.parts) (λ w. all_events l.parts (behind w)) t from fault
+    first_failure t from fault h = first_failed takes fails (l.one version) (λ v. many l.parts (l.next version)
+        >>= λ vs. give (v ∷ vs)) l.parts (all_events l.parts) (λ w. all_events l.parts (past w)) t from fault
         (first_parts t) h
 
     -- the first is not read whole
     first_fails_at : (t : List ℕ) (total : Answer (List A)) (from to : S) (i : Parser
-        × Global) (after : Cursor) (error : ParseError E) → total ≡ first_of l.parts (l.one edition) (l.next edition) t
-        → VisitsAnswer takes fails l.parts i after from to (Err error) ((l.one edition) t)
+        × Global) (after : Cursor) (error : ParseError E) → total ≡ first_of l.parts (l.one version) (l.next version) t
+        → VisitsAnswer takes fails l.parts i after from to (Err error) ((l.one version) t)
         → VisitsAnswer takes fails (all_events l.parts) i after from to (Err error) total
     unfolding first_of
     first_fails_at t total from to i after (Syntax e) whole h =
-        took_part takes l.parts (all_events l.parts) (kept_input i) e (l.one edition)
-        (λ v. led (l.parts v) (many l.parts (l.next edition) >>= λ vs. give (v ∷ vs))) t total from to whole h
+        took_part takes l.parts (all_events l.parts) (kept_input i) e (l.one version)
+        (λ v. led (l.parts v) (many l.parts (l.next version) >>= λ vs. give (v ∷ vs))) t total from to whole h
     first_fails_at t total from to i after (Visitor fault) whole h =
         subst (λ total. VisitorFails takes fails (all_events l.parts) total from fault) (sym whole)
         (first_failure t from fault h)
 
     -- after one more
     more_at : (t r q : List ℕ) (v : A) (total : Answer (List A)) (from middle to : S)
-        → SoFar takes l edition total t from middle → l.delimiter t ≡ Ok (true, r) → (l.one edition) r ≡ Ok (v, q)
-        → RunsTo takes middle (l.parts v) to → SoFar takes l edition total q from to
+        → SoFar takes l version total t from middle → l.delimiter t ≡ Ok (true, r) → (l.one version) r ≡ Ok (v, q)
+        → RunsTo takes middle (l.parts v) to → SoFar takes l version total q from to
     more_at t r q v total from middle to h e k run = record {
       front = h.front ++ v ∷ [];
-      so_far = goes_on l.parts (l.next edition) (l.consumes edition) h.front v t q total (next_some t r q v e k)
+      so_far = goes_on l.parts (l.next version) (l.consumes version) h.front v t q total (next_some t r q v e k)
           h.so_far;
       taken = subst (λ es. RunsTo takes from es to) (sym (flat_map-append l.parts h.front (v ∷ [])
           ∙ ap (λ (es : List TreeEvent). all_events l.parts h.front ++ es) (append-nil (l.parts v))))
           (runs_on takes (all_events l.parts h.front) (l.parts v) from middle to h.taken run);
     }
 
-    ended_at : (t r : List ℕ) (total : Answer (List A)) (from to : S) → (h : SoFar takes l edition total t from to)
+    ended_at : (t r : List ℕ) (total : Answer (List A)) (from to : S) → (h : SoFar takes l version total t from to)
         → l.delimiter t ≡ Ok (false, r) → total ≡ Ok (h.front, r)
-    ended_at t r total from to h e = is_done l.parts (l.next edition) (l.consumes edition) h.front t r total
+    ended_at t r total from to h e = is_done l.parts (l.next version) (l.consumes version) h.front t r total
         (next_none t r e) h.so_far
 
     delimiter_error : (t : List ℕ) (total : Answer (List A)) (from to : S) (i : Parser × Global) (e : Error)
-        → SoFar takes l edition total t from to → IsErrorOf (kept_input i) e (l.delimiter t)
+        → SoFar takes l version total t from to → IsErrorOf (kept_input i) e (l.delimiter t)
         → IsErrorOf (kept_input i) e total × TookAll takes (all_events l.parts) e total from to
     unfolding bind
     delimiter_error t total from to i e h error =
-        took_behind takes (λ _. []) (all_events l.parts) (kept_input i) e (l.delimiter t) total
+        took_after takes (λ _. []) (all_events l.parts) (kept_input i) e (l.delimiter t) total
         (all_events l.parts h.front) from to to
-        (λ f k. faulty h.front t total f h.so_far (l.is_next edition t
-        ∙ ap (λ a. and_then a (one_if (l.one edition))) k)) h.taken
+        (λ f k. faulty h.front t total f h.so_far (l.is_next version t
+        ∙ ap (λ a. and_then a (one_if (l.one version))) k)) h.taken
         (took_none takes (λ _. []) (kept_input i) e (l.delimiter t) to (l.quiet t) error)
 
     one_error : (t r : List ℕ) (total : Answer (List A)) (from middle to : S) (i : Parser × Global) (e : Error)
-        → SoFar takes l edition total t from middle → l.delimiter t ≡ Ok (true, r)
-        → IsErrorOf (kept_input i) e ((l.one edition) r) × TookAll takes l.parts e ((l.one edition) r) middle to
+        → SoFar takes l version total t from middle → l.delimiter t ≡ Ok (true, r)
+        → IsErrorOf (kept_input i) e ((l.one version) r) × TookAll takes l.parts e ((l.one version) r) middle to
         → IsErrorOf (kept_input i) e total × TookAll takes (all_events l.parts) e total from to
     unfolding bind
     one_error t r total from middle to i e h k error =
-        took_behind takes l.parts (all_events l.parts) (kept_input i) e ((l.one edition) r) total
+        took_after takes l.parts (all_events l.parts) (kept_input i) e ((l.one version) r) total
         (all_events l.parts h.front) from middle to
         (λ f m. faulty h.front t total f h.so_far (next_one t r k
         ∙ ap (λ a. and_then a (λ v. give (Some v))) m)) h.taken error
 
     -- what is visited after a delimiter
-    behind_visited : (t r : List ℕ) → l.delimiter t ≡ Ok (true, r)
-        → (rest : List TreeEvent) × (visited (all_events l.parts) (many l.parts (l.next edition) t)
-        ≡ visited l.parts ((l.one edition) r) ++ rest)
+    after_visited : (t r : List ℕ) → l.delimiter t ≡ Ok (true, r)
+        → (rest : List TreeEvent) × (visited (all_events l.parts) (many l.parts (l.next version) t)
+        ≡ visited l.parts ((l.one version) r) ++ rest)
     unfolding bind led give
-    behind_visited t r e = on ((l.one edition) r) refl
+    after_visited t r e = on ((l.one version) r) refl
       where
-        on : (a : Answer A) → (l.one edition) r ≡ a
-            → (rest : List TreeEvent) × (visited (all_events l.parts) (many l.parts (l.next edition) t)
+        on : (a : Answer A) → (l.one version) r ≡ a
+            → (rest : List TreeEvent) × (visited (all_events l.parts) (many l.parts (l.next version) t)
             ≡ visited l.parts a ++ rest)
         on (Ok x) k =
             let some = next_some t r x.1 x.0 e k in
-            let put_first : many l.parts (l.next edition) t ≡ put l.parts x.0 (many l.parts (l.next edition) x.1) =
-            many_is l.parts (l.next edition) (l.consumes edition) t ∙ rw some refl in (
-              visited (all_events l.parts) (many l.parts (l.next edition) x.1),
+            let put_first : many l.parts (l.next version) t ≡ put l.parts x.0 (many l.parts (l.next version) x.1) =
+            many_is l.parts (l.next version) (l.consumes version) t ∙ rw some refl in (
+              visited (all_events l.parts) (many l.parts (l.next version) x.1),
               ap (visited (all_events l.parts)) put_first
-                  ∙ put_visited l.parts x.0 (many l.parts (l.next edition) x.1),
+                  ∙ put_visited l.parts x.0 (many l.parts (l.next version) x.1),
             )
         on (Err f) k =
-            let fault : (l.next edition) t ≡ Err f = next_one t r e ∙ ap (λ a. and_then a (λ v. give (Some v))) k in
-            let whole : many l.parts (l.next edition) t ≡ Err f =
-            many_is l.parts (l.next edition) (l.consumes edition) t ∙ rw fault refl in
+            let fault : (l.next version) t ≡ Err f = next_one t r e ∙ ap (λ a. and_then a (λ v. give (Some v))) k in
+            let whole : many l.parts (l.next version) t ≡ Err f =
+            many_is l.parts (l.next version) (l.consumes version) t ∙ rw fault refl in
             ([], ap (visited (all_events l.parts)) whole ∙ sym (append-nil f.events))
 
     one_failure : (t r : List ℕ) (total : Answer (List A)) (from middle : S) (fault : E)
-        → SoFar takes l edition total t from middle → l.delimiter t ≡ Ok (true, r)
-        → VisitorFails takes fails l.parts ((l.one edition) r) middle fault
+        → SoFar takes l version total t from middle → l.delimiter t ≡ Ok (true, r)
+        → VisitorFails takes fails l.parts ((l.one version) r) middle fault
         → VisitorFails takes fails (all_events l.parts) total from fault
     one_failure t r total from middle fault h e k =
-        let w = behind_visited t r e in
-        failed_within takes fails l.parts ((l.one edition) r) (all_events l.parts) total (all_events l.parts h.front)
+        let w = after_visited t r e in
+        failed_within takes fails l.parts ((l.one version) r) (all_events l.parts) total (all_events l.parts h.front)
         w.0
         (ap (visited (all_events l.parts)) (sym h.so_far)
-        ∙ visited_in_front l.parts h.front (many l.parts (l.next edition) t)
+        ∙ visited_in_front l.parts h.front (many l.parts (l.next version) t)
         ∙ ap (λ (es : List TreeEvent). all_events l.parts h.front ++ es) w.1)
         from middle fault h.taken (λ es to run. runs_on takes (all_events l.parts h.front) es from middle to h.taken
         run) k
 
     -- one more is not read whole
     one_fails_at : (t r : List ℕ) (total : Answer (List A)) (from middle to : S) (i : Parser
-        × Global) (after : Cursor) (error : ParseError E) → SoFar takes l edition total t from middle
+        × Global) (after : Cursor) (error : ParseError E) → SoFar takes l version total t from middle
         → l.delimiter t ≡ Ok (true, r)
-        → VisitsAnswer takes fails l.parts i after middle to (Err error) ((l.one edition) r)
+        → VisitsAnswer takes fails l.parts i after middle to (Err error) ((l.one version) r)
         → VisitsAnswer takes fails (all_events l.parts) i after from to (Err error) total
     one_fails_at t r total from middle to i after (Syntax e) h k error =
         one_error t r total from middle to i e h k error
@@ -233,7 +234,7 @@ module _ {A : Type 0} (l : Loop A) (edition : Edition) where
 -- the same of a cursor, which has kept its parser
 pub record VisitedSoFar {A S : Type 0} (takes : S → TreeEvent
     → S → Type 0) (l : Loop A) (start : Cursor) (total : Answer (List A)) (now : Cursor) (from to : S) : Type 0 where
-  pub read : SoFar takes l (edition start) total (rest now) from to
+  pub read : SoFar takes l (version start) total (rest now) from to
   pub same : kept now ≡ kept start
 
 -- one more is wanted, or none
@@ -244,13 +245,13 @@ pub shorter : {A S E : Type 0} (takes : S → TreeEvent → S → Type 0) (fails
     → E → Type 0) (l : Loop A) (now middle after : Cursor) (at to : S) → Wants l true now middle
     → Visits takes fails l.parts middle after at to (Ok tt) l.one → length (rest after) < length (rest now)
 shorter takes fails l now middle after at to wanted one =
-    shorter_at l (edition middle) (rest now) (rest middle) (rest after) one.0 wanted.0 one.1
+    shorter_at l (version middle) (rest now) (rest middle) (rest after) one.0 wanted.0 one.1
 
 module _ {A S E : Type 0} (takes : S → TreeEvent → S → Type 0) (fails : S → TreeEvent
     → E → Type 0) (l : Loop A) (start : Cursor) (total : Answer (List A)) where
-  -- what the edition at the start reads first
+  -- what the version at the start reads first
   abbrev IsFirst : Cursor → Type 0
-  IsFirst middle = (total ≡ first_of l.parts (l.one (edition start)) (l.next (edition start)) (rest middle))
+  IsFirst middle = (total ≡ first_of l.parts (l.one (version start)) (l.next (version start)) (rest middle))
       × (kept middle ≡ kept start)
 
   -- after the first
@@ -259,8 +260,8 @@ module _ {A S E : Type 0} (takes : S → TreeEvent → S → Type 0) (fails : S 
   begun middle after from to first h =
       let read = kept_visits takes fails l.parts l.one middle after from to (kept start) (Ok tt) first.1 h in
       record {
-        read = subst (λ total. SoFar takes l (edition start) total (rest after) from to) (sym first.0)
-            (begun_at l (edition start) takes fails (rest middle) (rest after) read.0 from to read.1 read.2);
+        read = subst (λ total. SoFar takes l (version start) total (rest after) from to) (sym first.0)
+            (begun_at l (version start) takes fails (rest middle) (rest after) read.0 from to read.1 read.2);
         same = read.3;
       }
 
@@ -269,7 +270,7 @@ module _ {A S E : Type 0} (takes : S → TreeEvent → S → Type 0) (fails : S 
       → Visits takes fails l.parts middle after from to (Err error) l.one
       → VisitsAnswer takes fails (all_events l.parts) (kept start) after from to (Err error) total
   first_fails middle after from to error first h =
-      first_fails_at l (edition start) takes fails (rest middle) total from to (kept start) after error first.0
+      first_fails_at l (version start) takes fails (rest middle) total from to (kept start) after error first.0
       (kept_visits takes fails l.parts l.one middle after from to (kept start) (Err error) first.1 h)
 
   -- what stands between two is faulty
@@ -277,7 +278,7 @@ module _ {A S E : Type 0} (takes : S → TreeEvent → S → Type 0) (fails : S 
       → VisitedSoFar takes l start total now from to → IsFaultOf (input now) e (l.delimiter (rest now))
       → VisitsAnswer takes fails (all_events l.parts) (kept start) after from to (Err (Syntax e)) total
   delimiter_fails now after from to e h fault =
-      delimiter_error l (edition start) takes fails (rest now) total from to (kept start) e h.read
+      delimiter_error l (version start) takes fails (rest now) total from to (kept start) e h.read
       (subst (λ (k : Parser × Global). IsErrorOf (kept_input k) e (l.delimiter (rest now))) h.same
       (ErrorOf-fault (input now) e (l.delimiter (rest now)) fault))
 
@@ -289,7 +290,7 @@ module _ {A S E : Type 0} (takes : S → TreeEvent → S → Type 0) (fails : S 
       let read = kept_visits takes fails l.parts l.one middle after at to (kept start) (Ok tt) (wanted.1
       ∙ h.same) one in
       record {
-        read = more_at l (edition start) takes fails (rest now) (rest middle) (rest after) read.0 total from at
+        read = more_at l (version start) takes fails (rest now) (rest middle) (rest after) read.0 total from at
             to h.read wanted.0 read.1 read.2;
         same = read.3;
       }
@@ -300,7 +301,7 @@ module _ {A S E : Type 0} (takes : S → TreeEvent → S → Type 0) (fails : S 
       → Visits takes fails l.parts middle after at to (Err error) l.one
       → VisitsAnswer takes fails (all_events l.parts) (kept start) after from to (Err error) total
   one_fails now middle after from at to error h wanted one =
-      one_fails_at l (edition start) takes fails (rest now) (rest middle) total from at to (kept start) after error
+      one_fails_at l (version start) takes fails (rest now) (rest middle) total from at to (kept start) after error
       h.read wanted.0 (kept_visits takes fails l.parts l.one middle after at to (kept start) (Err error) (wanted.1
       ∙ h.same) one)
 
@@ -309,7 +310,7 @@ module _ {A S E : Type 0} (takes : S → TreeEvent → S → Type 0) (fails : S 
       → Wants l false now after → VisitsAnswer takes fails (all_events l.parts) (kept start) after from to (Ok tt) total
   ended now after from to h wanted = (
     h.read.front,
-    ended_at l (edition start) takes fails (rest now) (rest after) total from to h.read wanted.0,
+    ended_at l (version start) takes fails (rest now) (rest after) total from to h.read wanted.0,
     h.read.taken,
     wanted.1 ∙ h.same,
   )
@@ -327,19 +328,19 @@ items_loop = record {
   quiet = item_delimiter_quiet;
 }
 
-pub consumes_member : (keyed : Bool) (edition : Edition) → Consumes (next_at (one_member_at keyed edition))
-consumes_member true edition = Consumes-next (IsDictionaryMemberText edition) keyed_events (keyed_at edition)
-    (Sound-keyed edition)
-consumes_member false edition = Consumes-next (IsMemberText edition) entry_events (entry_at edition)
-    (Sound-entry edition)
+pub consumes_member : (keyed : Bool) (version : Version) → Consumes (next_at (one_member_at keyed version))
+consumes_member true version = Consumes-next (IsDictionaryMemberText version) keyed_events (keyed_at version)
+    (Sound-keyed version)
+consumes_member false version = Consumes-next (IsMemberText version) entry_events (entry_at version)
+    (Sound-entry version)
 
 abbrev pub members_loop : (keyed : Bool) → Loop (MemberValue keyed)
 members_loop keyed = record {
   parts = member_parts keyed;
   one = one_member_at keyed;
   delimiter = member_delimiter_at;
-  next = λ edition. next_at (one_member_at keyed edition);
+  next = λ version. next_at (one_member_at keyed version);
   consumes = consumes_member keyed;
-  is_next = λ edition. next_member_is (one_member_at keyed edition);
+  is_next = λ version. next_member_is (one_member_at keyed version);
   quiet = member_delimiter_quiet;
 }

@@ -4,11 +4,12 @@ use Rattle.std.proofs.Common.{ap, subst, ◌∙◌, append_assoc}
 use Rattle.std.specs.Prelude.{OnOk, IfErr, map, flat_map}
 use Rattle.std.specs.declared.alloc.Global.{Global}
 use Rattle.std.proofs.lemmas.List.{map-append}
-use Rattle.sfv_spec.specs.Values.{Edition, BareValue, RawParameters, RawItem}
+use Rattle.sfv_spec.specs.Values.{BareValue, RawParameters, RawItem}
+use Rattle.sfv_spec.specs.declared.version.Version.{Version}
 use Rattle.sfv_spec.specs.Events.{TreeEvent, parameter, parameters_end, parameters_events, bare_item, item_events}
 use Rattle.sfv_spec.specs.Visiting.{RunsTo}
 use Rattle.sfv_base.specs.declared.error.Error.{Error}
-use Rattle.sfv_reading.specs.Reader.{Answer, Fault, behind_events, visited, and_then, bind, give, led, led_answer, ◌>>=◌}
+use Rattle.sfv_reading.specs.Reader.{Answer, Fault, after_events, visited, and_then, bind, give, led, led_answer, ◌>>=◌}
 use Rattle.sfv_reading.proofs.complete.Combinators.{bind_complete}
 use Rattle.sfv_reading.specs.Bare.{bare_at}
 use Rattle.sfv_reading.specs.Items.{parameter_event, parameter_at, parameters_at, item_at, item_of}
@@ -20,9 +21,9 @@ use Rattle.sfv_base.specs.declared.error.ParseError.{ParseError}
 use Rattle.sfv_base.specs.declared.error.ParseError.TheVariants.{Syntax, Visitor}
 use Rattle.sfv.specs.declared.parser.Parser.{Parser}
 use Rattle.sfv.specs.declared.parser.cursor.Cursor.{Cursor}
-use Rattle.sfv.specs.parser.Cursor.{kept, kept_input, kept_edition, rest, IsErrorOf}
+use Rattle.sfv.specs.parser.Cursor.{kept, kept_input, kept_version, rest, IsErrorOf}
 use Rattle.sfv.specs.parser.Visits.{VisitsAnswer, TookAll, IsOfVisitor}
-use Rattle.sfv.proofs.visits.Taken.{runs_on, took_behind, took_part, took_none, bare_quiet, parameter_quiet}
+use Rattle.sfv.proofs.visits.Taken.{runs_on, took_after, took_part, took_none, bare_quiet, parameter_quiet}
 use Rattle.sfv.proofs.reads.Steps.{item_some}
 
 -- an error of the visitor, which fails at one of the events
@@ -40,43 +41,43 @@ pair_events raw = map (λ p. parameter p.0 p.1) raw
 
 -- these are the parameters that were read between start and now, and the visitor has taken them
 pub record VisitedParameters {S : Type 0} (takes : S → TreeEvent
-    → S → Type 0) (edition : Edition) (start now : List ℕ) (from to : S) : Type 0 where
+    → S → Type 0) (version : Version) (start now : List ℕ) (from to : S) : Type 0 where
   pub raw : RawParameters
-  pub so_far : in_front parameter_event raw (parameters_at edition now) ≡ parameters_at edition start
+  pub so_far : in_front parameter_event raw (parameters_at version now) ≡ parameters_at version start
   pub taken : RunsTo takes from (pair_events raw) to
 
-pub visited_none : {S : Type 0} (takes : S → TreeEvent → S → Type 0) (edition : Edition) (start : List ℕ) (from : S)
-    → VisitedParameters takes edition start start from from
-visited_none takes edition start from = record {
+pub visited_none : {S : Type 0} (takes : S → TreeEvent → S → Type 0) (version : Version) (start : List ℕ) (from : S)
+    → VisitedParameters takes version start start from from
+visited_none takes version start from = record {
   raw = [];
-  so_far = starts parameter_event (parameters_at edition start);
+  so_far = starts parameter_event (parameters_at version start);
   taken = refl;
 }
 
 pub visited_more : {S : Type 0} (takes : S → TreeEvent
-    → S → Type 0) (edition : Edition) (start now r k : List ℕ) (v : BareValue) (from middle to : S)
-    → VisitedParameters takes edition start now from middle → parameter_at edition now ≡ Ok (Some (k, v), r)
-    → takes middle (parameter k v) to → VisitedParameters takes edition start r from to
+    → S → Type 0) (version : Version) (start now r k : List ℕ) (v : BareValue) (from middle to : S)
+    → VisitedParameters takes version start now from middle → parameter_at version now ≡ Ok (Some (k, v), r)
+    → takes middle (parameter k v) to → VisitedParameters takes version start r from to
 unfolding parameters_at
-visited_more takes edition start now r k v from middle to h read taken = record {
+visited_more takes version start now r k v from middle to h read taken = record {
   raw = h.raw ++ (k, v) ∷ [];
-  so_far = goes_on parameter_event (parameter_at edition) (Consumes-parameter edition) h.raw (
+  so_far = goes_on parameter_event (parameter_at version) (Consumes-parameter version) h.raw (
     k,
     v,
-  ) now r (parameters_at edition start) read h.so_far;
+  ) now r (parameters_at version start) read h.so_far;
   taken = subst (λ es. RunsTo takes from es to) (sym
       (map-append (λ (p : List ℕ × BareValue). parameter p.0 p.1) h.raw ((k, v) ∷ [])))
       (runs_on takes (pair_events h.raw) (parameter k v ∷ []) from middle to h.taken (to, taken, refl));
 }
 
 pub visited_all : {S : Type 0} (takes : S → TreeEvent
-    → S → Type 0) (edition : Edition) (start now r : List ℕ) (from middle to : S)
-    (h : VisitedParameters takes edition start now from middle) → parameter_at edition now ≡ Ok (None, r)
-    → takes middle parameters_end to → (parameters_at edition start ≡ Ok (h.raw, r))
+    → S → Type 0) (version : Version) (start now r : List ℕ) (from middle to : S)
+    (h : VisitedParameters takes version start now from middle) → parameter_at version now ≡ Ok (None, r)
+    → takes middle parameters_end to → (parameters_at version start ≡ Ok (h.raw, r))
     × RunsTo takes from (parameters_events h.raw) to
 unfolding parameters_at
-visited_all takes edition start now r from middle to h read taken = (
-  is_done parameter_event (parameter_at edition) (Consumes-parameter edition) h.raw now r (parameters_at edition start)
+visited_all takes version start now r from middle to h read taken = (
+  is_done parameter_event (parameter_at version) (Consumes-parameter version) h.raw now r (parameters_at version start)
       read h.so_far,
   runs_on takes (pair_events h.raw) (parameters_end ∷ []) from middle to h.taken (to, taken, refl),
 )
@@ -99,17 +100,17 @@ front_visited front (Err e) = (e.events, ap (λ (es : List TreeEvent). es ++ e.e
 
 -- the visitor fails at a parameter
 pub parameter_failed : {S E : Type 0} (takes : S → TreeEvent → S → Type 0) (fails : S → TreeEvent
-    → E → Type 0) (edition : Edition) (start now r k : List ℕ) (v : BareValue) (from middle : S) (fault : E)
-    → VisitedParameters takes edition start now from middle → parameter_at edition now ≡ Ok (Some (k, v), r)
-    → fails middle (parameter k v) fault → VisitorFails takes fails parameters_events (parameters_at edition start) from
+    → E → Type 0) (version : Version) (start now r k : List ℕ) (v : BareValue) (from middle : S) (fault : E)
+    → VisitedParameters takes version start now from middle → parameter_at version now ≡ Ok (Some (k, v), r)
+    → fails middle (parameter k v) fault → VisitorFails takes fails parameters_events (parameters_at version start) from
     fault
 unfolding parameters_at
-parameter_failed takes fails edition start now r k v from middle fault h read failed =
-    let whole = goes_on parameter_event (parameter_at edition) (Consumes-parameter edition) h.raw (
+parameter_failed takes fails version start now r k v from middle fault h read failed =
+    let whole = goes_on parameter_event (parameter_at version) (Consumes-parameter version) h.raw (
       k,
       v,
-    ) now r (parameters_at edition start) read h.so_far in
-    let more = front_visited (h.raw ++ (k, v) ∷ []) (parameters_at edition r) in
+    ) now r (parameters_at version start) read h.so_far in
+    let more = front_visited (h.raw ++ (k, v) ∷ []) (parameters_at version r) in
     record {
       before = pair_events h.raw;
       e = parameter k v;
@@ -125,54 +126,54 @@ parameter_failed takes fails edition start now r k v from middle fault h read fa
 
 -- the visitor fails at their end
 pub end_failed : {S E : Type 0} (takes : S → TreeEvent → S → Type 0) (fails : S → TreeEvent
-    → E → Type 0) (edition : Edition) (start now r : List ℕ) (from middle : S) (fault : E)
-    → VisitedParameters takes edition start now from middle → parameter_at edition now ≡ Ok (None, r)
-    → fails middle parameters_end fault → VisitorFails takes fails parameters_events (parameters_at edition start) from
+    → E → Type 0) (version : Version) (start now r : List ℕ) (from middle : S) (fault : E)
+    → VisitedParameters takes version start now from middle → parameter_at version now ≡ Ok (None, r)
+    → fails middle parameters_end fault → VisitorFails takes fails parameters_events (parameters_at version start) from
     fault
 unfolding parameters_at
-end_failed takes fails edition start now r from middle fault h read failed = record {
+end_failed takes fails version start now r from middle fault h read failed = record {
   before = pair_events h.raw;
   e = parameters_end;
   after = [];
   s = middle;
-  all = ap (visited parameters_events) (is_done parameter_event (parameter_at edition) (Consumes-parameter edition)
-      h.raw now r (parameters_at edition start) read h.so_far);
+  all = ap (visited parameters_events) (is_done parameter_event (parameter_at version) (Consumes-parameter version)
+      h.raw now r (parameters_at version start) read h.so_far);
   taken = h.taken;
   failed = failed;
 }
 
 -- after the last parameter, their end is visited
 pub end_visits : {S E : Type 0} (takes : S → TreeEvent → S → Type 0) (fails : S → TreeEvent
-    → E → Type 0) (edition : Edition) (start now : List ℕ) (from middle to : S) (k : Parser
+    → E → Type 0) (version : Version) (start now : List ℕ) (from middle to : S) (k : Parser
     × Global) (after : Cursor) (r : Result (Unit {0}) (ParseError E))
-    → VisitedParameters takes edition start now from middle → parameter_at edition now ≡ Ok (None, rest after)
+    → VisitedParameters takes version start now from middle → parameter_at version now ≡ Ok (None, rest after)
     → kept after ≡ k
     → OnOk r (takes middle parameters_end to) → IfErr r (IsOfVisitor (fails middle parameters_end))
-    → VisitsAnswer takes fails parameters_events k after from to r (parameters_at edition start)
-end_visits takes fails edition start now from middle to k after (Ok u) h read same taken failed = let all =
-    visited_all takes edition start now (rest after) from middle to h read taken in (h.raw, all.0, all.1, same)
-end_visits takes fails edition start now from middle to k after (Err e) h read same taken failed =
+    → VisitsAnswer takes fails parameters_events k after from to r (parameters_at version start)
+end_visits takes fails version start now from middle to k after (Ok u) h read same taken failed = let all =
+    visited_all takes version start now (rest after) from middle to h read taken in (h.raw, all.0, all.1, same)
+end_visits takes fails version start now from middle to k after (Err e) h read same taken failed =
     of_visitor takes fails parameters_events k after from to (fails middle parameters_end) e
-    (parameters_at edition start) failed (λ fault failed.
-    end_failed takes fails edition start now (rest after) from middle fault h read failed)
+    (parameters_at version start) failed (λ fault failed.
+    end_failed takes fails version start now (rest after) from middle fault h read failed)
 
 -- a fault of one parameter is the fault of the loop
 pub visited_error : {S : Type 0} (takes : S → TreeEvent
     → S → Type 0) (start now : List ℕ) (from middle : S) (i j : Parser × Global) (e : Error) → i ≡ j
-    → VisitedParameters takes (kept_edition j) start now from middle
-    → IsErrorOf (kept_input i) e (parameter_at (kept_edition i) now)
-    → IsErrorOf (kept_input j) e (parameters_at (kept_edition j) start)
-    × TookAll takes parameters_events e (parameters_at (kept_edition j) start) from middle
+    → VisitedParameters takes (kept_version j) start now from middle
+    → IsErrorOf (kept_input i) e (parameter_at (kept_version i) now)
+    → IsErrorOf (kept_input j) e (parameters_at (kept_version j) start)
+    × TookAll takes parameters_events e (parameters_at (kept_version j) start) from middle
 unfolding parameters_at
 visited_error takes start now from middle i j e same h error =
-    let edition = kept_edition j in
-    took_behind takes (λ _. []) parameters_events (kept_input j) e (parameter_at edition now) (parameters_at edition start)
+    let version = kept_version j in
+    took_after takes (λ _. []) parameters_events (kept_input j) e (parameter_at version now) (parameters_at version start)
     (flat_map parameter_event h.raw) from middle middle
-    (λ f k. is_faulty parameter_event (parameter_at edition) (Consumes-parameter edition) h.raw now f
-    (parameters_at edition start) k h.so_far)
+    (λ f k. is_faulty parameter_event (parameter_at version) (Consumes-parameter version) h.raw now f
+    (parameters_at version start) k h.so_far)
     (subst (λ (es : List TreeEvent). RunsTo takes from es middle) (sym (front_events h.raw)) h.taken)
-    (took_none takes (λ _. []) (kept_input j) e (parameter_at edition now) middle (parameter_quiet edition now)
-    (subst (λ (k : Parser × Global). IsErrorOf (kept_input k) e (parameter_at (kept_edition k) now)) same error))
+    (took_none takes (λ _. []) (kept_input j) e (parameter_at version now) middle (parameter_quiet version now)
+    (subst (λ (k : Parser × Global). IsErrorOf (kept_input k) e (parameter_at (kept_version k) now)) same error))
 
 -- ---- items
 
@@ -194,74 +195,74 @@ given_events b (Ok x) w r e =
     ap (λ (p : RawItem × List ℕ). bare_item p.0.bare ∷ parameters_events w.parameters) (sym same)
 given_events b (Err f) w r e = absurd cc
 
-item_visited : (edition : Edition) (t q : List ℕ) (b : BareValue) → bare_at edition t ≡ Ok (b, q)
-    → visited item_events (item_at edition t) ≡ bare_item b ∷ visited parameters_events (parameters_at edition q)
+item_visited : (version : Version) (t q : List ℕ) (b : BareValue) → bare_at version t ≡ Ok (b, q)
+    → visited item_events (item_at version t) ≡ bare_item b ∷ visited parameters_events (parameters_at version q)
 unfolding item_at bind
-item_visited edition t q b e =
-    visited_then (bare_at edition) (λ bare. parameters_at edition
+item_visited version t q b e =
+    visited_then (bare_at version) (λ bare. parameters_at version
     >>= λ ps. give (item_of bare ps)) (λ bare. bare_item bare ∷ []) item_events
-    (λ i. parameters_events i.parameters) t q b e (given_events b (parameters_at edition q))
-    ∙ ap (λ (es : List TreeEvent). bare_item b ∷ es) (given_visited b (parameters_at edition q))
+    (λ i. parameters_events i.parameters) t q b e (given_events b (parameters_at version q))
+    ∙ ap (λ (es : List TreeEvent). bare_item b ∷ es) (given_visited b (parameters_at version q))
 
 -- the visitor fails at the bare item
 pub bare_failed : {S E : Type 0} (takes : S → TreeEvent → S → Type 0) (fails : S → TreeEvent
-    → E → Type 0) (edition : Edition) (t q : List ℕ) (b : BareValue) (from : S) (fault : E)
-    → bare_at edition t ≡ Ok (b, q)
-    → fails from (bare_item b) fault → VisitorFails takes fails item_events (item_at edition t) from fault
-bare_failed takes fails edition t q b from fault e failed = record {
+    → E → Type 0) (version : Version) (t q : List ℕ) (b : BareValue) (from : S) (fault : E)
+    → bare_at version t ≡ Ok (b, q)
+    → fails from (bare_item b) fault → VisitorFails takes fails item_events (item_at version t) from fault
+bare_failed takes fails version t q b from fault e failed = record {
   before = [];
   e = bare_item b;
-  after = visited parameters_events (parameters_at edition q);
+  after = visited parameters_events (parameters_at version q);
   s = from;
-  all = item_visited edition t q b e;
+  all = item_visited version t q b e;
   taken = refl;
   failed = failed;
 }
 
 -- the visitor fails at a parameter of it, or their end
 pub parameters_failed : {S E : Type 0} (takes : S → TreeEvent → S → Type 0) (fails : S → TreeEvent
-    → E → Type 0) (edition : Edition) (t q : List ℕ) (b : BareValue) (from middle : S) (fault : E)
-    → bare_at edition t ≡ Ok (b, q) → takes from (bare_item b) middle
-    → VisitorFails takes fails parameters_events (parameters_at edition q) middle fault
-    → VisitorFails takes fails item_events (item_at edition t) from fault
-parameters_failed takes fails edition t q b from middle fault e taken r = record {
+    → E → Type 0) (version : Version) (t q : List ℕ) (b : BareValue) (from middle : S) (fault : E)
+    → bare_at version t ≡ Ok (b, q) → takes from (bare_item b) middle
+    → VisitorFails takes fails parameters_events (parameters_at version q) middle fault
+    → VisitorFails takes fails item_events (item_at version t) from fault
+parameters_failed takes fails version t q b from middle fault e taken r = record {
   before = bare_item b ∷ r.before;
   e = r.e;
   after = r.after;
   s = r.s;
-  all = item_visited edition t q b e ∙ ap (λ (es : List TreeEvent). bare_item b ∷ es) r.all;
+  all = item_visited version t q b e ∙ ap (λ (es : List TreeEvent). bare_item b ∷ es) r.all;
   taken = (middle, taken, r.taken);
   failed = r.failed;
 }
 
-item_fault : (edition : Edition) (t q : List ℕ) (b : BareValue) (x : Fault) → bare_at edition t ≡ Ok (b, q)
-    → parameters_at edition q ≡ Err x → item_at edition t ≡ Err (behind_events (bare_item b ∷ []) x)
+item_fault : (version : Version) (t q : List ℕ) (b : BareValue) (x : Fault) → bare_at version t ≡ Ok (b, q)
+    → parameters_at version q ≡ Err x → item_at version t ≡ Err (after_events (bare_item b ∷ []) x)
 unfolding item_at bind led
-item_fault edition t q b x e m =
-    bind_complete (bare_at edition) (λ b. led (bare_item b ∷ []) (parameters_at edition >>= λ ps. give (item_of b ps))) t
+item_fault version t q b x e m =
+    bind_complete (bare_at version) (λ b. led (bare_item b ∷ []) (parameters_at version >>= λ ps. give (item_of b ps))) t
     q b e ∙ ap (λ a. led_answer (bare_item b ∷ []) (and_then a (λ ps. give (item_of b ps)))) m
 
 -- the bare item is faulty
-pub bare_faulty : {S : Type 0} (takes : S → TreeEvent → S → Type 0) (edition : Edition) (t i : List ℕ) (e : Error)
-    (from : S) → IsErrorOf i e (bare_at edition t)
-    → IsErrorOf i e (item_at edition t) × TookAll takes item_events e (item_at edition t) from from
+pub bare_faulty : {S : Type 0} (takes : S → TreeEvent → S → Type 0) (version : Version) (t i : List ℕ) (e : Error)
+    (from : S) → IsErrorOf i e (bare_at version t)
+    → IsErrorOf i e (item_at version t) × TookAll takes item_events e (item_at version t) from from
 unfolding item_at
-bare_faulty takes edition t i e from h =
-    took_part takes (λ _. []) item_events i e (bare_at edition)
-    (λ b. led (bare_item b ∷ []) (parameters_at edition >>= λ ps. give (item_of b ps))) t _ from from refl
-    (took_none takes (λ _. []) i e (bare_at edition t) from (bare_quiet edition t) h)
+bare_faulty takes version t i e from h =
+    took_part takes (λ _. []) item_events i e (bare_at version)
+    (λ b. led (bare_item b ∷ []) (parameters_at version >>= λ ps. give (item_of b ps))) t _ from from refl
+    (took_none takes (λ _. []) i e (bare_at version t) from (bare_quiet version t) h)
 
 -- an item, by its bare item and the parameters after it
 pub item_visits : {S E : Type 0} (takes : S → TreeEvent → S → Type 0) (fails : S → TreeEvent
-    → E → Type 0) (edition : Edition) (t q : List ℕ) (b : BareValue) (from middle to : S) (k : Parser
-    × Global) (after : Cursor) (r : Result (Unit {0}) (ParseError E)) → bare_at edition t ≡ Ok (b, q)
+    → E → Type 0) (version : Version) (t q : List ℕ) (b : BareValue) (from middle to : S) (k : Parser
+    × Global) (after : Cursor) (r : Result (Unit {0}) (ParseError E)) → bare_at version t ≡ Ok (b, q)
     → takes from (bare_item b) middle
-    → VisitsAnswer takes fails parameters_events k after middle to r (parameters_at edition q)
-    → VisitsAnswer takes fails item_events k after from to r (item_at edition t)
-item_visits takes fails edition t q b from middle to k after (Ok u) e taken h =
-    (item_of b h.0, item_some edition t q (rest after) b h.0 e h.1, (middle, taken, h.2), h.3)
-item_visits takes fails edition t q b from middle to k after (Err (Syntax error)) e taken h =
-    took_behind takes parameters_events item_events (kept_input k) error (parameters_at edition q) (item_at edition t)
-    (bare_item b ∷ []) from middle to (λ x m. item_fault edition t q b x e m) (middle, taken, refl) h
-item_visits takes fails edition t q b from middle to k after (Err (Visitor fault)) e taken h =
-    parameters_failed takes fails edition t q b from middle fault e taken h
+    → VisitsAnswer takes fails parameters_events k after middle to r (parameters_at version q)
+    → VisitsAnswer takes fails item_events k after from to r (item_at version t)
+item_visits takes fails version t q b from middle to k after (Ok u) e taken h =
+    (item_of b h.0, item_some version t q (rest after) b h.0 e h.1, (middle, taken, h.2), h.3)
+item_visits takes fails version t q b from middle to k after (Err (Syntax error)) e taken h =
+    took_after takes parameters_events item_events (kept_input k) error (parameters_at version q) (item_at version t)
+    (bare_item b ∷ []) from middle to (λ x m. item_fault version t q b x e m) (middle, taken, refl) h
+item_visits takes fails version t q b from middle to k after (Err (Visitor fault)) e taken h =
+    parameters_failed takes fails version t q b from middle fault e taken h

@@ -3,7 +3,7 @@ use Rattle.std.proofs.Common.{◌≡◌, ℕ, List, [], ◌∷◌, ◌++◌, Ok,
 use Rattle.std.specs.Prelude.{Result}
 use Rattle.std.specs.declared.alloc.Global.{Global}
 use Rattle.std.proofs.lemmas.List.{append-nil}
-use Rattle.sfv_spec.specs.Values.{Edition}
+use Rattle.sfv_spec.specs.declared.version.Version.{Version}
 use Rattle.sfv_spec.specs.Events.{TreeEvent}
 use Rattle.sfv_spec.specs.Visiting.{RunsTo}
 use Rattle.sfv_base.specs.declared.error.ParseError.{ParseError}
@@ -14,9 +14,9 @@ use Rattle.sfv_reading.proofs.visits.Parts.{visited_then, visited_first, failed_
 use Rattle.sfv_reading.proofs.complete.Combinators.{bind_complete, led_complete}
 use Rattle.sfv.specs.declared.parser.Parser.{Parser}
 use Rattle.sfv.specs.declared.parser.cursor.Cursor.{Cursor}
-use Rattle.sfv.specs.parser.Cursor.{kept, kept_input, kept_edition, rest}
+use Rattle.sfv.specs.parser.Cursor.{kept, kept_input, kept_version, rest}
 use Rattle.sfv.specs.parser.Visits.{Visits, VisitsAnswer, IsOfVisitor}
-use Rattle.sfv.proofs.visits.Taken.{runs_on, took_behind, took_part, took_same}
+use Rattle.sfv.proofs.visits.Taken.{runs_on, took_after, took_part, took_same}
 use Rattle.sfv.proofs.visits.Parameters.{of_visitor}
 
 visited_as : {A : Type 0} (parts parts' : A → List TreeEvent) (a : Answer A)
@@ -26,23 +26,23 @@ visited_as parts parts' (Err x) each = refl
 
 module _ {S E : Type 0} (takes : S → TreeEvent → S → Type 0) (fails : S → TreeEvent → E → Type 0) where
   -- a reading by a cursor that has kept its parser
-  pub kept_visits : {A : Type 0} (parts : A → List TreeEvent) (f : Edition
+  pub kept_visits : {A : Type 0} (parts : A → List TreeEvent) (f : Version
       → Reader A) (middle after : Cursor) (from to : S) (j : Parser × Global) (r : Result (Unit {0}) (ParseError E))
       → kept middle ≡ j
       → Visits takes fails parts middle after from to r f
-      → VisitsAnswer takes fails parts j after from to r (f (kept_edition j) (rest middle))
+      → VisitsAnswer takes fails parts j after from to r (f (kept_version j) (rest middle))
   kept_visits parts f middle after from to j r same h =
       subst (λ (k : Parser × Global). VisitsAnswer takes fails parts k after from to r
-      (f (kept_edition k) (rest middle))) same h
+      (f (kept_version k) (rest middle))) same h
 
   -- a reading from the start of the input
-  pub start_visits : {A : Type 0} (parts : A → List TreeEvent) (f : Edition
+  pub start_visits : {A : Type 0} (parts : A → List TreeEvent) (f : Version
       → Reader A) (start after : Cursor) (from to : S) (j : Parser × Global) (r : Result (Unit {0}) (ParseError E))
       → kept start ≡ j → rest start ≡ kept_input j
       → Visits takes fails parts start after from to r f
-      → VisitsAnswer takes fails parts j after from to r (f (kept_edition j) (kept_input j))
+      → VisitsAnswer takes fails parts j after from to r (f (kept_version j) (kept_input j))
   start_visits parts f start after from to j r same whole h =
-      subst (λ (t : List ℕ). VisitsAnswer takes fails parts j after from to r (f (kept_edition j) t)) whole
+      subst (λ (t : List ℕ). VisitsAnswer takes fails parts j after from to r (f (kept_version j) t)) whole
       (kept_visits parts f start after from to j r same h)
 
   -- the same reading, and the same events
@@ -103,7 +103,7 @@ module _ {S E : Type 0} (takes : S → TreeEvent → S → Type 0) (fails : S �
   led_visits e parts f t from middle to k after (Ok u) taken h =
       (h.0, led_complete (e ∷ []) f t (rest after) h.0 h.1, (middle, taken, h.2), h.3)
   led_visits e parts f t from middle to k after (Err (Syntax error)) taken h =
-      took_behind takes parts (λ v. e ∷ parts v) (kept_input k) error (f t) (led_answer (e ∷ []) (f t)) (e ∷ []) from middle
+      took_after takes parts (λ v. e ∷ parts v) (kept_input k) error (f t) (led_answer (e ∷ []) (f t)) (e ∷ []) from middle
       to (λ x m. ap (led_answer (e ∷ [])) m) (middle, taken, refl) h
   led_visits e parts f t from middle to k after (Err (Visitor fault)) taken h = record {
     before = e ∷ h.before;
@@ -165,7 +165,7 @@ module _ {S E : Type 0} (takes : S → TreeEvent → S → Type 0) (fails : S �
     h.3,
   )
   then_visits {A} {B} f g first parts more t q v from middle to k after (Err (Syntax error)) e run each h =
-      took_behind takes more parts (kept_input k) error (g v q) ((f >>= λ v. led (first v) (g v)) t) (first v) from middle
+      took_after takes more parts (kept_input k) error (g v q) ((f >>= λ v. led (first v) (g v)) t) (first v) from middle
       to (λ x m. bind_complete f (λ v. led (first v) (g v)) t q v e ∙ ap (led_answer (first v)) m) run h
   then_visits f g first parts more t q v from middle to k after (Err (Visitor fault)) e run each h = record {
     before = first v ++ h.before;
@@ -202,11 +202,11 @@ module _ {S E : Type 0} (takes : S → TreeEvent → S → Type 0) (fails : S �
       on (Err x) = ([], sym (append-nil x.events))
 
   -- a failure after what was read
-  pub failed_behind : {A : Type 0} (parts longer : A
+  pub failed_after : {A : Type 0} (parts longer : A
       → List TreeEvent) (e : TreeEvent) (a : Answer A) (v : A) (q : List ℕ) (from middle : S) (fault : E)
       → a ≡ Ok (v, q) → longer v ≡ parts v ++ e ∷ [] → RunsTo takes from (parts v) middle → fails middle e fault
       → VisitorFails takes fails longer a from fault
-  failed_behind parts longer e a v q from middle fault read all run h =
+  failed_after parts longer e a v q from middle fault read all run h =
       record {
         before = parts v;
         e = e;

@@ -3,17 +3,16 @@ use Rattle.std.proofs.Common.{◌≡◌, ℕ, ◌≤◌, true, false, List, [], 
 use Rattle.std.proofs.Common.{Err, refl, sym, ap, subst, ◌∙◌, inl, inr}
 use Rattle.std.specs.Prelude.{⊤, MatchOption, is_some, flat_map}
 use Rattle.std.proofs.lemmas.Bool.{cases_Bool}
-use Rattle.sfv_spec.specs.Values.{Edition}
+use Rattle.sfv_spec.specs.declared.version.Version.{Version}
 use Rattle.sfv_spec.specs.Grammar.{IsKeyText, IsBareText, IsValueText}
 use Rattle.sfv_spec.specs.Events.{TreeEvent, inner_item_events}
 use Rattle.sfv_spec.specs.Visiting.{RunsTo}
-use Rattle.sfv_spec.specs.Faults.{trailing_comma, unterminated_inner_list}
+use Rattle.sfv_spec.specs.declared.error_kind.ErrorKind.TheVariants.{TrailingComma, UnterminatedInnerList}
 use Rattle.sfv_base.specs.declared.error.Error.{Error}
-use Rattle.sfv_base.specs.declared.error.ErrorKind.{ErrorKind}
-use Rattle.sfv_base.specs.declared.error.ErrorKind.TheVariants.{UnterminatedInnerList}
+use Rattle.sfv_spec.specs.declared.error_kind.ErrorKind.{ErrorKind}
 use Rattle.sfv_base.specs.Errors.{kind_of, index_of, error_of}
 use Rattle.sfv_reading.specs.Judgements.{Reached, Sound, Mute, Quiet}
-use Rattle.sfv_reading.specs.Reader.{Answer, Reader, Fault, behind_events, visited, and_then, bind, ◌>>=◌}
+use Rattle.sfv_reading.specs.Reader.{Answer, Reader, Fault, after_events, visited, and_then, bind, ◌>>=◌}
 use Rattle.sfv_reading.specs.Bare.{bare_at}
 use Rattle.sfv_reading.specs.Items.{key_at, value_at, parameter_at}
 use Rattle.sfv_reading.specs.Members.{inner_items_at}
@@ -25,7 +24,7 @@ use Rattle.sfv_reading.proofs.sound.Combinators.{Sound-span, Sound-back, Found, 
 use Rattle.sfv_reading.proofs.sound.Bare.{Sound-bare}
 use Rattle.sfv_reading.proofs.sound.Items.{Sound-key, Sound-value}
 use Rattle.sfv.specs.declared.parser.cursor.Cursor.{Cursor}
-use Rattle.sfv.specs.parser.Cursor.{kept, input, edition, rest, located, IsErrorOf}
+use Rattle.sfv.specs.parser.Cursor.{kept, input, version, rest, located, IsErrorOf}
 use Rattle.sfv.specs.parser.Members.{item_delimiter_at, member_delimiter_at}
 use Rattle.sfv.specs.parser.Visits.{TookAll}
 use Rattle.sfv.proofs.reads.Errors.{ErrorOf-here}
@@ -39,13 +38,13 @@ runs_on takes [] fs from middle to h k = subst (λ s. RunsTo takes s fs to) (sym
 runs_on takes (e ∷ es) fs from middle to h k = (h.0, h.1, runs_on takes es fs h.0 middle to h.2 k)
 
 -- the fault of a part is that of the whole, after events that were taken before
-pub took_behind : {A B S : Type 0} (takes : S → TreeEvent → S → Type 0) (parts : A → List TreeEvent) (whole : B
+pub took_after : {A B S : Type 0} (takes : S → TreeEvent → S → Type 0) (parts : A → List TreeEvent) (whole : B
     → List TreeEvent) (i : List ℕ) (e : Error) (a : Answer A) (b : Answer B) (front : List TreeEvent)
-    (from middle to : S) → ((f : Fault) → a ≡ Err f → b ≡ Err (behind_events front f)) → RunsTo takes from front middle
+    (from middle to : S) → ((f : Fault) → a ≡ Err f → b ≡ Err (after_events front f)) → RunsTo takes from front middle
     → IsErrorOf i e a × TookAll takes parts e a middle to → IsErrorOf i e b × TookAll takes whole e b from to
-took_behind {A} {B} takes parts whole i e a b front from middle to step run h = on (index_of e) a step h
+took_after {A} {B} takes parts whole i e a b front from middle to step run h = on (index_of e) a step h
   where
-    on : (o : Option ℕ) (a : Answer A) → ((f : Fault) → a ≡ Err f → b ≡ Err (behind_events front f))
+    on : (o : Option ℕ) (a : Answer A) → ((f : Fault) → a ≡ Err f → b ≡ Err (after_events front f))
         → MatchOption o (IsRefusal i e) (λ index. (located a ≡ Err (kind_of e, drop index i))
         × (index ≤ length i)) × MatchOption o ⊤ (λ index. Visited takes parts a middle to)
         → MatchOption o (IsRefusal i e) (λ index. (located b ≡ Err (kind_of e, drop index i))
@@ -67,14 +66,14 @@ pub took_part : {A B S : Type 0} (takes : S → TreeEvent → S → Type 0) (par
     (from to : S) → b ≡ (f >>= g) t → IsErrorOf i e (f t) × TookAll takes parts e (f t) from to
     → IsErrorOf i e b × TookAll takes whole e b from to
 unfolding bind
-took_part takes parts whole i e f g t b from to eq h = took_behind takes parts whole i e (f t) b [] from from to
+took_part takes parts whole i e f g t b from to eq h = took_after takes parts whole i e (f t) b [] from from to
     (λ x k. eq ∙ ap (λ a. and_then a g) k) refl h
 
 -- the whole is the part
 pub took_same : {A S : Type 0} (takes : S → TreeEvent → S → Type 0) (parts whole : A → List TreeEvent) (i : List ℕ)
     (e : Error) (a b : Answer A) (from to : S) → b ≡ a → IsErrorOf i e a × TookAll takes parts e a from to
     → IsErrorOf i e b × TookAll takes whole e b from to
-took_same takes parts whole i e a b from to eq h = took_behind takes parts whole i e a b [] from from to
+took_same takes parts whole i e a b from to eq h = took_after takes parts whole i e a b [] from from to
     (λ x k. eq ∙ k) refl h
 
 -- no event comes before a fault of it
@@ -127,16 +126,16 @@ silent {A} f P h = record { sound = λ t. on t (f t) (h.sound t) }
 pub key_quiet : (t : List ℕ) → IsQuiet (key_at t)
 key_quiet t = is_quiet key_at (silent key_at IsKeyText Sound-key) t
 
-pub bare_quiet : (edition : Edition) (t : List ℕ) → IsQuiet (bare_at edition t)
-bare_quiet edition t = is_quiet (bare_at edition) (silent (bare_at edition) (IsBareText edition) (Sound-bare edition)) t
+pub bare_quiet : (version : Version) (t : List ℕ) → IsQuiet (bare_at version t)
+bare_quiet version t = is_quiet (bare_at version) (silent (bare_at version) (IsBareText version) (Sound-bare version)) t
 
-pub parameter_quiet : (edition : Edition) (t : List ℕ) → IsQuiet (parameter_at edition t)
+pub parameter_quiet : (version : Version) (t : List ℕ) → IsQuiet (parameter_at version t)
 unfolding parameter_at
-parameter_quiet edition t = is_quiet (parameter_at edition) (Sound-branch _ _ _ (λ _ _. ⊤) (λ _ es. es ≡ []) Quiet
+parameter_quiet version t = is_quiet (parameter_at version) (Sound-branch _ _ _ (λ _ _. ⊤) (λ _ es. es ≡ []) Quiet
     (λ c e. Sound-span _ _ (λ _ _. ⊤) (λ _ es. es ≡ []) Quiet
     (λ s each. Sound-bind (λ _ _. ⊤) key_at _ (λ _ _. ⊤) (λ _ es. es ≡ []) Quiet (silent key_at IsKeyText Sound-key)
-    (λ u key k. Sound-bind (λ _ _. ⊤) (value_at edition) _ (λ _ _. ⊤) (λ _ es. es ≡ []) Quiet
-    (silent (value_at edition) (IsValueText edition) (Sound-value edition))
+    (λ u key k. Sound-bind (λ _ _. ⊤) (value_at version) _ (λ _ _. ⊤) (λ _ es. es ≡ []) Quiet
+    (silent (value_at version) (IsValueText version) (Sound-value version))
     (λ w v k. Sound-give _ (λ _ _. ⊤) (λ _ es. es ≡ []) Quiet tt))))
     (Sound-give _ (λ _ _. ⊤) (λ _ es. es ≡ []) Quiet tt)) t
 
@@ -167,25 +166,25 @@ member_delimiter_quiet t = is_quiet member_delimiter_at (Sound-span _ _ (λ _ _.
     (λ s each. Sound-ahead _ _ _ (λ _ _. ⊤) (λ _ es. es ≡ []) Quiet
     (Sound-ahead _ _ _ (λ _ _. ⊤) (λ _ es. es ≡ []) Quiet
     (Sound-bind (λ _ _. ⊤) _ _ (λ _ _. ⊤) (λ _ es. es ≡ []) Quiet
-    (Sound-back trailing_comma comma_at (λ _ _. ⊤) (λ _ es. es ≡ []) Quiet refl refl comma_silent)
+    (Sound-back TrailingComma comma_at (λ _ _. ⊤) (λ _ es. es ≡ []) Quiet refl refl comma_silent)
     (λ u v k. silent_give true))
     (Sound-fail _ (λ _ _. ⊤) (λ _ es. es ≡ []) Quiet [] refl))
     (silent_give false))) t
 
-pub no_items_quiet : (edition : Edition) (t : List ℕ) → is_some (first t) ≡ false → IsQuiet (inner_items_at edition t)
+pub no_items_quiet : (version : Version) (t : List ℕ) → is_some (first t) ≡ false → IsQuiet (inner_items_at version t)
 unfolding inner_items_at ahead fail
-no_items_quiet edition [] h f e = let same : at_reach unterminated_inner_list [] ≡ f = cc in
+no_items_quiet version [] h f e = let same : at_reach UnterminatedInnerList [] ≡ f = cc in
     ap (λ (f : Fault). f.events) (sym same)
-no_items_quiet edition (c ∷ t) h f e = absurd cc
+no_items_quiet version (c ∷ t) h f e = absurd cc
 
 -- the end right after the opening parenthesis
 pub no_items_visited : {S : Type 0} (takes : S → TreeEvent → S → Type 0) (p : Cursor) (from : S)
     → is_some (first (rest p)) ≡ false
-    → IsErrorOf (input p) (error_of UnterminatedInnerList (Some p.index)) (inner_items_at (edition p) (rest p))
+    → IsErrorOf (input p) (error_of UnterminatedInnerList (Some p.index)) (inner_items_at (version p) (rest p))
     × TookAll takes (λ items. flat_map inner_item_events items) (error_of UnterminatedInnerList (Some p.index))
-    (inner_items_at (edition p) (rest p)) from from
+    (inner_items_at (version p) (rest p)) from from
 no_items_visited takes p from none = took_none takes (λ items. flat_map inner_item_events items) (input p)
-    (error_of UnterminatedInnerList (Some p.index)) (inner_items_at (edition p) (rest p)) from
-    (no_items_quiet (edition p) (rest p) none)
-    (ErrorOf-here UnterminatedInnerList p (kept p) (inner_items_at (edition p) (rest p)) refl
-    (items_none (edition p) (rest p) none))
+    (error_of UnterminatedInnerList (Some p.index)) (inner_items_at (version p) (rest p)) from
+    (no_items_quiet (version p) (rest p) none)
+    (ErrorOf-here UnterminatedInnerList p (kept p) (inner_items_at (version p) (rest p)) refl
+    (items_none (version p) (rest p) none))

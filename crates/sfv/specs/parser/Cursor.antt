@@ -1,11 +1,10 @@
 -- The state of a cursor, and the results of parsing functions.
 use Rattle.std.specs.Prelude.{◌≡◌, ℕ, ◌≤◌, Bool, true, false, List, ◌∷◌, length, drop, Result, Ok, Err, MatchOption}
 use Rattle.std.specs.declared.alloc.Global.{Global}
-use Rattle.sfv_spec.specs.Values.{Edition}
+use Rattle.sfv_spec.specs.declared.version.Version.{Version}
 use Rattle.sfv_base.specs.declared.error.Error.{Error}
-use Rattle.sfv_base.specs.declared.error.ErrorKind.{ErrorKind}
-use Rattle.sfv_base.specs.Errors.{error_kind, kind_of, index_of}
-use Rattle.sfv_bare.specs.BareItems.{edition_of}
+use Rattle.sfv_spec.specs.declared.error_kind.ErrorKind.{ErrorKind}
+use Rattle.sfv_base.specs.Errors.{kind_of, index_of}
 use Rattle.sfv_reading.specs.Reader.{Fault, Answer, Reader, Apart}
 use Rattle.sfv.specs.declared.parser.Parser.{Parser}
 use Rattle.sfv.specs.declared.parser.cursor.Cursor.{Cursor}
@@ -15,18 +14,18 @@ use Rattle.sfv.specs.Memory.{IsRefusal}
 abbrev pub kept : Cursor → Parser × Global
 kept c = (c.parser, c.alloc)
 
--- the input of a parser, and its edition
+-- the input of a parser, and its version
 abbrev pub kept_input : Parser × Global → List ℕ
 kept_input k = k.0.input.now
 
-abbrev pub kept_edition : Parser × Global → Edition
-kept_edition k = edition_of k.0.version
+abbrev pub kept_version : Parser × Global → Version
+kept_version k = k.0.version
 
 abbrev pub input : Cursor → List ℕ
 input c = kept_input (kept c)
 
-abbrev pub edition : Cursor → Edition
-edition c = kept_edition (kept c)
+abbrev pub version : Cursor → Version
+version c = kept_version (kept c)
 
 -- the input from the next byte on
 abbrev pub rest : Cursor → List ℕ
@@ -35,12 +34,12 @@ rest c = drop c.index (input c)
 -- a reader's result in terms of the code: for a fault, the kind of error, and the input from the fault on
 abbrev pub located : {A : Type 0} → Answer A → Result (A × List ℕ) (ErrorKind × List ℕ)
 located (Ok x) = Ok x
-located (Err f) = Err (error_kind f.kind, f.rest)
+located (Err f) = Err (f.kind, f.rest)
 
 -- the same for the result on a whole input, which has no rest
 abbrev pub located_whole : {A : Type 0} → Result A Fault → Result A (ErrorKind × List ℕ)
 located_whole (Ok v) = Ok v
-located_whole (Err f) = Err (error_kind f.kind, f.rest)
+located_whole (Err f) = Err (f.kind, f.rest)
 
 -- the reader fails, and `e` has the kind and the index of its fault
 abbrev pub IsFaultOf : {A : Type 0} → List ℕ → Error → Answer A → Type 0

@@ -1,6 +1,9 @@
 -- Delimiters of items and of members, and the two kinds of member.
 use Rattle.std.specs.Prelude.{true, false, Bool, ℕ, List, flat_map, ◌∷◌, ◌++◌}
-use Rattle.sfv_spec.specs.Values.{Edition, FieldKind, list_field, dictionary_field, RawMember, item, inner_list}
+use Rattle.sfv_spec.specs.Values.{RawMember, item, inner_list}
+use Rattle.sfv_spec.specs.declared.field_kind.FieldKind.{FieldKind}
+use Rattle.sfv_spec.specs.declared.field_kind.FieldKind.TheVariants.{List as list_field, Dictionary as dictionary_field}
+use Rattle.sfv_spec.specs.declared.version.Version.{Version}
 use Rattle.sfv_spec.specs.Events.{TreeEvent, item_events, inner_list_end, parameters_events, inner_item_events}
 use Rattle.sfv_spec.specs.Events.{entry_events, keyed_events}
 use Rattle.sfv_reading.specs.Reader.{Reader, give}
@@ -16,9 +19,9 @@ unfoldable pub member_delimiter_at : Reader Bool
 member_delimiter_at = member_delimited (give false) (give true)
 
 -- the events of a member after its first event
-abbrev pub behind_begin : RawMember → List TreeEvent
-behind_begin (item i) = item_events i
-behind_begin (inner_list l) = flat_map inner_item_events l.items ++ inner_list_end ∷ parameters_events l.parameters
+abbrev pub after_begin : RawMember → List TreeEvent
+after_begin (item i) = item_events i
+after_begin (inner_list l) = flat_map inner_item_events l.items ++ inner_list_end ∷ parameters_events l.parameters
 
 -- `true`: a dictionary member with its key; `false`: a list member
 abbrev pub MemberValue : Bool → Type 0
@@ -30,7 +33,7 @@ abbrev pub member_parts : (keyed : Bool) → MemberValue keyed → List TreeEven
 member_parts true = keyed_events
 member_parts false = entry_events
 
-abbrev pub one_member_at : (keyed : Bool) → Edition → Reader (MemberValue keyed)
+abbrev pub one_member_at : (keyed : Bool) → Version → Reader (MemberValue keyed)
 one_member_at true = keyed_at
 one_member_at false = entry_at
 

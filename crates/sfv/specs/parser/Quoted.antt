@@ -12,10 +12,10 @@ use Rattle.sfv_spec.specs.Grammar.{Spaces}
 use Rattle.sfv_spec.specs.Classes.{is_lower_hexadecimal}
 use Rattle.sfv_spec.specs.Strings.{hexadecimal_value}
 use Rattle.sfv_base.specs.declared.error.Error.{Error}
-use Rattle.sfv_base.specs.declared.error.ErrorKind.{ErrorKind}
-use Rattle.sfv_base.specs.declared.error.ErrorKind.TheVariants.{UnterminatedString, InvalidStringCharacter}
-use Rattle.sfv_base.specs.declared.error.ErrorKind.TheVariants.{UnterminatedDisplayString}
-use Rattle.sfv_base.specs.declared.error.ErrorKind.TheVariants.{InvalidDisplayStringCharacter}
+use Rattle.sfv_spec.specs.declared.error_kind.ErrorKind.{ErrorKind}
+use Rattle.sfv_spec.specs.declared.error_kind.ErrorKind.TheVariants.{UnterminatedString, InvalidStringCharacter}
+use Rattle.sfv_spec.specs.declared.error_kind.ErrorKind.TheVariants.{UnterminatedDisplayString}
+use Rattle.sfv_spec.specs.declared.error_kind.ErrorKind.TheVariants.{InvalidDisplayStringCharacter}
 use Rattle.sfv_text.specs.KeyText.{key_text}
 use Rattle.sfv_text.specs.TokenText.{TokenRef}
 use Rattle.sfv_bare.specs.declared.bare.GenericBareItem.{GenericBareItem}
@@ -23,7 +23,7 @@ use Rattle.sfv_bare.specs.declared.bare.GenericBareItem.TheVariants as bare
 use Rattle.sfv_bare.specs.declared.bare.StringFromInput.{StringFromInput}
 use Rattle.sfv_bare.specs.BareItems.{is_borrowed_string, is_borrowed_text}
 use Rattle.sfv_reading.specs.Reader.{Answer, Reader}
-use Rattle.sfv_reading.specs.Quoted.{behind_bytes, string_from, outside, percent, digit, pieces_from}
+use Rattle.sfv_reading.specs.Quoted.{after_bytes, string_from, outside, percent, digit, pieces_from}
 use Rattle.sfv.specs.declared.parser.cursor.Cursor.{Cursor}
 use Rattle.sfv.specs.declared.parser.item.ReadParameter.{ReadParameter}
 use Rattle.sfv.specs.declared.parser.quoted.QuotedBytes.{QuotedBytes}
@@ -36,20 +36,20 @@ mark_of true = percent_sign
 mark_of false = backslash
 
 -- the kind of error at a wrong byte (`true`), or at the end of the input
-abbrev pub stop_of : Bool → Bool → ErrorKind
-stop_of true true = InvalidDisplayStringCharacter
-stop_of true false = UnterminatedDisplayString
-stop_of false true = InvalidStringCharacter
-stop_of false false = UnterminatedString
+abbrev pub end_error_of : Bool → Bool → ErrorKind
+end_error_of true true = InvalidDisplayStringCharacter
+end_error_of true false = UnterminatedDisplayString
+end_error_of false true = InvalidStringCharacter
+end_error_of false false = UnterminatedString
 
 -- the readers of the bytes up to the closing quote: outside an escape, and after the byte that opens one
 abbrev pub inside : Bool → Reader (List ℕ)
 inside true = pieces_from outside
 inside false = string_from false
 
-abbrev pub behind_mark : Bool → Reader (List ℕ)
-behind_mark true = pieces_from percent
-behind_mark false = string_from true
+abbrev pub after_mark : Bool → Reader (List ℕ)
+after_mark true = pieces_from percent
+after_mark false = string_from true
 
 abbrev pub quoted_bytes : QuotedBytes → List ℕ
 quoted_bytes (quoted.Plain s) = s.now
@@ -105,9 +105,9 @@ IsBorrowedParameter p t left = (s r : List ℕ) × (t ≡ semicolon ∷ (s ++ (k
 -- the rest of an escape after its mark was consumed, and it denotes this byte; or the error is the reader's fault
 abbrev pub ReadsEscape : Bool → Cursor → Cursor → Result ℕ Error → Type 0
 ReadsEscape display before after (Ok c) =
-    (behind_mark display (rest before) ≡ behind_bytes (c ∷ []) (inside display (rest after)))
+    (after_mark display (rest before) ≡ after_bytes (c ∷ []) (inside display (rest after)))
     × (length (rest after) < length (rest before)) × (kept after ≡ kept before)
-ReadsEscape display before after (Err e) = IsFaultOf (input before) e (behind_mark display (rest before))
+ReadsEscape display before after (Err e) = IsFaultOf (input before) e (after_mark display (rest before))
 
 -- the next two bytes are the digits of an escape that denotes this byte
 abbrev pub IsNextEscape : List ℕ → ℕ → Type 0

@@ -2,7 +2,11 @@
 use Rattle.std.specs.Prelude.{◌≡◌, ⊤, ℕ, List, [], Some, Result, Ok, Err, ◌⊎◌, MatchOption, ◌≤◌, length, drop}
 use Rattle.std.specs.declared.alloc.Global.{Global}
 use Rattle.sfv_spec.specs.Classes.{is_space}
-use Rattle.sfv_spec.specs.Values.{Edition, FieldKind, item_field, list_field, dictionary_field, RawField, BareValue}
+use Rattle.sfv_spec.specs.Values.{RawField, BareValue}
+use Rattle.sfv_spec.specs.declared.field_kind.FieldKind.{FieldKind}
+use Rattle.sfv_spec.specs.declared.field_kind.FieldKind.TheVariants.{Item as item_field, List as list_field}
+use Rattle.sfv_spec.specs.declared.field_kind.FieldKind.TheVariants.{Dictionary as dictionary_field}
+use Rattle.sfv_spec.specs.declared.version.Version.{Version}
 use Rattle.sfv_spec.specs.Values.{RawParameters}
 use Rattle.sfv_spec.specs.Events.{TreeEvent, bare_item, parameters_events, events}
 use Rattle.sfv_spec.specs.Visiting.{RunsTo, IsVisited}
@@ -16,14 +20,14 @@ use Rattle.sfv_reading.specs.Fields.{whole_field_at, read_field}
 use Rattle.sfv_reading.specs.Visits.{Visited, VisitorFails}
 use Rattle.sfv.specs.declared.parser.Parser.{Parser}
 use Rattle.sfv.specs.declared.parser.cursor.Cursor.{Cursor}
-use Rattle.sfv.specs.parser.Cursor.{kept, kept_input, edition, rest, IsErrorOf}
+use Rattle.sfv.specs.parser.Cursor.{kept, kept_input, version, rest, IsErrorOf}
 use Rattle.sfv.specs.parser.Cursor.{located_whole}
 use Rattle.sfv.specs.parser.Quoted.{IsBorrowedUnlessEscaped}
 use Rattle.sfv_reading.specs.Items.{item_of, item_at}
 use Rattle.sfv_bare.specs.BareItems.{input_value}
 use Rattle.sfv_visitor.specs.declared.visitor.Event.{Event}
 use Rattle.sfv_visitor.specs.declared.visitor.Event.TheVariants as event
-use Rattle.sfv_visitor.specs.Given.{ReadBareItem}
+use Rattle.sfv_visitor.specs.ProvidedVisitors.{ReadBareItem}
 use Rattle.sfv.specs.Memory.{IsRefusal}
 
 -- An error with an index comes after the visitor has received all events of the reader's result.
@@ -42,20 +46,20 @@ VisitsAnswer takes fails parts k after from to (Err (Syntax e)) answer = IsError
     × TookAll takes parts e answer from to
 VisitsAnswer takes fails parts k after from to (Err (Visitor f)) answer = VisitorFails takes fails parts answer from f
 
--- The same for the reader of the cursor's edition, from the next byte on.
+-- The same for the reader of the cursor's version, from the next byte on.
 abbrev pub Visits : {A S E : Type 0} → (S → TreeEvent → S → Type 0) → (S → TreeEvent → E → Type 0)
-    → (A → List TreeEvent) → Cursor → Cursor → S → S → Result (Unit {0}) (ParseError E) → (Edition → Reader A) → Type 0
+    → (A → List TreeEvent) → Cursor → Cursor → S → S → Result (Unit {0}) (ParseError E) → (Version → Reader A) → Type 0
 Visits takes fails parts before after from to result reader =
-    VisitsAnswer takes fails parts (kept before) after from to result (reader (edition before) (rest before))
+    VisitsAnswer takes fails parts (kept before) after from to result (reader (version before) (rest before))
 
 -- An item was parsed. The visitor received its bare item as parsed, borrowed or owned, and then its parameters.
 abbrev pub TakesAsRead : {S : Type 0} → (S → TreeEvent → S → Type 0) → (S → Event → S → Type 0) → Cursor → Cursor → S → S
     → Type 0
 TakesAsRead {S} takes takes_read before after from to =
     (item : ReadBareItem) × (between : Cursor) × (parameters : RawParameters) × (middle : S)
-    × (bare_at (edition before) (rest before) ≡ Ok (input_value item, rest between))
+    × (bare_at (version before) (rest before) ≡ Ok (input_value item, rest between))
     × IsBorrowedUnlessEscaped item before between
-    × (item_at (edition before) (rest before) ≡ Ok (item_of (input_value item) parameters, rest after))
+    × (item_at (version before) (rest before) ≡ Ok (item_of (input_value item) parameters, rest after))
     × takes_read from (event.BareItem item) middle
     × RunsTo takes middle (parameters_events parameters) to
 
@@ -65,28 +69,28 @@ IsOfVisitor is (Syntax error) = ⊥
 IsOfVisitor is (Visitor fault) = is fault
 
 -- If the text begins with a bare item, an error with an index comes only after the visitor has received it.
-abbrev pub TookBare : {S E : Type 0} → (S → TreeEvent → S → Type 0) → Edition → List ℕ → S → ParseError E → Type 0
-TookBare {S} takes edition t from (Syntax e) = (index : ℕ) (value : BareValue) (q : List ℕ) → index_of e ≡ Some index
-    → bare_at edition t ≡ Ok (value, q) → (after : S) × takes from (bare_item value) after
-TookBare takes edition t from (Visitor f) = ⊤
+abbrev pub TookBare : {S E : Type 0} → (S → TreeEvent → S → Type 0) → Version → List ℕ → S → ParseError E → Type 0
+TookBare {S} takes version t from (Syntax e) = (index : ℕ) (value : BareValue) (q : List ℕ) → index_of e ≡ Some index
+    → bare_at version t ≡ Ok (value, q) → (after : S) × takes from (bare_item value) after
+TookBare takes version t from (Visitor f) = ⊤
 
 -- The same for a bare item after spaces.
-abbrev pub TookFirst : {S E : Type 0} → (S → TreeEvent → S → Type 0) → Edition → List ℕ → S → ParseError E → Type 0
-TookFirst takes edition t from error = (s r : List ℕ) → span is_space t ≡ Ok (s, r)
-    → TookBare takes edition r from error
+abbrev pub TookFirst : {S E : Type 0} → (S → TreeEvent → S → Type 0) → Version → List ℕ → S → ParseError E → Type 0
+TookFirst takes version t from error = (s r : List ℕ) → span is_space t ≡ Ok (s, r)
+    → TookBare takes version r from error
 
 -- If the text begins with a field, an error with an index comes only for an item, after the visitor has finished.
-abbrev pub IsFinishedAt : {S O : Type 0} → (S → TreeEvent → S → Type 0) → (S → O → Type 0) → Edition → FieldKind
+abbrev pub IsFinishedAt : {S O : Type 0} → (S → TreeEvent → S → Type 0) → (S → O → Type 0) → Version → FieldKind
     → List ℕ → S → Error → Type 0
-IsFinishedAt {S} {O} takes finishes edition kind t from e =
-    (raw : RawField kind) (q : List ℕ) → whole_field_at edition kind t ≡ Ok (raw, q)
+IsFinishedAt {S} {O} takes finishes version kind t from e =
+    (raw : RawField kind) (q : List ℕ) → whole_field_at version kind t ≡ Ok (raw, q)
     → MatchOption (index_of e) ⊤ (λ index. (kind ≡ item_field) × (out : O)
     × IsVisited takes finishes from (events kind raw) out)
 
 -- An error with an index comes after the visitor has taken all events that the reader gives of the field.
-abbrev pub TookAllOf : {S : Type 0} → (S → TreeEvent → S → Type 0) → Edition → FieldKind → List ℕ → S → Error → Type 0
-TookAllOf {S} takes edition kind t from e = MatchOption (index_of e) ⊤
-    (λ index. (to : S) × Visited takes (events kind) (whole_field_at edition kind t) from to)
+abbrev pub TookAllOf : {S : Type 0} → (S → TreeEvent → S → Type 0) → Version → FieldKind → List ℕ → S → Error → Type 0
+TookAllOf {S} takes version kind t from e = MatchOption (index_of e) ⊤
+    (λ index. (to : S) × Visited takes (events kind) (whole_field_at version kind t) from to)
 
 -- The visitor finishes here: after an item whatever follows, and after members only at the end of the input.
 abbrev pub IsAskedThere : FieldKind → List ℕ → Type 0
@@ -96,14 +100,14 @@ IsAskedThere dictionary_field q = q ≡ []
 
 -- The result of parsing a whole field with a visitor, which then finishes or fails to finish.
 abbrev pub VisitsField : {S O E : Type 0} → (S → TreeEvent → S → Type 0) → (S → TreeEvent → E → Type 0)
-    → (S → O → Type 0) → (S → E → Type 0) → Edition → (kind : FieldKind) → List ℕ → S → Result O (ParseError E) → Type 0
-VisitsField takes fails finishes finish_fails edition kind t from (Ok out) = (raw : RawField kind)
-    × (read_field edition kind t ≡ Ok raw) × IsVisited takes finishes from (events kind raw) out
-VisitsField takes fails finishes finish_fails edition kind t from (Err (Syntax e)) =
+    → (S → O → Type 0) → (S → E → Type 0) → Version → (kind : FieldKind) → List ℕ → S → Result O (ParseError E) → Type 0
+VisitsField takes fails finishes finish_fails version kind t from (Ok out) = (raw : RawField kind)
+    × (read_field version kind t ≡ Ok raw) × IsVisited takes finishes from (events kind raw) out
+VisitsField takes fails finishes finish_fails version kind t from (Err (Syntax e)) =
     MatchOption (index_of e) (IsRefusal t e)
-    (λ index. (located_whole (read_field edition kind t) ≡ Err (kind_of e, drop index t)) × (index ≤ length t))
-    × IsFinishedAt takes finishes edition kind t from e × TookAllOf takes edition kind t from e
-VisitsField {S} takes fails finishes finish_fails edition kind t from (Err (Visitor f)) =
-    VisitorFails takes fails (events kind) (whole_field_at edition kind t) from f
-    ⊎ ((raw : RawField kind) × (q : List ℕ) × (s : S) × (whole_field_at edition kind t ≡ Ok (raw, q))
+    (λ index. (located_whole (read_field version kind t) ≡ Err (kind_of e, drop index t)) × (index ≤ length t))
+    × IsFinishedAt takes finishes version kind t from e × TookAllOf takes version kind t from e
+VisitsField {S} takes fails finishes finish_fails version kind t from (Err (Visitor f)) =
+    VisitorFails takes fails (events kind) (whole_field_at version kind t) from f
+    ⊎ ((raw : RawField kind) × (q : List ℕ) × (s : S) × (whole_field_at version kind t ≡ Ok (raw, q))
     × RunsTo takes from (events kind raw) s × finish_fails s f × IsAskedThere kind q)

@@ -3,20 +3,22 @@
 ghost use Rattle.std.specs.Prelude.{◌≡◌, true, IfOk};
 ghost use Rattle.sfv_spec.specs.Ascii.{double_quote, percent_sign, colon};
 ghost use Rattle.sfv_spec.proofs.Marks.{question_mark, at_sign};
-ghost use Rattle.sfv_spec.specs.Values.{rfc9651, boolean, date};
+ghost use Rattle.sfv_spec.specs.Values.{boolean, date};
+ghost use Rattle.sfv_spec.specs.declared.version.Version.TheVariants.{Rfc9651};
 ghost use Rattle.sfv_base.specs.Numbers.{seconds_of};
 ghost use Rattle.sfv_bare.specs.BareItems.{input_value};
 ghost use Rattle.sfv_reading.specs.Reader.{byte};
 ghost use Rattle.sfv_reading.specs.Bare.{is_number_start, boolean_at, date_at, token_at, bare_at};
-ghost use Rattle.sfv.specs.parser.Cursor.{edition, rest, Reads, ReadsOrOutOfMemory, NextIs};
+ghost use Rattle.sfv.specs.parser.Cursor.{version, rest, Reads, ReadsOrOutOfMemory, NextIs};
 ghost use Rattle.sfv.specs.parser.Quoted.{IsBorrowedUnlessEscaped};
 
 use crate::parser::cursor::Cursor;
 use crate::parser::digits::is_digit_byte;
 use crate::parser::number::Number;
-use sfv_bare::bare::{BareItemFromInput, GenericBareItem, Version};
+use sfv_bare::bare::{BareItemFromInput, GenericBareItem};
 use sfv_base::date::Date;
 use sfv_base::error::{Error, ErrorKind};
+use sfv_spec::version::Version;
 
 impl<'de> Cursor<'de> {
     /// Parses a boolean after its question mark.
@@ -36,7 +38,7 @@ impl<'de> Cursor<'de> {
     /// Parses a date: the sign `@` and the seconds.
     fn date(&mut self) -> Result<Date, Error>
         requires { NextIs (byte at_sign) true (rest self.old) }
-        ensures { Reads (λ d. date (seconds_of d)) self.old self.new result (date_at rfc9651) }
+        ensures { Reads (λ d. date (seconds_of d)) self.old self.new result (date_at Rfc9651) }
     {
         let start = self.index;
         self.skip();
@@ -49,7 +51,7 @@ impl<'de> Cursor<'de> {
     #[inline(never)]
     fn boolean_item(&mut self) -> Result<BareItemFromInput<'de>, Error>
         requires { NextIs (byte question_mark) true (rest self.old) }
-        ensures read { ReadsOrOutOfMemory input_value self.old self.new result (bare_at (edition self.old)) }
+        ensures read { ReadsOrOutOfMemory input_value self.old self.new result (bare_at (version self.old)) }
         ensures borrowed { IfOk result (λ item. IsBorrowedUnlessEscaped item self.old self.new) }
     {
         self.skip();
@@ -59,7 +61,7 @@ impl<'de> Cursor<'de> {
     #[inline(never)]
     fn string_item(&mut self) -> Result<BareItemFromInput<'de>, Error>
         requires { NextIs (byte double_quote) true (rest self.old) }
-        ensures read { ReadsOrOutOfMemory input_value self.old self.new result (bare_at (edition self.old)) }
+        ensures read { ReadsOrOutOfMemory input_value self.old self.new result (bare_at (version self.old)) }
         ensures borrowed { IfOk result (λ item. IsBorrowedUnlessEscaped item self.old self.new) }
     {
         self.skip();
@@ -69,7 +71,7 @@ impl<'de> Cursor<'de> {
     #[inline(never)]
     fn byte_sequence_item(&mut self) -> Result<BareItemFromInput<'de>, Error>
         requires { NextIs (byte colon) true (rest self.old) }
-        ensures read { ReadsOrOutOfMemory input_value self.old self.new result (bare_at (edition self.old)) }
+        ensures read { ReadsOrOutOfMemory input_value self.old self.new result (bare_at (version self.old)) }
         ensures borrowed { IfOk result (λ item. IsBorrowedUnlessEscaped item self.old self.new) }
     {
         self.skip();
@@ -81,7 +83,7 @@ impl<'de> Cursor<'de> {
     #[tactic(auto, using(crate::proofs::reads::Steps::older_steps))]
     fn date_item(&mut self) -> Result<BareItemFromInput<'de>, Error>
         requires { NextIs (byte at_sign) true (rest self.old) }
-        ensures read { ReadsOrOutOfMemory input_value self.old self.new result (bare_at (edition self.old)) }
+        ensures read { ReadsOrOutOfMemory input_value self.old self.new result (bare_at (version self.old)) }
         ensures borrowed { IfOk result (λ item. IsBorrowedUnlessEscaped item self.old self.new) }
     {
         match self.parser.version {
@@ -95,7 +97,7 @@ impl<'de> Cursor<'de> {
     #[tactic(auto, using(crate::proofs::reads::Steps::older_steps))]
     fn display_string_item(&mut self) -> Result<BareItemFromInput<'de>, Error>
         requires { NextIs (byte percent_sign) true (rest self.old) }
-        ensures read { ReadsOrOutOfMemory input_value self.old self.new result (bare_at (edition self.old)) }
+        ensures read { ReadsOrOutOfMemory input_value self.old self.new result (bare_at (version self.old)) }
         ensures borrowed { IfOk result (λ item. IsBorrowedUnlessEscaped item self.old self.new) }
     {
         match self.parser.version {
@@ -107,7 +109,7 @@ impl<'de> Cursor<'de> {
     #[inline(always)]
     fn number_item(&mut self) -> Result<BareItemFromInput<'de>, Error>
         requires { NextIs is_number_start true (rest self.old) }
-        ensures read { ReadsOrOutOfMemory input_value self.old self.new result (bare_at (edition self.old)) }
+        ensures read { ReadsOrOutOfMemory input_value self.old self.new result (bare_at (version self.old)) }
         ensures borrowed { IfOk result (λ item. IsBorrowedUnlessEscaped item self.old self.new) }
     {
         Ok(match self.number()? {
@@ -119,8 +121,8 @@ impl<'de> Cursor<'de> {
     /// Parses a token as a bare item, or fails if no bare item begins here.
     #[inline(never)]
     fn token_item(&mut self) -> Result<BareItemFromInput<'de>, Error>
-        requires { bare_at (edition self.old) (rest self.old) ≡ token_at (rest self.old) }
-        ensures read { ReadsOrOutOfMemory input_value self.old self.new result (bare_at (edition self.old)) }
+        requires { bare_at (version self.old) (rest self.old) ≡ token_at (rest self.old) }
+        ensures read { ReadsOrOutOfMemory input_value self.old self.new result (bare_at (version self.old)) }
         ensures borrowed { IfOk result (λ item. IsBorrowedUnlessEscaped item self.old self.new) }
     {
         Ok(GenericBareItem::Token(self.token()?))
@@ -139,7 +141,7 @@ impl<'de> Cursor<'de> {
     /// the input.
     #[inline(always)]
     pub(crate) fn bare_item(&mut self) -> Result<BareItemFromInput<'de>, Error>
-        ensures read { ReadsOrOutOfMemory input_value self.old self.new result (bare_at (edition self.old)) }
+        ensures read { ReadsOrOutOfMemory input_value self.old self.new result (bare_at (version self.old)) }
         ensures borrowed { IfOk result (λ item. IsBorrowedUnlessEscaped item self.old self.new) }
     {
         // Each kind except a number is parsed in its own function, so a call reserves stack only for the kind it

@@ -13,8 +13,8 @@ ghost use Rattle.sfv.specs.parser.Cursor.{rest, ReadsOrOutOfMemory};
 ghost use Rattle.sfv.specs.parser.Values.{vec_bytes};
 ghost use Rattle.sfv.specs.parser.Base64.{decoded_symbols};
 
+use crate::parser::base64_symbols::{padding_after, padding_run, symbol_run, value_of};
 use crate::parser::cursor::Cursor;
-use crate::parser::symbols::{padding_after, padding_run, symbol_run, value_of};
 use base64::engine::general_purpose::STANDARD_NO_PAD;
 use base64::{DecodeAllocError, decoded_len_estimate};
 use sfv_base::error::{Error, ErrorKind};

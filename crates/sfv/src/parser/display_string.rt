@@ -2,10 +2,10 @@
 
 ghost use Rattle.std.specs.Prelude.{◌≡◌, ◌≤◌, ◌↔◌, ℕ, List, true, length, drop, IfOk, IsTrue, Ok};
 ghost use Rattle.sfv_spec.specs.Ascii.{percent_sign};
-ghost use Rattle.sfv_spec.specs.Values.{rfc9651};
+ghost use Rattle.sfv_spec.specs.declared.version.Version.TheVariants.{Rfc9651};
 ghost use Rattle.sfv_reading.specs.Reader.{byte};
 ghost use Rattle.sfv_reading.specs.Bare.{quoted_at};
-ghost use Rattle.sfv_reading.specs.Quoted.{outside, pieces_from, behind_pieces, display_at};
+ghost use Rattle.sfv_reading.specs.Quoted.{outside, pieces_from, after_pieces, display_at};
 ghost use Rattle.sfv.specs.parser.Cursor.{rest, ReadsOrOutOfMemory, NextIs};
 ghost use Rattle.sfv.specs.parser.Quoted.{HasNoMarkInside, GivesDisplayText};
 ghost use Rattle.sfv.specs.parser.Values.{display_value_of, is_borrowed_text};
@@ -16,12 +16,12 @@ use sfv_base::error::{Error, ErrorKind};
 use std::borrow::CowStr;
 
 /// Returns the input offset after the first `count` decoded bytes: one input byte for each, or three for an escape.
-fn place(input: &[u8], start: usize, count: usize) -> usize
+fn piece_index(input: &[u8], start: usize, count: usize) -> usize
     requires within { start ≤ length input.now }
     requires pieces { (bytes : List ℕ) × (rest : List ℕ)
         × (pieces_from outside (drop start input.now) ≡ Ok (bytes, rest)) × (count ≤ length bytes) }
     ensures within { result ≤ length input.now }
-    ensures place { drop result input.now ≡ behind_pieces count (drop start input.now) }
+    ensures piece_index { drop result input.now ≡ after_pieces count (drop start input.now) }
 {
     let mut index = start;
     for _ in 0..count {
@@ -32,7 +32,7 @@ fn place(input: &[u8], start: usize, count: usize) -> usize
 
 /// Returns the decoded bytes as text if they are UTF-8. Otherwise fails at the input offset of the first invalid byte;
 /// `start` is the offset of the first byte.
-fn text_of(input: &[u8], start: usize, bytes: Vec<u8>) -> Result<String, Error>
+fn decode_utf8(input: &[u8], start: usize, bytes: Vec<u8>) -> Result<String, Error>
     requires within { start ≤ length input.now }
     requires read { (rest : List ℕ) × (pieces_from outside (drop start input.now) ≡ Ok (bytes.items, rest)) }
     ensures { (rest : List ℕ) → pieces_from outside (drop start input.now) ≡ Ok (bytes.items, rest)
@@ -42,7 +42,7 @@ fn text_of(input: &[u8], start: usize, bytes: Vec<u8>) -> Result<String, Error>
         Ok(text) => Ok(text),
         Err(error) => {
             let valid = error.utf8_error().valid_up_to();
-            let index = place(input, start, valid);
+            let index = piece_index(input, start, valid);
             Err(Error::at(ErrorKind::InvalidUtf8InDisplayString, index))
         }
     }
@@ -53,7 +53,7 @@ impl<'de> Cursor<'de> {
     /// input.
     pub(super) fn display_string(&mut self) -> Result<CowStr<'de>, Error>
         requires { NextIs (byte percent_sign) true (rest self.old) }
-        ensures read { ReadsOrOutOfMemory display_value_of self.old self.new result (quoted_at rfc9651) }
+        ensures read { ReadsOrOutOfMemory display_value_of self.old self.new result (quoted_at Rfc9651) }
         ensures borrowed { IfOk result (λ text.
             IsTrue (is_borrowed_text text) ↔ HasNoMarkInside true self.old self.new) }
     {
@@ -69,7 +69,7 @@ impl<'de> Cursor<'de> {
                 Ok(CowStr::Borrowed(text))
             }
             QuotedBytes::Unescaped(bytes) => {
-                let text = text_of(self.parser.input, start, bytes)?;
+                let text = decode_utf8(self.parser.input, start, bytes)?;
                 Ok(CowStr::Owned(text))
             }
         }

@@ -1,9 +1,9 @@
 //! Parsing of whole fields (RFC 9651, section 4.2).
 
 ghost use Rattle.std.specs.Prelude.{IfOk, IfErr};
-ghost use Rattle.sfv_spec.specs.Values.{item_field};
+ghost use Rattle.sfv_spec.specs.declared.field_kind.FieldKind.TheVariants.{Item as item_field};
 ghost use Rattle.sfv.specs.parser.Members.{field_of};
-ghost use Rattle.sfv.specs.Parsers.{input_of, parser_edition, AnswersAsRead};
+ghost use Rattle.sfv.specs.Parsers.{input_of, version_of, AnswersAsRead};
 ghost use Rattle.sfv.specs.parser.Visits.{VisitsField, TookFirst};
 
 use crate::parser::Parser;
@@ -23,10 +23,10 @@ pub(crate) fn parse_item_field<'de, V: Visitor<'de>>(
 ) -> Result<V::Out, ParseError<V::Error>>
     requires { V.is_ready visitor }
     ensures visited { VisitsField V.takes V.fails V.finishes V.finish_fails
-        (parser_edition parser.entry) item_field (input_of parser.entry) visitor result }
-    ensures told { IfErr result (TookFirst V.takes (parser_edition parser.entry) (input_of parser.entry) visitor) }
-    ensures lent { IfOk result (AnswersAsRead V.takes V.takes_read V.finishes
-        (parser_edition parser.entry) (input_of parser.entry) visitor) }
+        (version_of parser.entry) item_field (input_of parser.entry) visitor result }
+    ensures taken_first { IfErr result (TookFirst V.takes (version_of parser.entry) (input_of parser.entry) visitor) }
+    ensures borrowed_if_plain { IfOk result (AnswersAsRead V.takes V.takes_read V.finishes
+        (version_of parser.entry) (input_of parser.entry) visitor) }
 {
     let mut cursor = Cursor::new(parser, alloc);
     cursor.skip_sp();
@@ -49,7 +49,7 @@ pub(crate) fn parse_members_field<'de, M: Member<'de, V>, V: Visitor<'de>>(
 ) -> Result<V::Out, ParseError<V::Error>>
     requires { V.is_ready visitor }
     ensures { VisitsField V.takes V.fails V.finishes V.finish_fails
-        (parser_edition parser.entry) (field_of M.keyed) (input_of parser.entry) visitor result }
+        (version_of parser.entry) (field_of M.keyed) (input_of parser.entry) visitor result }
 {
     Cursor::new(parser, alloc).members::<M, V>(&mut visitor)?;
     finish(visitor)

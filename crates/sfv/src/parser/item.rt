@@ -4,7 +4,7 @@ ghost use Rattle.std.specs.Prelude.{option_map, OnOk, IfOk, IfErr, IfSome};
 ghost use Rattle.sfv_spec.specs.Events.{parameters_events, item_events};
 ghost use Rattle.sfv_bare.specs.BareItems.{input_value};
 ghost use Rattle.sfv_reading.specs.Items.{value_at, parameter_at, parameters_at, item_at};
-ghost use Rattle.sfv.specs.parser.Cursor.{edition, rest, ReadsOrOutOfMemory};
+ghost use Rattle.sfv.specs.parser.Cursor.{version, rest, ReadsOrOutOfMemory};
 ghost use Rattle.sfv.specs.parser.Visits.{Visits, TakesAsRead, TookBare};
 
 use crate::parser::cursor::Cursor;
@@ -29,7 +29,7 @@ impl<'de> Cursor<'de> {
     #[inline(always)]
     #[tactic(auto, using(crate::proofs::reads::Steps::value_steps))]
     fn parameter_value(&mut self) -> Result<BareItemFromInput<'de>, Error>
-        ensures read { ReadsOrOutOfMemory input_value self.old self.new result (value_at (edition self.old)) }
+        ensures read { ReadsOrOutOfMemory input_value self.old self.new result (value_at (version self.old)) }
         ensures borrowed { IfOk result (λ item. IsBorrowedValue item (rest self.old) (rest self.new)) }
     {
         if self.take_if(b'=') {
@@ -45,7 +45,7 @@ impl<'de> Cursor<'de> {
     #[tactic(auto, using(crate::proofs::reads::Steps::parameter_steps))]
     fn parameter(&mut self) -> Result<Option<ReadParameter<'de>>, Error>
         ensures read { ReadsOrOutOfMemory (option_map read_pair) self.old self.new result
-            (parameter_at (edition self.old)) }
+            (parameter_at (version self.old)) }
         ensures borrowed { IfOk result (λ parameter.
             IfSome parameter (λ p. IsBorrowedParameter p (rest self.old) (rest self.new))) }
     {
@@ -60,7 +60,7 @@ impl<'de> Cursor<'de> {
 
     /// Parses parameters in a loop, and passes each of them and their end to `visitor`.
     #[inline(never)]
-    fn some_parameters<V: Visitor<'de>>(
+    fn visit_parameters<V: Visitor<'de>>(
         &mut self,
         visitor: &mut V,
     ) -> Result<(), ParseError<V::Error>>
@@ -90,7 +90,7 @@ impl<'de> Cursor<'de> {
         if !self.next_is(b';') {
             return visit(visitor, Event::ParametersEnd);
         }
-        self.some_parameters(visitor)
+        self.visit_parameters(visitor)
     }
 
     /// Parses an item, and passes its parts to `visitor`.
@@ -102,8 +102,8 @@ impl<'de> Cursor<'de> {
         requires { V.is_ready visitor.old }
         ensures ready { OnOk result (V.is_ready visitor.new) }
         ensures visited { Visits V.takes V.fails item_events self.old self.new visitor.old visitor.new result item_at }
-        ensures told { IfErr result (TookBare V.takes (edition self.old) (rest self.old) visitor.old) }
-        ensures lent { OnOk result (TakesAsRead V.takes V.takes_read self.old self.new visitor.old visitor.new) }
+        ensures taken_first { IfErr result (TookBare V.takes (version self.old) (rest self.old) visitor.old) }
+        ensures borrowed_if_plain { OnOk result (TakesAsRead V.takes V.takes_read self.old self.new visitor.old visitor.new) }
     {
         let bare_item = self.bare_item()?;
         visit(visitor, Event::BareItem(bare_item))?;

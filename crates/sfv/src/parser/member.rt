@@ -5,7 +5,7 @@ ghost use Rattle.sfv_spec.specs.Events.{member_events, inner_item_events};
 ghost use Rattle.sfv_reading.specs.Members.{inner_item_at, inner_items_at, inner_at, member_at, member_value_at};
 ghost use Rattle.sfv_reading.specs.Fields.{members_at};
 ghost use Rattle.sfv.specs.parser.Cursor.{rest, Reads};
-ghost use Rattle.sfv.specs.parser.Members.{item_delimiter_at, member_delimiter_at, behind_begin, member_parts, one_member_at};
+ghost use Rattle.sfv.specs.parser.Members.{item_delimiter_at, member_delimiter_at, after_begin, member_parts, one_member_at};
 ghost use Rattle.sfv.specs.parser.Visits.{Visits};
 
 use crate::parser::cursor::Cursor;
@@ -74,7 +74,7 @@ impl<'de> Cursor<'de> {
     fn inner_list<V: Visitor<'de>>(&mut self, visitor: &mut V) -> Result<(), ParseError<V::Error>>
         requires { V.is_ready visitor.old }
         ensures ready { OnOk result (V.is_ready visitor.new) }
-        ensures visited { Visits V.takes V.fails behind_begin self.old self.new visitor.old visitor.new
+        ensures visited { Visits V.takes V.fails after_begin self.old self.new visitor.old visitor.new
             result inner_at }
     {
         self.inner_items(visitor)?;
@@ -149,7 +149,7 @@ impl<'de> Cursor<'de> {
         ensures ready { OnOk result (V.is_ready visitor.new) }
         ensures visited { Visits V.takes V.fails (λ members. flat_map (member_parts M.keyed) members) self.old self.new
             visitor.old visitor.new result
-            (λ edition. members_at (member_parts M.keyed) (one_member_at M.keyed edition)) }
+            (λ version. members_at (member_parts M.keyed) (one_member_at M.keyed version)) }
         ensures end { OnOk result (rest self.new ≡ []) }
     {
         self.skip_sp();

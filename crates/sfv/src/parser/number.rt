@@ -50,13 +50,13 @@ impl Cursor<'_> {
     {
         let negative = self.sign();
         let whole = self.digits(15);
-        self.behind_whole(negative, whole)
+        self.after_integer_part(negative, whole)
     }
 
     /// Parses the rest of a number after its whole part.
     #[inline(always)]
     #[tactic(auto, using(crate::proofs::reads::Steps::whole_steps))]
-    fn behind_whole(&mut self, negative: bool, whole: Digits) -> Result<Number, Error>
+    fn after_integer_part(&mut self, negative: bool, whole: Digits) -> Result<Number, Error>
         requires most { whole.count ≤ 15 }
         requires spells { (ds : List ℕ) × Spells ds whole }
         ensures { (dated : Bool) (ds : List ℕ) → Spells ds whole →

@@ -5,9 +5,9 @@ ghost use Rattle.sfv_spec.specs.Ascii.{double_quote};
 ghost use Rattle.sfv_spec.specs.Texts.{RunOf};
 ghost use Rattle.sfv_spec.proofs.Marks.{plain_of};
 ghost use Rattle.sfv_reading.specs.Reader.{Apart, byte};
-ghost use Rattle.sfv_reading.specs.Quoted.{behind_bytes};
+ghost use Rattle.sfv_reading.specs.Quoted.{after_bytes};
 ghost use Rattle.sfv.specs.parser.Cursor.{input, kept, rest, IsFaultOf, ReadsOrOutOfMemory};
-ghost use Rattle.sfv.specs.parser.Quoted.{mark_of, stop_of, inside, quoted_bytes, is_plain, HasNoMark, ReadsEscape};
+ghost use Rattle.sfv.specs.parser.Quoted.{mark_of, end_error_of, inside, quoted_bytes, is_plain, HasNoMark, ReadsEscape};
 ghost use Rattle.sfv.specs.parser.Quoted.{ReadsDigit, IsNextEscape};
 ghost use Rattle.sfv.specs.parser.Values.{vec_bytes};
 ghost use Rattle.sfv.specs.Memory.{HoldsMark};
@@ -26,8 +26,8 @@ pub(super) trait QuotedText {
         ensures { result ≡ mark_of display };
 
     /// Returns the kind of the error where the text cannot continue: at a byte, or at the end of the input.
-    fn stop(at_byte: bool) -> ErrorKind
-        ensures { result ≡ stop_of display at_byte };
+    fn end_error(at_byte: bool) -> ErrorKind
+        ensures { result ≡ end_error_of display at_byte };
 
     /// Consumes the longest run of bytes that denote themselves.
     fn plain<'de>(cursor: &mut Cursor<'de>) -> &'de [u8]
@@ -37,7 +37,7 @@ pub(super) trait QuotedText {
         ensures kept { kept cursor.new ≡ kept cursor.old };
 
     /// Consumes the rest of an escape after its mark, and returns the byte that it denotes.
-    fn escaped(cursor: &mut Cursor<'_>) -> Result<u8, Error>
+    fn take_escape(cursor: &mut Cursor<'_>) -> Result<u8, Error>
         ensures { ReadsEscape display cursor.old cursor.new result };
 }
 
@@ -51,7 +51,7 @@ impl QuotedText for InString {
         b'\\'
     }
 
-    fn stop(at_byte: bool) -> ErrorKind {
+    fn end_error(at_byte: bool) -> ErrorKind {
         if at_byte {
             ErrorKind::InvalidStringCharacter
         } else {
@@ -63,7 +63,7 @@ impl QuotedText for InString {
         cursor.run::<PlainInString>()
     }
 
-    fn escaped(cursor: &mut Cursor<'_>) -> Result<u8, Error> {
+    fn take_escape(cursor: &mut Cursor<'_>) -> Result<u8, Error> {
         let Some(byte) = cursor.peek() else {
             return Err(cursor.error(ErrorKind::UnterminatedEscapeSequence));
         };
@@ -85,7 +85,7 @@ impl QuotedText for InDisplayString {
         b'%'
     }
 
-    fn stop(at_byte: bool) -> ErrorKind {
+    fn end_error(at_byte: bool) -> ErrorKind {
         if at_byte {
             ErrorKind::InvalidDisplayStringCharacter
         } else {
@@ -97,7 +97,7 @@ impl QuotedText for InDisplayString {
         cursor.run::<PlainInDisplayString>()
     }
 
-    fn escaped(cursor: &mut Cursor<'_>) -> Result<u8, Error> {
+    fn take_escape(cursor: &mut Cursor<'_>) -> Result<u8, Error> {
         // Most escapes are complete. One bounds check then serves both digits.
         if let Some(byte) = cursor.next_escape() {
             cursor.skip();
@@ -148,22 +148,22 @@ impl<'de> Cursor<'de> {
     }
 
     /// Returns the error at a byte that cannot continue the text, or at the end of the input.
-    fn stop<Q: QuotedText>(&self) -> Error
+    fn end_error<Q: QuotedText>(&self) -> Error
         requires plain { Apart (plain_of Q.display) (rest self.now) }
         requires quote { Apart (byte double_quote) (rest self.now) }
         requires mark { Apart (byte (mark_of Q.display)) (rest self.now) }
         ensures { IsFaultOf (input self.now) result (inside Q.display (rest self.now)) }
     {
-        self.error(Q::stop(self.peek().is_some()))
+        self.error(Q::end_error(self.peek().is_some()))
     }
 
     /// Parses the rest of a quoted text that begins with the bytes `plain`, with its closing quote. Returns all its
     /// bytes.
     #[inline(never)]
-    fn unescaped<Q: QuotedText>(&mut self, plain: &[u8]) -> Result<Vec<u8>, Error>
+    fn unescape_rest<Q: QuotedText>(&mut self, plain: &[u8]) -> Result<Vec<u8>, Error>
         requires { HoldsMark (input self.old) }
         ensures { ReadsOrOutOfMemory vec_bytes self.old self.new result
-            (λ t. behind_bytes plain.now (inside Q.display t)) }
+            (λ t. after_bytes plain.now (inside Q.display t)) }
     {
         let mut bytes = Vec::from_slice(self.alloc, plain)?;
         // No call keeps a reference to this copy, so its index stays in a register.
@@ -171,12 +171,12 @@ impl<'de> Cursor<'de> {
         while !cursor.take_if(b'"') {
             // Escapes often come in sequence, so an escape is tried first, and then a run.
             if cursor.take_if(Q::mark()) {
-                let byte = Q::escaped(&mut cursor)?;
+                let byte = Q::take_escape(&mut cursor)?;
                 bytes.push(byte)?;
             } else {
                 let run = Q::plain(&mut cursor);
                 if run.is_empty() {
-                    return Err(cursor.stop::<Q>());
+                    return Err(cursor.end_error::<Q>());
                 }
                 bytes.extend_from_slice(run)?;
             }
@@ -196,9 +196,9 @@ impl<'de> Cursor<'de> {
             return Ok(QuotedBytes::Plain(plain));
         }
         if !self.next_is(Q::mark()) {
-            return Err(self.stop::<Q>());
+            return Err(self.end_error::<Q>());
         }
-        let bytes = self.unescaped::<Q>(plain)?;
+        let bytes = self.unescape_rest::<Q>(plain)?;
         Ok(QuotedBytes::Unescaped(bytes))
     }
 }

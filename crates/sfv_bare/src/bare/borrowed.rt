@@ -7,7 +7,7 @@ ghost use Rattle.sfv_bare.specs.BareItems.{GivesPart, bare_value, ref_value, hol
 ghost use Rattle.sfv_text.specs.StringText.{string_text};
 ghost use Rattle.sfv_text.specs.TokenText.{token_text};
 
-use crate::bare::{BareItem, GenericBareItem, RefBareItem, lent};
+use crate::bare::{BareItem, GenericBareItem, RefBareItem, with_bytes_invariant};
 use sfv_base::error::OutOfMemory;
 use sfv_text::string::String;
 use sfv_text::string_ref::StringRef;
@@ -57,7 +57,9 @@ impl<'a> RefBareItem<'a> {
             GenericBareItem::Decimal(value) => GenericBareItem::Decimal(value),
             GenericBareItem::Integer(value) => GenericBareItem::Integer(value),
             GenericBareItem::String(text) => GenericBareItem::String(text),
-            GenericBareItem::ByteSequence(bytes) => GenericBareItem::ByteSequence(lent(bytes)),
+            GenericBareItem::ByteSequence(bytes) => GenericBareItem::ByteSequence(
+                with_bytes_invariant(bytes),
+            ),
             GenericBareItem::Boolean(value) => GenericBareItem::Boolean(value),
             GenericBareItem::Token(token) => GenericBareItem::Token(token),
             GenericBareItem::Date(value) => GenericBareItem::Date(value),

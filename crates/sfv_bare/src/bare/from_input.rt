@@ -12,7 +12,8 @@ ghost use Rattle.sfv_text.specs.StringText.{string_text};
 ghost use Rattle.sfv_text.specs.TokenText.{token_text};
 
 use crate::bare::{
-    BareItem, BareItemFromInput, GenericBareItem, RefBareItem, StringFromInput, lent,
+    BareItem, BareItemFromInput, GenericBareItem, RefBareItem, StringFromInput,
+    with_bytes_invariant,
 };
 use sfv_base::error::OutOfMemory;
 use sfv_text::string::String;
@@ -116,7 +117,9 @@ impl<'a> BareItemFromInput<'a> {
             GenericBareItem::Decimal(value) => GenericBareItem::Decimal(*value),
             GenericBareItem::Integer(value) => GenericBareItem::Integer(*value),
             GenericBareItem::String(text) => GenericBareItem::String(text.as_string_ref()),
-            GenericBareItem::ByteSequence(bytes) => GenericBareItem::ByteSequence(lent(bytes)),
+            GenericBareItem::ByteSequence(bytes) => GenericBareItem::ByteSequence(
+                with_bytes_invariant(bytes),
+            ),
             GenericBareItem::Boolean(value) => GenericBareItem::Boolean(*value),
             GenericBareItem::Token(token) => GenericBareItem::Token(*token),
             GenericBareItem::Date(value) => GenericBareItem::Date(*value),

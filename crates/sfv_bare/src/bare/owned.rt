@@ -7,7 +7,7 @@ ghost use Rattle.sfv_bare.specs.BareItems.{GivesPart, bare_value, ref_value};
 ghost use Rattle.sfv_text.specs.StringText.{string_text};
 ghost use Rattle.sfv_text.specs.TokenText.{token_text};
 
-use crate::bare::{BareItem, GenericBareItem, RefBareItem, lent};
+use crate::bare::{BareItem, GenericBareItem, RefBareItem, with_bytes_invariant};
 use sfv_text::string::String;
 use sfv_text::string_ref::StringRef;
 use sfv_text::token::Token;
@@ -53,7 +53,9 @@ impl BareItem {
             GenericBareItem::Decimal(value) => GenericBareItem::Decimal(*value),
             GenericBareItem::Integer(value) => GenericBareItem::Integer(*value),
             GenericBareItem::String(text) => GenericBareItem::String(text.as_string_ref()),
-            GenericBareItem::ByteSequence(bytes) => GenericBareItem::ByteSequence(lent(bytes)),
+            GenericBareItem::ByteSequence(bytes) => GenericBareItem::ByteSequence(
+                with_bytes_invariant(bytes),
+            ),
             GenericBareItem::Boolean(value) => GenericBareItem::Boolean(*value),
             GenericBareItem::Token(token) => GenericBareItem::Token(token.as_token_ref()),
             GenericBareItem::Date(value) => GenericBareItem::Date(*value),

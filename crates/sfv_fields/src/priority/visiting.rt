@@ -1,6 +1,6 @@
 //! Parsing of the Priority field without a map.
 
-ghost use Rattle.sfv_field.specs.Field.{◌≡◌, IfOk, IfErr, dictionary_field, edition_of, IsParseError};
+ghost use Rattle.sfv_field.specs.Field.{◌≡◌, IfOk, IfErr, dictionary_field, IsParseError};
 ghost use Rattle.sfv_fields.specs.Priority.{value_of, priority, IsPriorityOf};
 
 use crate::priority::value::Priority;
@@ -65,8 +65,8 @@ impl<'de> DictionaryReader<'de> for Priority {
 /// Returns the error of `Parser::parse` if the input is not a dictionary, or if memory runs out.
 #[tactic(auto, unfolding(sfv_field::specs::Field::last_of))]
 pub fn read_priority(alloc: Global, input: &[u8], version: Version) -> Result<Priority, Error>
-    ensures read { IfOk result (λ found. IsPriorityOf (edition_of version) input.now (value_of found)) }
-    ensures rejected { IfErr result (IsParseError (edition_of version) dictionary_field input.now) }
+    ensures read { IfOk result (λ found. IsPriorityOf version input.now (value_of found)) }
+    ensures rejected { IfErr result (IsParseError version dictionary_field input.now) }
 {
     read_dictionary(alloc, input, version, Priority::default())
 }

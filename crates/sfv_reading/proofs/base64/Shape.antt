@@ -175,11 +175,11 @@ padding-nil zero = refl
 padding-nil (suc k) = refl
 
 -- what stands after the symbols
-pub behind_symbols : (n : ℕ) (u : List ℕ) → NotBegun is_symbol u
+pub after_symbols : (n : ℕ) (u : List ℕ) → NotBegun is_symbol u
     → (valid_from n u ≡ padding_in (most_padding n) u) × (values_in u ≡ [])
 unfolding valid_from values_in
-behind_symbols n [] h = (sym (padding-nil (most_padding n)), refl)
-behind_symbols n (c ∷ u) h = rw h (refl, refl)
+after_symbols n [] h = (sym (padding-nil (most_padding n)), refl)
+after_symbols n (c ∷ u) h = rw h (refl, refl)
 
 pub valid_run : (n : ℕ) (run u : List ℕ) → list_all is_symbol run ≡ true → NotBegun is_symbol u
     → (valid_from n (run ++ u) ≡ length run + padding_in (most_padding (n + length run)) u)
@@ -187,7 +187,7 @@ pub valid_run : (n : ℕ) (run u : List ℕ) → list_all is_symbol run ≡ true
 unfolding valid_from values_in
 valid_run n [] u h a =
     let e : n + 0 ≡ n = omega arith in
-    let b = behind_symbols n u a in
+    let b = after_symbols n u a in
     let f : valid_from n u ≡ 0 + padding_in (most_padding n) u = omega (arith, b.0) in
     (rw e f, b.1)
 valid_run n (c ∷ run) u h a =

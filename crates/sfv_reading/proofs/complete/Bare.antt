@@ -10,7 +10,9 @@ use Rattle.sfv_spec.proofs.Marks.{minus_sign, dot, digit_one}
 use Rattle.sfv_spec.proofs.Marks.{question_mark, at_sign}
 use Rattle.sfv_spec.specs.Texts.{begins_with, RunOf}
 use Rattle.sfv_spec.specs.Classes.{is_digit, is_token, is_token_start, is_token_inner}
-use Rattle.sfv_spec.specs.Values.{Edition, rfc9651, BareValue, integer, decimal, string, token, byte_sequence, boolean}
+use Rattle.sfv_spec.specs.Values.{BareValue, integer, decimal, string, token, byte_sequence, boolean}
+use Rattle.sfv_spec.specs.declared.version.Version.{Version}
+use Rattle.sfv_spec.specs.declared.version.Version.TheVariants.{Rfc9651}
 use Rattle.sfv_spec.specs.Values.{date, display_string}
 use Rattle.sfv_spec.specs.Numbers.{minus_text, IsIntegerText, IsDecimalText}
 use Rattle.sfv_spec.specs.Grammar.{IsBareText, boolean_text}
@@ -32,28 +34,28 @@ use Rattle.sfv_reading.proofs.complete.Numbers.{goes_on, digit_apart, integer_co
 pub apart_from : (class : ℕ → Bool) (n : ℕ) → class n ≡ false → (c : ℕ) → class c ≡ true → eqb c n ≡ false
 apart_from class n none c e = ne_eqb c n (λ i. true≢false (sym e ∙ ap class i ∙ none))
 
-pub bare_boolean : (edition : Edition) (r : List ℕ) → bare_at edition (question_mark ∷ r) ≡ boolean_at r
+pub bare_boolean : (version : Version) (r : List ℕ) → bare_at version (question_mark ∷ r) ≡ boolean_at r
 unfolding bare_at branch
-bare_boolean edition r = refl
+bare_boolean version r = refl
 
-pub bare_quote : (edition : Edition) (r : List ℕ)
-    → bare_at edition (double_quote ∷ r) ≡ (string_at >>= λ s. give (string s)) r
+pub bare_quote : (version : Version) (r : List ℕ)
+    → bare_at version (double_quote ∷ r) ≡ (string_at >>= λ s. give (string s)) r
 unfolding bare_at branch
-bare_quote edition r = refl
+bare_quote version r = refl
 
-pub bare_colon : (edition : Edition) (r : List ℕ)
-    → bare_at edition (colon ∷ r) ≡ (bytes_at >>= λ s. give (byte_sequence s)) r
+pub bare_colon : (version : Version) (r : List ℕ)
+    → bare_at version (colon ∷ r) ≡ (bytes_at >>= λ s. give (byte_sequence s)) r
 unfolding bare_at branch
-bare_colon edition r = refl
+bare_colon version r = refl
 
-pub bare_at_sign : (edition : Edition) (r : List ℕ) → bare_at edition (at_sign ∷ r) ≡ date_at edition (at_sign ∷ r)
+pub bare_at_sign : (version : Version) (r : List ℕ) → bare_at version (at_sign ∷ r) ≡ date_at version (at_sign ∷ r)
 unfolding bare_at branch ahead
-bare_at_sign edition r = refl
+bare_at_sign version r = refl
 
-pub bare_percent : (edition : Edition) (r : List ℕ)
-    → bare_at edition (percent_sign ∷ r) ≡ quoted_at edition (percent_sign ∷ r)
+pub bare_percent : (version : Version) (r : List ℕ)
+    → bare_at version (percent_sign ∷ r) ≡ quoted_at version (percent_sign ∷ r)
 unfolding bare_at branch ahead
-bare_percent edition r = refl
+bare_percent version r = refl
 
 number_no_token : (c : ℕ) → is_number_start c ≡ true → is_token_start c ≡ false
 number_no_token c e = elim (or_cases (is_digit c) (eqb c minus_sign) e) [
@@ -69,10 +71,10 @@ token_no_number c e = elim (cases_Bool (is_number_start c)) [
   | inr h ↦ h
 ]
 
-bare_token_start : (edition : Edition) (c : ℕ) (r : List ℕ) → is_token_start c ≡ true
-    → bare_at edition (c ∷ r) ≡ token_at (c ∷ r)
+bare_token_start : (version : Version) (c : ℕ) (r : List ℕ) → is_token_start c ≡ true
+    → bare_at version (c ∷ r) ≡ token_at (c ∷ r)
 unfolding bare_at
-bare_token_start edition c r e =
+bare_token_start version c r e =
     branch_past _ _ _ (c ∷ r) (Apart-cons (byte question_mark) c r (apart_from is_token_start question_mark refl c e))
     ∙ branch_past _ _ _ (c ∷ r) (Apart-cons (byte double_quote) c r (apart_from is_token_start double_quote refl c e))
     ∙ branch_past _ _ _ (c ∷ r) (Apart-cons (byte colon) c r (apart_from is_token_start colon refl c e))
@@ -80,10 +82,10 @@ bare_token_start edition c r e =
     ∙ ahead_past _ _ _ (c ∷ r) (Apart-cons (byte percent_sign) c r (apart_from is_token_start percent_sign refl c e))
     ∙ ahead_past _ _ _ (c ∷ r) (Apart-cons is_number_start c r (token_no_number c e))
 
-pub bare_number : (edition : Edition) (c : ℕ) (r : List ℕ) → is_number_start c ≡ true
-    → bare_at edition (c ∷ r) ≡ number_at false (c ∷ r)
+pub bare_number : (version : Version) (c : ℕ) (r : List ℕ) → is_number_start c ≡ true
+    → bare_at version (c ∷ r) ≡ number_at false (c ∷ r)
 unfolding bare_at
-bare_number edition c r e =
+bare_number version c r e =
     branch_past _ _ _ (c ∷ r) (Apart-cons (byte question_mark) c r (apart_from is_number_start question_mark refl c e))
     ∙ branch_past _ _ _ (c ∷ r) (Apart-cons (byte double_quote) c r (apart_from is_number_start double_quote refl c e))
     ∙ branch_past _ _ _ (c ∷ r) (Apart-cons (byte colon) c r (apart_from is_number_start colon refl c e))
@@ -92,11 +94,11 @@ bare_number edition c r e =
     ∙ ahead_take _ _ _ c r e
 
 -- which of these it is
-pub first_byte : (edition : Edition) (c : ℕ) (r : List ℕ)
+pub first_byte : (version : Version) (c : ℕ) (r : List ℕ)
     → (c ≡ question_mark) ⊎ (c ≡ double_quote) ⊎ (c ≡ colon) ⊎ (c ≡ at_sign) ⊎ (c ≡ percent_sign)
-    ⊎ (is_number_start c ≡ true) ⊎ (bare_at edition (c ∷ r) ≡ token_at (c ∷ r))
+    ⊎ (is_number_start c ≡ true) ⊎ (bare_at version (c ∷ r) ≡ token_at (c ∷ r))
 unfolding bare_at branch ahead
-first_byte edition c r = elim (cases_Bool (byte question_mark c)) [
+first_byte version c r = elim (cases_Bool (byte question_mark c)) [
   | inl y ↦ inl (eqb-true c question_mark y)
   | inr n ↦ inr (elim (cases_Bool (byte double_quote c)) [
     | inl y ↦ inl (eqb-true c double_quote y)
@@ -117,32 +119,32 @@ first_byte edition c r = elim (cases_Bool (byte question_mark c)) [
 ]
 
 date_complete : (z : ℤ) (t q : List ℕ) → IsIntegerText z t → Apart goes_on q
-    → date_at rfc9651 (at_sign ∷ (t ++ q)) ≡ Ok (date z, q)
+    → date_at Rfc9651 (at_sign ∷ (t ++ q)) ≡ Ok (date z, q)
 unfolding date_at give
 date_complete z t q i h = back_complete _ _ _ _ _ (branch_take _ _ _ at_sign (t ++ q) refl
     ∙ bind_complete _ _ _ _ _ (integer_complete true t q z i h))
 
-quoted_complete : (s t q : List ℕ) → IsDisplayEnd s t → quoted_at rfc9651 (percent_sign ∷ double_quote ∷ (t ++ q))
+quoted_complete : (s t q : List ℕ) → IsDisplayEnd s t → quoted_at Rfc9651 (percent_sign ∷ double_quote ∷ (t ++ q))
     ≡ Ok (display_string s, q)
 unfolding quoted_at give
 quoted_complete s t q h = branch_take _ _ _ percent_sign (double_quote ∷ (t ++ q)) refl
     ∙ branch_take _ _ _ double_quote (t ++ q) refl ∙ bind_complete _ _ _ _ _ (display_complete s t q h)
 
-boolean_complete : (edition : Edition) (b : Bool) (q : List ℕ)
-    → bare_at edition (boolean_text b ++ q) ≡ Ok (boolean b, q)
+boolean_complete : (version : Version) (b : Bool) (q : List ℕ)
+    → bare_at version (boolean_text b ++ q) ≡ Ok (boolean b, q)
 unfolding boolean_at give
-boolean_complete edition true q = bare_boolean edition (digit_one ∷ q)
+boolean_complete version true q = bare_boolean version (digit_one ∷ q)
     ∙ branch_past _ _ _ (digit_one ∷ q) (Apart-cons (byte digit_zero) digit_one q refl)
     ∙ branch_take _ _ _ digit_one q refl
-boolean_complete edition false q = bare_boolean edition (digit_zero ∷ q) ∙ branch_take _ _ _ digit_zero q refl
+boolean_complete version false q = bare_boolean version (digit_zero ∷ q) ∙ branch_take _ _ _ digit_zero q refl
 
-token_complete : (edition : Edition) (s q : List ℕ) → IsTrue (is_token s) → Apart is_token_inner q
-    → bare_at edition (s ++ q) ≡ Ok (token s, q)
+token_complete : (version : Version) (s q : List ℕ) → IsTrue (is_token s) → Apart is_token_inner q
+    → bare_at version (s ++ q) ≡ Ok (token s, q)
 unfolding token_at give
-token_complete edition [] q h a = absurd (true≢false (sym h))
-token_complete edition (c ∷ s) q h a =
+token_complete version [] q h a = absurd (true≢false (sym h))
+token_complete version (c ∷ s) q h a =
     let p = and_parts (is_token_start c) (list_all is_token_inner s) h in
-    bare_token_start edition c (s ++ q) p.0 ∙ branch_take _ _ _ c (s ++ q) p.0
+    bare_token_start version c (s ++ q) p.0 ∙ branch_take _ _ _ c (s ++ q) p.0
     ∙ bind_complete _ _ _ _ _ (span_complete is_token_inner s q p.1 a)
 
 -- how a number begins
@@ -152,10 +154,10 @@ front true whole q some each = refl
 front false [] q some each = absurd (omega arith)
 front false (d ∷ ds) q some each = or_left (is_digit d) (eqb d minus_sign) (run_head is_digit d ds each)
 
-pub number_from : (edition : Edition) (t : List ℕ) → begins_with is_number_start t ≡ true
-    → bare_at edition t ≡ number_at false t
-number_from edition [] h = absurd (true≢false (sym h))
-number_from edition (c ∷ r) h = bare_number edition c r h
+pub number_from : (version : Version) (t : List ℕ) → begins_with is_number_start t ≡ true
+    → bare_at version t ≡ number_at false t
+number_from version [] h = absurd (true≢false (sym h))
+number_from version (c ∷ r) h = bare_number version c r h
 
 integer_front : (t q : List ℕ) (z : ℤ) → IsIntegerText z t → begins_with is_number_start (t ++ q) ≡ true
 integer_front t q z i = ap (begins_with is_number_start) (integer_text z t q i)
@@ -172,36 +174,36 @@ number_ends q h = record {
       or_from (is_digit c) (eqb c dot) (no_digit (c ∷ []) n) (no_point (c ∷ []) n);
 }
 
-pub bare_complete : (edition : Edition) (v : BareValue) (t q : List ℕ) → IsBareText edition v t → Apart is_token_inner q
-    → bare_at edition (t ++ q) ≡ Ok (v, q)
+pub bare_complete : (version : Version) (v : BareValue) (t q : List ℕ) → IsBareText version v t → Apart is_token_inner q
+    → bare_at version (t ++ q) ≡ Ok (v, q)
 unfolding give
-bare_complete edition (integer z) t q i h = number_from edition (t ++ q) (integer_front t q z i)
+bare_complete version (integer z) t q i h = number_from version (t ++ q) (integer_front t q z i)
     ∙ integer_complete false t q z i (number_ends q h)
-bare_complete edition (decimal z) t q i h = number_from edition (t ++ q) (decimal_front t q z i)
+bare_complete version (decimal z) t q i h = number_from version (t ++ q) (decimal_front t q z i)
     ∙ decimal_complete false t q z i (digit_apart q (number_ends q h))
-bare_complete edition (string s) t q i h =
+bare_complete version (string s) t q i h =
     let all : t ++ q ≡ double_quote ∷ (i.back ++ q) =
     ap (λ (l : List ℕ). l ++ q) (i.text ∙ ap (λ (l : List ℕ). l ++ i.back) i.first) in
-    ap (bare_at edition) all ∙ bare_quote edition (i.back ++ q)
+    ap (bare_at version) all ∙ bare_quote version (i.back ++ q)
     ∙ bind_complete _ _ _ _ _ (string_complete s i.back q i.second)
-bare_complete edition (token s) t q i h = ap (λ (l : List ℕ). bare_at edition (l ++ q)) i.1
-    ∙ token_complete edition s q i.0 h
-bare_complete edition (byte_sequence s) t q i h =
+bare_complete version (token s) t q i h = ap (λ (l : List ℕ). bare_at version (l ++ q)) i.1
+    ∙ token_complete version s q i.0 h
+bare_complete version (byte_sequence s) t q i h =
     let all : t ++ q ≡ colon ∷ (i.back ++ q) = ap (λ (l : List ℕ). l ++ q) (i.text
     ∙ ap (λ (l : List ℕ). l ++ i.back) i.first) in
-    ap (bare_at edition) all ∙ bare_colon edition (i.back ++ q)
+    ap (bare_at version) all ∙ bare_colon version (i.back ++ q)
     ∙ bind_complete _ _ _ _ _ (bytes_complete s i.back q i.second)
-bare_complete edition (boolean b) t q i h = ap (λ (l : List ℕ). bare_at edition (l ++ q)) i
-    ∙ boolean_complete edition b q
-bare_complete edition (date z) t q i h =
+bare_complete version (boolean b) t q i h = ap (λ (l : List ℕ). bare_at version (l ++ q)) i
+    ∙ boolean_complete version b q
+bare_complete version (date z) t q i h =
     let d = i.1 in
     let all : t ++ q ≡ at_sign ∷ (d.back ++ q) = ap (λ (l : List ℕ). l ++ q) (d.text
     ∙ ap (λ (l : List ℕ). l ++ d.back) d.first) in
-    ap (λ e. bare_at e (t ++ q)) i.0 ∙ ap (bare_at rfc9651) all ∙ bare_at_sign rfc9651 (d.back ++ q)
+    ap (λ e. bare_at e (t ++ q)) i.0 ∙ ap (bare_at Rfc9651) all ∙ bare_at_sign Rfc9651 (d.back ++ q)
     ∙ date_complete z d.back q d.second (number_ends q h)
-bare_complete edition (display_string s) t q i h =
+bare_complete version (display_string s) t q i h =
     let d = i.1 in
     let all : t ++ q ≡ percent_sign ∷ double_quote ∷ (d.back ++ q) =
     ap (λ (l : List ℕ). l ++ q) (d.text ∙ ap (λ (l : List ℕ). l ++ d.back) d.first) in
-    ap (λ e. bare_at e (t ++ q)) i.0 ∙ ap (bare_at rfc9651) all ∙ bare_percent rfc9651 (double_quote ∷ (d.back ++ q))
+    ap (λ e. bare_at e (t ++ q)) i.0 ∙ ap (bare_at Rfc9651) all ∙ bare_percent Rfc9651 (double_quote ∷ (d.back ++ q))
     ∙ quoted_complete s d.back q d.second

@@ -7,7 +7,7 @@ use Rattle.sfv_reading.specs.Reader.{Apart, any, Reader, give, ◌>>=◌, bind, 
 use Rattle.sfv_reading.specs.Reader.{back, up_to, span}
 use Rattle.sfv_reading.proofs.sound.Combinators.{run_head, run_tail}
 use Rattle.sfv_reading.proofs.local.Combinators.{untaken}
-use Rattle.sfv_spec.specs.Faults.{SyntaxFault}
+use Rattle.sfv_spec.specs.declared.error_kind.ErrorKind.{ErrorKind}
 
 pub Apart-nil : (class : ℕ → Bool) → Apart class []
 Apart-nil class = record { apart = λ c e. absurd cc }
@@ -75,7 +75,7 @@ pub led_complete : {A : Type 0} (es : List TreeEvent) (f : Reader A) (t q : List
 unfolding led
 led_complete es f t q v e = ap (led_answer es) e
 
-pub back_complete : {A : Type 0} (k : SyntaxFault) (f : Reader (Option A)) (t q : List ℕ) (v : A) → f t ≡ Ok (Some v, q)
+pub back_complete : {A : Type 0} (k : ErrorKind) (f : Reader (Option A)) (t q : List ℕ) (v : A) → f t ≡ Ok (Some v, q)
     → back k f t ≡ Ok (v, q)
 unfolding back
 back_complete k f t q v e = ap (at_start k t) e

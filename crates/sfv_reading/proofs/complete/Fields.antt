@@ -6,7 +6,11 @@ use Rattle.sfv_spec.specs.Ascii.{space}
 use Rattle.sfv_spec.proofs.Marks.{comma}
 use Rattle.sfv_spec.specs.Texts.{RunOf}
 use Rattle.sfv_spec.specs.Classes.{is_space}
-use Rattle.sfv_spec.specs.Values.{Edition, FieldKind, item_field, list_field, dictionary_field, RawField, RawItem}
+use Rattle.sfv_spec.specs.Values.{RawField, RawItem}
+use Rattle.sfv_spec.specs.declared.field_kind.FieldKind.{FieldKind}
+use Rattle.sfv_spec.specs.declared.field_kind.FieldKind.TheVariants.{Item as item_field, List as list_field}
+use Rattle.sfv_spec.specs.declared.field_kind.FieldKind.TheVariants.{Dictionary as dictionary_field}
+use Rattle.sfv_spec.specs.declared.version.Version.{Version}
 use Rattle.sfv_spec.specs.Grammar.{IsMemberText, IsDictionaryMemberText, IsFieldText}
 use Rattle.sfv_spec.specs.Events.{entry_events, keyed_events}
 use Rattle.sfv_reading.specs.Reader.{Apart, give}
@@ -25,32 +29,32 @@ spaces_end (c ∷ s) q each f = subst (λ (c : ℕ). Apart lengthens_item (c ∷
     (sym (eqb-true c space (run_head is_space c s each))) (space_ends (s ++ q))
 
 -- an item, whatever follows it that is no more of it
-pub item_field_complete : (edition : Edition) (i : RawItem) (t q : List ℕ) (h : IsFieldText edition item_field i t)
-    → Apart is_space q → Apart lengthens_item (h.second.back ++ q) → whole_field_at edition item_field (t ++ q)
+pub item_field_complete : (version : Version) (i : RawItem) (t q : List ℕ) (h : IsFieldText version item_field i t)
+    → Apart is_space q → Apart lengthens_item (h.second.back ++ q) → whole_field_at version item_field (t ++ q)
     ≡ Ok (i, q)
 unfolding whole_field_at give
-item_field_complete edition i t q h none f =
+item_field_complete version i t q h none f =
     let o = h.second in
     let all : t ++ q ≡ h.front ++ (o.front ++ (o.back ++ q)) =
     ap (λ (l : List ℕ). l ++ q) (h.text ∙ ap (λ (l : List ℕ). h.front ++ l) o.text) ∙ simp append_assoc in
-    ap (whole_field_at edition item_field) all
+    ap (whole_field_at version item_field) all
     ∙ bind_complete _ _ _ _ _ (span_complete is_space h.front (o.front ++ (o.back ++ q)) h.first
-    (item_no space edition i o.front (o.back ++ q) refl o.first))
-    ∙ bind_complete _ _ _ _ _ (item_complete edition i o.front (o.back ++ q) o.first f)
+    (item_no space version i o.front (o.back ++ q) refl o.first))
+    ∙ bind_complete _ _ _ _ _ (item_complete version i o.front (o.back ++ q) o.first f)
     ∙ bind_complete _ _ _ _ _ (span_complete is_space o.back q o.second none)
 
 pub comma_ends : (q : List ℕ) → Apart lengthens_item (comma ∷ q)
 comma_ends q = Apart-cons lengthens_item comma q refl
 
-pub field_complete : (edition : Edition) (kind : FieldKind) (raw : RawField kind) (t : List ℕ)
-    → IsFieldText edition kind raw t → whole_field_at edition kind t ≡ Ok (raw, [])
+pub field_complete : (version : Version) (kind : FieldKind) (raw : RawField kind) (t : List ℕ)
+    → IsFieldText version kind raw t → whole_field_at version kind t ≡ Ok (raw, [])
 unfolding whole_field_at
-field_complete edition item_field i t h = ap (whole_field_at edition item_field) (sym (append-nil t))
-    ∙ item_field_complete edition i t [] h (Apart-nil is_space)
+field_complete version item_field i t h = ap (whole_field_at version item_field) (sym (append-nil t))
+    ∙ item_field_complete version i t [] h (Apart-nil is_space)
     (spaces_end h.second.back [] h.second.second (Apart-nil lengthens_item))
-field_complete edition list_field ms t h = members_complete (IsMemberText edition) entry_events (entry_at edition)
-    (Apart lengthens_item) (entry_complete edition) (entry_fresh edition) blank_ends comma_ends
-    (Apart-nil lengthens_item) (Sound-entry edition) ms t h
-field_complete edition dictionary_field ms t h = members_complete (IsDictionaryMemberText edition) keyed_events
-    (keyed_at edition) (Apart lengthens_item) (keyed_complete edition) (keyed_fresh edition) blank_ends comma_ends
-    (Apart-nil lengthens_item) (Sound-keyed edition) ms t h
+field_complete version list_field ms t h = members_complete (IsMemberText version) entry_events (entry_at version)
+    (Apart lengthens_item) (entry_complete version) (entry_fresh version) blank_ends comma_ends
+    (Apart-nil lengthens_item) (Sound-entry version) ms t h
+field_complete version dictionary_field ms t h = members_complete (IsDictionaryMemberText version) keyed_events
+    (keyed_at version) (Apart lengthens_item) (keyed_complete version) (keyed_fresh version) blank_ends comma_ends
+    (Apart-nil lengthens_item) (Sound-keyed version) ms t h

@@ -7,7 +7,8 @@ use Rattle.sfv_spec.specs.Ascii.{tab, space, equals_sign}
 use Rattle.sfv_spec.proofs.Marks.{semicolon}
 use Rattle.sfv_spec.specs.Texts.{Exactly, ◌⨾◌}
 use Rattle.sfv_spec.specs.Classes.{is_space, is_space_or_tab, is_key_start, is_key_inner, is_token_inner}
-use Rattle.sfv_spec.specs.Values.{Edition, BareValue, RawParameters, RawItem}
+use Rattle.sfv_spec.specs.Values.{BareValue, RawParameters, RawItem}
+use Rattle.sfv_spec.specs.declared.version.Version.{Version}
 use Rattle.sfv_spec.specs.Grammar.{IsKeyText, IsValueText, IsParameterText, IsParametersText, IsItemText}
 use Rattle.sfv_spec.proofs.Settled.{begins, begins-append}
 use Rattle.sfv_spec.proofs.Bare.{is_bare_start, bare_begins}
@@ -57,22 +58,22 @@ key_complete (c ∷ cs) t q k h =
     ∙ bind_complete _ _ _ _ _ (span_complete is_key_inner cs q p.1 h)
 
 -- after a sign of a class
-behind_sign : {Q : List ℕ → Type 0} (n : ℕ) (t q : List ℕ) (h : (Exactly (n ∷ []) ⨾ Q) t) → t ++ q ≡ n ∷ (h.back ++ q)
-behind_sign n t q h = ap (λ (l : List ℕ). l ++ q) (h.text ∙ ap (λ (l : List ℕ). l ++ h.back) h.first)
+after_sign : {Q : List ℕ → Type 0} (n : ℕ) (t q : List ℕ) (h : (Exactly (n ∷ []) ⨾ Q) t) → t ++ q ≡ n ∷ (h.back ++ q)
+after_sign n t q h = ap (λ (l : List ℕ). l ++ q) (h.text ∙ ap (λ (l : List ℕ). l ++ h.back) h.first)
 
-value_complete : (edition : Edition) (v : BareValue) (t q : List ℕ) → IsValueText edition v t → Apart lengthens q
-    → value_at edition (t ++ q) ≡ Ok (v, q)
+value_complete : (version : Version) (v : BareValue) (t q : List ℕ) → IsValueText version v t → Apart lengthens q
+    → value_at version (t ++ q) ≡ Ok (v, q)
 unfolding value_at give
-value_complete edition v t q (inl e) h = ap (λ (l : List ℕ). value_at edition (l ++ q)) e.1
+value_complete version v t q (inl e) h = ap (λ (l : List ℕ). value_at version (l ++ q)) e.1
     ∙ branch_past _ _ _ q (equals_apart q h) ∙ ap (λ (v : BareValue). Ok (v, q)) (sym e.0)
-value_complete edition v t q (inr e) h = ap (value_at edition) (behind_sign equals_sign t q e)
-    ∙ branch_take _ _ _ equals_sign (e.back ++ q) refl ∙ bare_complete edition v e.back q e.second (token_apart q h)
+value_complete version v t q (inr e) h = ap (value_at version) (after_sign equals_sign t q e)
+    ∙ branch_take _ _ _ equals_sign (e.back ++ q) refl ∙ bare_complete version v e.back q e.second (token_apart q h)
 
 -- what stands after a key is no more of it
-value_apart : (edition : Edition) (v : BareValue) (t q : List ℕ) → IsValueText edition v t → Apart is_key_inner q
+value_apart : (version : Version) (v : BareValue) (t q : List ℕ) → IsValueText version v t → Apart is_key_inner q
     → Apart is_key_inner (t ++ q)
-value_apart edition v t q (inl e) h = subst (λ (l : List ℕ). Apart is_key_inner (l ++ q)) (sym e.1) h
-value_apart edition v t q (inr e) h = subst (Apart is_key_inner) (sym (behind_sign equals_sign t q e))
+value_apart version v t q (inl e) h = subst (λ (l : List ℕ). Apart is_key_inner (l ++ q)) (sym e.1) h
+value_apart version v t q (inr e) h = subst (Apart is_key_inner) (sym (after_sign equals_sign t q e))
     (Apart-cons is_key_inner equals_sign (e.back ++ q) refl)
 
 -- a key begins with no byte n that begins none
@@ -83,50 +84,50 @@ key_no n (c ∷ cs) t q none k =
     subst (λ (l : List ℕ). Apart (byte n) (l ++ q)) (sym k.1)
     (Apart-cons (byte n) c (cs ++ q) (ne_eqb c n (λ i. true≢false (sym p.0 ∙ ap is_key_start i ∙ none))))
 
-parameter_complete : (edition : Edition) (p : List ℕ × BareValue) (t q : List ℕ) → IsParameterText edition p t
-    → Apart lengthens q → (parameter_at edition (t ++ q) ≡ Ok (Some p, q)) × Apart lengthens (t ++ q)
+parameter_complete : (version : Version) (p : List ℕ × BareValue) (t q : List ℕ) → IsParameterText version p t
+    → Apart lengthens q → (parameter_at version (t ++ q) ≡ Ok (Some p, q)) × Apart lengthens (t ++ q)
 unfolding parameter_at give
-parameter_complete edition p t q i h =
+parameter_complete version p t q i h =
     let s = i.second in
     let k = s.second in
     let inner : i.back ++ q ≡ s.front ++ (k.front ++ (k.back ++ q)) =
     ap (λ (l : List ℕ). l ++ q) (s.text ∙ ap (λ (l : List ℕ). s.front ++ l) k.text) ∙ simp append_assoc in
-    let all : t ++ q ≡ semicolon ∷ (s.front ++ (k.front ++ (k.back ++ q))) = behind_sign semicolon t q i
+    let all : t ++ q ≡ semicolon ∷ (s.front ++ (k.front ++ (k.back ++ q))) = after_sign semicolon t q i
     ∙ ap (λ (l : List ℕ). semicolon ∷ l) inner in (
-      ap (parameter_at edition) all ∙ branch_take _ _ _ semicolon (s.front ++ (k.front ++ (k.back ++ q))) refl
+      ap (parameter_at version) all ∙ branch_take _ _ _ semicolon (s.front ++ (k.front ++ (k.back ++ q))) refl
           ∙ bind_complete _ _ _ _ _ (span_complete is_space s.front (k.front ++ (k.back ++ q)) s.first
           (key_no space p.0 k.front (k.back ++ q) refl k.first))
           ∙ bind_complete _ _ _ _ _ (key_complete p.0 k.front (k.back ++ q) k.first
-          (value_apart edition p.1 k.back q k.second (key_apart q h)))
-          ∙ bind_complete _ _ _ _ _ (value_complete edition p.1 k.back q k.second h),
+          (value_apart version p.1 k.back q k.second (key_apart q h)))
+          ∙ bind_complete _ _ _ _ _ (value_complete version p.1 k.back q k.second h),
       subst (Apart lengthens) (sym all) (Apart-cons lengthens semicolon _ refl),
     )
 
-no_parameter : (edition : Edition) (q : List ℕ) → Apart (byte semicolon) q → parameter_at edition q ≡ Ok (None, q)
+no_parameter : (version : Version) (q : List ℕ) → Apart (byte semicolon) q → parameter_at version q ≡ Ok (None, q)
 unfolding parameter_at give
-no_parameter edition q stop = branch_past _ _ _ q stop
+no_parameter version q stop = branch_past _ _ _ q stop
 
-pub parameters_complete : (edition : Edition) (ps : RawParameters) (t q : List ℕ) → IsParametersText edition ps t
-    → Apart lengthens_item q → (parameters_at edition (t ++ q) ≡ Ok (ps, q)) × Apart lengthens (t ++ q)
+pub parameters_complete : (version : Version) (ps : RawParameters) (t q : List ℕ) → IsParametersText version ps t
+    → Apart lengthens_item q → (parameters_at version (t ++ q) ≡ Ok (ps, q)) × Apart lengthens (t ++ q)
 unfolding parameters_at
-parameters_complete edition ps t q i h = many_complete parameter_event (parameter_at edition)
-    (Consumes-parameter edition) (IsParameterText edition) (Exactly []) (Apart lengthens) q
-    (λ p a q i f. parameter_complete edition p a q i f)
+parameters_complete version ps t q i h = many_complete parameter_event (parameter_at version)
+    (Consumes-parameter version) (IsParameterText version) (Exactly []) (Apart lengthens) q
+    (λ p a q i f. parameter_complete version p a q i f)
     (λ e n. (
-      ap (λ (l : List ℕ). parameter_at edition (l ++ q)) n
-          ∙ no_parameter edition q (semicolon_apart q h),
+      ap (λ (l : List ℕ). parameter_at version (l ++ q)) n
+          ∙ no_parameter version q (semicolon_apart q h),
       subst (λ (l : List ℕ). Apart lengthens (l ++ q)) (sym n) (item_part q h),
     )) ps t
-    (end_joined (IsParameterText edition) ps t i)
+    (end_joined (IsParameterText version) ps t i)
 
-pub item_complete : (edition : Edition) (i : RawItem) (t q : List ℕ) → IsItemText edition i t → Apart lengthens_item q
-    → item_at edition (t ++ q) ≡ Ok (i, q)
+pub item_complete : (version : Version) (i : RawItem) (t q : List ℕ) → IsItemText version i t → Apart lengthens_item q
+    → item_at version (t ++ q) ≡ Ok (i, q)
 unfolding item_at give
-item_complete edition i t q h f =
-    let ps = parameters_complete edition i.parameters h.back q h.second f in
+item_complete version i t q h f =
+    let ps = parameters_complete version i.parameters h.back q h.second f in
     let all : t ++ q ≡ h.front ++ (h.back ++ q) = ap (λ (l : List ℕ). l ++ q) h.text ∙ append_assoc h.front h.back q in
-    ap (item_at edition) all ∙ bind_complete _ _ _ _ _
-    (bare_complete edition i.bare h.front (h.back ++ q) h.first (token_apart (h.back ++ q) ps.1))
+    ap (item_at version) all ∙ bind_complete _ _ _ _ _
+    (bare_complete version i.bare h.front (h.back ++ q) h.first (token_apart (h.back ++ q) ps.1))
     ∙ led_complete _ _ _ _ _ (bind_complete _ _ _ _ _ ps.0)
 
 -- ---- how items begin
@@ -136,16 +137,16 @@ pub begun_apart : (class : ℕ → Bool) (n : ℕ) (t : List ℕ) → class n �
 begun_apart class n [] none b = absurd (true≢false (sym b))
 begun_apart class n (c ∷ t) none b = Apart-cons (byte n) c t (ne_eqb c n (λ i. true≢false (sym b ∙ ap class i ∙ none)))
 
-pub item_begun : (edition : Edition) (i : RawItem) (t q : List ℕ) → IsItemText edition i t
+pub item_begun : (version : Version) (i : RawItem) (t q : List ℕ) → IsItemText version i t
     → begins is_bare_start (t ++ q) ≡ true
-item_begun edition i t q h = subst (λ (l : List ℕ). begins is_bare_start l
+item_begun version i t q h = subst (λ (l : List ℕ). begins is_bare_start l
     ≡ true) (sym (ap (λ (l : List ℕ). l ++ q) h.text
     ∙ append_assoc h.front h.back q)) (begins-append is_bare_start h.front (h.back ++ q)
-    (bare_begins edition i.bare h.front h.first))
+    (bare_begins version i.bare h.front h.first))
 
-pub item_no : (n : ℕ) (edition : Edition) (i : RawItem) (t q : List ℕ) → is_bare_start n ≡ false
-    → IsItemText edition i t → Apart (byte n) (t ++ q)
-item_no n edition i t q none h = begun_apart is_bare_start n (t ++ q) none (item_begun edition i t q h)
+pub item_no : (n : ℕ) (version : Version) (i : RawItem) (t q : List ℕ) → is_bare_start n ≡ false
+    → IsItemText version i t → Apart (byte n) (t ++ q)
+item_no n version i t q none h = begun_apart is_bare_start n (t ++ q) none (item_begun version i t q h)
 
 pub begun_some : (class : ℕ → Bool) (t : List ℕ) → begins class t ≡ true → 1 ≤ length t
 begun_some class [] b = absurd (true≢false (sym b))

@@ -5,7 +5,7 @@ use Rattle.std.specs.List.{concat}
 use Rattle.std.proofs.lemmas.List.{append-nil}
 use Rattle.std.proofs.lemmas.Str.{is_utf8-from_IsUtf8}
 use Rattle.sfv_spec.specs.Ascii.{double_quote}
-use Rattle.sfv_reading.specs.Quoted.{behind_bytes, IsStringEnd, IsDisplayEnd, string_at, outside, pieces_from, checked}
+use Rattle.sfv_reading.specs.Quoted.{after_bytes, IsStringEnd, IsDisplayEnd, string_at, outside, pieces_from, checked}
 use Rattle.sfv_reading.specs.Quoted.{display_at}
 use Rattle.sfv_reading.proofs.quoted.Pieces.{past_string, past_display, quote_string, quote_display}
 
@@ -16,7 +16,7 @@ string_complete s t q h =
     let whole : t ++ q ≡ concat pieces ++ double_quote ∷ q =
     ap (λ (l : List ℕ). l ++ q) (h.text ∙ ap (λ (l : List ℕ). l ++ h.back) h.first.text
     ∙ ap (λ (l : List ℕ). concat pieces ++ l) h.second) ∙ append_assoc (concat pieces) (double_quote ∷ []) q in
-    ap string_at whole ∙ past_string s pieces (double_quote ∷ q) h.first.each ∙ ap (behind_bytes s) (quote_string q)
+    ap string_at whole ∙ past_string s pieces (double_quote ∷ q) h.first.each ∙ ap (after_bytes s) (quote_string q)
     ∙ ap (λ (l : List ℕ). Ok (l, q)) (append-nil s)
 
 -- a text of UTF-8 passes
@@ -32,6 +32,6 @@ display_complete s t q h =
     ap (λ (l : List ℕ). l ++ q) (h.text ∙ ap (λ (l : List ℕ). l ++ h.back) h.first.0.text
     ∙ ap (λ (l : List ℕ). concat pieces ++ l) h.second) ∙ append_assoc (concat pieces) (double_quote ∷ []) q in
     let read : pieces_from outside (t ++ q) ≡ Ok (s, q) = ap (pieces_from outside) whole
-    ∙ past_display s pieces (double_quote ∷ q) h.first.0.each ∙ ap (behind_bytes s) (quote_display q)
+    ∙ past_display s pieces (double_quote ∷ q) h.first.0.each ∙ ap (after_bytes s) (quote_display q)
     ∙ ap (λ (l : List ℕ). Ok (l, q)) (append-nil s) in
     ap (checked (t ++ q)) read ∙ passes (t ++ q) s q h.first.1

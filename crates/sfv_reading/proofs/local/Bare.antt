@@ -1,5 +1,6 @@
 -- On how much of the text a bare item rests.
-use Rattle.sfv_spec.specs.Values.{Edition, rfc8941, rfc9651}
+use Rattle.sfv_spec.specs.declared.version.Version.{Version}
+use Rattle.sfv_spec.specs.declared.version.Version.TheVariants.{Rfc8941, Rfc9651}
 use Rattle.sfv_reading.specs.Judgements.{Local}
 use Rattle.sfv_reading.specs.Bare.{boolean_at, token_at, date_at, quoted_at, bare_at}
 use Rattle.sfv_reading.proofs.local.Combinators.{local_rules}
@@ -9,16 +10,16 @@ use Rattle.sfv_reading.proofs.local.Numbers.{Local-number}
 
 -- ---- what an answer rests on
 
-Local-date : (edition : Edition) → Local (date_at edition)
+Local-date : (version : Version) → Local (date_at version)
 unfolding date_at
-Local-date rfc8941 = search local_rules depth 40
-Local-date rfc9651 = search (local_rules, Local-number) depth 40
+Local-date Rfc8941 = search local_rules depth 40
+Local-date Rfc9651 = search (local_rules, Local-number) depth 40
 
-Local-quoted : (edition : Edition) → Local (quoted_at edition)
+Local-quoted : (version : Version) → Local (quoted_at version)
 unfolding quoted_at
-Local-quoted rfc8941 = search local_rules depth 40
-Local-quoted rfc9651 = search (local_rules, Local-display) depth 40
+Local-quoted Rfc8941 = search local_rules depth 40
+Local-quoted Rfc9651 = search (local_rules, Local-display) depth 40
 
-pub Local-bare : (edition : Edition) → Local (bare_at edition)
+pub Local-bare : (version : Version) → Local (bare_at version)
 unfolding bare_at boolean_at token_at
-Local-bare edition = search (local_rules, Local-number, Local-string, Local-bytes, Local-date, Local-quoted) depth 40
+Local-bare version = search (local_rules, Local-number, Local-string, Local-bytes, Local-date, Local-quoted) depth 40

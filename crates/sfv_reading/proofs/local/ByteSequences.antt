@@ -14,7 +14,7 @@ use Rattle.sfv_reading.specs.Content.{valid_from, bytes_of, fault_place, is_colo
 use Rattle.sfv_reading.specs.Content.{bytes_at}
 use Rattle.sfv_reading.proofs.base64.Shape.{valid_local}
 use Rattle.sfv_reading.proofs.base64.Contents.{rejected_at}
-use Rattle.sfv_reading.proofs.sound.ByteSequences.{content_split, behind_colon, read_closed, read_value, read_fault}
+use Rattle.sfv_reading.proofs.sound.ByteSequences.{content_split, after_colon, read_closed, read_value, read_fault}
 use Rattle.sfv_reading.proofs.sound.ByteSequences.{read_unclosed, fault_at, front_of}
 
 -- a content goes on to the first colon
@@ -60,7 +60,7 @@ lasts_closed : (content rest : List ℕ) (value : Option (List ℕ)) → HasNoCo
     → Lasts bytes_at (content ++ colon ∷ rest) (closed_by (content ++ colon ∷ rest) content value)
 lasts_closed content rest (Some bytes) h e = (
   content ++ colon ∷ [],
-  rw (behind_colon content rest) (sym (append_assoc content (colon ∷ []) rest)),
+  rw (after_colon content rest) (sym (append_assoc content (colon ∷ []) rest)),
   λ r i.
       rw (append_assoc content (colon ∷ []) r) (read_value content r bytes h e),
 )
@@ -72,16 +72,16 @@ lasts_closed content rest None h e = λ l.
     let p : take (fault_place content) t ≡ take m content =
     rw f.1 (front_of m content (colon ∷ rest) (omega (arith, f.0))) in
     let more : take (m + 1) content ≡ take m content ++ d ∷ [] = take_more content m 0 f.0 in
-    let behind : drop (fault_place content) t ≡ d ∷ (drop (m + 1) content ++ colon ∷ rest) =
+    let after : drop (fault_place content) t ≡ d ∷ (drop (m + 1) content ++ colon ∷ rest) =
     rw f.1 (drop-append-le m content (colon ∷ rest) (omega (arith, f.0))
     ∙ ap (λ (u : List ℕ). u ++ colon ∷ rest) (drop_more content m 0 f.0)) in (
       take (fault_place content) t,
       sym (take-append-drop (fault_place content) t),
       λ r i. elim r as (λ (r : List ℕ). first r ≡ first (drop (fault_place content) t)
           → IsFault (bytes_at (take (fault_place content) t ++ r))) [
-            | [] ↦ λ i. absurd (let j = rw behind at i in cc)
+            | [] ↦ λ i. absurd (let j = rw after at i in cc)
             | c ∷ u ↦ λ i.
-                let j = rw behind at i in
+                let j = rw after at i in
                 let same : c ≡ d = cc in
                 let whole : take (fault_place content) t ++ c ∷ u ≡ take (m + 1) content ++ u =
                 rw (p, same, more) (sym (append_assoc (take m content) (d ∷ []) u)) in

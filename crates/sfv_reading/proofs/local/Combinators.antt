@@ -2,21 +2,21 @@
 use Rattle.std.proofs.Common.{◌≡◌, ℕ, zero, suc, Bool, true, false, cond, List, [], ◌∷◌, ◌++◌, Option, Some, None, Ok}
 use Rattle.std.proofs.Common.{Err, refl, sym, ap, subst, ◌∙◌, append_assoc}
 use Rattle.sfv_spec.specs.Events.{TreeEvent}
-use Rattle.sfv_spec.specs.Faults.{SyntaxFault}
+use Rattle.sfv_spec.specs.declared.error_kind.ErrorKind.{ErrorKind}
 use Rattle.std.proofs.lemmas.Bool.{true≢false}
 use Rattle.sfv_reading.specs.Judgements.{Lasts, Local}
-use Rattle.sfv_reading.specs.Reader.{first, Answer, Reader, behind_events, and_then, give, fail, ruled, ◌>>=◌, bind}
+use Rattle.sfv_reading.specs.Reader.{first, Answer, Reader, after_events, and_then, give, fail, ruled, ◌>>=◌, bind}
 use Rattle.sfv_reading.specs.Reader.{led_answer, led, branch, ahead, at_start, back, up_to, span}
 
-pub first_behind : (p q r : List ℕ) → first q ≡ first r → first (p ++ q) ≡ first (p ++ r)
-first_behind [] q r e = e
-first_behind (c ∷ p) q r e = refl
+pub first_after : (p q r : List ℕ) → first q ≡ first r → first (p ++ q) ≡ first (p ++ r)
+first_after [] q r e = e
+first_after (c ∷ p) q r e = refl
 
 pub Local-give : {A : Type 0} (v : A) → Local (give v)
 unfolding give
 Local-give v = record { lasts = λ t. ([], refl, λ r e. refl) }
 
-pub Local-fail : {A : Type 0} (k : SyntaxFault) → Local {A = A} (fail k)
+pub Local-fail : {A : Type 0} (k : ErrorKind) → Local {A = A} (fail k)
 unfolding fail
 Local-fail k = record {
   lasts = λ t l. (
@@ -29,7 +29,7 @@ Local-fail k = record {
   );
 }
 
-pub Local-ruled : {A : Type 0} (k : SyntaxFault) → Local {A = A} (ruled k)
+pub Local-ruled : {A : Type 0} (k : ErrorKind) → Local {A = A} (ruled k)
 unfolding ruled
 Local-ruled k = record { lasts = λ t l. absurd (true≢false (sym l)) }
 
@@ -41,7 +41,7 @@ led_on es f t (Err x) h = λ l. let w = h l in (
   w.0,
   w.1,
   λ r e. let m = w.2 r e in
-      (behind_events es m.0, ap (led_answer es) m.1),
+      (after_events es m.0, ap (led_answer es) m.1),
 )
 
 pub Local-led : {A : Type 0} (es : List TreeEvent) (f : Reader A) → Local f → Local (led es f)
@@ -68,7 +68,7 @@ after f g p t (Err x) h same = λ l. let w = h l in (
 -- one reader behaves as another does
 pub instead : {A : Type 0} (f g : Reader A) (t : List ℕ) (a : Answer A) → Lasts g t a
     → ((q : List ℕ) → first q ≡ first t → f q ≡ g q) → Lasts f t a
-instead f g t a h same = after f g [] t a h (λ p r e q i. same (p ++ q) (first_behind p q r i ∙ ap first (sym e)))
+instead f g t a h same = after f g [] t a h (λ p r e q i. same (p ++ q) (first_after p q r i ∙ ap first (sym e)))
 
 pub bind_on : {A B : Type 0} (f : Reader A) (g : A → Reader B) (t : List ℕ) (a : Answer A) → Lasts f t a
     → ((v : A) → Local (g v)) → Lasts (f >>= g) t (and_then a g)
@@ -76,7 +76,7 @@ unfolding bind
 bind_on f g t (Ok x) h k =
     subst (λ (t : List ℕ). Lasts (f >>= g) t (g x.0 x.1)) (sym h.1)
     (after (f >>= g) (g x.0) h.0 x.1 (g x.0 x.1) ((k x.0).lasts x.1) (λ p r e q i.
-    ap (λ a. and_then a g) (h.2 (p ++ q) (first_behind p q r i ∙ ap first (sym e)))))
+    ap (λ a. and_then a g) (h.2 (p ++ q) (first_after p q r i ∙ ap first (sym e)))))
 bind_on f g t (Err x) h k = λ l. let w = h l in (w.0, w.1, λ r e. let m = w.2 r e in (m.0, ap (λ a. and_then a g) m.1))
 
 pub Local-bind : {A B : Type 0} (f : Reader A) (g : A → Reader B) → Local f → ((v : A) → Local (g v)) → Local (f >>= g)
@@ -145,7 +145,7 @@ Local-ahead {A} class taken other h k =
       | c ∷ r ↦ on (class c) c r refl
     ] in record { lasts = at }
 
-back_on : {A : Type 0} (k : SyntaxFault) (f : Reader (Option A)) (t : List ℕ) (a : Answer (Option A)) → Lasts f t a
+back_on : {A : Type 0} (k : ErrorKind) (f : Reader (Option A)) (t : List ℕ) (a : Answer (Option A)) → Lasts f t a
     → Lasts (back k f) t (at_start k t a)
 unfolding back
 back_on k f t (Ok (Some v, q)) h = (h.0, h.1, λ r e. ap (at_start k (h.0 ++ r)) (h.2 r e))
@@ -157,7 +157,7 @@ back_on k f t (Err x) h = λ l. let w = h l in (
       (m.0, ap (at_start k (w.0 ++ r)) m.1),
 )
 
-pub Local-back : {A : Type 0} (k : SyntaxFault) (f : Reader (Option A)) → Local f → Local (back k f)
+pub Local-back : {A : Type 0} (k : ErrorKind) (f : Reader (Option A)) → Local f → Local (back k f)
 unfolding back
 Local-back k f h = record { lasts = λ t. back_on k f t (f t) (h.lasts t) }
 

@@ -1,5 +1,8 @@
 -- On how much of the text a field rests.
-use Rattle.sfv_spec.specs.Values.{Edition, FieldKind, item_field, list_field, dictionary_field}
+use Rattle.sfv_spec.specs.declared.field_kind.FieldKind.{FieldKind}
+use Rattle.sfv_spec.specs.declared.field_kind.FieldKind.TheVariants.{Item as item_field, List as list_field}
+use Rattle.sfv_spec.specs.declared.field_kind.FieldKind.TheVariants.{Dictionary as dictionary_field}
+use Rattle.sfv_spec.specs.declared.version.Version.{Version}
 use Rattle.sfv_spec.specs.Grammar.{IsMemberText, IsDictionaryMemberText}
 use Rattle.sfv_spec.specs.Events.{entry_events, keyed_events}
 use Rattle.sfv_reading.specs.Judgements.{Local}
@@ -11,10 +14,10 @@ use Rattle.sfv_reading.proofs.sound.Members.{Sound-entry, Sound-keyed}
 use Rattle.sfv_reading.proofs.local.Members.{Local-entry, Local-keyed}
 use Rattle.sfv_reading.proofs.sound.Separated.{Local-members}
 
-pub Local-field : (edition : Edition) (kind : FieldKind) → Local (whole_field_at edition kind)
+pub Local-field : (version : Version) (kind : FieldKind) → Local (whole_field_at version kind)
 unfolding whole_field_at
-Local-field edition item_field = search (local_rules, Local-item) depth 40
-Local-field edition list_field = Local-members (IsMemberText edition) entry_events (entry_at edition)
-    (Sound-entry edition) (Local-entry edition)
-Local-field edition dictionary_field = Local-members (IsDictionaryMemberText edition) keyed_events (keyed_at edition)
-    (Sound-keyed edition) (Local-keyed edition)
+Local-field version item_field = search (local_rules, Local-item) depth 40
+Local-field version list_field = Local-members (IsMemberText version) entry_events (entry_at version)
+    (Sound-entry version) (Local-entry version)
+Local-field version dictionary_field = Local-members (IsDictionaryMemberText version) keyed_events (keyed_at version)
+    (Sound-keyed version) (Local-keyed version)

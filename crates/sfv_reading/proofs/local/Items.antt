@@ -1,5 +1,5 @@
 -- On how much of the text keys, parameters and items rest.
-use Rattle.sfv_spec.specs.Values.{Edition}
+use Rattle.sfv_spec.specs.declared.version.Version.{Version}
 use Rattle.sfv_reading.specs.Judgements.{Local}
 use Rattle.sfv_reading.specs.Items.{key_at, value_at, parameter_at, parameter_event, parameters_at, item_at}
 use Rattle.sfv_reading.proofs.local.Combinators.{local_rules}
@@ -13,19 +13,19 @@ pub Local-key : Local key_at
 unfolding key_at
 Local-key = search local_rules depth 40
 
-pub Local-value : (edition : Edition) → Local (value_at edition)
+pub Local-value : (version : Version) → Local (value_at version)
 unfolding value_at
-Local-value edition = search (local_rules, Local-bare) depth 40
+Local-value version = search (local_rules, Local-bare) depth 40
 
-pub Local-parameter : (edition : Edition) → Local (parameter_at edition)
+pub Local-parameter : (version : Version) → Local (parameter_at version)
 unfolding parameter_at
-Local-parameter edition = search (local_rules, Local-key, Local-value) depth 40
+Local-parameter version = search (local_rules, Local-key, Local-value) depth 40
 
-pub Local-parameters : (edition : Edition) → Local (parameters_at edition)
+pub Local-parameters : (version : Version) → Local (parameters_at version)
 unfolding parameters_at
-Local-parameters edition = Local-many parameter_event (parameter_at edition) (Consumes-parameter edition)
-    (Local-parameter edition)
+Local-parameters version = Local-many parameter_event (parameter_at version) (Consumes-parameter version)
+    (Local-parameter version)
 
-pub Local-item : (edition : Edition) → Local (item_at edition)
+pub Local-item : (version : Version) → Local (item_at version)
 unfolding item_at
-Local-item edition = search (local_rules, Local-bare, Local-parameters) depth 40
+Local-item version = search (local_rules, Local-bare, Local-parameters) depth 40

@@ -1,5 +1,5 @@
 -- On how much of the text inner lists and members rest.
-use Rattle.sfv_spec.specs.Values.{Edition}
+use Rattle.sfv_spec.specs.declared.version.Version.{Version}
 use Rattle.sfv_spec.specs.Events.{inner_item_events}
 use Rattle.sfv_reading.specs.Judgements.{Local}
 use Rattle.sfv_reading.specs.Reader.{many}
@@ -12,38 +12,38 @@ use Rattle.sfv_reading.proofs.sound.Members.{Consumes-next_item}
 
 -- ---- what an answer rests on
 
-pub Local-inner_item : (edition : Edition) → Local (inner_item_at edition)
+pub Local-inner_item : (version : Version) → Local (inner_item_at version)
 unfolding inner_item_at
-Local-inner_item edition = search (local_rules, Local-item) depth 40
+Local-inner_item version = search (local_rules, Local-item) depth 40
 
-pub Local-next_item : (edition : Edition) → Local (next_item_at edition)
+pub Local-next_item : (version : Version) → Local (next_item_at version)
 unfolding next_item_at
-Local-next_item edition = search (local_rules, Local-inner_item) depth 40
+Local-next_item version = search (local_rules, Local-inner_item) depth 40
 
-pub Local-next_items : (edition : Edition) → Local (many inner_item_events (next_item_at edition))
-Local-next_items edition = Local-many inner_item_events (next_item_at edition) (Consumes-next_item edition)
-    (Local-next_item edition)
+pub Local-next_items : (version : Version) → Local (many inner_item_events (next_item_at version))
+Local-next_items version = Local-many inner_item_events (next_item_at version) (Consumes-next_item version)
+    (Local-next_item version)
 
-pub Local-items : (edition : Edition) → Local (inner_items_at edition)
+pub Local-items : (version : Version) → Local (inner_items_at version)
 unfolding inner_items_at
-Local-items edition = search (local_rules, Local-inner_item, Local-next_items) depth 40
+Local-items version = search (local_rules, Local-inner_item, Local-next_items) depth 40
 
-pub Local-inner : (edition : Edition) → Local (inner_at edition)
+pub Local-inner : (version : Version) → Local (inner_at version)
 unfolding inner_at
-Local-inner edition = search (local_rules, Local-items, Local-parameters) depth 40
+Local-inner version = search (local_rules, Local-items, Local-parameters) depth 40
 
-pub Local-member : (edition : Edition) → Local (member_at edition)
+pub Local-member : (version : Version) → Local (member_at version)
 unfolding member_at
-Local-member edition = search (local_rules, Local-item, Local-inner) depth 40
+Local-member version = search (local_rules, Local-item, Local-inner) depth 40
 
-pub Local-entry : (edition : Edition) → Local (entry_at edition)
+pub Local-entry : (version : Version) → Local (entry_at version)
 unfolding entry_at
-Local-entry edition = search (local_rules, Local-member) depth 40
+Local-entry version = search (local_rules, Local-member) depth 40
 
-pub Local-member_value : (edition : Edition) → Local (member_value_at edition)
+pub Local-member_value : (version : Version) → Local (member_value_at version)
 unfolding member_value_at
-Local-member_value edition = search (local_rules, Local-member, Local-parameters) depth 40
+Local-member_value version = search (local_rules, Local-member, Local-parameters) depth 40
 
-pub Local-keyed : (edition : Edition) → Local (keyed_at edition)
+pub Local-keyed : (version : Version) → Local (keyed_at version)
 unfolding keyed_at
-Local-keyed edition = search (local_rules, Local-key, Local-member_value) depth 40
+Local-keyed version = search (local_rules, Local-key, Local-member_value) depth 40

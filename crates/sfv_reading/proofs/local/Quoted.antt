@@ -9,10 +9,11 @@ use Rattle.std.proofs.lemmas.List.{append-nil}
 use Rattle.std.proofs.lemmas.Str.{IsUtf8-from_is_utf8}
 use Rattle.sfv_spec.specs.Ascii.{double_quote}
 use Rattle.sfv_spec.specs.Strings.{IsStringPiece, IsDisplayPiece}
-use Rattle.sfv_spec.specs.Faults.{SyntaxFault, invalid_utf8_in_display_string}
+use Rattle.sfv_spec.specs.declared.error_kind.ErrorKind.{ErrorKind}
+use Rattle.sfv_spec.specs.declared.error_kind.ErrorKind.TheVariants.{InvalidUtf8InDisplayString}
 use Rattle.sfv_reading.specs.Reader.{first, Fault, Answer, Reader, placed, by_rule}
 use Rattle.sfv_reading.specs.Judgements.{Lasts, Local, with_rest, Stays, StaysButText}
-use Rattle.sfv_reading.specs.Quoted.{behind_bytes, string_at, outside, pieces_from, behind_pieces, checked, display_at}
+use Rattle.sfv_reading.specs.Quoted.{after_bytes, string_at, outside, pieces_from, after_pieces, checked, display_at}
 use Rattle.sfv_reading.specs.Quoted.{StringStops, DisplayStops, Traced}
 use Rattle.sfv_reading.proofs.quoted.Traces.{Ends, trace_of_string, trace_of_display}
 use Rattle.sfv_reading.proofs.quoted.Pieces.{past_string, past_display, quote_string, quote_display, string_stops}
@@ -21,12 +22,12 @@ use Rattle.sfv_reading.proofs.complete.Quoted.{passes}
 use Rattle.sfv_reading.proofs.rules.Quoted.{display_fault}
 
 -- a reading with the same front, and a rest that begins alike
-stays : (exact : Bool) (P : ℕ → List ℕ → Type 0) (Stops : SyntaxFault → List ℕ → List ℕ → Type 0) (f : Reader (List ℕ))
+stays : (exact : Bool) (P : ℕ → List ℕ → Type 0) (Stops : ErrorKind → List ℕ → List ℕ → Type 0) (f : Reader (List ℕ))
     → ((bytes : List ℕ) (pieces : List (List ℕ)) (t : List ℕ) → AllZip P bytes pieces
-    → f (concat pieces ++ t) ≡ behind_bytes bytes (f t))
+    → f (concat pieces ++ t) ≡ after_bytes bytes (f t))
     → ((t : List ℕ) → f (double_quote ∷ t) ≡ Ok ([], t))
-    → ((k : SyntaxFault) (left there : List ℕ) → Stops k left there → f left ≡ Err (placed exact k there))
-    → ((k : SyntaxFault) (left there : List ℕ) → Stops k left there
+    → ((k : ErrorKind) (left there : List ℕ) → Stops k left there → f left ≡ Err (placed exact k there))
+    → ((k : ErrorKind) (left there : List ℕ) → Stops k left there
     → (h : List ℕ) × (left ≡ h ++ there) × ((r : List ℕ) → first r ≡ first there → Stops k (h ++ r) r))
     → (t : List ℕ) (a : Answer (List ℕ)) → Traced P t (Ends exact Stops a) → Stays f t a
 stays exact P Stops f past quote stop again t (Ok x) h = (
@@ -35,7 +36,7 @@ stays exact P Stops f past quote stop again t (Ok x) h = (
       ∙ sym (append_assoc (concat h.pieces) (double_quote ∷ []) x.1),
   λ r.
       ap f (append_assoc (concat h.pieces) (double_quote ∷ []) r) ∙ past h.bytes h.pieces (double_quote ∷ r) h.content
-      ∙ ap (behind_bytes h.bytes) (quote r)
+      ∙ ap (after_bytes h.bytes) (quote r)
       ∙ ap (λ (l : List ℕ). Ok (l, r)) (append-nil h.bytes ∙ sym h.ends.0),
 )
 stays exact P Stops f past quote stop again t (Err e) h =
@@ -44,7 +45,7 @@ stays exact P Stops f past quote stop again t (Err e) h =
       h.text ∙ ap (λ (l : List ℕ). concat h.pieces ++ l) w.1 ∙ sym (append_assoc (concat h.pieces) w.0 e.rest),
       λ r i.
           ap f (append_assoc (concat h.pieces) w.0 r) ∙ past h.bytes h.pieces (w.0 ++ r) h.content
-          ∙ ap (behind_bytes h.bytes) (stop e.kind (w.0 ++ r) r (w.2 r i))
+          ∙ ap (after_bytes h.bytes) (stop e.kind (w.0 ++ r) r (w.2 r i))
           ∙ ap (λ (e : Fault). Err (with_rest e r)) (sym h.ends.0),
     )
 
@@ -70,7 +71,7 @@ display_stays_on : (t : List ℕ) (a : Answer (List ℕ)) → Stays (pieces_from
 unfolding display_at
 display_stays_on t (Err e) h = λ n. (h.0, h.1, λ r i. ap (checked (h.0 ++ r)) (h.2 r i))
 display_stays_on t (Ok x) h =
-    let wrong : Answer (List ℕ) = Err (by_rule invalid_utf8_in_display_string (behind_pieces (utf8_valid_len x.0) t)) in
+    let wrong : Answer (List ℕ) = Err (by_rule InvalidUtf8InDisplayString (after_pieces (utf8_valid_len x.0) t)) in
     let on : (b : Bool) → is_utf8 x.0 ≡ b → StaysButText display_at t (cond b (Ok x) wrong) =
     λ b. elim b as (λ (b : Bool). is_utf8 x.0 ≡ b → StaysButText display_at t (cond b (Ok x) wrong)) [
       | true ↦ λ e. (

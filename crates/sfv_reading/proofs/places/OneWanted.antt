@@ -4,12 +4,19 @@ use Rattle.std.proofs.Common.{inl, inr, ◌⊎◌}
 use Rattle.std.specs.Prelude.{codes}
 use Rattle.sfv_spec.proofs.Marks.{comma, semicolon}
 use Rattle.sfv_spec.specs.Classes.{is_space}
-use Rattle.sfv_spec.specs.Values.{Edition, FieldKind, item_field, list_field, dictionary_field}
+use Rattle.sfv_spec.specs.declared.field_kind.FieldKind.{FieldKind}
+use Rattle.sfv_spec.specs.declared.field_kind.FieldKind.TheVariants.{Item as item_field, List as list_field}
+use Rattle.sfv_spec.specs.declared.field_kind.FieldKind.TheVariants.{Dictionary as dictionary_field}
+use Rattle.sfv_spec.specs.declared.version.Version.{Version}
 use Rattle.sfv_spec.specs.Grammar.{IsAccepted}
 use Rattle.sfv_spec.specs.Events.{events}
-use Rattle.sfv_spec.specs.Faults.{SyntaxFault, trailing_comma, trailing_characters_after_member, WantedFault}
-use Rattle.sfv_spec.specs.Faults.{trailing_characters_after_parsed_value, expected_inner_list_delimiter}
-use Rattle.sfv_spec.specs.Faults.{expected_start_of_bare_item, expected_start_of_key, bare_item, key, delimiter, end}
+use Rattle.sfv_spec.specs.Faults.{WantedFault}
+use Rattle.sfv_spec.specs.declared.error_kind.ErrorKind.{ErrorKind}
+use Rattle.sfv_spec.specs.declared.error_kind.ErrorKind.TheVariants.{TrailingComma, TrailingCharactersAfterMember}
+use Rattle.sfv_spec.specs.declared.error_kind.ErrorKind.TheVariants.{TrailingCharactersAfterParsedValue}
+use Rattle.sfv_spec.specs.declared.error_kind.ErrorKind.TheVariants.{ExpectedInnerListDelimiter}
+use Rattle.sfv_spec.specs.Faults.{bare_item, key, delimiter, end}
+use Rattle.sfv_spec.specs.declared.error_kind.ErrorKind.TheVariants.{ExpectedStartOfBareItem, ExpectedStartOfKey}
 use Rattle.sfv_reading.specs.Reader.{Fault, fail, branch, ahead}
 use Rattle.sfv_reading.specs.Bare.{token_at, bare_at}
 use Rattle.sfv_reading.specs.Items.{key_at}
@@ -24,75 +31,75 @@ use Rattle.sfv_reading.proofs.places.Wanted.{ends_faulty, not_accepted}
 use Rattle.sfv_reading.proofs.places.Read.{calls_wanted, calls_wanted_key}
 
 -- what is wanted, by the fault of a comma that stands there
-abbrev by_comma : SyntaxFault → SyntaxFault
-by_comma trailing_comma = trailing_characters_after_member
+abbrev by_comma : ErrorKind → ErrorKind
+by_comma TrailingComma = TrailingCharactersAfterMember
 by_comma k = k
 
 -- a comma there is at fault, and an inner list doesn't go on
-record Tells (edition : Edition) (kind : FieldKind) (u : List ℕ) (f : SyntaxFault) : Type 0 where
+record Tells (version : Version) (kind : FieldKind) (u : List ℕ) (f : ErrorKind) : Type 0 where
   pub fault : Fault
-  pub is_fault : read_field edition kind (u ++ codes ",") ≡ Err fault
+  pub is_fault : read_field version kind (u ++ codes ",") ≡ Err fault
   pub kind_of : by_comma fault.kind ≡ f
-  pub outside : ¬ IsAccepted edition kind (u ++ codes ";a)")
+  pub outside : ¬ IsAccepted version kind (u ++ codes ";a)")
 
-tells_bare : (edition : Edition) (kind : FieldKind) (u : List ℕ)
-    → Calls edition calls.bare (whole_field_at edition kind) u → Tells edition kind u expected_start_of_bare_item
+tells_bare : (version : Version) (kind : FieldKind) (u : List ℕ)
+    → Calls version calls.bare (whole_field_at version kind) u → Tells version kind u ExpectedStartOfBareItem
 unfolding bare_at token_at branch ahead fail
-tells_bare edition kind u h =
+tells_bare version kind u h =
     let m = h.follows comma [] refl in
     let n = h.follows semicolon (codes "a)") refl in
     record {
       fault = m.0;
-      is_fault = ends_faulty edition kind (u ++ codes ",") m.0 m.1;
+      is_fault = ends_faulty version kind (u ++ codes ",") m.0 m.1;
       kind_of = ap by_comma (sym m.2.kind);
-      outside = not_accepted edition kind (u ++ codes ";a)") (n.0, n.1);
+      outside = not_accepted version kind (u ++ codes ";a)") (n.0, n.1);
     }
 
-tells_key : (edition : Edition) (kind : FieldKind) (u : List ℕ)
-    → Calls edition calls.key (whole_field_at edition kind) u → Tells edition kind u expected_start_of_key
+tells_key : (version : Version) (kind : FieldKind) (u : List ℕ)
+    → Calls version calls.key (whole_field_at version kind) u → Tells version kind u ExpectedStartOfKey
 unfolding key_at branch fail
-tells_key edition kind u h =
+tells_key version kind u h =
     let m = h.follows comma [] refl in
     let n = h.follows semicolon (codes "a)") refl in
     record {
       fault = m.0;
-      is_fault = ends_faulty edition kind (u ++ codes ",") m.0 m.1;
+      is_fault = ends_faulty version kind (u ++ codes ",") m.0 m.1;
       kind_of = ap by_comma (sym m.2.kind);
-      outside = not_accepted edition kind (u ++ codes ";a)") (n.0, n.1);
+      outside = not_accepted version kind (u ++ codes ";a)") (n.0, n.1);
     }
 
-tells_end : (edition : Edition) (kind : FieldKind) (u : List ℕ) → kind ≡ item_field → IsAccepted edition kind u
-    → Tells edition kind u trailing_characters_after_parsed_value
+tells_end : (version : Version) (kind : FieldKind) (u : List ℕ) → kind ≡ item_field → IsAccepted version kind u
+    → Tells version kind u TrailingCharactersAfterParsedValue
 unfolding read_field
-tells_end edition item_field u e a = record {
+tells_end version item_field u e a = record {
   fault = _;
-  is_fault = ap (ending (events item_field)) (item_field_complete edition a.0 u (codes ",") a.1
+  is_fault = ap (ending (events item_field)) (item_field_complete version a.0 u (codes ",") a.1
       (Apart-cons is_space comma [] refl) (spaces_end a.1.second.back (codes ",") a.1.second.second (comma_ends [])));
   kind_of = refl;
-  outside = not_longer edition item_field a.0 u tt a.1;
+  outside = not_longer version item_field a.0 u tt a.1;
 }
-tells_end edition list_field u e a = absurd cc
-tells_end edition dictionary_field u e a = absurd cc
+tells_end version list_field u e a = absurd cc
+tells_end version dictionary_field u e a = absurd cc
 
-tells : (edition : Edition) (kind : FieldKind) (u : List ℕ) (f : SyntaxFault) → WantedFault edition kind u f
-    → ((f ≡ expected_inner_list_delimiter) × IsAccepted edition kind (u ++ codes ";a)")) ⊎ Tells edition kind u f
-tells edition kind u f (bare_item w) = inr (tells_bare edition kind u (calls_wanted edition kind u w))
-tells edition kind u f (key w) = inr (tells_key edition kind u (calls_wanted_key edition kind u w))
-tells edition kind u f (delimiter a) = inl (refl, a)
-tells edition kind u f (WantedFault.comma raw many h has) = inr (record {
+tells : (version : Version) (kind : FieldKind) (u : List ℕ) (f : ErrorKind) → WantedFault version kind u f
+    → ((f ≡ ExpectedInnerListDelimiter) × IsAccepted version kind (u ++ codes ";a)")) ⊎ Tells version kind u f
+tells version kind u f (bare_item w) = inr (tells_bare version kind u (calls_wanted version kind u w))
+tells version kind u f (key w) = inr (tells_key version kind u (calls_wanted_key version kind u w))
+tells version kind u f (delimiter a) = inl (refl, a)
+tells version kind u f (WantedFault.comma raw many h has) = inr (record {
   fault = _;
-  is_fault = ends_faulty edition kind (u ++ codes ",") _ (comma_after edition kind raw u [] many has h refl);
+  is_fault = ends_faulty version kind (u ++ codes ",") _ (comma_after version kind raw u [] many has h refl);
   kind_of = refl;
-  outside = not_longer edition kind raw u has h;
+  outside = not_longer version kind raw u has h;
 })
-tells edition kind u f (end e a) = inr (tells_end edition kind u e a)
+tells version kind u f (end e a) = inr (tells_end version kind u e a)
 
-pub one_wanted : (edition : Edition) (kind : FieldKind) (u : List ℕ) (f g : SyntaxFault) → WantedFault edition kind u f
-    → WantedFault edition kind u g → f ≡ g
-one_wanted edition kind u f g h k = on (tells edition kind u f h) (tells edition kind u g k)
+pub one_wanted : (version : Version) (kind : FieldKind) (u : List ℕ) (f g : ErrorKind) → WantedFault version kind u f
+    → WantedFault version kind u g → f ≡ g
+one_wanted version kind u f g h k = on (tells version kind u f h) (tells version kind u g k)
   where
-    on : ((f ≡ expected_inner_list_delimiter) × IsAccepted edition kind (u ++ codes ";a)")) ⊎ Tells edition kind u f
-        → ((g ≡ expected_inner_list_delimiter) × IsAccepted edition kind (u ++ codes ";a)")) ⊎ Tells edition kind u g
+    on : ((f ≡ ExpectedInnerListDelimiter) × IsAccepted version kind (u ++ codes ";a)")) ⊎ Tells version kind u f
+        → ((g ≡ ExpectedInnerListDelimiter) × IsAccepted version kind (u ++ codes ";a)")) ⊎ Tells version kind u g
         → f ≡ g
     on (inl x) (inl y) = x.0 ∙ sym y.0
     on (inl x) (inr y) = absurd (y.outside x.1)

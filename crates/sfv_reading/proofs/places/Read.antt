@@ -12,10 +12,12 @@ use Rattle.sfv_spec.specs.Texts.{RunOf, begins_with}
 use Rattle.sfv_spec.specs.Classes.{is_space_or_tab, is_key_start, is_key_inner, is_lower_letter, is_digit, is_one_of}
 use Rattle.sfv_spec.specs.Classes.{is_key}
 use Rattle.sfv_spec.specs.Classes.{is_token_inner}
-use Rattle.sfv_spec.specs.Values.{Edition, FieldKind, RawField, BareValue}
+use Rattle.sfv_spec.specs.Values.{RawField, BareValue}
+use Rattle.sfv_spec.specs.declared.field_kind.FieldKind.{FieldKind}
+use Rattle.sfv_spec.specs.declared.version.Version.{Version}
 use Rattle.sfv_spec.specs.Grammar.{IsAccepted, IsBareText, IsKeyText}
 use Rattle.sfv_spec.specs.Reach.{BeginsAccepted, WantsBareItem, WantsKey}
-use Rattle.sfv_spec.specs.Faults.{expected_start_of_bare_item}
+use Rattle.sfv_spec.specs.declared.error_kind.ErrorKind.TheVariants.{ExpectedStartOfBareItem}
 use Rattle.sfv_spec.proofs.Bare.{is_bare_start, bare_begins}
 use Rattle.sfv_reading.specs.Judgements.{Reached, Mute}
 use Rattle.sfv_reading.specs.Reader.{Fault, Answer, Reader, at_reach, fail, branch, ahead}
@@ -49,17 +51,17 @@ front_split (y ∷ u) m (x ∷ p) r c e le =
     let w = front_split u m p r c tails le in
     (w.0, ap (λ (x : ℕ). x ∷ p) same ∙ ap (λ (l : List ℕ). y ∷ l) w.1)
 
-begins_part : (edition : Edition) (kind : FieldKind) (u v : List ℕ) → BeginsAccepted edition kind (u ++ v)
-    → BeginsAccepted edition kind u
-begins_part edition kind u v b = (v ++ b.0, subst (IsAccepted edition kind) (append_assoc u v b.0) b.1)
+begins_part : (version : Version) (kind : FieldKind) (u v : List ℕ) → BeginsAccepted version kind (u ++ v)
+    → BeginsAccepted version kind u
+begins_part version kind u v b = (v ++ b.0, subst (IsAccepted version kind) (append_assoc u v b.0) b.1)
 
 -- ---- what the leaves have read
 
-bare_read : (edition : Edition) (t r : List ℕ) (v : BareValue) → bare_at edition t ≡ Ok (v, r)
-    → (s : List ℕ) × (t ≡ s ++ r) × IsBareText edition v s
-bare_read edition t r v i = subst (λ a. Reached (IsBareText edition) (BareGoes edition) (Somewhere
-    (BareGoes edition)) t a)
-    i ((Sound-bare edition).sound t)
+bare_read : (version : Version) (t r : List ℕ) (v : BareValue) → bare_at version t ≡ Ok (v, r)
+    → (s : List ℕ) × (t ≡ s ++ r) × IsBareText version v s
+bare_read version t r v i = subst (λ a. Reached (IsBareText version) (BareGoes version) (Somewhere
+    (BareGoes version)) t a)
+    i ((Sound-bare version).sound t)
 
 key_read : (t r k : List ℕ) → key_at t ≡ Ok (k, r) → (s : List ℕ) × (t ≡ s ++ r) × IsKeyText k s
 key_read t r k i = subst (λ a. Reached IsKeyText (Mute IsKeyText) (Somewhere (Mute IsKeyText)) t a) i
@@ -104,37 +106,37 @@ key_free : (c : ℕ) → is_key_start c ≡ true → blocked key c ≡ false
 key_free c h = or_from (eqb c space) (eqb c tab) (apart_from is_key_start space refl c h)
     (apart_from is_key_start tab refl c h)
 
-module _ (edition : Edition) (kind : FieldKind) where
+module _ (version : Version) (kind : FieldKind) where
   abbrev Field : Reader (RawField kind)
-  Field = whole_field_at edition kind
+  Field = whole_field_at version kind
 
-  pub bare_stuck : (before s : List ℕ) (w : BareValue) → Calls edition bare Field before → IsBareText edition w s
-      → BeginsAccepted edition kind (before ++ s)
-  bare_stuck before [] w c h = absurd (true≢false (sym (bare_begins edition w [] h)))
+  pub bare_stuck : (before s : List ℕ) (w : BareValue) → Calls version bare Field before → IsBareText version w s
+      → BeginsAccepted version kind (before ++ s)
+  bare_stuck before [] w c h = absurd (true≢false (sym (bare_begins version w [] h)))
   bare_stuck before (d ∷ s) w c h =
-      let read = bare_complete edition w (d ∷ s) (0 ∷ []) h (Apart-cons is_token_inner 0 [] refl) in
-      let on = c.follows d (s ++ 0 ∷ []) (bare_free d (bare_begins edition w (d ∷ s) h)) in
+      let read = bare_complete version w (d ∷ s) (0 ∷ []) h (Apart-cons is_token_inner 0 [] refl) in
+      let on = c.follows d (s ++ 0 ∷ []) (bare_free d (bare_begins version w (d ∷ s) h)) in
       let follows : Follows {A = BareValue} (Ok (w, 0 ∷ [])) (Field (before ++ d ∷ (s ++ 0 ∷ []))) =
       subst (λ (a : Answer BareValue). Follows a (Field (before ++ d ∷ (s ++ 0 ∷ [])))) read on in
-      begins_stuck edition kind (before ++ d ∷ s) (subst (λ (l : List ℕ). Stuck (Field l))
+      begins_stuck version kind (before ++ d ∷ s) (subst (λ (l : List ℕ). Stuck (Field l))
       (sym (append_assoc before (d ∷ s) (0 ∷ []))) (follows refl))
 
-  key_stuck : (before : List ℕ) (d : ℕ) (s : List ℕ) → Calls edition key Field before → is_key_start d ≡ true
-      → IsKeyText (d ∷ s) (d ∷ s) → BeginsAccepted edition kind (before ++ d ∷ s)
+  key_stuck : (before : List ℕ) (d : ℕ) (s : List ℕ) → Calls version key Field before → is_key_start d ≡ true
+      → IsKeyText (d ∷ s) (d ∷ s) → BeginsAccepted version kind (before ++ d ∷ s)
   key_stuck before d s c start h =
       let read = key_complete (d ∷ s) (d ∷ s) (0 ∷ []) h (Apart-cons is_key_inner 0 [] refl) in
       let on = c.follows d (s ++ 0 ∷ []) (key_free d start) in
       let follows : Follows {A = List ℕ} (Ok (d ∷ s, 0 ∷ [])) (Field (before ++ d ∷ (s ++ 0 ∷ []))) =
       subst (λ (a : Answer (List ℕ)). Follows a (Field (before ++ d ∷ (s ++ 0 ∷ [])))) read on in
-      begins_stuck edition kind (before ++ d ∷ s) (subst (λ (l : List ℕ). Stuck (Field l))
+      begins_stuck version kind (before ++ d ∷ s) (subst (λ (l : List ℕ). Stuck (Field l))
       (sym (append_assoc before (d ∷ s) (0 ∷ []))) (follows refl))
 
   -- the leaf that takes a marked byte of an accepted text
-  found : (u : List ℕ) (b : Bool) (m : List ℕ) → IsAccepted edition kind (u ++ marked b ∷ m)
-      → Found edition (eaten b m) Field Ever (u ++ marked b ∷ m)
+  found : (u : List ℕ) (b : Bool) (m : List ℕ) → IsAccepted version kind (u ++ marked b ∷ m)
+      → Found version (eaten b m) Field Ever (u ++ marked b ∷ m)
   found u b m a =
-      let read : Field (u ++ marked b ∷ m) ≡ Ok (a.0, []) = field_complete edition kind a.0 (u ++ marked b ∷ m) a.1 in
-      (walk-field edition (eaten b m) kind).walk (u ++ marked b ∷ m)
+      let read : Field (u ++ marked b ∷ m) ≡ Ok (a.0, []) = field_complete version kind a.0 (u ++ marked b ∷ m) a.1 in
+      (walk-field version (eaten b m) kind).walk (u ++ marked b ∷ m)
       (subst (λ (a : Answer (RawField kind)). Met (eaten b m) (u ++ marked b ∷ m) a) (sym read)
       (u, refl, omega arith))
 
@@ -161,25 +163,25 @@ module _ (edition : Edition) (kind : FieldKind) where
       (key_run v (x ++ question_mark ∷ w) h)))
 
   -- the mark begins a bare item, or two parentheses can stand in its place
-  by_mark : (u before x w : List ℕ) (v : BareValue) → u ≡ before ++ x → Calls edition bare Field before
-      → IsBareText edition v (x ++ question_mark ∷ w) → ¬ BeginsAccepted edition kind (u ++ codes "((")
-      → Calls edition bare Field u
-  by_mark u before [] w v parts c h out = subst (Calls edition bare Field) (sym (parts ∙ append-nil before)) c
+  by_mark : (u before x w : List ℕ) (v : BareValue) → u ≡ before ++ x → Calls version bare Field before
+      → IsBareText version v (x ++ question_mark ∷ w) → ¬ BeginsAccepted version kind (u ++ codes "((")
+      → Calls version bare Field u
+  by_mark u before [] w v parts c h out = subst (Calls version bare Field) (sym (parts ∙ append-nil before)) c
   by_mark u before (d ∷ x) w v parts c h out =
-      let m = mark_inside edition v d x w h in
+      let m = mark_inside version v d x w h in
       let b = bare_stuck before (d ∷ x ++ codes "((" ++ m.1) m.0 c m.2 in
-      absurd (out (begins_part edition kind (u ++ codes "((") m.1 (subst (BeginsAccepted edition kind)
+      absurd (out (begins_part version kind (u ++ codes "((") m.1 (subst (BeginsAccepted version kind)
       (sym (append_assoc before ((d ∷ x) ++ codes "((") m.1)
       ∙ ap (λ (l : List ℕ). l ++ m.1) (sym (append_assoc before (d ∷ x) (codes "(("))
       ∙ ap (λ (l : List ℕ). l ++ codes "((") (sym parts))) b)))
 
-  pub calls_wanted : (u : List ℕ) → WantsBareItem edition kind u → Calls edition bare Field u
+  pub calls_wanted : (u : List ℕ) → WantsBareItem version kind u → Calls version bare Field u
   calls_wanted u h =
-      on (found u true h.bare.0 (subst (IsAccepted edition kind) (append_assoc u (codes "?") h.bare.0) h.bare.1))
+      on (found u true h.bare.0 (subst (IsAccepted version kind) (append_assoc u (codes "?") h.bare.0) h.bare.1))
     where
-      on : Found edition (eaten true h.bare.0) Field Ever (u ++ question_mark ∷ h.bare.0) → Calls edition bare Field u
+      on : Found version (eaten true h.bare.0) Field Ever (u ++ question_mark ∷ h.bare.0) → Calls version bare Field u
       on (called bare before s parts c some met) =
-          let m = at_leaf (bare_at edition) (IsBareText edition) (bare_read edition) true h.bare.0 s met in
+          let m = at_leaf (bare_at version) (IsBareText version) (bare_read version) true h.bare.0 s met in
           by_mark u before m.0 m.1 m.2 (append_cancel_right u (before ++ m.0) (question_mark ∷ h.bare.0)
           (parts ∙ ap (λ (l : List ℕ). before ++ l) m.3 ∙ sym (append_assoc before m.0 (question_mark ∷ h.bare.0))))
           c m.4 h.outside
@@ -190,33 +192,33 @@ module _ (edition : Edition) (kind : FieldKind) where
 
   -- ---- keys
 
-  by_bare : (u before x w : List ℕ) (v : BareValue) → u ≡ before ++ x → Calls edition bare Field before
-      → IsBareText edition v (x ++ asterisk ∷ w) → BeginsAccepted edition kind (u ++ codes "1")
+  by_bare : (u before x w : List ℕ) (v : BareValue) → u ≡ before ++ x → Calls version bare Field before
+      → IsBareText version v (x ++ asterisk ∷ w) → BeginsAccepted version kind (u ++ codes "1")
   by_bare u before x w v parts c h =
-      let m = asterisk_inside edition v x w h in
+      let m = asterisk_inside version v x w h in
       let b = bare_stuck before (x ++ codes "1" ++ m.1) m.0 c m.2 in
-      begins_part edition kind (u ++ codes "1") m.1 (subst (BeginsAccepted edition kind)
+      begins_part version kind (u ++ codes "1") m.1 (subst (BeginsAccepted version kind)
       (sym (append_assoc before (x ++ codes "1") m.1)
       ∙ ap (λ (l : List ℕ). l ++ m.1) (sym (append_assoc before x (codes "1"))
       ∙ ap (λ (l : List ℕ). l ++ codes "1") (sym parts))) b)
 
-  by_key : (u before x w v : List ℕ) → u ≡ before ++ x → Calls edition key Field before
-      → IsKeyText v (x ++ asterisk ∷ w) → ¬ BeginsAccepted edition kind (u ++ codes "1") → Calls edition key Field u
-  by_key u before [] w v parts c h out = subst (Calls edition key Field) (sym (parts ∙ append-nil before)) c
+  by_key : (u before x w v : List ℕ) → u ≡ before ++ x → Calls version key Field before
+      → IsKeyText v (x ++ asterisk ∷ w) → ¬ BeginsAccepted version kind (u ++ codes "1") → Calls version key Field u
+  by_key u before [] w v parts c h out = subst (Calls version key Field) (sym (parts ∙ append-nil before)) c
   by_key u before (d ∷ x) w v parts c h out =
       let is : is_key (d ∷ (x ++ asterisk ∷ w)) ≡ true = ap is_key h.1 ∙ h.0 in
       let p = and_parts (is_key_start d) (list_all is_key_inner (x ++ asterisk ∷ w)) is in
       let b = key_stuck before d (x ++ codes "1") c p.0 (key_longer d x (asterisk ∷ w) (codes "1") is refl) in
-      absurd (out (subst (BeginsAccepted edition kind) (sym (append_assoc before (d ∷ x) (codes "1"))
+      absurd (out (subst (BeginsAccepted version kind) (sym (append_assoc before (d ∷ x) (codes "1"))
       ∙ ap (λ (l : List ℕ). l ++ codes "1") (sym parts)) b))
 
-  pub calls_wanted_key : (u : List ℕ) → WantsKey edition kind u → Calls edition key Field u
+  pub calls_wanted_key : (u : List ℕ) → WantsKey version kind u → Calls version key Field u
   calls_wanted_key u h =
-      on (found u false h.key.0 (subst (IsAccepted edition kind) (append_assoc u (codes "*") h.key.0) h.key.1))
+      on (found u false h.key.0 (subst (IsAccepted version kind) (append_assoc u (codes "*") h.key.0) h.key.1))
     where
-      on : Found edition (eaten false h.key.0) Field Ever (u ++ asterisk ∷ h.key.0) → Calls edition key Field u
+      on : Found version (eaten false h.key.0) Field Ever (u ++ asterisk ∷ h.key.0) → Calls version key Field u
       on (called bare before s parts c some met) =
-          let m = at_leaf (bare_at edition) (IsBareText edition) (bare_read edition) false h.key.0 s met in
+          let m = at_leaf (bare_at version) (IsBareText version) (bare_read version) false h.key.0 s met in
           absurd (h.outside (by_bare u before m.0 m.1 m.2 (append_cancel_right u (before ++ m.0) (asterisk ∷ h.key.0)
           (parts ∙ ap (λ (l : List ℕ). before ++ l) m.3 ∙ sym (append_assoc before m.0 (asterisk ∷ h.key.0))))
           c m.4))
@@ -230,10 +232,10 @@ module _ (edition : Edition) (kind : FieldKind) where
 -- ---- the faults
 
 -- a byte that may stand in front of a bare item begins none
-none_begun : (edition : Edition) (c : ℕ) (r : List ℕ) → blocked bare c ≡ true
-    → bare_at edition (c ∷ r) ≡ Err (at_reach expected_start_of_bare_item (c ∷ r))
+none_begun : (version : Version) (c : ℕ) (r : List ℕ) → blocked bare c ≡ true
+    → bare_at version (c ∷ r) ≡ Err (at_reach ExpectedStartOfBareItem (c ∷ r))
 unfolding bare_at token_at branch ahead fail
-none_begun edition c r h = elim (or_cases (is_space_or_tab c) (eqb c left_parenthesis || eqb c right_parenthesis) h) [
+none_begun version c r h = elim (or_cases (is_space_or_tab c) (eqb c left_parenthesis || eqb c right_parenthesis) h) [
   | inl b ↦ elim (or_cases (eqb c space) (eqb c tab) b) [
     | inl e ↦ rw (eqb-true c space e) refl
     | inr e ↦ rw (eqb-true c tab e) refl
@@ -244,40 +246,40 @@ none_begun edition c r h = elim (or_cases (is_space_or_tab c) (eqb c left_parent
   ]
 ]
 
-none_at_end : (edition : Edition) → bare_at edition [] ≡ Err (at_reach expected_start_of_bare_item [])
+none_at_end : (version : Version) → bare_at version [] ≡ Err (at_reach ExpectedStartOfBareItem [])
 unfolding bare_at token_at branch ahead fail
-none_at_end edition = refl
+none_at_end version = refl
 
 -- a bare item is begun, or could be
 abbrev Opening : List ℕ → Type 0
 Opening s = (c : ℕ) × (r : List ℕ) × (s ≡ c ∷ r) × (blocked bare c ≡ false)
 
-opening : (edition : Edition) (s : List ℕ) (x : Fault) → bare_at edition s ≡ Err x
-    → (¬ (x.kind ≡ expected_start_of_bare_item)) ⊎ IsTrue (begins_with is_beginning s) → Opening s
-opening edition [] x i (inr h) = absurd (true≢false (sym h))
-opening edition [] x i (inl n) =
-    let both = sym (none_at_end edition) ∙ i in
-    let same : at_reach expected_start_of_bare_item [] ≡ x = cc in
+opening : (version : Version) (s : List ℕ) (x : Fault) → bare_at version s ≡ Err x
+    → (¬ (x.kind ≡ ExpectedStartOfBareItem)) ⊎ IsTrue (begins_with is_beginning s) → Opening s
+opening version [] x i (inr h) = absurd (true≢false (sym h))
+opening version [] x i (inl n) =
+    let both = sym (none_at_end version) ∙ i in
+    let same : at_reach ExpectedStartOfBareItem [] ≡ x = cc in
     absurd (n (ap (λ (x : Fault). x.kind) (sym same)))
-opening edition (c ∷ r) x i (inr h) = (c, r, refl, not-true (blocked bare c) h)
-opening edition (c ∷ r) x i (inl n) = elim (cases_Bool (blocked bare c)) [
+opening version (c ∷ r) x i (inr h) = (c, r, refl, not-true (blocked bare c) h)
+opening version (c ∷ r) x i (inl n) = elim (cases_Bool (blocked bare c)) [
   | inl y ↦
-      let both = sym (none_begun edition c r y) ∙ i in
-      let same : at_reach expected_start_of_bare_item (c ∷ r) ≡ x = cc in
+      let both = sym (none_begun version c r y) ∙ i in
+      let same : at_reach ExpectedStartOfBareItem (c ∷ r) ≡ x = cc in
       absurd (n (ap (λ (x : Fault). x.kind) (sym same)))
   | inr f ↦ (c, r, refl, f)
 ]
 
 pub wanted_bare_is_read : WantedBareIsRead
-wanted_bare_is_read edition kind t before s x place i side =
-    let o = opening edition s x i side in
-    let c = calls_wanted edition kind before place.wanted in
+wanted_bare_is_read version kind t before s x place i side =
+    let o = opening version s x i side in
+    let c = calls_wanted version kind before place.wanted in
     let on = c.follows o.0 o.1 o.3 in
-    let follows : Follows {A = BareValue} (Err x) (whole_field_at edition kind (before ++ o.0 ∷ o.1)) =
-    subst (λ (a : Answer BareValue). Follows a (whole_field_at edition kind (before ++ o.0 ∷ o.1)))
-    (ap (bare_at edition) (sym o.2) ∙ i) on in (
+    let follows : Follows {A = BareValue} (Err x) (whole_field_at version kind (before ++ o.0 ∷ o.1)) =
+    subst (λ (a : Answer BareValue). Follows a (whole_field_at version kind (before ++ o.0 ∷ o.1)))
+    (ap (bare_at version) (sym o.2) ∙ i) on in (
       follows.0,
-      ap (read_field edition kind) (place.text ∙ ap (λ (l : List ℕ). before ++ l) o.2)
-          ∙ ends_faulty edition kind (before ++ o.0 ∷ o.1) follows.0 follows.1,
+      ap (read_field version kind) (place.text ∙ ap (λ (l : List ℕ). before ++ l) o.2)
+          ∙ ends_faulty version kind (before ++ o.0 ∷ o.1) follows.0 follows.1,
       follows.2,
     )

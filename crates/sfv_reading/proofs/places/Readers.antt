@@ -7,9 +7,10 @@ use Rattle.sfv_spec.specs.Ascii.{space, tab}
 use Rattle.sfv_spec.proofs.Marks.{comma, left_parenthesis, right_parenthesis}
 use Rattle.sfv_spec.specs.Texts.{RunOf}
 use Rattle.sfv_spec.specs.Classes.{is_space, is_space_or_tab}
-use Rattle.sfv_spec.specs.Values.{Edition, RawParameters}
+use Rattle.sfv_spec.specs.Values.{RawParameters}
+use Rattle.sfv_spec.specs.declared.version.Version.{Version}
 use Rattle.sfv_spec.specs.Events.{TreeEvent, inner_item_events}
-use Rattle.sfv_spec.specs.Faults.{trailing_comma}
+use Rattle.sfv_spec.specs.declared.error_kind.ErrorKind.TheVariants.{TrailingComma}
 use Rattle.sfv_reading.specs.Judgements.{Reached, Local, IsFault}
 use Rattle.sfv_reading.specs.Reader.{Fault, Answer, Reader, at_start, give, fail, ◌>>=◌, bind, led, branch, ahead}
 use Rattle.sfv_reading.specs.Reader.{back, span}
@@ -19,10 +20,13 @@ use Rattle.sfv_reading.specs.Items.{key_at, value_at, parameter_at, parameter_ev
 use Rattle.sfv_reading.specs.Members.{inner_item_at, next_item_at, inner_items_at, inner_at, member_at, entry_at}
 use Rattle.sfv_reading.specs.Members.{member_value_at, keyed_at}
 use Rattle.sfv_reading.specs.Fields.{comma_at, next_at, members_at, whole_field_at}
-use Rattle.sfv_spec.specs.Values.{FieldKind, item_field, list_field, dictionary_field, RawItem}
+use Rattle.sfv_spec.specs.Values.{RawItem}
+use Rattle.sfv_spec.specs.declared.field_kind.FieldKind.{FieldKind}
+use Rattle.sfv_spec.specs.declared.field_kind.FieldKind.TheVariants.{Item as item_field, List as list_field}
+use Rattle.sfv_spec.specs.declared.field_kind.FieldKind.TheVariants.{Dictionary as dictionary_field}
 use Rattle.sfv_spec.specs.Events.{entry_events, keyed_events}
 use Rattle.sfv_spec.specs.Grammar.{IsMemberText, IsDictionaryMemberText, true_with}
-use Rattle.sfv_spec.specs.Faults.{unterminated_inner_list}
+use Rattle.sfv_spec.specs.declared.error_kind.ErrorKind.TheVariants.{UnterminatedInnerList}
 use Rattle.sfv_reading.specs.Reader.{at_reach, one_and_more}
 use Rattle.sfv_reading.specs.Members.{inner_of}
 use Rattle.sfv_reading.proofs.sound.Members.{Sound-entry, Sound-keyed}
@@ -86,10 +90,10 @@ skips_blanks = skips_span is_space_or_tab (λ c e. e)
 
 -- a comma and blanks
 comma_at_start : (t : List ℕ) (e : Fault) (a : Answer (Option (Unit {0})))
-    → Reached (Found IsComma) (λ _ _. ⊥) (λ _. ⊥) t a → at_start trailing_comma t a ≡ Err e → Elsewhere e.kind e.exact
+    → Reached (Found IsComma) (λ _ _. ⊥) (λ _. ⊥) t a → at_start TrailingComma t a ≡ Err e → Elsewhere e.kind e.exact
 comma_at_start t e (Ok (Some v, r)) h i = absurd cc
 comma_at_start t e (Ok (None, r)) h i =
-    let same : record { kind = trailing_comma; exact = false; rest = t; events = [] } ≡ e = cc in
+    let same : record { kind = TrailingComma; exact = false; rest = t; events = [] } ≡ e = cc in
     subst (λ (e : Fault). Elsewhere e.kind e.exact) same tt
 comma_at_start t e (Err x) h i = elim (cases_Bool x.exact) [
   | inl y ↦ absurd ((h.0 y).holds)
@@ -97,19 +101,19 @@ comma_at_start t e (Err x) h i = elim (cases_Bool x.exact) [
 ]
 
 abbrev pub comma_and_more : Reader (Unit {0})
-comma_and_more = back trailing_comma comma_at
+comma_and_more = back TrailingComma comma_at
 
-comma_again : (behind : List ℕ) → RunOf is_space_or_tab behind → (c : ℕ) (q : List ℕ) → is_space_or_tab c ≡ false
-    → comma_and_more (comma ∷ (behind ++ c ∷ q)) ≡ Ok (tt, c ∷ q)
+comma_again : (after : List ℕ) → RunOf is_space_or_tab after → (c : ℕ) (q : List ℕ) → is_space_or_tab c ≡ false
+    → comma_and_more (comma ∷ (after ++ c ∷ q)) ≡ Ok (tt, c ∷ q)
 unfolding comma_at give
-comma_again behind each c q none = back_complete _ _ _ _ _ (branch_take _ _ _ comma (behind ++ c ∷ q) refl
-    ∙ bind_complete _ _ _ _ _ (span_complete is_space_or_tab behind (c ∷ q) each (Apart-cons is_space_or_tab c q none))
+comma_again after each c q none = back_complete _ _ _ _ _ (branch_take _ _ _ comma (after ++ c ∷ q) refl
+    ∙ bind_complete _ _ _ _ _ (span_complete is_space_or_tab after (c ∷ q) each (Apart-cons is_space_or_tab c q none))
     ∙ ahead_any _ _ (c ∷ q) (omega arith))
 
 comma_read : (t r : List ℕ) (v : Unit {0}) → comma_and_more t ≡ Ok (v, r)
     → (s : List ℕ) × (t ≡ s ++ r) × IsComma v s
 comma_read t r v i = subst (λ a. Reached IsComma (λ _ _. Unit {0}) (λ _. Unit {0}) t a) i
-    ((Sound-back trailing_comma comma_at IsComma _ _ refl tt (Sound-comma _ _)).sound t)
+    ((Sound-back TrailingComma comma_at IsComma _ _ refl tt (Sound-comma _ _)).sound t)
 
 skips_comma : Skips comma_and_more
 unfolding back
@@ -152,21 +156,21 @@ pub stuck_then : {A B : Type 0} (f : Reader A) (g : A → Reader B) → Stuck (f
 unfolding bind
 stuck_then f g h k = stuck_bind g (f (0 ∷ [])) k h
 
-pub stuck_behind : {A : Type 0} (es : List TreeEvent) (f : Reader A) → Stuck (f (0 ∷ [])) → Stuck (led es f (0 ∷ []))
+pub stuck_after : {A : Type 0} (es : List TreeEvent) (f : Reader A) → Stuck (f (0 ∷ [])) → Stuck (led es f (0 ∷ []))
 unfolding led
-stuck_behind es f h = stuck_led es (f (0 ∷ [])) h
+stuck_after es f h = stuck_led es (f (0 ∷ [])) h
 
-pub stuck_value : (edition : Edition) → Stuck (value_at edition (0 ∷ []))
+pub stuck_value : (version : Version) → Stuck (value_at version (0 ∷ []))
 unfolding value_at branch give
-stuck_value edition = refl
+stuck_value version = refl
 
-pub stuck_parameters : (edition : Edition) → Stuck (many parameter_event (parameter_at edition) (0 ∷ []))
+pub stuck_parameters : (version : Version) → Stuck (many parameter_event (parameter_at version) (0 ∷ []))
 unfolding many many_within parameter_at branch give bind
-stuck_parameters edition = refl
+stuck_parameters version = refl
 
-pub stuck_next_items : (edition : Edition) → Stuck (many inner_item_events (next_item_at edition) (0 ∷ []))
+pub stuck_next_items : (version : Version) → Stuck (many inner_item_events (next_item_at version) (0 ∷ []))
 unfolding many many_within next_item_at branch ahead fail give bind
-stuck_next_items edition = (refl, refl)
+stuck_next_items version = (refl, refl)
 
 pub stuck_next : {A : Type 0} (parts : A → List TreeEvent) (one : Reader A) → Stuck (many parts (next_at one) (0 ∷ []))
 unfolding many many_within next_at branch ahead fail give bind span
@@ -186,46 +190,46 @@ met_nothing mark v m = absurd (met_give mark [] v m)
 abbrev pub Ever : Leaf → Type 0
 Ever leaf = Unit {0}
 
-module _ (edition : Edition) (mark : Mark) where
-  walk-value : Walk edition mark (value_at edition) Never
+module _ (version : Version) (mark : Mark) where
+  walk-value : Walk version mark (value_at version) Never
   unfolding value_at
-  walk-value = Walk-branch_never edition mark _ _ _ _ (refl, refl) (λ _ _. Walk-bare edition mark)
-      (Walk-give edition mark _ _)
+  walk-value = Walk-branch_never version mark _ _ _ _ (refl, refl) (λ _ _. Walk-bare version mark)
+      (Walk-give version mark _ _)
 
-  walk-parameter : Walk edition mark (parameter_at edition) Never
+  walk-parameter : Walk version mark (parameter_at version) Never
   unfolding parameter_at
-  walk-parameter = Walk-branch_never edition mark _ _ _ _ (refl, refl)
-      (λ _ _. Walk-skip edition mark _ _ _ skips_spaces (Local-span _)
-      (λ _. Walk-bind edition mark key_at _ _ (Walk-key edition mark) Local-key
-      (λ k. Walk-bind edition mark (value_at edition) _ _ walk-value (Local-value edition)
-      (λ v. Walk-give edition mark _ _) (λ v. stuck_give _))
-      (λ k. stuck_then _ _ (stuck_value edition) (λ v. stuck_give _))))
-      (Walk-give edition mark _ _)
+  walk-parameter = Walk-branch_never version mark _ _ _ _ (refl, refl)
+      (λ _ _. Walk-skip version mark _ _ _ skips_spaces (Local-span _)
+      (λ _. Walk-bind version mark key_at _ _ (Walk-key version mark) Local-key
+      (λ k. Walk-bind version mark (value_at version) _ _ walk-value (Local-value version)
+      (λ v. Walk-give version mark _ _) (λ v. stuck_give _))
+      (λ k. stuck_then _ _ (stuck_value version) (λ v. stuck_give _))))
+      (Walk-give version mark _ _)
 
-  walk-parameters : Walk edition mark (parameters_at edition) Never
+  walk-parameters : Walk version mark (parameters_at version) Never
   unfolding parameters_at
-  walk-parameters = Walk-many edition mark parameter_event (parameter_at edition) (Consumes-parameter edition)
-      (Local-parameter edition) walk-parameter (stuck_parameters edition)
+  walk-parameters = Walk-many version mark parameter_event (parameter_at version) (Consumes-parameter version)
+      (Local-parameter version) walk-parameter (stuck_parameters version)
 
   -- parameters, of which a value is made
   walk-last : {A : Type 0} (make : RawParameters → A)
-      → Walk edition mark (parameters_at edition >>= λ ps. give (make ps)) Never
-  walk-last make = Walk-bind edition mark (parameters_at edition) _ _ walk-parameters (Local-parameters edition)
-      (λ ps. Walk-give edition mark _ _) (λ ps. stuck_give _)
+      → Walk version mark (parameters_at version >>= λ ps. give (make ps)) Never
+  walk-last make = Walk-bind version mark (parameters_at version) _ _ walk-parameters (Local-parameters version)
+      (λ ps. Walk-give version mark _ _) (λ ps. stuck_give _)
 
   pub stuck_last : {A : Type 0} (make : RawParameters → A)
-      → Stuck ((parameters_at edition >>= λ ps. give (make ps)) (0 ∷ []))
+      → Stuck ((parameters_at version >>= λ ps. give (make ps)) (0 ∷ []))
   unfolding parameters_at
-  stuck_last make = stuck_then _ _ (stuck_parameters edition) (λ ps. stuck_give _)
+  stuck_last make = stuck_then _ _ (stuck_parameters version) (λ ps. stuck_give _)
 
-  walk-item : Walk edition mark (item_at edition) (Only bare)
+  walk-item : Walk version mark (item_at version) (Only bare)
   unfolding item_at
-  walk-item = Walk-bind edition mark (bare_at edition) _ _ (Walk-bare edition mark) (Local-bare edition)
-      (λ b. Walk-led edition mark _ _ _ (walk-last (item_of b))) (λ b. stuck_behind _ _ (stuck_last (item_of b)))
+  walk-item = Walk-bind version mark (bare_at version) _ _ (Walk-bare version mark) (Local-bare version)
+      (λ b. Walk-led version mark _ _ _ (walk-last (item_of b))) (λ b. stuck_after _ _ (stuck_last (item_of b)))
 
-  walk-inner_item : Walk edition mark (inner_item_at edition) (Only bare)
+  walk-inner_item : Walk version mark (inner_item_at version) (Only bare)
   unfolding inner_item_at
-  walk-inner_item = Walk-led edition mark _ _ _ walk-item
+  walk-inner_item = Walk-led version mark _ _ _ walk-item
 
   -- a leaf that isn't a parenthesis
   no_bracket : (leaf : Leaf) → Only bare leaf → (c : ℕ) → blocked leaf c ≡ false → eqb c right_parenthesis ≡ false
@@ -241,129 +245,129 @@ module _ (edition : Edition) (mark : Mark) where
       (or_parts (is_space_or_tab c) (eqb c left_parenthesis || eqb c right_parenthesis) h).1).0
 
   -- no item begins with a parenthesis
-  barred-item : (r : List ℕ) → IsFault (item_at edition (left_parenthesis ∷ r))
+  barred-item : (r : List ℕ) → IsFault (item_at version (left_parenthesis ∷ r))
   unfolding item_at bare_at token_at branch ahead fail bind
   barred-item r = (_, refl)
 
-  walk-another : Walk edition mark (inner_item_at edition >>= λ i. give (Some i)) (Only bare)
-  walk-another = Walk-bind edition mark (inner_item_at edition) _ _ walk-inner_item (Local-inner_item edition)
-      (λ i. Walk-give edition mark _ _) (λ i. stuck_give _)
+  walk-another : Walk version mark (inner_item_at version >>= λ i. give (Some i)) (Only bare)
+  walk-another = Walk-bind version mark (inner_item_at version) _ _ walk-inner_item (Local-inner_item version)
+      (λ i. Walk-give version mark _ _) (λ i. stuck_give _)
 
   barred-another : (r : List ℕ)
-      → IsFault (branch (byte right_parenthesis) (λ _. give None) (inner_item_at edition >>= λ i. give (Some i))
+      → IsFault (branch (byte right_parenthesis) (λ _. give None) (inner_item_at version >>= λ i. give (Some i))
       (left_parenthesis ∷ r))
   unfolding inner_item_at item_at bare_at token_at branch ahead fail bind led
   barred-another r = (_, refl)
 
-  pub walk-next_item : Walk edition mark (next_item_at edition) Never
+  pub walk-next_item : Walk version mark (next_item_at version) Never
   unfolding next_item_at
-  walk-next_item = Walk-branch_never edition mark _ _ _ _ (refl, refl)
-      (λ _ _. Walk-skip edition mark _ _ _ skips_spaces (Local-span _)
-      (λ _. Walk-branch edition mark _ _ _ (Only bare) Never (refl, refl)
-      (λ _ _. Walk-give edition mark _ _) walk-another
+  walk-next_item = Walk-branch_never version mark _ _ _ _ (refl, refl)
+      (λ _ _. Walk-skip version mark _ _ _ skips_spaces (Local-span _)
+      (λ _. Walk-branch version mark _ _ _ (Only bare) Never (refl, refl)
+      (λ _ _. Walk-give version mark _ _) walk-another
       (λ leaf is. (no_bracket leaf is, λ r. barred-another (left_parenthesis ∷ r)))))
-      (Walk-branch_never edition mark _ _ _ Never (refl, refl) (λ _ _. Walk-give edition mark _ _)
-      (Walk-ahead edition mark _ _ _ (Walk-fail edition mark _ _ tt) (Walk-fail edition mark _ _ tt)))
+      (Walk-branch_never version mark _ _ _ Never (refl, refl) (λ _ _. Walk-give version mark _ _)
+      (Walk-ahead version mark _ _ _ (Walk-fail version mark _ _ tt) (Walk-fail version mark _ _ tt)))
 
   barred-items : (r : List ℕ) → IsFault (branch (byte right_parenthesis) (λ _. give [])
-      (one_and_more inner_item_events (inner_item_at edition) (next_item_at edition)) (left_parenthesis ∷ r))
+      (one_and_more inner_item_events (inner_item_at version) (next_item_at version)) (left_parenthesis ∷ r))
   unfolding inner_item_at item_at bare_at token_at branch ahead fail bind led
   barred-items r = (_, refl)
 
-  met_end : Met {A = List RawItem} mark [] (fail unterminated_inner_list []) → Other mark
+  met_end : Met {A = List RawItem} mark [] (fail UnterminatedInnerList []) → Other mark
   unfolding fail
-  met_end m = met_fail (List RawItem) mark [] (at_reach unterminated_inner_list []) tt m
+  met_end m = met_fail (List RawItem) mark [] (at_reach UnterminatedInnerList []) tt m
 
-  walk-items : Walk edition mark (inner_items_at edition) (Only bare)
+  walk-items : Walk version mark (inner_items_at version) (Only bare)
   unfolding inner_items_at
-  walk-items = Walk-any edition mark _ _ _ Never
-      (Walk-skip edition mark _ _ _ skips_spaces (Local-span _)
-      (λ _. Walk-branch edition mark _ _ _ (Only bare) Never (refl, refl) (λ _ _. Walk-give edition mark _ _)
-      (Walk-bind edition mark (inner_item_at edition) _ _ walk-inner_item (Local-inner_item edition)
-      (λ i. Walk-led edition mark _ _ _
-      (Walk-bind edition mark (many inner_item_events (next_item_at edition)) _ _
-      (Walk-many edition mark inner_item_events (next_item_at edition) (Consumes-next_item edition)
-      (Local-next_item edition) walk-next_item (stuck_next_items edition)) (Local-next_items edition)
-      (λ is. Walk-give edition mark _ _) (λ is. stuck_give _)))
-      (λ i. stuck_behind _ _ (stuck_then _ _ (stuck_next_items edition) (λ is. stuck_give _))))
+  walk-items = Walk-any version mark _ _ _ Never
+      (Walk-skip version mark _ _ _ skips_spaces (Local-span _)
+      (λ _. Walk-branch version mark _ _ _ (Only bare) Never (refl, refl) (λ _ _. Walk-give version mark _ _)
+      (Walk-bind version mark (inner_item_at version) _ _ walk-inner_item (Local-inner_item version)
+      (λ i. Walk-led version mark _ _ _
+      (Walk-bind version mark (many inner_item_events (next_item_at version)) _ _
+      (Walk-many version mark inner_item_events (next_item_at version) (Consumes-next_item version)
+      (Local-next_item version) walk-next_item (stuck_next_items version)) (Local-next_items version)
+      (λ is. Walk-give version mark _ _) (λ is. stuck_give _)))
+      (λ i. stuck_after _ _ (stuck_then _ _ (stuck_next_items version) (λ is. stuck_give _))))
       (λ leaf is. (no_bracket leaf is, λ r. barred-items (left_parenthesis ∷ r)))))
       (λ m. met_end m)
 
-  walk-inner : Walk edition mark (inner_at edition) (Only bare)
+  walk-inner : Walk version mark (inner_at version) (Only bare)
   unfolding inner_at
-  walk-inner = Walk-bind edition mark (inner_items_at edition) _ _ walk-items (Local-items edition)
-      (λ is. Walk-led edition mark _ _ _ (walk-last (inner_of is))) (λ is. stuck_behind _ _ (stuck_last (inner_of is)))
+  walk-inner = Walk-bind version mark (inner_items_at version) _ _ walk-items (Local-items version)
+      (λ is. Walk-led version mark _ _ _ (walk-last (inner_of is))) (λ is. stuck_after _ _ (stuck_last (inner_of is)))
 
-  barred-member : (r : List ℕ) → IsFault (member_at edition (left_parenthesis ∷ left_parenthesis ∷ r))
+  barred-member : (r : List ℕ) → IsFault (member_at version (left_parenthesis ∷ left_parenthesis ∷ r))
   unfolding member_at inner_at inner_items_at span inner_item_at item_at bare_at token_at branch ahead fail bind led
   barred-member r = (_, refl)
 
-  walk-member : Walk edition mark (member_at edition) (Only bare)
+  walk-member : Walk version mark (member_at version) (Only bare)
   unfolding member_at
-  walk-member = Walk-branch edition mark _ _ _ (Only bare) (Only bare) (refl, refl)
-      (λ _ _. Walk-led edition mark _ _ _ walk-inner)
-      (Walk-led edition mark _ _ _ (Walk-bind edition mark (item_at edition) _ _ walk-item (Local-item edition)
-      (λ i. Walk-give edition mark _ _) (λ i. stuck_give _)))
+  walk-member = Walk-branch version mark _ _ _ (Only bare) (Only bare) (refl, refl)
+      (λ _ _. Walk-led version mark _ _ _ walk-inner)
+      (Walk-led version mark _ _ _ (Walk-bind version mark (item_at version) _ _ walk-item (Local-item version)
+      (λ i. Walk-give version mark _ _) (λ i. stuck_give _)))
       (λ leaf is. (no_bracket_left leaf is, λ r. barred-member r))
 
-  walk-entry : Walk edition mark (entry_at edition) (Only bare)
+  walk-entry : Walk version mark (entry_at version) (Only bare)
   unfolding entry_at
-  walk-entry = Walk-led edition mark _ _ _ walk-member
+  walk-entry = Walk-led version mark _ _ _ walk-member
 
-  walk-member_value : Walk edition mark (member_value_at edition) Never
+  walk-member_value : Walk version mark (member_value_at version) Never
   unfolding member_value_at
-  walk-member_value = Walk-branch_never edition mark _ _ _ _ (refl, refl) (λ _ _. walk-member)
-      (Walk-led edition mark _ _ _ (walk-last true_with))
+  walk-member_value = Walk-branch_never version mark _ _ _ _ (refl, refl) (λ _ _. walk-member)
+      (Walk-led version mark _ _ _ (walk-last true_with))
 
-  pub stuck-member_value : Stuck (member_value_at edition (0 ∷ []))
+  pub stuck-member_value : Stuck (member_value_at version (0 ∷ []))
   unfolding member_value_at branch
-  stuck-member_value = stuck_behind _ _ (stuck_last true_with)
+  stuck-member_value = stuck_after _ _ (stuck_last true_with)
 
-  walk-keyed : Walk edition mark (keyed_at edition) (Only key)
+  walk-keyed : Walk version mark (keyed_at version) (Only key)
   unfolding keyed_at
-  walk-keyed = Walk-bind edition mark key_at _ _ (Walk-key edition mark) Local-key
-      (λ k. Walk-led edition mark _ _ _ (Walk-bind edition mark (member_value_at edition) _ _ walk-member_value
-      (Local-member_value edition) (λ m. Walk-give edition mark _ _) (λ m. stuck_give _)))
-      (λ k. stuck_behind _ _ (stuck_then _ _ stuck-member_value (λ m. stuck_give _)))
+  walk-keyed = Walk-bind version mark key_at _ _ (Walk-key version mark) Local-key
+      (λ k. Walk-led version mark _ _ _ (Walk-bind version mark (member_value_at version) _ _ walk-member_value
+      (Local-member_value version) (λ m. Walk-give version mark _ _) (λ m. stuck_give _)))
+      (λ k. stuck_after _ _ (stuck_then _ _ stuck-member_value (λ m. stuck_give _)))
 
   -- ---- members
 
   module _ {A : Type 0} (P : A → List ℕ → Type 0) (parts : A → List TreeEvent) (one : Reader A)
-      (reads : Reads one P (Goes P parts)) (l : Local one) (E : Leaf → Type 0) (h : Walk edition mark one E) where
-    walk-next : Walk edition mark (next_at one) Never
+      (reads : Reads one P (Goes P parts)) (l : Local one) (E : Leaf → Type 0) (h : Walk version mark one E) where
+    walk-next : Walk version mark (next_at one) Never
     unfolding next_at
-    walk-next = Walk-skip edition mark _ _ _ skips_blanks (Local-span _)
-        (λ _. Walk-any edition mark _ _ _ Never
-        (Walk-ahead edition mark _ _ _
-        (Walk-skip_some edition mark _ _ E skips_comma Local-comma comma_some
-        (λ _. Walk-bind edition mark one _ _ h l (λ m. Walk-give edition mark _ _) (λ m. stuck_give _)))
-        (Walk-fail edition mark _ _ tt))
+    walk-next = Walk-skip version mark _ _ _ skips_blanks (Local-span _)
+        (λ _. Walk-any version mark _ _ _ Never
+        (Walk-ahead version mark _ _ _
+        (Walk-skip_some version mark _ _ E skips_comma Local-comma comma_some
+        (λ _. Walk-bind version mark one _ _ h l (λ m. Walk-give version mark _ _) (λ m. stuck_give _)))
+        (Walk-fail version mark _ _ tt))
         (λ m. met_nothing mark None m))
 
-    walk-members : Walk edition mark (members_at parts one) E
+    walk-members : Walk version mark (members_at parts one) E
     unfolding members_at
-    walk-members = Walk-skip edition mark _ _ _ skips_spaces (Local-span _)
-        (λ _. Walk-any edition mark _ _ _ Never
-        (Walk-bind edition mark one _ _ h l
-        (λ m. Walk-led edition mark _ _ _ (Walk-bind edition mark (many parts (next_at one)) _ _
-        (Walk-many edition mark parts (next_at one) (Consumes-next P parts one reads) (Local-next P parts one l)
+    walk-members = Walk-skip version mark _ _ _ skips_spaces (Local-span _)
+        (λ _. Walk-any version mark _ _ _ Never
+        (Walk-bind version mark one _ _ h l
+        (λ m. Walk-led version mark _ _ _ (Walk-bind version mark (many parts (next_at one)) _ _
+        (Walk-many version mark parts (next_at one) (Consumes-next P parts one reads) (Local-next P parts one l)
         walk-next (stuck_next parts one)) (Local-many parts (next_at one) (Consumes-next P parts one reads)
-        (Local-next P parts one l)) (λ ms. Walk-give edition mark _ _) (λ ms. stuck_give _)))
-        (λ m. stuck_behind _ _ (stuck_then _ _ (stuck_next parts one) (λ ms. stuck_give _))))
+        (Local-next P parts one l)) (λ ms. Walk-give version mark _ _) (λ ms. stuck_give _)))
+        (λ m. stuck_after _ _ (stuck_then _ _ (stuck_next parts one) (λ ms. stuck_give _))))
         (λ m. met_nothing mark [] m))
 
   -- ---- fields
 
-  pub walk-field : (kind : FieldKind) → Walk edition mark (whole_field_at edition kind) Ever
+  pub walk-field : (kind : FieldKind) → Walk version mark (whole_field_at version kind) Ever
   unfolding whole_field_at
-  walk-field item_field = Walk-weaker edition mark _ (Only bare) Ever (λ _ _. tt)
-      (Walk-skip edition mark _ _ _ skips_spaces (Local-span _)
-      (λ _. Walk-bind edition mark (item_at edition) _ _ walk-item (Local-item edition)
-      (λ i. Walk-skip edition mark _ _ _ skips_spaces (Local-span _) (λ _. Walk-give edition mark _ _))
+  walk-field item_field = Walk-weaker version mark _ (Only bare) Ever (λ _ _. tt)
+      (Walk-skip version mark _ _ _ skips_spaces (Local-span _)
+      (λ _. Walk-bind version mark (item_at version) _ _ walk-item (Local-item version)
+      (λ i. Walk-skip version mark _ _ _ skips_spaces (Local-span _) (λ _. Walk-give version mark _ _))
       (λ i. stuck_then _ _ stuck_space (λ _. stuck_give _))))
-  walk-field list_field = Walk-weaker edition mark _ (Only bare) Ever (λ _ _. tt)
-      (walk-members (IsMemberText edition) entry_events (entry_at edition) (Sound-entry edition) (Local-entry edition)
+  walk-field list_field = Walk-weaker version mark _ (Only bare) Ever (λ _ _. tt)
+      (walk-members (IsMemberText version) entry_events (entry_at version) (Sound-entry version) (Local-entry version)
       (Only bare) walk-entry)
-  walk-field dictionary_field = Walk-weaker edition mark _ (Only key) Ever (λ _ _. tt)
-      (walk-members (IsDictionaryMemberText edition) keyed_events (keyed_at edition) (Sound-keyed edition)
-      (Local-keyed edition) (Only key) walk-keyed)
+  walk-field dictionary_field = Walk-weaker version mark _ (Only key) Ever (λ _ _. tt)
+      (walk-members (IsDictionaryMemberText version) keyed_events (keyed_at version) (Sound-keyed version)
+      (Local-keyed version) (Only key) walk-keyed)

@@ -10,10 +10,11 @@ use Rattle.sfv_spec.specs.Ascii.{asterisk}
 use Rattle.sfv_spec.proofs.Marks.{comma, left_parenthesis, question_mark}
 use Rattle.sfv_spec.specs.Texts.{RunOf}
 use Rattle.sfv_spec.specs.Classes.{is_space_or_tab}
-use Rattle.sfv_spec.specs.Values.{Edition}
+use Rattle.sfv_spec.specs.declared.version.Version.{Version}
 use Rattle.sfv_spec.specs.Events.{TreeEvent}
-use Rattle.sfv_spec.specs.Faults.{SyntaxFault, trailing_comma, trailing_characters_after_member}
-use Rattle.sfv_spec.specs.Faults.{expected_inner_list_delimiter, unterminated_inner_list}
+use Rattle.sfv_spec.specs.declared.error_kind.ErrorKind.{ErrorKind}
+use Rattle.sfv_spec.specs.declared.error_kind.ErrorKind.TheVariants.{TrailingComma, TrailingCharactersAfterMember}
+use Rattle.sfv_spec.specs.declared.error_kind.ErrorKind.TheVariants.{ExpectedInnerListDelimiter, UnterminatedInnerList}
 use Rattle.sfv_reading.specs.Judgements.{IsFault, Lasts, Local}
 use Rattle.sfv_reading.specs.Reader.{Fault, Answer, Reader, first, any, at_reach, and_then, give, fail, ◌>>=◌}
 use Rattle.sfv_reading.specs.Reader.{bind, led_answer, led, branch, ahead, go_on, many}
@@ -45,11 +46,11 @@ Met (eaten b m) t (Ok x) = (u : List ℕ) × (t ≡ u ++ marked b ∷ m) × (len
 Met (eaten b m) t (Err x) = ⊥
 
 -- the kinds of fault of no bare item and no key, exact or not
-abbrev pub Elsewhere : SyntaxFault → Bool → Type 0
-Elsewhere expected_inner_list_delimiter true = ⊤
-Elsewhere unterminated_inner_list true = ⊤
-Elsewhere trailing_characters_after_member true = ⊤
-Elsewhere trailing_comma false = ⊤
+abbrev pub Elsewhere : ErrorKind → Bool → Type 0
+Elsewhere ExpectedInnerListDelimiter true = ⊤
+Elsewhere UnterminatedInnerList true = ⊤
+Elsewhere TrailingCharactersAfterMember true = ⊤
+Elsewhere TrailingComma false = ⊤
 Elsewhere _ _ = ⊥
 
 abbrev pub Other : Mark → Type 0
@@ -57,11 +58,11 @@ Other (faulty e) = Elsewhere e.kind e.exact
 Other (eaten b m) = ⊥
 
 -- a leaf is called after before and meets the mark; E: it may be called at once
-pub data Found {A : Type 0} (edition : Edition) (mark : Mark) (f : Reader A) (E : Leaf → Type 0)
+pub data Found {A : Type 0} (version : Version) (mark : Mark) (f : Reader A) (E : Leaf → Type 0)
     (t : List ℕ) : Type 0 where
-  called : (leaf : Leaf) (before s : List ℕ) → t ≡ before ++ s → Calls edition leaf f before → (before ≡ [] → E leaf)
-      → Met mark s (leaf_at edition leaf s) → Found edition mark f E t
-  elsewhere : Other mark → Found edition mark f E t
+  called : (leaf : Leaf) (before s : List ℕ) → t ≡ before ++ s → Calls version leaf f before → (before ≡ [] → E leaf)
+      → Met mark s (leaf_at version leaf s) → Found version mark f E t
+  elsewhere : Other mark → Found version mark f E t
 
 -- no leaf
 abbrev pub Never : Leaf → Type 0
@@ -195,15 +196,15 @@ met_skip (eaten b m) t p r v parts each h = absurd (true≢false
 
 -- ---- the combinators
 
-module _ (edition : Edition) (mark : Mark) where
+module _ (version : Version) (mark : Mark) where
   pub record Walk {A : Type 0} (f : Reader A) (E : Leaf → Type 0) : Type 0 where
-    pub walk : (t : List ℕ) → Met mark t (f t) → Found edition mark f E t
+    pub walk : (t : List ℕ) → Met mark t (f t) → Found version mark f E t
 
   -- where a leaf is called by one reader, it is by another, after p
   lift : {A B : Type 0} (f : Reader A) (g : Reader B) (E E' : Leaf → Type 0) (t t' p : List ℕ) → t' ≡ p ++ t
-      → ((leaf : Leaf) (before s : List ℕ) → t ≡ before ++ s → (before ≡ [] → E leaf) → Calls edition leaf f before
-      → Calls edition leaf g (p ++ before) × (p ++ before ≡ [] → E' leaf))
-      → Found edition mark f E t → Found edition mark g E' t'
+      → ((leaf : Leaf) (before s : List ℕ) → t ≡ before ++ s → (before ≡ [] → E leaf) → Calls version leaf f before
+      → Calls version leaf g (p ++ before) × (p ++ before ≡ [] → E' leaf))
+      → Found version mark f E t → Found version mark g E' t'
   lift f g E E' t t' p parts h (called leaf before s e c some m) =
       let k = h leaf before s e some c in
       called leaf (p ++ before) s (parts ∙ ap (λ (l : List ℕ). p ++ l) e ∙ sym (append_assoc p before s)) k.0 k.1 m
@@ -215,17 +216,17 @@ module _ (edition : Edition) (mark : Mark) where
     walk = λ t m. lift f f E E' t t [] refl (λ leaf before s e some c. (c, λ z. k leaf (some z))) (h.walk t m);
   }
 
-  pub Walk-bare : Walk (bare_at edition) (Only bare)
-  Walk-bare = record { walk = λ t m. called bare [] t refl (calls_bare edition) (λ _. refl) m }
+  pub Walk-bare : Walk (bare_at version) (Only bare)
+  Walk-bare = record { walk = λ t m. called bare [] t refl (calls_bare version) (λ _. refl) m }
 
   pub Walk-key : Walk key_at (Only key)
-  Walk-key = record { walk = λ t m. called key [] t refl (calls_key edition) (λ _. refl) m }
+  Walk-key = record { walk = λ t m. called key [] t refl (calls_key version) (λ _. refl) m }
 
   pub Walk-give : {A : Type 0} (v : A) (E : Leaf → Type 0) → Walk (give v) E
   unfolding give
   Walk-give v E = record { walk = λ t m. absurd (met_give mark t v m) }
 
-  pub Walk-fail : {A : Type 0} (k : SyntaxFault) (E : Leaf → Type 0) → Elsewhere k true → Walk {A = A} (fail k) E
+  pub Walk-fail : {A : Type 0} (k : ErrorKind) (E : Leaf → Type 0) → Elsewhere k true → Walk {A = A} (fail k) E
   unfolding fail
   Walk-fail {A} k E h = record { walk = λ t m. elsewhere (met_fail A mark t (at_reach k t) h m) }
 
@@ -233,38 +234,38 @@ module _ (edition : Edition) (mark : Mark) where
   unfolding led
   Walk-led es f E h = record {
     walk = λ t m. lift f (led es f) E E t t [] refl (λ leaf before s e some c. (
-      calls_led edition leaf es f before c,
+      calls_led version leaf es f before c,
       some,
     )) (h.walk t (met_led mark es t (f t) m));
   }
 
   -- a leaf that the second reader calls after some byte
-  behind : {A B : Type 0} (f : Reader A) (g : A → Reader B) (v : A) (p r : List ℕ) (E : Leaf → Type 0)
+  after : {A B : Type 0} (f : Reader A) (g : A → Reader B) (v : A) (p r : List ℕ) (E : Leaf → Type 0)
       → ((q : List ℕ) → first q ≡ first r → f (p ++ q) ≡ Ok (v, q)) → (leaf : Leaf) (before s : List ℕ) → r
       ≡ before ++ s
-      → ¬ (before ≡ []) → Calls edition leaf (g v) before → Calls edition leaf (f >>= g) (p ++ before)
-  behind f g v p r E reads leaf before s e some c = calls_as edition leaf (f >>= g) (g v) p before c
+      → ¬ (before ≡ []) → Calls version leaf (g v) before → Calls version leaf (f >>= g) (p ++ before)
+  after f g v p r E reads leaf before s e some c = calls_as version leaf (f >>= g) (g v) p before c
       (λ b q _. bind_complete f g (p ++ (before ++ b ∷ q)) (before ++ b ∷ q) v (reads (before ++ b ∷ q)
       (some_first before (b ∷ q) s some ∙ ap first (sym e))))
 
   bind_on : {A B : Type 0} (f : Reader A) (g : A → Reader B) (E : Leaf → Type 0) → Walk f E
       → ((v : A) → Walk (g v) Never) → ((v : A) → Stuck (g v (0 ∷ []))) → (t : List ℕ) (a : Answer A) → f t ≡ a
-      → Lasts f t a → Met mark t (and_then a g) → Found edition mark (f >>= g) E t
+      → Lasts f t a → Met mark t (and_then a g) → Found version mark (f >>= g) E t
   bind_on {A} {B} f g E h k s t (Ok x) i l m =
-      let left : Found edition mark f E t → Found edition mark (f >>= g) E t =
+      let left : Found version mark f E t → Found version mark (f >>= g) E t =
       λ w. lift f (f >>= g) E E t t [] refl (λ leaf before s' e some c. (
-        calls_bind edition leaf f g before s c,
+        calls_bind version leaf f g before s c,
         some,
       )) w in
       elim (met_split mark t l.0 x.1 x.0 (g x.0 x.1) l.1 m) [
         | inl w ↦ left (h.walk t (subst (λ (a : Answer A). Met mark t a) (sym i) w))
         | inr w ↦ lift (g x.0) (f >>= g) Never E x.1 t l.0 l.1 (λ leaf before s' e some c. (
-          behind f g x.0 l.0 x.1 E l.2 leaf before s' e some c,
+          after f g x.0 l.0 x.1 E l.2 leaf before s' e some c,
           λ z. absurd (some (no_front l.0 before z)),
         )) ((k x.0).walk x.1 w)
       ]
   bind_on {A} {B} f g E h k s t (Err x) i l m = lift f (f >>= g) E E t t [] refl (λ leaf before s' e some c. (
-    calls_bind edition leaf f g before s c,
+    calls_bind version leaf f g before s c,
     some,
   )) (h.walk t (subst (λ (a : Answer A). Met mark t a) (sym i) (met_fault B A mark t x m)))
 
@@ -277,19 +278,19 @@ module _ (edition : Edition) (mark : Mark) where
   skip_on : {A B : Type 0} (f : Reader A) (g : A → Reader B) (E E' : Leaf → Type 0) → Skips f
       → ((p r : List ℕ) (v : A) → f (p ++ r) ≡ Ok (v, r) → p ≡ [] → (leaf : Leaf) → E leaf → E' leaf)
       → ((v : A) → Walk (g v) E) → (t : List ℕ) (a : Answer A) → f t ≡ a
-      → Lasts f t a → Met mark t (and_then a g) → Found edition mark (f >>= g) E' t
+      → Lasts f t a → Met mark t (and_then a g) → Found version mark (f >>= g) E' t
   skip_on {A} {B} f g E E' h some k t (Ok x) i l m =
       let w = h.skips t x.1 x.0 i in
       let same : l.0 ≡ w.0 = append_cancel_right l.0 w.0 x.1 (sym l.1 ∙ w.1) in
       let reads : (q : List ℕ) → first q ≡ first x.1 → f (w.0 ++ q) ≡ Ok (x.0, q) =
       λ q e. subst (λ (p : List ℕ). f (p ++ q) ≡ Ok (x.0, q)) same (l.2 q e) in
-      let on : (leaf : Leaf) (before s : List ℕ) → x.1 ≡ before ++ s → Calls edition leaf (g x.0) before
-      → Calls edition leaf (f >>= g) (w.0 ++ before) =
+      let on : (leaf : Leaf) (before s : List ℕ) → x.1 ≡ before ++ s → Calls version leaf (g x.0) before
+      → Calls version leaf (f >>= g) (w.0 ++ before) =
       λ leaf before. elim before as (λ (before : List ℕ). (s : List ℕ) → x.1 ≡ before ++ s
-      → Calls edition leaf (g x.0) before → Calls edition leaf (f >>= g) (w.0 ++ before)) [
-        | [] ↦ λ s e c. calls_as edition leaf (f >>= g) (g x.0) w.0 [] c
+      → Calls version leaf (g x.0) before → Calls version leaf (f >>= g) (w.0 ++ before)) [
+        | [] ↦ λ s e c. calls_as version leaf (f >>= g) (g x.0) w.0 [] c
             (λ b q none. bind_complete f g (w.0 ++ b ∷ q) (b ∷ q) x.0 (w.3 b q none))
-        | b ∷ u ↦ λ s e c. behind f g x.0 w.0 x.1 E reads leaf (b ∷ u) s e (λ z. absurd cc) c
+        | b ∷ u ↦ λ s e c. after f g x.0 w.0 x.1 E reads leaf (b ∷ u) s e (λ z. absurd cc) c
       ] in
       elim (met_split mark t w.0 x.1 x.0 (g x.0 x.1) w.1 m) [
         | inl o ↦ absurd (met_skip mark t w.0 x.1 x.0 w.1 w.2 o)
@@ -322,7 +323,7 @@ module _ (edition : Edition) (mark : Mark) where
       → ((c : ℕ) (r : List ℕ) → u ≡ c ∷ r → class c ≡ false)
       → (u ≡ [] → ((c : ℕ) → blocked leaf c ≡ false → class c ≡ false)
       × ((r : List ℕ) → IsFault (branch class taken other (left_parenthesis ∷ left_parenthesis ∷ r))))
-      → Calls edition leaf other u → Calls edition leaf (branch class taken other) u
+      → Calls version leaf other u → Calls version leaf (branch class taken other) u
   unfolding branch
   past class taken other leaf [] out h c =
       let k = h refl in
@@ -331,17 +332,17 @@ module _ (edition : Edition) (mark : Mark) where
         barred = k.1;
       }
   past class taken other leaf (b ∷ u) out h c =
-      calls_as edition leaf (branch class taken other) other [] (b ∷ u) c (λ d r none. rw (out b u refl) refl)
+      calls_as version leaf (branch class taken other) other [] (b ∷ u) c (λ d r none. rw (out b u refl) refl)
 
   branch_on : {A : Type 0} (class : ℕ → Bool) (taken : ℕ → Reader A) (other : Reader A) (E E' : Leaf → Type 0)
       → Free class → ((c : ℕ) → class c ≡ true → Walk (taken c) E') → Walk other E
       → ((leaf : Leaf) → E leaf → ((c : ℕ) → blocked leaf c ≡ false → class c ≡ false)
       × ((r : List ℕ) → IsFault (branch class taken other (left_parenthesis ∷ left_parenthesis ∷ r))))
       → (c : ℕ) (r : List ℕ) (b : Bool) → class c ≡ b → Met mark (c ∷ r) (cond b (taken c r) (other (c ∷ r)))
-      → Found edition mark (branch class taken other) E (c ∷ r)
+      → Found version mark (branch class taken other) E (c ∷ r)
   branch_on class taken other E E' free h k at_once c r true is m =
       lift (taken c) (branch class taken other) E' E r (c ∷ r) (c ∷ []) refl (λ leaf before s e some d. (
-        calls_as edition leaf (branch class taken other) (taken c) (c ∷ []) before d
+        calls_as version leaf (branch class taken other) (taken c) (c ∷ []) before d
             (λ b q _. branch_take class taken other c (before ++ b ∷ q) is),
         λ z. absurd cc,
       )) ((h c is).walk r (met_tail mark class c r (taken c r) free is m))
@@ -362,7 +363,7 @@ module _ (edition : Edition) (mark : Mark) where
   unfolding branch
   Walk-branch class taken other E E' free h k at_once = record { walk = on }
     where
-      on : (t : List ℕ) → Met mark t (branch class taken other t) → Found edition mark (branch class taken other) E t
+      on : (t : List ℕ) → Met mark t (branch class taken other t) → Found version mark (branch class taken other) E t
       on [] m = lift other (branch class taken other) E E [] [] [] refl (λ leaf before s e some d. (
         past class taken other leaf before (λ b q i. absurd (let none : [] ≡ b ∷ (q ++ s) =
             e ∙ ap (λ (l : List ℕ). l ++ s) i in cc)) (λ z. at_once leaf (some z)) d,
@@ -383,17 +384,17 @@ module _ (edition : Edition) (mark : Mark) where
   unfolding ahead
   Walk-any x y E E' h k = record { walk = on }
     where
-      on : (t : List ℕ) → Met mark t (ahead any x y t) → Found edition mark (ahead any x y) E t
+      on : (t : List ℕ) → Met mark t (ahead any x y t) → Found version mark (ahead any x y) E t
       on [] m = elsewhere (k m)
       on (c ∷ r) m = lift x (ahead any x y) E E (c ∷ r) (c ∷ r) [] refl (λ leaf before s e some d. (
-        calls_as edition leaf (ahead any x y) x [] before d (λ b q none. ahead_any x y (before ++ b ∷ q)
+        calls_as version leaf (ahead any x y) x [] before d (λ b q none. ahead_any x y (before ++ b ∷ q)
             (omega (arith, length-append before (b ∷ q)))),
         some,
       )) (h.walk (c ∷ r) m)
 
   ahead_on : {A : Type 0} (class : ℕ → Bool) (x y : Reader A) → Walk x Never → Walk y Never
       → (c : ℕ) (r : List ℕ) (b : Bool) → class c ≡ b → Met mark (c ∷ r) (cond b (x (c ∷ r)) (y (c ∷ r)))
-      → Found edition mark (ahead class x y) Never (c ∷ r)
+      → Found version mark (ahead class x y) Never (c ∷ r)
   unfolding ahead
   ahead_on class x y h k c r true is m =
       lift x (ahead class x y) Never Never (c ∷ r) (c ∷ r) [] refl (λ leaf before s e some d. (
@@ -402,12 +403,12 @@ module _ (edition : Edition) (mark : Mark) where
       )) (h.walk (c ∷ r) m)
     where
       looking : (before s : List ℕ) → c ∷ r ≡ before ++ s → ¬ (before ≡ []) → (leaf : Leaf)
-          → Calls edition leaf x before
-          → Calls edition leaf (ahead class x y) before
+          → Calls version leaf x before
+          → Calls version leaf (ahead class x y) before
       looking [] s e some leaf d = absurd (some refl)
       looking (b ∷ u) s e some leaf d =
           let same : c ≡ b = cc in
-          calls_as edition leaf (ahead class x y) x [] (b ∷ u) d (λ a q none. rw (ap class (sym same) ∙ is) refl)
+          calls_as version leaf (ahead class x y) x [] (b ∷ u) d (λ a q none. rw (ap class (sym same) ∙ is) refl)
   ahead_on class x y h k c r false is m =
       lift y (ahead class x y) Never Never (c ∷ r) (c ∷ r) [] refl (λ leaf before s e some d. (
         looking before s e some leaf d,
@@ -415,12 +416,12 @@ module _ (edition : Edition) (mark : Mark) where
       )) (k.walk (c ∷ r) m)
     where
       looking : (before s : List ℕ) → c ∷ r ≡ before ++ s → ¬ (before ≡ []) → (leaf : Leaf)
-          → Calls edition leaf y before
-          → Calls edition leaf (ahead class x y) before
+          → Calls version leaf y before
+          → Calls version leaf (ahead class x y) before
       looking [] s e some leaf d = absurd (some refl)
       looking (b ∷ u) s e some leaf d =
           let same : c ≡ b = cc in
-          calls_as edition leaf (ahead class x y) y [] (b ∷ u) d (λ a q none. rw (ap class (sym same) ∙ is) refl)
+          calls_as version leaf (ahead class x y) y [] (b ∷ u) d (λ a q none. rw (ap class (sym same) ∙ is) refl)
 
   -- by the byte that stands there, and is left
   pub Walk-ahead : {A : Type 0} (class : ℕ → Bool) (x y : Reader A) → Walk x Never → Walk y Never
@@ -428,7 +429,7 @@ module _ (edition : Edition) (mark : Mark) where
   unfolding ahead
   Walk-ahead class x y h k = record { walk = on }
     where
-      on : (t : List ℕ) → Met mark t (ahead class x y t) → Found edition mark (ahead class x y) Never t
+      on : (t : List ℕ) → Met mark t (ahead class x y t) → Found version mark (ahead class x y) Never t
       on [] m = lift y (ahead class x y) Never Never [] [] [] refl (λ leaf before s e some d. (
         absurd (none before s e some),
         some,
@@ -454,49 +455,49 @@ module _ (edition : Edition) (mark : Mark) where
     unrolled : Reader (List A)
     unrolled = step >>= go_on parts (many parts step)
 
-    as_many : (t : List ℕ) → Found edition mark unrolled Never t → Found edition mark (many parts step) Never t
+    as_many : (t : List ℕ) → Found version mark unrolled Never t → Found version mark (many parts step) Never t
     unfolding unrolled
     as_many t w = lift unrolled (many parts step) Never Never t t [] refl (λ leaf before s e some d. (
-      calls_as edition leaf (many parts step) unrolled [] before d
+      calls_as version leaf (many parts step) unrolled [] before d
           (λ b q none. many_is parts step c (before ++ b ∷ q)),
       some,
     )) w
 
     within : (n : ℕ) (t : List ℕ) → length t < n → Met mark t (many parts step t)
-        → Found edition mark (many parts step) Never t
+        → Found version mark (many parts step) Never t
     unfolding unrolled bind give led
     within zero t lt m = absurd (omega arith)
     within (suc n) t lt m = as_many t (on (λ r less m. within n r less m) (step t) refl (l.lasts t) (subst
         (Met mark t) (many_is parts step c t) m))
       where
-        left : Met mark t (step t) → Found edition mark unrolled Never t
+        left : Met mark t (step t) → Found version mark unrolled Never t
         left w = lift step unrolled Never Never t t [] refl (λ leaf before s' e some d. (
-          calls_bind edition leaf step (go_on parts (many parts step)) before stuck_on d,
+          calls_bind version leaf step (go_on parts (many parts step)) before stuck_on d,
           some,
         )) (h.walk t w)
 
         go : ((r : List ℕ) → length r < n → Met mark r (many parts step r)
-            → Found edition mark (many parts step) Never r)
+            → Found version mark (many parts step) Never r)
             → (p r : List ℕ) (o : Option A) → step t ≡ Ok (o, r) → t ≡ p ++ r
             → ((q : List ℕ) → first q ≡ first r → step (p ++ q) ≡ Ok (o, q))
-            → Met mark r (go_on parts (many parts step) o r) → Found edition mark unrolled Never t
+            → Met mark r (go_on parts (many parts step) o r) → Found version mark unrolled Never t
         go again p r None i parted reads w = absurd (met_give mark r [] w)
         go again p r (Some v) i parted reads w =
             let less : length r < length t = c.consumes t r v i in
             let inner : Met mark r (many parts step r) = met_map mark r (λ vs. v ∷ vs) (many parts step r)
             (met_led mark (parts v) r _ w) in
             lift (many parts step) unrolled Never Never r t p parted (λ leaf before s' e some d. (
-              behind step (go_on parts (many parts step)) (Some v) p r Never reads leaf before s' e some
-                  (calls_led edition leaf (parts v) (many parts step >>= λ vs. give (v ∷ vs)) before
-                  (calls_bind edition leaf (many parts step) (λ vs. give (v ∷ vs)) before (λ vs. refl) d)),
+              after step (go_on parts (many parts step)) (Some v) p r Never reads leaf before s' e some
+                  (calls_led version leaf (parts v) (many parts step >>= λ vs. give (v ∷ vs)) before
+                  (calls_bind version leaf (many parts step) (λ vs. give (v ∷ vs)) before (λ vs. refl) d)),
               λ z. absurd (some (no_front p before z)),
             )) (again r (omega arith) inner)
 
         on : ((r : List ℕ) → length r < n → Met mark r (many parts step r)
-            → Found edition mark (many parts step) Never r)
+            → Found version mark (many parts step) Never r)
             → (a : Answer (Option A)) → step t ≡ a → Lasts step t a
             → Met mark t (and_then a (go_on parts (many parts step)))
-            → Found edition mark unrolled Never t
+            → Found version mark unrolled Never t
         on again (Ok x) i w z = elim (met_split mark t w.0 x.1 x.0 (go_on parts (many parts step) x.0 x.1) w.1 z) [
           | inl o ↦ left (subst (λ (a : Answer (Option A)). Met mark t a) (sym i) o)
           | inr o ↦ go again w.0 x.1 x.0 i w.1 w.2 o

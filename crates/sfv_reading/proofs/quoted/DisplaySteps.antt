@@ -11,9 +11,9 @@ use Rattle.sfv_spec.specs.Ascii.{double_quote, percent_sign}
 use Rattle.sfv_spec.specs.Texts.{RunOf}
 use Rattle.sfv_spec.specs.Classes.{is_string_byte}
 use Rattle.sfv_spec.specs.Strings.{is_plain_in_display, IsDisplayPiece}
-use Rattle.sfv_spec.specs.Faults.{invalid_utf8_in_display_string}
+use Rattle.sfv_spec.specs.declared.error_kind.ErrorKind.TheVariants.{InvalidUtf8InDisplayString}
 use Rattle.sfv_reading.specs.Reader.{Answer, by_rule}
-use Rattle.sfv_reading.specs.Quoted.{behind_bytes, outside, pieces_from, behind_pieces, checked, display_at}
+use Rattle.sfv_reading.specs.Quoted.{after_bytes, outside, pieces_from, after_pieces, checked, display_at}
 use Rattle.sfv_reading.specs.Quoted.{DisplayStops, Traced}
 use Rattle.std.specs.Str.Lossy.{utf8_valid_len}
 use Rattle.sfv_reading.proofs.complete.Quoted.{passes}
@@ -45,7 +45,7 @@ unfolding display_at
 shown_text t s rest e u = ap (checked t) e ∙ passes t s rest u
 
 pub shown_wrong : (t s rest : List ℕ) → pieces_from outside t ≡ Ok (s, rest) → ¬ IsUtf8 s
-    → display_at t ≡ Err (by_rule invalid_utf8_in_display_string (behind_pieces (utf8_valid_len s) t))
+    → display_at t ≡ Err (by_rule InvalidUtf8InDisplayString (after_pieces (utf8_valid_len s) t))
 unfolding display_at
 shown_wrong t s rest e u = ap (checked t) e ∙ rw (not_text s u) refl
 
@@ -58,7 +58,7 @@ pub record LeadsTo (input : List ℕ) (index count : ℕ) (goal : List ℕ) : Ty
   pub rest : List ℕ
   pub read : pieces_from outside (drop index input) ≡ Ok (bytes, rest)
   pub enough : count ≤ length bytes
-  pub here : behind_pieces count (drop index input) ≡ goal
+  pub here : after_pieces count (drop index input) ≡ goal
 
 -- the first piece, and what follows it
 record OnePiece (t bytes rest : List ℕ) : Type 0 where
@@ -73,7 +73,7 @@ record OnePiece (t bytes rest : List ℕ) : Type 0 where
 read_pieces : (bytes : List ℕ) (pieces : List (List ℕ)) (left rest : List ℕ) → AllZip IsDisplayPiece bytes pieces
     → left ≡ double_quote ∷ rest → pieces_from outside (concat pieces ++ left) ≡ Ok (bytes, rest)
 read_pieces bytes pieces left rest h e = past_display bytes pieces left h
-    ∙ ap (behind_bytes bytes) (ap (pieces_from outside) e ∙ quote_display rest)
+    ∙ ap (after_bytes bytes) (ap (pieces_from outside) e ∙ quote_display rest)
     ∙ ap (λ (l : List ℕ). Ok (l, rest)) (append-nil bytes)
 
 one_piece : (bytes : List ℕ) (pieces : List (List ℕ)) (left rest t : List ℕ) → AllZip IsDisplayPiece bytes pieces
@@ -155,6 +155,6 @@ leads_on input index count goal h =
       rest = h.rest;
       read = ap (pieces_from outside) next ∙ o.read;
       enough = omega (arith, h.enough, o.count);
-      here = ap (behind_pieces count) next ∙ ap (behind_pieces (suc count)) (sym o.text) ∙ h.here;
+      here = ap (after_pieces count) next ∙ ap (after_pieces (suc count)) (sym o.text) ∙ h.here;
     } in
     (inside, subst (λ (c : ℕ). LeadsTo input (index + cond (c == percent_sign) 3 1) count goal) (sym byte) there)

@@ -6,7 +6,7 @@ use Rattle.std.specs.List.{list_all, list_any}
 use Rattle.std.proofs.lemmas.Bool.{and_parts, cases_Bool, true≢false}
 use Rattle.std.proofs.lemmas.List.{drop-drop}
 use Rattle.sfv_spec.specs.Ascii.{colon}
-use Rattle.sfv_spec.specs.Faults.{unterminated_byte_sequence}
+use Rattle.sfv_spec.specs.declared.error_kind.ErrorKind.TheVariants.{UnterminatedByteSequence}
 use Rattle.sfv_reading.specs.Reader.{Fault, by_rule}
 use Rattle.sfv_reading.specs.Content.{bytes_of, fault_place, is_colon, HasNoColon}
 use Rattle.sfv_reading.specs.Content.{content_in, content_fault, closed_by, bytes_at, IsBytesAt, IsInvalidAt}
@@ -44,7 +44,7 @@ bytes_fault t e i = elim (cases_Bool (list_any is_colon t)) [
       ∙ ap bytes_at (sym s.1) ∙ i))
   | inr n ↦
       let both = sym (read_unclosed t n) ∙ i in
-      let same : by_rule unterminated_byte_sequence [] ≡ e = cc in
+      let same : by_rule UnterminatedByteSequence [] ≡ e = cc in
       inl (no_colon t n, sym same)
 ]
 
@@ -64,5 +64,5 @@ gives_fault input start index h =
 
 -- the fault of a text in which no colon follows
 pub gives_unclosed : (input : List ℕ) (start : ℕ) → HasNoColon (drop start input)
-    → bytes_at (drop start input) ≡ Err (by_rule unterminated_byte_sequence [])
+    → bytes_at (drop start input) ≡ Err (by_rule UnterminatedByteSequence [])
 gives_unclosed input start h = read_unclosed (drop start input) (no_colon_any (drop start input) h)

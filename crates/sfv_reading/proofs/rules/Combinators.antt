@@ -2,9 +2,9 @@
 use Rattle.std.proofs.Common.{◌≡◌, ℕ, Bool, true, false, cond, List, [], ◌∷◌, ◌++◌, Option, Some, None, Ok, Err, refl}
 use Rattle.std.proofs.Common.{sym, subst, ◌∙◌}
 use Rattle.sfv_spec.specs.Events.{TreeEvent}
-use Rattle.sfv_spec.specs.Faults.{SyntaxFault}
+use Rattle.sfv_spec.specs.declared.error_kind.ErrorKind.{ErrorKind}
 use Rattle.sfv_reading.specs.Judgements.{Reached, Sound}
-use Rattle.sfv_reading.specs.Reader.{Fault, Answer, Reader, any, at_reach, by_rule, behind_events, and_then, give, fail}
+use Rattle.sfv_reading.specs.Reader.{Fault, Answer, Reader, any, at_reach, by_rule, after_events, and_then, give, fail}
 use Rattle.sfv_reading.specs.Reader.{◌>>=◌, bind, led_answer, led, branch, ahead, at_start, back}
 use Rattle.sfv_reading.proofs.sound.Combinators.{Steady}
 
@@ -25,12 +25,12 @@ pub Rules-steady : {A : Type 0} (f : Reader A) (P : A → List ℕ → Type 0) (
 Rules-steady f P V s = record { rules = λ t e h. let m = s.steady t in let o = m.3 in absurd cc }
 
 led_on : {A : Type 0} (ds : List TreeEvent) (V : List ℕ → Fault → Type 0) (t : List ℕ) (e : Fault) (a : Answer A)
-    → ((x : Fault) → a ≡ Err x → V t (behind_events ds x)) → led_answer ds a ≡ Err e → V t e
+    → ((x : Fault) → a ≡ Err x → V t (after_events ds x)) → led_answer ds a ≡ Err e → V t e
 led_on ds V t e (Ok x) h i = absurd cc
-led_on ds V t e (Err x) h i = let same : behind_events ds x ≡ e = cc in subst (V t) same (h x refl)
+led_on ds V t e (Err x) h i = let same : after_events ds x ≡ e = cc in subst (V t) same (h x refl)
 
 pub Rules-led : {A : Type 0} (ds : List TreeEvent) (f : Reader A) (V : List ℕ → Fault → Type 0)
-    → Rules f (λ t x. V t (behind_events ds x)) → Rules (led ds f) V
+    → Rules f (λ t x. V t (after_events ds x)) → Rules (led ds f) V
 unfolding led
 Rules-led ds f V h = record { rules = λ t e i. led_on ds V t e (f t) (λ x j. h.rules t x j) i }
 
@@ -85,14 +85,14 @@ pub Rules-any : {A : Type 0} (f other : Reader A) (V : List ℕ → Fault → Ty
     → ((e : Fault) → other [] ≡ Err e → V [] e) → Rules (ahead any f other) V
 Rules-any f other V h n = Rules-ahead any f other V (λ c r e _ i. h.rules (c ∷ r) e i) (λ c r e y i. absurd cc) n
 
-back_on : {A : Type 0} (k : SyntaxFault) (V : List ℕ → Fault → Type 0) (t : List ℕ) (e : Fault) (a : Answer (Option A))
+back_on : {A : Type 0} (k : ErrorKind) (V : List ℕ → Fault → Type 0) (t : List ℕ) (e : Fault) (a : Answer (Option A))
     → ((r : List ℕ) → a ≡ Ok (None, r) → V t (by_rule k t)) → ((x : Fault) → a ≡ Err x → V t x)
     → at_start k t a ≡ Err e → V t e
 back_on k V t e (Ok (Some v, r)) n h i = absurd cc
 back_on k V t e (Ok (None, r)) n h i = let same : by_rule k t ≡ e = cc in subst (V t) same (n r refl)
 back_on k V t e (Err x) n h i = let same : x ≡ e = cc in subst (V t) same (h x refl)
 
-pub Rules-back : {A : Type 0} (k : SyntaxFault) (f : Reader (Option A)) (V : List ℕ → Fault → Type 0)
+pub Rules-back : {A : Type 0} (k : ErrorKind) (f : Reader (Option A)) (V : List ℕ → Fault → Type 0)
     → ((t r : List ℕ) → f t ≡ Ok (None, r) → V t (by_rule k t)) → Rules f V → Rules (back k f) V
 unfolding back
 Rules-back k f V n h = record { rules = λ t e i. back_on k V t e (f t) (λ r j. n t r j) (λ y j. h.rules t y j) i }
@@ -102,7 +102,7 @@ pub Rules-weaker : {A : Type 0} (f : Reader A) (U V : List ℕ → Fault → Typ
 Rules-weaker f U V h k = record { rules = λ t e i. k t e (h.rules t e i) }
 
 -- the fault of one text
-pub fail_at : (A : Type 0) (k : SyntaxFault) (V : List ℕ → Fault → Type 0) (t : List ℕ) (e : Fault)
+pub fail_at : (A : Type 0) (k : ErrorKind) (V : List ℕ → Fault → Type 0) (t : List ℕ) (e : Fault)
     → fail {A = A} k t ≡ Err e → V t (at_reach k t) → V t e
 unfolding fail
 fail_at A k V t e i h = fault_at {A = A} V t (at_reach k t) e (Err (at_reach k t)) refl h i

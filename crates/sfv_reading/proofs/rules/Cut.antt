@@ -7,16 +7,20 @@ use Rattle.sfv_spec.specs.Ascii.{space, equals_sign}
 use Rattle.sfv_spec.proofs.Marks.{left_parenthesis, right_parenthesis, comma}
 use Rattle.sfv_spec.specs.Texts.{RunOf, IsJoining}
 use Rattle.sfv_spec.specs.Classes.{is_space, is_space_or_tab, is_key_inner}
-use Rattle.sfv_spec.specs.Values.{Edition, FieldKind, item_field, list_field, dictionary_field, RawField, RawItem}
+use Rattle.sfv_spec.specs.Values.{RawField, RawItem}
+use Rattle.sfv_spec.specs.declared.field_kind.FieldKind.{FieldKind}
+use Rattle.sfv_spec.specs.declared.field_kind.FieldKind.TheVariants.{Item as item_field, List as list_field}
+use Rattle.sfv_spec.specs.declared.field_kind.FieldKind.TheVariants.{Dictionary as dictionary_field}
+use Rattle.sfv_spec.specs.declared.version.Version.{Version}
 use Rattle.sfv_spec.specs.Values.{RawInnerList, RawMember}
 use Rattle.sfv_spec.specs.Values.{item, inner_list}
 use Rattle.sfv_spec.specs.Events.{TreeEvent, entry, keyed_entry, begins_inner_list, inner_item_events, entry_events}
 use Rattle.sfv_spec.specs.Events.{keyed_events}
 use Rattle.sfv_spec.specs.Grammar.{IsKeyText, IsMemberValueText, IsMemberText, IsDictionaryMemberText, AreMembersText}
 use Rattle.sfv_spec.specs.Grammar.{IsFieldText}
-use Rattle.sfv_spec.specs.Faults.{unterminated_inner_list}
+use Rattle.sfv_spec.specs.declared.error_kind.ErrorKind.TheVariants.{UnterminatedInnerList}
 use Rattle.sfv_spec.proofs.Settled.{joining-nil, joining-cons}
-use Rattle.sfv_reading.specs.Reader.{Fault, Reader, Apart, at_reach, behind_events, fail, give, ◌>>=◌}
+use Rattle.sfv_reading.specs.Reader.{Fault, Reader, Apart, at_reach, after_events, fail, give, ◌>>=◌}
 use Rattle.sfv_reading.specs.Reader.{led, branch, ahead, many}
 use Rattle.sfv_reading.specs.Members.{next_item_at, inner_items_at, inner_at, member_at, entry_at}
 use Rattle.sfv_reading.specs.Members.{member_value_at, keyed_at}
@@ -48,7 +52,7 @@ use Rattle.sfv_reading.proofs.rules.Tight.{parameters_tight}
 use Rattle.sfv_reading.proofs.rules.Tight.{key_tight, tight_both}
 
 pub record IsCut (e : Fault) : Type 0 where
-  pub kind : e.kind ≡ unterminated_inner_list
+  pub kind : e.kind ≡ UnterminatedInnerList
   pub rest : e.rest ≡ []
   pub exact : e.exact ≡ true
 
@@ -60,7 +64,7 @@ cut_bind f g t c = (c.0, bind_met f g t c.0 c.1, c.2)
 
 cut_led : {A : Type 0} (es : List TreeEvent) (f : Reader A) (t : List ℕ) → Cut f t → Cut (led es f) t
 cut_led es f t c = (
-  behind_events es c.0,
+  after_events es c.0,
   led_met es f t c.0 c.1,
   record { kind = c.2.kind; rest = c.2.rest; exact = c.2.exact },
 )
@@ -131,25 +135,25 @@ joining_last P v (x ∷ vs) t j =
 
 -- ---- inner lists
 
-module _ (edition : Edition) where
-  cut_end : Cut (inner_items_at edition) []
+module _ (version : Version) where
+  cut_end : Cut (inner_items_at version) []
   unfolding inner_items_at ahead fail
-  cut_end = (at_reach unterminated_inner_list [], refl, record { kind = refl; rest = refl; exact = refl })
+  cut_end = (at_reach UnterminatedInnerList [], refl, record { kind = refl; rest = refl; exact = refl })
 
-  next_cut : next_item_at edition [] ≡ Err (at_reach unterminated_inner_list [])
+  next_cut : next_item_at version [] ≡ Err (at_reach UnterminatedInnerList [])
   unfolding next_item_at branch ahead fail
   next_cut = refl
 
-  cut_items : (is : List RawItem) (x : List ℕ) → IsItems edition is (x ++ right_parenthesis ∷ []) → NoSpace x
-      → Cut (inner_items_at edition) x
+  cut_items : (is : List RawItem) (x : List ℕ) → IsItems version is (x ++ right_parenthesis ∷ []) → NoSpace x
+      → Cut (inner_items_at version) x
   unfolding inner_items_at give
   cut_items [] x h none =
       let same : x ≡ h.front = append_cancel_right x h.front (right_parenthesis ∷ [])
       (h.text ∙ ap (λ (l : List ℕ). h.front ++ l) h.second) in
-      subst (Cut (inner_items_at edition)) (sym (run_none x (subst (RunOf is_space) (sym same) h.first) none)) cut_end
+      subst (Cut (inner_items_at version)) (sym (run_none x (subst (RunOf is_space) (sym same) h.first) none)) cut_end
   cut_items (i ∷ is) x h none =
       let o = h.second in
-      let m = split_joined (IsNextItem edition) IsClosed is o.back o.second in
+      let m = split_joined (IsNextItem version) IsClosed is o.back o.second in
       let z = m.second in
       let front : List ℕ = h.front ++ (o.front ++ m.front) in
       let whole : x ++ right_parenthesis ∷ [] ≡ (front ++ z.front) ++ right_parenthesis ∷ [] =
@@ -160,23 +164,23 @@ module _ (edition : Edition) where
       let ended : z.front ≡ [] = run_none z.front z.first (no_space_part front z.front (subst NoSpace same none)) in
       let all : x ≡ h.front ++ (o.front ++ (m.front ++ [])) =
       same ∙ ap (λ (l : List ℕ). front ++ l) ended ∙ simp append_assoc in
-      let more = many_met inner_item_events (next_item_at edition) (Consumes-next_item edition) (IsNextItem edition)
-      (Apart lengthens_item) (λ v a q p f. next_item_complete edition v a q p f) []
-      (at_reach unterminated_inner_list []) next_cut (Apart-nil lengthens_item) is m.front m.first in
+      let more = many_met inner_item_events (next_item_at version) (Consumes-next_item version) (IsNextItem version)
+      (Apart lengthens_item) (λ v a q p f. next_item_complete version v a q p f) []
+      (at_reach UnterminatedInnerList []) next_cut (Apart-nil lengthens_item) is m.front m.first in
       let q : List ℕ = m.front ++ [] in
       let some : 1 ≤ length (o.front ++ q) = begun_some is_bare_start (o.front ++ q)
-      (item_begun edition i o.front q o.first)
+      (item_begun version i o.front q o.first)
       in (
         _,
-        ap (inner_items_at edition) all ∙ ahead_any _ _ (h.front ++ (o.front ++ q)) (omega (
+        ap (inner_items_at version) all ∙ ahead_any _ _ (h.front ++ (o.front ++ q)) (omega (
           arith,
           some,
           length-append h.front (o.front ++ q),
         ))
             ∙ bind_complete _ _ _ _ _ (span_complete is_space h.front (o.front ++ q) h.first
-            (item_no space edition i o.front q refl o.first))
-            ∙ branch_past _ _ _ (o.front ++ q) (item_no right_parenthesis edition i o.front q refl o.first)
-            ∙ bind_complete _ _ _ _ _ (inner_item_complete edition i o.front q o.first more.1)
+            (item_no space version i o.front q refl o.first))
+            ∙ branch_past _ _ _ (o.front ++ q) (item_no right_parenthesis version i o.front q refl o.first)
+            ∙ bind_complete _ _ _ _ _ (inner_item_complete version i o.front q o.first more.1)
             ∙ led_met _ _ _ _ (bind_met _ _ _ _ more.0),
         record { kind = refl; rest = refl; exact = refl },
       )
@@ -186,9 +190,9 @@ module _ (edition : Edition) where
   not_closed : (t y : List ℕ) → IsTight right_parenthesis t → t ≡ y ++ right_parenthesis ∷ [] → ⊥
   not_closed t y h e = not_last right_parenthesis t y h e
 
-  cut_inner : (l : RawInnerList) (b : List ℕ) (x rest : List ℕ) → IsItems edition l.items b
+  cut_inner : (l : RawInnerList) (b : List ℕ) (x rest : List ℕ) → IsItems version l.items b
       → (rest ≡ []) → x ++ right_parenthesis ∷ [] ≡ left_parenthesis ∷ (b ++ rest) → NoSpace x
-      → Cut (member_at edition) x × (1 ≤ length x)
+      → Cut (member_at version) x × (1 ≤ length x)
   unfolding member_at inner_at
   cut_inner l b [] rest h z e none = absurd (let heads : right_parenthesis
       ≡ left_parenthesis = cc in omega (arith, heads))
@@ -197,65 +201,65 @@ module _ (edition : Edition) where
       let tail : x ++ right_parenthesis ∷ [] ≡ b ++ rest = cc in
       let same : b ≡ x ++ right_parenthesis ∷ [] =
       sym (append-nil b) ∙ ap (λ (l : List ℕ). b ++ l) (sym z) ∙ sym tail in
-      let cut = cut_items l.items x (subst (IsItems edition l.items) same h) (no_space_part (c ∷ []) x none) in
-      let inner = cut_led (begins_inner_list ∷ []) (inner_at edition) x (cut_bind (inner_items_at edition) _ x cut) in (
+      let cut = cut_items l.items x (subst (IsItems version l.items) same h) (no_space_part (c ∷ []) x none) in
+      let inner = cut_led (begins_inner_list ∷ []) (inner_at version) x (cut_bind (inner_items_at version) _ x cut) in (
         (
           inner.0,
-          ap (λ (c : ℕ). member_at edition (c ∷ x)) head ∙ branch_take _ _ _ left_parenthesis x refl ∙ inner.1,
+          ap (λ (c : ℕ). member_at version (c ∷ x)) head ∙ branch_take _ _ _ left_parenthesis x refl ∙ inner.1,
           inner.2,
         ),
         omega arith,
       )
 
-  cut_member : (m : RawMember) (y : List ℕ) → IsMemberText edition m (y ++ right_parenthesis ∷ []) → NoSpace y
-      → Cut (member_at edition) y × (1 ≤ length y)
+  cut_member : (m : RawMember) (y : List ℕ) → IsMemberText version m (y ++ right_parenthesis ∷ []) → NoSpace y
+      → Cut (member_at version) y × (1 ≤ length y)
   cut_member (item i) y h none =
       absurd (not_closed (y ++ right_parenthesis ∷ []) y
-      (item_tight right_parenthesis outer_parenthesis edition i _ h) refl)
+      (item_tight right_parenthesis outer_parenthesis version i _ h) refl)
   cut_member (inner_list l) y h none =
-      let p = inner_parts edition l.items l.parameters (y ++ right_parenthesis ∷ []) h in
-      elim (parameters_tight right_parenthesis outer_parenthesis edition l.parameters p.rest p.are_parameters) [
+      let p = inner_parts version l.items l.parameters (y ++ right_parenthesis ∷ []) h in
+      elim (parameters_tight right_parenthesis outer_parenthesis version l.parameters p.rest p.are_parameters) [
         | inl z ↦ cut_inner l p.items y p.rest p.are_items z p.text none
         | inr k ↦ absurd (not_closed (left_parenthesis ∷ (p.items ++ p.rest)) y
             (tight_after right_parenthesis (left_parenthesis ∷ p.items) p.rest k) (sym p.text))
       ]
 
-  cut_entry : (m : RawMember) (y : List ℕ) → IsMemberText edition m (y ++ right_parenthesis ∷ []) → NoSpace y
-      → Cut (entry_at edition) y × (1 ≤ length y)
+  cut_entry : (m : RawMember) (y : List ℕ) → IsMemberText version m (y ++ right_parenthesis ∷ []) → NoSpace y
+      → Cut (entry_at version) y × (1 ≤ length y)
   unfolding entry_at
-  cut_entry m y h none = let c = cut_member m y h none in (cut_led (entry ∷ []) (member_at edition) y c.0, c.1)
+  cut_entry m y h none = let c = cut_member m y h none in (cut_led (entry ∷ []) (member_at version) y c.0, c.1)
 
-  cut_value : (key : List ℕ) (m : RawMember) (k v y : List ℕ) → IsKeyText key k → IsMemberValueText edition m v
-      → y ++ right_parenthesis ∷ [] ≡ k ++ v → NoSpace y → Cut (keyed_at edition) y × (1 ≤ length y)
+  cut_value : (key : List ℕ) (m : RawMember) (k v y : List ℕ) → IsKeyText key k → IsMemberValueText version m v
+      → y ++ right_parenthesis ∷ [] ≡ k ++ v → NoSpace y → Cut (keyed_at version) y × (1 ≤ length y)
   unfolding keyed_at member_value_at
   cut_value key m k v y h (inr ps) e none =
       let tight = key_tight right_parenthesis outer_parenthesis key k h in
       absurd (not_closed (k ++ v) y (tight_both right_parenthesis outer_parenthesis k v tight
-      (parameters_tight right_parenthesis outer_parenthesis edition ps.0 v ps.2)) (sym e))
+      (parameters_tight right_parenthesis outer_parenthesis version ps.0 v ps.2)) (sym e))
   cut_value key m k v y h (inl g) e none =
       let all : y ++ right_parenthesis ∷ [] ≡ (k ++ equals_sign ∷ []) ++ g.back =
       e ∙ ap (λ (l : List ℕ). k ++ l) (g.text ∙ ap (λ (l : List ℕ). l ++ g.back) g.first)
       ∙ sym (append_assoc k (equals_sign ∷ []) g.back) in
       elim (tail_of (k ++ equals_sign ∷ []) g.back y right_parenthesis all) [
-        | inl z ↦ absurd (let some = (entry_fresh edition m g.back [] g.second).1 in
+        | inl z ↦ absurd (let some = (entry_fresh version m g.back [] g.second).1 in
             omega (arith, ap (length {A = ℕ}) (append-nil g.back ∙ z), some))
         | inr w ↦
             let whole : y ≡ k ++ equals_sign ∷ w.0 = w.2 ∙ append_assoc k (equals_sign ∷ []) w.0 in
             let some : 1 ≤ length y = omega (arith, ap (length {A = ℕ}) whole, length-append k (equals_sign ∷ w.0)) in
-            let c = cut_member m w.0 (subst (IsMemberText edition m) w.1 g.second)
+            let c = cut_member m w.0 (subst (IsMemberText version m) w.1 g.second)
             (no_space_part (k ++ equals_sign ∷ []) w.0 (subst NoSpace w.2 none)) in
-            let value : Cut (member_value_at edition) (equals_sign ∷ w.0) = (
+            let value : Cut (member_value_at version) (equals_sign ∷ w.0) = (
               c.0.0,
               branch_take _ _ _ equals_sign w.0 refl ∙ c.0.1,
               c.0.2,
             ) in
-            let rest : Cut (led (keyed_entry key ∷ []) (member_value_at edition >>= λ m. give (key, m)))
-            (equals_sign ∷ w.0) = cut_led (keyed_entry key ∷ []) (member_value_at edition >>= λ m. give (key, m))
+            let rest : Cut (led (keyed_entry key ∷ []) (member_value_at version >>= λ m. give (key, m)))
+            (equals_sign ∷ w.0) = cut_led (keyed_entry key ∷ []) (member_value_at version >>= λ m. give (key, m))
             (equals_sign ∷ w.0)
-            (cut_bind (member_value_at edition) (λ m. give (key, m)) (equals_sign ∷ w.0) value) in (
+            (cut_bind (member_value_at version) (λ m. give (key, m)) (equals_sign ∷ w.0) value) in (
               (
                 rest.0,
-                ap (keyed_at edition) whole ∙ bind_complete _ _ _ _ _ (key_complete key k (equals_sign ∷ w.0) h
+                ap (keyed_at version) whole ∙ bind_complete _ _ _ _ _ (key_complete key k (equals_sign ∷ w.0) h
                     (Apart-cons is_key_inner equals_sign w.0 refl)) ∙ rest.1,
                 rest.2,
               ),
@@ -263,8 +267,8 @@ module _ (edition : Edition) where
             )
       ]
 
-  pub cut_keyed : (m : List ℕ × RawMember) (y : List ℕ) → IsDictionaryMemberText edition m (y ++ right_parenthesis ∷ [])
-      → NoSpace y → Cut (keyed_at edition) y × (1 ≤ length y)
+  pub cut_keyed : (m : List ℕ × RawMember) (y : List ℕ) → IsDictionaryMemberText version m (y ++ right_parenthesis ∷ [])
+      → NoSpace y → Cut (keyed_at version) y × (1 ≤ length y)
   cut_keyed m y h none = cut_value m.0 m.1 h.front h.back y h.first h.second h.text none
 
 -- ---- members with commas between them
@@ -405,29 +409,29 @@ module _ {A : Type 0} (P : A → List ℕ → Type 0) (parts : A → List TreeEv
 
 -- ---- fields
 
-pub cut_field : (edition : Edition) (kind : FieldKind) (raw : RawField kind) (t : List ℕ)
-    → IsFieldText edition kind raw (t ++ right_parenthesis ∷ []) → NoSpace t → Cut (whole_field_at edition kind) t
+pub cut_field : (version : Version) (kind : FieldKind) (raw : RawField kind) (t : List ℕ)
+    → IsFieldText version kind raw (t ++ right_parenthesis ∷ []) → NoSpace t → Cut (whole_field_at version kind) t
 unfolding whole_field_at
-cut_field edition item_field i t h none =
+cut_field version item_field i t h none =
     let o = h.second in
     let all : t ++ right_parenthesis ∷ [] ≡ (h.front ++ o.front) ++ o.back =
     h.text ∙ ap (λ (l : List ℕ). h.front ++ l) o.text ∙ sym (append_assoc h.front o.front o.back) in
     elim (tail_of (h.front ++ o.front) o.back t right_parenthesis all) [
-      | inl z ↦ absurd (not_closed edition (h.front ++ o.front) t
+      | inl z ↦ absurd (not_closed version (h.front ++ o.front) t
           (tight_after right_parenthesis h.front o.front
-          (item_tight right_parenthesis outer_parenthesis edition i o.front o.first))
+          (item_tight right_parenthesis outer_parenthesis version i o.front o.first))
           (sym (all ∙ ap (λ (l : List ℕ). (h.front ++ o.front) ++ l) z ∙ append-nil (h.front ++ o.front))))
       | inr w ↦ absurd (true≢false (sym (run_last is_space w.0 right_parenthesis (subst
           (RunOf is_space) w.1 o.second))))
     ]
-cut_field edition list_field ms t h none = cut_members (IsMemberText edition) entry_events (entry_at edition)
-    (entry_complete edition) (entry_fresh edition) (Sound-entry edition) (cut_entry edition) ms t h none
-cut_field edition dictionary_field ms t h none = cut_members (IsDictionaryMemberText edition) keyed_events
-    (keyed_at edition) (keyed_complete edition) (keyed_fresh edition) (Sound-keyed edition)
-    (cut_keyed edition) ms t h none
+cut_field version list_field ms t h none = cut_members (IsMemberText version) entry_events (entry_at version)
+    (entry_complete version) (entry_fresh version) (Sound-entry version) (cut_entry version) ms t h none
+cut_field version dictionary_field ms t h none = cut_members (IsDictionaryMemberText version) keyed_events
+    (keyed_at version) (keyed_complete version) (keyed_fresh version) (Sound-keyed version)
+    (cut_keyed version) ms t h none
 
 pub open_list_is_read : OpenListIsRead
 unfolding read_field
-open_list_is_read edition kind t a none =
-    let c = cut_field edition kind a.0 t a.1 none in
+open_list_is_read version kind t a none =
+    let c = cut_field version kind a.0 t a.1 none in
     (c.0, ap (ending (events kind)) c.1, c.2.kind, c.2.rest, c.2.exact)

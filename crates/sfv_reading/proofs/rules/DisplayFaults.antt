@@ -10,13 +10,18 @@ use Rattle.std.proofs.lemmas.Str.{utf8_valid_len_le}
 use Rattle.sfv_spec.specs.Ascii.{double_quote, percent_sign}
 use Rattle.sfv_spec.specs.Texts.{begins_with, IsLongestBeginning}
 use Rattle.sfv_spec.specs.Classes.{is_string_byte, is_lower_hexadecimal}
-use Rattle.sfv_spec.specs.Values.{Edition, rfc9651, FieldKind}
+use Rattle.sfv_spec.specs.declared.field_kind.FieldKind.{FieldKind}
+use Rattle.sfv_spec.specs.declared.version.Version.{Version}
+use Rattle.sfv_spec.specs.declared.version.Version.TheVariants.{Rfc9651}
 use Rattle.sfv_spec.specs.Strings.{IsDisplayPiece, AreDisplayPieces}
-use Rattle.sfv_spec.specs.Faults.{SyntaxFault, unterminated_escape_sequence, invalid_escape_sequence}
-use Rattle.sfv_spec.specs.Faults.{invalid_utf8_in_display_string, invalid_display_string_character}
-use Rattle.sfv_spec.specs.Faults.{unterminated_display_string, WantsBetween, IsDisplayBegun, DisplayFault}
+use Rattle.sfv_spec.specs.declared.error_kind.ErrorKind.{ErrorKind}
+use Rattle.sfv_spec.specs.declared.error_kind.ErrorKind.TheVariants.{UnterminatedEscapeSequence, InvalidEscapeSequence}
+use Rattle.sfv_spec.specs.declared.error_kind.ErrorKind.TheVariants.{InvalidUtf8InDisplayString}
+use Rattle.sfv_spec.specs.declared.error_kind.ErrorKind.TheVariants.{InvalidDisplayStringCharacter}
+use Rattle.sfv_spec.specs.Faults.{WantsBetween, IsDisplayBegun, DisplayFault}
+use Rattle.sfv_spec.specs.declared.error_kind.ErrorKind.TheVariants.{UnterminatedDisplayString}
 use Rattle.sfv_spec.specs.Faults.{open_display, open_escape, wrong_escape, wrong_byte, wrong_utf8, RuledFault, display}
-use Rattle.sfv_reading.specs.Quoted.{outside, behind_pieces, DisplayStops, IsDisplayFault}
+use Rattle.sfv_reading.specs.Quoted.{outside, after_pieces, DisplayStops, IsDisplayFault}
 use Rattle.sfv_reading.proofs.quoted.Pieces.{closed, closed_past, closed_pieces, IsStuck, stuck, stuck_quote}
 use Rattle.sfv_reading.proofs.texts.Utf8.{longest_text}
 
@@ -52,63 +57,63 @@ longest_pieces bytes pieces left h k = record {
       ∙ closed_past bytes pieces (take (suc j) left) h ∙ k j fits) shut;
 }
 
-begun : (edition : Edition) (kind : FieldKind) (whole before t left bytes : List ℕ) (pieces : List (List ℕ))
-    → edition ≡ rfc9651 → WantsBetween edition kind whole before (codes "%\"" ++ t) → t ≡ concat pieces ++ left
-    → AllZip IsDisplayPiece bytes pieces → IsStuck left → IsDisplayBegun edition kind whole before left bytes pieces
-begun edition kind whole before t left bytes pieces known place e h k = record {
+begun : (version : Version) (kind : FieldKind) (whole before t left bytes : List ℕ) (pieces : List (List ℕ))
+    → version ≡ Rfc9651 → WantsBetween version kind whole before (codes "%\"" ++ t) → t ≡ concat pieces ++ left
+    → AllZip IsDisplayPiece bytes pieces → IsStuck left → IsDisplayBegun version kind whole before left bytes pieces
+begun version kind whole before t left bytes pieces known place e h k = record {
   known = known;
-  place = subst (λ (t : List ℕ). WantsBetween edition kind whole before (codes "%\"" ++ t)) e place;
+  place = subst (λ (t : List ℕ). WantsBetween version kind whole before (codes "%\"" ++ t)) e place;
   content = h;
   longest = longest_pieces bytes pieces left h k;
 }
 
 -- ---- where a piece is written
 
-drop_one : (p r : List ℕ) (b : ℕ) → IsDisplayPiece b p → (n : ℕ) → behind_pieces (suc n) (p ++ r) ≡ behind_pieces n r
+drop_one : (p r : List ℕ) (b : ℕ) → IsDisplayPiece b p → (n : ℕ) → after_pieces (suc n) (p ++ r) ≡ after_pieces n r
 drop_one p r b (inl h) n =
     let a = and_parts (is_string_byte b) (not ((b == percent_sign) || (b == double_quote))) h.0 in
     let o = or_parts (b == percent_sign) (b == double_quote)
     (not-true ((b == percent_sign) || (b == double_quote)) a.1) in
-    ap (λ (l : List ℕ). behind_pieces (suc n) (l ++ r)) h.1
-    ∙ ap (λ (x : Bool). behind_pieces n (cond x (drop 2 r) r)) o.0
-drop_one p r b (inr h) n = ap (λ (l : List ℕ). behind_pieces (suc n) (l ++ r)) h.4
+    ap (λ (l : List ℕ). after_pieces (suc n) (l ++ r)) h.1
+    ∙ ap (λ (x : Bool). after_pieces n (cond x (drop 2 r) r)) o.0
+drop_one p r b (inr h) n = ap (λ (l : List ℕ). after_pieces (suc n) (l ++ r)) h.4
 
 -- after the first n pieces
-pub behind_drop : (n : ℕ) (bytes : List ℕ) (pieces : List (List ℕ)) (left : List ℕ)
+pub after_drop : (n : ℕ) (bytes : List ℕ) (pieces : List (List ℕ)) (left : List ℕ)
     → AllZip IsDisplayPiece bytes pieces → n ≤ length bytes
-    → behind_pieces n (concat pieces ++ left) ≡ concat (drop n pieces) ++ left
-behind_drop zero bytes pieces left h l = refl
-behind_drop (suc n) [] pieces left h l = absurd (omega (arith, l))
-behind_drop (suc n) (b ∷ bytes) [] left h l = absurd h
-behind_drop (suc n) (b ∷ bytes) (p ∷ pieces) left h l =
-    ap (behind_pieces (suc n)) (append_assoc p (concat pieces) left) ∙ drop_one p (concat pieces ++ left) b h.0 n
-    ∙ behind_drop n bytes pieces left h.1 (omega (arith, l))
+    → after_pieces n (concat pieces ++ left) ≡ concat (drop n pieces) ++ left
+after_drop zero bytes pieces left h l = refl
+after_drop (suc n) [] pieces left h l = absurd (omega (arith, l))
+after_drop (suc n) (b ∷ bytes) [] left h l = absurd h
+after_drop (suc n) (b ∷ bytes) (p ∷ pieces) left h l =
+    ap (after_pieces (suc n)) (append_assoc p (concat pieces) left) ∙ drop_one p (concat pieces ++ left) b h.0 n
+    ∙ after_drop n bytes pieces left h.1 (omega (arith, l))
 
 -- ---- the faults
 
-row_of : (k : SyntaxFault) (bytes : List ℕ) (pieces : List (List ℕ)) (left there : List ℕ) → DisplayStops k left there
+row_of : (k : ErrorKind) (bytes : List ℕ) (pieces : List (List ℕ)) (left there : List ℕ) → DisplayStops k left there
     → DisplayFault bytes pieces left there k
-row_of unterminated_display_string bytes pieces left there h = open_display h.0 h.1
-row_of unterminated_escape_sequence bytes pieces left there h = open_escape h.0 h.3 h.1 h.2
-row_of invalid_escape_sequence bytes pieces left there h =
+row_of UnterminatedDisplayString bytes pieces left there h = open_display h.0 h.1
+row_of UnterminatedEscapeSequence bytes pieces left there h = open_escape h.0 h.3 h.1 h.2
+row_of InvalidEscapeSequence bytes pieces left there h =
     wrong_escape h.0 h.5 (h.3 ∙ ap (λ (l : List ℕ). percent_sign ∷ (h.0 ++ l)) (sym h.4))
     (ap (begins_with (λ c. not (is_lower_hexadecimal c))) h.4 ∙ ap not h.7)
-row_of invalid_display_string_character bytes pieces left there h =
+row_of InvalidDisplayStringCharacter bytes pieces left there h =
     wrong_byte (h.2 ∙ sym h.3) (ap (begins_with (λ c. not (is_string_byte c))) h.3 ∙ ap not h.4)
 row_of _ bytes pieces left there h = absurd h
 
 -- The text from the percent sign on has this fault, so the whole has it, at the place where that stands.
-pub ruled : (edition : Edition) (kind : FieldKind) (whole before t there : List ℕ) (k : SyntaxFault)
-    → edition ≡ rfc9651 → WantsBetween edition kind whole before (codes "%\"" ++ t) → IsDisplayFault t k there
-    → RuledFault edition kind whole k (length whole - length there)
-ruled edition kind whole before t there invalid_utf8_in_display_string known place h =
+pub ruled : (version : Version) (kind : FieldKind) (whole before t there : List ℕ) (k : ErrorKind)
+    → version ≡ Rfc9651 → WantsBetween version kind whole before (codes "%\"" ++ t) → IsDisplayFault t k there
+    → RuledFault version kind whole k (length whole - length there)
+ruled version kind whole before t there InvalidUtf8InDisplayString known place h =
     let valid : ℕ = utf8_valid_len h.bytes in
     display before h.left there h.bytes h.pieces
-    (begun edition kind whole before t h.left h.bytes h.pieces known place h.text h.content
+    (begun version kind whole before t h.left h.bytes h.pieces known place h.text h.content
     (subst IsStuck (sym h.ends.1) (stuck_quote h.ends.0)))
-    (wrong_utf8 h.ends.0 valid h.ends.2 (longest_text h.bytes) h.ends.1 (h.ends.3 ∙ ap (behind_pieces valid) h.text
-    ∙ behind_drop valid h.bytes h.pieces h.left h.content (utf8_valid_len_le h.bytes)))
-ruled edition kind whole before t there k known place h =
+    (wrong_utf8 h.ends.0 valid h.ends.2 (longest_text h.bytes) h.ends.1 (h.ends.3 ∙ ap (after_pieces valid) h.text
+    ∙ after_drop valid h.bytes h.pieces h.left h.content (utf8_valid_len_le h.bytes)))
+ruled version kind whole before t there k known place h =
     display before h.left there h.bytes h.pieces
-    (begun edition kind whole before t h.left h.bytes h.pieces known place h.text h.content
+    (begun version kind whole before t h.left h.bytes h.pieces known place h.text h.content
     (stuck k h.left there h.ends)) (row_of k h.bytes h.pieces h.left there h.ends)

@@ -11,11 +11,12 @@ use Rattle.sfv_spec.specs.Ascii.{percent_sign}
 use Rattle.sfv_spec.specs.Texts.{RunOf, IsLongestBeginning}
 use Rattle.sfv_spec.specs.Classes.{is_string_byte, is_lower_hexadecimal}
 use Rattle.sfv_spec.specs.Strings.{hexadecimal_value, IsDisplayPiece, AreDisplayPieces}
-use Rattle.sfv_spec.specs.Faults.{SyntaxFault, DisplayFault, open_display, open_escape, wrong_escape, wrong_byte, wrong_utf8}
+use Rattle.sfv_spec.specs.Faults.{DisplayFault, open_display, open_escape, wrong_escape, wrong_byte, wrong_utf8}
+use Rattle.sfv_spec.specs.declared.error_kind.ErrorKind.{ErrorKind}
 use Rattle.sfv_reading.specs.Quoted.{IsDisplayFault}
 use Rattle.sfv_reading.proofs.sound.Quoted.{zip_more, concat_more}
 use Rattle.sfv_reading.proofs.rules.Numbers.{next_of}
-use Rattle.sfv_reading.proofs.rules.DisplayFaults.{behind_drop}
+use Rattle.sfv_reading.proofs.rules.DisplayFaults.{after_drop}
 use Rattle.sfv_reading.proofs.texts.Utf8.{longest_text}
 
 -- two texts with a longest beginning of one kind, of one length
@@ -63,7 +64,7 @@ few_digits bytes pieces (a ∷ b ∷ ds) rest h l r =
     ))
 
 -- The faults of a Display String are those of the rules, and each has its place.
-pub faults_ruled : (bytes : List ℕ) (pieces : List (List ℕ)) (left there : List ℕ) (k : SyntaxFault)
+pub faults_ruled : (bytes : List ℕ) (pieces : List (List ℕ)) (left there : List ℕ) (k : ErrorKind)
     → AllZip IsDisplayPiece bytes pieces
     → IsLongest pieces left → DisplayFault bytes pieces left there k → IsDisplayFault (concat pieces ++ left) k there
 faults_ruled bytes pieces left there _ h longest (open_display none end) = record {
@@ -133,6 +134,6 @@ faults_ruled bytes pieces left there _ h longest (wrong_utf8 more valid not_text
         text,
         not_text,
         place ∙ ap (λ (n : ℕ). concat (drop n pieces) ++ left) same
-            ∙ sym (behind_drop (utf8_valid_len bytes) bytes pieces left h (utf8_valid_len_le bytes)),
+            ∙ sym (after_drop (utf8_valid_len bytes) bytes pieces left h (utf8_valid_len_le bytes)),
       );
     }

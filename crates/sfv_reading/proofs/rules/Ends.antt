@@ -3,10 +3,15 @@ use Rattle.std.proofs.Common.{◌≡◌, ℕ, zero, suc, ◌<◌, Bool, true, fa
 use Rattle.std.proofs.Common.{None, Ok, Err, refl, sym, ap, ◌∙◌, arith}
 use Rattle.sfv_spec.proofs.Marks.{comma}
 use Rattle.sfv_spec.specs.Events.{TreeEvent}
-use Rattle.sfv_spec.specs.Values.{Edition, FieldKind, item_field, list_field, dictionary_field, RawField}
+use Rattle.sfv_spec.specs.Values.{RawField}
+use Rattle.sfv_spec.specs.declared.field_kind.FieldKind.{FieldKind}
+use Rattle.sfv_spec.specs.declared.field_kind.FieldKind.TheVariants.{Item as item_field, List as list_field}
+use Rattle.sfv_spec.specs.declared.field_kind.FieldKind.TheVariants.{Dictionary as dictionary_field}
+use Rattle.sfv_spec.specs.declared.version.Version.{Version}
 use Rattle.sfv_spec.specs.Events.{entry_events, keyed_events}
 use Rattle.sfv_spec.specs.Grammar.{IsMemberText, IsDictionaryMemberText}
-use Rattle.sfv_spec.specs.Faults.{trailing_comma, trailing_characters_after_member, HasManyMembers}
+use Rattle.sfv_spec.specs.Faults.{HasManyMembers}
+use Rattle.sfv_spec.specs.declared.error_kind.ErrorKind.TheVariants.{TrailingComma, TrailingCharactersAfterMember}
 use Rattle.sfv_reading.specs.Reader.{Answer, Reader, any, byte, and_then, give, fail, ◌>>=◌, bind, led_answer, led}
 use Rattle.sfv_reading.specs.Reader.{ahead}
 use Rattle.sfv_reading.specs.Reader.{go_on, many, back, one_and_more}
@@ -53,13 +58,13 @@ unfolding next_at ahead fail
 next_none {A} one t r i = let b = bind_read _ _ t r None i in on b.1 b.3
   where
     at : (b : Bool) (q : List ℕ) (x : Answer (Option A)) → (x ≡ Ok (None, r) → ⊥)
-        → cond b x (Err (record { kind = trailing_characters_after_member; exact = true; rest = q; events = [] }))
+        → cond b x (Err (record { kind = TrailingCharactersAfterMember; exact = true; rest = q; events = [] }))
         ≡ Ok (None, r) → r ≡ []
     at true q x h j = absurd (h j)
     at false q x h j = absurd cc
 
-    on : (q : List ℕ) → ahead any (ahead (byte comma) (back trailing_comma comma_at >>= λ _. one >>= λ m. give (Some m))
-        (fail trailing_characters_after_member)) (give None) q ≡ Ok (None, r) → r ≡ []
+    on : (q : List ℕ) → ahead any (ahead (byte comma) (back TrailingComma comma_at >>= λ _. one >>= λ m. give (Some m))
+        (fail TrailingCharactersAfterMember)) (give None) q ≡ Ok (None, r) → r ≡ []
     on [] j = sym (give_read _ _ [] r j).1
     on (c ∷ q) j = at (byte comma c) (c ∷ q) _ (λ k. let b = bind_read _ _
         (c ∷ q) r None k in some_read one b.1 r b.3) j
@@ -98,11 +103,11 @@ members_none {A} P parts one h t r ms i = let b = bind_read _ _ t r ms i in on b
         b.1 d.1 d.0 d.2
 
 -- a list or a dictionary leaves nothing
-pub field_none : (edition : Edition) (kind : FieldKind) → HasManyMembers kind
-    → (t r : List ℕ) (raw : RawField kind) → whole_field_at edition kind t ≡ Ok (raw, r) → r ≡ []
+pub field_none : (version : Version) (kind : FieldKind) → HasManyMembers kind
+    → (t r : List ℕ) (raw : RawField kind) → whole_field_at version kind t ≡ Ok (raw, r) → r ≡ []
 unfolding whole_field_at
-field_none edition item_field many t r raw i = absurd many
-field_none edition list_field many t r raw i = members_none (IsMemberText edition) entry_events (entry_at edition)
-    (Sound-entry edition) t r raw i
-field_none edition dictionary_field many t r raw i = members_none (IsDictionaryMemberText edition) keyed_events
-    (keyed_at edition) (Sound-keyed edition) t r raw i
+field_none version item_field many t r raw i = absurd many
+field_none version list_field many t r raw i = members_none (IsMemberText version) entry_events (entry_at version)
+    (Sound-entry version) t r raw i
+field_none version dictionary_field many t r raw i = members_none (IsDictionaryMemberText version) keyed_events
+    (keyed_at version) (Sound-keyed version) t r raw i

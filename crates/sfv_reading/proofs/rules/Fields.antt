@@ -6,11 +6,16 @@ use Rattle.std.proofs.lemmas.Bool.{eqb-true}
 use Rattle.sfv_spec.proofs.Marks.{comma}
 use Rattle.sfv_spec.specs.Texts.{RunOf, IsJoining}
 use Rattle.sfv_spec.specs.Classes.{is_space, is_space_or_tab}
-use Rattle.sfv_spec.specs.Values.{Edition, FieldKind, item_field, list_field, dictionary_field, RawField, HasMember}
+use Rattle.sfv_spec.specs.Values.{RawField, HasMember}
+use Rattle.sfv_spec.specs.declared.field_kind.FieldKind.{FieldKind}
+use Rattle.sfv_spec.specs.declared.field_kind.FieldKind.TheVariants.{Item as item_field, List as list_field}
+use Rattle.sfv_spec.specs.declared.field_kind.FieldKind.TheVariants.{Dictionary as dictionary_field}
+use Rattle.sfv_spec.specs.declared.version.Version.{Version}
 use Rattle.sfv_spec.specs.Grammar.{OptionalWhitespace, IsMemberText, IsDictionaryMemberText, IsFieldText}
 use Rattle.sfv_spec.specs.Grammar.{AreMembersText}
 use Rattle.sfv_spec.specs.Events.{TreeEvent, entry_events, keyed_events}
-use Rattle.sfv_spec.specs.Faults.{trailing_comma, trailing_characters_after_member, HasManyMembers}
+use Rattle.sfv_spec.specs.Faults.{HasManyMembers}
+use Rattle.sfv_spec.specs.declared.error_kind.ErrorKind.TheVariants.{TrailingComma, TrailingCharactersAfterMember}
 use Rattle.sfv_reading.specs.Reader.{Fault, Reader, by_rule, byte, any, ahead, back, many, span, ◌>>=◌, give}
 use Rattle.sfv_reading.specs.Fields.{comma_at, next_at, members_at, whole_field_at}
 use Rattle.sfv_reading.specs.Members.{entry_at, keyed_at}
@@ -19,7 +24,7 @@ use Rattle.sfv_reading.proofs.complete.Combinators.{branch_take, bind_complete}
 use Rattle.sfv_reading.proofs.texts.Joining.{joining_push, joined_split}
 use Rattle.sfv_reading.proofs.sound.Steps.{Sound-steps}
 use Rattle.sfv_reading.proofs.sound.Members.{Sound-entry, Sound-keyed}
-use Rattle.sfv_reading.proofs.sound.Separated.{IsComma, Sound-comma, IsNext, Sound-next, Consumes-next, members_text}
+use Rattle.sfv_reading.proofs.sound.Separated.{IsComma, Sound-comma, IsNext, Sound-next, Consumes-next, dictionary_members_text}
 use Rattle.sfv_reading.proofs.sound.Separated.{next_member}
 use Rattle.sfv_reading.proofs.Trailing.{Shuns-item, Shuns-bind, Shuns-span, Shuns-give}
 use Rattle.sfv_reading.proofs.rules.Combinators.{Rules, Rules-give, Rules-steady, Rules-led, Rules-bind}
@@ -74,7 +79,7 @@ module _ {A : Type 0} (P : A → List ℕ → Type 0) (parts : A
     Here z x e = Stands (AreMembersText P) HasSome e.kind (s ++ (t ++ (u ++ (z ++ x)))) e.rest
 
     whole : (z : List ℕ) → RunOf is_space_or_tab z → AreMembersText P (m ∷ vs) (s ++ (t ++ (u ++ z)))
-    whole z blank = members_text P parts one s t (u ++ z) m vs each k
+    whole z blank = dictionary_members_text P parts one s t (u ++ z) m vs each k
         (joined_split (IsNext P parts one) OptionalWhitespace vs u z j blank)
 
     -- one more member, after a comma
@@ -86,7 +91,7 @@ module _ {A : Type 0} (P : A → List ℕ → Type 0) (parts : A
         (λ v y n. (
           m ∷ (vs ++ v ∷ []),
           subst (AreMembersText P (m ∷ (vs ++ v ∷ []))) (simp (append_assoc, append-nil))
-              (members_text P parts one s t ((u ++ (z ++ (c ++ y))) ++ []) m (vs ++ v ∷ []) each k
+              (dictionary_members_text P parts one s t ((u ++ (z ++ (c ++ y))) ++ []) m (vs ++ v ∷ []) each k
               (joined_split (IsNext P parts one) OptionalWhitespace (vs ++ v ∷ []) (u ++ (z ++ (c ++ y))) []
               (joining_push (IsNext P parts one) vs v u (z ++ (c ++ y)) j
               (next_member P parts one z c y w v blank is n)) refl)),
@@ -94,7 +99,7 @@ module _ {A : Type 0} (P : A → List ℕ → Type 0) (parts : A
         )) e.kind x e.rest o)
 
     met : (z r : List ℕ) → RunOf is_space_or_tab z → RunOf is_space_or_tab r
-        → Here z (comma ∷ r) (by_rule trailing_comma (comma ∷ r))
+        → Here z (comma ∷ r) (by_rule TrailingComma (comma ∷ r))
     met z r blank blank' = record {
       front = s ++ (t ++ (u ++ z));
       whitespace = r;
@@ -107,12 +112,12 @@ module _ {A : Type 0} (P : A → List ℕ → Type 0) (parts : A
     }
 
     at_comma : (z : List ℕ) → RunOf is_space_or_tab z
-        → Rules (back trailing_comma comma_at >>= λ _. one >>= λ m. give (Some m)) (λ x e. (r : List ℕ) → x ≡ comma ∷ r
+        → Rules (back TrailingComma comma_at >>= λ _. one >>= λ m. give (Some m)) (λ x e. (r : List ℕ) → x ≡ comma ∷ r
         → Here z x e)
-    at_comma z blank = Rules-bind IsComma (λ _ _. Unit {0}) (λ _. Unit {0}) (back trailing_comma comma_at) _ _
+    at_comma z blank = Rules-bind IsComma (λ _ _. Unit {0}) (λ _. Unit {0}) (back TrailingComma comma_at) _ _
         (Sound-back _ _ _ _ _ refl tt (Sound-comma _ _))
-        (Rules-back trailing_comma comma_at _ (λ x q i r e.
-        subst (λ (x : List ℕ). Here z x (by_rule trailing_comma x))
+        (Rules-back TrailingComma comma_at _ (λ x q i r e.
+        subst (λ (x : List ℕ). Here z x (by_rule TrailingComma x))
         (sym e) (met z r blank (comma_none r q (ap comma_at (sym e) ∙ i)))) (comma_rules _))
         (λ c w i. Rules-bind P (Goes P parts) (Somewhere (Goes P parts)) one _ _ h
         (Rules-weaker one _ _ stands (λ x e o r q. more z c x blank w i e o)) (λ y v n. Rules-give _ _))
@@ -127,7 +132,7 @@ module _ {A : Type 0} (P : A → List ℕ → Type 0) (parts : A
         Rules-ahead any _ _ _
         (λ c r e _ i. ahead_at (byte comma) _ _ (Here z) c r e
         (λ is met. (at_comma z blank).rules (c ∷ r) e met r (ap (λ (b : ℕ). b ∷ r) (eqb-true c comma is)))
-        (λ _ q. fail_at (Option A) trailing_characters_after_member (Here z) (c ∷ r) e q (record {
+        (λ _ q. fail_at (Option A) TrailingCharactersAfterMember (Here z) (c ∷ r) e q (record {
           front = s ++ (t ++ (u ++ z));
           value = m ∷ vs;
           text = simp append_assoc;
@@ -148,7 +153,7 @@ module _ {A : Type 0} (P : A → List ℕ → Type 0) (parts : A
       (Rules-weaker one _ _ stands (λ x e o. stands_within P (AreMembersText P) HasNone HasSome s (λ v t k. (
         v ∷ [],
         subst (λ (l : List ℕ). AreMembersText P (v ∷ []) (s ++ l)) (append-nil t)
-            (members_text P parts one s t [] v [] each k refl),
+            (dictionary_members_text P parts one s t [] v [] each k refl),
         λ n. absurd n,
       )) e.kind x e.rest o))
       (λ t m k. Rules-led (parts m) _ _
@@ -166,18 +171,18 @@ module _ {A : Type 0} (P : A → List ℕ → Type 0) (parts : A
 abbrev pub HasMembers : (kind : FieldKind) → RawField kind → Type 0
 HasMembers kind raw = HasManyMembers kind × HasMember kind raw
 
-pub field_rules : (edition : Edition) (kind : FieldKind)
-    → Rules (whole_field_at edition kind) (λ t e. Stands (IsFieldText edition kind) (HasMembers kind) e.kind t e.rest)
+pub field_rules : (version : Version) (kind : FieldKind)
+    → Rules (whole_field_at version kind) (λ t e. Stands (IsFieldText version kind) (HasMembers kind) e.kind t e.rest)
 unfolding whole_field_at
-field_rules edition item_field = Rules-other _ (IsFieldText edition item_field) (HasMembers item_field) (λ t. t)
-    (Shuns-bind _ _ (Shuns-span _) (λ _. Shuns-bind _ _ (Shuns-item edition) (λ i. Shuns-bind _ _ (Shuns-span _)
+field_rules version item_field = Rules-other _ (IsFieldText version item_field) (HasMembers item_field) (λ t. t)
+    (Shuns-bind _ _ (Shuns-span _) (λ _. Shuns-bind _ _ (Shuns-item version) (λ i. Shuns-bind _ _ (Shuns-span _)
     (λ _. Shuns-give _))))
-field_rules edition list_field = Rules-weaker _ _ _
-    (members_rules (IsMemberText edition) entry_events (entry_at edition) (Sound-entry edition) (entry_rules edition))
-    (λ t e o. stands_within (IsFieldText edition list_field) (IsFieldText edition list_field) HasSome
+field_rules version list_field = Rules-weaker _ _ _
+    (members_rules (IsMemberText version) entry_events (entry_at version) (Sound-entry version) (entry_rules version))
+    (λ t e o. stands_within (IsFieldText version list_field) (IsFieldText version list_field) HasSome
     (HasMembers list_field) [] (λ ms s h. (ms, h, λ some. (tt, some))) e.kind t e.rest o)
-field_rules edition dictionary_field = Rules-weaker _ _ _
-    (members_rules (IsDictionaryMemberText edition) keyed_events (keyed_at edition) (Sound-keyed edition)
-    (keyed_rules edition))
-    (λ t e o. stands_within (IsFieldText edition dictionary_field) (IsFieldText edition dictionary_field) HasSome
+field_rules version dictionary_field = Rules-weaker _ _ _
+    (members_rules (IsDictionaryMemberText version) keyed_events (keyed_at version) (Sound-keyed version)
+    (keyed_rules version))
+    (λ t e o. stands_within (IsFieldText version dictionary_field) (IsFieldText version dictionary_field) HasSome
     (HasMembers dictionary_field) [] (λ ms s h. (ms, h, λ some. (tt, some))) e.kind t e.rest o)

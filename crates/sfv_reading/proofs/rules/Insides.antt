@@ -14,7 +14,8 @@ use Rattle.sfv_spec.specs.Ascii.{backslash, equals_sign}
 use Rattle.sfv_spec.specs.Texts.{RunOf, IsJoining}
 use Rattle.sfv_spec.specs.Classes.{is_digit, is_token_start, is_token_inner, is_token, is_string_byte}
 use Rattle.sfv_spec.specs.Classes.{is_lower_hexadecimal}
-use Rattle.sfv_spec.specs.Values.{Edition, BareValue, integer, decimal, string, token, byte_sequence, boolean, date}
+use Rattle.sfv_spec.specs.Values.{BareValue, integer, decimal, string, token, byte_sequence, boolean, date}
+use Rattle.sfv_spec.specs.declared.version.Version.{Version}
 use Rattle.sfv_spec.specs.Values.{display_string}
 use Rattle.sfv_spec.specs.Numbers.{minus_text, signed, place_value, IsIntegerText, IsDecimalText}
 use Rattle.sfv_spec.specs.Base64.{symbol}
@@ -96,9 +97,9 @@ bytes_run bytes t h =
 
 record Parted (P : ℕ → List ℕ → Type 0) (m : ℕ) (bytes x : List ℕ) : Type 0 where
   front : List ℕ
-  behind : List ℕ
+  past : List ℕ
   text : IsJoining P front x
-  all : bytes ≡ front ++ m ∷ behind
+  all : bytes ≡ front ++ m ∷ past
 
 -- it is the next piece, or stands after that
 abbrev IsAfter : ℕ → ℕ → List ℕ → List ℕ → List ℕ → List ℕ → Type 0
@@ -120,13 +121,13 @@ module _ (P : ℕ → List ℕ → Type 0) (m : ℕ) (no_quote : m ≡ double_qu
       elim (after c k.front x q (k.back ++ double_quote ∷ []) k.first split) as (λ z. Parted P m (c ∷ bytes) x) [
         | inl w ↦ record {
           front = [];
-          behind = bytes;
+          past = bytes;
           text = subst (λ (l : List ℕ). IsJoining P [] l) (sym w.0) (joining_none P);
           all = ap (λ (c : ℕ). c ∷ bytes) w.1;
         }
         | inr w ↦ let r = part bytes k.back w.0 q k.second w.2 in record {
           front = c ∷ r.front;
-          behind = r.behind;
+          past = r.past;
           text = subst (λ (l : List ℕ). IsJoining P (c ∷ r.front) l) (sym w.1)
               (joining_into P c r.front k.front w.0 k.first r.text);
           all = ap (λ (l : List ℕ). c ∷ l) r.all;
@@ -211,10 +212,10 @@ utf8_front s z m l u =
     (IsUtf8-take bs (length s) u (IsCharBoundary-before_ascii bs (length s) (omega (arith, length-append s (m ∷ z)))
     (omega (arith, here, l))))
 
-module _ (edition : Edition) (m : ℕ) (run : List ℕ) (can : Stands m run) where
+module _ (version : Version) (m : ℕ) (run : List ℕ) (can : Stands m run) where
   -- some bare item begins so
   abbrev Begins : List ℕ → Type 0
-  Begins t = (w : BareValue) × (more : List ℕ) × IsBareText edition w (t ++ more)
+  Begins t = (w : BareValue) × (more : List ℕ) × IsBareText version w (t ++ more)
 
   no_quote : m ≡ double_quote → ⊥
   no_quote e = differ is_plain_in_string m double_quote can.in_string refl e
@@ -245,7 +246,7 @@ module _ (edition : Edition) (m : ℕ) (run : List ℕ) (can : Stands m run) whe
       (ap (λ (l : List ℕ). h.front ++ l) (sym h.second) ∙ sym h.text) in
       let byte = and_parts (is_string_byte m) _ can.in_display in
       let ascii : m < 128 = omega (arith, leb-true m 0x7e (and_parts _ _ byte.0).1) in
-      let text : IsUtf8 p.front = utf8_front p.front p.behind m ascii (subst IsUtf8 p.all h.first.1) in (
+      let text : IsUtf8 p.front = utf8_front p.front p.past m ascii (subst IsUtf8 p.all h.first.1) in (
         p.front ++ run,
         record {
           front = x ++ run;
@@ -260,7 +261,7 @@ module _ (edition : Edition) (m : ℕ) (run : List ℕ) (can : Stands m run) whe
         },
       )
 
-  inside : (v : BareValue) (b : ℕ) (x c : List ℕ) → IsBareText edition v (b ∷ (x ++ m ∷ c)) → Begins (b ∷ (x ++ run))
+  inside : (v : BareValue) (b : ℕ) (x c : List ℕ) → IsBareText version v (b ∷ (x ++ m ∷ c)) → Begins (b ∷ (x ++ run))
   inside (integer z) b x c h = absurd (in_number (b ∷ x) c (integer_run z (b ∷ (x ++ m ∷ c)) h))
   inside (decimal z) b x c h = absurd (in_number (b ∷ x) c (decimal_run z (b ∷ (x ++ m ∷ c)) h))
   inside (string s) b x c h =
@@ -344,7 +345,7 @@ module _ (edition : Edition) (m : ℕ) (run : List ℕ) (can : Stands m run) whe
 
 pub mark_inside : MarkInside
 unfolding is_symbol
-mark_inside edition v b x c h = inside edition question_mark (codes "((") (record {
+mark_inside version v b x c h = inside version question_mark (codes "((") (record {
   in_string = refl;
   in_display = refl;
   no_hexadecimal = refl;
@@ -357,7 +358,7 @@ mark_inside edition v b x c h = inside edition question_mark (codes "((") (recor
 
 pub asterisk_inside : AsteriskInside
 unfolding is_symbol
-asterisk_inside edition v [] c h = (
+asterisk_inside version v [] c h = (
   integer (signed false (place_value (codes "1"))),
   [],
   record {
@@ -368,7 +369,7 @@ asterisk_inside edition v [] c h = (
     value = refl;
   },
 )
-asterisk_inside edition v (b ∷ x) c h = inside edition asterisk (codes "1") (record {
+asterisk_inside version v (b ∷ x) c h = inside version asterisk (codes "1") (record {
   in_string = refl;
   in_display = refl;
   no_hexadecimal = refl;

@@ -8,13 +8,18 @@ use Rattle.sfv_spec.specs.Ascii.{tab}
 use Rattle.sfv_spec.proofs.Marks.{semicolon, left_parenthesis}
 use Rattle.sfv_spec.specs.Texts.{RunOf, IsJoining, ◌⨾◌}
 use Rattle.sfv_spec.specs.Classes.{is_space, is_space_or_tab}
-use Rattle.sfv_spec.specs.Values.{Edition, FieldKind, item_field, list_field, dictionary_field, RawField, RawMember}
+use Rattle.sfv_spec.specs.Values.{RawField, RawMember}
+use Rattle.sfv_spec.specs.declared.field_kind.FieldKind.{FieldKind}
+use Rattle.sfv_spec.specs.declared.field_kind.FieldKind.TheVariants.{Item as item_field, List as list_field}
+use Rattle.sfv_spec.specs.declared.field_kind.FieldKind.TheVariants.{Dictionary as dictionary_field}
+use Rattle.sfv_spec.specs.declared.version.Version.{Version}
 use Rattle.sfv_spec.specs.Values.{item}
 use Rattle.sfv_spec.specs.Values.{inner_list, boolean, RawParameters, RawItem, HasMember}
 use Rattle.sfv_spec.specs.Grammar.{IsParameterText, IsParametersText, IsMemberText, IsMemberValueText}
 use Rattle.sfv_spec.specs.Grammar.{IsDictionaryMemberText}
 use Rattle.sfv_spec.specs.Grammar.{AreMembersText, IsItemText, Spaces, IsFieldText, IsAccepted, Comma, true_with}
-use Rattle.sfv_spec.specs.Faults.{trailing_characters_after_member, HasManyMembers}
+use Rattle.sfv_spec.specs.Faults.{HasManyMembers}
+use Rattle.sfv_spec.specs.declared.error_kind.ErrorKind.TheVariants.{TrailingCharactersAfterMember}
 use Rattle.sfv_spec.proofs.Settled.{joining-nil}
 use Rattle.sfv_reading.specs.Reader.{Apart, at_reach}
 use Rattle.sfv_reading.specs.Members.{inner_of}
@@ -32,32 +37,32 @@ use Rattle.sfv_reading.proofs.rules.Commas.{met, byte_met, not_bracketed}
 
 -- ---- one more parameter
 
-module _ (edition : Edition) where
+module _ (version : Version) where
   more_parameters : RawParameters → RawParameters
   more_parameters ps = ps ++ (codes "a", boolean true) ∷ []
 
-  parameters_longer : (ps : RawParameters) (t : List ℕ) → IsParametersText edition ps t
-      → IsParametersText edition (more_parameters ps) (t ++ codes ";a")
+  parameters_longer : (ps : RawParameters) (t : List ℕ) → IsParametersText version ps t
+      → IsParametersText version (more_parameters ps) (t ++ codes ";a")
   unfolding more_parameters
-  parameters_longer ps t h = joining_push (IsParameterText edition) ps (codes "a", boolean true) t (codes ";a") h
-      (parameter_a edition)
+  parameters_longer ps t h = joining_push (IsParameterText version) ps (codes "a", boolean true) t (codes ";a") h
+      (parameter_a version)
 
-  member_longer : (m : RawMember) (t : List ℕ) → IsMemberText edition m t
-      → (n : RawMember) × IsMemberText edition n (t ++ codes ";a")
-  member_longer (item i) t h = let j = item_longer edition i t h in (item j.0, j.1)
+  member_longer : (m : RawMember) (t : List ℕ) → IsMemberText version m t
+      → (n : RawMember) × IsMemberText version n (t ++ codes ";a")
+  member_longer (item i) t h = let j = item_longer version i t h in (item j.0, j.1)
   member_longer (inner_list l) t h =
-      let p = inner_parts edition l.items l.parameters t h in
+      let p = inner_parts version l.items l.parameters t h in
       let all : t ++ codes ";a" ≡ left_parenthesis ∷ (p.items ++ (p.rest ++ codes ";a")) =
       ap (λ (l : List ℕ). l ++ codes ";a") p.text
       ∙ ap (λ (l : List ℕ). left_parenthesis ∷ l) (append_assoc p.items p.rest (codes ";a")) in (
         inner_of l.items (more_parameters l.parameters),
-        subst (IsMemberText edition (inner_of l.items (more_parameters l.parameters))) (sym all)
-            (inner_text edition l.items (more_parameters l.parameters) p.items (p.rest ++ codes ";a") p.are_items
+        subst (IsMemberText version (inner_of l.items (more_parameters l.parameters))) (sym all)
+            (inner_text version l.items (more_parameters l.parameters) p.items (p.rest ++ codes ";a") p.are_items
             (parameters_longer l.parameters p.rest p.are_parameters)),
       )
 
-  value_longer : (m : RawMember) (t : List ℕ) → IsMemberValueText edition m t
-      → (n : RawMember) × IsMemberValueText edition n (t ++ codes ";a")
+  value_longer : (m : RawMember) (t : List ℕ) → IsMemberValueText version m t
+      → (n : RawMember) × IsMemberValueText version n (t ++ codes ";a")
   value_longer m t (inl h) =
       let n = member_longer m h.back h.second in (
         n.0,
@@ -74,8 +79,8 @@ module _ (edition : Edition) where
     inr (more_parameters h.0, refl, parameters_longer h.0 t h.2),
   )
 
-  keyed_longer : (m : List ℕ × RawMember) (t : List ℕ) → IsDictionaryMemberText edition m t
-      → (n : List ℕ × RawMember) × IsDictionaryMemberText edition n (t ++ codes ";a")
+  keyed_longer : (m : List ℕ × RawMember) (t : List ℕ) → IsDictionaryMemberText version m t
+      → (n : List ℕ × RawMember) × IsDictionaryMemberText version n (t ++ codes ";a")
   keyed_longer m t h =
       let n = value_longer m.1 h.back h.second in (
         (m.0, n.0),
@@ -176,44 +181,44 @@ run_both class (c ∷ s) t h k = run_cons class c (s ++ t) (run_head class c s h
     (run_both class s t (run_tail class c s h) k)
 
 -- if a parameter can stand there, a parenthesis can't stand after it
-not_after : (edition : Edition) (kind : FieldKind) (u : List ℕ) → IsAccepted edition kind (u ++ codes ";a")
-    → ¬ IsAccepted edition kind (u ++ codes ";a)")
-not_after edition kind u a b = not_bracketed edition kind (u ++ codes ";a") a
-    (subst (IsAccepted edition kind) (sym (append_assoc u (codes ";a") (codes ")"))) b)
+not_after : (version : Version) (kind : FieldKind) (u : List ℕ) → IsAccepted version kind (u ++ codes ";a")
+    → ¬ IsAccepted version kind (u ++ codes ";a)")
+not_after version kind u a b = not_bracketed version kind (u ++ codes ";a") a
+    (subst (IsAccepted version kind) (sym (append_assoc u (codes ";a") (codes ")"))) b)
 
 -- after blanks neither can
-not_spaced : (edition : Edition) (kind : FieldKind) (raw : RawField kind) (t z : List ℕ) (c : ℕ) → HasManyMembers kind
-    → HasMember kind raw → IsFieldText edition kind raw t → RunOf is_space_or_tab (c ∷ z)
-    → ¬ IsAccepted edition kind ((t ++ c ∷ z) ++ codes ";a)")
-not_spaced edition kind raw t z c many has h each a =
+not_spaced : (version : Version) (kind : FieldKind) (raw : RawField kind) (t z : List ℕ) (c : ℕ) → HasManyMembers kind
+    → HasMember kind raw → IsFieldText version kind raw t → RunOf is_space_or_tab (c ∷ z)
+    → ¬ IsAccepted version kind ((t ++ c ∷ z) ++ codes ";a)")
+not_spaced version kind raw t z c many has h each a =
     let q : List ℕ = (c ∷ z) ++ codes ";a)" in
-    let fault = met edition kind raw t q (at_reach trailing_characters_after_member (codes ";a)")) many has h
+    let fault = met version kind raw t q (at_reach TrailingCharactersAfterMember (codes ";a)")) many has h
     (λ A one y blank. ap (next_at one) (sym (append_assoc y (c ∷ z) (codes ";a)")))
     ∙ byte_met one semicolon (codes "a)") (y ++ c ∷ z) refl refl (run_both is_space_or_tab y (c ∷ z) blank each))
     (blank_ends c (z ++ codes ";a)") (run_head is_space_or_tab c z each)) in
-    let read = field_complete edition kind a.0 _ a.1 in
-    let same = ap (whole_field_at edition kind) (append_assoc t (c ∷ z) (codes ";a)")) in
+    let read = field_complete version kind a.0 _ a.1 in
+    let same = ap (whole_field_at version kind) (append_assoc t (c ∷ z) (codes ";a)")) in
     absurd (let both = sym read ∙ same ∙ fault in cc)
 
 more_than_none : ¬ (codes ";a)" ≡ [])
 more_than_none e = absurd cc
 
-item_not : (edition : Edition) (i : RawItem) (u : List ℕ) → IsFieldText edition item_field i u
-    → ¬ IsAccepted edition item_field (u ++ codes ";a)")
-item_not edition i u h a = on h.second.back refl
+item_not : (version : Version) (i : RawItem) (u : List ℕ) → IsFieldText version item_field i u
+    → ¬ IsAccepted version item_field (u ++ codes ";a)")
+item_not version i u h a = on h.second.back refl
   where
-    o : (IsItemText edition i ⨾ Spaces) h.back
+    o : (IsItemText version i ⨾ Spaces) h.back
     o = h.second
 
     on : (z : List ℕ) → h.second.back ≡ z → ⊥
     on [] e =
-        let j = item_longer edition i o.front o.first in
+        let j = item_longer version i o.front o.first in
         let whole : u ++ codes ";a" ≡ h.front ++ ((o.front ++ codes ";a") ++ []) =
         ap (λ (l : List ℕ). l ++ codes ";a") (h.text ∙ ap (λ (l : List ℕ). h.front ++ l) (o.text
         ∙ ap (λ (l : List ℕ). o.front ++ l) e)) ∙ simp (append_assoc, append-nil) in
-        not_after edition item_field u (
+        not_after version item_field u (
           j.0,
-          subst (IsFieldText edition item_field j.0) (sym whole) (record {
+          subst (IsFieldText version item_field j.0) (sym whole) (record {
             front = h.front;
             back = (o.front ++ codes ";a") ++ [];
             text = refl;
@@ -226,28 +231,28 @@ item_not edition i u h a = on h.second.back refl
         let f : Apart lengthens_item (h.second.back ++ codes ";a)") =
         subst (λ (l : List ℕ). Apart lengthens_item (l ++ codes ";a)")) (sym e)
         (blank_ends c (z ++ codes ";a)") (or_left (is_space c) (eqb c tab) blank)) in
-        let read = item_field_complete edition i u (codes ";a)") h (Apart-cons is_space semicolon
+        let read = item_field_complete version i u (codes ";a)") h (Apart-cons is_space semicolon
         (codes "a)") refl) f in
-        let other = field_complete edition item_field a.0 _ a.1 in
+        let other = field_complete version item_field a.0 _ a.1 in
         let one : RawItem × List ℕ = (i, codes ";a)") in
         let two : RawItem × List ℕ = (a.0, []) in
         let pairs : one ≡ two = let both = sym read ∙ other in cc in
         more_than_none (ap (λ (x : RawItem × List ℕ). x.1) pairs)
 
-pub not_longer : (edition : Edition) (kind : FieldKind) (raw : RawField kind) (u : List ℕ) → HasMember kind raw
-    → IsFieldText edition kind raw u → ¬ IsAccepted edition kind (u ++ codes ";a)")
-not_longer edition item_field raw u has h a = item_not edition raw u h a
-not_longer edition list_field [] u has h a = absurd (let none = has.2 in cc)
-not_longer edition list_field (m ∷ ms) u has h a =
-    elim (ending (IsMemberText edition) (member_longer edition) m ms u h) [
-      | inl n ↦ not_after edition list_field u n a
-      | inr z ↦ not_spaced edition list_field (m ∷ ms) z.0 z.2 z.1 tt has z.4 z.5
-          (subst (λ (l : List ℕ). IsAccepted edition list_field (l ++ codes ";a)")) z.3 a)
+pub not_longer : (version : Version) (kind : FieldKind) (raw : RawField kind) (u : List ℕ) → HasMember kind raw
+    → IsFieldText version kind raw u → ¬ IsAccepted version kind (u ++ codes ";a)")
+not_longer version item_field raw u has h a = item_not version raw u h a
+not_longer version list_field [] u has h a = absurd (let none = has.2 in cc)
+not_longer version list_field (m ∷ ms) u has h a =
+    elim (ending (IsMemberText version) (member_longer version) m ms u h) [
+      | inl n ↦ not_after version list_field u n a
+      | inr z ↦ not_spaced version list_field (m ∷ ms) z.0 z.2 z.1 tt has z.4 z.5
+          (subst (λ (l : List ℕ). IsAccepted version list_field (l ++ codes ";a)")) z.3 a)
     ]
-not_longer edition dictionary_field [] u has h a = absurd (let none = has.2 in cc)
-not_longer edition dictionary_field (m ∷ ms) u has h a =
-    elim (ending (IsDictionaryMemberText edition) (keyed_longer edition) m ms u h) [
-      | inl n ↦ not_after edition dictionary_field u n a
-      | inr z ↦ not_spaced edition dictionary_field (m ∷ ms) z.0 z.2 z.1 tt has z.4 z.5
-          (subst (λ (l : List ℕ). IsAccepted edition dictionary_field (l ++ codes ";a)")) z.3 a)
+not_longer version dictionary_field [] u has h a = absurd (let none = has.2 in cc)
+not_longer version dictionary_field (m ∷ ms) u has h a =
+    elim (ending (IsDictionaryMemberText version) (keyed_longer version) m ms u h) [
+      | inl n ↦ not_after version dictionary_field u n a
+      | inr z ↦ not_spaced version dictionary_field (m ∷ ms) z.0 z.2 z.1 tt has z.4 z.5
+          (subst (λ (l : List ℕ). IsAccepted version dictionary_field (l ++ codes ";a)")) z.3 a)
     ]

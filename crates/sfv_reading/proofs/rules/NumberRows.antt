@@ -8,12 +8,17 @@ use Rattle.sfv_spec.proofs.Marks.{minus_sign, dot}
 use Rattle.sfv_spec.proofs.Marks.{at_sign}
 use Rattle.sfv_spec.specs.Texts.{begins_with}
 use Rattle.sfv_spec.specs.Classes.{is_digit, is_one_of}
-use Rattle.sfv_spec.specs.Values.{Edition, rfc8941, rfc9651, FieldKind, BareValue}
+use Rattle.sfv_spec.specs.Values.{BareValue}
+use Rattle.sfv_spec.specs.declared.field_kind.FieldKind.{FieldKind}
+use Rattle.sfv_spec.specs.declared.version.Version.{Version}
+use Rattle.sfv_spec.specs.declared.version.Version.TheVariants.{Rfc8941, Rfc9651}
 use Rattle.sfv_spec.specs.Numbers.{AreDigits, minus_text}
-use Rattle.sfv_spec.specs.Faults.{expected_digit, too_many_digits, too_many_digits_before_decimal_point}
-use Rattle.sfv_spec.specs.Faults.{too_many_digits_after_decimal_point, trailing_decimal_point, non_integer_date}
-use Rattle.sfv_spec.specs.Faults.{expected_start_of_bare_item, rfc8941_date}
-use Rattle.sfv_spec.specs.Faults.{at_text, WantsBetween, RuledFault, point, decimal_date, long_decimal_date}
+use Rattle.sfv_spec.specs.declared.error_kind.ErrorKind.TheVariants.{ExpectedDigit, TooManyDigits}
+use Rattle.sfv_spec.specs.declared.error_kind.ErrorKind.TheVariants.{TooManyDigitsBeforeDecimalPoint}
+use Rattle.sfv_spec.specs.declared.error_kind.ErrorKind.TheVariants.{TooManyDigitsAfterDecimalPoint}
+use Rattle.sfv_spec.specs.declared.error_kind.ErrorKind.TheVariants.{TrailingDecimalPoint, NonIntegerDate}
+use Rattle.sfv_spec.specs.declared.error_kind.ErrorKind.TheVariants.{ExpectedStartOfBareItem, Rfc8941Date}
+use Rattle.sfv_spec.specs.Faults.{at_text, WantsBetween, RuledFault, point, decimal_date, long_decimal_date, bare}
 use Rattle.sfv_spec.specs.Faults.{IsNumberSign, BareItemFault, old_date}
 use Rattle.sfv_spec.specs.Faults.{no_digit, no_number, long_integer, late_point, long_decimal}
 use Rattle.sfv_reading.specs.Reader.{Fault, Answer, byte, give, fail, and_then, bind, branch, back, at_start}
@@ -24,12 +29,12 @@ use Rattle.sfv_reading.proofs.rules.Numbers.{no_fraction, long_fraction, a_decim
 use Rattle.sfv_reading.proofs.rules.Numbers.{shape_read}
 
 -- what the table says of a fault of the bare item that s begins with
-abbrev pub HasRow : Edition → List ℕ → Fault → Type 0
-HasRow edition s e =
+abbrev pub HasRow : Version → List ℕ → Fault → Type 0
+HasRow version s e =
     ((e.exact ≡ true)
-    × (((e.kind ≡ expected_start_of_bare_item) × (e.rest ≡ s)) ⊎ BareItemFault edition s e.rest e.kind))
-    ⊎ ((e.exact ≡ false) × ((kind : FieldKind) (whole before : List ℕ) → WantsBetween edition kind whole before s
-    → RuledFault edition kind whole e.kind (length whole - length e.rest)))
+    × (((e.kind ≡ ExpectedStartOfBareItem) × (e.rest ≡ s)) ⊎ BareItemFault version s e.rest e.kind))
+    ⊎ ((e.exact ≡ false) × ((kind : FieldKind) (whole before : List ℕ) → WantsBetween version kind whole before s
+    → RuledFault version kind whole e.kind (length whole - length e.rest)))
 
 -- ---- one byte of a text
 
@@ -66,11 +71,11 @@ index_of whole a b e = omega (arith, ap (length {A = ℕ}) e, length-append a b)
 
 -- ---- numbers
 
-module _ (edition : Edition) (dated : Bool) (known : dated ≡ true → edition ≡ rfc9651) (t : List ℕ)
+module _ (version : Version) (dated : Bool) (known : dated ≡ true → version ≡ Rfc9651) (t : List ℕ)
     (start : dated ≡ false → begins_with is_number_start t ≡ true) where
   digits_row : (dated' negative : Bool) → dated ≡ dated' → (q : List ℕ) → t ≡ minus_text negative ++ q
       → begins_with is_digit q ≡ false → (negative ≡ false → begins_with (byte minus_sign) q ≡ false)
-      → BareItemFault edition (at_text dated' ++ t) q expected_digit
+      → BareItemFault version (at_text dated' ++ t) q ExpectedDigit
   digits_row dated' true same q text n plain = no_digit dated' (λ e. known (same ∙ e))
       (ap (λ (l : List ℕ). at_text dated' ++ l) text ∙ sym (append_assoc (at_text dated') (codes "-") q)) n
   digits_row true false same q text n plain = no_number (known same) (ap (λ (l : List ℕ). at_sign ∷ l) text)
@@ -79,83 +84,58 @@ module _ (edition : Edition) (dated : Bool) (known : dated ≡ true → edition 
       (begins_neither is_digit (byte minus_sign) (byte minus_sign) q (λ c. refl) n (plain refl))
       (ap (begins_with is_number_start) (sym text) ∙ start same))
 
-  sign_of : (negative : Bool) → IsNumberSign edition (at_text dated ++ minus_text negative)
+  sign_of : (negative : Bool) → IsNumberSign version (at_text dated ++ minus_text negative)
   sign_of negative = (dated, negative, known, refl)
 
   pub number_row : (a : Answer BareValue) → NumberShape dated t a → (e : Fault) → a ≡ Err e
-      → HasRow edition (at_text dated ++ t) e
+      → HasRow version (at_text dated ++ t) e
   number_row _ (no_digits negative q text n plain) e i =
-      let same : at_reach expected_digit q ≡ e = cc in
-      subst (HasRow edition (at_text dated ++ t)) same
+      let same : at_reach ExpectedDigit q ≡ e = cc in
+      subst (HasRow version (at_text dated ++ t)) same
       (inl (refl, inr (digits_row dated negative refl q text n plain)))
   number_row _ (sixteen_digits negative whole q text counted h) e i =
-      let same : at_reach too_many_digits q ≡ e = cc in
+      let same : at_reach TooManyDigits q ≡ e = cc in
       let all : at_text dated ++ t ≡ at_text dated ++ minus_text negative ++ whole ++ q =
       ap (λ (l : List ℕ). at_text dated ++ l) text ∙ simp append_assoc in
-      subst (HasRow edition (at_text dated ++ t)) same
+      subst (HasRow version (at_text dated ++ t)) same
       (inl (refl, inr (long_integer (at_text dated ++ minus_text negative) whole (sign_of negative) counted all h)))
   number_row _ (point_too_late negative whole q text counted h) e i =
-      let same : at_reach too_many_digits_before_decimal_point q ≡ e = cc in
+      let same : at_reach TooManyDigitsBeforeDecimalPoint q ≡ e = cc in
       let all : at_text dated ++ t ≡ at_text dated ++ minus_text negative ++ whole ++ q =
       ap (λ (l : List ℕ). at_text dated ++ l) text ∙ simp append_assoc in
-      subst (HasRow edition (at_text dated ++ t)) same
+      subst (HasRow version (at_text dated ++ t)) same
       (inl (
         refl,
         inr (late_point (at_text dated ++ minus_text negative) whole (sign_of negative) counted all
             (begins_same (is_one_of (codes ".")) (byte dot) q (one_of dot) ∙ h)),
       ))
   number_row _ (no_fraction negative whole q text counted h) e i =
-      let same : by_rule trailing_decimal_point (dot ∷ q) ≡ e = cc in
+      let same : by_rule TrailingDecimalPoint (dot ∷ q) ≡ e = cc in
       let all : at_text dated ++ t ≡ at_text dated ++ minus_text negative ++ whole ++ codes "." ++ q =
       ap (λ (l : List ℕ). at_text dated ++ l) text ∙ simp append_assoc in
-      subst (HasRow edition (at_text dated ++ t)) same
+      subst (HasRow version (at_text dated ++ t)) same
       (inr (
         refl,
-        λ kind w before place. point (record {
-          before = before;
-          dated = dated;
-          negative = negative;
-          digits = whole;
-          rest = q;
-          place = subst (λ (l : List ℕ). WantsBetween edition kind w before l) all place;
-          known = known;
-          counted = counted;
-          no_digit = h;
-          here = index_of w (before ++ at_text dated ++ minus_text negative ++ whole) (dot ∷ q) (place.text
-              ∙ ap (λ (l : List ℕ). before ++ l) all ∙ simp append_assoc);
-        }),
+        λ kind w before place. bare before (at_text dated ++ t) (dot ∷ q) place
+            (point (at_text dated ++ minus_text negative) whole q (sign_of negative) counted all refl h),
       ))
   number_row _ (long_fraction negative whole fraction q text counted three h) e i =
-      let same : placed (not dated) too_many_digits_after_decimal_point q ≡ e = cc in
-      subst (HasRow edition (at_text dated ++ t)) same
+      let same : placed (not dated) TooManyDigitsAfterDecimalPoint q ≡ e = cc in
+      subst (HasRow version (at_text dated ++ t)) same
       (fraction_row dated negative refl whole fraction q text counted three h)
     where
       fraction_row : (dated' negative : Bool) → dated ≡ dated' → (whole fraction q : List ℕ)
           → t ≡ minus_text negative ++ (whole ++ dot ∷ (fraction ++ q)) → AreDigits 1 12 whole → AreDigits 3 3 fraction
           → begins_with is_digit q ≡ true
-          → HasRow edition (at_text dated' ++ t) (placed (not dated') too_many_digits_after_decimal_point q)
+          → HasRow version (at_text dated' ++ t) (placed (not dated') TooManyDigitsAfterDecimalPoint q)
       fraction_row false negative same whole fraction q text counted three h =
           inl (refl, inr (long_decimal negative whole fraction counted three (text ∙ simp append_assoc) h))
       fraction_row true negative same whole fraction q text counted three h =
-          let n = next_of is_digit q h in
-          let all : at_sign ∷ t ≡ codes "@" ++ minus_text negative ++ whole ++ codes "." ++ fraction ++ n.c ∷ n.rest =
-          ap (λ (l : List ℕ). at_sign ∷ l) (text ∙ ap (λ (l : List ℕ).
-          minus_text negative ++ (whole ++ dot ∷ (fraction ++ l))) n.text) ∙ simp append_assoc in
           inr (
             refl,
-            λ kind w before place. long_decimal_date (record {
-              before = before;
-              negative = negative;
-              whole = whole;
-              fraction = fraction;
-              digit = n.c;
-              rest = n.rest;
-              place = subst (λ (l : List ℕ). WantsBetween edition kind w before l) all place;
-              known = known same;
-              counted = (counted, three, n.is);
-              here = index_of w (before ++ codes "@" ++ minus_text negative ++ whole ++ codes "." ++ fraction) q
-                  (place.text ∙ ap (λ (l : List ℕ). before ++ at_sign ∷ l) text ∙ simp append_assoc);
-            }),
+            λ kind w before place. bare before (at_sign ∷ t) q place
+                (long_decimal_date negative whole fraction (known same) counted three
+                (ap (λ (l : List ℕ). at_sign ∷ l) text ∙ simp append_assoc) h),
           )
   number_row _ (a_decimal z number q means text h) e i = absurd cc
   number_row _ (an_integer z number q means text h) e i = absurd cc
@@ -163,43 +143,34 @@ module _ (edition : Edition) (dated : Bool) (known : dated ≡ true → edition 
 -- ---- Dates
 
 dated_row : (t : List ℕ) (a : Answer BareValue) → NumberShape true t a → (e : Fault)
-    → at_start non_integer_date (at_sign ∷ t) (and_then a (λ v. give (as_date v))) ≡ Err e
-    → HasRow rfc9651 (at_sign ∷ t) e
+    → at_start NonIntegerDate (at_sign ∷ t) (and_then a (λ v. give (as_date v))) ≡ Err e
+    → HasRow Rfc9651 (at_sign ∷ t) e
 unfolding give
-dated_row t (Err x) h e i = number_row rfc9651 true (λ _. refl) t (λ f. absurd (true≢false f)) (Err x) h e i
+dated_row t (Err x) h e i = number_row Rfc9651 true (λ _. refl) t (λ f. absurd (true≢false f)) (Err x) h e i
 dated_row t _ (a_decimal z number q means text h) e i =
-    let same : by_rule non_integer_date (at_sign ∷ t) ≡ e = cc in
+    let same : by_rule NonIntegerDate (at_sign ∷ t) ≡ e = cc in
     let all : at_sign ∷ t ≡ codes "@" ++ number ++ q = ap (λ (l : List ℕ). at_sign ∷ l) text in
-    subst (HasRow rfc9651 (at_sign ∷ t)) same
+    subst (HasRow Rfc9651 (at_sign ∷ t)) same
     (inr (
       refl,
-      λ kind w before place. decimal_date (record {
-        before = before;
-        z = z;
-        number = number;
-        rest = q;
-        place = subst (λ (l : List ℕ). WantsBetween rfc9651 kind w before l) all place;
-        known = refl;
-        is_decimal = means;
-        no_digit = h;
-        here = index_of w before (at_sign ∷ t) place.text;
-      }),
+      λ kind w before place. bare before (at_sign ∷ t) (at_sign ∷ t) place
+          (decimal_date z number q refl means all refl h),
     ))
 dated_row t _ (an_integer z number q means text h) e i = absurd cc
 
 -- what is read at the sign
-pub date_read : (t : List ℕ) → date_at rfc9651 (at_sign ∷ t)
-    ≡ at_start non_integer_date (at_sign ∷ t) (and_then (number_at true t) (λ v. give (as_date v)))
+pub date_read : (t : List ℕ) → date_at Rfc9651 (at_sign ∷ t)
+    ≡ at_start NonIntegerDate (at_sign ∷ t) (and_then (number_at true t) (λ v. give (as_date v)))
 unfolding date_at branch back bind
 date_read t = refl
 
-pub date_row : (edition : Edition) (t : List ℕ) (e : Fault) → date_at edition (at_sign ∷ t) ≡ Err e
-    → HasRow edition (at_sign ∷ t) e
+pub date_row : (version : Version) (t : List ℕ) (e : Fault) → date_at version (at_sign ∷ t) ≡ Err e
+    → HasRow version (at_sign ∷ t) e
 unfolding date_at fail
-date_row rfc8941 t e i =
-    let same : at_reach rfc8941_date (at_sign ∷ t) ≡ e = cc in
-    subst (HasRow rfc8941 (at_sign ∷ t)) same (inl (refl, inr (old_date t refl refl refl)))
-date_row rfc9651 t e i =
+date_row Rfc8941 t e i =
+    let same : at_reach Rfc8941Date (at_sign ∷ t) ≡ e = cc in
+    subst (HasRow Rfc8941 (at_sign ∷ t)) same (inl (refl, inr (old_date t refl refl refl)))
+date_row Rfc9651 t e i =
     let n = number_shape true t in
-    dated_row t n.0 n.1 e (ap (λ a. at_start non_integer_date (at_sign ∷ t) (and_then a (λ v. give (as_date v))))
+    dated_row t n.0 n.1 e (ap (λ a. at_start NonIntegerDate (at_sign ∷ t) (and_then a (λ v. give (as_date v))))
     (sym (shape_read true t n.0 n.1)) ∙ sym (date_read t) ∙ i)

@@ -9,8 +9,10 @@ use Rattle.sfv_spec.specs.Texts.{begins_with, RunOf}
 use Rattle.sfv_spec.specs.Classes.{is_digit}
 use Rattle.sfv_spec.specs.Values.{BareValue, integer, decimal}
 use Rattle.sfv_spec.specs.Numbers.{AreDigits, minus_text, signed, place_value, IsIntegerText, IsDecimalText}
-use Rattle.sfv_spec.specs.Faults.{expected_digit, too_many_digits, too_many_digits_before_decimal_point}
-use Rattle.sfv_spec.specs.Faults.{too_many_digits_after_decimal_point, trailing_decimal_point}
+use Rattle.sfv_spec.specs.declared.error_kind.ErrorKind.TheVariants.{ExpectedDigit, TooManyDigits}
+use Rattle.sfv_spec.specs.declared.error_kind.ErrorKind.TheVariants.{TooManyDigitsBeforeDecimalPoint}
+use Rattle.sfv_spec.specs.declared.error_kind.ErrorKind.TheVariants.{TooManyDigitsAfterDecimalPoint}
+use Rattle.sfv_spec.specs.declared.error_kind.ErrorKind.TheVariants.{TrailingDecimalPoint}
 use Rattle.sfv_reading.specs.Reader.{Apart, Answer, Reader, byte, give, fail, ruled, ahead, back}
 use Rattle.sfv_reading.specs.Reader.{at_start, at_reach, by_rule, placed}
 use Rattle.sfv_reading.specs.Bare.{long_at, decimal_at, fraction_at, point_at, whole_at, number_at}
@@ -102,19 +104,19 @@ taken class (suc n) (c ∷ t) = elim (cases_Bool (class c)) [
 pub data NumberShape (dated : Bool) (t : List ℕ) : Answer BareValue → Type 0 where
   no_digits : (negative : Bool) (q : List ℕ) → t ≡ minus_text negative ++ q → begins_with is_digit q ≡ false
       → (negative ≡ false → begins_with (byte minus_sign) q ≡ false)
-      → NumberShape dated t (Err (at_reach expected_digit q))
+      → NumberShape dated t (Err (at_reach ExpectedDigit q))
   sixteen_digits : (negative : Bool) (whole q : List ℕ) → t ≡ minus_text negative ++ (whole ++ q)
-      → AreDigits 15 15 whole → begins_with is_digit q ≡ true → NumberShape dated t (Err (at_reach too_many_digits q))
+      → AreDigits 15 15 whole → begins_with is_digit q ≡ true → NumberShape dated t (Err (at_reach TooManyDigits q))
   point_too_late : (negative : Bool) (whole q : List ℕ) → t ≡ minus_text negative ++ (whole ++ q)
       → AreDigits 13 15 whole → begins_with (byte dot) q ≡ true
-      → NumberShape dated t (Err (at_reach too_many_digits_before_decimal_point q))
+      → NumberShape dated t (Err (at_reach TooManyDigitsBeforeDecimalPoint q))
   no_fraction : (negative : Bool) (whole q : List ℕ) → t ≡ minus_text negative ++ (whole ++ dot ∷ q)
       → AreDigits 1 12 whole → begins_with is_digit q ≡ false
-      → NumberShape dated t (Err (by_rule trailing_decimal_point (dot ∷ q)))
+      → NumberShape dated t (Err (by_rule TrailingDecimalPoint (dot ∷ q)))
   long_fraction : (negative : Bool) (whole fraction q : List ℕ)
       → t ≡ minus_text negative ++ (whole ++ dot ∷ (fraction ++ q)) → AreDigits 1 12 whole → AreDigits 3 3 fraction
       → begins_with is_digit q ≡ true
-      → NumberShape dated t (Err (placed (not dated) too_many_digits_after_decimal_point q))
+      → NumberShape dated t (Err (placed (not dated) TooManyDigitsAfterDecimalPoint q))
   a_decimal : (z : ℤ) (number q : List ℕ) → IsDecimalText z number → t ≡ number ++ q → begins_with is_digit q ≡ false
       → NumberShape dated t (Ok (decimal z, q))
   an_integer : (z : ℤ) (number q : List ℕ) → IsIntegerText z number → t ≡ number ++ q → begins_with goes_on q ≡ false
@@ -135,7 +137,7 @@ digits_whole : (least : ℕ) (digits : List ℕ) → AreDigits (suc least) 15 di
 digits_whole least digits h = (omega (arith, h.0), h.1, h.2)
 
 long_read : (dated : Bool) (q : List ℕ)
-    → long_at dated q ≡ Err (placed (not dated) too_many_digits_after_decimal_point q)
+    → long_at dated q ≡ Err (placed (not dated) TooManyDigitsAfterDecimalPoint q)
 unfolding long_at fail ruled
 long_read true q = refl
 long_read false q = refl
@@ -143,14 +145,14 @@ long_read false q = refl
 -- up to the point
 up_to_point : (dated negative : Bool) (whole q : List ℕ) → AreDigits 1 12 whole
     → number_at dated (minus_text negative ++ (whole ++ dot ∷ q))
-    ≡ at_start trailing_decimal_point (dot ∷ q) (fraction_at dated negative whole q)
+    ≡ at_start TrailingDecimalPoint (dot ∷ q) (fraction_at dated negative whole q)
 unfolding whole_at point_at back
 up_to_point dated negative whole q counted =
     let point : Apart is_digit (dot ∷ q) = Apart-cons is_digit dot q refl in
     start_complete dated negative whole (dot ∷ q) (counted.0, omega (arith, counted.1), counted.2) point
     ∙ rw (some_eqb (length whole) counted.0) (ahead_past _ _ _ (dot ∷ q) point
     ∙ ahead_take _ _ _ dot q refl
-    ∙ rw (le-ltb 12 (length whole) counted.1) (ap (at_start trailing_decimal_point (dot ∷ q))
+    ∙ rw (le-ltb 12 (length whole) counted.1) (ap (at_start TrailingDecimalPoint (dot ∷ q))
     (branch_take _ _ _ dot q refl)))
 
 pub shape_read : (dated : Bool) (t : List ℕ) (a : Answer BareValue) → NumberShape dated t a → number_at dated t ≡ a
@@ -170,15 +172,15 @@ shape_read dated t _ (point_too_late negative whole q text counted h) =
     ∙ rw (lt-ltb 12 (length whole) counted.0) refl)
 shape_read dated t _ (no_fraction negative whole q text counted h) = ap (number_at dated) text
     ∙ up_to_point dated negative whole q counted
-    ∙ ap (at_start trailing_decimal_point (dot ∷ q)) (bind_complete _ _ _ _ _
+    ∙ ap (at_start TrailingDecimalPoint (dot ∷ q)) (bind_complete _ _ _ _ _
     (up_to_taken is_digit 3 [] q refl (omega arith) (λ _. none_apart is_digit q h)))
 shape_read dated t _ (long_fraction negative whole fraction q text counted three h) =
-    let behind : fraction_at dated negative whole (fraction ++ q)
-    ≡ Err (placed (not dated) too_many_digits_after_decimal_point q) = bind_complete _ _ _ _ _
+    let after : fraction_at dated negative whole (fraction ++ q)
+    ≡ Err (placed (not dated) TooManyDigitsAfterDecimalPoint q) = bind_complete _ _ _ _ _
     (up_to_taken is_digit 3 fraction q three.2 three.1 (λ l. absurd (omega (arith, l, three.0))))
     ∙ rw (some_eqb (length fraction) (omega (arith, three.0))) (ahead_next _ _ _ q h ∙ long_read dated q) in
     ap (number_at dated) text ∙ up_to_point dated negative whole (fraction ++ q) counted
-    ∙ ap (at_start trailing_decimal_point (dot ∷ (fraction ++ q))) behind
+    ∙ ap (at_start TrailingDecimalPoint (dot ∷ (fraction ++ q))) after
 shape_read dated t _ (a_decimal z number q means text h) = ap (number_at dated) text
     ∙ decimal_complete dated number q z means (none_apart is_digit q h)
 shape_read dated t _ (an_integer z number q means text h) = ap (number_at dated) text

@@ -1,119 +1,133 @@
 -- Each rule of the table of faults is given by the reader of bare items, but for the trailing comma.
-use Rattle.std.proofs.Common.{◌≡◌, ℕ, ◌+◌, ◌-◌, true, List, ◌∷◌, ◌++◌, length, Err, refl, ap, ◌∙◌}
-use Rattle.std.proofs.Common.{append_assoc, arith, inl, inr}
-use Rattle.std.specs.Prelude.{codes}
+use Rattle.std.proofs.Common.{◌≡◌, ℕ, ◌+◌, ◌-◌, true, List, ◌∷◌, ◌++◌, length, Err, refl, ap, ◌∙◌, suc, ◌≤◌, Bool, not}
+use Rattle.std.proofs.Common.{append_assoc, arith, inl, inr, [], drop, sym}
+use Rattle.std.specs.Prelude.{codes, ◌==◌}
 use Rattle.std.specs.List.{concat}
-use Rattle.std.proofs.lemmas.Bool.{true≢false}
-use Rattle.std.proofs.lemmas.List.{length-append}
+use Rattle.std.proofs.lemmas.Bool.{true≢false, eq-eqb}
+use Rattle.std.proofs.lemmas.List.{length-append, length-drop}
 use Rattle.sfv_spec.specs.Ascii.{double_quote, percent_sign, colon}
 use Rattle.sfv_spec.proofs.Marks.{dot, at_sign}
-use Rattle.sfv_spec.specs.Values.{Edition, rfc9651, FieldKind, display_string}
+use Rattle.sfv_spec.specs.Values.{display_string, BareValue}
+use Rattle.sfv_spec.specs.declared.field_kind.FieldKind.{FieldKind}
+use Rattle.sfv_spec.specs.declared.version.Version.{Version}
+use Rattle.sfv_spec.specs.declared.version.Version.TheVariants.{Rfc9651}
 use Rattle.sfv_spec.specs.Numbers.{minus_text}
-use Rattle.sfv_spec.specs.Faults.{SyntaxFault, trailing_decimal_point, non_integer_date, at_text, WantsBetween}
-use Rattle.sfv_spec.specs.Faults.{too_many_digits_after_decimal_point, IsTrailingPoint, IsDecimalDate}
-use Rattle.sfv_spec.specs.Faults.{IsLongDecimalDate, comma, point, decimal_date, long_decimal_date, open_bytes}
+use Rattle.sfv_spec.specs.Faults.{at_text, WantsBetween, RuledItemFault, bare}
+use Rattle.sfv_spec.specs.declared.error_kind.ErrorKind.{ErrorKind}
+use Rattle.sfv_spec.specs.declared.error_kind.ErrorKind.TheVariants.{TrailingDecimalPoint, NonIntegerDate}
+use Rattle.sfv_spec.specs.declared.error_kind.ErrorKind.TheVariants.{TooManyDigitsAfterDecimalPoint}
+use Rattle.sfv_spec.specs.declared.error_kind.ErrorKind.TheVariants.{UnterminatedByteSequence, InvalidByteSequence}
+use Rattle.sfv_spec.specs.Faults.{comma, point, decimal_date, long_decimal_date, open_bytes}
 use Rattle.sfv_spec.specs.Faults.{lone_symbol, display, IsDisplayBegun, DisplayFault}
-use Rattle.sfv_reading.specs.Reader.{give, and_then, by_rule}
+use Rattle.sfv_reading.specs.Reader.{give, and_then, by_rule, Answer, placed}
 use Rattle.sfv_reading.specs.Bare.{bare_at}
-use Rattle.sfv_reading.specs.Claims.{IsFaultOfBytes}
 use Rattle.sfv_reading.specs.BareFaults.{IsFaultInBare, RuledIsGiven}
 use Rattle.sfv_reading.proofs.complete.Bare.{bare_percent, front}
-use Rattle.sfv_reading.proofs.rules.BytesRules.{bytes_rules}
 use Rattle.sfv_reading.proofs.rules.DisplayRules.{faults_ruled}
 use Rattle.sfv_reading.proofs.rules.Quoted.{display_faulty}
 use Rattle.sfv_reading.proofs.rules.Numbers.{no_fraction, long_fraction, a_decimal, shape_read}
 use Rattle.sfv_reading.proofs.rules.BareFaults.{quoted_read, display_short}
 use Rattle.sfv_reading.proofs.rules.BareRows.{date_given, number_given, bytes_given}
+use Rattle.sfv_reading.specs.Content.{valid_from, fault_place, HasNoColon}
+use Rattle.sfv_reading.proofs.base64.Lone.{is_left_over, symbols_of_run, leaves_one_over}
+use Rattle.sfv_reading.proofs.rules.ByteSequences.{no_colon_any}
+use Rattle.sfv_reading.proofs.sound.ByteSequences.{read_unclosed, read_fault, symbols_apart}
 
--- a fault by a rule, in any spelling of the text that is left at before
-in_bare : (edition : Edition) (kind : FieldKind) (whole before s t there : List ℕ) (k : SyntaxFault) (index : ℕ)
-    → WantsBetween edition kind whole before s → s ≡ t → bare_at edition t ≡ Err (by_rule k there)
-    → index + length there ≡ length whole → IsFaultInBare edition kind whole k index
-in_bare edition kind whole before s t there k index place same read here = record {
+-- a fault by a rule, where a bare item is wanted
+in_bare : (version : Version) (kind : FieldKind) (whole before s there : List ℕ) (k : ErrorKind)
+    → WantsBetween version kind whole before s → bare_at version s ≡ Err (by_rule k there)
+    → length there ≤ length s → IsFaultInBare version kind whole k (length whole - length there)
+in_bare version kind whole before s there k place read short = record {
   before = before;
   s = s;
   place = place;
   fault = by_rule k there;
-  given = ap (bare_at edition) same ∙ read;
+  given = read;
   kind = refl;
   exact = refl;
-  here = here;
+  here = omega (arith, ap (length {A = ℕ}) place.text, length-append before s, short);
 }
 
--- what stands in front and what is left
-parts_of : (whole a b : List ℕ) → whole ≡ a ++ b → length a + length b ≡ length whole
-parts_of whole a b e = omega (arith, ap (length {A = ℕ}) e, length-append a b)
+-- what is left is written otherwise
+left_as : (k : ErrorKind) (there l : List ℕ) → there ≡ l
+    → ◌≡◌ {A = Answer BareValue} (Err (by_rule k l)) (Err (by_rule k there))
+left_as k there l e = sym (ap (λ (l : List ℕ). Err (by_rule k l)) e)
 
-point_given : (edition : Edition) (kind : FieldKind) (whole : List ℕ) (index : ℕ)
-    → IsTrailingPoint edition kind whole index → IsFaultInBare edition kind whole trailing_decimal_point index
-point_given edition kind whole index h =
-    let t : List ℕ = minus_text h.negative ++ (h.digits ++ dot ∷ h.rest) in
-    let there : List ℕ = dot ∷ h.rest in
-    in_bare edition kind whole h.before (at_text h.dated ++ minus_text h.negative ++ h.digits ++ codes "." ++ h.rest)
-    (at_text h.dated ++ t) there trailing_decimal_point index h.place (simp append_assoc)
-    (number_given edition h.dated t (by_rule trailing_decimal_point there) h.known
-    (λ _. front h.negative h.digits there h.counted.0 h.counted.2)
-    (no_fraction h.negative h.digits h.rest refl h.counted h.no_digit))
-    (ap (λ (n : ℕ). n + length there) h.here
-    ∙ parts_of whole (h.before ++ at_text h.dated ++ minus_text h.negative ++ h.digits) there
-    (h.place.text ∙ simp append_assoc))
-
-decimal_given : (edition : Edition) (kind : FieldKind) (whole : List ℕ) (index : ℕ)
-    → IsDecimalDate edition kind whole index → IsFaultInBare edition kind whole non_integer_date index
+item_given : (version : Version) (s there : List ℕ) (k : ErrorKind) → RuledItemFault version s there k
+    → (bare_at version s ≡ Err (by_rule k there)) × (length there ≤ length s)
 unfolding give
-decimal_given edition kind whole index h =
-    let t : List ℕ = h.number ++ h.rest in
-    in_bare edition kind whole h.before (codes "@" ++ h.number ++ h.rest) (at_sign ∷ t) (at_sign ∷ t) non_integer_date
-    index h.place refl (date_given edition t _ h.known
-    (shape_read true t _ (a_decimal h.z h.number h.rest h.is_decimal refl h.no_digit)))
-    (ap (λ (n : ℕ). n + length (at_sign ∷ t)) h.here ∙ parts_of whole h.before (at_sign ∷ t) h.place.text)
+item_given version s there _ (point sign digits rest signed counted text left no_digit) =
+    let dated : Bool = signed.0 in
+    let negative : Bool = signed.1 in
+    let t : List ℕ = minus_text negative ++ (digits ++ dot ∷ rest) in
+    let all : s ≡ at_text dated ++ t =
+    text ∙ ap (λ (l : List ℕ). l ++ digits ++ codes "." ++ rest) signed.3 ∙ simp append_assoc in (
+      ap (bare_at version) all ∙ number_given version dated t (by_rule TrailingDecimalPoint (dot ∷ rest)) signed.2
+          (λ _. front negative digits (dot ∷ rest) counted.0 counted.2)
+          (no_fraction negative digits rest refl counted no_digit) ∙ left_as TrailingDecimalPoint there (dot ∷ rest) left,
+      omega (
+        arith,
+        ap (length {A = ℕ}) text,
+        ap (length {A = ℕ}) left,
+        length-append (sign ++ digits ++ codes ".") rest,
+        length-append (sign ++ digits) (codes "."),
+      ),
+    )
+item_given version s there _ (decimal_date z number rest known is_decimal text left no_digit) =
+    let t : List ℕ = number ++ rest in (
+      ap (bare_at version) text ∙ date_given version t _ known
+          (shape_read true t _ (a_decimal z number rest is_decimal refl no_digit))
+          ∙ left_as NonIntegerDate there (at_sign ∷ t) (left ∙ text),
+      omega (arith, ap (length {A = ℕ}) left),
+    )
+item_given version s there _ (long_decimal_date negative whole fraction known counted three text more) =
+    let t : List ℕ = minus_text negative ++ (whole ++ dot ∷ (fraction ++ there)) in (
+      ap (bare_at version) (text ∙ simp append_assoc)
+          ∙ number_given version true t (by_rule TooManyDigitsAfterDecimalPoint there) (λ _. known)
+          (λ e. absurd (true≢false e)) (long_fraction negative whole fraction there refl counted three more),
+      omega (
+        arith,
+        ap (length {A = ℕ}) text,
+        length-append (codes "@" ++ minus_text negative ++ whole ++ codes "." ++ fraction) there,
+      ),
+    )
+item_given version s there _ (open_bytes rest text left no_colon) = (
+  ap (bare_at version) text ∙ bytes_given version rest (by_rule UnterminatedByteSequence [])
+      (read_unclosed rest (no_colon_any rest no_colon)) ∙ left_as UnterminatedByteSequence there [] left,
+  omega (arith, ap (length {A = ℕ}) left),
+)
+item_given version s there _ (lone_symbol content rest text left only one) =
+    let inside : List ℕ = content ++ colon ∷ rest in
+    let last : List ℕ = drop (fault_place content) inside in
+    let none = is_left_over content only one in
+    let all : (valid_from 0 content == length content) ≡ true =
+    eq-eqb _ _ ((leaves_one_over content none.0).1 (only, one)) in
+    let apart : HasNoColon content = symbols_apart content (symbols_of_run content only) in
+    let same : s ≡ colon ∷ inside = text ∙ simp append_assoc in
+    let next : length content ≡ suc (fault_place content) = omega (arith, none.1) in
+    let at : there ≡ last = left ∙ ap (λ (l : List ℕ). drop (length content) l) same
+    ∙ ap (λ (n : ℕ). drop n (colon ∷ inside)) next in (
+      ap (bare_at version) same ∙ bytes_given version inside (by_rule InvalidByteSequence last)
+          (read_fault content rest apart none.0 ∙ ap (λ b. Err (placed (not b) InvalidByteSequence last)) all)
+          ∙ left_as InvalidByteSequence there last at,
+      omega (arith, ap (length {A = ℕ}) left, length-drop (length content) s),
+    )
 
-long_given : (edition : Edition) (kind : FieldKind) (whole : List ℕ) (index : ℕ)
-    → IsLongDecimalDate edition kind whole index
-    → IsFaultInBare edition kind whole too_many_digits_after_decimal_point index
-long_given edition kind whole index h =
-    let there : List ℕ = h.digit ∷ h.rest in
-    let t : List ℕ = minus_text h.negative ++ (h.whole ++ dot ∷ (h.fraction ++ there)) in
-    in_bare edition kind whole h.before
-    (codes "@" ++ minus_text h.negative ++ h.whole ++ codes "." ++ h.fraction ++ there) (at_sign ∷ t) there
-    too_many_digits_after_decimal_point index h.place (simp append_assoc)
-    (number_given edition true t (by_rule too_many_digits_after_decimal_point there) (λ _. h.known)
-    (λ e. absurd (true≢false e))
-    (long_fraction h.negative h.whole h.fraction there refl h.counted.0 h.counted.1 h.counted.2))
-    (ap (λ (n : ℕ). n + length there) h.here
-    ∙ parts_of whole (h.before ++ codes "@" ++ minus_text h.negative ++ h.whole ++ codes "." ++ h.fraction) there
-    (h.place.text ∙ simp append_assoc))
-
-bytes_in : (edition : Edition) (kind : FieldKind) (whole : List ℕ) (k : SyntaxFault) (index : ℕ)
-    → IsFaultOfBytes edition kind whole k index → IsFaultInBare edition kind whole k index
-bytes_in edition kind whole k index h =
-    in_bare edition kind whole h.before (colon ∷ h.inside) (colon ∷ h.inside) h.there k index h.place refl
-    (bytes_given edition h.inside (by_rule k h.there) h.fault) h.here
-
-display_in : (edition : Edition) (kind : FieldKind) (whole before rest there bytes : List ℕ) (pieces : List (List ℕ))
-    (k : SyntaxFault) → IsDisplayBegun edition kind whole before rest bytes pieces
-    → DisplayFault bytes pieces rest there k → IsFaultInBare edition kind whole k (length whole - length there)
-display_in edition kind whole before rest there bytes pieces k h fault =
+display_in : (version : Version) (kind : FieldKind) (whole before rest there bytes : List ℕ) (pieces : List (List ℕ))
+    (k : ErrorKind) → IsDisplayBegun version kind whole before rest bytes pieces
+    → DisplayFault bytes pieces rest there k → IsFaultInBare version kind whole k (length whole - length there)
+display_in version kind whole before rest there bytes pieces k h fault =
     let inside : List ℕ = concat pieces ++ rest in
     let s : List ℕ = percent_sign ∷ double_quote ∷ inside in
     let f = faults_ruled bytes pieces rest there k h.content h.longest fault in
-    in_bare edition kind whole before s s there k (length whole - length there) h.place refl
-    (ap (λ e. bare_at e s) h.known ∙ bare_percent rfc9651 (double_quote ∷ inside) ∙ quoted_read inside
-    ∙ ap (λ a. and_then a (λ s. give (display_string s))) (display_faulty inside there k f)) (omega (
-      arith,
-      ap (length {A = ℕ}) h.place.text,
-      length-append before s,
-      display_short inside there k f,
-    ))
+    in_bare version kind whole before s there k h.place
+    (ap (λ e. bare_at e s) h.known ∙ bare_percent Rfc9651 (double_quote ∷ inside) ∙ quoted_read inside
+    ∙ ap (λ a. and_then a (λ s. give (display_string s))) (display_faulty inside there k f))
+    (omega (arith, display_short inside there k f))
 
 pub ruled_is_given : RuledIsGiven
-ruled_is_given edition kind whole _ index (comma h) = inl (refl, h)
-ruled_is_given edition kind whole _ index (point h) = inr (point_given edition kind whole index h)
-ruled_is_given edition kind whole _ index (decimal_date h) = inr (decimal_given edition kind whole index h)
-ruled_is_given edition kind whole _ index (long_decimal_date h) = inr (long_given edition kind whole index h)
-ruled_is_given edition kind whole _ index (open_bytes h) =
-    inr (bytes_in edition kind whole _ index ((bytes_rules.0 edition kind whole index).1 h))
-ruled_is_given edition kind whole _ index (lone_symbol h) =
-    inr (bytes_in edition kind whole _ index ((bytes_rules.1 edition kind whole index).1 h))
-ruled_is_given edition kind whole k _ (display before rest there bytes pieces h fault) =
-    inr (display_in edition kind whole before rest there bytes pieces k h fault)
+ruled_is_given version kind whole _ index (comma h) = inl (refl, h)
+ruled_is_given version kind whole k _ (bare before s there place h) =
+    let g = item_given version s there k h in inr (in_bare version kind whole before s there k place g.0 g.1)
+ruled_is_given version kind whole k _ (display before rest there bytes pieces h fault) =
+    inr (display_in version kind whole before rest there bytes pieces k h fault)

@@ -10,7 +10,8 @@ use Rattle.sfv_spec.specs.Ascii.{space, double_quote, colon, digit_zero}
 use Rattle.sfv_spec.proofs.Marks.{right_parenthesis, digit_one}
 use Rattle.sfv_spec.specs.Texts.{RunOf, ◌⨾◌, Exactly}
 use Rattle.sfv_spec.specs.Classes.{is_digit, is_token_start, is_token_inner, is_key_start, is_key_inner}
-use Rattle.sfv_spec.specs.Values.{Edition, BareValue, integer, decimal, string, token, byte_sequence, boolean, date}
+use Rattle.sfv_spec.specs.Values.{BareValue, integer, decimal, string, token, byte_sequence, boolean, date}
+use Rattle.sfv_spec.specs.declared.version.Version.{Version}
 use Rattle.sfv_spec.specs.Values.{display_string, RawParameters, RawItem}
 use Rattle.sfv_spec.specs.Numbers.{minus_text, IsIntegerText, AreDigits}
 use Rattle.sfv_spec.specs.Grammar.{IsBareText, IsKeyText, IsValueText, IsParameterText, IsParametersText, IsItemText}
@@ -98,23 +99,23 @@ module _ (n : ℕ) (outer : IsOuter n) where
   integer_tight t h = subst (IsTight n) (sym h.text) (tight_after n _ h.digits (digits_tight 1 15 h.digits
       (omega arith) h.counted))
 
-  bare_tight : (edition : Edition) (v : BareValue) (t : List ℕ) → IsBareText edition v t → IsTight n t
-  bare_tight edition (integer z) t h = integer_tight t h
-  bare_tight edition (decimal z) t h = subst (IsTight n) (sym h.text) (tight_after n
+  bare_tight : (version : Version) (v : BareValue) (t : List ℕ) → IsBareText version v t → IsTight n t
+  bare_tight version (integer z) t h = integer_tight t h
+  bare_tight version (decimal z) t h = subst (IsTight n) (sym h.text) (tight_after n
       (minus_text h.negative ++ h.whole ++ codes ".")
       h.fraction (digits_tight 1 3 h.fraction (omega arith) h.counted.1))
-  bare_tight edition (string s) t h = after_front t h (closed_tight double_quote h.back outer.closing.0 h.second)
-  bare_tight edition (token []) t h = absurd (true≢false (sym h.0))
-  bare_tight edition (token (c ∷ s)) t h =
+  bare_tight version (string s) t h = after_front t h (closed_tight double_quote h.back outer.closing.0 h.second)
+  bare_tight version (token []) t h = absurd (true≢false (sym h.0))
+  bare_tight version (token (c ∷ s)) t h =
       let p = and_parts (is_token_start c) (list_all is_token_inner s) h.0 in
       subst (IsTight n) (sym h.1) (started_tight is_token_start is_token_inner outer.token.0 outer.token.1 c s p.0 p.1)
-  bare_tight edition (byte_sequence s) t h = after_front t h (closed_tight colon h.back outer.closing.1 h.second)
-  bare_tight edition (boolean true) t h = subst (IsTight n) (sym h) (tight_after n (codes "?") (codes "1")
+  bare_tight version (byte_sequence s) t h = after_front t h (closed_tight colon h.back outer.closing.1 h.second)
+  bare_tight version (boolean true) t h = subst (IsTight n) (sym h) (tight_after n (codes "?") (codes "1")
       (tight_byte digit_one (apart_from is_digit n outer.digit digit_one refl)))
-  bare_tight edition (boolean false) t h = subst (IsTight n) (sym h) (tight_after n (codes "?") (codes "0")
+  bare_tight version (boolean false) t h = subst (IsTight n) (sym h) (tight_after n (codes "?") (codes "0")
       (tight_byte digit_zero (apart_from is_digit n outer.digit digit_zero refl)))
-  bare_tight edition (date z) t h = after_front t h.1 (integer_tight h.1.back h.1.second)
-  bare_tight edition (display_string s) t h = after_front t h.1
+  bare_tight version (date z) t h = after_front t h.1 (integer_tight h.1.back h.1.second)
+  bare_tight version (display_string s) t h = after_front t h.1
       (closed_tight double_quote h.1.back outer.closing.0 h.1.second)
 
   pub key_tight : (k t : List ℕ) → IsKeyText k t → IsTight n t
@@ -123,27 +124,27 @@ module _ (n : ℕ) (outer : IsOuter n) where
       let p = and_parts (is_key_start c) (list_all is_key_inner k) h.0 in
       subst (IsTight n) (sym h.1) (started_tight is_key_start is_key_inner outer.key.0 outer.key.1 c k p.0 p.1)
 
-  value_tight : (edition : Edition) (v : BareValue) (t : List ℕ) → IsValueText edition v t → TightOrNone n t
-  value_tight edition v t (inl h) = inl h.1
-  value_tight edition v t (inr h) = inr (after_front t h (bare_tight edition v h.back h.second))
+  value_tight : (version : Version) (v : BareValue) (t : List ℕ) → IsValueText version v t → TightOrNone n t
+  value_tight version v t (inl h) = inl h.1
+  value_tight version v t (inr h) = inr (after_front t h (bare_tight version v h.back h.second))
 
-  parameter_tight : (edition : Edition) (p : List ℕ × BareValue) (t : List ℕ) → IsParameterText edition p t
+  parameter_tight : (version : Version) (p : List ℕ × BareValue) (t : List ℕ) → IsParameterText version p t
       → IsTight n t
-  parameter_tight edition p t h =
+  parameter_tight version p t h =
       let k = h.second.second in
       after_front t h (after_front h.back h.second (subst (IsTight n) (sym k.text)
-      (tight_both k.front k.back (key_tight p.0 k.front k.first) (value_tight edition p.1 k.back k.second))))
+      (tight_both k.front k.back (key_tight p.0 k.front k.first) (value_tight version p.1 k.back k.second))))
 
-  pub parameters_tight : (edition : Edition) (ps : RawParameters) (t : List ℕ) → IsParametersText edition ps t
+  pub parameters_tight : (version : Version) (ps : RawParameters) (t : List ℕ) → IsParametersText version ps t
       → TightOrNone n t
-  parameters_tight edition [] t h = inl (joining-nil h)
-  parameters_tight edition (p ∷ ps) t h =
+  parameters_tight version [] t h = inl (joining-nil h)
+  parameters_tight version (p ∷ ps) t h =
       let c = joining-cons h in
       inr (subst (IsTight n) (sym c.text)
-      (tight_both c.front c.back (parameter_tight edition p c.front c.first)
-      (parameters_tight edition ps c.back c.second)))
+      (tight_both c.front c.back (parameter_tight version p c.front c.first)
+      (parameters_tight version ps c.back c.second)))
 
-  pub item_tight : (edition : Edition) (i : RawItem) (t : List ℕ) → IsItemText edition i t → IsTight n t
-  item_tight edition i t h = subst (IsTight n) (sym h.text)
-      (tight_both h.front h.back (bare_tight edition i.bare h.front h.first)
-      (parameters_tight edition i.parameters h.back h.second))
+  pub item_tight : (version : Version) (i : RawItem) (t : List ℕ) → IsItemText version i t → IsTight n t
+  item_tight version i t h = subst (IsTight n) (sym h.text)
+      (tight_both h.front h.back (bare_tight version i.bare h.front h.first)
+      (parameters_tight version i.parameters h.back h.second))

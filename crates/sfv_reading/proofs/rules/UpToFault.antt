@@ -5,12 +5,12 @@ use Rattle.std.specs.Prelude.{flat_map}
 use Rattle.sfv_spec.specs.Texts.{IsJoining}
 use Rattle.sfv_spec.specs.Events.{TreeEvent}
 use Rattle.sfv_spec.proofs.Settled.{joining-nil, joining-cons}
-use Rattle.sfv_reading.specs.Reader.{Fault, Reader, behind_events, and_then, give, ◌>>=◌, bind, led_answer, led, many}
+use Rattle.sfv_reading.specs.Reader.{Fault, Reader, after_events, and_then, give, ◌>>=◌, bind, led_answer, led, many}
 use Rattle.sfv_reading.proofs.sound.Many.{Consumes, many_is}
 
-pub behind_twice : (es fs : List TreeEvent) (e : Fault)
-    → behind_events es (behind_events fs e) ≡ behind_events (es ++ fs) e
-behind_twice es fs e = ap (λ (l : List TreeEvent). record {
+pub after_twice : (es fs : List TreeEvent) (e : Fault)
+    → after_events es (after_events fs e) ≡ after_events (es ++ fs) e
+after_twice es fs e = ap (λ (l : List TreeEvent). record {
   kind = e.kind;
   exact = e.exact;
   rest = e.rest;
@@ -23,7 +23,7 @@ unfolding bind
 bind_met f g t e h = ap (λ a. and_then a g) h
 
 pub led_met : {A : Type 0} (es : List TreeEvent) (f : Reader A) (t : List ℕ) (e : Fault) → f t ≡ Err e
-    → led es f t ≡ Err (behind_events es e)
+    → led es f t ≡ Err (after_events es e)
 unfolding led
 led_met es f t e h = ap (led_answer es) h
 
@@ -32,7 +32,7 @@ module _ {A : Type 0} (parts : A → List TreeEvent) (step : Reader (Option A)) 
     → (step (a ++ q) ≡ Ok (Some v, q)) × F (a ++ q))
     (q : List ℕ) (e : Fault) (fault : step q ≡ Err e) (f : F q) where
   pub many_met : (vs : List A) (s : List ℕ) → IsJoining P vs s
-      → (many parts step (s ++ q) ≡ Err (behind_events (flat_map parts vs) e)) × F (s ++ q)
+      → (many parts step (s ++ q) ≡ Err (after_events (flat_map parts vs) e)) × F (s ++ q)
   unfolding bind give led
   many_met [] s j =
       let n : s ++ q ≡ q = ap (λ (l : List ℕ). l ++ q) (joining-nil j) in
@@ -44,6 +44,6 @@ module _ {A : Type 0} (parts : A → List TreeEvent) (step : Reader (Option A)) 
       let all : s ++ q ≡ h.front ++ (h.back ++ q) = ap (λ (l : List ℕ). l ++ q) h.text
       ∙ append_assoc h.front h.back q in (
         ap (many parts step) all ∙ many_is parts step c (h.front ++ (h.back ++ q))
-            ∙ rw (one.0, rest.0) (ap (λ (x : Fault). Err x) (behind_twice (parts v) (flat_map parts vs) e)),
+            ∙ rw (one.0, rest.0) (ap (λ (x : Fault). Err x) (after_twice (parts v) (flat_map parts vs) e)),
         subst F (sym all) one.1,
       )

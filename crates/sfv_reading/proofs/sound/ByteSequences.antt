@@ -10,7 +10,7 @@ use Rattle.std.proofs.lemmas.List.Folds.{list_all-append}
 use Rattle.sfv_spec.specs.Ascii.{colon, equals_sign}
 use Rattle.sfv_spec.specs.Base64.{IsBase64Text, symbol}
 use Rattle.sfv_spec.proofs.Marks.{is_symbol}
-use Rattle.sfv_spec.specs.Faults.{unterminated_byte_sequence}
+use Rattle.sfv_spec.specs.declared.error_kind.ErrorKind.TheVariants.{UnterminatedByteSequence}
 use Rattle.sfv_reading.specs.Reader.{by_rule}
 use Rattle.sfv_reading.specs.Judgements.{Reached, Sound, Mute, Quiet}
 use Rattle.sfv_reading.specs.Content.{valid_from, bytes_of, fault_place, IsBytesEnd, is_colon, HasNoColon, content_in}
@@ -73,8 +73,8 @@ content_split (c ∷ t) h = elim (cases_Bool (is_colon c)) [
 ]
 
 -- what stands after the colon
-pub behind_colon : (content rest : List ℕ) → drop (length content + 1) (content ++ colon ∷ rest) ≡ rest
-behind_colon content rest = sym (drop-drop 1 (length content) (content ++ colon ∷ rest))
+pub after_colon : (content rest : List ℕ) → drop (length content + 1) (content ++ colon ∷ rest) ≡ rest
+after_colon content rest = sym (drop-drop 1 (length content) (content ++ colon ∷ rest))
     ∙ rw (drop_at content (colon ∷ rest) (length content) refl) refl
 
 -- on a content and a colon
@@ -85,7 +85,7 @@ read_closed content rest h = let c = content_is content rest h in rw (c.1, c.0) 
 
 pub read_value : (content rest bytes : List ℕ) → HasNoColon content → bytes_of content ≡ Some bytes
     → bytes_at (content ++ colon ∷ rest) ≡ Ok (bytes, rest)
-read_value content rest bytes h e = read_closed content rest h ∙ rw e (rw (behind_colon content rest) refl)
+read_value content rest bytes h e = read_closed content rest h ∙ rw e (rw (after_colon content rest) refl)
 
 pub read_fault : (content rest : List ℕ) → HasNoColon content → bytes_of content ≡ None
     → bytes_at (content ++ colon ∷ rest) ≡ Err (content_fault content
@@ -93,7 +93,7 @@ pub read_fault : (content rest : List ℕ) → HasNoColon content → bytes_of c
 read_fault content rest h e = read_closed content rest h ∙ rw e refl
 
 pub read_unclosed : (t : List ℕ) → list_any is_colon t ≡ false
-    → bytes_at t ≡ Err (by_rule unterminated_byte_sequence [])
+    → bytes_at t ≡ Err (by_rule UnterminatedByteSequence [])
 unfolding bytes_at
 read_unclosed t h = rw h refl
 
@@ -129,7 +129,7 @@ sound_closed : (content rest : List ℕ) (value : Option (List ℕ)) → bytes_o
     (closed_by (content ++ colon ∷ rest) content value)
 sound_closed content rest (Some bytes) e = (
   content ++ colon ∷ [],
-  rw (behind_colon content rest) (sym (append_assoc content (colon ∷ []) rest)),
+  rw (after_colon content rest) (sym (append_assoc content (colon ∷ []) rest)),
   record {
     front = content;
     back = colon ∷ [];

@@ -6,7 +6,7 @@ use Rattle.std.specs.List.{list_all}
 use Rattle.std.proofs.lemmas.Bool.{and_from, and_parts, true≢false, eqb-true}
 use Rattle.sfv_spec.specs.Texts.{RunOf}
 use Rattle.sfv_spec.specs.Events.{TreeEvent}
-use Rattle.sfv_spec.specs.Faults.{SyntaxFault}
+use Rattle.sfv_spec.specs.declared.error_kind.ErrorKind.{ErrorKind}
 use Rattle.sfv_reading.specs.Judgements.{GoesOn, Reached, Sound}
 use Rattle.sfv_reading.specs.Reader.{has_rule, Fault, Answer, Reader, and_then, give, fail, ruled, ◌>>=◌, bind}
 use Rattle.sfv_reading.specs.Reader.{led_answer, led}
@@ -22,19 +22,19 @@ further W s q e g = record {
 }
 
 -- after a text that was read before
-pub behind : {A : Type 0} (P : A → List ℕ → Type 0) (W : List ℕ → List TreeEvent → Type 0)
+pub after : {A : Type 0} (P : A → List ℕ → Type 0) (W : List ℕ → List TreeEvent → Type 0)
     (V : List TreeEvent → Type 0) (s q : List ℕ) (a : Answer A)
     → Reached (λ v u. P v (s ++ u)) (λ u es. W (s ++ u) es) V q a
     → Reached P W V (s ++ q) a
-behind P W V s q (Ok x) h = (s ++ h.0, ap (λ (l : List ℕ). s ++ l) h.1 ∙ sym (append_assoc s h.0 x.1), h.2)
-behind P W V s q (Err e) h = ((λ x. further W s q e (h.0 x)), h.1)
+after P W V s q (Ok x) h = (s ++ h.0, ap (λ (l : List ℕ). s ++ l) h.1 ∙ sym (append_assoc s h.0 x.1), h.2)
+after P W V s q (Err e) h = ((λ x. further W s q e (h.0 x)), h.1)
 
 pub Sound-give : {A : Type 0} (v : A) (P : A → List ℕ → Type 0)
     (W : List ℕ → List TreeEvent → Type 0) (V : List TreeEvent → Type 0) → P v [] → Sound (give v) P W V
 unfolding give
 Sound-give v P W V q = record { sound = λ t. ([], refl, q) }
 
-pub Sound-fail : {A : Type 0} (k : SyntaxFault) (P : A → List ℕ → Type 0)
+pub Sound-fail : {A : Type 0} (k : ErrorKind) (P : A → List ℕ → Type 0)
     (W : List ℕ → List TreeEvent → Type 0) (V : List TreeEvent → Type 0) (c : List ℕ) → W c [] → Sound (fail k) P W V
 unfolding fail
 Sound-fail k P W V c q = record {
@@ -44,7 +44,7 @@ Sound-fail k P W V c q = record {
   );
 }
 
-pub Sound-ruled : {A : Type 0} (k : SyntaxFault) (P : A → List ℕ → Type 0)
+pub Sound-ruled : {A : Type 0} (k : ErrorKind) (P : A → List ℕ → Type 0)
     (W : List ℕ → List TreeEvent → Type 0) (V : List TreeEvent → Type 0) → has_rule k ≡ true → V []
     → Sound (ruled k) P W V
 unfolding ruled
@@ -71,7 +71,7 @@ branch_on : {A : Type 0} (P : A → List ℕ → Type 0) (W : List ℕ → List 
     (V : List TreeEvent → Type 0) (b : Bool) (c : ℕ) (r : List ℕ) (x y : Answer A)
     → (b ≡ true → Reached (λ v s. P v (c ∷ s)) (λ s es. W (c ∷ s) es) V r x) → (b ≡ false → Reached P W V (c ∷ r) y)
     → Reached P W V (c ∷ r) (cond b x y)
-branch_on P W V true c r x y h k = behind P W V (c ∷ []) r x (h refl)
+branch_on P W V true c r x y h k = after P W V (c ∷ []) r x (h refl)
 branch_on P W V false c r x y h k = k refl
 
 pub Sound-branch : {A : Type 0} (class : ℕ → Bool) (taken : ℕ → Reader A) (other : Reader A)
@@ -116,13 +116,13 @@ Found P (Some v) s = P v s
 Found P None s = ⊤
 
 from_start : {A : Type 0} (P : A → List ℕ → Type 0) (W : List ℕ → List TreeEvent → Type 0)
-    (V : List TreeEvent → Type 0) (k : SyntaxFault) (t : List ℕ) (a : Answer (Option A)) → has_rule k ≡ true → V []
+    (V : List TreeEvent → Type 0) (k : ErrorKind) (t : List ℕ) (a : Answer (Option A)) → has_rule k ≡ true → V []
     → Reached (Found P) W V t a → Reached P W V t (at_start k t a)
 from_start P W V k t (Ok (Some v, r)) late q h = h
 from_start P W V k t (Ok (None, r)) late q h = ((λ e. absurd (true≢false (sym e))), λ _. (q, late))
 from_start P W V k t (Err e) late q h = h
 
-pub Sound-back : {A : Type 0} (k : SyntaxFault) (f : Reader (Option A)) (P : A → List ℕ → Type 0) (W : List ℕ
+pub Sound-back : {A : Type 0} (k : ErrorKind) (f : Reader (Option A)) (P : A → List ℕ → Type 0) (W : List ℕ
     → List TreeEvent → Type 0) (V : List TreeEvent → Type 0) → has_rule k ≡ true → V [] → Sound f (Found P) W V
     → Sound (back k f) P W V
 unfolding back
@@ -133,7 +133,7 @@ bind_on : {A B : Type 0} (P : A → List ℕ → Type 0) (Q : B → List ℕ →
     → ((s : List ℕ) (v : A) → P v s → Sound (g v) (λ w u. Q w (s ++ u)) (λ u es. W (s ++ u) es) V) → Reached P W V t a
     → Reached Q W V t (and_then a g)
 bind_on P Q W V g t (Ok x) h m = subst (λ (t : List ℕ). Reached Q W V t (g x.0 x.1)) (sym m.1)
-    (behind Q W V m.0 x.1 (g x.0 x.1) ((h m.0 x.0 m.2).sound x.1))
+    (after Q W V m.0 x.1 (g x.0 x.1) ((h m.0 x.0 m.2).sound x.1))
 bind_on P Q W V g t (Err e) h m = m
 
 pub Sound-bind : {A B : Type 0} (P : A → List ℕ → Type 0) (f : Reader A) (g : A → Reader B)
@@ -317,8 +317,8 @@ Goes {A} P parts u es = (v : A) × P v u × Begins (parts v) es
 abbrev pub Reads : {A : Type 0} → Reader A → (A → List ℕ → Type 0) → (List ℕ → List TreeEvent → Type 0) → Type 0
 Reads f P W = Sound f P W (Somewhere W)
 
-pub begins_behind : (front all es : List TreeEvent) → Begins all es → Begins (front ++ all) (front ++ es)
-begins_behind front all es b = (b.0, ap (λ (l : List TreeEvent). front ++ l) b.1 ∙ sym (append_assoc front es b.0))
+pub begins_after : (front all es : List TreeEvent) → Begins all es → Begins (front ++ all) (front ++ es)
+begins_after front all es b = (b.0, ap (λ (l : List TreeEvent). front ++ l) b.1 ∙ sym (append_assoc front es b.0))
 
 pub begins_longer : (all es more : List TreeEvent) → Begins all es → Begins (all ++ more) es
 begins_longer all es more b = (b.0 ++ more, ap (λ (l : List TreeEvent). l ++ more) b.1 ∙ append_assoc es b.0 more)

@@ -5,9 +5,9 @@ use Rattle.std.specs.Prelude.{flat_map}
 use Rattle.std.proofs.lemmas.List.{append-nil, append_cancel_right, length-append}
 use Rattle.sfv_spec.specs.Texts.{IsJoining}
 use Rattle.sfv_spec.specs.Events.{TreeEvent}
-use Rattle.sfv_spec.specs.Faults.{unterminated_byte_sequence}
+use Rattle.sfv_spec.specs.declared.error_kind.ErrorKind.TheVariants.{UnterminatedByteSequence}
 use Rattle.sfv_reading.specs.Judgements.{Reached, Sound, Lasts, Local}
-use Rattle.sfv_reading.specs.Reader.{Fault, Answer, Reader, behind_events, and_then, give, ◌>>=◌, bind, led_answer, led}
+use Rattle.sfv_reading.specs.Reader.{Fault, Answer, Reader, after_events, and_then, give, ◌>>=◌, bind, led_answer, led}
 use Rattle.sfv_reading.specs.Reader.{go_on, many_within, many}
 use Rattle.sfv_reading.proofs.sound.Combinators.{Sound-give, Sound-ruled, Sound-led, Sound-bind, Sound-map}
 use Rattle.sfv_reading.proofs.sound.Combinators.{Sound-weaker}
@@ -68,7 +68,7 @@ module _ {A : Type 0} (P : A → List ℕ → Type 0) (E : List ℕ → Type 0)
   within : (n : ℕ) (s : List ℕ) (vs : List A) → IsJoining P vs s
       → Sound (many_within parts n step) (Joined P E) (Behind parts W s vs) (Told parts V vs)
   unfolding many_within
-  within zero s vs j = Sound-ruled unterminated_byte_sequence _ _ _ refl (z s vs j)
+  within zero s vs j = Sound-ruled UnterminatedByteSequence _ _ _ refl (z s vs j)
   within (suc n) s vs j = Sound-bind (Step P E) step (go_on parts (many_within parts n step)) (Joined P E) _ _
       (h s vs j) (λ u o e. next (many_within parts n step) (λ s vs j. within n s vs j) s vs j u o e)
 
@@ -98,7 +98,7 @@ Local-go_on parts more (Some v) h = Local-led (parts v) _ (Local-bind more _ h (
 Local-many_within : {A : Type 0} {step : Reader (Option A)} (parts : A → List TreeEvent) (n : ℕ) → Local step
     → Local (many_within parts n step)
 unfolding many_within
-Local-many_within parts zero h = Local-ruled unterminated_byte_sequence
+Local-many_within parts zero h = Local-ruled UnterminatedByteSequence
 Local-many_within {step = step} parts (suc n) h = Local-bind step (go_on parts (many_within parts n step)) h
     (λ o. Local-go_on parts (many_within parts n step) o (Local-many_within parts n h))
 
@@ -109,7 +109,7 @@ put parts v a = led_answer (parts v) (and_then a (λ vs. give (v ∷ vs)))
 -- values that were read before
 abbrev pub in_front : {A : Type 0} → (A → List TreeEvent) → List A → Answer (List A) → Answer (List A)
 in_front parts front (Ok x) = Ok (front ++ x.0, x.1)
-in_front parts front (Err e) = Err (behind_events (flat_map parts front) e)
+in_front parts front (Err e) = Err (after_events (flat_map parts front) e)
 
 pub regroup : {A : Type 0} (parts : A → List TreeEvent) (front : List A) (v : A) (a : Answer (List A))
     → in_front parts front (put parts v a) ≡ in_front parts (front ++ v ∷ []) a
@@ -236,7 +236,7 @@ module _ {A : Type 0} (parts : A → List TreeEvent) (step : Reader (Option A)) 
       sym so_far ∙ ap (in_front parts front) one ∙ ap (λ (vs : List A). Ok (vs, r)) (append-nil front)
 
   pub is_faulty : (front : List A) (t : List ℕ) (f : Fault) (total : Answer (List A)) → step t ≡ Err f
-      → in_front parts front (many parts step t) ≡ total → total ≡ Err (behind_events (flat_map parts front) f)
+      → in_front parts front (many parts step t) ≡ total → total ≡ Err (after_events (flat_map parts front) f)
   unfolding bind
   is_faulty front t f total e so_far =
       let one : many parts step t ≡ Err f = many_is t ∙ rw e refl in

@@ -9,18 +9,20 @@ use Rattle.std.proofs.lemmas.List.{append-nil}
 use Rattle.std.proofs.lemmas.Str.{IsUtf8-from_is_utf8}
 use Rattle.sfv_spec.specs.Ascii.{double_quote, backslash}
 use Rattle.sfv_spec.specs.Strings.{IsStringPiece, IsDisplayPiece}
-use Rattle.sfv_spec.specs.Faults.{SyntaxFault, invalid_string_character, unterminated_string}
-use Rattle.sfv_spec.specs.Faults.{unterminated_escape_sequence, invalid_escape_sequence, invalid_utf8_in_display_string}
+use Rattle.sfv_spec.specs.declared.error_kind.ErrorKind.{ErrorKind}
+use Rattle.sfv_spec.specs.declared.error_kind.ErrorKind.TheVariants.{InvalidStringCharacter, UnterminatedString}
+use Rattle.sfv_spec.specs.declared.error_kind.ErrorKind.TheVariants.{UnterminatedEscapeSequence, InvalidEscapeSequence}
+use Rattle.sfv_spec.specs.declared.error_kind.ErrorKind.TheVariants.{InvalidUtf8InDisplayString}
 use Rattle.sfv_reading.specs.Reader.{Fault, Answer, at_reach, by_rule}
 use Rattle.sfv_reading.specs.Judgements.{GoesOn, Reached, Sound, Mute, Quiet}
-use Rattle.sfv_reading.specs.Quoted.{IsStringEnd, IsDisplayEnd, string_at, outside, pieces_from, behind_pieces, checked}
+use Rattle.sfv_reading.specs.Quoted.{IsStringEnd, IsDisplayEnd, string_at, outside, pieces_from, after_pieces, checked}
 use Rattle.sfv_reading.specs.Quoted.{display_at, StringStops, DisplayStops, Traced, IsDisplayFault}
 use Rattle.sfv_reading.proofs.quoted.Traces.{Ends, trace_of_string, trace_of_display}
 use Rattle.sfv_reading.proofs.quoted.Pieces.{display_ruled}
 
 -- where a reader stopped, without how its fault is placed
 pub stopped_at : (exact : Bool) (P : ℕ → List ℕ → Type 0)
-    (Stops : SyntaxFault → List ℕ → List ℕ → Type 0) (t : List ℕ) (e : Fault) → Traced P t (Ends exact Stops (Err e))
+    (Stops : ErrorKind → List ℕ → List ℕ → Type 0) (t : List ℕ) (e : Fault) → Traced P t (Ends exact Stops (Err e))
     → Traced P t (λ bytes left. Stops e.kind left e.rest)
 stopped_at exact P Stops t e h = record {
   bytes = h.bytes;
@@ -70,31 +72,31 @@ escape_completed bytes pieces h = record {
   second = refl;
 }
 
-string_completed : (k : SyntaxFault) (left there : List ℕ) (t : List ℕ) (bytes : List ℕ) (pieces : List (List ℕ))
+string_completed : (k : ErrorKind) (left there : List ℕ) (t : List ℕ) (bytes : List ℕ) (pieces : List (List ℕ))
     → t ≡ concat pieces ++ left → AllZip IsStringPiece bytes pieces → StringStops k left there
     → GoesOn (Mute IsStringEnd) t (at_reach k there)
-string_completed unterminated_string left there t bytes pieces e h s =
+string_completed UnterminatedString left there t bytes pieces e h s =
     record {
       front = concat pieces;
       more = double_quote ∷ [];
       parts = rw (e, s.0, s.1) refl;
       holds = (bytes, completed bytes pieces (concat pieces) h refl, refl);
     }
-string_completed unterminated_escape_sequence left there t bytes pieces e h s =
+string_completed UnterminatedEscapeSequence left there t bytes pieces e h s =
     record {
       front = concat pieces ++ backslash ∷ [];
       more = double_quote ∷ double_quote ∷ [];
       parts = rw (e, s.0, s.1) (sym (append-nil _));
       holds = (bytes ++ double_quote ∷ [], escape_completed bytes pieces h, refl);
     }
-string_completed invalid_escape_sequence left there t bytes pieces e h s =
+string_completed InvalidEscapeSequence left there t bytes pieces e h s =
     record {
       front = concat pieces ++ backslash ∷ [];
       more = double_quote ∷ double_quote ∷ [];
       parts = rw (e, s.2, s.3) (sym (append_assoc (concat pieces) (backslash ∷ []) (s.0 ∷ s.1)));
       holds = (bytes ++ double_quote ∷ [], escape_completed bytes pieces h, refl);
     }
-string_completed invalid_string_character left there t bytes pieces e h s =
+string_completed InvalidStringCharacter left there t bytes pieces e h s =
     record {
       front = concat pieces;
       more = double_quote ∷ [];
@@ -127,7 +129,7 @@ Sound-string = record { sound = λ t. string_reached t (string_at t) (trace_of_s
 display_reached : (t : List ℕ) (a : Answer (List ℕ)) → Traced IsDisplayPiece t (Ends false DisplayStops a)
     → Reached IsDisplayEnd (Mute IsDisplayEnd) Quiet t (checked t a)
 display_reached t (Ok x) h =
-    let wrong : Answer (List ℕ) = Err (by_rule invalid_utf8_in_display_string (behind_pieces (utf8_valid_len x.0) t)) in
+    let wrong : Answer (List ℕ) = Err (by_rule InvalidUtf8InDisplayString (after_pieces (utf8_valid_len x.0) t)) in
     let on : (b : Bool) → is_utf8 x.0 ≡ b → Reached IsDisplayEnd (Mute IsDisplayEnd) Quiet t (cond b (Ok x) wrong) =
     λ b. elim b as (λ (b : Bool). is_utf8 x.0 ≡ b
     → Reached IsDisplayEnd (Mute IsDisplayEnd) Quiet t (cond b (Ok x) wrong)) [
@@ -162,7 +164,7 @@ pub Sound-display : Sound display_at IsDisplayEnd (Mute IsDisplayEnd) Quiet
 unfolding display_at
 Sound-display = record { sound = λ t. display_reached t (pieces_from outside t) (trace_of_display t) }
 
-pub stopped : (t there : List ℕ) (k : SyntaxFault) → Traced IsDisplayPiece t (λ bytes left. DisplayStops k left there)
+pub stopped : (t there : List ℕ) (k : ErrorKind) → Traced IsDisplayPiece t (λ bytes left. DisplayStops k left there)
     → IsDisplayFault t k there
-stopped t there invalid_utf8_in_display_string h = absurd h.ends
+stopped t there InvalidUtf8InDisplayString h = absurd h.ends
 stopped t there k h = h

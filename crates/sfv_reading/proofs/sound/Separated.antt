@@ -10,13 +10,13 @@ use Rattle.sfv_spec.specs.Texts.{Exactly, RunOf, ◌⨾◌}
 use Rattle.sfv_spec.specs.Classes.{is_space, is_space_or_tab}
 use Rattle.sfv_spec.specs.Grammar.{Spaces, OptionalWhitespace, Comma, AreMembersText}
 use Rattle.sfv_spec.specs.Events.{TreeEvent}
-use Rattle.sfv_spec.specs.Faults.{trailing_comma}
+use Rattle.sfv_spec.specs.declared.error_kind.ErrorKind.TheVariants.{TrailingComma}
 use Rattle.sfv_reading.specs.Judgements.{Sound, Local}
-use Rattle.sfv_reading.specs.Reader.{Fault, Reader, Apart, any, behind_events, back, many, give}
+use Rattle.sfv_reading.specs.Reader.{Fault, Reader, Apart, any, after_events, back, many, give}
 use Rattle.sfv_reading.specs.Fields.{comma_at, next_at, members_at}
 use Rattle.sfv_reading.proofs.sound.Combinators.{run_head, Found, Sound-give, Sound-fail, Sound-led, Sound-byte}
 use Rattle.sfv_reading.proofs.sound.Combinators.{Sound-ahead, Sound-bind, Sound-map, Sound-back, Sound-within}
-use Rattle.sfv_reading.proofs.sound.Combinators.{Sound-span, Reads, Somewhere, Goes, begins_behind, begins_longer}
+use Rattle.sfv_reading.proofs.sound.Combinators.{Sound-span, Reads, Somewhere, Goes, begins_after, begins_longer}
 use Rattle.sfv_reading.proofs.local.Combinators.{Local-give, Local-fail, Local-led, Local-bind, Local-ahead, Local-back}
 use Rattle.sfv_reading.proofs.local.Combinators.{Local-span, local_rules}
 use Rattle.sfv_reading.proofs.complete.Combinators.{Apart-nil, Apart-cons, branch_take, ahead_past, ahead_take}
@@ -26,7 +26,7 @@ use Rattle.sfv_reading.proofs.texts.Joining.{Joined, split_joined, joined_split}
 use Rattle.sfv_reading.proofs.sound.Many.{Step, Consumes, Consumes-from, Local-many, many_complete}
 use Rattle.sfv_reading.proofs.sound.Steps.{StepGoes, Sound-steps}
 use Rattle.sfv_reading.proofs.sound.Items.{as_it_stands}
-use Rattle.sfv_reading.proofs.rules.UpToFault.{behind_twice, bind_met, led_met, many_met}
+use Rattle.sfv_reading.proofs.rules.UpToFault.{after_twice, bind_met, led_met, many_met}
 
 -- a comma, and what may stand after it
 abbrev pub IsComma : Unit {0} → List ℕ → Type 0
@@ -73,7 +73,7 @@ module _ {A : Type 0} (P : A → List ℕ → Type 0) (parts : A → List TreeEv
       let done : OptionalWhitespace (s ++ []) = subst OptionalWhitespace (sym (append-nil s)) each in
       Sound-ahead _ _ _ _ _ _
       (Sound-ahead _ _ _ _ _ _
-      (Sound-bind IsComma (back trailing_comma comma_at) _ _ _ _ (Sound-back _ _ _ _ _ refl (
+      (Sound-bind IsComma (back TrailingComma comma_at) _ _ _ _ (Sound-back _ _ _ _ _ refl (
         [],
         (None, refl, ([], refl)),
       ) (Sound-comma _ _))
@@ -104,9 +104,9 @@ module _ {A : Type 0} (P : A → List ℕ → Type 0) (parts : A → List TreeEv
       next_takes
 
   -- in the form of the grammar
-  pub members_text : (s t u : List ℕ) (m : A) (ms : List A) → RunOf is_space s → P m t
+  pub dictionary_members_text : (s t u : List ℕ) (m : A) (ms : List A) → RunOf is_space s → P m t
       → Joined IsNext OptionalWhitespace ms u → AreMembersText P (m ∷ ms) (s ++ (t ++ u))
-  members_text s t u m ms each h j =
+  dictionary_members_text s t u m ms each h j =
       let k = split_joined IsNext OptionalWhitespace ms u j in
       record {
         front = s;
@@ -129,15 +129,15 @@ module _ {A : Type 0} (P : A → List ℕ → Type 0) (parts : A → List TreeEv
       Sound-ahead _ _ _ _ _ _
       (Sound-bind P one _ _ _ _
       (Sound-within (λ x. s ++ x) (λ es. es) one P (Goes P parts) _ MembersGo h (λ m t g. g)
-      (λ x es g. ([], (g.0 ∷ [], members_text s x [] g.0 [] each g.1 refl, begins_longer (parts g.0) es [] g.2))))
+      (λ x es g. ([], (g.0 ∷ [], dictionary_members_text s x [] g.0 [] each g.1 refl, begins_longer (parts g.0) es [] g.2))))
       (λ t m k. Sound-led _ _ _ _ _ (Sound-map (many parts (next_at one)) (λ ms. m ∷ ms) _ _ _
       (Sound-within (λ x. s ++ (t ++ x)) (λ es. parts m ++ es) _ _ _ _ MembersGo
       (Sound-steps IsNext OptionalWhitespace parts [] refl (next_at one) (Sound-next h))
-      (λ ms x j. members_text s t x m ms each k j)
+      (λ ms x j. dictionary_members_text s t x m ms each k j)
       (λ x es g. as_it_stands (λ l fs. MembersGo (s ++ (t ++ l)) (parts m ++ fs)) x es (
         m ∷ g.0,
-        members_text s t x m g.0 each k g.1,
-        begins_behind (parts m) (flat_map parts g.0) es g.2,
+        dictionary_members_text s t x m g.0 each k g.1,
+        begins_after (parts m) (flat_map parts g.0) es g.2,
       ))))))
       (Sound-give _ _ _ _ (subst Spaces (sym (append-nil s)) each)))
 
@@ -162,11 +162,11 @@ module _ {A : Type 0} (P : A → List ℕ → Type 0) (parts : A → List TreeEv
 
   -- ---- members are read again
 
-  pub comma_complete : (behind q : List ℕ) → RunOf is_space_or_tab behind → Apart is_space_or_tab q → 1 ≤ length q
-      → back trailing_comma comma_at (comma ∷ (behind ++ q)) ≡ Ok (tt, q)
+  pub comma_complete : (after q : List ℕ) → RunOf is_space_or_tab after → Apart is_space_or_tab q → 1 ≤ length q
+      → back TrailingComma comma_at (comma ∷ (after ++ q)) ≡ Ok (tt, q)
   unfolding comma_at give
-  comma_complete behind q each h some = back_complete _ _ _ _ _ (branch_take _ _ _ comma (behind ++ q) refl
-      ∙ bind_complete _ _ _ _ _ (span_complete is_space_or_tab behind q each h) ∙ ahead_any _ _ q some)
+  comma_complete after q each h some = back_complete _ _ _ _ _ (branch_take _ _ _ comma (after ++ q) refl
+      ∙ bind_complete _ _ _ _ _ (span_complete is_space_or_tab after q each h) ∙ ahead_any _ _ q some)
 
   -- F: what may stand after a member
   module _ (F : List ℕ → Type 0) (again : (m : A) (t q : List ℕ) → P m t → F q
@@ -234,7 +234,7 @@ module _ {A : Type 0} (P : A → List ℕ → Type 0) (parts : A → List TreeEv
     -- up to a fault of what comes after the last
     pub members_met : Reads one P (Goes P parts) → (m : A) (ms : List A) (t q : List ℕ) (e : Fault)
         → (h : AreMembersText P (m ∷ ms) t) → next_at one (h.second.back ++ q) ≡ Err e → F q
-        → members_at parts one (t ++ q) ≡ Err (behind_events (flat_map parts (m ∷ ms)) e)
+        → members_at parts one (t ++ q) ≡ Err (after_events (flat_map parts (m ∷ ms)) e)
     unfolding members_at
     members_met r m ms t q e h met f =
         let o = h.second.first in
@@ -251,4 +251,4 @@ module _ {A : Type 0} (P : A → List ℕ → Type 0) (parts : A → List TreeEv
         ∙ ahead_any _ _ (o.front ++ (o.back ++ (z ++ q))) n.1
         ∙ bind_complete _ _ _ _ _ (again m o.front (o.back ++ (z ++ q)) o.first more.1)
         ∙ led_met _ _ _ _ (bind_met _ _ _ _ more.0)
-        ∙ ap (λ (x : Fault). Err x) (behind_twice (parts m) (flat_map parts ms) e)
+        ∙ ap (λ (x : Fault). Err x) (after_twice (parts m) (flat_map parts ms) e)

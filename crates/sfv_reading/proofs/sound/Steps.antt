@@ -5,7 +5,7 @@ use Rattle.std.proofs.lemmas.List.{append-nil}
 use Rattle.sfv_spec.specs.Texts.{IsJoining}
 use Rattle.sfv_spec.specs.Events.{TreeEvent}
 use Rattle.sfv_reading.specs.Reader.{Reader, many}
-use Rattle.sfv_reading.proofs.sound.Combinators.{Sound-weaker, Somewhere, Begins, Goes, Reads, begins_behind}
+use Rattle.sfv_reading.proofs.sound.Combinators.{Sound-weaker, Somewhere, Begins, Goes, Reads, begins_after}
 use Rattle.sfv_reading.proofs.texts.Joining.{joining_push, Joined, joined_split, events_push}
 use Rattle.sfv_reading.proofs.sound.Many.{Step, Behind, Told, Sound-many}
 
@@ -33,7 +33,7 @@ module _ {A : Type 0} (P : A → List ℕ → Type 0) (E : List ℕ → Type 0) 
       vs,
       joined_split P E vs s (u ++ []) j (subst E (sym (append-nil u)) h),
       subst (λ (l : List TreeEvent). Begins l (flat_map parts vs ++ es)) (append-nil (flat_map parts vs))
-          (begins_behind (flat_map parts vs) [] es b),
+          (begins_after (flat_map parts vs) [] es b),
     ),
   )
   goes_on s vs j u es (Some v) h b = (
@@ -45,7 +45,7 @@ module _ {A : Type 0} (P : A → List ℕ → Type 0) (E : List ℕ → Type 0) 
       subst (λ (l : List TreeEvent). Begins l (flat_map parts vs ++ es))
           (sym (sym (append-nil (flat_map parts (vs ++ v ∷ []))) ∙ events_push parts vs v []
           ∙ ap (λ (l : List TreeEvent). flat_map parts vs ++ l) (append-nil (parts v))))
-          (begins_behind (flat_map parts vs) (parts v) es b),
+          (begins_after (flat_map parts vs) (parts v) es b),
     ),
   )
 

@@ -5,24 +5,24 @@ use Rattle.std.specs.Prelude.{flat_map}
 use Rattle.std.proofs.lemmas.List.{append-nil}
 use Rattle.std.proofs.lemmas.Bool.{true≢false}
 use Rattle.sfv_spec.specs.Events.{TreeEvent}
-use Rattle.sfv_spec.specs.Faults.{SyntaxFault}
+use Rattle.sfv_spec.specs.declared.error_kind.ErrorKind.{ErrorKind}
 use Rattle.sfv_reading.specs.Judgements.{Lasts, Local}
-use Rattle.sfv_reading.specs.Reader.{Fault, Answer, Reader, first, visited, behind_events, and_then, give, fail, ◌>>=◌}
+use Rattle.sfv_reading.specs.Reader.{Fault, Answer, Reader, first, visited, after_events, and_then, give, fail, ◌>>=◌}
 use Rattle.sfv_reading.specs.Reader.{bind, led_answer, led, branch, ahead, span, go_on, many, one_and_more}
-use Rattle.sfv_reading.proofs.sound.Combinators.{Begins, begins_behind, Steady-span}
+use Rattle.sfv_reading.proofs.sound.Combinators.{Begins, begins_after, Steady-span}
 use Rattle.sfv_reading.proofs.sound.Many.{Consumes, many_is}
 use Rattle.sfv_reading.proofs.sound.Steps.{step_events}
-use Rattle.sfv_reading.proofs.local.Combinators.{first_behind, untaken, looks}
+use Rattle.sfv_reading.proofs.local.Combinators.{first_after, untaken, looks}
 use Rattle.sfv_reading.proofs.places.Calls.{Stuck, stuck_led, stuck_bind}
-use Rattle.sfv_reading.proofs.places.Readers.{stuck_give, stuck_then, stuck_behind}
+use Rattle.sfv_reading.proofs.places.Readers.{stuck_give, stuck_then, stuck_after}
 
 -- After before and one byte more, the events es were told, whatever follows; and something may follow.
 pub record Tells {A : Type 0} (f : Reader A) (parts : A → List TreeEvent) (t : List ℕ) (es : List TreeEvent) : Type 0 where
   pub before : List ℕ
   pub next : ℕ
-  pub behind : List ℕ
-  pub text : t ≡ before ++ next ∷ behind
-  pub told : (r : List ℕ) → Begins (visited parts (f (before ++ next ∷ r))) es
+  pub after : List ℕ
+  pub text : t ≡ before ++ next ∷ after
+  pub emitted : (r : List ℕ) → Begins (visited parts (f (before ++ next ∷ r))) es
   pub more : List ℕ
   pub stuck : Stuck (f (before ++ next ∷ (more ++ 0 ∷ [])))
 
@@ -45,21 +45,21 @@ pub tells_after : {A : Type 0} (f g : Reader A) (parts : A → List TreeEvent) (
 tells_after f g parts p t es same m =
     let again : (r : List ℕ) → f ((p ++ m.before) ++ m.next ∷ r) ≡ g (m.before ++ m.next ∷ r) =
     λ r. ap f (append_assoc p m.before (m.next ∷ r)) ∙ same (m.before ++ m.next ∷ r)
-    (first_behind m.before (m.next ∷ r) (m.next ∷ m.behind) refl ∙ ap first (sym m.text)) in
+    (first_after m.before (m.next ∷ r) (m.next ∷ m.after) refl ∙ ap first (sym m.text)) in
     record {
       before = p ++ m.before;
       next = m.next;
-      behind = m.behind;
-      text = ap (λ (l : List ℕ). p ++ l) m.text ∙ sym (append_assoc p m.before (m.next ∷ m.behind));
-      told = λ r. subst (λ a. Begins (visited parts a) es) (sym (again r)) (m.told r);
+      after = m.after;
+      text = ap (λ (l : List ℕ). p ++ l) m.text ∙ sym (append_assoc p m.before (m.next ∷ m.after));
+      emitted = λ r. subst (λ a. Begins (visited parts a) es) (sym (again r)) (m.emitted r);
       more = m.more;
       stuck = subst Stuck (sym (again (m.more ++ 0 ∷ []))) m.stuck;
     }
 
-nothing_told : {A : Type 0} (f : Reader A) (parts : A → List TreeEvent) (es : List TreeEvent) → Tells f parts [] es → ⊥
-nothing_told f parts es m = on m.before m.text
+nothing_emitted : {A : Type 0} (f : Reader A) (parts : A → List TreeEvent) (es : List TreeEvent) → Tells f parts [] es → ⊥
+nothing_emitted f parts es m = on m.before m.text
   where
-    on : (p : List ℕ) → [] ≡ p ++ m.next ∷ m.behind → ⊥
+    on : (p : List ℕ) → [] ≡ p ++ m.next ∷ m.after → ⊥
     on [] e = absurd cc
     on (c ∷ p) e = absurd cc
 
@@ -67,7 +67,7 @@ pub Early-give : {A : Type 0} (v : A) (parts : A → List TreeEvent) → Early (
 unfolding give
 Early-give v parts = record { early = λ t e i x. absurd cc }
 
-pub Early-fail : {A : Type 0} (k : SyntaxFault) (parts : A → List TreeEvent) → Early (fail k) parts
+pub Early-fail : {A : Type 0} (k : ErrorKind) (parts : A → List TreeEvent) → Early (fail k) parts
 unfolding fail
 Early-fail k parts = record {
   early = λ t e i x.
@@ -82,8 +82,8 @@ begins_led : {A : Type 0} (es : List TreeEvent) (parts whole : A → List TreeEv
     → (fs : List TreeEvent) (a : Answer A) → Begins (visited parts a) fs
     → Begins (visited whole (led_answer es a)) (es ++ fs)
 begins_led es parts whole each fs (Ok x) b =
-    subst (λ (l : List TreeEvent). Begins l (es ++ fs)) (sym (each x.0)) (begins_behind es (parts x.0) fs b)
-begins_led es parts whole each fs (Err x) b = begins_behind es x.events fs b
+    subst (λ (l : List TreeEvent). Begins l (es ++ fs)) (sym (each x.0)) (begins_after es (parts x.0) fs b)
+begins_led es parts whole each fs (Err x) b = begins_after es x.events fs b
 
 pub tells_led : {A : Type 0} (es : List TreeEvent) (f : Reader A) (parts whole : A → List TreeEvent) (t : List ℕ)
     (fs : List TreeEvent) → ((v : A) → whole v ≡ es ++ parts v) → Tells f parts t fs
@@ -92,9 +92,9 @@ unfolding led
 tells_led es f parts whole t fs each m = record {
   before = m.before;
   next = m.next;
-  behind = m.behind;
+  after = m.after;
   text = m.text;
-  told = λ r. begins_led es parts whole each fs (f (m.before ++ m.next ∷ r)) (m.told r);
+  emitted = λ r. begins_led es parts whole each fs (f (m.before ++ m.next ∷ r)) (m.emitted r);
   more = m.more;
   stuck = stuck_led es (f (m.before ++ m.next ∷ (m.more ++ 0 ∷ []))) m.stuck;
 }
@@ -108,7 +108,7 @@ Early-led {A} es f parts whole each h = record { early = λ t e i x. on t (f t) 
         → Tells (led es f) whole t e.events
     on t (Ok y) k e i x = absurd cc
     on t (Err y) k e i x =
-        let same : behind_events es y ≡ e = cc in
+        let same : after_events es y ≡ e = cc in
         subst (λ (e : Fault). Tells (led es f) whole t e.events) same
         (tells_led es f parts whole t y.events each (h.early t y k (ap (λ (e : Fault). e.exact) same ∙ x)))
 
@@ -121,9 +121,9 @@ unfolding bind
 tells_first {A} f g front parts t es goes stuck m = record {
   before = m.before;
   next = m.next;
-  behind = m.behind;
+  after = m.after;
   text = m.text;
-  told = λ r. on (f (m.before ++ m.next ∷ r)) (m.told r);
+  emitted = λ r. on (f (m.before ++ m.next ∷ r)) (m.emitted r);
   more = m.more;
   stuck = stuck_bind g (f (m.before ++ m.next ∷ (m.more ++ 0 ∷ []))) stuck m.stuck;
 }
@@ -140,9 +140,9 @@ unfolding led bind give
 tells_led_map {A} es f m front whole t fs each k = record {
   before = k.before;
   next = k.next;
-  behind = k.behind;
+  after = k.after;
   text = k.text;
-  told = λ r. on (f (k.before ++ k.next ∷ r)) (k.told r);
+  emitted = λ r. on (f (k.before ++ k.next ∷ r)) (k.emitted r);
   more = k.more;
   stuck = stuck_led es (and_then (f (k.before ++ k.next ∷ (k.more ++ 0 ∷ []))) (λ v. give (m v)))
       (stuck_bind (λ v. give (m v)) (f (k.before ++ k.next ∷ (k.more ++ 0 ∷ []))) (λ v. refl) k.stuck);
@@ -150,8 +150,8 @@ tells_led_map {A} es f m front whole t fs each k = record {
   where
     on : (a : Answer A) → Begins (visited front a) fs
         → Begins (visited whole (led_answer es (and_then a (λ v. give (m v))))) (es ++ fs)
-    on (Ok y) b = begins_trans _ _ _ (each y.0) (begins_behind es (front y.0) fs b)
-    on (Err y) b = begins_behind es y.events fs b
+    on (Ok y) b = begins_trans _ _ _ (each y.0) (begins_after es (front y.0) fs b)
+    on (Err y) b = begins_after es y.events fs b
 
 pub Early-led_map : {A B : Type 0} (es : List TreeEvent) (f : Reader A) (m : A → B) (front : A → List TreeEvent)
     (whole : B → List TreeEvent) → ((v : A) → Begins (whole (m v)) (es ++ front v)) → Early f front
@@ -163,7 +163,7 @@ Early-led_map {A} es f m front whole each h = record { early = λ t e i x. on t 
         → e.exact ≡ false → Tells (led es (f >>= λ v. give (m v))) whole t e.events
     on t (Ok y) k e i x = absurd cc
     on t (Err y) k e i x =
-        let same : behind_events es y ≡ e = cc in
+        let same : after_events es y ≡ e = cc in
         subst (λ (e : Fault). Tells (led es (f >>= λ v. give (m v))) whole t e.events) same
         (tells_led_map es f m front whole t y.events each (h.early t y k (ap (λ (e : Fault). e.exact) same ∙ x)))
 
@@ -218,7 +218,7 @@ Early-branch {A} class taken other parts h k = record { early = at }
 
     at : (t : List ℕ) (e : Fault) → branch class taken other t ≡ Err e → e.exact ≡ false
         → Tells (branch class taken other) parts t e.events
-    at [] e i x = absurd (nothing_told other parts e.events (k.early [] e i x))
+    at [] e i x = absurd (nothing_emitted other parts e.events (k.early [] e i x))
     at (c ∷ r) e i x = on (class c) c r refl e i x
 
 pub Early-ahead : {A : Type 0} (class : ℕ → Bool) (taken other : Reader A) (parts : A → List TreeEvent)
@@ -235,7 +235,7 @@ Early-ahead {A} class taken other parts h k = record { early = at }
 
     at : (t : List ℕ) (e : Fault) → ahead class taken other t ≡ Err e → e.exact ≡ false
         → Tells (ahead class taken other) parts t e.events
-    at [] e i x = absurd (nothing_told other parts e.events (k.early [] e i x))
+    at [] e i x = absurd (nothing_emitted other parts e.events (k.early [] e i x))
     at (c ∷ r) e i x = on (class c) c r refl e i x
 
 -- ---- step after step
@@ -258,7 +258,7 @@ module _ {A : Type 0} (parts : A → List TreeEvent) (step : Reader (Option A)) 
 
   stuck_on : (o : Option A) → Stuck (go_on parts (many parts step) o (0 ∷ []))
   stuck_on None = stuck_give _
-  stuck_on (Some v) = stuck_behind _ _ (stuck_then _ _ stuck (λ vs. stuck_give _))
+  stuck_on (Some v) = stuck_after _ _ (stuck_then _ _ stuck (λ vs. stuck_give _))
 
   -- so it is of shorter texts
   abbrev Shorter : ℕ → Type 0
@@ -271,7 +271,7 @@ module _ {A : Type 0} (parts : A → List TreeEvent) (step : Reader (Option A)) 
   unfolding give
   after_one n ih e x v q (Ok y) k shorter j = absurd cc
   after_one n ih e x v q (Err y) k shorter j =
-      let same : behind_events (parts v) y ≡ e = cc in
+      let same : after_events (parts v) y ≡ e = cc in
       subst (λ (e : Fault). Tells (go_on parts (many parts step) (Some v)) All q e.events) same
       (tells_led_map (parts v) (many parts step) (λ vs. v ∷ vs) All All q y.events (λ vs. ([], sym (append-nil _)))
       (ih q y shorter k (ap (λ (e : Fault). e.exact) same ∙ x)))
@@ -311,7 +311,7 @@ module _ {A : Type 0} (parts : A → List TreeEvent) (step : Reader (Option A)) 
   Early-one_and_more one first local =
       Early-bind one (λ v. led (parts v) (many parts step >>= λ vs. give (v ∷ vs))) parts All first local
       (λ v. Early-led_map (parts v) (many parts step) (λ vs. v ∷ vs) All All (λ vs. ([], sym (append-nil _))) Early-many)
-      put_goes (λ v. stuck_behind _ _ (stuck_then _ _ stuck (λ vs. stuck_give _)))
+      put_goes (λ v. stuck_after _ _ (stuck_then _ _ stuck (λ vs. stuck_give _)))
 
 -- fewer events
 begins_fewer : {A : Type 0} (few parts : A → List TreeEvent) → ((v : A) → Begins (parts v) (few v)) → (es : List TreeEvent)
@@ -325,9 +325,9 @@ Early-more f few parts each h = record {
   early = λ t e i x. let m = h.early t e i x in record {
     before = m.before;
     next = m.next;
-    behind = m.behind;
+    after = m.after;
     text = m.text;
-    told = λ r. begins_fewer few parts each e.events (f (m.before ++ m.next ∷ r)) (m.told r);
+    emitted = λ r. begins_fewer few parts each e.events (f (m.before ++ m.next ∷ r)) (m.emitted r);
     more = m.more;
     stuck = m.stuck;
   };
@@ -338,8 +338,8 @@ begins_in : {A : Type 0} (es : List TreeEvent) (parts whole : A → List TreeEve
     → ((v : A) (q : List ℕ) → a ≡ Ok (v, q) → whole v ≡ es ++ parts v) → Begins (visited parts a) fs
     → Begins (visited whole (led_answer es a)) (es ++ fs)
 begins_in es parts whole fs (Ok x) each b =
-    subst (λ (l : List TreeEvent). Begins l (es ++ fs)) (sym (each x.0 x.1 refl)) (begins_behind es (parts x.0) fs b)
-begins_in es parts whole fs (Err x) each b = begins_behind es x.events fs b
+    subst (λ (l : List TreeEvent). Begins l (es ++ fs)) (sym (each x.0 x.1 refl)) (begins_after es (parts x.0) fs b)
+begins_in es parts whole fs (Err x) each b = begins_after es x.events fs b
 
 pub Early-led_in : {A : Type 0} (es : List TreeEvent) (f : Reader A) (parts whole : A → List TreeEvent)
     → ((t : List ℕ) (v : A) (q : List ℕ) → f t ≡ Ok (v, q) → whole v ≡ es ++ parts v) → Early f parts
@@ -351,15 +351,15 @@ Early-led_in {A} es f parts whole each h = record { early = λ t e i x. on t (f 
         → Tells (led es f) whole t e.events
     on t (Ok y) k e i x = absurd cc
     on t (Err y) k e i x =
-        let same : behind_events es y ≡ e = cc in
+        let same : after_events es y ≡ e = cc in
         let m = h.early t y k (ap (λ (e : Fault). e.exact) same ∙ x) in
         subst (λ (e : Fault). Tells (led es f) whole t e.events) same (record {
           before = m.before;
           next = m.next;
-          behind = m.behind;
+          after = m.after;
           text = m.text;
-          told = λ r. begins_in es parts whole y.events (f (m.before ++ m.next ∷ r)) (each (m.before ++ m.next ∷ r))
-              (m.told r);
+          emitted = λ r. begins_in es parts whole y.events (f (m.before ++ m.next ∷ r)) (each (m.before ++ m.next ∷ r))
+              (m.emitted r);
           more = m.more;
           stuck = stuck_led es (f (m.before ++ m.next ∷ (m.more ++ 0 ∷ []))) m.stuck;
         })

@@ -5,13 +5,17 @@ use Rattle.std.proofs.lemmas.List.{append-nil}
 use Rattle.std.proofs.lemmas.Bool.{true≢false, cases_Bool, eqb-true}
 use Rattle.sfv_spec.proofs.Marks.{comma}
 use Rattle.sfv_spec.specs.Classes.{is_space}
-use Rattle.sfv_spec.specs.Values.{Edition, FieldKind, item_field, list_field, dictionary_field, boolean, RawParameters}
+use Rattle.sfv_spec.specs.Values.{boolean, RawParameters}
+use Rattle.sfv_spec.specs.declared.field_kind.FieldKind.{FieldKind}
+use Rattle.sfv_spec.specs.declared.field_kind.FieldKind.TheVariants.{Item as item_field, List as list_field}
+use Rattle.sfv_spec.specs.declared.field_kind.FieldKind.TheVariants.{Dictionary as dictionary_field}
+use Rattle.sfv_spec.specs.declared.version.Version.{Version}
 use Rattle.sfv_spec.specs.Values.{RawItem, RawMember, item, inner_list}
 use Rattle.sfv_spec.specs.Grammar.{true_with, IsMemberText, IsDictionaryMemberText}
 use Rattle.sfv_spec.specs.Events.{TreeEvent, events, entry, keyed_entry, begins_item, begins_inner_list, bare_item}
 use Rattle.sfv_spec.specs.Events.{inner_list_end, inner_item_events, parameters_events, item_events, member_events}
 use Rattle.sfv_spec.specs.Events.{entry_events, keyed_events}
-use Rattle.sfv_spec.specs.Faults.{trailing_comma, trailing_characters_after_member}
+use Rattle.sfv_spec.specs.declared.error_kind.ErrorKind.TheVariants.{TrailingComma, TrailingCharactersAfterMember}
 use Rattle.sfv_reading.specs.Judgements.{Reached, Local, Quiet}
 use Rattle.sfv_reading.specs.Reader.{Fault, Answer, Reader, visited, and_then, give, fail, ◌>>=◌, bind, led, led_answer}
 use Rattle.sfv_reading.specs.Reader.{branch, ahead, back, span, many, one_and_more, byte, any}
@@ -32,7 +36,7 @@ use Rattle.sfv_reading.proofs.local.Members.{Local-inner_item, Local-next_item, 
 use Rattle.sfv_reading.proofs.local.Members.{Local-entry, Local-keyed}
 use Rattle.sfv_reading.proofs.places.Calls.{Stuck, stuck_bind}
 use Rattle.sfv_reading.proofs.places.Walks.{Mark, eaten}
-use Rattle.sfv_reading.proofs.places.Readers.{stuck_give, stuck_then, stuck_behind, stuck_value, stuck_parameters}
+use Rattle.sfv_reading.proofs.places.Readers.{stuck_give, stuck_then, stuck_after, stuck_value, stuck_parameters}
 use Rattle.sfv_reading.proofs.places.Readers.{stuck_next_items, stuck_next, stuck_space, stuck_last}
 use Rattle.sfv_reading.proofs.places.Readers.{stuck-member_value, Local-comma}
 use Rattle.sfv_reading.proofs.visits.Early.{Tells, Early, begins_all, Early-give, Early-fail, Early-span}
@@ -50,10 +54,10 @@ abbrev exact_of : {A : Type 0} → Answer A → Bool
 exact_of (Ok x) = true
 exact_of (Err e) = e.exact
 
-comma_quiet : (t : List ℕ) (y : Fault) → back trailing_comma comma_at t ≡ Err y → y.events ≡ []
+comma_quiet : (t : List ℕ) (y : Fault) → back TrailingComma comma_at t ≡ Err y → y.events ≡ []
 comma_quiet t y e =
     let m : Reached IsComma (λ _ _. ⊥) Quiet t (Err y) = subst (λ a. Reached IsComma (λ _ _. ⊥) Quiet t a) e
-    ((Sound-back trailing_comma comma_at IsComma (λ _ _. ⊥) Quiet refl refl (Sound-comma _ _)).sound t) in
+    ((Sound-back TrailingComma comma_at IsComma (λ _ _. ⊥) Quiet refl refl (Sound-comma _ _)).sound t) in
     elim (cases_Bool y.exact) [ inl x ↦ absurd ((m.0 x).holds) | inr x ↦ (m.1 x).0 ]
 
 module _ {A : Type 0} (P : A → List ℕ → Type 0) (parts : A → List TreeEvent) (one : Reader A)
@@ -65,19 +69,19 @@ module _ {A : Type 0} (P : A → List ℕ → Type 0) (parts : A → List TreeEv
   Early-another = Early-map one (λ m. Some m) parts (step_events parts) h l (λ m. ([], sym (append-nil _)))
 
   abbrev AtComma : Reader (Option A)
-  AtComma = ahead (byte comma) (back trailing_comma comma_at >>= λ _. Another) (fail trailing_characters_after_member)
+  AtComma = ahead (byte comma) (back TrailingComma comma_at >>= λ _. Another) (fail TrailingCharactersAfterMember)
 
   stuck_comma : Stuck (AtComma (comma ∷ 0 ∷ []))
   unfolding ahead back comma_at branch span bind give
   stuck_comma = stuck_bind (λ m. give (Some m)) (one (0 ∷ [])) (λ m. refl) stuck
 
   after_comma : (c : ℕ) (r : List ℕ) → byte comma c ≡ true → (a : Answer (Unit {0}))
-      → back trailing_comma comma_at (c ∷ r) ≡ a → (e : Fault) → and_then a (λ _. Another) ≡ Err e → e.exact ≡ false
+      → back TrailingComma comma_at (c ∷ r) ≡ a → (e : Fault) → and_then a (λ _. Another) ≡ Err e → e.exact ≡ false
       → Tells AtComma (step_events parts) (c ∷ r) e.events
   after_comma c r n (Ok (v, q)) k e i x =
-      tells_after AtComma (back trailing_comma comma_at >>= λ _. Another) (step_events parts) [] (c ∷ r) e.events
+      tells_after AtComma (back TrailingComma comma_at >>= λ _. Another) (step_events parts) [] (c ∷ r) e.events
       (λ q j. looks (byte comma) _ _ q true c n j)
-      (tells_second (back trailing_comma comma_at) (λ _. Another) (step_events parts) (c ∷ r) v q e.events Local-comma k
+      (tells_second (back TrailingComma comma_at) (λ _. Another) (step_events parts) (c ∷ r) v q e.events Local-comma k
       (Early-another.early q e i x))
   after_comma c r n (Err y) k e i x =
       let same : y ≡ e = cc in
@@ -85,9 +89,9 @@ module _ {A : Type 0} (P : A → List ℕ → Type 0) (parts : A → List TreeEv
       (sym (comma_quiet (c ∷ r) y k) ∙ ap (λ (y : Fault). y.events) same) (record {
         before = [];
         next = c;
-        behind = r;
+        after = r;
         text = refl;
-        told = λ r. begins_all _;
+        emitted = λ r. begins_all _;
         more = [];
         stuck = subst (λ (c : ℕ). Stuck (AtComma (c ∷ 0 ∷ []))) (sym (eqb-true c comma n)) stuck_comma;
       })
@@ -97,10 +101,10 @@ module _ {A : Type 0} (P : A → List ℕ → Type 0) (parts : A → List TreeEv
   Early-comma = record { early = at }
     where
       on : (b : Bool) (c : ℕ) (r : List ℕ) → byte comma c ≡ b → (e : Fault)
-          → cond b ((back trailing_comma comma_at >>= λ _. Another) (c ∷ r))
-          (fail trailing_characters_after_member (c ∷ r)) ≡ Err e → e.exact ≡ false
+          → cond b ((back TrailingComma comma_at >>= λ _. Another) (c ∷ r))
+          (fail TrailingCharactersAfterMember (c ∷ r)) ≡ Err e → e.exact ≡ false
           → Tells AtComma (step_events parts) (c ∷ r) e.events
-      on true c r n e i x = after_comma c r n (back trailing_comma comma_at (c ∷ r)) refl e i x
+      on true c r n e i x = after_comma c r n (back TrailingComma comma_at (c ∷ r)) refl e i x
       on false c r n e i x =
           let w : true ≡ e.exact = ap (λ (a : Answer (Option A)). exact_of a) i in absurd (true≢false (w ∙ x))
 
@@ -123,7 +127,7 @@ module _ {A : Type 0} (P : A → List ℕ → Type 0) (parts : A → List TreeEv
       (λ v. stuck_last_of v) stuck
     where
       stuck_last_of : (v : A) → Stuck (led (parts v) (many parts (next_at one) >>= λ vs. give (v ∷ vs)) (0 ∷ []))
-      stuck_last_of v = stuck_behind (parts v) (many parts (next_at one) >>= λ vs. give (v ∷ vs))
+      stuck_last_of v = stuck_after (parts v) (many parts (next_at one) >>= λ vs. give (v ∷ vs))
           (stuck_then (many parts (next_at one)) (λ vs. give (v ∷ vs)) (stuck_next parts one) (λ vs. stuck_give (v ∷ vs)))
 
   Early-members : Early (members_at parts one) (λ vs. flat_map parts vs)
@@ -132,8 +136,8 @@ module _ {A : Type 0} (P : A → List ℕ → Type 0) (parts : A → List TreeEv
       (λ s. Early-ahead _ _ _ _ (Early-one_and_more parts (next_at one) (Consumes-next P parts one reads)
       (Local-next P parts one l) Early-next (stuck_next parts one) one h l) (Early-give _ _)) (λ s. stuck_first)
 
-module _ (edition : Edition) (leaf : Early (bare_at edition) (λ _. [])) where
-  Early-value : Early (value_at edition) (λ _. [])
+module _ (version : Version) (leaf : Early (bare_at version) (λ _. [])) where
+  Early-value : Early (value_at version) (λ _. [])
   unfolding value_at
   Early-value = Early-branch _ _ _ _ (λ c. leaf) (Early-give _ _)
 
@@ -142,156 +146,156 @@ module _ (edition : Edition) (leaf : Early (bare_at edition) (λ _. [])) where
   Early-key = Early-branch _ _ _ _ (λ c. Early-then _ _ _ (Early-span _ _) (Local-span _) (λ cs. Early-give _ _)
       (λ cs. stuck_give _)) (Early-fail _ _)
 
-  Early-parameter : Early (parameter_at edition) (step_events parameter_event)
+  Early-parameter : Early (parameter_at version) (step_events parameter_event)
   unfolding parameter_at
   Early-parameter = Early-branch _ _ _ _
       (λ c. Early-then _ _ _ (Early-span _ _) (Local-span _)
       (λ s. Early-then _ _ _ Early-key Local-key
-      (λ k. Early-map (value_at edition) (λ v. Some (k, v)) (λ _. []) _ Early-value (Local-value edition)
+      (λ k. Early-map (value_at version) (λ v. Some (k, v)) (λ _. []) _ Early-value (Local-value version)
       (λ v. begins_all _))
-      (λ k. stuck_then _ _ (stuck_value edition) (λ v. stuck_give _)))
-      (λ s. stuck_then _ _ stuck_key (λ k. stuck_then _ _ (stuck_value edition) (λ v. stuck_give _))))
+      (λ k. stuck_then _ _ (stuck_value version) (λ v. stuck_give _)))
+      (λ s. stuck_then _ _ stuck_key (λ k. stuck_then _ _ (stuck_value version) (λ v. stuck_give _))))
       (Early-give _ _)
 
-  Early-parameters : Early (parameters_at edition) parameters_events
+  Early-parameters : Early (parameters_at version) parameters_events
   unfolding parameters_at
   Early-parameters = Early-more _ (λ ps. flat_map parameter_event ps) parameters_events
       (λ ps. parameters_begin ps (flat_map parameter_event ps) ([], sym (append-nil _)))
-      (Early-many parameter_event (parameter_at edition) (Consumes-parameter edition) (Local-parameter edition)
-      Early-parameter (stuck_parameters edition))
+      (Early-many parameter_event (parameter_at version) (Consumes-parameter version) (Local-parameter version)
+      Early-parameter (stuck_parameters version))
 
-  pub Early-item : Early (item_at edition) item_events
+  pub Early-item : Early (item_at version) item_events
   unfolding item_at
-  Early-item = Early-then (bare_at edition) _ item_events leaf (Local-bare edition)
-      (λ b. Early-led_map (bare_item b ∷ []) (parameters_at edition) (item_of b) parameters_events item_events
+  Early-item = Early-then (bare_at version) _ item_events leaf (Local-bare version)
+      (λ b. Early-led_map (bare_item b ∷ []) (parameters_at version) (item_of b) parameters_events item_events
       (λ ps. ([], sym (append-nil _))) Early-parameters)
-      (λ b. stuck_behind _ _ (stuck_last edition some_mark (item_of b)))
+      (λ b. stuck_after _ _ (stuck_last version some_mark (item_of b)))
 
-  Early-inner_item : Early (inner_item_at edition) inner_item_events
+  Early-inner_item : Early (inner_item_at version) inner_item_events
   unfolding inner_item_at
-  Early-inner_item = Early-led (begins_item ∷ []) (item_at edition) item_events inner_item_events (λ i. refl) Early-item
+  Early-inner_item = Early-led (begins_item ∷ []) (item_at version) item_events inner_item_events (λ i. refl) Early-item
 
   stuck_parenthesis : (v : Option RawItem)
-      → Stuck (branch (byte 41) (λ _. give v) (inner_item_at edition >>= λ i. give (Some i)) (0 ∷ []))
+      → Stuck (branch (byte 41) (λ _. give v) (inner_item_at version >>= λ i. give (Some i)) (0 ∷ []))
   unfolding branch inner_item_at item_at bare_at token_at ahead fail bind led
   stuck_parenthesis v = (refl, refl)
 
-  Early-next_item : Early (next_item_at edition) (step_events inner_item_events)
+  Early-next_item : Early (next_item_at version) (step_events inner_item_events)
   unfolding next_item_at
   Early-next_item = Early-branch _ _ _ _
       (λ c. Early-then _ _ _ (Early-span _ _) (Local-span _)
       (λ s. Early-branch _ _ _ _ (λ d. Early-give _ _)
-      (Early-map (inner_item_at edition) (λ i. Some i) inner_item_events _ Early-inner_item (Local-inner_item edition)
+      (Early-map (inner_item_at version) (λ i. Some i) inner_item_events _ Early-inner_item (Local-inner_item version)
       (λ i. ([], sym (append-nil _)))))
       (λ s. stuck_parenthesis None))
       (Early-branch _ _ _ _ (λ d. Early-give _ _) (Early-ahead _ _ _ _ (Early-fail _ _) (Early-fail _ _)))
 
-  stuck_items : Stuck (branch (byte 41) (λ _. give []) (inner_item_at edition
-      >>= λ i. led (inner_item_events i) (many inner_item_events (next_item_at edition) >>= λ is. give (i ∷ is)))
+  stuck_items : Stuck (branch (byte 41) (λ _. give []) (inner_item_at version
+      >>= λ i. led (inner_item_events i) (many inner_item_events (next_item_at version) >>= λ is. give (i ∷ is)))
       (0 ∷ []))
   unfolding branch inner_item_at item_at bare_at token_at ahead fail bind led
   stuck_items = (refl, refl)
 
-  Early-items : Early (inner_items_at edition) (λ is. flat_map inner_item_events is)
+  Early-items : Early (inner_items_at version) (λ is. flat_map inner_item_events is)
   unfolding inner_items_at
   Early-items = Early-ahead _ _ _ _
       (Early-then _ _ _ (Early-span _ _) (Local-span _)
       (λ s. Early-branch _ _ _ _ (λ d. Early-give _ _)
-      (Early-one_and_more inner_item_events (next_item_at edition) (Consumes-next_item edition)
-      (Local-next_item edition) Early-next_item (stuck_next_items edition) (inner_item_at edition) Early-inner_item
-      (Local-inner_item edition)))
+      (Early-one_and_more inner_item_events (next_item_at version) (Consumes-next_item version)
+      (Local-next_item version) Early-next_item (stuck_next_items version) (inner_item_at version) Early-inner_item
+      (Local-inner_item version)))
       (λ s. stuck_items))
       (Early-fail _ _)
 
   -- the events of an inner list after its beginning
-  behind_start : RawMember → List TreeEvent
-  behind_start (item i) = []
-  behind_start (inner_list l) = flat_map inner_item_events l.items ++ inner_list_end ∷ parameters_events l.parameters
+  after_start : RawMember → List TreeEvent
+  after_start (item i) = []
+  after_start (inner_list l) = flat_map inner_item_events l.items ++ inner_list_end ∷ parameters_events l.parameters
 
   closed_begins : (is : List RawItem) (a : Answer RawParameters)
-      → Begins (visited behind_start (led_answer (closed_events is) (and_then a (λ ps. give (inner_of is ps)))))
+      → Begins (visited after_start (led_answer (closed_events is) (and_then a (λ ps. give (inner_of is ps)))))
       (flat_map inner_item_events is)
-  unfolding give behind_start
+  unfolding give after_start
   closed_begins is (Ok x) = (inner_list_end ∷ parameters_events x.0, refl)
   closed_begins is (Err x) =
       (inner_list_end ∷ x.events, append_assoc (flat_map inner_item_events is) (inner_list_end ∷ []) x.events)
 
   closed_goes : (is : List RawItem) (q : List ℕ)
-      → Begins (visited behind_start (led (closed_events is) (parameters_at edition >>= λ ps. give (inner_of is ps)) q))
+      → Begins (visited after_start (led (closed_events is) (parameters_at version >>= λ ps. give (inner_of is ps)) q))
       (flat_map inner_item_events is)
   unfolding led bind
-  closed_goes is q = closed_begins is (parameters_at edition q)
+  closed_goes is q = closed_begins is (parameters_at version q)
 
-  Early-inner : Early (inner_at edition) behind_start
-  unfolding inner_at behind_start
-  Early-inner = Early-bind (inner_items_at edition)
-      (λ is. led (closed_events is) (parameters_at edition >>= λ ps. give (inner_of is ps))) (λ is. flat_map inner_item_events is) behind_start Early-items
-      (Local-items edition)
-      (λ is. Early-led_map (closed_events is) (parameters_at edition) (inner_of is) parameters_events behind_start
+  Early-inner : Early (inner_at version) after_start
+  unfolding inner_at after_start
+  Early-inner = Early-bind (inner_items_at version)
+      (λ is. led (closed_events is) (parameters_at version >>= λ ps. give (inner_of is ps))) (λ is. flat_map inner_item_events is) after_start Early-items
+      (Local-items version)
+      (λ is. Early-led_map (closed_events is) (parameters_at version) (inner_of is) parameters_events after_start
       (λ ps. (
         [],
         sym (append_assoc (flat_map inner_item_events is) (inner_list_end ∷ []) (parameters_events ps))
             ∙ sym (append-nil _),
       )) Early-parameters)
       closed_goes
-      (λ is. stuck_behind _ _ (stuck_last edition some_mark (inner_of is)))
+      (λ is. stuck_after _ _ (stuck_last version some_mark (inner_of is)))
 
-  list_starts : (t : List ℕ) (v : RawMember) (q : List ℕ) → inner_at edition t ≡ Ok (v, q)
-      → member_events v ≡ (begins_inner_list ∷ []) ++ behind_start v
-  unfolding inner_at behind_start led bind give
-  list_starts t v q e = on (inner_items_at edition t) e
+  list_starts : (t : List ℕ) (v : RawMember) (q : List ℕ) → inner_at version t ≡ Ok (v, q)
+      → member_events v ≡ (begins_inner_list ∷ []) ++ after_start v
+  unfolding inner_at after_start led bind give
+  list_starts t v q e = on (inner_items_at version t) e
     where
       inner : (is : List RawItem) (a : Answer RawParameters)
           → led_answer (closed_events is) (and_then a (λ ps. give (inner_of is ps))) ≡ Ok (v, q)
-          → member_events v ≡ (begins_inner_list ∷ []) ++ behind_start v
+          → member_events v ≡ (begins_inner_list ∷ []) ++ after_start v
       inner is (Ok x) h =
           let here : RawMember × List ℕ = (inner_of is x.0, x.1) in
           let there : RawMember × List ℕ = (v, q) in
           let same : here ≡ there = cc in
-          subst (λ (p : RawMember × List ℕ). member_events p.0 ≡ (begins_inner_list ∷ []) ++ behind_start p.0) same refl
+          subst (λ (p : RawMember × List ℕ). member_events p.0 ≡ (begins_inner_list ∷ []) ++ after_start p.0) same refl
       inner is (Err x) h = absurd cc
 
       on : (a : Answer (List RawItem)) → and_then a (λ is q. led_answer (closed_events is)
-          (and_then (parameters_at edition q) (λ ps. give (inner_of is ps)))) ≡ Ok (v, q)
-          → member_events v ≡ (begins_inner_list ∷ []) ++ behind_start v
-      on (Ok x) h = inner x.0 (parameters_at edition x.1) h
+          (and_then (parameters_at version q) (λ ps. give (inner_of is ps)))) ≡ Ok (v, q)
+          → member_events v ≡ (begins_inner_list ∷ []) ++ after_start v
+      on (Ok x) h = inner x.0 (parameters_at version x.1) h
       on (Err x) h = absurd cc
 
-  Early-member : Early (member_at edition) member_events
+  Early-member : Early (member_at version) member_events
   unfolding member_at
   Early-member = Early-branch _ _ _ _
-      (λ c. Early-led_in (begins_inner_list ∷ []) (inner_at edition) behind_start member_events list_starts Early-inner)
-      (Early-led_map (begins_item ∷ []) (item_at edition) (λ i. item i) item_events member_events
+      (λ c. Early-led_in (begins_inner_list ∷ []) (inner_at version) after_start member_events list_starts Early-inner)
+      (Early-led_map (begins_item ∷ []) (item_at version) (λ i. item i) item_events member_events
       (λ i. ([], sym (append-nil _))) Early-item)
 
-  pub Early-entry : Early (entry_at edition) entry_events
+  pub Early-entry : Early (entry_at version) entry_events
   unfolding entry_at
-  Early-entry = Early-led (entry ∷ []) (member_at edition) member_events entry_events (λ v. refl) Early-member
+  Early-entry = Early-led (entry ∷ []) (member_at version) member_events entry_events (λ v. refl) Early-member
 
-  Early-member_value : Early (member_value_at edition) member_events
+  Early-member_value : Early (member_value_at version) member_events
   unfolding member_value_at
   Early-member_value = Early-branch _ _ _ _ (λ c. Early-member)
-      (Early-led_map (begins_item ∷ bare_item (boolean true) ∷ []) (parameters_at edition) true_with parameters_events
+      (Early-led_map (begins_item ∷ bare_item (boolean true) ∷ []) (parameters_at version) true_with parameters_events
       member_events (λ ps. ([], sym (append-nil _))) Early-parameters)
 
-  pub Early-keyed : Early (keyed_at edition) keyed_events
+  pub Early-keyed : Early (keyed_at version) keyed_events
   unfolding keyed_at
   Early-keyed = Early-then key_at _ keyed_events Early-key Local-key
-      (λ k. Early-led_map (keyed_entry k ∷ []) (member_value_at edition) (λ m. (k, m)) member_events keyed_events
+      (λ k. Early-led_map (keyed_entry k ∷ []) (member_value_at version) (λ m. (k, m)) member_events keyed_events
       (λ m. ([], sym (append-nil _))) Early-member_value)
-      (λ k. stuck_behind _ _ (stuck_then _ _ (stuck-member_value edition some_mark) (λ m. stuck_give _)))
+      (λ k. stuck_after _ _ (stuck_then _ _ (stuck-member_value version some_mark) (λ m. stuck_give _)))
 
   -- ---- fields
 
-  stuck_item : Stuck (item_at edition (0 ∷ []))
+  stuck_item : Stuck (item_at version (0 ∷ []))
   unfolding item_at bare_at token_at branch ahead fail bind
   stuck_item = (refl, refl)
 
-  stuck_entry : Stuck (entry_at edition (0 ∷ []))
+  stuck_entry : Stuck (entry_at version (0 ∷ []))
   unfolding entry_at member_at item_at bare_at token_at branch ahead fail bind led
   stuck_entry = (refl, refl)
 
-  stuck_keyed : Stuck (keyed_at edition (0 ∷ []))
+  stuck_keyed : Stuck (keyed_at version (0 ∷ []))
   unfolding keyed_at key_at branch fail bind
   stuck_keyed = (refl, refl)
 
@@ -305,17 +309,17 @@ module _ (edition : Edition) (leaf : Early (bare_at edition) (λ _. [])) where
       on (Ok x) k = ([], sym (append-nil _))
       on (Err x) k = let m = (Steady-span is_space).steady q in absurd cc
 
-  stuck_behind_item : (i : RawItem) → Stuck ((span is_space >>= λ _. give i) (0 ∷ []))
-  stuck_behind_item i = stuck_then (span is_space) (λ _. give i) stuck_space (λ _. stuck_give i)
+  stuck_after_item : (i : RawItem) → Stuck ((span is_space >>= λ _. give i) (0 ∷ []))
+  stuck_after_item i = stuck_then (span is_space) (λ _. give i) stuck_space (λ _. stuck_give i)
 
-  pub Early-field : (kind : FieldKind) → Early (whole_field_at edition kind) (events kind)
+  pub Early-field : (kind : FieldKind) → Early (whole_field_at version kind) (events kind)
   unfolding whole_field_at
   Early-field item_field = Early-then _ _ _ (Early-span _ _) (Local-span _)
-      (λ s. Early-bind (item_at edition) (λ i. span is_space >>= λ _. give i) item_events item_events Early-item
-      (Local-item edition) (λ i. Early-then _ _ _ (Early-span _ _) (Local-span _) (λ _. Early-give _ _)
-      (λ _. stuck_give _)) spaces_begin stuck_behind_item)
-      (λ s. stuck_then (item_at edition) (λ i. span is_space >>= λ _. give i) stuck_item stuck_behind_item)
-  Early-field list_field = Early-members (IsMemberText edition) entry_events (entry_at edition) (Sound-entry edition)
-      (Local-entry edition) Early-entry stuck_entry
-  Early-field dictionary_field = Early-members (IsDictionaryMemberText edition) keyed_events (keyed_at edition)
-      (Sound-keyed edition) (Local-keyed edition) Early-keyed stuck_keyed
+      (λ s. Early-bind (item_at version) (λ i. span is_space >>= λ _. give i) item_events item_events Early-item
+      (Local-item version) (λ i. Early-then _ _ _ (Early-span _ _) (Local-span _) (λ _. Early-give _ _)
+      (λ _. stuck_give _)) spaces_begin stuck_after_item)
+      (λ s. stuck_then (item_at version) (λ i. span is_space >>= λ _. give i) stuck_item stuck_after_item)
+  Early-field list_field = Early-members (IsMemberText version) entry_events (entry_at version) (Sound-entry version)
+      (Local-entry version) Early-entry stuck_entry
+  Early-field dictionary_field = Early-members (IsDictionaryMemberText version) keyed_events (keyed_at version)
+      (Sound-keyed version) (Local-keyed version) Early-keyed stuck_keyed

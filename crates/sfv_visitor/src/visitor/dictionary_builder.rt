@@ -6,15 +6,15 @@ ghost use Rattle.sfv_spec.specs.Events as tree;
 ghost use Rattle.sfv_text.specs.KeyText.{key_text};
 ghost use Rattle.sfv_tree.specs.Trees.{dictionary_tree};
 ghost use Rattle.sfv_visitor.specs.Events.{event_of, is_moved};
-ghost use Rattle.sfv_visitor.specs.Builders.{dictionary_step, dictionary_place, dictionary_members, begun, within_pair};
+ghost use Rattle.sfv_visitor.specs.Builders.{dictionary_step, dictionary_state, dictionary_members, begun, within_pair};
 ghost use Rattle.sfv_visitor.specs.Builders.{between_pairs, dictionary_takes_memory, dictionary_seed};
 ghost use Rattle.sfv_visitor.specs.Builders.{IsDictionarySeeded, KeepsDictionarySeed, DictionaryAnswersSeeded};
 ghost use Rattle.sfv_tree.specs.Seeds.{DictionaryHasSeed};
-ghost use Rattle.sfv_visitor.specs.InPlace.{ends_last, ends_member};
+ghost use Rattle.sfv_visitor.specs.BuilderStages.{ends_last, ends_member};
 ghost use Rattle.sfv_visitor.specs.declared.visitor.list_builder.Stage.TheVariants as stages;
 
 use crate::visitor::list_builder::{ListBuilder, Stage};
-use crate::visitor::part::Part;
+use crate::visitor::member_stage::MemberStage;
 use crate::visitor::{Event, Visitor};
 use sfv_base::error::OutOfMemory;
 use sfv_text::key::Key;
@@ -43,7 +43,7 @@ impl DictionaryBuilder {
     /// Creates a builder that begins with `dictionary`, and uses its allocator and its hash seed. To join several
     /// lines of a field, pass the dictionary of the earlier lines.
     pub fn new(dictionary: Dictionary) -> DictionaryBuilder
-        ensures place { dictionary_place result ≡ between_pairs (dictionary_tree dictionary.entries) }
+        ensures state { dictionary_state result ≡ between_pairs (dictionary_tree dictionary.entries) }
         ensures seed { dictionary_seed result ≡ hasher_of dictionary }
         ensures seeded { DictionaryHasSeed (hasher_of dictionary) dictionary → IsDictionarySeeded result }
     {
@@ -59,7 +59,7 @@ impl DictionaryBuilder {
     // Begins a member with this key.
     #[inline(never)]
     fn begin(&mut self, key: KeyRef<'_>) -> Result<(), OutOfMemory>
-        ensures place { OnOk result (dictionary_place self.new
+        ensures state { OnOk result (dictionary_state self.new
             ≡ within_pair (dictionary_tree self.old.dictionary.entries) (key_text key.entry) begun) }
         ensures seed { OnOk result (KeepsDictionarySeed self.old self.new) }
     {
@@ -70,12 +70,12 @@ impl DictionaryBuilder {
 
     // Inserts the current member, which is a bare item, into the dictionary.
     #[inline(never)]
-    fn enter_held(&mut self) -> Result<(), OutOfMemory>
+    fn insert_held(&mut self) -> Result<(), OutOfMemory>
         requires { self.old.member.stage ≡ stages.Held }
-        ensures place { OnOk result (dictionary_place self.new
-            ≡ dictionary_step (dictionary_place self.old) tree.parameters_end) }
+        ensures state { OnOk result (dictionary_state self.new
+            ≡ dictionary_step (dictionary_state self.old) tree.parameters_end) }
         ensures out_of_memory { OnErr result (IsTrue
-            (dictionary_takes_memory (dictionary_place self.old) tree.parameters_end)) }
+            (dictionary_takes_memory (dictionary_state self.old) tree.parameters_end)) }
         ensures seed { OnOk result (KeepsDictionarySeed self.old self.new) }
     {
         if let Some(key) = self.key.take() {
@@ -91,12 +91,12 @@ impl DictionaryBuilder {
 
     // Moves the current member from the end of its list into the dictionary.
     #[inline(never)]
-    fn enter_last(&mut self) -> Result<(), OutOfMemory>
+    fn insert_last(&mut self) -> Result<(), OutOfMemory>
         requires { ends_last self.old.member.stage ≡ true }
-        ensures place { OnOk result (dictionary_place self.new
-            ≡ dictionary_step (dictionary_place self.old) tree.parameters_end) }
+        ensures state { OnOk result (dictionary_state self.new
+            ≡ dictionary_step (dictionary_state self.old) tree.parameters_end) }
         ensures out_of_memory { OnErr result (IsTrue
-            (dictionary_takes_memory (dictionary_place self.old) tree.parameters_end)) }
+            (dictionary_takes_memory (dictionary_state self.old) tree.parameters_end)) }
         ensures seed { OnOk result (KeepsDictionarySeed self.old self.new) }
     {
         // A builder reaches this stage only with an open member, but the step is stated for every state.
@@ -115,15 +115,16 @@ impl DictionaryBuilder {
     #[inline(always)]
     fn end_parameters(&mut self) -> Result<(), OutOfMemory>
         requires { IsSome self.old.key }
-        ensures place { OnOk result (dictionary_place self.new
-            ≡ dictionary_step (dictionary_place self.old) tree.parameters_end) }
+        ensures state { OnOk result (dictionary_state self.new
+            ≡ dictionary_step (dictionary_state self.old) tree.parameters_end) }
         ensures out_of_memory { OnErr result (IsTrue
-            (dictionary_takes_memory (dictionary_place self.old) tree.parameters_end)) }
+            (dictionary_takes_memory (dictionary_state self.old) tree.parameters_end)) }
         ensures seed { OnOk result (KeepsDictionarySeed self.old self.new) }
     {
         match self.member.stage {
-            Stage::Held => self.enter_held(),
-            Stage::Within(Part::Params) | Stage::Within(Part::ListParams) => self.enter_last(),
+            Stage::Held => self.insert_held(),
+            Stage::Within(MemberStage::Params) | Stage::Within(MemberStage::ListParams) =>
+                self.insert_last(),
             _ => self.end_inner_parameters(),
         }
     }
@@ -133,13 +134,13 @@ impl DictionaryBuilder {
     fn end_inner_parameters(&mut self) -> Result<(), OutOfMemory>
         requires key { IsSome self.old.key }
         requires stage { ends_member self.old.member.stage ≡ false }
-        ensures place { OnOk result (dictionary_place self.new
-            ≡ dictionary_step (dictionary_place self.old) tree.parameters_end) }
+        ensures state { OnOk result (dictionary_state self.new
+            ≡ dictionary_step (dictionary_state self.old) tree.parameters_end) }
         ensures out_of_memory { OnErr result (IsTrue
-            (dictionary_takes_memory (dictionary_place self.old) tree.parameters_end)) }
+            (dictionary_takes_memory (dictionary_state self.old) tree.parameters_end)) }
         ensures seed { OnOk result (KeepsDictionarySeed self.old self.new) }
     {
-        self.member.place_held()?;
+        self.member.push_held()?;
         self.member.fit_parameters();
         self.member.end_parameters();
         Ok(())
@@ -149,10 +150,10 @@ impl DictionaryBuilder {
     #[inline(always)]
     fn step_member(&mut self, event: Event<'_>) -> Result<(), OutOfMemory>
         requires { IsSome self.old.key }
-        ensures place { OnOk result
-            (dictionary_place self.new ≡ dictionary_step (dictionary_place self.old) (event_of event.entry)) }
+        ensures state { OnOk result
+            (dictionary_state self.new ≡ dictionary_step (dictionary_state self.old) (event_of event.entry)) }
         ensures out_of_memory { OnErr result
-            (IsTrue (dictionary_takes_memory (dictionary_place self.old) (event_of event.entry))) }
+            (IsTrue (dictionary_takes_memory (dictionary_state self.old) (event_of event.entry))) }
         ensures copied { OnErr result (is_moved event.entry ≡ false) }
         ensures seed { OnOk result (KeepsDictionarySeed self.old self.new) }
     {
@@ -161,7 +162,7 @@ impl DictionaryBuilder {
             Event::InnerList => self.member.begin_inner_list()?,
             Event::BareItem(bare_item) => self.member.bare_item(bare_item)?,
             Event::Parameter(key, value) => {
-                self.member.place_held()?;
+                self.member.push_held()?;
                 self.member.parameter(key, value)?;
             }
             Event::ParametersEnd => self.end_parameters()?,
@@ -175,10 +176,10 @@ impl DictionaryBuilder {
 
     #[inline(always)]
     fn step(&mut self, event: Event<'_>) -> Result<(), OutOfMemory>
-        ensures place { OnOk result
-            (dictionary_place self.new ≡ dictionary_step (dictionary_place self.old) (event_of event.entry)) }
+        ensures state { OnOk result
+            (dictionary_state self.new ≡ dictionary_step (dictionary_state self.old) (event_of event.entry)) }
         ensures out_of_memory { OnErr result
-            (IsTrue (dictionary_takes_memory (dictionary_place self.old) (event_of event.entry))) }
+            (IsTrue (dictionary_takes_memory (dictionary_state self.old) (event_of event.entry))) }
         ensures copied { OnErr result (is_moved event.entry ≡ false) }
         ensures seed { OnOk result (KeepsDictionarySeed self.old self.new) }
     {
@@ -198,14 +199,14 @@ impl<'de> Visitor<'de> for DictionaryBuilder {
     type Error = OutOfMemory;
 
     ghost takes = { λ s event after.
-        (dictionary_place after ≡ dictionary_step (dictionary_place s) event) × KeepsDictionarySeed s after };
+        (dictionary_state after ≡ dictionary_step (dictionary_state s) event) × KeepsDictionarySeed s after };
 
-    ghost fails = { λ s event fault. IsTrue (dictionary_takes_memory (dictionary_place s) event) };
+    ghost fails = { λ s event fault. IsTrue (dictionary_takes_memory (dictionary_state s) event) };
 
     ghost fails_read = { λ _ event _. is_moved event ≡ false };
 
     ghost finishes = { λ s dictionary.
-        (dictionary_tree dictionary.entries ≡ dictionary_members (dictionary_place s)) × DictionaryAnswersSeeded s dictionary };
+        (dictionary_tree dictionary.entries ≡ dictionary_members (dictionary_state s)) × DictionaryAnswersSeeded s dictionary };
 
     ghost finish_fails = { λ _ _. ⊥ };
 

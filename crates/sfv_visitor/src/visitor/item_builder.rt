@@ -1,14 +1,14 @@
 //! The visitor that builds an item.
 
 ghost use Rattle.std.specs.Prelude.{◌≡◌, false, OnOk, OnErr, IsTrue};
-ghost use Rattle.sfv_spec.specs.Values.{RawItem};
+ghost use Rattle.sfv_spec.specs.Values.{RawItem, item};
 ghost use Rattle.sfv_tree.specs.Trees.{item_tree};
 ghost use Rattle.sfv_visitor.specs.Events.{event_of, is_moved};
-ghost use Rattle.sfv_visitor.specs.Builders.{at_head, at_end, item_step, item_place, item_seed, takes_memory};
+ghost use Rattle.sfv_visitor.specs.Builders.{item_head, ended, member_step, item_state, item_seed, takes_memory};
 ghost use Rattle.sfv_visitor.specs.Builders.{IsItemSeeded, KeepsItemSeed, AnswersSeeded};
 ghost use Rattle.sfv_visitor.specs.declared.visitor.ItemFault.TheVariants as faults;
 
-use crate::visitor::parameters::enter;
+use crate::visitor::parameters::insert_parameter;
 use crate::visitor::{Event, ItemFault, Visitor};
 use sfv_base::error::OutOfMemory;
 use sfv_tree::hash_seed::HashSeed;
@@ -32,7 +32,7 @@ pub struct ItemBuilder {
 impl ItemBuilder {
     /// Creates a builder that has received no event. It allocates from `alloc`, and builds parameters under `seed`.
     pub fn new(alloc: Global, seed: HashSeed) -> ItemBuilder
-        ensures place { item_place result ≡ at_head }
+        ensures state { item_state result ≡ item_head }
         ensures seed { item_seed result ≡ seed }
         ensures seeded { IsItemSeeded result }
     {
@@ -46,8 +46,8 @@ impl ItemBuilder {
 
     #[inline(always)]
     fn step(&mut self, event: Event<'_>) -> Result<(), OutOfMemory>
-        ensures place { OnOk result (item_place self.new ≡ item_step (item_place self.old) (event_of event.entry)) }
-        ensures out_of_memory { OnErr result (IsTrue (takes_memory (item_place self.old) (event_of event.entry))) }
+        ensures state { OnOk result (item_state self.new ≡ member_step (item_state self.old) (event_of event.entry)) }
+        ensures out_of_memory { OnErr result (IsTrue (takes_memory (item_state self.old) (event_of event.entry))) }
         ensures copied { OnErr result (is_moved event.entry ≡ false) }
         ensures seed { OnOk result (KeepsItemSeed self.old self.new) }
     {
@@ -59,7 +59,7 @@ impl ItemBuilder {
                 self.is_whole = false;
             }
             (Some(item), Event::Parameter(key, value)) if !self.is_whole => {
-                enter(self.alloc, &mut item.params, key, value)?;
+                insert_parameter(self.alloc, &mut item.params, key, value)?;
             }
             (Some(_), Event::ParametersEnd) => self.is_whole = true,
             _ => {}
@@ -73,15 +73,15 @@ impl<'de> Visitor<'de> for ItemBuilder {
 
     type Error = ItemFault;
 
-    ghost takes = { λ s event after. (item_place after ≡ item_step (item_place s) event) × KeepsItemSeed s after };
+    ghost takes = { λ s event after. (item_state after ≡ member_step (item_state s) event) × KeepsItemSeed s after };
 
-    ghost fails = { λ s event fault. (fault ≡ faults.OutOfMemory) × IsTrue (takes_memory (item_place s) event) };
+    ghost fails = { λ s event fault. (fault ≡ faults.OutOfMemory) × IsTrue (takes_memory (item_state s) event) };
 
     ghost fails_read = { λ _ event _. is_moved event ≡ false };
 
-    ghost finishes = { λ s item. (item_place s ≡ at_end (item_tree item)) × AnswersSeeded s item };
+    ghost finishes = { λ s out. (item_state s ≡ ended (item (item_tree out))) × AnswersSeeded s out };
 
-    ghost finish_fails = { λ s fault. (fault ≡ faults.NoItem) × ((i : RawItem) → ¬ (item_place s ≡ at_end i)) };
+    ghost finish_fails = { λ s fault. (fault ≡ faults.NoItem) × ((i : RawItem) → ¬ (item_state s ≡ ended (item i))) };
 
     ghost is_memory = { λ fault. fault ≡ faults.OutOfMemory };
 

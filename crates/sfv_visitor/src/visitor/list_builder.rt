@@ -6,16 +6,16 @@ ghost use Rattle.sfv_bare.specs.BareItems.{bare_value, input_value, is_borrowed}
 ghost use Rattle.sfv_text.specs.KeyText.{key_text};
 ghost use Rattle.sfv_tree.specs.Trees.{list_tree};
 ghost use Rattle.sfv_visitor.specs.Events.{event_of, is_moved};
-ghost use Rattle.sfv_visitor.specs.Builders.{between, list_step, list_place, list_members, list_takes_memory, list_seed};
+ghost use Rattle.sfv_visitor.specs.Builders.{between, list_step, list_state, list_members, list_takes_memory, list_seed};
 ghost use Rattle.sfv_visitor.specs.Builders.{IsListSeeded, KeepsListSeed, ListAnswersSeeded};
 ghost use Rattle.sfv_tree.specs.Seeds.{ListHasSeed};
 ghost use Rattle.sfv_visitor.specs.Builders.{within, begun, item_parameters, plain_item};
-ghost use Rattle.sfv_visitor.specs.InPlace.{is_open, is_held, is_reading, lacks_item, EndTakesMemory};
+ghost use Rattle.sfv_visitor.specs.BuilderStages.{is_open, is_held, is_reading, lacks_item, EndTakesMemory};
 ghost use Rattle.sfv_visitor.specs.declared.visitor.list_builder.Stage.TheVariants as stages;
-ghost use Rattle.sfv_visitor.specs.declared.visitor.part.Part.TheVariants as parts;
+ghost use Rattle.sfv_visitor.specs.declared.visitor.member_stage.MemberStage.TheVariants as member_stages;
 
+use crate::visitor::member_stage::{MemberStage, hold};
 use crate::visitor::parameters::MANY;
-use crate::visitor::part::{Part, hold};
 use crate::visitor::{Event, Visitor};
 use sfv_bare::bare::{BareItem, BareItemFromInput};
 use sfv_base::error::OutOfMemory;
@@ -37,7 +37,7 @@ pub(crate) enum Stage {
     // After the bare item of an item of an inner list, the list's last member. The bare item is in `held`.
     InnerHeld,
     // In the list's last member.
-    Within(Part),
+    Within(MemberStage),
 }
 
 /// A visitor that builds a list, beginning with an existing one. A repeated key keeps its first position and takes its
@@ -61,7 +61,7 @@ impl ListBuilder {
     /// Creates a builder that begins with `list` and uses its allocator. It builds parameters under `seed`. To join
     /// several lines of a field, pass the list of the earlier lines.
     pub fn new(list: List, seed: HashSeed) -> ListBuilder
-        ensures place { list_place result ≡ between (list_tree list.items) }
+        ensures state { list_state result ≡ between (list_tree list.items) }
         ensures seed { list_seed result ≡ seed }
         ensures seeded { ListHasSeed seed list.items → IsListSeeded result }
     {
@@ -82,7 +82,7 @@ impl ListBuilder {
             return false;
         };
         match self.stage {
-            Stage::Within(part) => part.is_in(member),
+            Stage::Within(member_stage) => member_stage.is_in(member),
             Stage::InnerHeld => self.held.is_some() && matches!(member, ListEntry::InnerList(_)),
             _ => false,
         }
@@ -93,9 +93,9 @@ impl ListBuilder {
     fn lacks_item(&self) -> bool
         ensures { result ≡ lacks_item self.now.stage (list_tree self.now.list.items) }
     {
-        if let Stage::Within(part) = self.stage {
+        if let Stage::Within(member_stage) = self.stage {
             if let Some(member) = self.list.last() {
-                return part.lacks_item(member);
+                return member_stage.lacks_item(member);
             }
         }
         false
@@ -104,7 +104,7 @@ impl ListBuilder {
     // Returns `true` inside a member.
     #[inline(never)]
     pub(crate) fn is_reading(&self) -> bool
-        ensures { result ≡ is_reading (list_place self.now) }
+        ensures { result ≡ is_reading (list_state self.now) }
     {
         match self.stage {
             Stage::Between => false,
@@ -117,7 +117,7 @@ impl ListBuilder {
     // Begins a member in any stage. The previous member is already in the dictionary.
     #[inline(always)]
     pub(crate) fn restart(&mut self)
-        ensures place { list_place self.new ≡ within (list_tree self.old.list.items) begun }
+        ensures state { list_state self.new ≡ within (list_tree self.old.list.items) begun }
         ensures seed { KeepsListSeed self.old self.new }
     {
         self.stage = Stage::Begun;
@@ -126,7 +126,7 @@ impl ListBuilder {
     // Begins a member, if none is incomplete.
     #[inline(always)]
     fn begin(&mut self)
-        ensures place { list_place self.new ≡ list_step (list_place self.old) tree.entry }
+        ensures state { list_state self.new ≡ list_step (list_state self.old) tree.entry }
         ensures seed { KeepsListSeed self.old self.new }
     {
         match self.stage {
@@ -141,14 +141,14 @@ impl ListBuilder {
 
     #[inline(always)]
     pub(crate) fn begin_item(&mut self)
-        ensures place { list_place self.new ≡ list_step (list_place self.old) tree.begins_item }
+        ensures state { list_state self.new ≡ list_step (list_state self.old) tree.begins_item }
         ensures seed { KeepsListSeed self.old self.new }
     {
         match self.stage {
             Stage::Begun => self.stage = Stage::Head,
-            Stage::Within(Part::Items) => self.stage = Stage::Within(Part::InnerHead),
-            Stage::Within(Part::InnerParams) if self.lacks_item() => {
-                self.stage = Stage::Within(Part::InnerHead);
+            Stage::Within(MemberStage::Items) => self.stage = Stage::Within(MemberStage::InnerHead),
+            Stage::Within(MemberStage::InnerParams) if self.lacks_item() => {
+                self.stage = Stage::Within(MemberStage::InnerHead);
             }
             _ => {}
         }
@@ -156,13 +156,15 @@ impl ListBuilder {
 
     #[inline(always)]
     pub(crate) fn end_inner_list(&mut self)
-        ensures place { list_place self.new ≡ list_step (list_place self.old) tree.inner_list_end }
+        ensures state { list_state self.new ≡ list_step (list_state self.old) tree.inner_list_end }
         ensures seed { KeepsListSeed self.old self.new }
     {
         match self.stage {
-            Stage::Within(Part::Items) => self.stage = Stage::Within(Part::ListParams),
-            Stage::Within(Part::InnerParams) if self.lacks_item() => {
-                self.stage = Stage::Within(Part::ListParams);
+            Stage::Within(MemberStage::Items) => self.stage = Stage::Within(
+                MemberStage::ListParams,
+            ),
+            Stage::Within(MemberStage::InnerParams) if self.lacks_item() => {
+                self.stage = Stage::Within(MemberStage::ListParams);
             }
             _ => {}
         }
@@ -170,9 +172,9 @@ impl ListBuilder {
 
     #[inline(never)]
     pub(crate) fn begin_inner_list(&mut self) -> Result<(), OutOfMemory>
-        ensures place { OnOk result (list_place self.new ≡ list_step (list_place self.old) tree.begins_inner_list) }
+        ensures state { OnOk result (list_state self.new ≡ list_step (list_state self.old) tree.begins_inner_list) }
         ensures seed { OnOk result (KeepsListSeed self.old self.new) }
-        ensures out_of_memory { OnErr result (IsTrue (list_takes_memory (list_place self.old) tree.begins_inner_list)) }
+        ensures out_of_memory { OnErr result (IsTrue (list_takes_memory (list_state self.old) tree.begins_inner_list)) }
     {
         if self.stage == Stage::Begun {
             let alloc = *self.list.allocator();
@@ -180,7 +182,7 @@ impl ListBuilder {
             let list = InnerList::with_params(Vec::new(alloc), params);
             self.list.reserve(1)?;
             self.list.push_reserved(ListEntry::InnerList(list));
-            self.stage = Stage::Within(Part::Items);
+            self.stage = Stage::Within(MemberStage::Items);
         }
         Ok(())
     }
@@ -189,7 +191,7 @@ impl ListBuilder {
     #[inline(always)]
     fn push_item(&mut self, bare_item: BareItem)
         requires { length self.old.list.items < vec_capacity self.old.list }
-        ensures place { list_place self.new
+        ensures state { list_state self.new
             ≡ within (list_tree self.old.list.items) (item_parameters (plain_item (bare_value bare_item))) }
         ensures seed { KeepsListSeed self.old self.new }
         ensures placed { is_held self.new.stage ≡ false }
@@ -197,18 +199,18 @@ impl ListBuilder {
         let params = Parameters::with_hasher(*self.list.allocator(), self.seed);
         self.list
             .push_reserved(ListEntry::Item(Item::with_params(bare_item, params)));
-        self.stage = Stage::Within(Part::Params);
+        self.stage = Stage::Within(MemberStage::Params);
     }
 
     // Receives the bare item of a member that is an item.
     #[inline(never)]
-    fn put_item(&mut self, bare_item: BareItemFromInput<'_>) -> Result<(), OutOfMemory>
+    fn push_or_hold_item(&mut self, bare_item: BareItemFromInput<'_>) -> Result<(), OutOfMemory>
         requires { self.old.stage ≡ stages.Head }
-        ensures place { OnOk result (list_place self.new
-            ≡ list_step (list_place self.old) (tree.bare_item (input_value bare_item.entry))) }
+        ensures state { OnOk result (list_state self.new
+            ≡ list_step (list_state self.old) (tree.bare_item (input_value bare_item.entry))) }
         ensures seed { OnOk result (KeepsListSeed self.old self.new) }
         ensures out_of_memory { OnErr result
-            (IsTrue (list_takes_memory (list_place self.old) (tree.bare_item (input_value bare_item.entry)))) }
+            (IsTrue (list_takes_memory (list_state self.old) (tree.bare_item (input_value bare_item.entry)))) }
         ensures copied { OnErr result (IsTrue (is_borrowed bare_item.entry)) }
     {
         let bare_item = bare_item.try_into_owned(*self.list.allocator())?;
@@ -223,19 +225,22 @@ impl ListBuilder {
 
     // Receives the bare item of an item of the current inner list.
     #[inline(never)]
-    fn put_inner_item(&mut self, bare_item: BareItemFromInput<'_>) -> Result<(), OutOfMemory>
-        requires { self.old.stage ≡ stages.Within parts.InnerHead }
-        ensures place { OnOk result (list_place self.new
-            ≡ list_step (list_place self.old) (tree.bare_item (input_value bare_item.entry))) }
+    fn push_or_hold_inner_item(
+        &mut self,
+        bare_item: BareItemFromInput<'_>,
+    ) -> Result<(), OutOfMemory>
+        requires { self.old.stage ≡ stages.Within member_stages.InnerHead }
+        ensures state { OnOk result (list_state self.new
+            ≡ list_step (list_state self.old) (tree.bare_item (input_value bare_item.entry))) }
         ensures seed { OnOk result (KeepsListSeed self.old self.new) }
         ensures out_of_memory { OnErr result
-            (IsTrue (list_takes_memory (list_place self.old) (tree.bare_item (input_value bare_item.entry)))) }
+            (IsTrue (list_takes_memory (list_state self.old) (tree.bare_item (input_value bare_item.entry)))) }
         ensures copied { OnErr result (IsTrue (is_borrowed bare_item.entry)) }
     {
         let (alloc, seed) = (*self.list.allocator(), self.seed);
         if let Some(member) = self.list.last_mut() {
-            if Part::put_item(alloc, seed, member, &mut self.held, bare_item)? {
-                self.stage = Stage::Within(Part::InnerParams);
+            if MemberStage::push_or_hold_item(alloc, seed, member, &mut self.held, bare_item)? {
+                self.stage = Stage::Within(MemberStage::InnerParams);
                 return Ok(());
             }
             self.stage = Stage::InnerHeld;
@@ -246,27 +251,27 @@ impl ListBuilder {
 
     #[inline(always)]
     pub(crate) fn bare_item(&mut self, bare_item: BareItemFromInput<'_>) -> Result<(), OutOfMemory>
-        ensures place { OnOk result (list_place self.new
-            ≡ list_step (list_place self.old) (tree.bare_item (input_value bare_item.entry))) }
+        ensures state { OnOk result (list_state self.new
+            ≡ list_step (list_state self.old) (tree.bare_item (input_value bare_item.entry))) }
         ensures seed { OnOk result (KeepsListSeed self.old self.new) }
         ensures out_of_memory { OnErr result
-            (IsTrue (list_takes_memory (list_place self.old) (tree.bare_item (input_value bare_item.entry)))) }
+            (IsTrue (list_takes_memory (list_state self.old) (tree.bare_item (input_value bare_item.entry)))) }
         ensures copied { OnErr result (IsTrue (is_borrowed bare_item.entry)) }
     {
         match self.stage {
-            Stage::Head => self.put_item(bare_item),
-            Stage::Within(Part::InnerHead) => self.put_inner_item(bare_item),
+            Stage::Head => self.push_or_hold_item(bare_item),
+            Stage::Within(MemberStage::InnerHead) => self.push_or_hold_inner_item(bare_item),
             _ => Ok(()),
         }
     }
 
     // Appends the item of the held bare item to the list.
     #[inline(never)]
-    fn place_item(&mut self) -> Result<(), OutOfMemory>
+    fn push_held_item(&mut self) -> Result<(), OutOfMemory>
         requires { self.old.stage ≡ stages.Held }
-        ensures place { OnOk result (list_place self.new ≡ list_place self.old) }
+        ensures state { OnOk result (list_state self.new ≡ list_state self.old) }
         ensures seed { OnOk result (KeepsListSeed self.old self.new) }
-        ensures out_of_memory { OnErr result (EndTakesMemory (list_place self.old)) }
+        ensures out_of_memory { OnErr result (EndTakesMemory (list_state self.old)) }
         ensures placed { OnOk result (is_held self.new.stage ≡ false) }
     {
         match self.held.take() {
@@ -282,19 +287,19 @@ impl ListBuilder {
 
     // Appends the item of the held bare item to the current inner list.
     #[inline(never)]
-    fn place_inner_item(&mut self) -> Result<(), OutOfMemory>
+    fn push_held_inner_item(&mut self) -> Result<(), OutOfMemory>
         requires { self.old.stage ≡ stages.InnerHeld }
-        ensures place { OnOk result (list_place self.new ≡ list_place self.old) }
+        ensures state { OnOk result (list_state self.new ≡ list_state self.old) }
         ensures seed { OnOk result (KeepsListSeed self.old self.new) }
-        ensures out_of_memory { OnErr result (EndTakesMemory (list_place self.old)) }
+        ensures out_of_memory { OnErr result (EndTakesMemory (list_state self.old)) }
         ensures placed { OnOk result (is_held self.new.stage ≡ false) }
     {
         let (alloc, seed) = (*self.list.allocator(), self.seed);
         match self.held.take() {
             Some(bare_item) => {
-                self.stage = Stage::Within(Part::InnerParams);
+                self.stage = Stage::Within(MemberStage::InnerParams);
                 if let Some(member) = self.list.last_mut() {
-                    Part::place_item(alloc, seed, member, bare_item)?;
+                    MemberStage::push_held_item(alloc, seed, member, bare_item)?;
                     return Ok(());
                 }
             }
@@ -306,15 +311,15 @@ impl ListBuilder {
 
     // Appends the item of the held bare item, if there is one.
     #[inline(always)]
-    pub(crate) fn place_held(&mut self) -> Result<(), OutOfMemory>
-        ensures place { OnOk result (list_place self.new ≡ list_place self.old) }
+    pub(crate) fn push_held(&mut self) -> Result<(), OutOfMemory>
+        ensures state { OnOk result (list_state self.new ≡ list_state self.old) }
         ensures seed { OnOk result (KeepsListSeed self.old self.new) }
-        ensures out_of_memory { OnErr result (EndTakesMemory (list_place self.old)) }
+        ensures out_of_memory { OnErr result (EndTakesMemory (list_state self.old)) }
         ensures placed { OnOk result (is_held self.new.stage ≡ false) }
     {
         match self.stage {
-            Stage::Held => self.place_item(),
-            Stage::InnerHeld => self.place_inner_item(),
+            Stage::Held => self.push_held_item(),
+            Stage::InnerHeld => self.push_held_inner_item(),
             _ => Ok(()),
         }
     }
@@ -322,13 +327,13 @@ impl ListBuilder {
     // Releases the unused memory of the last member's parameters that have ended.
     #[inline(never)]
     fn fit_last(&mut self)
-        ensures place { list_place self.new ≡ list_place self.old }
+        ensures state { list_state self.new ≡ list_state self.old }
         ensures stage { self.new.stage ≡ self.old.stage }
         ensures seed { KeepsListSeed self.old self.new }
     {
-        if let Stage::Within(part) = self.stage {
+        if let Stage::Within(member_stage) = self.stage {
             if let Some(member) = self.list.last_mut() {
-                part.fit(member);
+                member_stage.fit(member);
             }
         }
     }
@@ -337,11 +342,11 @@ impl ListBuilder {
     // list.
     #[inline(always)]
     pub(crate) fn fit_parameters(&mut self)
-        ensures place { list_place self.new ≡ list_place self.old }
+        ensures state { list_state self.new ≡ list_state self.old }
         ensures stage { self.new.stage ≡ self.old.stage }
         ensures seed { KeepsListSeed self.old self.new }
     {
-        if self.list.len() > MANY || self.stage == Stage::Within(Part::InnerParams) {
+        if self.list.len() > MANY || self.stage == Stage::Within(MemberStage::InnerParams) {
             self.fit_last();
         }
     }
@@ -350,13 +355,15 @@ impl ListBuilder {
     #[inline(always)]
     pub(crate) fn end_parameters(&mut self)
         requires { is_held self.old.stage ≡ false }
-        ensures place { list_place self.new ≡ list_step (list_place self.old) tree.parameters_end }
+        ensures state { list_state self.new ≡ list_step (list_state self.old) tree.parameters_end }
         ensures seed { KeepsListSeed self.old self.new }
     {
         match self.stage {
-            Stage::Within(Part::Params) => self.stage = Stage::Between,
-            Stage::Within(Part::ListParams) => self.stage = Stage::Between,
-            Stage::Within(Part::InnerParams) => self.stage = Stage::Within(Part::Items),
+            Stage::Within(MemberStage::Params) => self.stage = Stage::Between,
+            Stage::Within(MemberStage::ListParams) => self.stage = Stage::Between,
+            Stage::Within(MemberStage::InnerParams) => self.stage = Stage::Within(
+                MemberStage::Items,
+            ),
             _ => {}
         }
     }
@@ -369,16 +376,16 @@ impl ListBuilder {
         value: BareItemFromInput<'_>,
     ) -> Result<(), OutOfMemory>
         requires { is_held self.old.stage ≡ false }
-        ensures place { OnOk result (list_place self.new
-            ≡ list_step (list_place self.old) (tree.parameter (key_text key.entry) (input_value value.entry))) }
+        ensures state { OnOk result (list_state self.new
+            ≡ list_step (list_state self.old) (tree.parameter (key_text key.entry) (input_value value.entry))) }
         ensures seed { OnOk result (KeepsListSeed self.old self.new) }
-        ensures out_of_memory { OnErr result (IsTrue (list_takes_memory (list_place self.old)
+        ensures out_of_memory { OnErr result (IsTrue (list_takes_memory (list_state self.old)
             (tree.parameter (key_text key.entry) (input_value value.entry)))) }
     {
         let alloc = *self.list.allocator();
-        if let Stage::Within(part) = self.stage {
+        if let Stage::Within(member_stage) = self.stage {
             if let Some(member) = self.list.last_mut() {
-                part.parameter(alloc, member, key, value)?;
+                member_stage.parameter(alloc, member, key, value)?;
                 return Ok(());
             }
         }
@@ -387,9 +394,9 @@ impl ListBuilder {
 
     #[inline(always)]
     fn step(&mut self, event: Event<'_>) -> Result<(), OutOfMemory>
-        ensures place { OnOk result (list_place self.new ≡ list_step (list_place self.old) (event_of event.entry)) }
+        ensures state { OnOk result (list_state self.new ≡ list_step (list_state self.old) (event_of event.entry)) }
         ensures seed { OnOk result (KeepsListSeed self.old self.new) }
-        ensures out_of_memory { OnErr result (IsTrue (list_takes_memory (list_place self.old) (event_of event.entry))) }
+        ensures out_of_memory { OnErr result (IsTrue (list_takes_memory (list_state self.old) (event_of event.entry))) }
         ensures copied { OnErr result (is_moved event.entry ≡ false) }
     {
         match event {
@@ -398,11 +405,11 @@ impl ListBuilder {
             Event::InnerList => self.begin_inner_list()?,
             Event::BareItem(bare_item) => self.bare_item(bare_item)?,
             Event::Parameter(key, value) => {
-                self.place_held()?;
+                self.push_held()?;
                 self.parameter(key, value)?;
             }
             Event::ParametersEnd => {
-                self.place_held()?;
+                self.push_held()?;
                 self.fit_parameters();
                 self.end_parameters();
             }
@@ -418,13 +425,13 @@ impl<'de> Visitor<'de> for ListBuilder {
 
     type Error = OutOfMemory;
 
-    ghost takes = { λ s event after. (list_place after ≡ list_step (list_place s) event) × KeepsListSeed s after };
+    ghost takes = { λ s event after. (list_state after ≡ list_step (list_state s) event) × KeepsListSeed s after };
 
-    ghost fails = { λ s event fault. IsTrue (list_takes_memory (list_place s) event) };
+    ghost fails = { λ s event fault. IsTrue (list_takes_memory (list_state s) event) };
 
     ghost fails_read = { λ _ event _. is_moved event ≡ false };
 
-    ghost finishes = { λ s list. (list_tree list.items ≡ list_members (list_place s)) × ListAnswersSeeded s list.items };
+    ghost finishes = { λ s list. (list_tree list.items ≡ list_members (list_state s)) × ListAnswersSeeded s list.items };
 
     ghost finish_fails = { λ _ _. ⊥ };
 

@@ -14,7 +14,7 @@ use std::alloc::Global;
 
 // Inserts a parameter. An existing key keeps its place and takes the new value; a new key goes last.
 #[inline(never)]
-pub(crate) fn enter(
+pub(crate) fn insert_parameter(
     alloc: Global,
     params: &mut Parameters,
     key: KeyRef<'_>,

@@ -3,4 +3,4 @@ use Rattle.sfv_fields.proofs.PriorityTexts.{reads_back}
 use Rattle.sfv_fields.proofs.priority.write_priority.Goals as goal
 
 pub returns-clause-read_back : goal.returns-clause-read_back
-returns-clause-read_back c = λ edition. reads_back edition (value_of c.args.priority) c.args.priority.valid
+returns-clause-read_back c = λ version. reads_back version (value_of c.args.priority) c.args.priority.valid

@@ -12,6 +12,6 @@ returns-clause-read_back c =
     let members = written_members (name_value c.args.name.now) (token_text c.args.error) c.args.received_status in
     let own = its_proxy c.args.name.now (token_text c.args.error) c.args.received_status c.requires.least c.requires.most in
     let fits = fits c.args.name.now (token_text c.args.error) c.args.received_status in
-    on_ok_weaker c.run_list.result (λ read edition. (members, read edition, own)) (written_is_read c.run_list.result
+    on_ok_weaker c.run_list.result (λ read version. (members, read version, own)) (written_is_read c.run_list.result
     list_field (described_list c.as_slice.result.now) members c.run_list.ensures.value
     (rw (c.as_slice.ensures.value) (c.in_ok-calls.ensures)) (refl, tt) fits)

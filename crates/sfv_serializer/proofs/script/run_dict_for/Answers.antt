@@ -1,6 +1,5 @@
-use Rattle.sfv_spec.specs.Values.{dictionary_field}
+use Rattle.sfv_spec.specs.declared.field_kind.FieldKind.TheVariants.{Dictionary as dictionary_field}
 use Rattle.sfv_spec.proofs.Given.{described_fit}
-use Rattle.sfv_bare.specs.BareItems.{edition_of}
 use Rattle.sfv_writer.proofs.Looks.{at_exit}
 use Rattle.sfv_writer.proofs.ReadBack.{read_back}
 use Rattle.sfv_serializer.specs.Scripts.{dictionary_calls, described_dictionary}
@@ -9,12 +8,12 @@ use Rattle.sfv_serializer.proofs.script.run_dict_for.Goals as goal
 
 pub returns-clause-read_back : goal.returns-clause-read_back
 returns-clause-read_back c =
-    let edition = edition_of c.args.version in
+    let version = c.args.version in
     let calls = c.args.calls.now in
-    read_back edition dictionary_field (described_dictionary calls) c.in_ok-stands.ensures.value
-    (described_fit edition dictionary_field (dictionary_calls calls) c.in_ok-look_at_dictionary_calls.ensures)
+    read_back version dictionary_field (described_dictionary calls) c.in_ok-stands.ensures.value
+    (described_fit version dictionary_field (dictionary_calls calls) c.in_ok-check_dictionary_calls.ensures)
 
-pub returns-in_err-look_at_dictionary_calls-clause-some : goal.returns-in_err-look_at_dictionary_calls-clause-some
-returns-in_err-look_at_dictionary_calls-clause-some c =
+pub returns-in_err-check_dictionary_calls-clause-some : goal.returns-in_err-check_dictionary_calls-clause-some
+returns-in_err-check_dictionary_calls-clause-some c =
     at_exit c.from_residual.result _ _ _ c.from_residual.ensures.1
-    (named_dictionary (edition_of c.args.version) c.args.calls.now _ c.in_err-look_at_dictionary_calls.ensures)
+    (named_dictionary c.args.version c.args.calls.now _ c.in_err-check_dictionary_calls.ensures)

@@ -2,12 +2,12 @@ use Rattle.std.proofs.Common.{◌<◌, ◌≤◌, length, refl, ◌∙◌, codes
 use Rattle.std.proofs.lemmas.List.{append-nil, take_all}
 use Rattle.sfv_text.specs.KeyText.{key_text}
 use Rattle.sfv_bare.specs.BareItems.{ref_value}
-use Rattle.sfv_writer.specs.Written.{lead, keyed_text, param_text}
-use Rattle.sfv_serializer.specs.Serializers.{has_no_part}
+use Rattle.sfv_writer.specs.Written.{separator_before, keyed_text, param_text}
+use Rattle.sfv_serializer.specs.Serializers.{is_empty_so_far}
 use Rattle.sfv_serializer.proofs.Scripts.{kept_grown, of_error}
 use Rattle.sfv_serializer.proofs.Room.{params_lack, memory_lacks}
 use Rattle.sfv_serializer.proofs.Steps.{put_before, params_text_more, are_params_more}
-use Rattle.sfv_serializer.proofs.Steps.{grows, kept_grows, more_at, more_behind}
+use Rattle.sfv_serializer.proofs.Steps.{grows, kept_grows, more_at, more_after}
 use Rattle.sfv_serializer.proofs.script.write_dictionary_item.Goals as goal
 
 pub returns-in-Err-clause-out_of_memory : goal.returns-in-Err-clause-out_of_memory
@@ -29,12 +29,12 @@ loop-call-preserved g c =
     let params = c.args.calls.now.params.items in
     let within : n < length params = rw c.deref-call-items.ensures.value at c.loop-call-test.true in
     let is = rw c.deref-call-items.ensures.value at c.call-item.is in
-    let behind = put_before (lead (has_no_part c.args.dictionary.now) (codes ", ")) _ _ _
+    let after = put_before (separator_before (is_empty_so_far c.args.dictionary.now) (codes ", ")) _ _ _
     (params_text_more params n c.call-item.result within is
     (keyed_text (key_text c.args.name) (ref_value c.args.calls.now.value))) in (
       more.lent ∙ row.0,
-      more_behind g.W.Sink g.met.W.Sink.same_again c.args.dictionary.now c.loop-call.params.sink.now _ _ _ _ _ row.1
-          more.text behind,
+      more_after g.W.Sink g.met.W.Sink.same_again c.args.dictionary.now c.loop-call.params.sink.now _ _ _ _ _ row.1
+          more.text after,
       (row.2.0, are_params_more params n c.call-item.result within is row.2.1 more.is_key more.is_value),
       more.version ∙ row.3,
     )
@@ -72,6 +72,6 @@ returns-in-Err-parameter-clause-room g c =
     let last = g.W.Sink.text c.loop-call.params.sink.now.sink in
     let one = param_text (key_text c.call-item.result.key) (ref_value c.call-item.result.value) in
     params_lack params n c.call-item.result within is (g.W.Sink.text c.args.dictionary.now.sink) last
-    (lead (has_no_part c.args.dictionary.now) (codes ", "))
+    (separator_before (is_empty_so_far c.args.dictionary.now) (codes ", "))
     (keyed_text (key_text c.args.name) (ref_value c.args.calls.now.value))
-    row.1.1 row.1.5 (memory_lacks _ _ last one _ row.3 e.looks e.room)
+    row.1.1 row.1.5 (memory_lacks _ _ last one _ row.3 e.unsupported e.room)

@@ -1,7 +1,7 @@
 use Rattle.std.proofs.Common.{◌≡◌, rules}
 use Rattle.sfv_text.specs.KeyText.{key_text}
 use Rattle.sfv_serializer.specs.Scripts.{member_calls, inner_list_calls}
-use Rattle.sfv_serializer.specs.Serializers.{has_no_part}
+use Rattle.sfv_serializer.specs.Serializers.{is_empty_so_far}
 use Rattle.sfv_serializer.proofs.Room.{on_err, dictionary_inner_lacks}
 use Rattle.sfv_serializer.proofs.Scripts.{dictionary_inner_written}
 use Rattle.sfv_serializer.proofs.script.write_dictionary_member.Goals as goal
@@ -10,7 +10,7 @@ pub returns-in-InnerList-clause-text : goal.returns-in-InnerList-clause-text
 returns-in-InnerList-clause-text g c =
     let is : member_calls c.args.member.now
     ≡ inner_list_calls c.deref.result.now c.deref-in-InnerList.result.now c.in-InnerList.abandon = search rules in
-    dictionary_inner_written g.W.Sink c.args.dictionary.now c.write_inner.new.parts c.write_inner.result (key_text c.args.name) c.args.member.now _ _ _ is
+    dictionary_inner_written g.W.Sink c.args.dictionary.now c.write_inner.new.sequence c.write_inner.result (key_text c.args.name) c.args.member.now _ _ _ is
     c.write_inner.ensures.text
 
 pub returns-in-InnerList-clause-room : goal.returns-in-InnerList-clause-room
@@ -18,5 +18,5 @@ returns-in-InnerList-clause-room g c =
     let is : member_calls c.args.member.now
     ≡ inner_list_calls c.deref.result.now c.deref-in-InnerList.result.now c.in-InnerList.abandon = search rules in
     rw is (on_err c.write_inner.result (dictionary_inner_lacks (g.W.Sink.text c.args.dictionary.now.sink)
-    (has_no_part c.args.dictionary.now) (key_text c.args.name) c.deref.result.now c.deref-in-InnerList.result.now
+    (is_empty_so_far c.args.dictionary.now) (key_text c.args.name) c.deref.result.now c.deref-in-InnerList.result.now
     c.in-InnerList.abandon) c.write_inner.ensures.room)

@@ -16,7 +16,7 @@ loop-calls-init g c = (
 
 pub loop-calls-preserved : goal.loop-calls-preserved
 loop-calls-preserved g c =
-    let w = c.in_ok-write_unnamed.ensures in
+    let w = c.in_ok-write_keyless_item.ensures in
     let row = c.loop-calls.invariant in
     let items = c.args.items.now in
     let within : c.loop-calls.calls-index < length items = search rules in (
@@ -34,10 +34,10 @@ loop-calls-preserved g c =
       no_less row.4 w.text.5,
     )
 
-pub returns-in_err-write_unnamed-clause-room : goal.returns-in_err-write_unnamed-clause-room
-returns-in_err-write_unnamed-clause-room g c =
+pub returns-in_err-write_keyless_item-clause-room : goal.returns-in_err-write_keyless_item-clause-room
+returns-in_err-write_keyless_item-clause-room g c =
     let row = c.loop-calls.invariant in
     let within : c.loop-calls.calls-index < length c.args.items.now = search rules in
     anyway _ _ (next_item_lacks c.args.items.now c.loop-calls.calls-index c.calls-item.result _ _
     (g.W.Sink.text c.args.inner.now.sink.now.sink) (g.W.Sink.text c.loop-calls.inner.sink.now.sink) within c.calls-item.is
-    row.1 row.4 c.in_err-write_unnamed.ensures.room)
+    row.1 row.4 c.in_err-write_keyless_item.ensures.room)

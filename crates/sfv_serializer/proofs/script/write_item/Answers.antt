@@ -20,5 +20,5 @@ returns-in-Err-parameter-clause-room c =
     let stays = no_less row.2 kept.1 in (
       grind (arith, stays),
       params_lack params c.loop-call.call-index c.call-item.result within is c.args.text.now last []
-          (bare_text (ref_value c.args.calls.now.value)) row.1 row.2 (memory_lacks _ _ last one _ row.4 e.looks e.room),
+          (bare_text (ref_value c.args.calls.now.value)) row.1 row.2 (memory_lacks _ _ last one _ row.4 e.unsupported e.room),
     )

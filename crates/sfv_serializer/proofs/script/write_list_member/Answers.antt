@@ -1,6 +1,6 @@
 use Rattle.std.proofs.Common.{◌≡◌, rules}
 use Rattle.sfv_serializer.specs.Scripts.{member_calls, inner_list_calls}
-use Rattle.sfv_serializer.specs.Serializers.{has_no_part}
+use Rattle.sfv_serializer.specs.Serializers.{is_empty_so_far}
 use Rattle.sfv_serializer.proofs.Room.{on_err, list_inner_lacks}
 use Rattle.sfv_serializer.proofs.Scripts.{list_inner_written}
 use Rattle.sfv_serializer.proofs.script.write_list_member.Goals as goal
@@ -9,12 +9,12 @@ pub returns-in-InnerList-clause-text : goal.returns-in-InnerList-clause-text
 returns-in-InnerList-clause-text g c =
     let is : member_calls c.args.member.now
     ≡ inner_list_calls c.deref.result.now c.deref-in-InnerList.result.now c.in-InnerList.abandon = search rules in
-    list_inner_written g.W.Sink c.args.list.now c.write_inner.new.parts c.write_inner.result c.args.member.now _ _ _ is
+    list_inner_written g.W.Sink c.args.list.now c.write_inner.new.sequence c.write_inner.result c.args.member.now _ _ _ is
     c.write_inner.ensures.text
 
 pub returns-in-InnerList-clause-room : goal.returns-in-InnerList-clause-room
 returns-in-InnerList-clause-room g c =
     let is : member_calls c.args.member.now
     ≡ inner_list_calls c.deref.result.now c.deref-in-InnerList.result.now c.in-InnerList.abandon = search rules in
-    rw is (on_err c.write_inner.result (list_inner_lacks (g.W.Sink.text c.args.list.now.sink) (has_no_part c.args.list.now)
+    rw is (on_err c.write_inner.result (list_inner_lacks (g.W.Sink.text c.args.list.now.sink) (is_empty_so_far c.args.list.now)
     c.deref.result.now c.deref-in-InnerList.result.now c.in-InnerList.abandon) c.write_inner.ensures.room)

@@ -1,6 +1,7 @@
 use Rattle.std.proofs.Common.{refl, inl}
 use Rattle.std.proofs.lemmas.Result.{IfOk-weaker}
-use Rattle.sfv.specs.Values.{rfc9651, item_field}
+use Rattle.sfv.specs.Types.{item_field}
+use Rattle.sfv.specs.Types.{Rfc9651}
 use Rattle.sfv.specs.HashSeeds.{library_seed}
 use Rattle.sfv.proofs.Callers.{made_item, made_visited, made_syntax, made_visitor, item_seeded, item_built, item_built_fails}
 use Rattle.sfv_uses.proofs.Uses.{read_failed}
@@ -8,12 +9,12 @@ use Rattle.sfv_uses.proofs.expecting.item.Goals as goal
 
 pub returns-clause-read : goal.returns-clause-read
 returns-clause-read c = IfOk-weaker c.parse_item.result _ _
-    (λ value h. item_built rfc9651 c.args.input.now h.0 value h.1.0 h.2)
+    (λ value h. item_built Rfc9651 c.args.input.now h.0 value h.1.0 h.2)
     (made_visited _ (made_item _ (rw c.new.ensures at c.parse_item.ensures)))
 
 pub returns-clause-seed : goal.returns-clause-seed
 returns-clause-seed c = IfOk-weaker c.parse_item.result _ _
-    (λ value h. item_seeded rfc9651 c.args.input.now h.0 value library_seed h.1.1 h.1.2 h.2)
+    (λ value h. item_seeded Rfc9651 c.args.input.now h.0 value library_seed h.1.1 h.1.2 h.2)
     (made_visited _ (made_item _ (rw c.new.ensures at c.parse_item.ensures)))
 
 pub returns-clause-rejected : goal.returns-clause-rejected

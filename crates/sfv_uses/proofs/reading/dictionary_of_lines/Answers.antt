@@ -1,13 +1,14 @@
 use Rattle.std.proofs.Common.{◌≡◌, ℕ, List, ◌∙◌, sym, subst}
 use Rattle.std.proofs.lemmas.Result.{IfOk-weaker}
-use Rattle.sfv.specs.Values.{rfc9651, dictionary_field}
+use Rattle.sfv.specs.Types.{dictionary_field}
+use Rattle.sfv.specs.Types.{Rfc9651}
 use Rattle.sfv.specs.Statements.{IsParsedAs}
 use Rattle.sfv.specs.Trees.{dictionary_tree}
 use Rattle.sfv.specs.Types.{HashSeed, DictionaryBuilder, ListEntry}
 use Rattle.sfv.specs.Maps.{IndexMap}
 use Rattle.sfv.specs.Seeds.{DictionaryHasSeed}
-use Rattle.sfv.proofs.Callers.{dictionary_behind, dictionary_seeded, read_is_value}
-use Rattle.sfv.specs.Builders.{dictionary_place, dictionary_step, dictionary_members, KeepsDictionarySeed}
+use Rattle.sfv.proofs.Callers.{dictionary_after, dictionary_seeded, read_is_value}
+use Rattle.sfv.specs.Builders.{dictionary_state, dictionary_step, dictionary_members, KeepsDictionarySeed}
 use Rattle.sfv.specs.Builders.{DictionaryAnswersSeeded}
 use Rattle.sfv_uses.proofs.Uses.{second_fails}
 use Rattle.sfv_uses.proofs.reading.dictionary_of_lines.Goals as goal
@@ -15,31 +16,31 @@ use Rattle.sfv_uses.proofs.reading.dictionary_of_lines.Goals as goal
 pub returns-clause-joined : goal.returns-clause-joined
 returns-clause-joined c =
     let held = dictionary_tree c.in_ok-held.held.entries in
-    let first : IsParsedAs rfc9651 dictionary_field c.args.first.now held =
+    let first : IsParsedAs Rfc9651 dictionary_field c.args.first.now held =
     rw (c.with_hash_seed-parser.ensures, c.new.ensures) at c.in_ok-held.ensures.read in
     let second = rw (c.new-2.ensures) at c.parse_dictionary_with_visitor.ensures.visited in
-    let distinct = (read_is_value rfc9651 dictionary_field c.args.first.now held first).distinct in
-    let behind = dictionary_behind rfc9651 c.args.second.now held c.new-builder.result
-    c.parse_dictionary_with_visitor.result distinct c.new-builder.ensures.place second in
-    IfOk-weaker c.parse_dictionary_with_visitor.result _ _ (λ dictionary h. (held, h.0, first, h.1, h.2)) behind
+    let distinct = (read_is_value Rfc9651 dictionary_field c.args.first.now held first).distinct in
+    let past = dictionary_after Rfc9651 c.args.second.now held c.new-builder.result
+    c.parse_dictionary_with_visitor.result distinct c.new-builder.ensures.state second in
+    IfOk-weaker c.parse_dictionary_with_visitor.result _ _ (λ dictionary h. (held, h.0, first, h.1, h.2)) past
 
 pub returns-clause-seed : goal.returns-clause-seed
 returns-clause-seed c =
     let second = rw (c.new-2.ensures) at c.parse_dictionary_with_visitor.ensures.visited in
     let first : DictionaryHasSeed c.args.seed c.in_ok-held.held =
     rw c.with_hash_seed-parser.ensures at c.in_ok-held.ensures.seed in
-    IfOk-weaker c.parse_dictionary_with_visitor.result _ _ (λ dictionary h. dictionary_seeded rfc9651 c.args.second.now
+    IfOk-weaker c.parse_dictionary_with_visitor.result _ _ (λ dictionary h. dictionary_seeded Rfc9651 c.args.second.now
     c.new-builder.result dictionary c.args.seed (c.new-builder.ensures.seed ∙ first.0)
     (c.new-builder.ensures.seeded (subst (λ (seed : HashSeed). DictionaryHasSeed seed c.in_ok-held.held) (sym first.0) first)) h)
     second
 
 pub returns-clause-rejected : goal.returns-clause-rejected
 returns-clause-rejected c =
-    let read : IsParsedAs rfc9651 dictionary_field c.args.first.now (dictionary_tree c.in_ok-held.held.entries) =
+    let read : IsParsedAs Rfc9651 dictionary_field c.args.first.now (dictionary_tree c.in_ok-held.held.entries) =
     rw (c.with_hash_seed-parser.ensures, c.new.ensures) at c.in_ok-held.ensures.read in
     second_fails dictionary_field (λ (s : DictionaryBuilder) e after.
-    (dictionary_place after ≡ dictionary_step (dictionary_place s) e) × KeepsDictionarySeed s after)
+    (dictionary_state after ≡ dictionary_step (dictionary_state s) e) × KeepsDictionarySeed s after)
     (λ s (dictionary : IndexMap (List ℕ) ListEntry HashSeed). (dictionary_tree dictionary.entries
-    ≡ dictionary_members (dictionary_place s)) × DictionaryAnswersSeeded s dictionary) c.args.first.now c.args.second.now
+    ≡ dictionary_members (dictionary_state s)) × DictionaryAnswersSeeded s dictionary) c.args.first.now c.args.second.now
     c.new-builder.result c.parse_dictionary_with_visitor.result (read.raw, read.accepted)
     (rw c.new-2.ensures at c.parse_dictionary_with_visitor.ensures.syntax)

@@ -2,9 +2,9 @@ use Rattle.std.proofs.Common.{refl, rules, codes}
 use Rattle.sfv.specs.Canonical.{bare_text}
 use Rattle.sfv.specs.BareItems.{ref_value}
 use Rattle.sfv.specs.KeyText.{key_text}
-use Rattle.sfv.specs.Written.{lead, param_text}
-use Rattle.sfv.specs.Serializers.{has_no_part, params_sink}
-use Rattle.sfv.proofs.Callers.{more_as, more_behind}
+use Rattle.sfv.specs.Written.{separator_before, param_text}
+use Rattle.sfv.specs.Serializers.{is_empty_so_far, params_sink}
+use Rattle.sfv.proofs.Callers.{more_as, more_after}
 use Rattle.sfv_uses.proofs.Parts.{with_param, grown_as, grown_rests}
 use Rattle.sfv_uses.proofs.serializing.put_with.Goals as goal
 
@@ -17,15 +17,15 @@ returns-in_err-inner-clause-grows g c =
 pub returns-clause-text : goal.returns-clause-text
 returns-clause-text g c =
     let last = (params_sink c.in_ok-inner.field-0).now in
-    let text = with_param (lead (has_no_part c.args.inner.now) (codes " ")) (bare_text (ref_value c.args.value))
+    let text = with_param (separator_before (is_empty_so_far c.args.inner.now) (codes " ")) (bare_text (ref_value c.args.value))
     (param_text (key_text c.args.param.0) (ref_value c.args.param.1)) in
-    let whole = more_behind g.X.Sink g.met.X.Sink.same_again c.args.inner.now (params_sink c.in_ok-params.params).now
+    let whole = more_after g.X.Sink g.met.X.Sink.same_again c.args.inner.now (params_sink c.in_ok-params.params).now
     last _ _ _ _ c.in_ok-params.ensures.text c.in_ok-inner.ensures.text text in
     more_as g.X.Sink c.args.inner.now last _ _ _ _ _ _ whole (search rules) (search rules) (search rules) (search rules)
 
 pub returns-clause-grows : goal.returns-clause-grows
 returns-clause-grows g c =
     let last = (params_sink c.in_ok-inner.field-0).now in
-    let whole = more_behind g.X.Sink g.met.X.Sink.same_again c.args.inner.now (params_sink c.in_ok-params.params).now
+    let whole = more_after g.X.Sink g.met.X.Sink.same_again c.args.inner.now (params_sink c.in_ok-params.params).now
     last _ _ _ _ c.in_ok-params.ensures.text c.in_ok-inner.ensures.text refl in
     grown_as g.X.Sink c.args.inner.now last _ _ _ _ whole (search rules) (search rules)

@@ -2,8 +2,8 @@ use Rattle.std.proofs.Common.{[], ◌∷◌, ◌++◌, ◌∙◌, sym, ap, codes
 use Rattle.std.proofs.lemmas.List.{append-nil}
 use Rattle.sfv.specs.BareItems.{ref_value}
 use Rattle.sfv.specs.KeyText.{key_text}
-use Rattle.sfv.specs.Written.{lead}
-use Rattle.sfv.specs.Serializers.{has_no_part}
+use Rattle.sfv.specs.Written.{separator_before}
+use Rattle.sfv.specs.Serializers.{is_empty_so_far}
 use Rattle.sfv.proofs.Callers.{named_list_ended, more_as, no_less}
 use Rattle.sfv_uses.specs.Uses.{pair_of}
 use Rattle.sfv_uses.proofs.serializing.write_named_pair.Goals as goal
@@ -17,7 +17,7 @@ returns g c =
     let pair = c.in_default.ensures.text in
     let closed = c.in_ok-finish.ensures.text in
     let ended = c.in_ok-dictionary.ensures.text in
-    let text = named_list_ended _ _ _ _ _ (lead (has_no_part a.dictionary.now) (codes ", ")) (key_text a.name) _
+    let text = named_list_ended _ _ _ _ _ (separator_before (is_empty_so_far a.dictionary.now) (codes ", ")) (key_text a.name) _
     (pair_of (ref_value a.first) (key_text a.param.0) (ref_value a.param.1) (ref_value a.second))
     ((key_text a.ending.0, ref_value a.ending.1) ∷ []) begun.text.1 pair.1 begun.begins.0 closed.1
     (ended.1 ∙ ap (λ t. string_bytes (s.text c.in_ok-finish.field-0.sink.now.sink) ++ t) (sym (append-nil _))) in

@@ -1,6 +1,7 @@
 use Rattle.std.proofs.Common.{refl}
-use Rattle.sfv.specs.Values.{rfc9651, item_field}
-use Rattle.sfv.specs.Events.{bare_values}
+use Rattle.sfv.specs.Types.{item_field}
+use Rattle.sfv.specs.Types.{Rfc9651}
+use Rattle.sfv.specs.Values.{bare_values}
 use Rattle.sfv.specs.BareItems.{ref_value}
 use Rattle.sfv.specs.KeyText.{key_text}
 use Rattle.sfv.proofs.Callers.{value_read_back, all_fit_newer}
@@ -11,7 +12,7 @@ pub returns-clause-read_back : goal.returns-clause-read_back
 returns-clause-read_back c =
     let item = item_of_one (ref_value c.args.value) (key_text c.args.key) (ref_value c.args.param) in
     let param = c.in_ok-text.ensures.is_value in
-    value_read_back rfc9651 item_field item (record {
+    value_read_back Rfc9651 item_field item (record {
       parts = (c.bare_item.ensures.is_value, ((c.parameter.ensures.is_key, param), tt));
       distinct = refl;
     }) (all_fit_newer (bare_values item_field item))

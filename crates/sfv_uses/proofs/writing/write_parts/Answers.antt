@@ -7,7 +7,7 @@ use Rattle.sfv.specs.BareItems.{bare_value}
 use Rattle.sfv.specs.Trees.{pairs_tree, item_tree}
 use Rattle.sfv.specs.Written.{lent_pairs}
 use Rattle.sfv.specs.Versions.{FailsAmong, values_of_pairs}
-use Rattle.sfv.proofs.Callers.{lent_all, newer_fails, parameters_lack, room_behind}
+use Rattle.sfv.proofs.Callers.{lent_all, newer_fails, parameters_lack, room_after}
 use Rattle.sfv_uses.proofs.writing.write_parts.Goals as goal
 
 -- what always holds, holds for an error
@@ -36,12 +36,12 @@ returns-in_err-text-clause-room c =
     let written = c.in_ok-params.ensures in
     let params = c.in_ok-params.params.sink.now in
     let error = c.in_err-text.field-0.0 in
-    let failed = subst (λ edition. FailsAmong (TakesFirst deref_pair) c.iter.result values_of_pairs edition error)
+    let failed = subst (λ version. FailsAmong (TakesFirst deref_pair) c.iter.result values_of_pairs version error)
     (written.version ∙ c.with_buffer.ensures.version) c.in_err-text.ensures.failed in
     let p = c.in_err-text.ensures.room (newer_fails (TakesFirst deref_pair) c.iter.result values_of_pairs error failed) in
     let none = parameters_lack params item.params.entries p.1 p.0
     (subst (λ s. Yields (TakesFirst deref_pair) s p.0 p.1) c.iter.ensures.rest p.2) p.4 in
     let front : string_bytes params ≡ string_bytes old ++ bare_text (bare_value item.bare_item) = search rules in
     of_any c.from_residual-in_err-text.result
-    (room_behind old params (bare_text (bare_value item.bare_item)) (parameters_text (pairs_tree item.params.entries))
+    (room_after old params (bare_text (bare_value item.bare_item)) (parameters_text (pairs_tree item.params.entries))
     front (omega (arith, c.with_buffer.ensures.room, written.stays)) none)

@@ -6,7 +6,7 @@ use Rattle.base64.specs.GeneralPurpose.{encode_of}
 use Rattle.base64.proofs.EngineFacts.{IsAscii-encode_of, encoded_prefix, encode_of-nil}
 use Rattle.sfv_writer.specs.Written.{LacksRoom}
 use Rattle.sfv_writer.proofs.Encoded.{next_chunk, front_shorter}
-use Rattle.sfv_writer.proofs.Room.{refused, room_behind, room_shorter}
+use Rattle.sfv_writer.proofs.Room.{refused, room_after, room_shorter}
 use Rattle.sfv_writer.proofs.byte_sequence.serialize_base64.Goals as goal
 
 pub loop-done-init : goal.loop-done-init
@@ -67,7 +67,7 @@ returns-in_err-push_str-clause-room g c =
     (room_shorter c.args.output.now _ (encode_of e input)
     (front_shorter e input (n + d) ends)
     (subst (λ (l : List ℕ). LacksRoom c.args.output.now l) (sym (next_chunk e input n d whole within))
-    (room_behind c.args.output.now c.loop-done.output _ _ inv.0 inv.1 none)))
+    (room_after c.args.output.now c.loop-done.output _ _ inv.0 inv.1 none)))
 
 pub returns-clause-text : goal.returns-clause-text
 returns-clause-text g c =

@@ -1,5 +1,6 @@
 use Rattle.std.proofs.Common.{◌≡◌, ◌++◌, ◌<◌, ◌∙◌, List, ℕ, length, ap, rules}
-use Rattle.sfv_spec.specs.Values.{HasMember, dictionary_field}
+use Rattle.sfv_spec.specs.Values.{HasMember}
+use Rattle.sfv_spec.specs.declared.field_kind.FieldKind.TheVariants.{Dictionary as dictionary_field}
 use Rattle.sfv_spec.specs.Canonical.{canonical}
 use Rattle.sfv_tree.specs.Trees.{entry_tree, dictionary_tree}
 use Rattle.sfv_writer.proofs.ReadBack.{written}

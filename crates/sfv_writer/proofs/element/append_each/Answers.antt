@@ -8,5 +8,5 @@ returns-in-Ok-clause-text g c = c.in-Ok.ensures.text
 pub returns-in-Err-clause-kept : goal.returns-in-Err-clause-kept
 returns-in-Err-clause-kept g c =
     let old = c.args.output.now in
-    cut_to old c.serialize_each.new.output c.cut_back.new.output c.len-len.result
-    (c.len-len.ensures ∙ old.bytes.ok.0) c.in-Err.ensures.kept c.cut_back.ensures.text
+    cut_to old c.serialize_each.new.output c.truncate_to.new.output c.len-len.result
+    (c.len-len.ensures ∙ old.bytes.ok.0) c.in-Err.ensures.kept c.truncate_to.ensures.text

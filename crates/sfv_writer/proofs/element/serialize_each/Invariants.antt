@@ -1,7 +1,6 @@
 use Rattle.std.proofs.Common.{◌≤◌, string_bytes, string_capacity}
 use Rattle.std.specs.List.{flat_map}
-use Rattle.sfv_spec.specs.Calls.{AllFit}
-use Rattle.sfv_bare.specs.BareItems.{edition_of}
+use Rattle.sfv_spec.specs.Values.{AllFit}
 use Rattle.sfv_writer.proofs.Rows.{IsLed}
 use Rattle.sfv_writer.proofs.element.serialize_each.Given as goal
 
@@ -11,5 +10,5 @@ invariant-loop-element g l =
     × (goal.iterator-loop-element g).is_finite l.element-iterator
     × IsLed g.E.Element.text g.E.Element.is_valid l.fn.separator l.yielded
     l.fn.is_first l.none (string_bytes l.fn.output) (string_bytes l.output)
-    × AllFit (edition_of l.version) (flat_map g.E.Element.values l.yielded)
+    × AllFit l.version (flat_map g.E.Element.values l.yielded)
     × (string_capacity l.fn.output ≤ string_capacity l.output)

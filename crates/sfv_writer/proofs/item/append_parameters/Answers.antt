@@ -1,6 +1,5 @@
 use Rattle.std.proofs.Common.{◌∷◌, Some, rules}
 use Rattle.indexmap.proofs.MapLemmas.{OnOk-map}
-use Rattle.sfv_bare.specs.BareItems.{edition_of}
 use Rattle.sfv_spec.specs.Canonical.{parameters_text}
 use Rattle.sfv_writer.specs.Written.{lent_pairs}
 use Rattle.sfv_writer.specs.Versions.{values_of_pairs}
@@ -21,12 +20,12 @@ returns-clause-failed g c =
     let steps = g.I.Iterator.next_gives in
     let step : steps c.args.params (Some c.in-Some.first) c.next.new.self = search rules in
     fails_from_first steps c.args.params c.in-Some.first c.next.new.self values_of_pairs
-    (edition_of c.args.version) c.append_first_and_rest.result step c.append_first_and_rest.ensures.failed
+    c.args.version c.append_first_and_rest.result step c.append_first_and_rest.ensures.failed
 
 pub returns-clause-room : goal.returns-clause-room
 returns-clause-room g c =
     let steps = g.I.Iterator.next_gives in
     let step : steps c.args.params (Some c.in-Some.first) c.next.new.self = search rules in
-    lacks_from_first steps c.args.params c.in-Some.first c.next.new.self values_of_pairs (edition_of c.args.version)
+    lacks_from_first steps c.args.params c.in-Some.first c.next.new.self values_of_pairs c.args.version
     c.args.output.now (λ taken. parameters_text (lent_pairs taken)) c.append_first_and_rest.result step
     c.append_first_and_rest.ensures.room

@@ -44,8 +44,8 @@ returns-clause-value g c =
 pub returns-clause-distinct : goal.returns-clause-distinct
 returns-clause-distinct g c = pairs_distinct c.args.params.now.entries c.iter.ensures.unique
 
-pub only_memory-requires : goal.only_memory-requires
-only_memory-requires g c =
+pub expect_out_of_memory-requires : goal.expect_out_of_memory-requires
+expect_out_of_memory-requires g c =
     newer_fails (TakesFirst deref_pair) c.iter.result values_of_pairs _ c.in-Err.ensures.failed
 
 pub returns-in-Err-clause-room : goal.returns-in-Err-clause-room

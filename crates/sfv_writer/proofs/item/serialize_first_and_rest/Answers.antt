@@ -1,20 +1,20 @@
 use Rattle.std.proofs.Common.{[], ◌∷◌, subst}
 use Rattle.indexmap.proofs.MapLemmas.{OnOk-map}
-use Rattle.sfv_spec.specs.Calls.{AllFit}
-use Rattle.sfv_bare.specs.BareItems.{bare_value, edition_of}
+use Rattle.sfv_spec.specs.Values.{AllFit}
+use Rattle.sfv_bare.specs.BareItems.{bare_value}
 use Rattle.sfv_spec.specs.Canonical.{parameters_text}
 use Rattle.sfv_writer.specs.Written.{lent_pairs, param_text}
 use Rattle.sfv_writer.specs.Versions.{values_of_pairs}
-use Rattle.sfv_writer.proofs.Appended.{next, grows_behind}
-use Rattle.sfv_writer.proofs.Lacks.{named_lacks, lacks_at_first, lacks_behind}
+use Rattle.sfv_writer.proofs.Appended.{next, grows_after}
+use Rattle.sfv_writer.proofs.Lacks.{named_lacks, lacks_at_first, lacks_after}
 use Rattle.sfv_writer.proofs.Room.{room_before}
-use Rattle.sfv_writer.proofs.Looks.{fails_behind}
+use Rattle.sfv_writer.proofs.Looks.{fails_after}
 use Rattle.sfv_writer.proofs.item.serialize_first_and_rest.Goals as goal
 
 pub returns-clause-text : goal.returns-clause-text
 returns-clause-text g c =
-    let fit = subst (λ b. AllFit (edition_of c.args.version) (b ∷ [])) c.as_ref_item.ensures.value
-    c.in_ok-look_at_bare_item.ensures in
+    let fit = subst (λ b. AllFit c.args.version (b ∷ [])) c.as_ref_item.ensures.value
+    c.in_ok-check_bare_item.ensures in
     let one = c.in_ok-serialize_parameter.ensures in
     OnOk-map c.serialize_parameters.result _ _
     (λ h. (h.0, h.1, next _ _ _ _ _ one.text h.2, ((one.key, one.value), h.3), (fit.0, h.4)))
@@ -22,41 +22,41 @@ returns-clause-text g c =
 
 pub returns-clause-failed : goal.returns-clause-failed
 returns-clause-failed g c =
-    let edition = edition_of c.args.version in
-    fails_behind g.I.Iterator.next_gives c.args.rest values_of_pairs edition (bare_value c.args.first.1.now)
+    let version = c.args.version in
+    fails_after g.I.Iterator.next_gives c.args.rest values_of_pairs version (bare_value c.args.first.1.now)
     c.serialize_parameters.result
-    (subst (λ b. AllFit edition (b ∷ [])) c.as_ref_item.ensures.value c.in_ok-look_at_bare_item.ensures)
+    (subst (λ b. AllFit version (b ∷ [])) c.as_ref_item.ensures.value c.in_ok-check_bare_item.ensures)
     c.serialize_parameters.ensures.failed
 
 pub returns-clause-grows : goal.returns-clause-grows
 returns-clause-grows g c =
-    grows_behind _ _ _ _ c.serialize_parameters.result c.in_ok-serialize_parameter.ensures.text
+    grows_after _ _ _ _ c.serialize_parameters.result c.in_ok-serialize_parameter.ensures.text
     c.serialize_parameters.ensures.grows
 
-pub returns-in_err-look_at_bare_item-clause-room : goal.returns-in_err-look_at_bare_item-clause-room
-returns-in_err-look_at_bare_item-clause-room g c =
+pub returns-in_err-check_bare_item-clause-room : goal.returns-in_err-check_bare_item-clause-room
+returns-in_err-check_bare_item-clause-room g c =
     named_lacks g.I.Iterator.next_gives c.args.rest (λ taken. values_of_pairs (c.args.first ∷ taken))
-    (edition_of c.args.version) c.args.output.now (λ taken. parameters_text (lent_pairs (c.args.first ∷ taken)))
-    c.from_residual.result _ c.in_err-look_at_bare_item.field-0.0 c.from_residual.ensures.1
-    c.in_err-look_at_bare_item.ensures
+    c.args.version c.args.output.now (λ taken. parameters_text (lent_pairs (c.args.first ∷ taken)))
+    c.from_residual.result _ c.in_err-check_bare_item.field-0.0 c.from_residual.ensures.1
+    c.in_err-check_bare_item.ensures
 
 pub returns-in_err-serialize_parameter-clause-room : goal.returns-in_err-serialize_parameter-clause-room
 returns-in_err-serialize_parameter-clause-room g c =
-    let edition = edition_of c.args.version in
+    let version = c.args.version in
     let old = c.args.output.now in
-    lacks_at_first g.I.Iterator.next_gives c.args.rest (λ taken. values_of_pairs (c.args.first ∷ taken)) edition old
+    lacks_at_first g.I.Iterator.next_gives c.args.rest (λ taken. values_of_pairs (c.args.first ∷ taken)) version old
     (λ taken. parameters_text (lent_pairs (c.args.first ∷ taken)))
     c.from_residual-in_err-serialize_parameter.result
-    (subst (λ b. AllFit edition (b ∷ [])) c.as_ref_item.ensures.value c.in_ok-look_at_bare_item.ensures)
+    (subst (λ b. AllFit version (b ∷ [])) c.as_ref_item.ensures.value c.in_ok-check_bare_item.ensures)
     (room_before old (param_text c.args.first.0.now (bare_value c.args.first.1.now)) []
     c.in_err-serialize_parameter.ensures.room.1)
 
 pub returns-clause-room : goal.returns-clause-room
 returns-clause-room g c =
-    let edition = edition_of c.args.version in
+    let version = c.args.version in
     let one = c.in_ok-serialize_parameter.ensures in
-    lacks_behind g.I.Iterator.next_gives c.args.rest values_of_pairs edition (bare_value c.args.first.1.now)
+    lacks_after g.I.Iterator.next_gives c.args.rest values_of_pairs version (bare_value c.args.first.1.now)
     c.args.output.now c.serialize_parameter.new.output _ (λ taken. parameters_text (lent_pairs taken))
     c.serialize_parameters.result
-    (subst (λ b. AllFit edition (b ∷ [])) c.as_ref_item.ensures.value c.in_ok-look_at_bare_item.ensures)
+    (subst (λ b. AllFit version (b ∷ [])) c.as_ref_item.ensures.value c.in_ok-check_bare_item.ensures)
     one.text one.room.0 c.serialize_parameters.ensures.room

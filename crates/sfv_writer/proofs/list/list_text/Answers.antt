@@ -1,5 +1,6 @@
 use Rattle.std.proofs.Common.{◌≡◌, ◌++◌, ◌<◌, ◌∙◌, List, ℕ, length, ap, rules}
-use Rattle.sfv_spec.specs.Values.{HasMember, list_field}
+use Rattle.sfv_spec.specs.Values.{HasMember}
+use Rattle.sfv_spec.specs.declared.field_kind.FieldKind.TheVariants.{List as list_field}
 use Rattle.sfv_spec.specs.Canonical.{canonical}
 use Rattle.sfv_tree.specs.Trees.{member_tree, list_tree}
 use Rattle.sfv_writer.proofs.ReadBack.{written}

@@ -1,12 +1,13 @@
 use Rattle.std.proofs.Common.{List, codes, sym, ap, ◌∙◌}
 use Rattle.std.specs.Slice.Iter.{iter_steps, iter_rest}
-use Rattle.sfv_spec.specs.Values.{RawMember, IsMember, list_field}
+use Rattle.sfv_spec.specs.Values.{RawMember, IsMember}
+use Rattle.sfv_spec.specs.declared.field_kind.FieldKind.TheVariants.{List as list_field}
 use Rattle.sfv_spec.specs.Ordered.{IsOrderedMember}
 use Rattle.sfv_spec.specs.Canonical.{member_text}
 use Rattle.sfv_spec.specs.Statements.{IsValue}
 use Rattle.sfv_tree.specs.Trees.{list_tree}
-use Rattle.sfv_writer.specs.Written.{lent_entry}
-use Rattle.sfv_writer.specs.Versions.{values_of_entries}
+use Rattle.sfv_writer.specs.Written.{lent_list_member}
+use Rattle.sfv_writer.specs.Versions.{values_of_list_members}
 use Rattle.sfv_writer.proofs.Lent.{entries_all, entries_front}
 use Rattle.sfv_writer.proofs.Lacks.{front_lacks}
 use Rattle.sfv_writer.proofs.Looks.{newer_fails}
@@ -14,14 +15,14 @@ use Rattle.sfv_writer.proofs.Rows.{all_both}
 use Rattle.sfv_writer.proofs.Drained.{all_written}
 use Rattle.sfv_writer.proofs.list.serialize_list.Goals as goal
 
-pub only_memory-requires : goal.only_memory-requires
-only_memory-requires g c = newer_fails iter_steps c.iter.result values_of_entries _ c.in-Err.ensures.failed
+pub expect_out_of_memory-requires : goal.expect_out_of_memory-requires
+expect_out_of_memory-requires g c = newer_fails iter_steps c.iter.result values_of_list_members _ c.in-Err.ensures.failed
 
 pub returns : goal.returns
 returns g c =
     let members : List RawMember = list_tree c.args.list.now.items in
     let w = c.in_default.ensures.text in
-    let all = all_written lent_entry member_text (λ m. IsMember m × IsOrderedMember m) (codes ", ") members
+    let all = all_written lent_list_member member_text (λ m. IsMember m × IsOrderedMember m) (codes ", ") members
     (IsValue list_field members) c.args.output.now c.serialize_each.new.output w.0
     (entries_all c.iter.result w.0 w.1 ∙ ap list_tree (c.iter.ensures.rest ∙ c.deref.ensures.value))
     (λ good. let both = all_both IsMember IsOrderedMember members good in
@@ -31,9 +32,9 @@ returns g c =
 pub returns-in-Err-clause-room : goal.returns-in-Err-clause-room
 returns-in-Err-clause-room g c =
     let e = c.in-Err.ensures in
-    let p = e.room (newer_fails iter_steps c.iter.result values_of_entries _ e.failed) in
+    let p = e.room (newer_fails iter_steps c.iter.result values_of_list_members _ e.failed) in
     let members : List RawMember = list_tree c.args.list.now.items in (
       e.stays,
-      front_lacks lent_entry member_text (codes ", ") c.args.output.now p.0 members (list_tree (iter_rest p.1))
+      front_lacks lent_list_member member_text (codes ", ") c.args.output.now p.0 members (list_tree (iter_rest p.1))
           (sym (ap list_tree (c.iter.ensures.rest ∙ c.deref.ensures.value)) ∙ entries_front c.iter.result p.1 p.0 p.2) p.4,
     )

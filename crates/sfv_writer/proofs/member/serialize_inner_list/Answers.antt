@@ -5,13 +5,13 @@ use Rattle.sfv_spec.specs.Ordered.{IsOrderedItem}
 use Rattle.sfv_spec.specs.Texts.{joined}
 use Rattle.sfv_spec.specs.Canonical.{item_text}
 use Rattle.sfv_tree.specs.Trees.{item_tree}
-use Rattle.sfv_writer.proofs.Appended.{put, behind, between}
+use Rattle.sfv_writer.proofs.Appended.{put, after, between}
 use Rattle.sfv_writer.proofs.Rows.{all_both, parts_on_ok}
 use Rattle.sfv_writer.proofs.member.serialize_inner_list.Goals as goal
 
 pub returns-clause-text : goal.returns-clause-text
 returns-clause-text g c =
-    behind _ _ _ _ _ c.serialize_all_parameters.result
+    after _ _ _ _ _ c.serialize_all_parameters.result
     (between (λ is. joined (codes " ") (map item_text (map item_tree is))) _ _ _ _ _ _ _ _
     (put _ _ _ _ c.in_ok-push.ensures.bytes (c.in_ok-push.ensures.ascii (lit< tt))) c.deref.ensures.value
     c.in_ok-serialize_items.ensures.text

@@ -8,7 +8,7 @@ use Rattle.sfv_tree.specs.Trees.{item_tree}
 use Rattle.sfv_writer.proofs.Appended.{put, next, unchanged, stops}
 use Rattle.sfv_writer.proofs.Lacks.{first_lacks, space_lacks, item_lacks}
 use Rattle.sfv_writer.proofs.Room.{refused}
-use Rattle.sfv_writer.proofs.Rows.{row_of_one, row_more, mapped_behind, all_behind}
+use Rattle.sfv_writer.proofs.Rows.{row_of_one, row_more, mapped_after, all_after}
 use Rattle.sfv_writer.proofs.member.serialize_items.Goals as goal
 
 pub loop-item-init : goal.loop-item-init
@@ -26,7 +26,7 @@ loop-item-preserved g c =
     let within : c.loop-item.item-index < length c.in-Some.others.now = search rules in (
       row_more item_text (λ i. IsItem i × IsOrderedItem i) (codes " ") _ _ _ _ _ _ _ _ (item_tree c.item-item.result)
           c.loop-item.invariant.0 refl
-          (mapped_behind item_tree c.args.items.now c.in-Some.first.now c.in-Some.others.now c.loop-item.item-index
+          (mapped_after item_tree c.args.items.now c.in-Some.first.now c.in-Some.others.now c.loop-item.item-index
           c.item-item.result c.in-Some.ensures.cases.0 within c.item-item.is)
           (put _ _ _ _ c.in_ok-push.ensures.bytes (c.in_ok-push.ensures.ascii (lit< tt)))
           c.in_ok-serialize_item-2.ensures.text (value.parts, value.distinct),
@@ -37,12 +37,12 @@ pub returns-clause-text : goal.returns-clause-text
 returns-clause-text g c =
     c.loop-item.invariant.0.text
     ∙ ap (λ is. string_bytes c.args.output.now ++ joined (codes " ") (map item_text (map item_tree is)))
-    (all_behind _ _ _ _ c.in-Some.ensures.cases.0 c.loop-item-test.false)
+    (all_after _ _ _ _ c.in-Some.ensures.cases.0 c.loop-item-test.false)
 
 pub returns-clause-values : goal.returns-clause-values
 returns-clause-values g c =
     subst (λ is. AllByRecursion (λ i. IsItem i × IsOrderedItem i) (map item_tree is))
-    (all_behind _ _ _ _ c.in-Some.ensures.cases.0 c.loop-item-test.false) c.loop-item.invariant.0.good
+    (all_after _ _ _ _ c.in-Some.ensures.cases.0 c.loop-item-test.false) c.loop-item.invariant.0.good
 
 pub returns-in_err-push-clause-text : goal.returns-in_err-push-clause-text
 returns-in_err-push-clause-text g c =

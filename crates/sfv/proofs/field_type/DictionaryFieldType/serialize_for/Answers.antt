@@ -1,28 +1,28 @@
 use Rattle.std.proofs.Common.{string_bytes, option_map}
-use Rattle.sfv_spec.specs.Values.{dictionary_field, HasMember}
-use Rattle.sfv_spec.specs.Events.{bare_values}
-use Rattle.sfv_bare.specs.BareItems.{edition_of}
+use Rattle.sfv_spec.specs.Values.{HasMember}
+use Rattle.sfv_spec.specs.declared.field_kind.FieldKind.TheVariants.{Dictionary as dictionary_field}
+use Rattle.sfv_spec.specs.Values.{bare_values}
 use Rattle.sfv_tree.specs.Trees.{dictionary_tree}
 use Rattle.sfv_writer.proofs.Looks.{look_fails, memory_fails, named_has_member}
 use Rattle.sfv_writer.proofs.ReadBack.{serialized_for}
 use Rattle.sfv_writer.proofs.Rows.{anyway}
 use Rattle.sfv.proofs.field_type.DictionaryFieldType.serialize_for.Goals as goal
 
-pub returns-in_err-look_at_dictionary-clause-looks : goal.returns-in_err-look_at_dictionary-clause-looks
-returns-in_err-look_at_dictionary-clause-looks c =
-    look_fails (edition_of c.args.version) (bare_values dictionary_field (dictionary_tree c.args.self.now.entries)) c.from_residual.result
-    c.in_err-look_at_dictionary.field-0.0 c.from_residual.ensures.1 c.in_err-look_at_dictionary.ensures
+pub returns-in_err-check_dictionary-clause-unsupported : goal.returns-in_err-check_dictionary-clause-unsupported
+returns-in_err-check_dictionary-clause-unsupported c =
+    look_fails c.args.version (bare_values dictionary_field (dictionary_tree c.args.self.now.entries)) c.from_residual.result
+    c.in_err-check_dictionary.field-0.0 c.from_residual.ensures.1 c.in_err-check_dictionary.ensures
 
-pub returns-in_err-look_at_dictionary-clause-failed : goal.returns-in_err-look_at_dictionary-clause-failed
-returns-in_err-look_at_dictionary-clause-failed c =
+pub returns-in_err-check_dictionary-clause-failed : goal.returns-in_err-check_dictionary-clause-failed
+returns-in_err-check_dictionary-clause-failed c =
     anyway (HasMember dictionary_field (dictionary_tree c.args.self.now.entries)) c.from_residual.result
-    (named_has_member (edition_of c.args.version) dictionary_field (dictionary_tree c.args.self.now.entries) c.in_err-look_at_dictionary.field-0.0
-    c.in_err-look_at_dictionary.ensures)
+    (named_has_member c.args.version dictionary_field (dictionary_tree c.args.self.now.entries) c.in_err-check_dictionary.field-0.0
+    c.in_err-check_dictionary.ensures)
 
-pub returns-in_err-text-clause-looks : goal.returns-in_err-text-clause-looks
-returns-in_err-text-clause-looks c =
-    memory_fails (edition_of c.args.version) (bare_values dictionary_field (dictionary_tree c.args.self.now.entries)) c.from_residual-in_err-text.result
-    c.from_residual-in_err-text.ensures.1 c.in_ok-look_at_dictionary.ensures
+pub returns-in_err-text-clause-unsupported : goal.returns-in_err-text-clause-unsupported
+returns-in_err-text-clause-unsupported c =
+    memory_fails c.args.version (bare_values dictionary_field (dictionary_tree c.args.self.now.entries)) c.from_residual-in_err-text.result
+    c.from_residual-in_err-text.ensures.1 c.in_ok-check_dictionary.ensures
 
 pub returns-in_err-text-clause-failed : goal.returns-in_err-text-clause-failed
 returns-in_err-text-clause-failed c =
@@ -30,5 +30,5 @@ returns-in_err-text-clause-failed c =
 
 pub returns-clause-text : goal.returns-clause-text
 returns-clause-text c =
-    serialized_for (edition_of c.args.version) dictionary_field (dictionary_tree c.args.self.now.entries) (option_map string_bytes c.in_ok-text.text)
-    c.in_ok-look_at_dictionary.ensures c.in_ok-text.ensures.text
+    serialized_for c.args.version dictionary_field (dictionary_tree c.args.self.now.entries) (option_map string_bytes c.in_ok-text.text)
+    c.in_ok-check_dictionary.ensures c.in_ok-text.ensures.text

@@ -1,5 +1,5 @@
 use Rattle.std.proofs.Common.{◌++◌, ◌∙◌, ap, List, ℕ}
-use Rattle.sfv_spec.specs.Values.{item_field}
+use Rattle.sfv_spec.specs.declared.field_kind.FieldKind.TheVariants.{Item as item_field}
 use Rattle.sfv_spec.specs.Canonical.{item_text}
 use Rattle.sfv_tree.specs.Trees.{item_tree}
 use Rattle.sfv_writer.proofs.ReadBack.{written}

@@ -1,28 +1,28 @@
 use Rattle.std.proofs.Common.{string_bytes, option_map}
-use Rattle.sfv_spec.specs.Values.{list_field, HasMember}
-use Rattle.sfv_spec.specs.Events.{bare_values}
-use Rattle.sfv_bare.specs.BareItems.{edition_of}
+use Rattle.sfv_spec.specs.Values.{HasMember}
+use Rattle.sfv_spec.specs.declared.field_kind.FieldKind.TheVariants.{List as list_field}
+use Rattle.sfv_spec.specs.Values.{bare_values}
 use Rattle.sfv_tree.specs.Trees.{list_tree}
 use Rattle.sfv_writer.proofs.Looks.{look_fails, memory_fails, named_has_member}
 use Rattle.sfv_writer.proofs.ReadBack.{serialized_for}
 use Rattle.sfv_writer.proofs.Rows.{anyway}
 use Rattle.sfv.proofs.field_type.ListFieldType.serialize_for.Goals as goal
 
-pub returns-in_err-look_at_list-clause-looks : goal.returns-in_err-look_at_list-clause-looks
-returns-in_err-look_at_list-clause-looks c =
-    look_fails (edition_of c.args.version) (bare_values list_field (list_tree c.args.self.now.items)) c.from_residual.result
-    c.in_err-look_at_list.field-0.0 c.from_residual.ensures.1 c.in_err-look_at_list.ensures
+pub returns-in_err-check_list-clause-unsupported : goal.returns-in_err-check_list-clause-unsupported
+returns-in_err-check_list-clause-unsupported c =
+    look_fails c.args.version (bare_values list_field (list_tree c.args.self.now.items)) c.from_residual.result
+    c.in_err-check_list.field-0.0 c.from_residual.ensures.1 c.in_err-check_list.ensures
 
-pub returns-in_err-look_at_list-clause-failed : goal.returns-in_err-look_at_list-clause-failed
-returns-in_err-look_at_list-clause-failed c =
+pub returns-in_err-check_list-clause-failed : goal.returns-in_err-check_list-clause-failed
+returns-in_err-check_list-clause-failed c =
     anyway (HasMember list_field (list_tree c.args.self.now.items)) c.from_residual.result
-    (named_has_member (edition_of c.args.version) list_field (list_tree c.args.self.now.items) c.in_err-look_at_list.field-0.0
-    c.in_err-look_at_list.ensures)
+    (named_has_member c.args.version list_field (list_tree c.args.self.now.items) c.in_err-check_list.field-0.0
+    c.in_err-check_list.ensures)
 
-pub returns-in_err-text-clause-looks : goal.returns-in_err-text-clause-looks
-returns-in_err-text-clause-looks c =
-    memory_fails (edition_of c.args.version) (bare_values list_field (list_tree c.args.self.now.items)) c.from_residual-in_err-text.result
-    c.from_residual-in_err-text.ensures.1 c.in_ok-look_at_list.ensures
+pub returns-in_err-text-clause-unsupported : goal.returns-in_err-text-clause-unsupported
+returns-in_err-text-clause-unsupported c =
+    memory_fails c.args.version (bare_values list_field (list_tree c.args.self.now.items)) c.from_residual-in_err-text.result
+    c.from_residual-in_err-text.ensures.1 c.in_ok-check_list.ensures
 
 pub returns-in_err-text-clause-failed : goal.returns-in_err-text-clause-failed
 returns-in_err-text-clause-failed c =
@@ -30,5 +30,5 @@ returns-in_err-text-clause-failed c =
 
 pub returns-clause-text : goal.returns-clause-text
 returns-clause-text c =
-    serialized_for (edition_of c.args.version) list_field (list_tree c.args.self.now.items) (option_map string_bytes c.in_ok-text.text)
-    c.in_ok-look_at_list.ensures c.in_ok-text.ensures.text
+    serialized_for c.args.version list_field (list_tree c.args.self.now.items) (option_map string_bytes c.in_ok-text.text)
+    c.in_ok-check_list.ensures c.in_ok-text.ensures.text

@@ -5,8 +5,8 @@ use Rattle.sfv_reading.specs.Reader.{span}
 use Rattle.sfv_bare.specs.BareItems.{input_value}
 use Rattle.sfv_reading.specs.Bare.{bare_at}
 use Rattle.sfv_reading.specs.Items.{item_of, item_at}
-use Rattle.sfv.specs.parser.Cursor.{rest, edition, kept_edition}
-use Rattle.sfv.specs.Parsers.{input_of, parser_edition}
+use Rattle.sfv.specs.parser.Cursor.{rest, version, kept_version}
+use Rattle.sfv.specs.Parsers.{input_of, version_of}
 use Rattle.sfv.proofs.visits.Whole.{field_trailing_error, field_done}
 use Rattle.sfv.proofs.visits.Parts.{kept_visits}
 use Rattle.sfv.proofs.visits.Lent.{lent_front, answered_as_read}
@@ -21,7 +21,7 @@ returns-in_err-item-clause-visited g c =
     rw (← c.new-cursor.ensures.rest) c.skip_sp.ensures.skipped.1 in
     rw (left_with c.from_residual.ensures.1)
     (item_fails g.V.Visitor.takes g.V.Visitor.fails g.V.Visitor.finishes g.V.Visitor.finish_fails
-    (parser_edition c.args.parser) (
+    (version_of c.args.parser) (
       c.args.parser,
       c.args.alloc,
     ) _ _ c.args.visitor c.item.new.visitor c.item.new.self _ skipped
@@ -37,7 +37,7 @@ returns-in_err-out-clause-visited g c =
     c.args.visitor c.item.new.visitor _ (Ok tt) (c.skip_sp.ensures.kept
     ∙ c.new-cursor.ensures.kept) c.in_ok-item.ensures.visited in
     rw (left_with c.from_residual-in_err-out.ensures.1) (finish_failed g.V.Visitor.takes g.V.Visitor.fails g.V.Visitor.finishes g.V.Visitor.finish_fails
-    (parser_edition c.args.parser) (input_of c.args.parser) _ _ _ read.0 c.args.visitor c.item.new.visitor _ skipped
+    (version_of c.args.parser) (input_of c.args.parser) _ _ _ read.0 c.args.visitor c.item.new.visitor _ skipped
     read.1 read.2 c.in_err-out.ensures.failed)
 
 pub returns-then-is_some-clause-visited : goal.returns-then-is_some-clause-visited
@@ -72,40 +72,40 @@ returns-clause-visited g c =
       record { last = c.item.new.visitor; taken = read.2; answered = c.in_ok-out.ensures.answered },
     )
 
-pub returns-in_err-item-clause-told : goal.returns-in_err-item-clause-told
-returns-in_err-item-clause-told g c =
+pub returns-in_err-item-clause-taken_first : goal.returns-in_err-item-clause-taken_first
+returns-in_err-item-clause-taken_first g c =
     let skipped : span is_space (input_of c.args.parser) ≡ Ok (c.skip_sp.ensures.skipped.0, rest c.skip_sp.new.self) =
     rw (← c.new-cursor.ensures.rest) c.skip_sp.ensures.skipped.1 in
-    rw (left_with c.from_residual.ensures.1) (after_spaces g.V.Visitor.takes (parser_edition c.args.parser) (edition c.skip_sp.new.self)
+    rw (left_with c.from_residual.ensures.1) (after_spaces g.V.Visitor.takes (version_of c.args.parser) (version c.skip_sp.new.self)
     (input_of c.args.parser) _ (rest c.skip_sp.new.self) c.args.visitor c.in_err-item.field-0.0
-    (ap kept_edition (c.skip_sp.ensures.kept ∙ c.new-cursor.ensures.kept)) skipped c.in_err-item.ensures.told)
+    (ap kept_version (c.skip_sp.ensures.kept ∙ c.new-cursor.ensures.kept)) skipped c.in_err-item.ensures.taken_first)
 
-pub returns-in_err-out-clause-told : goal.returns-in_err-out-clause-told
-returns-in_err-out-clause-told g c =
-    rw (left_with c.from_residual-in_err-out.ensures.1) (λ s r skipped. visitor_failed g.V.Visitor.takes (parser_edition c.args.parser) r c.args.visitor
+pub returns-in_err-out-clause-taken_first : goal.returns-in_err-out-clause-taken_first
+returns-in_err-out-clause-taken_first g c =
+    rw (left_with c.from_residual-in_err-out.ensures.1) (λ s r skipped. visitor_failed g.V.Visitor.takes (version_of c.args.parser) r c.args.visitor
     _ _ c.in_err-out.ensures.failed)
 
-pub returns-then-is_some-clause-told : goal.returns-then-is_some-clause-told
-returns-then-is_some-clause-told g c =
+pub returns-then-is_some-clause-taken_first : goal.returns-then-is_some-clause-taken_first
+returns-then-is_some-clause-taken_first g c =
     let skipped : span is_space (input_of c.args.parser) ≡ Ok (c.skip_sp.ensures.skipped.0, rest c.skip_sp.new.self) =
     rw (← c.new-cursor.ensures.rest) c.skip_sp.ensures.skipped.1 in
     let read = kept_visits g.V.Visitor.takes g.V.Visitor.fails item_events item_at c.skip_sp.new.self c.item.new.self
     c.args.visitor c.item.new.visitor _ (Ok tt) (c.skip_sp.ensures.kept
     ∙ c.new-cursor.ensures.kept) c.in_ok-item.ensures.visited in
-    item_taken g.V.Visitor.takes g.V.Visitor.fails (parser_edition c.args.parser) (input_of c.args.parser) _ _ _
+    item_taken g.V.Visitor.takes g.V.Visitor.fails (version_of c.args.parser) (input_of c.args.parser) _ _ _
     c.args.visitor c.item.new.visitor read.0 c.error-error.result skipped read.1 read.2
 
-pub returns-clause-lent : goal.returns-clause-lent
-returns-clause-lent g c =
+pub returns-clause-borrowed_if_plain : goal.returns-clause-borrowed_if_plain
+returns-clause-borrowed_if_plain g c =
     let here = rest c.skip_sp.new.self in
     let skipped : span is_space (input_of c.args.parser) ≡ Ok (c.skip_sp.ensures.skipped.0, here) =
     rw (← c.new-cursor.ensures.rest) c.skip_sp.ensures.skipped.1 in
-    let h = c.in_ok-item.ensures.lent in
-    let same : edition c.skip_sp.new.self ≡ parser_edition c.args.parser =
-    ap kept_edition (c.skip_sp.ensures.kept ∙ c.new-cursor.ensures.kept) in
+    let h = c.in_ok-item.ensures.borrowed_if_plain in
+    let same : version c.skip_sp.new.self ≡ version_of c.args.parser =
+    ap kept_version (c.skip_sp.ensures.kept ∙ c.new-cursor.ensures.kept) in
     let bare = subst (λ e. bare_at e here ≡ Ok (input_value h.0, rest h.1)) same h.4 in
     let whole = subst (λ e. item_at e here ≡ Ok (item_of (input_value h.0) h.2, rest c.item.new.self)) same h.6 in
-    answered_as_read g.V.Visitor.takes g.V.Visitor.takes_read g.V.Visitor.finishes (parser_edition c.args.parser)
+    answered_as_read g.V.Visitor.takes g.V.Visitor.takes_read g.V.Visitor.finishes (version_of c.args.parser)
     (input_of c.args.parser) c.skip_sp.ensures.skipped.0 here (rest h.1) h.0 h.2 c.args.visitor h.3 c.item.new.visitor
     c.in_ok-out.out skipped bare (λ front split. lent_front h.0 c.skip_sp.new.self h.1 front split h.5)
     (field_done _ _ _ _ _ _ _ _ skipped whole c.skip_sp-2.ensures.skipped.1

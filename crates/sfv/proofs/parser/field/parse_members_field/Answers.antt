@@ -1,7 +1,7 @@
 use Rattle.std.proofs.Common.{Ok, Err, flat_map}
 use Rattle.sfv_reading.specs.Fields.{members_at}
 use Rattle.sfv.specs.parser.Members.{member_parts, one_member_at}
-use Rattle.sfv.specs.Parsers.{input_of, parser_edition}
+use Rattle.sfv.specs.Parsers.{input_of, version_of}
 use Rattle.sfv.proofs.visits.Parts.{start_visits}
 use Rattle.sfv.proofs.visits.Fields.{members_fail, members_finish}
 use Rattle.sfv.proofs.reads.Errors.{left_with}
@@ -12,12 +12,12 @@ returns-in_err-members g c =
     let keyed = g.M.Member.keyed in
     rw (left_with c.from_residual.ensures.1)
     (members_fail g.V.Visitor.takes g.V.Visitor.fails g.V.Visitor.finishes g.V.Visitor.finish_fails keyed
-    (parser_edition c.args.parser) (
+    (version_of c.args.parser) (
       c.args.parser,
       c.args.alloc,
     ) c.args.visitor c.members.new.visitor c.members.new.self c.in_err-members.field-0.0
     (start_visits g.V.Visitor.takes g.V.Visitor.fails (λ members. flat_map (member_parts keyed) members)
-    (λ edition. members_at (member_parts keyed) (one_member_at keyed edition)) c.new.result c.members.new.self
+    (λ version. members_at (member_parts keyed) (one_member_at keyed version)) c.new.result c.members.new.self
     c.args.visitor c.members.new.visitor (c.args.parser, c.args.alloc) (Err c.in_err-members.field-0.0)
     c.new.ensures.kept c.new.ensures.rest c.in_err-members.ensures.visited))
 
@@ -25,9 +25,9 @@ pub returns : goal.returns
 returns g c =
     let keyed = g.M.Member.keyed in
     let read = start_visits g.V.Visitor.takes g.V.Visitor.fails (λ members. flat_map (member_parts keyed) members)
-    (λ edition. members_at (member_parts keyed) (one_member_at keyed edition)) c.new.result c.members.new.self
+    (λ version. members_at (member_parts keyed) (one_member_at keyed version)) c.new.result c.members.new.self
     c.args.visitor c.members.new.visitor (c.args.parser, c.args.alloc) (Ok tt)
     c.new.ensures.kept c.new.ensures.rest c.in_ok-members.ensures.visited in
     members_finish g.V.Visitor.takes g.V.Visitor.fails g.V.Visitor.finishes g.V.Visitor.finish_fails keyed
-    (parser_edition c.args.parser) (input_of c.args.parser) _ c.args.visitor c.members.new.visitor c.finish.result
+    (version_of c.args.parser) (input_of c.args.parser) _ c.args.visitor c.members.new.visitor c.finish.result
     read.0 read.1 c.in_ok-members.ensures.end read.2 c.finish.ensures.answered c.finish.ensures.failed

@@ -7,7 +7,7 @@ use Rattle.sfv.specs.declared.parser.Parser.{Parser}
 use Rattle.sfv.specs.parser.Cursor.{input, kept_input, rest}
 use Rattle.sfv.proofs.reads.Errors.{left_with, ErrorOf-here, ErrorOf-part, ErrorOf-kept}
 use Rattle.sfv.proofs.reads.Steps.{quoted_no_quote, quoted_reads, given}
-use Rattle.sfv.proofs.reads.Escapes.{display_error, display_opens, behind_opening}
+use Rattle.sfv.proofs.reads.Escapes.{display_error, display_opens, after_opening}
 use Rattle.sfv.proofs.parser.cursor.Cursor.display_string.Goals as goal
 
 pub returns-then-not-take_if-clause-read : goal.returns-then-not-take_if-clause-read
@@ -25,8 +25,8 @@ pub from_utf8_unchecked-text-requires : goal.from_utf8_unchecked-text-requires
 from_utf8_unchecked-text-requires c = let each = rw c.in-Plain.is at c.in_ok-bytes.ensures.each in
     plain_utf8 _ (each refl)
 
-pub text_of-requires-clause-read : goal.text_of-requires-clause-read
-text_of-requires-clause-read c =
+pub decode_utf8-requires-clause-read : goal.decode_utf8-requires-clause-read
+decode_utf8-requires-clause-read c =
     let read = rw c.in-Unescaped.is at c.in_ok-bytes.ensures.read in (
       rest c.quoted_text.new.self,
       ap (λ (k : Parser × Global). pieces_from outside (drop c.take_if.new.self.index (kept_input k))) read.1 ∙ read.0,
@@ -54,7 +54,7 @@ returns-in-Plain-clause-read c =
 
 pub returns-in-Plain-clause-borrowed : goal.returns-in-Plain-clause-borrowed
 returns-in-Plain-clause-borrowed c =
-    behind_opening true _ c.args.self.now c.take_if.new.self c.quoted_text.new.self
+    after_opening true _ c.args.self.now c.take_if.new.self c.quoted_text.new.self
     (display_opens _ _ _ c.requires c.skip.ensures.skips c.if-not-take_if.ensures.takes)
     (rw c.in-Plain.is at c.in_ok-bytes.ensures.plain)
 
@@ -72,6 +72,6 @@ returns-in_ok-text-in-Unescaped-clause-read c =
 
 pub returns-in_ok-text-in-Unescaped-clause-borrowed : goal.returns-in_ok-text-in-Unescaped-clause-borrowed
 returns-in_ok-text-in-Unescaped-clause-borrowed c =
-    behind_opening true _ c.args.self.now c.take_if.new.self c.quoted_text.new.self
+    after_opening true _ c.args.self.now c.take_if.new.self c.quoted_text.new.self
     (display_opens _ _ _ c.requires c.skip.ensures.skips c.if-not-take_if.ensures.takes)
     (rw c.in-Unescaped.is at c.in_ok-bytes.ensures.plain)

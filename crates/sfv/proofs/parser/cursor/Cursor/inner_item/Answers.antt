@@ -1,7 +1,7 @@
 use Rattle.sfv_spec.specs.Events.{begins_item, item_events}
 use Rattle.sfv_reading.specs.Items.{item_at}
 use Rattle.sfv_reading.specs.Members.{inner_item_at}
-use Rattle.sfv.specs.parser.Cursor.{kept, edition}
+use Rattle.sfv.specs.parser.Cursor.{kept, version}
 use Rattle.sfv.proofs.visits.Parts.{led_visits, led_fails}
 use Rattle.sfv.proofs.reads.Errors.{left_with}
 use Rattle.sfv.proofs.parser.cursor.Cursor.inner_item.Goals as goal
@@ -10,11 +10,11 @@ pub returns-in_err-visit-clause-visited : goal.returns-in_err-visit-clause-visit
 unfolding inner_item_at
 returns-in_err-visit-clause-visited g c =
     rw (left_with c.from_residual.ensures.1) (led_fails g.V.Visitor.takes g.V.Visitor.fails begins_item item_events
-    (item_at (edition c.args.self.now)) _ _ c.visit.new.visitor (kept c.args.self.now) c.args.self.now _
+    (item_at (version c.args.self.now)) _ _ c.visit.new.visitor (kept c.args.self.now) c.args.self.now _
     c.in_err-visit.ensures.failed)
 
 pub returns-clause-visited : goal.returns-clause-visited
 unfolding inner_item_at
 returns-clause-visited g c = led_visits g.V.Visitor.takes g.V.Visitor.fails begins_item item_events
-    (item_at (edition c.args.self.now)) _ _ _ c.item.new.visitor _ c.item.new.self c.item.result
+    (item_at (version c.args.self.now)) _ _ _ c.item.new.visitor _ c.item.new.self c.item.result
     c.in_ok-visit.ensures.taken c.item.ensures.visited

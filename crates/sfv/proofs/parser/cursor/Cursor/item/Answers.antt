@@ -1,6 +1,6 @@
 use Rattle.sfv_spec.specs.Events.{parameters_events, item_events}
 use Rattle.sfv_reading.specs.Items.{parameters_at}
-use Rattle.sfv.specs.parser.Cursor.{kept, edition, rest, input}
+use Rattle.sfv.specs.parser.Cursor.{kept, version, rest, input}
 use Rattle.sfv.proofs.visits.Parameters.{of_visitor, bare_failed, bare_faulty, item_visits}
 use Rattle.sfv.proofs.visits.Parts.{kept_visits}
 use Rattle.sfv.proofs.visits.Lent.{item_as_read}
@@ -9,7 +9,7 @@ use Rattle.sfv.proofs.parser.cursor.Cursor.item.Goals as goal
 
 pub returns-in_err-bare_item-clause-visited : goal.returns-in_err-bare_item-clause-visited
 returns-in_err-bare_item-clause-visited g c =
-    rw (left_with c.from_residual.ensures.1) (bare_faulty g.V.Visitor.takes (edition c.args.self.now) (rest c.args.self.now) (input c.args.self.now)
+    rw (left_with c.from_residual.ensures.1) (bare_faulty g.V.Visitor.takes (version c.args.self.now) (rest c.args.self.now) (input c.args.self.now)
     _ c.args.visitor.now c.in_err-bare_item.ensures.read)
 
 pub returns-in_err-visit-clause-visited : goal.returns-in_err-visit-clause-visited
@@ -27,8 +27,8 @@ returns-clause-visited g c =
     c.parameters.new.self c.visit.new.visitor c.parameters.new.visitor _ _ c.in_ok-bare_item.ensures.read.1
     c.parameters.ensures.visited)
 
-pub returns-clause-lent : goal.returns-clause-lent
-returns-clause-lent g c =
+pub returns-clause-borrowed_if_plain : goal.returns-clause-borrowed_if_plain
+returns-clause-borrowed_if_plain g c =
     item_as_read g.V.Visitor.takes g.V.Visitor.fails g.V.Visitor.takes_read c.args.self.now c.bare_item.new.self
     c.parameters.new.self c.in_ok-bare_item.bare_item c.args.visitor.now c.visit.new.visitor c.parameters.new.visitor
     c.parameters.result c.in_ok-bare_item.ensures.read.1 c.in_ok-bare_item.ensures.read.0

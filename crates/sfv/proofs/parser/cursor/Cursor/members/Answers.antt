@@ -1,5 +1,5 @@
 use Rattle.std.proofs.Common.{◌∙◌, ap, not, refl, []}
-use Rattle.sfv.specs.parser.Cursor.{edition}
+use Rattle.sfv.specs.parser.Cursor.{version}
 use Rattle.sfv.specs.parser.Members.{member_parts, one_member_at}
 use Rattle.sfv.proofs.reads.Delimiters.{at_end, members_none, members_first, ends_there}
 use Rattle.sfv.proofs.visits.Loops.{begun, shorter, first_fails, more, ended, delimiter_fails, one_fails, members_loop}
@@ -10,7 +10,7 @@ pub returns-in_err-consume-clause-visited : goal.returns-in_err-consume-clause-v
 returns-in_err-consume-clause-visited g c =
     rw (left_with c.from_residual.ensures.1) (first_fails g.V.Visitor.takes g.V.Visitor.fails (members_loop g.M.Member.keyed) c.args.self.now _
     c.skip_sp.new.self c.consume.new.cursor _ c.consume.new.visitor _ (
-      members_first (member_parts g.M.Member.keyed) (one_member_at g.M.Member.keyed (edition c.args.self.now)) _ _ _
+      members_first (member_parts g.M.Member.keyed) (one_member_at g.M.Member.keyed (version c.args.self.now)) _ _ _
           c.skip_sp.ensures.skipped.1 (rw (← c.peek.ensures) (c.is_none.ensures ∙ ap not c.if-is_none.false)),
       c.skip_sp.ensures.kept,
     ) c.in_err-consume.ensures.visited)
@@ -21,7 +21,7 @@ loop-self-init g c = record {
   visited = begun g.V.Visitor.takes g.V.Visitor.fails (members_loop g.M.Member.keyed) c.args.self.now _
       c.skip_sp.new.self c.consume.new.cursor _ _ (
         members_first (member_parts g.M.Member.keyed)
-            (one_member_at g.M.Member.keyed (edition c.args.self.now)) _ _ _ c.skip_sp.ensures.skipped.1
+            (one_member_at g.M.Member.keyed (version c.args.self.now)) _ _ _ c.skip_sp.ensures.skipped.1
             (rw (← c.peek.ensures) (c.is_none.ensures ∙ ap not c.if-is_none.false)),
         c.skip_sp.ensures.kept,
       ) c.in_ok-consume.ensures.visited;
@@ -65,7 +65,7 @@ returns-clause-visited g c =
 pub returns-then-is_none-clause-visited : goal.returns-then-is_none-clause-visited
 returns-then-is_none-clause-visited g c = (
   [],
-  members_none (member_parts g.M.Member.keyed) (one_member_at g.M.Member.keyed (edition c.args.self.now)) _ _ _
+  members_none (member_parts g.M.Member.keyed) (one_member_at g.M.Member.keyed (version c.args.self.now)) _ _ _
       c.skip_sp.ensures.skipped.1 (rw (← c.peek.ensures) (c.is_none.ensures ∙ ap not c.if-is_none.true)),
   refl,
   c.skip_sp.ensures.kept,

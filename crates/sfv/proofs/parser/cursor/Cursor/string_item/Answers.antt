@@ -3,7 +3,7 @@ use Rattle.sfv_spec.specs.Values.{string}
 use Rattle.sfv_reading.specs.Quoted.{string_at}
 use Rattle.sfv.proofs.reads.Errors.{left_with, ErrorOf-part}
 use Rattle.sfv.proofs.reads.Steps.{bare_string, given}
-use Rattle.sfv.proofs.reads.Escapes.{string_opens, behind_opening}
+use Rattle.sfv.proofs.reads.Escapes.{string_opens, after_opening}
 use Rattle.sfv.proofs.parser.cursor.Cursor.string_item.Goals as goal
 
 pub returns-in_err-string-clause-read : goal.returns-in_err-string-clause-read
@@ -19,5 +19,5 @@ returns-clause-read c = (
 )
 
 pub returns-clause-borrowed : goal.returns-clause-borrowed
-returns-clause-borrowed c = behind_opening false _ c.args.self.now c.skip.new.self c.string.new.self
+returns-clause-borrowed c = after_opening false _ c.args.self.now c.skip.new.self c.string.new.self
     (string_opens _ _ c.requires c.skip.ensures.skips) c.in_ok-string.ensures.borrowed

@@ -1,6 +1,6 @@
 use Rattle.sfv_spec.specs.Events.{entry, member_events}
 use Rattle.sfv_reading.specs.Members.{member_at, entry_at}
-use Rattle.sfv.specs.parser.Cursor.{kept, edition}
+use Rattle.sfv.specs.parser.Cursor.{kept, version}
 use Rattle.sfv.proofs.visits.Parts.{led_visits, led_fails}
 use Rattle.sfv.proofs.reads.Errors.{left_with}
 use Rattle.sfv.proofs.parser.member.EntryMember.consume.Goals as goal
@@ -9,11 +9,11 @@ pub returns-in_err-visit-clause-visited : goal.returns-in_err-visit-clause-visit
 unfolding entry_at
 returns-in_err-visit-clause-visited g c =
     rw (left_with c.from_residual.ensures.1) (led_fails g.V.Visitor.takes g.V.Visitor.fails entry member_events
-    (member_at (edition c.args.cursor.now)) _ _ c.visit.new.visitor (kept c.args.cursor.now) c.args.cursor.now _
+    (member_at (version c.args.cursor.now)) _ _ c.visit.new.visitor (kept c.args.cursor.now) c.args.cursor.now _
     c.in_err-visit.ensures.failed)
 
 pub returns-clause-visited : goal.returns-clause-visited
 unfolding entry_at
 returns-clause-visited g c = led_visits g.V.Visitor.takes g.V.Visitor.fails entry member_events
-    (member_at (edition c.args.cursor.now)) _ _ _ c.member.new.visitor _ c.member.new.self c.member.result
+    (member_at (version c.args.cursor.now)) _ _ _ c.member.new.visitor _ c.member.new.self c.member.result
     c.in_ok-visit.ensures.taken c.member.ensures.visited

@@ -10,8 +10,8 @@ use Rattle.sfv_visitor.proofs.Lasts.{is_last, map_last}
 use Rattle.sfv_visitor.proofs.Seeded.{all_last}
 use Rattle.sfv_visitor.proofs.visitor.list_builder.ListBuilder.fit_last.Goals as goal
 
-pub returns-in-Some-clause-place : goal.returns-in-Some-clause-place
-returns-in-Some-clause-place c =
+pub returns-in-Some-clause-state : goal.returns-in-Some-clause-state
+returns-in-Some-clause-state c =
     let n : vec_len c.args.self.now.list ≡ length c.args.self.now.list.items = search rules in
     let some : 0 < vec_len c.args.self.now.list = search rules in
     let here : c.in-Some.member.now ≡ slice_index_or c.args.self.now.list.items (vec_len c.args.self.now.list - 1) c.in-Some.member.now =

@@ -5,7 +5,7 @@ use Rattle.std.proofs.lemmas.List.Elements.{All-take}
 use Rattle.sfv_tree.specs.Seeds.{MemberHasSeed}
 use Rattle.sfv_bare.specs.BareItems.{bare_value}
 use Rattle.sfv_tree.specs.Trees.{list_tree}
-use Rattle.sfv_visitor.specs.InPlace.{is_open}
+use Rattle.sfv_visitor.specs.BuilderStages.{is_open}
 use Rattle.sfv_visitor.proofs.Lasts.{all_whole, all_but_last}
 use Rattle.sfv_visitor.proofs.visitor.list_builder.ListBuilderVisitor.finish.Goals as goal
 

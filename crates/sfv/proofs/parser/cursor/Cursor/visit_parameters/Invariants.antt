@@ -1,0 +1,15 @@
+use Rattle.std.proofs.Common.{◌≡◌, length}
+use Rattle.sfv.specs.parser.Cursor.{kept, version, rest}
+use Rattle.sfv.proofs.visits.Parameters.{VisitedParameters}
+use Rattle.sfv.proofs.parser.cursor.Cursor.visit_parameters.Given as goal
+
+abbrev pub invariant-loop-parameter : goal.invariant-loop-parameter
+invariant-loop-parameter g l = record {
+  ready : g.V.Visitor.is_ready l.visitor;
+  visited : VisitedParameters g.V.Visitor.takes (version l.fn.self) (rest l.fn.self) (rest l.self) l.fn.visitor
+      l.visitor;
+  kept : kept l.self ≡ kept l.fn.self;
+}
+
+abbrev pub decreases-loop-parameter : goal.decreases-loop-parameter
+decreases-loop-parameter g l = length (rest l.self)

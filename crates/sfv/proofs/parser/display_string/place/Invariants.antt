@@ -1,7 +1,0 @@
-use Rattle.std.proofs.Common.{◌-◌, drop}
-use Rattle.sfv_reading.specs.Quoted.{behind_pieces}
-use Rattle.sfv_reading.proofs.quoted.DisplaySteps.{LeadsTo}
-use Rattle.sfv.proofs.parser.display_string.place.Given as goal
-
-abbrev pub invariant-loop : goal.invariant-loop
-invariant-loop l = LeadsTo l.input l.index (l.count - l.counter) (behind_pieces l.fn.count (drop l.fn.start l.fn.input))

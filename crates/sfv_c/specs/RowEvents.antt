@@ -1,0 +1,153 @@
+-- The events of rows, and their order.
+use Rattle.std.specs.Prelude.{◌≡◌, MatchOption, ⊤, ℕ, ◌-◌, ◌<◌, List, [], ◌∷◌, length, drop, map, Bool, true, false, IsTrue, Option, Some, None}
+use Rattle.std.specs.Prelude.{if◌then◌else◌, Result, Ok, Err, option_map, string_bytes}
+use Rattle.std.specs.Borrow.{Bor}
+use Rattle.sfv.specs.Values.{RawField, BareValue, IsBareValue}
+use Rattle.sfv.specs.Types.{FieldKind, item_field, list_field, dictionary_field}
+use Rattle.sfv.specs.Types.{Version}
+use Rattle.sfv.specs.Classes.{is_key}
+use Rattle.sfv.specs.Events.{TreeEvent, entry, keyed_entry, begins_item, begins_inner_list, bare_item, parameter}
+use Rattle.sfv.specs.Events.{parameters_end, inner_list_end, events}
+use Rattle.sfv.specs.Values.{bare_values}
+use Rattle.sfv.specs.BareItems.{ref_value}
+use Rattle.sfv.specs.StringText.{StringRef}
+use Rattle.sfv.specs.TokenText.{TokenRef}
+use Rattle.sfv.specs.Types.{GenericBareItem}
+use Rattle.sfv.specs.KeyText.{key_text}
+use Rattle.sfv_c.specs.Rows.{ValueNumbers, EventNumbers, value_numbers, numbers_of}
+use Rattle.sfv_c.specs.Writing.{IsRowOf, IsScriptText}
+use Rattle.sfv_c.specs.declared.answer.CallFault.{CallFault}
+use Rattle.sfv_c.specs.declared.answer.CallFault.TheVariants as faults
+use Rattle.std.specs.declared.alloc.Global.{Global}
+use Rattle.std.specs.declared.string.String as std_string
+use Rattle.sfv.specs.Values.{Fits}
+use Rattle.sfv.specs.Versions.{IsSerializeError}
+use Rattle.sfv.specs.Types.{BareItemType}
+use Rattle.sfv.specs.Types.serialize_errors as errors
+use Rattle.sfv_c.specs.declared.rows.Row.{Row}
+use Rattle.sfv_c.specs.declared.row_event.RowEvent.{RowEvent}
+use Rattle.sfv_c.specs.declared.row_event.RowEvent.TheVariants as row_events
+use Rattle.sfv_c.specs.declared.rows_to_calls.ParseStop.{ParseStop}
+use Rattle.sfv_c.specs.declared.rows_to_calls.ParseStop.TheVariants as stop
+
+abbrev pub RefItem : Type 0
+RefItem = GenericBareItem StringRef (Bor (List ℕ)) TokenRef (Bor (List ℕ))
+
+-- the event of a part
+abbrev pub tree_event : RowEvent → TreeEvent
+tree_event row_events.Entry = entry
+tree_event (row_events.KeyedEntry key) = keyed_entry (key_text key)
+tree_event row_events.Item = begins_item
+tree_event row_events.InnerList = begins_inner_list
+tree_event (row_events.BareItem value) = bare_item (ref_value value)
+tree_event (row_events.Parameter key value) = parameter (key_text key) (ref_value value)
+tree_event row_events.ParametersEnd = parameters_end
+tree_event row_events.InnerListEnd = inner_list_end
+
+abbrev pub events_in : List RowEvent → List TreeEvent
+events_in ps = map tree_event ps
+
+-- the events from this index on
+abbrev pub events_from : ℕ → List RowEvent → List TreeEvent
+events_from at ps = events_in (drop at ps)
+
+-- its key is a key, and its value is in its range or class
+abbrev pub IsValidEvent : TreeEvent → Type 0
+IsValidEvent (keyed_entry key) = IsTrue (is_key key)
+IsValidEvent (bare_item value) = IsBareValue value
+IsValidEvent (parameter key value) = IsTrue (is_key key) × IsBareValue value
+IsValidEvent e = ⊤
+
+-- `Some` item of these parts, or no item has them
+abbrev pub GivesItem : ValueNumbers → Option RefItem → Type 0
+GivesItem p r = MatchOption r ((v : BareValue) → IsBareValue v → ¬ (value_numbers (Some v) ≡ p))
+    (λ item. IsBareValue (ref_value item) × (value_numbers (Some (ref_value item)) ≡ p))
+
+-- `Some` event of these parts, or no event has them
+abbrev pub GivesRowEvent : EventNumbers → Option RowEvent → Type 0
+GivesRowEvent p r = MatchOption r ((e : TreeEvent) → IsValidEvent e → ¬ (numbers_of e ≡ p))
+    (λ part. IsValidEvent (tree_event part) × (numbers_of (tree_event part) ≡ p))
+
+-- `Some` event of this row, or no event has it
+abbrev pub GivesEvent : List ℕ → Row → Option RowEvent → Type 0
+GivesEvent bytes row r = MatchOption r ((e : TreeEvent) → IsValidEvent e → ¬ IsRowOf bytes row e)
+    (λ part. IsValidEvent (tree_event part) × IsRowOf bytes row (tree_event part))
+
+-- these are the events of the rows, up to the first row without an event
+abbrev pub AreEventsOf : List ℕ → List Row → List TreeEvent → Type 0
+AreEventsOf bytes [] [] = ⊤
+AreEventsOf bytes [] (e ∷ es) = ⊥
+AreEventsOf bytes (row ∷ rows) [] = (e : TreeEvent) → IsValidEvent e → ¬ IsRowOf bytes row e
+AreEventsOf bytes (row ∷ rows) (e ∷ es) = IsValidEvent e × IsRowOf bytes row e × AreEventsOf bytes rows es
+
+-- the events that may come next
+pub data ParseState : Type 0 where
+  ended list_members dictionary_members : ParseState
+  member value parameters items : ParseState → ParseState
+
+-- the place at the start of a field
+abbrev pub beginning : FieldKind → ParseState
+beginning item_field = value ended
+beginning list_field = list_members
+beginning dictionary_field = dictionary_members
+
+-- the place after an event, if the event may come here
+abbrev pub after : ParseState → TreeEvent → Option ParseState
+after list_members entry = Some (member list_members)
+after dictionary_members (keyed_entry key) = Some (member dictionary_members)
+after (member p) begins_item = Some (value p)
+after (member p) begins_inner_list = Some (items p)
+after (value p) (bare_item v) = Some (parameters p)
+after (parameters p) (parameter key v) = Some (parameters p)
+after (parameters p) parameters_end = Some p
+after (items p) begins_item = Some (value (items p))
+after (items p) inner_list_end = Some (parameters p)
+after p e = None
+
+-- a field may end here
+abbrev pub may_end : ParseState → Bool
+may_end ended = true
+may_end list_members = true
+may_end dictionary_members = true
+may_end p = false
+
+-- the number of events left at the first wrong one, or at an early end
+abbrev pub stops : ParseState → List TreeEvent → Option ℕ
+stops p [] = if may_end p then None else Some 0
+stops p (e ∷ es) = elim (after p e) [ None ↦ Some (length (e ∷ es)) | Some next ↦ stops next es ]
+
+-- the reason to stop: so many events are left, or memory ran out, which requires an event
+abbrev pub IsStop : ParseState → List TreeEvent → ParseStop → Type 0
+IsStop p es (stop.At left) = stops p es ≡ Some left
+IsStop p es stop.Memory = 0 < length es
+
+-- the version has the field of these events, and this is its text
+pub record IsTextOf (version : Version) (kind : FieldKind) (es : List TreeEvent) (text : Option (List ℕ)) : Type 0 where
+  pub raw : RawField kind
+  pub events_of : es ≡ events kind raw
+  pub fits : Fits version kind raw
+  pub written : IsScriptText version kind raw text
+
+-- the field of these events has a value of this kind, which the version lacks
+pub record IsUnsupported (version : Version) (kind : FieldKind) (es : List TreeEvent) (unfit : BareItemType) : Type 0
+  where
+    pub raw : RawField kind
+    pub events_of : es ≡ events kind raw
+    pub error : IsSerializeError version (bare_values kind raw) (errors.Unsupported unfit)
+
+-- So many events are in order: those up to the first wrong one, or all, if more rows follow.
+abbrev pub IsWrongAfter : Option ℕ → List TreeEvent → Bool → ℕ → Type 0
+IsWrongAfter (Some left) es whole n = n ≡ length es - left
+IsWrongAfter None es whole n = (whole ≡ false) × (n ≡ length es)
+
+-- the reason why the events, which may be incomplete, give no text
+abbrev pub IsTextFault : Version → FieldKind → List TreeEvent → Bool → CallFault → Type 0
+IsTextFault version kind es whole (faults.Read e) = ⊥
+IsTextFault version kind es whole (faults.Write errors.OutOfMemory) = 0 < length es
+IsTextFault version kind es whole (faults.Write (errors.Unsupported unfit)) =
+    IsTrue whole × IsUnsupported version kind es unfit
+IsTextFault version kind es whole (faults.Rows n) = IsWrongAfter (stops (beginning kind) es) es whole n
+
+abbrev pub IsTextMade : Version → FieldKind → List TreeEvent → Bool → Result (Option (std_string.String Global)) CallFault → Type 0
+IsTextMade version kind es whole (Ok text) = IsTrue whole × IsTextOf version kind es (option_map string_bytes text)
+IsTextMade version kind es whole (Err fault) = IsTextFault version kind es whole fault

@@ -1,0 +1,219 @@
+//! Rows as events again.
+
+ghost use Rattle.std.specs.Prelude.{◌≡◌, ◌↔◌, [], pos, Bool, ◌+◌, ◌≤◌, length, None, MatchOption, IsTrue};
+ghost use Rattle.std.specs.List.{list_all};
+ghost use Rattle.sfv.specs.Classes.{is_key, is_token, is_string_byte};
+ghost use Rattle.sfv.specs.KeyText.{key_text};
+ghost use Rattle.sfv.specs.TokenText.{token_text};
+ghost use Rattle.sfv.specs.StringText.{string_text};
+ghost use Rattle.sfv.specs.Values.{IsInRange, is_byte};
+ghost use Rattle.sfv.specs.Texts.{RunOf};
+ghost use Rattle.sfv.specs.NumberValues.{integer_of};
+ghost use Rattle.sfv_c.specs.Rows.{EventNumbers, value_numbers, lent_value, lent_numbers, number_of_bool};
+ghost use Rattle.sfv_c.specs.Writing.{IsAt, IsRowOfNumbers};
+ghost use Rattle.sfv_c.specs.RowEvents.{GivesItem, GivesRowEvent, GivesEvent};
+
+use crate::rows::{LentEvent, Row, Value};
+use sfv::{Date, Decimal, GenericBareItem, Integer, KeyRef, RefBareItem, StringRef, TokenRef};
+
+/// An event whose texts are lent.
+#[derive(Clone, Copy, Drop)]
+pub(crate) enum RowEvent<'a> {
+    /// A member of a list is next.
+    Entry,
+    /// A member of a dictionary is next, under this key.
+    KeyedEntry(KeyRef<'a>),
+    /// The member, or the part of an inner list, is an item.
+    Item,
+    /// The member is an inner list.
+    InnerList,
+    /// The value of the item.
+    BareItem(RefBareItem<'a>),
+    /// A parameter.
+    Parameter(KeyRef<'a>, RefBareItem<'a>),
+    /// The parameters end.
+    ParametersEnd,
+    /// The items of the inner list end.
+    InnerListEnd,
+}
+
+/// The integer of a number without bytes.
+fn integer_in(value: Value<'_>) -> Option<Integer>
+    ensures { MatchOption result (¬ (IsInRange value.entry.number × (value.entry.bytes.now ≡ [])))
+        (λ n. (integer_of n ≡ value.entry.number) × IsInRange value.entry.number × (value.entry.bytes.now ≡ [])) }
+{
+    if !value.bytes.is_empty() {
+        return None;
+    }
+    Integer::try_from(value.number).ok()
+}
+
+/// The boolean of a number without bytes.
+fn boolean_in(value: Value<'_>) -> Option<bool>
+    ensures { MatchOption result ((b : Bool) → ¬ ((number_of_bool b ≡ value.entry.number) × (value.entry.bytes.now ≡ [])))
+        (λ b. (number_of_bool b ≡ value.entry.number) × (value.entry.bytes.now ≡ [])) }
+{
+    if !value.bytes.is_empty() {
+        return None;
+    }
+    match value.number {
+        0 => Some(false),
+        1 => Some(true),
+        _ => None,
+    }
+}
+
+/// The same bytes: of a slice that is passed it is known that each is one.
+#[tactic(auto, using(crate::proofs::Bytes::run_of_bytes))]
+fn with_bytes_invariant(bytes: &[u8]) -> &[u8]
+    ensures value { result.now ≡ bytes.now }
+    ensures bytes { RunOf is_byte result.now }
+{
+    bytes
+}
+
+/// The bytes of a text without number.
+fn text_in(value: Value<'_>) -> Option<&[u8]>
+    ensures { MatchOption result (¬ (value.entry.number ≡ pos 0))
+        (λ t. (t.now ≡ value.entry.bytes.now) × (value.entry.number ≡ pos 0) × RunOf is_byte t.now) }
+{
+    if value.number == 0 {
+        Some(with_bytes_invariant(value.bytes))
+    } else {
+        None
+    }
+}
+
+/// The key of these bytes.
+fn key_in(bytes: &[u8]) -> Option<KeyRef<'_>>
+    ensures { MatchOption result (¬ IsTrue (is_key bytes.now))
+        (λ key. (key_text key ≡ bytes.now) × IsTrue (is_key bytes.now)) }
+{
+    KeyRef::from_bytes(bytes).ok()
+}
+
+/// The token of these bytes.
+fn token_in(bytes: &[u8]) -> Option<TokenRef<'_>>
+    ensures { MatchOption result (¬ IsTrue (is_token bytes.now))
+        (λ token. (token_text token ≡ bytes.now) × IsTrue (is_token bytes.now)) }
+{
+    TokenRef::from_bytes(bytes).ok()
+}
+
+/// The string of these bytes.
+fn string_in(bytes: &[u8]) -> Option<StringRef<'_>>
+    ensures { MatchOption result (¬ IsTrue (list_all is_string_byte bytes.now))
+        (λ text. (string_text text ≡ bytes.now) × IsTrue (list_all is_string_byte bytes.now)) }
+{
+    StringRef::from_bytes(bytes).ok()
+}
+
+/// The bare item of these parts.
+fn bare_item_in(value: Value<'_>) -> Option<RefBareItem<'_>>
+    ensures { GivesItem (lent_value value.entry) result }
+{
+    Some(match value.kind {
+        1 => GenericBareItem::Integer(integer_in(value)?),
+        2 => GenericBareItem::Decimal(Decimal::from_integer_scaled_1000(integer_in(value)?)),
+        3 => GenericBareItem::String(string_in(text_in(value)?)?),
+        4 => GenericBareItem::Token(token_in(text_in(value)?)?),
+        5 => GenericBareItem::ByteSequence(text_in(value)?),
+        6 => GenericBareItem::Boolean(boolean_in(value)?),
+        7 => GenericBareItem::Date(Date::from_unix_seconds(integer_in(value)?)),
+        8 => GenericBareItem::DisplayString(std::str::from_utf8(text_in(value)?).ok()?),
+        _ => return None,
+    })
+}
+
+/// Whether there is no value.
+fn is_no_value(value: Value<'_>) -> bool
+    ensures { IsTrue result ↔ (lent_value value.entry ≡ value_numbers None) }
+{
+    value.kind == 0 && value.number == 0 && value.bytes.is_empty()
+}
+
+/// A part that has neither key nor value.
+fn alone<'a>(parts: LentEvent<'_>, part: RowEvent<'a>) -> Option<RowEvent<'a>>
+    ensures { MatchOption result (¬ ((parts.entry.key.now ≡ []) × (lent_value parts.entry.value ≡ value_numbers None)))
+        (λ r. (r ≡ part.entry) × (parts.entry.key.now ≡ []) × (lent_value parts.entry.value ≡ value_numbers None)) }
+{
+    if parts.key.is_empty() && is_no_value(parts.value) {
+        Some(part)
+    } else {
+        None
+    }
+}
+
+/// The member of a dictionary that these parts begin.
+fn keyed_entry_in(parts: LentEvent<'_>) -> Option<RowEvent<'_>>
+    ensures { parts.entry.tag ≡ 2 → GivesRowEvent (lent_numbers parts.entry) result }
+{
+    if !is_no_value(parts.value) {
+        return None;
+    }
+    Some(RowEvent::KeyedEntry(key_in(parts.key)?))
+}
+
+/// The value of an item of these parts.
+fn value_in(parts: LentEvent<'_>) -> Option<RowEvent<'_>>
+    ensures { parts.entry.tag ≡ 5 → GivesRowEvent (lent_numbers parts.entry) result }
+{
+    if !parts.key.is_empty() {
+        return None;
+    }
+    Some(RowEvent::BareItem(bare_item_in(parts.value)?))
+}
+
+/// The parameter of these parts.
+fn parameter_in(parts: LentEvent<'_>) -> Option<RowEvent<'_>>
+    ensures { parts.entry.tag ≡ 6 → GivesRowEvent (lent_numbers parts.entry) result }
+{
+    let key = key_in(parts.key)?;
+    Some(RowEvent::Parameter(key, bare_item_in(parts.value)?))
+}
+
+/// The event of these parts.
+fn part_in(parts: LentEvent<'_>) -> Option<RowEvent<'_>>
+    ensures { GivesRowEvent (lent_numbers parts.entry) result }
+{
+    match parts.tag {
+        1 => alone(parts, RowEvent::Entry),
+        2 => keyed_entry_in(parts),
+        3 => alone(parts, RowEvent::Item),
+        4 => alone(parts, RowEvent::InnerList),
+        5 => value_in(parts),
+        6 => parameter_in(parts),
+        7 => alone(parts, RowEvent::ParametersEnd),
+        8 => alone(parts, RowEvent::InnerListEnd),
+        _ => None,
+    }
+}
+
+/// The bytes at this place, of this length.
+fn text_at(bytes: &[u8], at: usize, count: usize) -> Option<&[u8]>
+    ensures { MatchOption result (¬ (at + count ≤ length bytes.now)) (λ t. IsAt bytes.now at count t.now) }
+{
+    bytes.get(at..at.checked_add(count)?)
+}
+
+/// The parts of a row.
+fn parts_at<'a>(row: &Row, bytes: &'a [u8]) -> Option<LentEvent<'a>>
+    ensures { MatchOption result ((p : EventNumbers) → ¬ IsRowOfNumbers bytes.now row.now p)
+        (λ parts. IsRowOfNumbers bytes.now row.now (lent_numbers parts)) }
+{
+    let key = text_at(bytes, row.key, row.key_length)?;
+    let value = Value {
+        kind: row.kind,
+        number: row.number,
+        bytes: text_at(bytes, row.bytes, row.bytes_length)?,
+    };
+    let tag = row.tag;
+    Some(LentEvent { tag, key, value })
+}
+
+/// The event of a row.
+pub(crate) fn event_at<'a>(row: &Row, bytes: &'a [u8]) -> Option<RowEvent<'a>>
+    ensures { GivesEvent bytes.now row.now result }
+{
+    part_in(parts_at(row, bytes)?)
+}

@@ -1,0 +1,180 @@
+//! Fragments of a field that are appended completely or not at all.
+#![tactic(auto, using(sfv_writer::proofs::Written::cut_to))]
+
+ghost use Rattle.std.specs.Prelude.{◌++◌, ⊤, ℕ, List, OnOk, IsTrue, codes};
+ghost use Rattle.sfv_spec.specs.Classes.{is_key, is_token};
+ghost use Rattle.sfv_spec.specs.Values.{IsBareValue};
+ghost use Rattle.sfv_spec.specs.Canonical.{bare_text};
+ghost use Rattle.sfv_bare.specs.BareItems.{ref_value};
+ghost use Rattle.sfv_text.specs.KeyText.{key_text};
+ghost use Rattle.sfv_text.specs.TokenText.{token_text};
+ghost use Rattle.sfv_writer.specs.Written.{AsksForRoom, Appends, AppendsOrKeeps, keyed_text, param_text, separator_before};
+
+use sfv_bare::bare::RefBareItem;
+use sfv_base::error::OutOfMemory;
+use sfv_text::key_ref::KeyRef;
+use sfv_text::token_ref::TokenRef;
+use sfv_writer::item::{serialize_bare_item, serialize_key, serialize_token, serialize_value};
+use sfv_writer::output::{serialize_separator, truncate_to};
+use std::alloc::Allocator;
+use std::string::String as StdString;
+
+/// A fragment that is appended at once.
+// Everything that appends a fragment is inlined, from the serializer's call to the text, except the kinds of bare item
+// that `serialize_bare_item` calls. The fragment is then never built in memory, and a member takes 40 instructions
+// less.
+pub(crate) trait Fragment: Drop {
+    ghost text: { Self → List ℕ };
+
+    ghost is_valid: { Self → Type 0 };
+
+    /// Appends the fragment to `output`.
+    fn serialize<A: Allocator>(self, output: &mut StdString<A>) -> Result<(), OutOfMemory>
+        ensures text { Appends output.old output.new (text self) result }
+        ensures room { AsksForRoom output.old output.new (text self) result }
+        ensures valid { OnOk result (is_valid self) };
+}
+
+/// Appends a fragment. If memory runs out, `output` is unchanged.
+#[inline(always)]
+pub(crate) fn append<P: Fragment, A: Allocator>(
+    fragment: P,
+    output: &mut StdString<A>,
+) -> Result<(), OutOfMemory>
+    ensures text { AppendsOrKeeps output.old output.new (P.text fragment) result }
+    ensures room { AsksForRoom output.old output.new (P.text fragment) result }
+    ensures valid { OnOk result (P.is_valid fragment) }
+{
+    let len = output.len();
+    if let Err(error) = fragment.serialize(output) {
+        truncate_to(len, output);
+        return Err(error);
+    }
+    Ok(())
+}
+
+/// A fragment after a separator, except if it is the first.
+#[derive(Drop)]
+pub(crate) struct Separated<P> {
+    pub(crate) is_first: bool,
+    pub(crate) separator: &'static str,
+    pub(crate) fragment: P,
+}
+
+impl<P: Fragment> Fragment for Separated<P> {
+    ghost text = { λ s. separator_before s.is_first s.separator.now ++ P.text s.fragment };
+
+    ghost is_valid = { λ s. P.is_valid s.fragment };
+
+    #[inline(always)]
+    fn serialize<A: Allocator>(self, output: &mut StdString<A>) -> Result<(), OutOfMemory> {
+        serialize_separator(self.is_first, self.separator, output)?;
+        self.fragment.serialize(output)
+    }
+}
+
+/// A bare item.
+#[derive(Drop)]
+pub(crate) struct BareItemFragment<'a> {
+    pub(crate) value: RefBareItem<'a>,
+}
+
+impl<'a> Fragment for BareItemFragment<'a> {
+    ghost text = { λ p. bare_text (ref_value p.value) };
+
+    ghost is_valid = { λ p. IsBareValue (ref_value p.value) };
+
+    #[inline(always)]
+    fn serialize<A: Allocator>(self, output: &mut StdString<A>) -> Result<(), OutOfMemory> {
+        serialize_bare_item(self.value, output)
+    }
+}
+
+/// A bare item that is a token.
+#[derive(Drop)]
+pub(crate) struct TokenFragment<'a> {
+    pub(crate) token: TokenRef<'a>,
+}
+
+impl<'a> Fragment for TokenFragment<'a> {
+    ghost text = { λ p. token_text p.token };
+
+    ghost is_valid = { λ p. IsTrue (is_token (token_text p.token)) };
+
+    #[inline(always)]
+    fn serialize<A: Allocator>(self, output: &mut StdString<A>) -> Result<(), OutOfMemory> {
+        serialize_token(self.token, output)
+    }
+}
+
+/// A member of a dictionary that is an item, without its parameters.
+#[derive(Drop)]
+pub(crate) struct KeyValue<'a> {
+    pub(crate) name: KeyRef<'a>,
+    pub(crate) value: RefBareItem<'a>,
+}
+
+impl<'a> Fragment for KeyValue<'a> {
+    ghost text = { λ p. keyed_text (key_text p.name) (ref_value p.value) };
+
+    ghost is_valid = { λ p. IsTrue (is_key (key_text p.name)) × IsBareValue (ref_value p.value) };
+
+    #[inline(always)]
+    fn serialize<A: Allocator>(self, output: &mut StdString<A>) -> Result<(), OutOfMemory> {
+        serialize_key(self.name, output)?;
+        serialize_value(self.value, output)
+    }
+}
+
+/// A parameter.
+#[derive(Drop)]
+pub(crate) struct Parameter<'a> {
+    pub(crate) named: KeyValue<'a>,
+}
+
+impl<'a> Fragment for Parameter<'a> {
+    ghost text = { λ p. param_text (key_text p.named.name) (ref_value p.named.value) };
+
+    ghost is_valid = { λ p. IsTrue (is_key (key_text p.named.name)) × IsBareValue (ref_value p.named.value) };
+
+    #[inline(always)]
+    fn serialize<A: Allocator>(self, output: &mut StdString<A>) -> Result<(), OutOfMemory> {
+        output.push(';')?;
+        self.named.serialize(output)
+    }
+}
+
+/// The start of an inner list in a list.
+#[derive(Drop)]
+pub(crate) struct InnerListStart {}
+
+impl Fragment for InnerListStart {
+    ghost text = { λ _. codes "(" };
+
+    ghost is_valid = { λ _. ⊤ };
+
+    #[inline(always)]
+    fn serialize<A: Allocator>(self, output: &mut StdString<A>) -> Result<(), OutOfMemory> {
+        output.push('(')?;
+        Ok(())
+    }
+}
+
+/// The start of an inner list in a dictionary.
+#[derive(Drop)]
+pub(crate) struct KeyedInnerListStart<'a> {
+    pub(crate) name: KeyRef<'a>,
+}
+
+impl<'a> Fragment for KeyedInnerListStart<'a> {
+    ghost text = { λ p. key_text p.name ++ codes "=(" };
+
+    ghost is_valid = { λ p. IsTrue (is_key (key_text p.name)) };
+
+    #[inline(always)]
+    fn serialize<A: Allocator>(self, output: &mut StdString<A>) -> Result<(), OutOfMemory> {
+        serialize_key(self.name, output)?;
+        output.push_str("=(")?;
+        Ok(())
+    }
+}

@@ -1,9 +1,0 @@
-use Rattle.std.proofs.Common.{refl}
-use Rattle.sfv_writer.proofs.Looks.{lacks}
-use Rattle.sfv_writer.proofs.look.look_for_older.Goals as goal
-
-pub returns-in-Date : goal.returns-in-Date
-returns-in-Date c = rw c.in-Date.is (lacks _ _ refl)
-
-pub returns-in-DisplayString : goal.returns-in-DisplayString
-returns-in-DisplayString c = rw c.in-DisplayString.is (lacks _ _ refl)

@@ -1,0 +1,10 @@
+use Rattle.std.proofs.Common.{map, take}
+use Rattle.std.specs.Prelude.{flat_map}
+use Rattle.sfv_spec.specs.Values.{AllFit}
+use Rattle.sfv_tree.specs.Trees.{member_tree}
+use Rattle.sfv_spec.specs.Values.{member_values}
+use Rattle.sfv_writer.proofs.version_check.check_list.Given as goal
+
+abbrev pub invariant-loop-member : goal.invariant-loop-member
+invariant-loop-member l =
+    AllFit l.version (flat_map member_values (map member_tree (take l.member-index l.list.items)))

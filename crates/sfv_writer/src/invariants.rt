@@ -1,0 +1,45 @@
+//! Type invariants of keys and bare items, for the prover. These functions compile to nothing.
+
+ghost use Rattle.std.specs.Prelude.{IsTrue};
+ghost use Rattle.sfv_spec.specs.Classes.{is_key};
+ghost use Rattle.sfv_spec.specs.Texts.{RunOf};
+ghost use Rattle.sfv_spec.specs.Values.{is_byte, IsBareValue};
+ghost use Rattle.sfv_bare.specs.BareItems.{ref_value};
+ghost use Rattle.sfv_text.specs.KeyText.{key_text};
+
+use sfv_bare::bare::{GenericBareItem, RefBareItem};
+use sfv_text::key_ref::KeyRef;
+
+// The prover knows that a slice contains bytes if it is an argument, but not if it is inside a bare item.
+#[inline(always)]
+#[tactic(auto, using(sfv_bare::proofs::Bytes::run_of_bytes))]
+fn bytes_invariant(bytes: &[u8])
+    ensures { RunOf is_byte bytes.now }
+{
+    let _bytes = bytes;
+}
+
+/// Makes the type invariant of a bare item known to the prover: its content is in its range or class.
+#[inline(always)]
+pub fn bare_item_invariant(value: RefBareItem<'_>)
+    ensures { IsBareValue (ref_value value.entry) }
+{
+    match value {
+        GenericBareItem::Decimal(_decimal) => {}
+        GenericBareItem::Integer(_integer) => {}
+        GenericBareItem::String(_string) => {}
+        GenericBareItem::ByteSequence(bytes) => bytes_invariant(bytes),
+        GenericBareItem::Boolean(_boolean) => {}
+        GenericBareItem::Token(_token) => {}
+        GenericBareItem::Date(_date) => {}
+        GenericBareItem::DisplayString(_text) => {}
+    }
+}
+
+/// Makes the type invariant of a key known to the prover.
+#[inline(always)]
+pub fn key_invariant(key: KeyRef<'_>)
+    ensures { IsTrue (is_key (key_text key.entry)) }
+{
+    let _text = key.as_str();
+}
