@@ -1,3 +1,4 @@
 pub mod Parts
 pub mod Uses
+mod Foos
 mod RowItems

@@ -1,17 +1,19 @@
-//! A field that a reader parses without a map: a color and a flag, as in `color=red;strong`.
+//! A field that a visitor parses without a map: a color and a flag, as in `color=red;strong`.
 //!
 //! The field is a dictionary. Its member `color` is the token `red` or `blue`. The parameter `strong` of this member is
 //! a Boolean, and false if it is absent. Other members and parameters are ignored.
 
-ghost use Rattle.sfv_field.specs.Field.{◌≡◌, Some, Ok, Err, IfOk, IfErr, ref_value, dictionary_tree};
-ghost use Rattle.sfv_field.specs.Field.{last_of};
-ghost use Rattle.sfv_uses.specs.Foo.{fault_text, foo, foo_of, color_key, color_in, strong_in, IsFooOf, IsFooError};
+ghost use Rattle.std.specs.Prelude.{◌≡◌, Some, Ok, Err, IfOk, IfErr};
+ghost use Rattle.sfv.specs.BareItems.{ref_value};
+ghost use Rattle.sfv.specs.Trees.{dictionary_tree};
+ghost use Rattle.sfv_uses.specs.Foo.{fault_text, foo, color_in, strong_in, IsFooOf, IsFooError};
+ghost use Rattle.sfv_uses.specs.FooSteps.{unread, begun, foo_step, foo_found};
 
+use sfv::visitor::{Event, Visitor};
 use sfv::{
-    BareItemFromInput, Dictionary, KeyRef, ListEntry, ParseError, RefBareItem, Version, find_entry,
-    find_param, key_ref,
+    Dictionary, ListEntry, ParseError, Parser, RefBareItem, Version, find_entry, find_param,
+    key_ref,
 };
-use sfv_field::{DictionaryReader, IgnoredItems, read_dictionary};
 use std::alloc::Global;
 use std::fmt;
 
@@ -117,60 +119,80 @@ pub fn foo_from_dictionary(dictionary: &Dictionary) -> Result<Foo, FooFault>
     Ok(Foo { color, strong })
 }
 
-/// A reader that keeps the member `color` and its parameter `strong`. It keeps an error instead of failing: a later
-/// member with the same key may replace a wrong one.
+/// A visitor that returns the field. Does not allocate.
+///
+/// The last value of a repeated key counts, so no value is an error while events come. The visitor keeps the errors,
+/// and fails in `finish` only.
 #[derive(Clone, Copy, Debug)]
-struct FooReader {
+pub struct FooVisitor {
+    // The current member is `color`, and not an inner list.
+    in_color: bool,
     color: Result<Color, FooFault>,
     strong: Result<bool, FooFault>,
 }
 
-impl FooReader {
-    // Returns the field, or its first error.
-    fn foo(self) -> Result<Foo, FooFault>
-        ensures { result ≡ foo_of self.color self.strong }
+impl FooVisitor {
+    /// Creates a visitor that has received no event.
+    pub fn new() -> FooVisitor
+        ensures { result ≡ unread }
     {
+        FooVisitor {
+            in_color: false,
+            color: Err(FooFault::ColorMissing),
+            strong: Ok(false),
+        }
+    }
+
+    // Begins a member. A repeated `color` discards the result of the earlier one.
+    fn begin(&mut self, in_color: bool)
+        ensures { self.new ≡ begun self.old in_color }
+    {
+        self.in_color = in_color;
+        if in_color {
+            self.color = Err(FooFault::ColorWrongType);
+            self.strong = Ok(false);
+        }
+    }
+}
+
+impl<'de> Visitor<'de> for FooVisitor {
+    type Out = Foo;
+
+    type Error = FooFault;
+
+    ghost takes = { λ s e after. after ≡ foo_step s e };
+
+    ghost fails = { λ _ _ _. ⊥ };
+
+    ghost finishes = { λ s found. foo_found s ≡ Ok found };
+
+    ghost finish_fails = { λ s fault. foo_found s ≡ Err fault };
+
+    #[inline(always)]
+    fn event(&mut self, event: Event<'de>) -> Result<(), FooFault> {
+        match event {
+            Event::KeyedEntry(key) => self.begin(key.as_str() == "color"),
+            Event::InnerList => self.in_color = false,
+            Event::BareItem(item) => {
+                if self.in_color {
+                    self.color = color_of(item.as_ref_item());
+                }
+            }
+            Event::Parameter(key, value) => {
+                if self.in_color && key.as_str() == "strong" {
+                    self.strong = strong_of(value.as_ref_item());
+                }
+            }
+            _ => {}
+        }
+        Ok(())
+    }
+
+    fn finish(self) -> Result<Foo, FooFault> {
         Ok(Foo {
             color: self.color?,
             strong: self.strong?,
         })
-    }
-}
-
-#[tactic(auto, using(sfv_field::proofs::Puts::last_of_put), unfolding(sfv_field::specs::Field::last_of))]
-impl<'de> DictionaryReader<'de> for FooReader {
-    ghost use Rattle.sfv_uses.specs.FooSteps.{kept, kept_of};
-
-    type Key = ();
-
-    type Items = IgnoredItems;
-
-    ghost text = { λ _. color_key };
-
-    ghost reads = { λ s members. kept s ≡ kept_of (last_of color_key members) };
-
-    fn key(key: KeyRef<'de>) -> Option<()> {
-        if key.as_str() == "color" {
-            Some(())
-        } else {
-            None
-        }
-    }
-
-    fn item(&mut self, _key: (), item: BareItemFromInput<'de>) {
-        self.color = color_of(item.as_ref_item());
-        self.strong = Ok(false);
-    }
-
-    fn inner_list(&mut self, _key: (), _items: IgnoredItems) {
-        self.color = Err(FooFault::ColorWrongType);
-        self.strong = Ok(false);
-    }
-
-    fn parameter(&mut self, _key: (), name: KeyRef<'de>, value: BareItemFromInput<'de>) {
-        if name.as_str() == "strong" {
-            self.strong = strong_of(value.as_ref_item());
-        }
     }
 }
 
@@ -182,21 +204,10 @@ impl<'de> DictionaryReader<'de> for FooReader {
 /// Returns `ParseError::Syntax` with the error of `Parser::parse` if the input is not a dictionary, or if memory runs
 /// out. Returns `ParseError::Visitor` with the error of `foo_from_dictionary` if it is a dictionary, but not this
 /// field.
-#[tactic(auto, unfolding(sfv_field::specs::Field::last_of))]
 pub fn read_foo(alloc: Global, version: Version, input: &[u8]) -> Result<Foo, ParseError<FooFault>>
     ensures read { IfOk result (λ found. IsFooOf version input.now (Ok found)) }
     ensures failed { IfErr result (IsFooError version input.now) }
 {
-    let unread = FooReader {
-        color: Err(FooFault::ColorMissing),
-        strong: Ok(false),
-    };
-    let read = match read_dictionary(alloc, input, version, unread) {
-        Ok(read) => read,
-        Err(error) => return Err(ParseError::Syntax(error)),
-    };
-    match read.foo() {
-        Ok(found) => Ok(found),
-        Err(fault) => Err(ParseError::Visitor(fault)),
-    }
+    let parser = Parser::new(input).with_version(version);
+    parser.parse_dictionary_with_visitor(alloc, FooVisitor::new())
 }
