@@ -1,10 +1,4 @@
--- The definitions of a field crate's clauses, in one file: it needs no other import.
-pub use Rattle.std.specs.Prelude.{◌≡◌, ◌≢◌, ◌≤◌, ◌<◌, ◌↔◌, ◌⊎◌, ⊤, ℕ, ◌+◌, ◌==◌, nat_le, nat_lt, ℤ, pos, Bool, true, false}
-pub use Rattle.std.specs.Prelude.{◌&&◌, ◌||◌, not, if◌then◌else◌, List, [], ◌∷◌, ◌++◌, map, fold, filter, length, codes, bytes_eq}
-pub use Rattle.std.specs.Prelude.{Option, Some, None, option_map, option_copied, unwrap_or, Result, Ok, Err}
-pub use Rattle.std.specs.Prelude.{IfOk, IfErr, OnOk, OnErr, IfSome, IfNone, IsTrue, IsNone, IsSome, MatchOption, MatchResult}
-pub use Rattle.std.specs.Prelude.{vec_items, string_bytes}
-pub use Rattle.std.specs.Option.{option_or}
+-- The definitions of a field crate's clauses, in one file. Those of `std` come from `Rattle.std.specs.Prelude`.
 -- fields and their values
 pub use Rattle.sfv_spec.specs.declared.field_kind.FieldKind.{FieldKind}
 pub use Rattle.sfv_spec.specs.declared.field_kind.FieldKind.TheVariants.{Item as item_field, List as list_field}

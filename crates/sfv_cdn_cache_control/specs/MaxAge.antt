@@ -1,6 +1,6 @@
 -- The field CDN-Cache-Control (RFC 9213, section 2.1), a dictionary.
-use Rattle.sfv_field.specs.Field.{◌≡◌, ℕ, ℤ, List, Option, Some, None, codes, Version, dictionary_field, BareValue}
-use Rattle.sfv_field.specs.Field.{integer, RawMember, item, last_of, IsParsedAs}
+use Rattle.std.specs.Prelude.{◌≡◌, ℕ, ℤ, List, Option, Some, None, codes}
+use Rattle.sfv_field.specs.Field.{Version, dictionary_field, BareValue, integer, RawMember, item, last_of, IsParsedAs}
 
 -- the integer of a bare item, if it has this kind
 abbrev pub integer_in : BareValue → Option ℤ

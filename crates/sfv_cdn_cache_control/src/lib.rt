@@ -1,8 +1,8 @@
 //! The field CDN-Cache-Control (RFC 9213): how many seconds the caches of a network may use a response.
 #![tactic(auto)]
 
-ghost use Rattle.sfv_field.specs.Field.{◌≡◌, IfOk, IfErr, option_map, codes, integer_of, dictionary_field};
-ghost use Rattle.sfv_field.specs.Field.{last_of, IsParseError};
+ghost use Rattle.std.specs.Prelude.{◌≡◌, IfOk, IfErr, option_map, codes};
+ghost use Rattle.sfv_field.specs.Field.{integer_of, dictionary_field, last_of, IsParseError};
 ghost use Rattle.sfv_cdn_cache_control.specs.MaxAge.{age_of, IsMaxAgeOf};
 
 use sfv::{BareItemFromInput, Error, Integer, KeyRef, Version};

@@ -1,6 +1,6 @@
 -- The state of one member.
-use Rattle.sfv_field.specs.Field.{ℤ, Bool, true, false, Option, option_map, codes, integer_of, RawParameters, last_of}
-use Rattle.sfv_field.specs.Field.{Head, of_item, of_inner_list}
+use Rattle.std.specs.Prelude.{ℤ, Bool, true, false, Option, option_map, codes}
+use Rattle.sfv_field.specs.Field.{integer_of, RawParameters, last_of, Head, of_item, of_inner_list}
 use Rattle.sfv_fields.specs.declared.cache_status.Cache.{Cache}
 use Rattle.sfv_fields.specs.CacheStatus.{is_true, integer_in}
 

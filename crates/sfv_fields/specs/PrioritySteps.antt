@@ -1,6 +1,6 @@
 -- The members of the field, as the reader takes and the writer appends them.
 use Rattle.sfv.specs.Ascii.{digit_zero}
-use Rattle.sfv_field.specs.Field.{ℕ, List, [], ◌∷◌, ◌++◌, ◌+◌, ◌==◌, Bool, true, if◌then◌else◌, pos, codes}
+use Rattle.std.specs.Prelude.{ℕ, List, [], ◌∷◌, ◌++◌, ◌+◌, ◌==◌, Bool, true, if◌then◌else◌, pos, codes}
 use Rattle.sfv_field.specs.Field.{integer, boolean, RawMember, item, plain_item}
 use Rattle.sfv_fields.specs.declared.priority.visiting.Member.{Member}
 use Rattle.sfv_fields.specs.declared.priority.visiting.Member.TheVariants as keys

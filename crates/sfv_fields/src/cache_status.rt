@@ -1,8 +1,8 @@
 //! The Cache-Status field (RFC 9211): a list of the caches that handled a response. The last one is nearest to the
 //! user.
 
-ghost use Rattle.sfv_field.specs.Field.{◌≡◌, Some, IfOk, IfErr, option_map, list_field, ref_value};
-ghost use Rattle.sfv_field.specs.Field.{integer_of, IsParseError};
+ghost use Rattle.std.specs.Prelude.{◌≡◌, Some, IfOk, IfErr, option_map};
+ghost use Rattle.sfv_field.specs.Field.{list_field, ref_value, integer_of, IsParseError};
 ghost use Rattle.sfv_fields.specs.CacheStatus.{is_true, integer_in, hit_value, last_hit_of, IsLastHitOf};
 
 use sfv::{BareItemFromInput, Error, Integer, KeyRef, OutOfMemory, RefBareItem, Version};

@@ -1,6 +1,6 @@
 -- The state of a member after one more parameter.
-use Rattle.sfv_field.specs.Field.{◌≡◌, ℕ, List, Some, bytes_eq, codes, if◌then◌else◌, BareValue, RawParameters, last_of, put}
-use Rattle.sfv_field.specs.Field.{Head}
+use Rattle.std.specs.Prelude.{◌≡◌, ℕ, List, Some, bytes_eq, codes, if◌then◌else◌}
+use Rattle.sfv_field.specs.Field.{BareValue, RawParameters, last_of, put, Head}
 use Rattle.std.proofs.Common.{refl}
 use Rattle.sfv_field.proofs.Puts.{of_put}
 use Rattle.sfv_proxy_status.specs.ProxyStatus.{error_of, status_of}

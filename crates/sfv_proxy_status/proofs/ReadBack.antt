@@ -1,5 +1,6 @@
 -- The written text parses back to the intermediary.
-use Rattle.sfv_field.specs.Field.{◌≡◌, ◌≤◌, ℕ, List, true, Some, nat_le, pos, Rfc8941, list_field, integer, Fits, last_of}
+use Rattle.std.specs.Prelude.{◌≡◌, ◌≤◌, ℕ, List, true, Some, nat_le, pos}
+use Rattle.sfv_field.specs.Field.{Rfc8941, list_field, integer, Fits, last_of}
 use Rattle.std.proofs.Common.{refl, arith}
 use Rattle.sfv_proxy_status.specs.ProxyStatus.{status_in, last_proxy_of, name_value}
 use Rattle.sfv_proxy_status.specs.Writing.{written_members, written_proxy}

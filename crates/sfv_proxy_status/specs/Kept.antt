@@ -1,6 +1,6 @@
 -- The state of one member.
-use Rattle.sfv_field.specs.Field.{ℕ, List, Option, option_map, codes, BareValue, token_text, RawParameters, last_of}
-use Rattle.sfv_field.specs.Field.{None, Head, of_item, of_inner_list}
+use Rattle.std.specs.Prelude.{ℕ, List, Option, option_map, codes, None}
+use Rattle.sfv_field.specs.Field.{BareValue, token_text, RawParameters, last_of, Head, of_item, of_inner_list}
 use Rattle.sfv_proxy_status.specs.declared.reading.Member.{Member}
 use Rattle.sfv_proxy_status.specs.ProxyStatus.{name_in, error_of, status_of, name_value}
 

@@ -1,6 +1,6 @@
 -- The Proxy-Status field (RFC 9209, section 2): a List. Each member is an item that names an intermediary.
-use Rattle.sfv_field.specs.Field.{◌≡◌, ℕ, List, Option, Some, None, option_map, codes, pos, nat_le, if◌then◌else◌, ◌&&◌}
-use Rattle.sfv_field.specs.Field.{fold}
+use Rattle.std.specs.Prelude.{◌≡◌, ℕ, List, Option, Some, None, option_map, codes, pos, nat_le, if◌then◌else◌, ◌&&◌}
+use Rattle.std.specs.Prelude.{fold}
 use Rattle.sfv_field.specs.Field.{Version, list_field, BareValue, integer, string, token, RawMember, item, inner_list}
 use Rattle.sfv_field.specs.Field.{last_of, read_text, token_text, IsParsedAs}
 use Rattle.sfv_proxy_status.specs.declared.reading.Name.{Name}

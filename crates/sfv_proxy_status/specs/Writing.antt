@@ -1,6 +1,6 @@
 -- The text of an intermediary.
-use Rattle.sfv_field.specs.Field.{ℕ, List, [], ◌∷◌, Some, codes, pos, Version, list_field, BareValue, integer, token}
-use Rattle.sfv_field.specs.Field.{RawMember, item, canonical}
+use Rattle.std.specs.Prelude.{ℕ, List, [], ◌∷◌, Some, codes, pos}
+use Rattle.sfv_field.specs.Field.{Version, list_field, BareValue, integer, token, RawMember, item, canonical}
 use Rattle.sfv_proxy_status.specs.ProxyStatus.{ProxyValue, IsLastProxyOf}
 
 abbrev pub written_members : BareValue → List ℕ → ℕ → List RawMember

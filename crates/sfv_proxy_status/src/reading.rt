@@ -1,7 +1,7 @@
 //! Parsing of the last member, without a list.
 
-ghost use Rattle.sfv_field.specs.Field.{◌≡◌, IfOk, IfErr, option_map, list_field, input_value, token_text};
-ghost use Rattle.sfv_field.specs.Field.{IsParseError, bytes_eq, codes, if◌then◌else◌};
+ghost use Rattle.std.specs.Prelude.{◌≡◌, IfOk, IfErr, option_map, bytes_eq, codes, if◌then◌else◌};
+ghost use Rattle.sfv_field.specs.Field.{list_field, input_value, token_text, IsParseError};
 ghost use Rattle.sfv_proxy_status.specs.ProxyStatus.{name_in, error_in, status_in, name_value, proxy_value};
 ghost use Rattle.sfv_proxy_status.specs.ProxyStatus.{last_proxy_of, IsLastProxyOf};
 

@@ -1,6 +1,7 @@
 //! Serialization of one member.
 
-ghost use Rattle.sfv_field.specs.Field.{◌≡◌, ◌≤◌, IfOk, OnOk, ref_value, token_text, described_list, AppendsOrKeeps};
+ghost use Rattle.std.specs.Prelude.{◌≡◌, ◌≤◌, IfOk, OnOk};
+ghost use Rattle.sfv_field.specs.Field.{ref_value, token_text, described_list, AppendsOrKeeps};
 ghost use Rattle.sfv_proxy_status.specs.ProxyStatus.{name_value};
 ghost use Rattle.sfv_proxy_status.specs.Writing.{written_members, proxy_text, IsReadAsProxy};
 

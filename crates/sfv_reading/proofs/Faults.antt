@@ -16,7 +16,6 @@ use Rattle.sfv_spec.specs.declared.error_kind.ErrorKind.TheVariants.{ExpectedInn
 use Rattle.sfv_spec.specs.declared.error_kind.ErrorKind.TheVariants.{TrailingCharactersAfterMember}
 use Rattle.sfv_spec.specs.Faults.{WantsBetween}
 use Rattle.sfv_spec.specs.declared.error_kind.ErrorKind.TheVariants.{TrailingCharactersAfterParsedValue}
-use Rattle.sfv_spec.specs.declared.error_kind.ErrorKind.TheVariants.{UnterminatedInnerList}
 use Rattle.sfv_spec.specs.Faults.{RuledFault, BareItemFault, BegunFault, WantedFault, IsWantedAt, IsFaultAt}
 use Rattle.sfv_spec.specs.Faults.{IsTrailingComma}
 use Rattle.sfv_spec.specs.Faults as faults

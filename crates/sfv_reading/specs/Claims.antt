@@ -1,6 +1,6 @@
 -- The theorems on readers and the grammar.
-use Rattle.std.specs.Prelude.{◌≡◌, ◌↔◌, ℕ, ◌+◌, ◌≤◌, ◌%◌, List, [], ◌∷◌, ◌++◌, length, take, drop, true, false}
-use Rattle.std.specs.Prelude.{Some, None, Ok, Err, ◌⊎◌, codes}
+use Rattle.std.specs.Prelude.{◌≡◌, ◌↔◌, ℕ, ◌≤◌, ◌%◌, List, [], ◌∷◌, ◌++◌, length, take, drop, true, false}
+use Rattle.std.specs.Prelude.{Some, None, Ok, Err, ◌⊎◌}
 use Rattle.sfv_spec.specs.Ascii.{colon}
 use Rattle.sfv_spec.specs.Texts.{RunOf}
 use Rattle.sfv_spec.specs.Classes.{is_one_of}
@@ -12,12 +12,10 @@ use Rattle.sfv_spec.specs.Events.{TreeEvent, events}
 use Rattle.sfv_spec.specs.Reach.{IsReach}
 use Rattle.sfv_spec.specs.Visiting.{BeginsEvents, BeginsEventsAfter}
 use Rattle.sfv_spec.specs.Base64.{IsBase64Text, symbols}
-use Rattle.sfv_spec.specs.declared.error_kind.ErrorKind.{ErrorKind}
 use Rattle.sfv_spec.specs.declared.error_kind.ErrorKind.TheVariants.{TrailingComma, UnterminatedByteSequence}
 use Rattle.sfv_spec.specs.Faults.{IsTrailingComma}
 use Rattle.sfv_reading.specs.Reader.{has_rule, Fault, by_rule, visited}
 use Rattle.sfv_reading.specs.Content.{valid_from, bytes_of, fault_place, HasNoColon, content_fault}
-use Rattle.sfv_reading.specs.Content.{bytes_at}
 use Rattle.sfv_reading.specs.Bare.{bare_at}
 use Rattle.sfv_reading.specs.Fields.{whole_field_at, read_field}
 

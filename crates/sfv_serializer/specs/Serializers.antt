@@ -77,6 +77,10 @@ module _ {W : Type 0} (w : Sink W) where
   abbrev pub KeepsRoom : {K : Type 0} → SequenceSerializer W K → SequenceSerializer W K → Type 0
   KeepsRoom s t = string_capacity (w.text s.sink) ≤ string_capacity (w.text t.sink)
 
+  -- the text has the same capacity
+  abbrev pub KeepsCapacity : {K : Type 0} → SequenceSerializer W K → SequenceSerializer W K → Type 0
+  KeepsCapacity s t = string_capacity (w.text t.sink) ≡ string_capacity (w.text s.sink)
+
   -- the same output, version and kind, the same text with no less room, and the same `is_empty_so_far`
   abbrev pub KeepsSequence : {K : Type 0} → SequenceSerializer W K → SequenceSerializer W K → Type 0
   KeepsSequence s t = w.same s.sink t.sink × (string_bytes (w.text t.sink) ≡ string_bytes (w.text s.sink))

@@ -6,7 +6,7 @@ ghost use Rattle.std.specs.Iterator.{IsFinite, Drains};
 ghost use Rattle.sfv_spec.specs.Values.{AllFit};
 ghost use Rattle.sfv_writer.specs.Written.{LacksRoom, is_first_after, items_text, AreItems};
 ghost use Rattle.sfv_writer.specs.Versions.{FailsAmong, LacksAmong, values_of_items};
-ghost use Rattle.sfv_serializer.specs.Serializers.{SequenceRests, HasAppended, KeepsSequence, IsSequenceTruncatedTo, sequence_sink, sequence_version};
+ghost use Rattle.sfv_serializer.specs.Serializers.{SequenceRests, HasAppended, KeepsSequence, IsSequenceTruncatedTo, KeepsCapacity, sequence_sink, sequence_version};
 ghost use Rattle.sfv_serializer.specs.Serializers.{is_empty_so_far, params_sink, params_name, params_version, length_before};
 
 use crate::parameter_serializer::ParameterSerializer;
@@ -85,7 +85,8 @@ impl<'s, W: Sink, K> SequenceSerializer<&'s mut SequenceSerializer<W, K>, InnerL
     /// Removes the inner list with its separator or key. The text and `has_member` are as before the inner list
     /// began.
     pub fn abandon(self)
-        ensures { IsSequenceTruncatedTo W.Sink (length_before self.entry) (sequence_sink self.entry).now self.exit.0.now }
+        ensures text { IsSequenceTruncatedTo W.Sink (length_before self.entry) (sequence_sink self.entry).now self.exit.0.now }
+        ensures room { KeepsCapacity W.Sink (sequence_sink self.entry).now self.exit.0.now }
     {
         let SequenceSerializer {
             sink,

@@ -1,5 +1,5 @@
 -- What calls describe fits a version if all that they hand over does; and a first value that doesn't fit.
-use Rattle.std.proofs.Common.{ℕ, List, [], ◌∷◌, ◌++◌, true≢false, sym, subst, ◌∙◌}
+use Rattle.std.proofs.Common.{ℕ, List, [], ◌∷◌, true≢false, sym, subst, ◌∙◌}
 use Rattle.std.specs.Prelude.{flat_map}
 use Rattle.sfv_spec.specs.Values.{BareValue, member_values}
 use Rattle.sfv_spec.specs.declared.field_kind.FieldKind.{FieldKind}

@@ -1,5 +1,6 @@
 -- The integers of the items after one more item.
-use Rattle.sfv_field.specs.Field.{◌≡◌, List, [], ◌∷◌, ◌++◌, RawItem}
+use Rattle.std.specs.Prelude.{◌≡◌, List, [], ◌∷◌, ◌++◌}
+use Rattle.sfv_field.specs.Field.{RawItem}
 use Rattle.std.proofs.lemmas.List.Elements.{filter_map-append}
 use Rattle.sfv_uses.specs.Rows.{integer_in, integers_of}
 

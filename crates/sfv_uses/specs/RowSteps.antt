@@ -1,5 +1,5 @@
 -- The value of a row.
-use Rattle.sfv_field.specs.Field.{ℤ, List, Option, option_map, vec_items}
+use Rattle.std.specs.Prelude.{ℤ, List, Option, option_map, vec_items}
 use Rattle.sfv_uses.specs.declared.rows.Row.{Row}
 
 abbrev pub row_value : Option Row → Option (List ℤ)

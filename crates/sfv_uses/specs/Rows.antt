@@ -1,7 +1,7 @@
 -- The integers of inner lists.
-use Rattle.sfv_field.specs.Field.{◌≡◌, ℕ, ℤ, List, Option, Some, None, fold, Version, list_field, BareValue, integer}
+use Rattle.std.specs.Prelude.{◌≡◌, ℕ, ℤ, List, Option, Some, None, fold, filter_map}
+use Rattle.sfv_field.specs.Field.{Version, list_field, BareValue, integer}
 use Rattle.sfv_field.specs.Field.{RawItem, RawMember, IsParsedAs, Head, of_item, of_inner_list, head_of}
-use Rattle.std.specs.Prelude.{filter_map}
 
 abbrev pub integer_in : BareValue → Option ℤ
 integer_in (integer z) = Some z

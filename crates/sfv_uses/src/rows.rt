@@ -1,7 +1,7 @@
 //! The integers of the last inner list of a list, as in `(1 2), (3 4;a)`.
 
-ghost use Rattle.sfv_field.specs.Field.{◌≡◌, IfOk, IfErr, list_field, IsParseError, fold, vec_items, None};
-ghost use Rattle.sfv_field.specs.Field.{option_map, OnOk, List, [], ◌∷◌, ◌++◌, raw_item, input_value};
+ghost use Rattle.std.specs.Prelude.{◌≡◌, IfOk, IfErr, fold, vec_items, None, option_map, OnOk, List, [], ◌∷◌, ◌++◌};
+ghost use Rattle.sfv_field.specs.Field.{list_field, IsParseError, raw_item, input_value};
 ghost use Rattle.sfv_uses.specs.Rows.{integers_of, row_of, row_in, IsLastRowOf};
 
 use sfv::{BareItemFromInput, Error, KeyRef, OutOfMemory, Version};

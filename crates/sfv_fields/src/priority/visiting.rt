@@ -1,6 +1,7 @@
 //! Parsing of the Priority field without a map.
 
-ghost use Rattle.sfv_field.specs.Field.{◌≡◌, IfOk, IfErr, dictionary_field, IsParseError};
+ghost use Rattle.std.specs.Prelude.{◌≡◌, IfOk, IfErr};
+ghost use Rattle.sfv_field.specs.Field.{dictionary_field, IsParseError};
 ghost use Rattle.sfv_fields.specs.Priority.{value_of, priority, IsPriorityOf};
 
 use crate::priority::value::Priority;

@@ -24,7 +24,7 @@ use Rattle.sfv_spec.specs.Faults.{no_digit, no_number, long_integer, late_point,
 use Rattle.sfv_reading.specs.Reader.{Fault, Answer, byte, give, fail, and_then, bind, branch, back, at_start}
 use Rattle.sfv_reading.specs.Reader.{at_reach, by_rule, placed}
 use Rattle.sfv_reading.specs.Bare.{number_at, as_date, date_at, is_number_start}
-use Rattle.sfv_reading.proofs.rules.Numbers.{next_of, NumberShape, no_digits, sixteen_digits, point_too_late}
+use Rattle.sfv_reading.proofs.rules.Numbers.{NumberShape, no_digits, sixteen_digits, point_too_late}
 use Rattle.sfv_reading.proofs.rules.Numbers.{no_fraction, long_fraction, a_decimal, an_integer, number_shape}
 use Rattle.sfv_reading.proofs.rules.Numbers.{shape_read}
 

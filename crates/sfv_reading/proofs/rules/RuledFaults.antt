@@ -1,5 +1,5 @@
 -- Each rule of the table of faults is given by the reader of bare items, but for the trailing comma.
-use Rattle.std.proofs.Common.{◌≡◌, ℕ, ◌+◌, ◌-◌, true, List, ◌∷◌, ◌++◌, length, Err, refl, ap, ◌∙◌, suc, ◌≤◌, Bool, not}
+use Rattle.std.proofs.Common.{◌≡◌, ℕ, ◌-◌, true, List, ◌∷◌, ◌++◌, length, Err, refl, ap, ◌∙◌, suc, ◌≤◌, Bool, not}
 use Rattle.std.proofs.Common.{append_assoc, arith, inl, inr, [], drop, sym}
 use Rattle.std.specs.Prelude.{codes, ◌==◌}
 use Rattle.std.specs.List.{concat}

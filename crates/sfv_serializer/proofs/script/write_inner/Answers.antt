@@ -17,7 +17,7 @@ returns-in-Err-clause-out_of_memory g c =
     let begun = c.in_ok-inner.ensures in
     away_grown g.W.Sink g.met.W.Sink.same_again c.args.sequence.now c.abandon.new.self.0 c.in_ok-inner.inner
     c.write_inner_items.new.inner _ _ _ g.met.W.Sink.same_itself begun.text begun.begins.1
-    c.write_inner_items.ensures.grows c.abandon.ensures (search rules) (search rules)
+    c.write_inner_items.ensures.grows c.abandon.ensures.text (search rules) (search rules)
 
 pub returns-then-abandon-clause-text : goal.returns-then-abandon-clause-text
 returns-then-abandon-clause-text g c =
@@ -25,7 +25,7 @@ returns-then-abandon-clause-text g c =
     let begun = c.in_ok-inner.ensures in
     let kept = taken_away s g.met.W.Sink.same_again c.args.sequence.now c.abandon-then-abandon.new.self.0
     c.in_ok-inner.inner c.write_inner_items.new.inner _ begun.text begun.begins.1
-    c.write_inner_items.ensures.grows c.abandon-then-abandon.ensures in
+    c.write_inner_items.ensures.grows c.abandon-then-abandon.ensures.text in
     rw c.if-abandon.true (subst (KeepsSequence s c.args.sequence.now) (search rules) kept)
 
 pub returns-in_err-ending-clause-out_of_memory : goal.returns-in_err-ending-clause-out_of_memory

@@ -1,4 +1,5 @@
-use Rattle.sfv.specs.Field.{dictionary_field, Ok, Err, ◌≡◌}
+use Rattle.std.specs.Prelude.{Ok, Err, ◌≡◌}
+use Rattle.sfv.specs.Field.{dictionary_field}
 use Rattle.std.proofs.Common.{sym, refl}
 use Rattle.std.proofs.lemmas.Result.{IfOk-weaker}
 use Rattle.sfv.proofs.Callers.{answer_read, failure_read}
