@@ -16,13 +16,14 @@ trap 'rm -rf "$room"' EXIT
 
 # The words that the specs of these files define.
 words_of() {
-    sed -n -E 's/^(abbrev pub|unfoldable pub|pub record|pub data) ([A-Za-z0-9_]+).*/\2/p' "$@" | sort -u
+    sed -n -E 's/^ *(abbrev pub|unfoldable pub|pub record|pub data) ([A-Za-z0-9_]+).*/\2/p' "$@" | sort -u
 }
 
 # The names in public contracts that their file imports by `ghost use`, or that stand in an imported module.
 find crates/*/src -name '*.rt' ! -path '*tests/src/*' ! -path '*/sfv_reading/*' ! -path '*/sfv_uses/*' ! -path '*/sfv_versions/*' ! -path '*/sfv_fields/*' ! -path '*/sfv_request/*' ! -path '*/sfv_mobile_hint/*' ! -path '*/sfv_proxy_status/*' ! -path '*/sfv_cdn_cache_control/*' \
     ! -path '*/sfv_base/src/runs.rt' ! -path '*/sfv_base/src/utils.rt' -exec awk '
-    FNR == 1 { split("", imported); in_trait = is_public = in_clause = in_ghost = 0 }
+    FNR == 1 { split("", imported); private = ""; in_trait = is_public = in_clause = in_ghost = 0 }
+    /^pub\(crate\) struct / { split($3, part, /[^A-Za-z0-9_]/); private = private " for " part[1] "<" }
     /^ *\/\// { next }
     /^ *ghost use / {
         count = split($0, part, /[^A-Za-z0-9_]+/)
@@ -32,7 +33,7 @@ find crates/*/src -name '*.rt' ! -path '*tests/src/*' ! -path '*/sfv_reading/*' 
     }
     /^(pub )?(trait|impl)/ { in_trait = /^pub trait/ || /^impl.* for /; in_header = !/\{$/ }
     # A header of more than one line.
-    in_header && /^ +for / { in_trait = 1 }
+    in_header && /^ +for / { in_trait = !index(private, " " $1 " " substr($2, 1, index($2, "<"))) }
     in_header && /\{$/ { in_header = 0 }
     /^}$/ { in_trait = 0 }
     /^ *(pub(\([a-z]+\))? )?(extern "C" )?fn / { is_public = /^ *pub (extern "C" )?fn / || in_trait }

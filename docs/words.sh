@@ -17,10 +17,19 @@ part() {
             }
             words = ""; comment = ""
         }
-        /^-- / { if (FNR == 1) next; if (words != "") row(); comment = comment (comment == "" ? "" : " ") substr($0, 4); next }
-        /^(abbrev pub|unfoldable pub|pub record|pub data) / {
-            words = words (words == "" ? "" : ", ") "`" $3 "`"
+        /^ *-- / {
+            if (FNR == 1) next
+            if (words != "") row()
+            sub(/^ *-- /, "")
+            comment = comment (comment == "" ? "" : " ") $0
+            next
         }
+        /^ *(abbrev pub|unfoldable pub|pub record|pub data) / {
+            words = words (words == "" ? "" : ", ") "`" $3 "`"
+            next
+        }
+        # The comment of a part, a row or a module.
+        /[^ ]/ && words == "" { comment = "" }
         END { row() }
     ' "$2"
 }

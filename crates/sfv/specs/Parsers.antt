@@ -169,8 +169,8 @@ VisitsFirst takes fails finish_fails version t from (parse_errors.Visitor fault)
     × ((value : BareValue) → BeginsWithBareItem version value t → raw.bare ≡ value)
     × IsVisitorError takes fails finish_fails from (item_events raw) fault
 
--- the same for a parser, and a visitor as the record of its ghost members
 module _ {S O E : Type 0} (v : Visitor S O E) (p : Parser) where
+  -- the definitions above, for a parser, and for a visitor as the record of its ghost members
   abbrev pub IsAnswerBy : FieldKind → S → O → Type 0
   IsAnswerBy kind from out = IsAnswerOf v.takes v.finishes (version_of p) kind (input_of p) from out
 
