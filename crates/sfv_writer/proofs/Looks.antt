@@ -1,14 +1,13 @@
 -- Values that are looked at one after another.
 use Rattle.std.proofs.Common.{◌≡◌, ℕ, zero, suc, ◌+◌, ◌<◌, List, [], ◌∷◌, ◌++◌, length, get_or, map, take, refl, sym, ap}
 use Rattle.std.proofs.Common.{false, subst, ◌∙◌, append_assoc, length-append, Result, Ok, Err, inl, inr, arith}
-use Rattle.std.specs.Prelude.{⊤, Option, Some, None, flat_map, filter_map, MatchResult, IfErr, IsErrAnd}
+use Rattle.std.specs.Prelude.{⊤, Option, Some, None, flat_map, MatchResult, IfErr, IsErrAnd}
 use Rattle.std.specs.Borrow.{Bor}
 use Rattle.std.specs.Iterator.{Yields, Drains}
 use Rattle.std.specs.Map.Iter.{TakesFirst, deref}
 use Rattle.std.proofs.lemmas.Result.{err_from_is_err_and}
 use Rattle.std.proofs.lemmas.List.Concat.{flat_map-append}
 use Rattle.std.proofs.lemmas.List.Folds.{flat_map-map}
-use Rattle.std.proofs.lemmas.List.Elements.{filter_map-append}
 use Rattle.std.proofs.lemmas.Map.Iter.{rest_so_far, rest_more, iter_end}
 use Rattle.std.proofs.lemmas.List.{map-append}
 use Rattle.std.proofs.iter.Next.{Yields-more}
@@ -18,9 +17,7 @@ use Rattle.sfv_spec.specs.declared.field_kind.FieldKind.TheVariants.{Item as ite
 use Rattle.sfv_spec.specs.declared.field_kind.FieldKind.TheVariants.{Dictionary as dictionary_field}
 use Rattle.sfv_spec.specs.declared.version.Version.{Version}
 use Rattle.sfv_spec.specs.declared.version.Version.TheVariants.{Rfc9651}
-use Rattle.sfv_spec.specs.Values.{RawParameters, RawItem, RawMember, item, inner_list, RawField, HasMember}
-use Rattle.sfv_spec.specs.Events.{TreeEvent, value_in, parameters_events, item_events, inner_item_events, inner_list_end}
-use Rattle.sfv_spec.specs.Events.{member_events, entry_events, keyed_events}
+use Rattle.sfv_spec.specs.Values.{RawField, HasMember}
 use Rattle.sfv_spec.specs.Values.{bare_values}
 use Rattle.sfv_spec.specs.Values.{fits_bare, AllFit}
 use Rattle.sfv_bare.specs.Kinds.{kind_of_value}
@@ -31,7 +28,7 @@ use Rattle.std.specs.Map.{values_of}
 use Rattle.sfv_spec.proofs.Given.{newer_has_all}
 use Rattle.sfv_writer.proofs.Rows.{mapped_more}
 use Rattle.sfv_writer.specs.Versions.{NamesFirstUnfit, ChecksVersion, ChecksVersionFirst, IsSerializeError, FailsAmong, FailsFrom}
-use Rattle.sfv_spec.specs.Values.{parameter_values, item_values, member_values}
+use Rattle.sfv_spec.specs.Values.{parameter_values, member_values}
 use Rattle.sfv_spec.proofs.Fields.{fit_append}
 use Rattle.sfv_writer.specs.declared.serialize_error.SerializeError.{SerializeError}
 use Rattle.sfv_writer.specs.declared.serialize_error.SerializeError.TheVariants as errors

@@ -1,10 +1,10 @@
 -- Writing for a version: the values that it checks, and the errors for them.
 use Rattle.sfv_spec.specs.Values.{item_values, member_values}
-use Rattle.std.specs.Prelude.{⊤, ◌≡◌, ◌<◌, ◌⊎◌, ◌++◌, ◌∷◌, ℕ, List, length, map, flat_map, codes, Option, Result, MatchResult}
+use Rattle.std.specs.Prelude.{⊤, ◌≡◌, ◌<◌, ◌⊎◌, ◌++◌, ℕ, List, length, map, flat_map, codes, Option, Result, MatchResult}
 use Rattle.std.specs.Iterator.{Yields}
 use Rattle.std.specs.Borrow.{Bor}
 use Rattle.std.specs.declared.string.String.{String}
-use Rattle.sfv_spec.specs.Values.{BareValue, RawParameters, RawItem, RawMember, item, inner_list}
+use Rattle.sfv_spec.specs.Values.{BareValue}
 use Rattle.sfv_spec.specs.declared.version.Version.{Version}
 use Rattle.sfv_spec.specs.Values.{AllFit, IsFirstUnfit}
 use Rattle.sfv_bare.specs.BareItems.{bare_value}

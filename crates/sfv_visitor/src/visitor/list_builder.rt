@@ -55,6 +55,8 @@ pub struct ListBuilder {
     pub(crate) stage: Stage,
     // A bare item for whose item there was no capacity. So an event with a bare item that is moved does not allocate.
     pub(crate) held: Option<BareItem>,
+    // A parameter was inserted since parameters ended last.
+    has_grown: bool,
 }
 
 impl ListBuilder {
@@ -70,6 +72,7 @@ impl ListBuilder {
             seed,
             stage: Stage::Between,
             held: None,
+            has_grown: false,
         }
     }
 
@@ -346,8 +349,11 @@ impl ListBuilder {
         ensures stage { self.new.stage ≡ self.old.stage }
         ensures seed { KeepsListSeed self.old self.new }
     {
-        if self.list.len() > MANY || self.stage == Stage::Within(MemberStage::InnerParams) {
-            self.fit_last();
+        if self.has_grown {
+            self.has_grown = false;
+            if self.list.len() > MANY || self.stage == Stage::Within(MemberStage::InnerParams) {
+                self.fit_last();
+            }
         }
     }
 
@@ -386,6 +392,7 @@ impl ListBuilder {
         if let Stage::Within(member_stage) = self.stage {
             if let Some(member) = self.list.last_mut() {
                 member_stage.parameter(alloc, member, key, value)?;
+                self.has_grown = true;
                 return Ok(());
             }
         }

@@ -40,7 +40,5 @@ pub(crate) fn fit(params: &mut Parameters)
     ensures entries { params.new.entries ≡ params.old.entries }
     ensures seed { hasher_of params.new ≡ hasher_of params.old }
 {
-    if !params.is_empty() {
-        params.shrink_to_fit();
-    }
+    params.shrink_to_fit();
 }
