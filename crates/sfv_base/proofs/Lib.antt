@@ -1,5 +1,4 @@
 pub mod DecimalText
-mod Digits
 mod Masks
 mod Rows
 mod RunEnds

@@ -1,82 +1,85 @@
--- The table's rule, and the classes as bits of a row.
-use Rattle.std.proofs.Common.{◌≡◌, ℕ, ◌<◌, Bool, true, false, not, ◌&&◌, eqb, map, get_or, bit_and, refl, ap, ◌∙◌}
-use Rattle.std.proofs.Common.{arith}
-use Rattle.std.proofs.lemmas.Bool.{and_parts}
-use Rattle.std.proofs.lemmas.List.FromFn.{get_or-map-range_with_len}
-use Rattle.std.specs.List.{range_with_len}
-use mathlib.Core.Bool.{beq}
-use Rattle.sfv_spec.specs.Classes.{is_string_byte, is_token_inner, is_key_inner}
+-- The rows of the tables of classes, and the classes as bits of a row.
+use Rattle.std.proofs.Common.{◌≡◌, ℕ, ◌<◌, Bool, true, not, eqb, List, get_or, bit_and, refl}
+use Rattle.std.proofs.lemmas.Bool.{agree_below, agree_below_at, eqb-true}
+use Rattle.sfv_spec.specs.Classes.{is_string_byte, is_token_start, is_token_inner, is_key_start, is_key_inner}
+use Rattle.sfv_spec.specs.Classes.{is_lower_hexadecimal}
 use Rattle.sfv_spec.specs.Strings.{is_plain_in_string, is_plain_in_display}
 use Rattle.sfv_spec.proofs.Marks.{is_symbol}
-use Rattle.sfv_base.specs.Rows.{row_of, sum_of}
-use Rattle.sfv_base.specs.declared.classes.TheConstants.{ROWS}
+use Rattle.sfv_base.specs.Digits.{digit_row}
+use Rattle.sfv_base.specs.Rows.{class_sum, run_class_sum}
+use Rattle.sfv_base.specs.declared.utils.TheConstants.{CLASSES, DIGITS}
+use Rattle.sfv_base.specs.declared.runs.TheConstants.{RUN_CLASSES}
 
--- each row of the table, computed
-rows_are : ROWS ≡ map row_of (range_with_len 0 256)
-unfolding is_symbol
-rows_are = refl
+-- the rows of a table are the values of a function, which is computed
+abbrev rows_are : (ℕ → ℕ) → List ℕ → Bool
+rows_are row table = agree_below (λ b. eqb (get_or table b 0) (row b)) (λ _. true) 256
 
-pub row_at : (b : ℕ) → b < 256 → get_or ROWS b 0 ≡ row_of b
-row_at b lt = ap (λ t. get_or t b 0) rows_are ∙ get_or-map-range_with_len row_of 0 256 b b 0 lt (omega arith)
+row_at : (row : ℕ → ℕ) (table : List ℕ) (b : ℕ) → b < 256 → rows_are row table ≡ true → get_or table b 0 ≡ row b
+row_at row table b lt all =
+    eqb-true _ _ (agree_below_at (λ k. eqb (get_or table k 0) (row k)) (λ _. true) 256 b all lt)
 
--- a test at both values
-abbrev every : (Bool → Bool) → Bool
-every p = p true && p false
+pub classes_at : (b : ℕ) → b < 256 → rows_are class_sum CLASSES ≡ true → get_or CLASSES b 0 ≡ class_sum b
+classes_at = row_at class_sum CLASSES
 
-every_at : (p : Bool → Bool) → every p ≡ true → (b : Bool) → p b ≡ true
-every_at p e true = (and_parts _ _ e).0
-every_at p e false = (and_parts _ _ e).1
+pub digits_at : (b : ℕ) → b < 256 → rows_are digit_row DIGITS ≡ true → get_or DIGITS b 0 ≡ digit_row b
+digits_at = row_at digit_row DIGITS
 
-same : (a b : Bool) → beq a b ≡ true → a ≡ b
-same true true e = refl
-same true false e = cc
-same false true e = cc
-same false false e = refl
+pub run_classes_at : (b : ℕ) → b < 256 → rows_are run_class_sum RUN_CLASSES ≡ true
+    → get_or RUN_CLASSES b 0 ≡ run_class_sum b
+run_classes_at = row_at run_class_sum RUN_CLASSES
 
 -- whether the row has the bit
 abbrev has_bit : ℕ → ℕ → Bool
-has_bit weight row = not (eqb (bit_and row weight) 0)
+has_bit bit row = not (eqb (bit_and row bit) 0)
 
--- a bit of each sum is one of its parts, which is computed
-module _ (weight : ℕ) (part : Bool → Bool → Bool → Bool → Bool → Bool → Bool) where
-  abbrev right : Bool → Bool → Bool → Bool → Bool → Bool → Bool
-  right a b c d e f = beq (has_bit weight (sum_of a b c d e f)) (part a b c d e f)
+-- a class that has the bytes whose rows have the bit, which is computed
+class_is : (bit : ℕ) (sum : ℕ → ℕ) (class : ℕ → Bool) → agree_below (λ c. has_bit bit (sum c)) class 256 ≡ true
+    → (byte row : ℕ) → byte < 256 → row ≡ sum byte → has_bit bit row ≡ class byte
+class_is bit sum class all byte row lt is = rw is (agree_below_at (λ c. has_bit bit (sum c)) class 256 byte all lt)
 
-  bit_of : every (λ a. every (λ b. every (λ c. every (λ d. every (λ e. every (λ f. right a b c d e f)))))) ≡ true
-      → (a b c d e f : Bool) → has_bit weight (sum_of a b c d e f) ≡ part a b c d e f
-  bit_of all a b c d e f =
-      let at_a = every_at (λ a. every (λ b. every (λ c. every (λ d. every (λ e. every (λ f. right a b c d e f)))))) all
-      a in
-      let at_b = every_at (λ b. every (λ c. every (λ d. every (λ e. every (λ f. right a b c d e f))))) at_a b in
-      let at_c = every_at (λ c. every (λ d. every (λ e. every (λ f. right a b c d e f)))) at_b c in
-      let at_d = every_at (λ d. every (λ e. every (λ f. right a b c d e f))) at_c d in
-      let at_e = every_at (λ e. every (λ f. right a b c d e f)) at_d e in
-      same _ _ (every_at (λ f. right a b c d e f) at_e f)
+pub string_bit : (byte row : ℕ) → byte < 256 → row ≡ class_sum byte → has_bit 1 row ≡ is_string_byte byte
+string_bit = class_is 1 class_sum is_string_byte refl
 
--- the classes at a row
-pub string_bit : (byte row : ℕ) → row ≡ row_of byte → has_bit 1 row ≡ is_string_byte byte
-string_bit byte row is = rw is (bit_of 1 (λ a b c d e f. a) refl _ _ _ _ _ _)
+pub token_start_bit : (byte row : ℕ) → byte < 256 → row ≡ class_sum byte → has_bit 2 row ≡ is_token_start byte
+token_start_bit = class_is 2 class_sum is_token_start refl
 
-pub plain_in_string_bit : (byte row : ℕ) → row ≡ row_of byte → has_bit 2 row ≡ is_plain_in_string byte
-plain_in_string_bit byte row is = rw is (bit_of 2 (λ a b c d e f. b) refl _ _ _ _ _ _)
+pub token_inner_bit : (byte row : ℕ) → byte < 256 → row ≡ class_sum byte → has_bit 4 row ≡ is_token_inner byte
+token_inner_bit = class_is 4 class_sum is_token_inner refl
 
-pub plain_in_display_bit : (byte row : ℕ) → row ≡ row_of byte → has_bit 4 row ≡ is_plain_in_display byte
-plain_in_display_bit byte row is = rw is (bit_of 4 (λ a b c d e f. c) refl _ _ _ _ _ _)
+pub key_start_bit : (byte row : ℕ) → byte < 256 → row ≡ class_sum byte → has_bit 8 row ≡ is_key_start byte
+key_start_bit = class_is 8 class_sum is_key_start refl
 
-pub token_inner_bit : (byte row : ℕ) → row ≡ row_of byte → has_bit 8 row ≡ is_token_inner byte
-token_inner_bit byte row is = rw is (bit_of 8 (λ a b c d e f. d) refl _ _ _ _ _ _)
+pub key_inner_bit : (byte row : ℕ) → byte < 256 → row ≡ class_sum byte → has_bit 16 row ≡ is_key_inner byte
+key_inner_bit = class_is 16 class_sum is_key_inner refl
 
-pub key_inner_bit : (byte row : ℕ) → row ≡ row_of byte → has_bit 16 row ≡ is_key_inner byte
-key_inner_bit byte row is = rw is (bit_of 16 (λ a b c d e f. e) refl _ _ _ _ _ _)
-
-pub symbol_bit : (byte row : ℕ) → row ≡ row_of byte → has_bit 32 row ≡ is_symbol byte
-symbol_bit byte row is = rw is (bit_of 32 (λ a b c d e f. f) refl _ _ _ _ _ _)
+pub hexadecimal_bit : (byte row : ℕ) → byte < 256 → row ≡ class_sum byte → has_bit 32 row ≡ is_lower_hexadecimal byte
+hexadecimal_bit = class_is 32 class_sum is_lower_hexadecimal refl
 
 pub ruleset class_bits = (
   string_bit,
+  token_start_bit,
+  token_inner_bit,
+  key_start_bit,
+  key_inner_bit,
+  hexadecimal_bit,
+)
+
+pub plain_in_string_bit : (byte row : ℕ) → byte < 256 → row ≡ run_class_sum byte
+    → has_bit 1 row ≡ is_plain_in_string byte
+unfolding is_symbol
+plain_in_string_bit = class_is 1 run_class_sum is_plain_in_string refl
+
+pub plain_in_display_bit : (byte row : ℕ) → byte < 256 → row ≡ run_class_sum byte
+    → has_bit 2 row ≡ is_plain_in_display byte
+unfolding is_symbol
+plain_in_display_bit = class_is 2 run_class_sum is_plain_in_display refl
+
+pub symbol_bit : (byte row : ℕ) → byte < 256 → row ≡ run_class_sum byte → has_bit 4 row ≡ is_symbol byte
+unfolding is_symbol
+symbol_bit = class_is 4 run_class_sum is_symbol refl
+
+pub ruleset run_class_bits = (
   plain_in_string_bit,
   plain_in_display_bit,
-  token_inner_bit,
-  key_inner_bit,
   symbol_bit,
 )

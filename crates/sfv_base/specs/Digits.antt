@@ -7,6 +7,6 @@ use Rattle.sfv_spec.specs.Strings.{hexadecimal_value}
 abbrev pub digit_value : ℕ → Option ℕ
 digit_value c = if is_lower_hexadecimal c then Some (hexadecimal_value c) else None
 
--- the same as an entry of a table, with 16 for a byte that is not a digit
+-- the value of a byte as a digit, and 0 for any other byte
 abbrev pub digit_row : ℕ → ℕ
-digit_row c = if is_lower_hexadecimal c then hexadecimal_value c else 16
+digit_row c = if is_lower_hexadecimal c then hexadecimal_value c else 0

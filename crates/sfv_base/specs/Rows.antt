@@ -1,18 +1,25 @@
--- One table of the classes of bytes that runs consist of.
+-- The tables of classes: for each byte, the sum of the classes that contain it.
 use Rattle.std.specs.Prelude.{ℕ, ◌+◌, Bool, if◌then◌else◌}
-use Rattle.sfv_spec.specs.Classes.{is_string_byte, is_token_inner, is_key_inner}
+use Rattle.std.specs.List.{count_by, range_with_len}
+use Rattle.sfv_spec.specs.Classes.{is_string_byte, is_token_start, is_token_inner, is_key_start, is_key_inner}
+use Rattle.sfv_spec.specs.Classes.{is_lower_hexadecimal}
 use Rattle.sfv_spec.specs.Strings.{is_plain_in_string, is_plain_in_display}
 use Rattle.sfv_spec.proofs.Marks.{is_symbol}
 
--- the weight `n` of a class for a byte of the class, and 0 for any other byte
+-- `n` for a byte of the class, and 0 for any other byte
 abbrev pub weight : ℕ → Bool → ℕ
 weight n b = if b then n else 0
 
--- the membership in six classes as one number
-abbrev pub sum_of : Bool → Bool → Bool → Bool → Bool → Bool → ℕ
-sum_of a b c d e f = weight 1 a + weight 2 b + weight 4 c + weight 8 d + weight 16 e + weight 32 f
+-- the sum of the classes that contain the byte (RFC 9651, sections 3.1.2, 3.3.3, 3.3.4 and 3.3.8)
+abbrev pub class_sum : ℕ → ℕ
+class_sum c =
+    weight 1 (is_string_byte c) + weight 2 (is_token_start c) + weight 4 (is_token_inner c) + weight 8 (is_key_start c)
+    + weight 16 (is_key_inner c) + weight 32 (is_lower_hexadecimal c)
 
--- the table's entry of a byte
-abbrev pub row_of : ℕ → ℕ
-row_of c = sum_of (is_string_byte c) (is_plain_in_string c) (is_plain_in_display c) (is_token_inner c) (is_key_inner c)
-    (is_symbol c)
+-- the same for the bytes that a string and a display string contain without an escape, and the symbols of Base64
+abbrev pub run_class_sum : ℕ → ℕ
+run_class_sum c = weight 1 (is_plain_in_string c) + weight 2 (is_plain_in_display c) + weight 4 (is_symbol c)
+
+-- the number of bytes of a class
+abbrev pub class_size : (ℕ → Bool) → ℕ
+class_size class = count_by class (range_with_len 0 256)

@@ -1,7 +1,6 @@
 //! The base of structured fields (RFC 9651): errors, numbers, classes of bytes, and searches for the end of a run.
 #![tactic(auto)]
 
-mod classes;
 pub mod date;
 pub mod decimal;
 pub mod error;

@@ -8,11 +8,12 @@ ghost use Rattle.sfv_spec.specs.Classes.{is_string_byte, is_token_inner, is_key_
 ghost use Rattle.sfv_spec.specs.Strings.{is_plain_in_string, is_plain_in_display};
 ghost use Rattle.sfv_spec.proofs.Marks.{is_symbol};
 ghost use Rattle.sfv_base.specs.Lanes.{outside_mask, is_table_of};
+ghost use Rattle.sfv_base.specs.Rows.{run_class_sum};
 
-use crate::classes::{
-    INNER_KEY, INNER_TOKEN, PLAIN_IN_DISPLAY_STRING, PLAIN_IN_STRING, STRING, SYMBOL, row,
-};
 use crate::lanes::{LANES, unmarked};
+use crate::utils::{
+    is_allowed_inner_key_char, is_allowed_inner_token_char, is_allowed_string_char,
+};
 use std::simd::prelude::*;
 
 /// A class of bytes for runs. It contains no byte of 0x80 or more.
@@ -29,6 +30,43 @@ pub trait RunClass {
         ensures { result ≡ class byte };
 }
 
+// The classes that only runs have, as bits of a row of `RUN_CLASSES`. `utils` has the other classes.
+const PLAIN_IN_STRING: u8 = 1;
+
+const PLAIN_IN_DISPLAY_STRING: u8 = 2;
+
+const SYMBOL: u8 = 4;
+
+/// For each byte, the sum of these classes that contain it.
+#[rattlefmt::skip]
+static RUN_CLASSES: [u8; 256] = [
+    0, 0, 0, 0, 0, 0, 0, 0, 0, 0, 0, 0, 0, 0, 0, 0,
+    0, 0, 0, 0, 0, 0, 0, 0, 0, 0, 0, 0, 0, 0, 0, 0,
+    3, 3, 0, 3, 3, 1, 3, 3, 3, 3, 3, 7, 3, 3, 3, 7,
+    7, 7, 7, 7, 7, 7, 7, 7, 7, 7, 3, 3, 3, 3, 3, 3,
+    3, 7, 7, 7, 7, 7, 7, 7, 7, 7, 7, 7, 7, 7, 7, 7,
+    7, 7, 7, 7, 7, 7, 7, 7, 7, 7, 7, 3, 2, 3, 3, 3,
+    3, 7, 7, 7, 7, 7, 7, 7, 7, 7, 7, 7, 7, 7, 7, 7,
+    7, 7, 7, 7, 7, 7, 7, 7, 7, 7, 7, 3, 3, 3, 3, 0,
+    0, 0, 0, 0, 0, 0, 0, 0, 0, 0, 0, 0, 0, 0, 0, 0,
+    0, 0, 0, 0, 0, 0, 0, 0, 0, 0, 0, 0, 0, 0, 0, 0,
+    0, 0, 0, 0, 0, 0, 0, 0, 0, 0, 0, 0, 0, 0, 0, 0,
+    0, 0, 0, 0, 0, 0, 0, 0, 0, 0, 0, 0, 0, 0, 0, 0,
+    0, 0, 0, 0, 0, 0, 0, 0, 0, 0, 0, 0, 0, 0, 0, 0,
+    0, 0, 0, 0, 0, 0, 0, 0, 0, 0, 0, 0, 0, 0, 0, 0,
+    0, 0, 0, 0, 0, 0, 0, 0, 0, 0, 0, 0, 0, 0, 0, 0,
+    0, 0, 0, 0, 0, 0, 0, 0, 0, 0, 0, 0, 0, 0, 0, 0,
+];
+
+// Returns the sum of these classes that contain the byte.
+#[inline(always)]
+#[tactic(auto, using(crate::proofs::Rows::run_classes_at), unfolding(sfv_spec::proofs::Marks::is_symbol))]
+fn run_classes_of(byte: u8) -> u8
+    ensures { result ≡ run_class_sum byte }
+{
+    RUN_CLASSES[usize::from(byte)]
+}
+
 /// The bytes that a string may contain: printable ASCII, from 0x20 to 0x7e.
 pub struct StringByte;
 
@@ -43,9 +81,8 @@ impl RunClass for StringByte {
     }
 
     #[inline(always)]
-    #[tactic(auto, using(crate::proofs::Rows::class_bits))]
     fn has(byte: u8) -> bool {
-        row(byte) & STRING != 0
+        is_allowed_string_char(byte)
     }
 }
 
@@ -63,9 +100,9 @@ impl RunClass for PlainInString {
     }
 
     #[inline(always)]
-    #[tactic(auto, using(crate::proofs::Rows::class_bits))]
+    #[tactic(auto, using(crate::proofs::Rows::run_class_bits))]
     fn has(byte: u8) -> bool {
-        row(byte) & PLAIN_IN_STRING != 0
+        run_classes_of(byte) & PLAIN_IN_STRING != 0
     }
 }
 
@@ -84,9 +121,9 @@ impl RunClass for PlainInDisplayString {
     }
 
     #[inline(always)]
-    #[tactic(auto, using(crate::proofs::Rows::class_bits))]
+    #[tactic(auto, using(crate::proofs::Rows::run_class_bits))]
     fn has(byte: u8) -> bool {
-        row(byte) & PLAIN_IN_DISPLAY_STRING != 0
+        run_classes_of(byte) & PLAIN_IN_DISPLAY_STRING != 0
     }
 }
 
@@ -104,9 +141,8 @@ impl RunClass for InnerToken {
     }
 
     #[inline(always)]
-    #[tactic(auto, using(crate::proofs::Rows::class_bits))]
     fn has(byte: u8) -> bool {
-        row(byte) & INNER_TOKEN != 0
+        is_allowed_inner_token_char(byte)
     }
 }
 
@@ -124,9 +160,8 @@ impl RunClass for InnerKey {
     }
 
     #[inline(always)]
-    #[tactic(auto, using(crate::proofs::Rows::class_bits))]
     fn has(byte: u8) -> bool {
-        row(byte) & INNER_KEY != 0
+        is_allowed_inner_key_char(byte)
     }
 }
 
@@ -145,9 +180,9 @@ impl RunClass for Symbol {
     }
 
     #[inline(always)]
-    #[tactic(auto, using(crate::proofs::Rows::class_bits))]
+    #[tactic(auto, using(crate::proofs::Rows::run_class_bits))]
     fn has(byte: u8) -> bool {
-        row(byte) & SYMBOL != 0
+        run_classes_of(byte) & SYMBOL != 0
     }
 }
 

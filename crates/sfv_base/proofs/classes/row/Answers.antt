@@ -1,6 +1,0 @@
-use Rattle.std.proofs.Common.{arith}
-use Rattle.sfv_base.proofs.Rows.{row_at}
-use Rattle.sfv_base.proofs.classes.row.Goals as goal
-
-pub returns : goal.returns
-returns c = rw c.from.ensures (row_at c.args.byte (omega arith))
