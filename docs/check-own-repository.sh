@@ -1,24 +1,45 @@
 #!/bin/sh
-# Makes a repository of one's own in a temporary folder: the ten crates of the library, copied without their wrong
-# bodies, with their lines of `crates.txt`, and the smallest field crate; then checks that crate there. What `rt check`
-# kept here (`out/`) is copied too, so that it takes a minute or two; without it, as long as all proofs of the library.
+# Usage: docs/check-own-repository.sh [FOLDER]
+# Creates a repository that uses the library, and checks its crate, the smallest field crate. The ten crates of the
+# library are copied without their must-fail edits, with their lines of `crates.txt`. The repository stays in FOLDER,
+# which must be absent or empty. Without FOLDER it is in a temporary folder, and removed.
+#
+# The `out/` folders, where `rt check` keeps its results, are copied too. With them the check takes a minute or two, and
+# without them as long as all proofs of the library.
+case $# in
+0)
+    folder=$(mktemp -d) || exit 2
+    trap 'rm -rf "$folder"' EXIT
+    ;;
+1)
+    mkdir -p -- "$1" && folder=$(CDPATH='' cd -- "$1" && pwd) || exit 2
+    if [ -n "$(ls -A "$folder")" ]; then
+        echo "check-own-repository.sh: $1 is not empty" >&2
+        exit 2
+    fi
+    ;;
+*)
+    echo 'usage: check-own-repository.sh [FOLDER]' >&2
+    exit 2
+    ;;
+esac
 cd "$(dirname "$0")/.." || exit 2
-room=$(mktemp -d) || exit 2
-trap 'rm -rf "$room"' EXIT
 
 for crate in sfv_spec sfv_reading sfv_base sfv_text sfv_bare sfv_tree sfv_visitor sfv_writer sfv_serializer sfv \
     sfv_mobile_hint; do
-    mkdir -p "$room/crates/$crate" || exit 2
+    mkdir -p "$folder/crates/$crate" || exit 2
     for part in src specs proofs out; do
-        [ ! -d "crates/$crate/$part" ] || cp -a "crates/$crate/$part" "$room/crates/$crate/" || exit 2
+        [ ! -d "crates/$crate/$part" ] || cp -a "crates/$crate/$part" "$folder/crates/$crate/" || exit 2
     done
-    grep "^$crate:" crates.txt >>"$room/crates.txt" || exit 2
+    grep "^$crate:" crates.txt >>"$folder/crates.txt" || exit 2
 done
-cp HANDLES "$room/" || exit 2
-(cd "$room" && git init -q .) || exit 2
+cp HANDLES .gitignore "$folder/" || exit 2
+(cd "$folder" && git init -q .) || exit 2
 
-(cd "$room/crates/sfv_mobile_hint" && rt check) >"$room/log" 2>&1
+log=$(mktemp) || exit 2
+(cd "$folder/crates/sfv_mobile_hint" && rt check) >"$log" 2>&1
 status=$?
-tail -n 1 "$room/log"
-grep -q '^logic=proved ' "$room/log" || exit 1
+tail -n 1 "$log"
+grep -q '^logic=proved ' "$log" || status=1
+rm -f "$log"
 exit "$status"

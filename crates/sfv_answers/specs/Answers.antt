@@ -4,7 +4,7 @@ use Rattle.std.specs.Prelude.{string_bytes, Option, Some, None}
 use Rattle.std.specs.declared.alloc.Global.{Global}
 use Rattle.std.specs.declared.string.String.{String}
 use Rattle.sfv.specs.Values.{RawField}
-use Rattle.sfv.specs.Types.{FieldKind, item_field, list_field, dictionary_field}
+use Rattle.sfv.specs.Types.{FieldKind, dictionary_field}
 use Rattle.sfv.specs.Types.{Version}
 use Rattle.sfv.specs.Canonical.{canonical}
 use Rattle.sfv.specs.Statements.{IsParsedAs}

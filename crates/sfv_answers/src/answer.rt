@@ -3,6 +3,8 @@
 ghost use Rattle.std.specs.Prelude.{◌≡◌, ◌++◌, Some, IfOk, IfErr, codes, string_bytes};
 ghost use Rattle.sfv_answers.specs.Answers.{without_newline, text_or_empty, tool_fault_text};
 ghost use Rattle.sfv_answers.specs.Answers.{IsAnswer, IsToolFault, IsAnswerTo, IsFaultFor, IsPriorityAnswer, IsPriorityFault};
+ghost use Rattle.sfv.specs.Parsers.{IsParseError};
+ghost use Rattle.sfv.specs.Statements.{IsParsedAs};
 ghost use Rattle.sfv.specs.Types.serialize_errors as serialize_errors;
 ghost use Rattle.sfv_answers.specs.declared.answer.ToolFault.TheVariants as faults;
 
@@ -85,6 +87,23 @@ fn line(alloc: Global, text: Option<String>) -> Result<String, SerializeError>
     Ok(line)
 }
 
+/// Parses the input as a field of type `T` under this version. Each map of the value hashes under `seed`.
+fn parse_as<T: FieldType>(
+    alloc: Global,
+    seed: HashSeed,
+    version: Version,
+    input: &[u8],
+) -> Result<T, Error>
+    ensures read { IfOk result (λ value. IsParsedAs version T.kind input.now (T.tree value)) }
+    ensures seed { IfOk result (T.has_seed seed) }
+    ensures rejected { IfErr result (IsParseError version T.kind input.now) }
+{
+    Parser::new(input)
+        .with_version(version)
+        .with_hash_seed(seed)
+        .parse::<T>(alloc)
+}
+
 /// Parses the input as a field of type `T` under the version `reading`. Returns its canonical text under the version
 /// `writing`, and a newline.
 fn answer_as<T: FieldType>(
@@ -98,10 +117,7 @@ fn answer_as<T: FieldType>(
         IsAnswer reading writing T.kind input.now (string_bytes text)) }
     ensures failed { IfErr result (IsToolFault reading writing T.kind input.now) }
 {
-    let parser = Parser::new(input)
-        .with_version(reading)
-        .with_hash_seed(seed);
-    let value = parser.parse::<T>(alloc)?;
+    let value = parse_as::<T>(alloc, seed, reading, input)?;
     let text = value.serialize_for(alloc, writing)?;
     Ok(line(alloc, text.into())?)
 }

@@ -10,6 +10,7 @@ use sfv::{FieldKind, HashSeed, Version};
 use std::alloc::Global;
 use std::io;
 use std::io::{Read, Write};
+use std::random::RandomSource;
 
 /// The exit status after the result is written.
 pub const DONE: u8 = 0;
@@ -174,6 +175,16 @@ fn convert<R: Read, W: Write, E: Write>(
     }
 }
 
+/// Writes the usage to `errors`. Returns the exit status.
+fn print_usage<E: Write>(errors: &mut E) -> u8
+    ensures { result ≡ WRONG_ARGUMENTS }
+{
+    let _ = errors.write_all(
+        b"usage: sfv_tool item|list|dict 8941|9651 [8941|9651] | priority 8941|9651\n",
+    );
+    WRONG_ARGUMENTS
+}
+
 /// Checks the arguments, reads all of `input`, and writes the result to `output`, or an error to `errors`. Maps are
 /// built under `seed`.
 ///
@@ -196,13 +207,45 @@ pub fn run<R: Read, W: Write, E: Write>(
     ensures unread { result ≡ WRONG_ARGUMENTS → (input.new ≡ input.old) × (output.new ≡ output.old) }
     ensures status { result ≤ WRONG_ARGUMENTS }
 {
-    match requested(args) {
-        Some(request) => convert(alloc, seed, request, input, output, errors),
-        None => {
-            let _ = errors.write_all(
-                b"usage: sfv_tool item|list|dict 8941|9651 [8941|9651] | priority 8941|9651\n",
-            );
-            WRONG_ARGUMENTS
-        }
-    }
+    let Some(request) = requested(args) else {
+        return print_usage(errors);
+    };
+    convert(alloc, seed, request, input, output, errors)
+}
+
+/// Returns a random hash seed.
+fn random_seed(random: &impl RandomSource) -> io::Result<HashSeed> {
+    let mut bytes = [0; 8];
+    random.fill_bytes(&mut bytes)?;
+    Ok(HashSeed::new(u64::from_le_bytes(bytes)))
+}
+
+/// Does the same as `run`, under a random seed. Wrong arguments take no random bytes.
+///
+/// Returns the exit status of `run`, or `FAILED` if there are no random bytes. `input` and `output` are then unchanged.
+pub fn run_with_random_seed<S: RandomSource, R: Read, W: Write, E: Write>(
+    alloc: Global,
+    random: &S,
+    args: &[String],
+    input: &mut R,
+    output: &mut W,
+    errors: &mut E,
+) -> u8
+    ensures done { result ≡ DONE → Requests (map string_bytes args.now) (λ request.
+        IsAnswered request (R.remaining input.old) (W.contents output.old) (W.contents output.new)
+        (E.contents errors.old) (E.contents errors.new)) }
+    ensures failed { result ≡ FAILED → Requests (map string_bytes args.now) (λ request.
+        IsFailed request (R.remaining input.old) (W.contents output.old) (W.contents output.new)) }
+    ensures usage { (result ≡ WRONG_ARGUMENTS) ↔ NamesNothing (map string_bytes args.now) }
+    ensures unread { result ≡ WRONG_ARGUMENTS → (input.new ≡ input.old) × (output.new ≡ output.old) }
+    ensures status { result ≤ WRONG_ARGUMENTS }
+{
+    let Some(request) = requested(args) else {
+        return print_usage(errors);
+    };
+    let Ok(seed) = random_seed(random) else {
+        let _ = errors.write_all(b"error: no random seed\n");
+        return FAILED;
+    };
+    convert(alloc, seed, request, input, output, errors)
 }

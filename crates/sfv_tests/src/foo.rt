@@ -1,7 +1,7 @@
 //! The example field, with and without a tree.
 
 use sfv::{Dictionary, Error, ErrorKind, ParseError, Parser, Version};
-use sfv_uses::foo::{Color, Foo, FooFault, foo_from_dictionary, read_foo};
+use sfv_answers::foo::{Color, Foo, FooFault, foo_from_dictionary, read_foo};
 use std::alloc::Global;
 
 const RED: Result<Foo, FooFault> = Ok(Foo {

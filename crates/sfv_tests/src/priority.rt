@@ -1,7 +1,7 @@
 //! The Priority field, with and without a tree, and its text.
 
 use sfv::{Dictionary, Parser, Version};
-use sfv_fields::priority::{Priority, priority_from_dictionary, read_priority, write_priority};
+use sfv_answers::priority::{Priority, priority_from_dictionary, read_priority, write_priority};
 use std::alloc::Global;
 
 /// Returns `true` if the input is a dictionary with this priority.

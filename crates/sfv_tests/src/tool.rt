@@ -1,10 +1,11 @@
 //! Runs of the program `sfv_tool` over memory.
 
 use sfv::HashSeed;
-use sfv_answers::run::run;
+use sfv_answers::run::{run, run_with_random_seed};
 use std::alloc::Global;
 use std::io;
 use std::io::{Read, Write};
+use std::random::RandomSource;
 
 /// A reader that fails after its bytes.
 #[derive(Drop)]
@@ -211,10 +212,12 @@ fn long_answers_are_written_whole(rt: HostRuntime) {
     assert!(rt; is_long_answer_whole(rt.alloc()));
 }
 
+const USAGE: &str = "usage: sfv_tool item|list|dict 8941|9651 [8941|9651] | priority 8941|9651\n";
+
 #[test]
 fn other_arguments_have_the_usage(rt: HostRuntime) {
-    let usage = "usage: sfv_tool item|list|dict 8941|9651 [8941|9651] | priority 8941|9651\n";
     let rows = &[
+        "--help",
         "priority",
         "priority 9651 9651",
         "",
@@ -230,7 +233,7 @@ fn other_arguments_have_the_usage(rt: HostRuntime) {
         "9651 item",
     ];
     for &args in rows {
-        assert!(rt; ends(rt.alloc(), args, "1\n", ("", usage, 2)), "{args}");
+        assert!(rt; ends(rt.alloc(), args, "1\n", ("", USAGE, 2)), "{args}");
     }
 }
 
@@ -272,4 +275,60 @@ fn readers_and_writers_may_fail(rt: HostRuntime) {
     assert!(rt; is_unwritable(alloc, &mut Unflushed));
     assert!(rt; status_with_full_errors(alloc, "item 9651") == Some(1));
     assert!(rt; status_with_full_errors(alloc, "") == Some(2));
+}
+
+/// A source of random bytes that has none.
+struct NoRandomBytes;
+
+impl RandomSource for NoRandomBytes {
+    fn fill_bytes(&self, _buf: &mut [u8]) -> io::Result<()> {
+        Err(io::Error::from(io::ErrorKind::PermissionDenied))
+    }
+}
+
+/// A source of random bytes that are all zero.
+struct Zeros;
+
+impl RandomSource for Zeros {
+    fn fill_bytes(&self, buf: &mut [u8]) -> io::Result<()> {
+        buf.fill(0);
+        Ok(())
+    }
+}
+
+/// Returns `true` if a run with random bytes from this source writes exactly these texts, and has this status.
+fn ends_under<S: RandomSource>(
+    alloc: Global,
+    random: &S,
+    args: &str,
+    wanted: (&str, &str, u8),
+) -> bool {
+    let Some(args) = arguments(alloc, args) else {
+        return false;
+    };
+    let (mut output, mut errors) = (Vec::new(alloc), Vec::new(alloc));
+    let mut input = b"a=1, a=2\n".as_slice();
+    let status = run_with_random_seed(
+        alloc,
+        random,
+        args.as_slice(),
+        &mut input,
+        &mut output,
+        &mut errors,
+    );
+    output.as_slice() == wanted.0.as_bytes()
+        && errors.as_slice() == wanted.1.as_bytes()
+        && status == wanted.2
+}
+
+// Wrong arguments have the usage, with and without random bytes.
+#[test]
+fn only_right_arguments_take_random_bytes(rt: HostRuntime) {
+    let alloc = rt.alloc();
+    let usage = ("", USAGE, 2);
+    let no_seed = ("", "error: no random seed\n", 1);
+    assert!(rt; ends_under(alloc, &NoRandomBytes, "dict", usage));
+    assert!(rt; ends_under(alloc, &NoRandomBytes, "dict 9651", no_seed));
+    assert!(rt; ends_under(alloc, &Zeros, "dict", usage));
+    assert!(rt; ends_under(alloc, &Zeros, "dict 9651", ("a=2\n", "", 0)));
 }

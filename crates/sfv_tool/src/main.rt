@@ -2,13 +2,11 @@
 //! members without their default value.
 #![tactic(auto)]
 
-use sfv::HashSeed;
-use sfv_answers::run::run;
+use sfv_answers::run::run_with_random_seed;
 use std::alloc::AllocGlobal;
 use std::env::Env;
-use std::io::Write;
+use std::io::{ErrorKind, Write};
 use std::process::ExitCode;
-use std::random::RandomSource;
 use std::{env, io};
 
 /// Returns the arguments after the name of the program.
@@ -20,23 +18,19 @@ fn arguments<R: Env + AllocGlobal>(rt: &R) -> io::Result<Vec<String>> {
     Ok(args)
 }
 
-/// Returns a random hash seed.
-fn drawn_seed(rt: &impl RandomSource) -> io::Result<HashSeed> {
-    let mut bytes = [0; 8];
-    rt.fill_bytes(&mut bytes)?;
-    Ok(HashSeed::new(u64::from_le_bytes(bytes)))
-}
-
 fn main(rt: HostRuntime) -> ExitCode {
-    let Ok(seed) = drawn_seed(&rt) else {
-        let _ = rt.stderr().write_all(b"error: cannot draw a seed\n");
-        return ExitCode::FAILURE;
+    let args = match arguments(&rt) {
+        Ok(args) => args,
+        Err(error) if error.kind() == ErrorKind::OutOfMemory => {
+            let _ = rt.stderr().write_all(b"error: out of memory\n");
+            return ExitCode::FAILURE;
+        }
+        // An argument is not UTF-8, so the arguments are wrong. No arguments are wrong too.
+        Err(_) => Vec::new(rt.alloc()),
     };
-    // Arguments that are not UTF-8, or for which memory runs out, are wrong arguments.
-    let args = arguments(&rt).unwrap_or(Vec::new(rt.alloc()));
-    let status = run(
+    let status = run_with_random_seed(
         rt.alloc(),
-        seed,
+        &rt,
         args.as_slice(),
         &mut rt.stdin(),
         &mut rt.stdout(),

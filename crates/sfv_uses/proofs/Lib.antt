@@ -1,4 +1,3 @@
 pub mod Parts
 pub mod Uses
-mod Foos
 mod RowItems

@@ -2,7 +2,6 @@
 #![tactic(auto)]
 
 pub mod expecting;
-pub mod foo;
 pub mod reading;
 pub mod rows;
 pub mod serializing;

@@ -10,11 +10,11 @@ use Rattle.sfv.specs.Statements.{IsParsedAs}
 use Rattle.sfv.specs.Parsers.{IsParseError}
 use Rattle.sfv.specs.Types.{ParseError}
 use Rattle.sfv.specs.Types.parse_errors.{Syntax, Visitor}
-use Rattle.sfv_uses.specs.declared.foo.Color.{Color}
-use Rattle.sfv_uses.specs.declared.foo.Color.TheVariants as colors
-use Rattle.sfv_uses.specs.declared.foo.Foo.{Foo}
-use Rattle.sfv_uses.specs.declared.foo.FooFault.{FooFault}
-use Rattle.sfv_uses.specs.declared.foo.FooFault.TheVariants as faults
+use Rattle.sfv_answers.specs.declared.foo.Color.{Color}
+use Rattle.sfv_answers.specs.declared.foo.Color.TheVariants as colors
+use Rattle.sfv_answers.specs.declared.foo.Foo.{Foo}
+use Rattle.sfv_answers.specs.declared.foo.FooFault.{FooFault}
+use Rattle.sfv_answers.specs.declared.foo.FooFault.TheVariants as faults
 
 -- the printed text of an error
 abbrev pub fault_text : FooFault → List ℕ
@@ -37,6 +37,7 @@ color_named name =
     else if bytes_eq name (codes "blue") then Ok colors.Blue
     else Err faults.ColorInvalid
 
+-- the color of a bare item, which must be a token
 abbrev pub color_in : BareValue → Result Color FooFault
 color_in (token name) = color_named name
 color_in b = Err faults.ColorWrongType

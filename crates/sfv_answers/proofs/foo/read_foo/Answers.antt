@@ -3,10 +3,10 @@ use Rattle.sfv.specs.Field.{dictionary_field}
 use Rattle.std.proofs.Common.{sym, refl}
 use Rattle.std.proofs.lemmas.Result.{IfOk-weaker}
 use Rattle.sfv.proofs.Callers.{answer_read, failure_read}
-use Rattle.sfv_uses.specs.Foo.{foo, IsFooError}
-use Rattle.sfv_uses.specs.FooSteps.{unread, foo_step, foo_found}
-use Rattle.sfv_uses.proofs.Foos.{all_found}
-use Rattle.sfv_uses.proofs.foo.read_foo.Goals as goal
+use Rattle.sfv_answers.specs.Foo.{foo, IsFooError}
+use Rattle.sfv_answers.specs.FooSteps.{unread, foo_step, foo_found}
+use Rattle.sfv_answers.proofs.Foos.{all_found}
+use Rattle.sfv_answers.proofs.foo.read_foo.Goals as goal
 
 pub returns-clause-read : goal.returns-clause-read
 returns-clause-read c = IfOk-weaker c.parse_dictionary_with_visitor.result _ _ (λ out h.

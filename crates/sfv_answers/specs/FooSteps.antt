@@ -1,11 +1,11 @@
 -- The steps of the example's visitor, event by event.
 use Rattle.std.specs.Prelude.{Bool, true, false, Result, Ok, Err, ◌&&◌, bytes_eq, if◌then◌else◌}
 use Rattle.sfv.specs.Events.{TreeEvent, keyed_entry, begins_inner_list, bare_item, parameter}
-use Rattle.sfv_uses.specs.declared.foo.Foo.{Foo}
-use Rattle.sfv_uses.specs.declared.foo.FooFault.{FooFault}
-use Rattle.sfv_uses.specs.declared.foo.FooFault.TheVariants as faults
-use Rattle.sfv_uses.specs.declared.foo.FooVisitor.{FooVisitor}
-use Rattle.sfv_uses.specs.Foo.{color_key, strong_key, color_in, strong_in, foo_of}
+use Rattle.sfv_answers.specs.declared.foo.Foo.{Foo}
+use Rattle.sfv_answers.specs.declared.foo.FooFault.{FooFault}
+use Rattle.sfv_answers.specs.declared.foo.FooFault.TheVariants as faults
+use Rattle.sfv_answers.specs.declared.foo.FooVisitor.{FooVisitor}
+use Rattle.sfv_answers.specs.Foo.{color_key, strong_key, color_in, strong_in, foo_of}
 
 -- the state before any event
 abbrev pub unread : FooVisitor
@@ -16,6 +16,7 @@ abbrev pub begun : FooVisitor → Bool → FooVisitor
 begun s true = record { in_color = true; color = Err faults.ColorWrongType; strong = Ok false }
 begun s false = record { in_color = false; color = s.color; strong = s.strong }
 
+-- the state after one more event
 abbrev pub foo_step : FooVisitor → TreeEvent → FooVisitor
 foo_step s (keyed_entry key) = begun s (bytes_eq color_key key)
 foo_step s begins_inner_list = record { in_color = false; color = s.color; strong = s.strong }

@@ -7,12 +7,12 @@ use Rattle.std.proofs.Common.{cond, refl, ap, ◌∙◌, inl, inr}
 use Rattle.std.proofs.lemmas.Bool.{cases_Bool}
 use Rattle.sfv.proofs.Callers.{of_pushed, parameters_kept, last_of-collapse, IsIdle, idle_by, member_passed}
 use Rattle.sfv.proofs.Callers.{inner_list_passed, member_looked}
-use Rattle.sfv_uses.specs.declared.foo.Color.{Color}
-use Rattle.sfv_uses.specs.declared.foo.FooFault.{FooFault}
-use Rattle.sfv_uses.specs.declared.foo.FooFault.TheVariants as faults
-use Rattle.sfv_uses.specs.declared.foo.FooVisitor.{FooVisitor}
-use Rattle.sfv_uses.specs.Foo.{color_key, strong_key, color_in, strong_in, strong_of, foo_of, foo_in, foo}
-use Rattle.sfv_uses.specs.FooSteps.{unread, begun, foo_step, foo_found}
+use Rattle.sfv_answers.specs.declared.foo.Color.{Color}
+use Rattle.sfv_answers.specs.declared.foo.FooFault.{FooFault}
+use Rattle.sfv_answers.specs.declared.foo.FooFault.TheVariants as faults
+use Rattle.sfv_answers.specs.declared.foo.FooVisitor.{FooVisitor}
+use Rattle.sfv_answers.specs.Foo.{color_key, strong_key, color_in, strong_in, strong_of, foo_of, foo_in, foo}
+use Rattle.sfv_answers.specs.FooSteps.{unread, begun, foo_step, foo_found}
 
 -- what a member of the color gives, if there is one
 abbrev Kept : Type 0

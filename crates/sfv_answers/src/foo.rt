@@ -6,8 +6,8 @@
 ghost use Rattle.std.specs.Prelude.{◌≡◌, Some, Ok, Err, IfOk, IfErr};
 ghost use Rattle.sfv.specs.BareItems.{ref_value};
 ghost use Rattle.sfv.specs.Trees.{dictionary_tree};
-ghost use Rattle.sfv_uses.specs.Foo.{fault_text, foo, color_in, strong_in, IsFooOf, IsFooError};
-ghost use Rattle.sfv_uses.specs.FooSteps.{unread, begun, foo_step, foo_found};
+ghost use Rattle.sfv_answers.specs.Foo.{fault_text, foo, color_in, strong_in, IsFooOf, IsFooError};
+ghost use Rattle.sfv_answers.specs.FooSteps.{unread, begun, foo_step, foo_found};
 
 use sfv::visitor::{Event, Visitor};
 use sfv::{
