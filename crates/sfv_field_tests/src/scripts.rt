@@ -110,13 +110,21 @@ fn lists_are_written_without_abandoned_inner_lists(rt: HostRuntime) {
     }
 }
 
-/// Returns the calls that write the members of the words, each under the key before its `=`.
-fn named<'a>(alloc: Global, words: &str) -> Option<Vec<(KeyRef<'a>, MemberCalls<'a>)>> {
-    let mut calls = Vec::new(alloc);
+/// The calls of a dictionary member.
+type Named<'a> = (KeyRef<'a>, MemberCalls<'a>);
+
+/// Returns the calls that write a member under the key before `=`.
+fn named_member<'a>(alloc: Global, word: &str) -> Option<Named<'a>> {
+    let (name, word) = word.split_once('=')?;
+    Some((key(name), member(alloc, word)?))
+}
+
+/// Returns the calls that write the members of the words.
+fn named<'a>(alloc: Global, words: &str) -> Option<Vec<Named<'a>>> {
+    let mut calls: Vec<Named<'a>> = Vec::new(alloc);
     for word in words.split(' ') {
-        let (name, word) = word.split_once('=')?;
-        let call = member(alloc, word)?;
-        calls.push((key(name), call)).ok()?;
+        let call: Named<'a> = named_member(alloc, word)?;
+        calls.push(call).ok()?;
     }
     Some(calls)
 }
