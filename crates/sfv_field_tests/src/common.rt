@@ -1,6 +1,7 @@
-//! Checks of texts, and the values that words denote.
+//! Checks of texts and of fields, repeated texts, and the values that words denote.
 
-use sfv::{Date, RefBareItem, integer};
+use sfv::{Date, Dictionary, FieldType, Integer, Item, List, Parser, RefBareItem, token_ref};
+use std::alloc::{AllocError, Global};
 
 /// Returns `true` if the text is `wanted`.
 pub fn is_text(text: &str, wanted: &str) -> bool {
@@ -15,13 +16,55 @@ pub fn has_text(text: Option<String>, wanted: &str) -> bool {
     }
 }
 
-/// Returns the value of a word: a date for `@`, true for `?`, and otherwise a number.
+/// Returns the canonical text of the field that the input parses to.
+fn written<T: FieldType>(alloc: Global, input: &str) -> Option<String> {
+    let field = Parser::new(input.as_bytes()).parse::<T>(alloc).ok()?;
+    field.serialize(alloc).ok()?.into()
+}
+
+/// Returns `true` if `wanted` is the canonical text of the item, list or dictionary that the input parses to.
+pub fn gives(alloc: Global, field: &str, input: &str, wanted: &str) -> bool {
+    match field {
+        "item" => has_text(written::<Item>(alloc, input), wanted),
+        "list" => has_text(written::<List>(alloc, input), wanted),
+        _ => has_text(written::<Dictionary>(alloc, input), wanted),
+    }
+}
+
+/// Repeats a text between two others.
+pub fn repeated(
+    alloc: Global,
+    front: &str,
+    text: &str,
+    times: usize,
+    end: &str,
+) -> Result<String, AllocError> {
+    let mut all = String::from_str(alloc, front)?;
+    for _ in 0..times {
+        all.push_str(text)?;
+    }
+    all.push_str(end)?;
+    Ok(all)
+}
+
+fn date<'a>(seconds: u8) -> RefBareItem<'a> {
+    RefBareItem::from(Date::from_unix_seconds(Integer::from(seconds)))
+}
+
+/// Returns the value of a word: a date for `@`, perhaps with its seconds, true for `?`, false for `!`, no bytes for
+/// `:`, the token `x`, and otherwise a number.
 pub fn value<'a>(word: &str) -> RefBareItem<'a> {
     match word {
-        "@" => RefBareItem::from(Date::from_unix_seconds(integer(1))),
+        "@" => date(1),
+        "@2" => date(2),
+        "@5" => date(5),
         "?" => RefBareItem::from(true),
+        "!" => RefBareItem::from(false),
+        ":" => RefBareItem::from(b"".as_slice()),
+        "x" => RefBareItem::from(token_ref("x")),
         "2" => RefBareItem::from(2u8),
         "3" => RefBareItem::from(3u8),
+        "6" => RefBareItem::from(6u8),
         _ => RefBareItem::from(1u8),
     }
 }

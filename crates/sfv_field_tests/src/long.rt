@@ -1,52 +1,27 @@
 //! Long fields, and long texts in the buffer of a serializer.
 
-use crate::common::{has_text, is_text};
-use sfv::{BareItem, Dictionary, FieldType, Item, List, ListSerializer, Parser, RefBareItem};
-use std::alloc::{AllocError, Global};
+use crate::common::{gives, has_text, is_text, repeated};
+use sfv::{BareItem, FieldType, Item, ListSerializer, Parser, RefBareItem};
+use std::alloc::Global;
 use std::fmt::Write;
 use std::test::Fail;
 
-/// Returns the canonical text of the field that the input parses to.
-fn written<T: FieldType>(alloc: Global, input: &str) -> Option<String> {
-    let field = Parser::new(input.as_bytes()).parse::<T>(alloc).ok()?;
-    field.serialize(alloc).ok()?.into()
-}
-
 /// Returns `true` if the input is the canonical text of its item, list or dictionary.
 fn gives_itself(alloc: Global, field: &str, input: &str) -> bool {
-    match field {
-        "item" => has_text(written::<Item>(alloc, input), input),
-        "list" => has_text(written::<List>(alloc, input), input),
-        _ => has_text(written::<Dictionary>(alloc, input), input),
-    }
+    gives(alloc, field, input, input)
 }
 
-/// Repeats a text between two others.
-fn repeated(
-    alloc: Global,
-    front: &str,
-    text: &str,
-    times: usize,
-    end: &str,
-) -> Result<String, AllocError> {
-    let mut all = String::from_str(alloc, front)?;
-    for _ in 0..times {
-        all.push_str(text)?;
-    }
-    all.push_str(end)?;
-    Ok(all)
-}
-
-/// Returns numbered parts, each after `front`, with a separator between neighbours.
+/// Returns this many numbered parts, each after `front`, with a separator between neighbours.
 fn counted(
     alloc: Global,
     begin: &str,
     front: &str,
     separator: &str,
     end: &str,
+    count: u32,
 ) -> Result<String, Fail> {
     let mut all = String::from_str(alloc, begin)?;
-    for number in 0..=100u32 {
+    for number in 0..count {
         if number > 0 {
             all.push_str(separator)?;
         }
@@ -99,9 +74,47 @@ fn a_hundred_and_one_parts_give_themselves(rt: HostRuntime) -> Result<(), Fail> 
         ("item", "1;", "a", ";", ""),
     ];
     for &(field, begin, front, separator, end) in rows {
-        let text = counted(alloc, begin, front, separator, end)?;
+        let text = counted(alloc, begin, front, separator, end, 101)?;
         assert!(rt; gives_itself(alloc, field, text.as_str()));
     }
+    Ok(())
+}
+
+/// The number of bytes of a megabyte.
+const MEGABYTE: usize = 1_048_576;
+
+#[test]
+fn strings_of_more_than_a_megabyte_give_themselves(rt: HostRuntime) -> Result<(), Fail> {
+    let text = repeated(rt.alloc(), "\"", "abcdefgh", 150_000, "\"")?;
+    assert!(rt; text.len() > MEGABYTE && gives_itself(rt.alloc(), "item", text.as_str()));
+    Ok(())
+}
+
+#[test]
+fn lists_of_70_000_members_give_themselves(rt: HostRuntime) -> Result<(), Fail> {
+    let text = counted(rt.alloc(), "", "a-long-token-", ", ", "", 70_000)?;
+    assert!(rt; text.len() > MEGABYTE && gives_itself(rt.alloc(), "list", text.as_str()));
+    Ok(())
+}
+
+#[test]
+fn dictionaries_of_70_000_members_give_themselves(rt: HostRuntime) -> Result<(), Fail> {
+    let text = counted(rt.alloc(), "", "a-long-key-", ", ", "", 70_000)?;
+    assert!(rt; text.len() > MEGABYTE && gives_itself(rt.alloc(), "dict", text.as_str()));
+    Ok(())
+}
+
+#[test]
+fn inner_lists_of_70_000_items_give_themselves(rt: HostRuntime) -> Result<(), Fail> {
+    let text = counted(rt.alloc(), "(", "a", " ", ")", 70_000)?;
+    assert!(rt; gives_itself(rt.alloc(), "list", text.as_str()));
+    Ok(())
+}
+
+#[test]
+fn items_of_70_000_parameters_give_themselves(rt: HostRuntime) -> Result<(), Fail> {
+    let text = counted(rt.alloc(), "1;", "k", ";", "", 70_000)?;
+    assert!(rt; gives_itself(rt.alloc(), "item", text.as_str()));
     Ok(())
 }
 

@@ -11,12 +11,22 @@ use std::alloc::Global;
 
 const DATE: SerializeError = SerializeError::Unsupported(BareItemType::Date);
 
-/// Returns the calls that write parameters: each has the value of a word, under the same key.
+/// Returns the key of a word.
+fn key<'a>(word: &str) -> KeyRef<'a> {
+    match word {
+        "b" => key_ref("b"),
+        "x" => key_ref("x"),
+        _ => key_ref("a"),
+    }
+}
+
+/// Returns the calls that write parameters: each has the value of a word, under the key before `=`, or under `a`.
 fn params<'a>(alloc: Global, words: &str) -> Option<Vec<ParamCall<'a>>> {
     let mut params = Vec::new(alloc);
     for word in words.split(';') {
         if !word.is_empty() {
-            let (key, value) = (key_ref("a"), value(word));
+            let (name, word) = word.split_once('=').unwrap_or(("a", word));
+            let (key, value) = (key(name), value(word));
             params.push(ParamCall { key, value }).ok()?;
         }
     }
@@ -32,7 +42,15 @@ fn item<'a>(alloc: Global, word: &str, words: &str) -> Option<ItemCalls<'a>> {
     })
 }
 
-/// Returns the calls that write an inner list with one item and parameters, or abandon it.
+/// Returns the calls that write the items of an inner list: one, or none without a word.
+fn items<'a>(alloc: Global, word: &str) -> Option<Vec<ItemCalls<'a>>> {
+    if word.is_empty() {
+        return Some(Vec::new(alloc));
+    }
+    vec![in alloc; item(alloc, word, "")?].ok()
+}
+
+/// Returns the calls that write an inner list with at most one item, and parameters, or abandon it.
 fn inner_list<'a>(
     alloc: Global,
     word: &str,
@@ -40,14 +58,14 @@ fn inner_list<'a>(
     abandon: bool,
 ) -> Option<MemberCalls<'a>> {
     Some(MemberCalls::InnerList {
-        items: vec![in alloc; item(alloc, word, "")?].ok()?,
+        items: items(alloc, word)?,
         params: params(alloc, words)?,
         abandon,
     })
 }
 
-/// Returns the calls that write a member: an item with its parameters after `;`, an inner list with one item after `(`,
-/// or an abandoned one after `x`.
+/// Returns the calls that write a member: an item with its parameters after `;`, an inner list with at most one item
+/// after `(`, or an abandoned one after `x`.
 fn member<'a>(alloc: Global, word: &str) -> Option<MemberCalls<'a>> {
     let (head, words) = word.split_once(';').unwrap_or((word, ""));
     if let Some(head) = head.strip_prefix('(') {
@@ -69,63 +87,108 @@ fn members<'a>(alloc: Global, words: &str) -> Option<Vec<MemberCalls<'a>>> {
 }
 
 /// Returns `true` if the members are appended as this text, and the result says whether there is one.
-fn is_list(alloc: Global, words: &str, wanted: &str) -> bool {
-    let (Some(calls), Ok(mut text)) = (members(alloc, words), String::from_str(alloc, "P=")) else {
+fn is_list(alloc: Global, front: &str, words: &str, wanted: &str) -> bool {
+    let (Some(calls), Ok(mut text)) = (members(alloc, words), String::from_str(alloc, front)) else {
         return false;
     };
     let stands = run_list(&mut text, &calls[..]);
-    (stands == Ok(wanted != "P=")) & is_text(&text, wanted)
+    (stands == Ok(wanted != front)) & is_text(&text, wanted)
 }
 
 #[test]
 fn lists_are_written_without_abandoned_inner_lists(rt: HostRuntime) {
     let rows = &[
-        ("1;?;2 x2;3 (3;?", "P=1;a;a=2, (3);a"),
-        ("x1", "P="),
-        ("x1 2", "P=2"),
+        ("P=", "1;?;2 x2;3 (3;?", "P=1;a;a=2, (3);a"),
+        ("P=", "1;?;2 xx (;b=!", "P=1;a;a=2, ();b=?0"),
+        ("P=", "x1", "P="),
+        ("P=", "x1 2", "P=2"),
+        ("Z", "1;?;2 xx (;b=!", "Z1;a;a=2, ();b=?0"),
+        ("Z", "xx", "Z"),
     ];
-    for &(words, wanted) in rows {
-        assert!(rt; is_list(rt.alloc(), words, wanted), "{words}");
+    for &(front, words, wanted) in rows {
+        assert!(rt; is_list(rt.alloc(), front, words, wanted));
     }
 }
 
-/// Returns the calls that write a member under each of two keys.
-fn named<'a>(
-    alloc: Global,
-    first: &str,
-    second: &str,
-) -> Option<Vec<(KeyRef<'a>, MemberCalls<'a>)>> {
-    let (a, b) = (member(alloc, first)?, member(alloc, second)?);
-    vec![in alloc; (key_ref("a"), a), (key_ref("b"), b)].ok()
+/// The calls of a dictionary member.
+type Named<'a> = (KeyRef<'a>, MemberCalls<'a>);
+
+/// Returns the calls that write a member under the key before `=`.
+fn named_member<'a>(alloc: Global, word: &str) -> Option<Named<'a>> {
+    let (name, word) = word.split_once('=')?;
+    Some((key(name), member(alloc, word)?))
 }
 
-/// Returns `true` if both versions write the two members as this text, and the result says whether there is one.
-fn is_dictionary(alloc: Global, first: &str, second: &str, wanted: &str) -> bool {
-    let Some(calls) = named(alloc, first, second) else {
+/// Returns the calls that write the members of the words.
+fn named<'a>(alloc: Global, words: &str) -> Option<Vec<Named<'a>>> {
+    let mut calls: Vec<Named<'a>> = Vec::new(alloc);
+    for word in words.split(' ') {
+        let call: Named<'a> = named_member(alloc, word)?;
+        calls.push(call).ok()?;
+    }
+    Some(calls)
+}
+
+/// Returns `true` if both versions append the members as this text, and the result says whether there is one.
+fn is_dictionary(alloc: Global, front: &str, words: &str, wanted: &str) -> bool {
+    let Some(calls) = named(alloc, words) else {
         return false;
     };
-    let (mut text, mut older) = (String::new(alloc), String::new(alloc));
+    let (Ok(mut text), Ok(mut older)) = (
+        String::from_str(alloc, front),
+        String::from_str(alloc, front),
+    ) else {
+        return false;
+    };
     let stands = run_dict(&mut text, &calls[..]).ok();
     let is_alike = run_dict_for(Version::Rfc8941, &mut older, &calls[..]).ok() == stands;
-    (stands == Some(!wanted.is_empty()))
-        & is_alike
-        & is_text(&text, wanted)
-        & is_text(&older, wanted)
+    (stands == Some(wanted != front)) & is_alike & is_text(&text, wanted) & is_text(&older, wanted)
 }
 
 #[test]
 fn dictionaries_are_written_without_abandoned_inner_lists(rt: HostRuntime) {
     let rows = &[
-        ("1;?", "(2;3", "a=1;a, b=(2);a=3"),
-        ("x1", "?", "b"),
-        ("x1", "x2", ""),
+        ("", "a=1;? b=(2;3", "a=1;a, b=(2);a=3"),
+        ("", "a=x1 b=?", "b"),
+        ("", "a=x1 b=x2", ""),
+        ("Z", "a=xx", "Z"),
+        ("Z", "a=1", "Za=1"),
+        // A repeated key is written each time.
+        ("", "a=1 b=2 a=3", "a=1, b=2, a=3"),
     ];
-    for &(first, second, wanted) in rows {
-        assert!(rt;
-            is_dictionary(rt.alloc(), first, second, wanted),
-            "{wanted}"
-        );
+    for &(front, words, wanted) in rows {
+        assert!(rt; is_dictionary(rt.alloc(), front, words, wanted));
     }
+}
+
+/// Returns `true` if RFC 8941 fails at a date of the members, and leaves the text unchanged.
+fn fails_at_date(alloc: Global, front: &str, words: &str) -> bool {
+    let (Some(calls), Ok(mut text)) = (named(alloc, words), String::from_str(alloc, front)) else {
+        return false;
+    };
+    let is_refused = run_dict_for(Version::Rfc8941, &mut text, &calls[..]) == Err(DATE);
+    is_refused & is_text(&text, front)
+}
+
+#[test]
+fn scripts_of_dictionaries_fail_at_a_value_that_a_later_one_replaces(rt: HostRuntime) {
+    assert!(rt; fails_at_date(rt.alloc(), "Z", "a=@ a=2"));
+}
+
+/// Returns `true` if the item is appended as this text.
+fn is_item(alloc: Global, front: &str, words: (&str, &str), wanted: &str) -> bool {
+    let (value, params) = words;
+    let (Some(calls), Ok(mut text)) = (item(alloc, value, params), String::from_str(alloc, front))
+    else {
+        return false;
+    };
+    (run_item(&mut text, &calls) == Ok(())) & is_text(&text, wanted)
+}
+
+#[test]
+fn items_are_appended(rt: HostRuntime) {
+    assert!(rt; is_item(rt.alloc(), "", ("?", "x=:"), "?1;x=::"));
+    assert!(rt; is_item(rt.alloc(), "Z", ("?", "x=:"), "Z?1;x=::"));
 }
 
 /// Returns `true` if RFC 9651 writes the item, and RFC 8941 fails and leaves the text unchanged.
@@ -156,6 +219,7 @@ fn answer_for(alloc: Global, words: &str) -> Option<Result<bool, SerializeError>
 // The items of an abandoned inner list are written, and its parameters are not.
 #[test]
 fn scripts_of_lists_are_refused_for_an_item_of_an_abandoned_inner_list(rt: HostRuntime) {
+    assert!(rt; answer_for(rt.alloc(), "x@5") == Some(Err(DATE)));
     assert!(rt; answer_for(rt.alloc(), "x@ 2") == Some(Err(DATE)));
     assert!(rt; answer_for(rt.alloc(), "x1;@ 2") == Some(Ok(true)));
 }

@@ -1,6 +1,6 @@
 //! Items, lists and dictionaries that are written whole, or part by part with single calls.
 
-use crate::common::{has_text, is_text, value};
+use crate::common::{gives, has_text, is_text, value};
 use sfv::{
     BareItem, DictSerializer, Dictionary, FieldType, InnerList, InnerListSerializer, Item,
     ItemSerializer, KeyRef, List, ListEntry, ListSerializer, Parameters, Parser, SerializeError,
@@ -41,6 +41,17 @@ fn fields_that_are_made_are_written_or_not_at_all(rt: HostRuntime) {
     assert!(rt; matches!(dictionary(alloc).serialize(alloc), Ok(None)));
 }
 
+#[test]
+fn fields_give_their_canonical_text(rt: HostRuntime) {
+    let rows = &[
+        ("list", "(1 \"2)\";b=\")\")", "(1 \"2)\";b=\")\")"),
+        ("dict", "a=1, b=2, a=3", "a=3, b=2"),
+    ];
+    for &(field, input, wanted) in rows {
+        assert!(rt; gives(rt.alloc(), field, input, wanted));
+    }
+}
+
 /// Writes an item of an inner list, if the version has it.
 fn put<X: Sink>(inner: &mut InnerListSerializer<X>, word: &str) {
     if let Ok(params) = inner.bare_item(value(word)) {
@@ -72,18 +83,22 @@ fn put_member<W: Sink>(list: &mut ListSerializer<W>, word: &str) {
     }
 }
 
-/// Returns `true` if the members of these words are appended as this text, and `has_member` says whether there is one.
+/// Returns `true` if the members of these words are appended as this text, `has_member` says whether there is one, and
+/// `finish` returns the whole text if there is.
 fn is_list(alloc: Global, front: &str, words: &str, wanted: &str) -> bool {
     let Ok(mut text) = String::from_str(alloc, front) else {
         return false;
     };
     let mut list = ListSerializer::with_buffer_for(&mut text, Version::Rfc8941);
     for word in words.split(' ') {
-        put_member(&mut list, word);
+        if !word.is_empty() {
+            put_member(&mut list, word);
+        }
     }
     let stands = list.has_member();
-    let is_answered = list.finish().is_some();
-    (stands == is_answered) & (stands != (front == wanted)) & is_text(&text, wanted)
+    let answer = if stands { Some(wanted) } else { None };
+    let is_answered = list.finish() == answer;
+    is_answered & (stands != (front == wanted)) & is_text(&text, wanted)
 }
 
 #[test]
@@ -96,6 +111,8 @@ fn lists_are_written_by_single_calls(rt: HostRuntime) {
         ("", "x2 3", "3"),
         ("", "1 x2 3", "1, 3"),
         ("Z", "x1", "Z"),
+        ("Z", "", "Z"),
+        ("Z", "1", "Z1"),
         // RFC 8941 has no dates. A failed call leaves the list, the inner list and the item unchanged.
         ("X", "1 @ 3", "X1, 3"),
         ("", "(@ 2", "(), 2"),
@@ -130,8 +147,8 @@ fn put_named<W: Sink>(dict: &mut DictSerializer<W>, name: KeyRef<'_>, word: &str
     }
 }
 
-/// Returns `true` if the members of these words, under keys from `a` on, are appended as this text, and `has_member`
-/// says whether there is one.
+/// Returns `true` if the members of these words, each under the key before its `=`, are appended as this text,
+/// `has_member` says whether there is one, and `finish` returns the whole text if there is.
 fn is_dictionary(alloc: Global, front: &str, words: &str, wanted: &str) -> bool {
     let Ok(mut text) = String::from_str(alloc, front) else {
         return false;
@@ -145,8 +162,9 @@ fn is_dictionary(alloc: Global, front: &str, words: &str, wanted: &str) -> bool 
         }
     }
     let stands = dict.has_member();
-    let is_answered = dict.finish().is_some();
-    (stands == is_answered) & (stands != (front == wanted)) & is_text(&text, wanted)
+    let answer = if stands { Some(wanted) } else { None };
+    let is_answered = dict.finish() == answer;
+    is_answered & (stands != (front == wanted)) & is_text(&text, wanted)
 }
 
 #[test]
@@ -157,6 +175,8 @@ fn dictionaries_are_written_by_single_calls(rt: HostRuntime) {
         // A repeated key is written each time.
         ("", "a=1 b=2 a=3", "a=1, b=2, a=3"),
         ("Z", "a=x1", "Z"),
+        ("Z", "", "Z"),
+        ("Z", "a=1", "Za=1"),
         ("X", "a=@ a=1;@ c=2", "Xa=1, c=2"),
     ];
     for &(front, words, wanted) in rows {

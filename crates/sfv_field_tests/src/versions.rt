@@ -82,8 +82,35 @@ fn is_left_by_members(alloc: Global) -> bool {
     is_refused & is_left & is_written & (serializer.finish() == Some("1"))
 }
 
+/// Returns `true` if a failed member leaves the list unchanged, and it can continue.
+fn is_left_by_member(alloc: Global) -> bool {
+    let Ok(mut text) = String::from_str(alloc, "X") else {
+        return false;
+    };
+    let mut list = ListSerializer::with_buffer_for(&mut text, Version::Rfc8941);
+    let is_begun = list.bare_item(value("1")).is_ok();
+    let is_refused = list.bare_item(value("@2")).err() == Some(DATE);
+    let is_continued = list.bare_item(value("3")).is_ok();
+    is_begun & is_refused & is_continued & (list.finish() == Some("X1, 3"))
+}
+
+/// Returns `true` if a failed item leaves the inner list unchanged, and it can continue.
+fn is_left_by_inner_item(alloc: Global) -> bool {
+    let mut text = String::new(alloc);
+    let mut list = ListSerializer::with_buffer_for(&mut text, Version::Rfc8941);
+    let Ok(mut inner) = list.inner_list() else {
+        return false;
+    };
+    let is_refused = inner.bare_item(value("@5")).err() == Some(DATE);
+    let is_continued = inner.bare_item(value("6")).is_ok();
+    let is_ended = inner.finish().is_ok();
+    is_refused & is_continued & is_ended & (list.finish() == Some("(6)"))
+}
+
 #[test]
 fn what_is_refused_leaves_the_text(rt: HostRuntime) {
     assert!(rt; is_left_by_item(rt.alloc()));
     assert!(rt; is_left_by_members(rt.alloc()));
+    assert!(rt; is_left_by_member(rt.alloc()));
+    assert!(rt; is_left_by_inner_item(rt.alloc()));
 }

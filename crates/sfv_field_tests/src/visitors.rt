@@ -1,12 +1,13 @@
 //! Visitors: the events that they receive, and the effects of their errors.
 
-use crate::common::has_text;
+use crate::common::{has_text, repeated};
 use linked_list_allocator::LocalHeap;
 use sfv::visitor::{Event, Visitor};
 use sfv::{BareItemFromInput, GenericBareItem, ParseError, Parser, StringFromInput};
 use std::alloc::{AllocError, Allocator, Global};
 use std::borrow::CowStr;
 use std::fmt::Write;
+use std::test::Fail;
 
 /// A visitor that writes each event into a text. Its error is out of memory.
 #[derive(Drop)]
@@ -75,18 +76,19 @@ fn push_value<A: Allocator>(
     }
 }
 
-/// A visitor that records whether a string or a display string is a slice of the input.
+/// A visitor that writes each string and display string, and whether it is a slice of the input: a bare item after `=`,
+/// and the value of a parameter after `;`.
 #[derive(Drop)]
-struct Lender {
-    is_borrowed: bool,
+struct Texts {
+    text: String,
 }
 
-impl<'de> Visitor<'de> for Lender {
+impl<'de> Visitor<'de> for Texts {
     ghost use Rattle.std.specs.Prelude.{⊤};
 
-    type Out = bool;
+    type Out = String;
 
-    type Error = u64;
+    type Error = AllocError;
 
     ghost takes = { λ _ _ _. ⊤ };
 
@@ -96,60 +98,98 @@ impl<'de> Visitor<'de> for Lender {
 
     ghost finish_fails = { λ _ _. ⊤ };
 
-    ghost is_memory = { λ _. ⊥ };
+    ghost is_memory = { λ _. ⊤ };
 
-    fn event(&mut self, event: Event<'de>) -> Result<(), u64> {
+    fn event(&mut self, event: Event<'de>) -> Result<(), AllocError> {
         match &event {
-            Event::BareItem(value) | Event::Parameter(_, value) => {
-                self.is_borrowed |= is_borrowed(value);
-            }
-            _ => {}
+            Event::BareItem(value) => push_text(&mut self.text, "=", value),
+            Event::Parameter(_, value) => push_text(&mut self.text, ";", value),
+            _ => Ok(()),
         }
-        Ok(())
     }
 
-    fn finish(self) -> Result<bool, u64> {
-        Ok(self.is_borrowed)
+    fn finish(self) -> Result<String, AllocError> {
+        Ok(self.text)
     }
 }
 
-/// Returns `true` if a string or a display string is borrowed.
-fn is_borrowed(value: &BareItemFromInput<'_>) -> bool {
-    matches!(
-        value,
-        GenericBareItem::String(StringFromInput::Borrowed(_))
-            | GenericBareItem::DisplayString(CowStr::Borrowed(_))
-    )
+/// Writes a string or a display string after `front`, and whether it is borrowed. Writes nothing for another value.
+fn push_text(
+    text: &mut String,
+    front: &str,
+    value: &BareItemFromInput<'_>,
+) -> Result<(), AllocError> {
+    let (word, content) = match value {
+        GenericBareItem::String(StringFromInput::Borrowed(string)) => (
+            "borrowed ",
+            string.as_str(),
+        ),
+        GenericBareItem::String(StringFromInput::Owned(string)) => ("owned ", string.as_str()),
+        GenericBareItem::DisplayString(CowStr::Borrowed(string)) => ("borrowed ", *string),
+        GenericBareItem::DisplayString(CowStr::Owned(string)) => ("owned ", string.as_str()),
+        _ => return Ok(()),
+    };
+    text.push_str(front)?;
+    text.push_str(word)?;
+    text.push_str(content)
 }
 
-/// Returns `true` if the first text of an item is a slice of the input.
-fn lends(alloc: Global, input: &[u8]) -> Option<bool> {
-    let lender = Lender { is_borrowed: false };
-    Parser::new(input)
-        .parse_item_with_visitor(alloc, lender)
-        .ok()
+/// Returns the texts of an item, a list or a dictionary.
+fn texts_of(alloc: Global, field: &str, input: &str) -> Option<String> {
+    let parser = Parser::new(input.as_bytes());
+    let visitor = Texts {
+        text: String::new(alloc),
+    };
+    match field {
+        "item" => parser.parse_item_with_visitor(alloc, visitor).ok(),
+        "list" => parser.parse_list_with_visitor(alloc, visitor).ok(),
+        _ => parser.parse_dictionary_with_visitor(alloc, visitor).ok(),
+    }
 }
 
 #[test]
 fn texts_without_an_escape_are_borrowed(rt: HostRuntime) {
     let rows = &[
-        ("\"a%b\"", true),
-        ("\"\"", true),
-        ("\"a\\\\b\"", false),
-        ("%\"a\\b\"", true),
-        ("%\"\"", true),
-        ("%\"a%20b\"", false),
-        ("1;a=\"b\"", true),
-        ("1;a=\"b\\\\\"", false),
-        ("1;a=%\"b\"", true),
-        ("1;a=%\"%20\"", false),
+        ("item", r#""a%b""#, "=borrowed a%b"),
+        ("item", r#""""#, "=borrowed "),
+        ("item", r#""a\\b""#, r"=owned a\b"),
+        ("item", r#"%"a\b""#, r"=borrowed a\b"),
+        ("item", r#"%"""#, "=borrowed "),
+        ("item", r#"%"a%20b""#, "=owned a b"),
+        ("item", r#"1;a="b""#, ";borrowed b"),
+        ("item", r#"1;a="b\\""#, r";owned b\"),
+        ("item", r#"1;a=%"b""#, ";borrowed b"),
+        ("item", r#"1;a=%"%20""#, ";owned  "),
+        ("item", r#"a;p="x";q="\\""#, r";borrowed x;owned \"),
+        (
+            "list",
+            r#""abc", "a\"b", %"x", %"%c3%a9", tok"#,
+            "=borrowed abc=owned a\"b=borrowed x=owned \u{e9}",
+        ),
+        (
+            "list",
+            r#"("abc" "a\"b";p="x";q="\\" tok);p=%"%c3%a9";q=%"z""#,
+            "=borrowed abc=owned a\"b;borrowed x;owned \\;owned \u{e9};borrowed z",
+        ),
+        (
+            "dict",
+            r#"a="abc";p="x", b="a\"b";q="\\", c=(%"x" %"%c3%a9")"#,
+            "=borrowed abc;borrowed x=owned a\"b;owned \\=borrowed x=owned \u{e9}",
+        ),
     ];
-    for &(input, is_borrowed) in rows {
-        assert!(rt;
-            lends(rt.alloc(), input.as_bytes()) == Some(is_borrowed),
-            "{input}"
-        );
+    for &(field, input, texts) in rows {
+        assert!(rt; has_text(texts_of(rt.alloc(), field, input), texts));
     }
+}
+
+// 33,333 times `a\"`, and then `a`, between quotes. The string has 66,667 characters, here after `=owned `.
+#[test]
+fn a_long_string_with_escapes_is_owned(rt: HostRuntime) -> Result<(), Fail> {
+    let input = repeated(rt.alloc(), "\"", "a\\\"", 33_333, "a\"")?;
+    let texts = repeated(rt.alloc(), "=owned ", "a\"", 33_333, "a")?;
+    assert!(rt; input.len() == 100_002 && texts.len() == 66_674);
+    assert!(rt; has_text(texts_of(rt.alloc(), "item", input.as_str()), texts.as_str()));
+    Ok(())
 }
 
 /// Creates a visitor that writes events into a new text.

@@ -2,6 +2,7 @@
 
 ghost use Rattle.std.specs.Prelude.{⊤};
 
+use crate::common::has_text;
 use sfv::visitor::{
     BareItemType, Event, ExpectItem, Ignored, ItemFault, MakeItemVisitor, NoMemoryError, Visitor,
     item_visitor_with, parameter_visitor_with,
@@ -13,6 +14,7 @@ use sfv::{
 use sfv_uses::expecting::{dictionary, expect, item, list, string, token};
 use std::alloc::Global;
 use std::convert::Infallible;
+use std::fmt::Display;
 
 #[test]
 fn ignored_fields_have_an_answer(rt: HostRuntime) {
@@ -36,6 +38,49 @@ fn items_are_expected_to_be_of_a_kind(rt: HostRuntime) {
     let tokens = (token(alloc, b"abc;x").ok() == Some(token_ref("abc")))
         & (name.ok() == Some(token_ref("abc")));
     assert!(rt; numbers & tokens);
+}
+
+/// Returns `true` if the result is an error that prints this text.
+fn has_fault<T: Drop, E: Display + Drop>(alloc: Global, answer: Result<T, E>, text: &str) -> bool {
+    match answer {
+        Ok(_) => false,
+        Err(error) => has_text(error.to_string(alloc).ok(), text),
+    }
+}
+
+/// Returns `true` if the input has this error where a bare item of this kind is expected.
+fn is_rejected(alloc: Global, expected: &str, input: &str, text: &str) -> bool {
+    let parser = Parser::new(input.as_bytes());
+    match expected {
+        "integer" => has_fault(alloc, parser.parse_item::<Integer>(alloc), text),
+        "decimal" => has_fault(alloc, parser.parse_item::<Decimal>(alloc), text),
+        _ => has_fault(alloc, parser.parse_item_with_visitor(alloc, Ignored), text),
+    }
+}
+
+// The visitor fails before a later syntax error.
+#[test]
+fn items_of_another_kind_have_an_error_that_prints_both(rt: HostRuntime) {
+    let rows = &[
+        (
+            "decimal",
+            "1",
+            "unexpected bare item type: expected decimal, got integer",
+        ),
+        (
+            "integer",
+            "abc;0",
+            "unexpected bare item type: expected integer, got token",
+        ),
+        (
+            "any",
+            "abc;0",
+            "expected start of key ('a'-'z' or '*') at index 4",
+        ),
+    ];
+    for &(expected, input, text) in rows {
+        assert!(rt; is_rejected(rt.alloc(), expected, input, text));
+    }
 }
 
 /// Returns `true` if the input is an item with this string.

@@ -33,6 +33,52 @@ fn is_read_and_written(alloc: Global, input: &str, wanted: (u8, bool), line: &st
     }
 }
 
+/// Returns `true` if the text parses to this urgency and flag under this version.
+fn is_read(alloc: Global, version: Version, text: &str, wanted: (u8, bool)) -> bool {
+    match read_priority(alloc, text.as_bytes(), version) {
+        Ok(priority) => (priority.urgency, priority.incremental) == wanted,
+        Err(_) => false,
+    }
+}
+
+/// Returns `true` if the priority is written as this text, and the text parses to it under both versions.
+fn is_written_and_read(alloc: Global, urgency: u8, incremental: bool, wanted: &str) -> bool {
+    if urgency > 7 {
+        return false;
+    }
+    let mut text = String::new(alloc);
+    let is_any = write_priority(&mut text, Priority::new(urgency, incremental));
+    (is_any == Ok(!wanted.is_empty()))
+        & (text.as_str() == wanted)
+        & is_read(alloc, Version::Rfc8941, wanted, (urgency, incremental))
+        & is_read(alloc, Version::Rfc9651, wanted, (urgency, incremental))
+}
+
+#[test]
+fn all_priorities_are_written_and_read(rt: HostRuntime) {
+    let rows = &[
+        (0, false, "u=0"),
+        (1, false, "u=1"),
+        (2, false, "u=2"),
+        (3, false, ""),
+        (4, false, "u=4"),
+        (5, false, "u=5"),
+        (6, false, "u=6"),
+        (7, false, "u=7"),
+        (0, true, "u=0, i"),
+        (1, true, "u=1, i"),
+        (2, true, "u=2, i"),
+        (3, true, "i"),
+        (4, true, "u=4, i"),
+        (5, true, "u=5, i"),
+        (6, true, "u=6, i"),
+        (7, true, "u=7, i"),
+    ];
+    for &(urgency, incremental, text) in rows {
+        assert!(rt; is_written_and_read(rt.alloc(), urgency, incremental, text));
+    }
+}
+
 #[test]
 fn priorities_are_read_and_written(rt: HostRuntime) {
     let rows = &[

@@ -40,9 +40,12 @@ fn numbers_become_integers_which_become_the_same_numbers(rt: HostRuntime) {
 
 #[test]
 fn numbers_out_of_range_are_refused(rt: HostRuntime) {
-    assert!(rt; Integer::try_from(1_000_000_000_000_000i64) == Err(out_of_range()));
-    assert!(rt; u8::try_from(integer(256)) == Err(out_of_range()));
-    assert!(rt; Decimal::try_from(1_000_000_000_000i64) == Err(out_of_range()));
+    let integers = (Integer::try_from(1_000_000_000_000_000i64) == Err(out_of_range()))
+        & (Integer::try_from(-1_000_000_000_000_000i64) == Err(out_of_range()))
+        & (Integer::try_from(u128::MAX) == Err(out_of_range()));
+    let decimals = (Decimal::try_from(1_000_000_000_000i64) == Err(out_of_range()))
+        & (Decimal::try_from(u128::MAX) == Err(out_of_range()));
+    assert!(rt; integers & decimals & (u8::try_from(integer(256)) == Err(out_of_range())));
 }
 
 /// Returns `true` if a decimal has this many thousandths.

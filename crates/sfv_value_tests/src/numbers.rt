@@ -48,6 +48,20 @@ fn numbers_print_their_canonical_texts(rt: HostRuntime) {
 }
 
 #[test]
+fn decimals_of_whole_numbers_print_one_digit_after_the_point(rt: HostRuntime) {
+    let rows = &[
+        (Decimal::from(33i8), "33.0"),
+        (Decimal::from(-128i8), "-128.0"),
+        (Decimal::from(255u8), "255.0"),
+        (Decimal::from(i32::MIN), "-2147483648.0"),
+        (Decimal::from(u32::MAX), "4294967295.0"),
+    ];
+    for &(decimal, text) in rows {
+        assert!(rt; prints(rt.alloc(), &decimal, text));
+    }
+}
+
+#[test]
 fn constants_are_the_ends_of_the_ranges_and_zero(rt: HostRuntime) {
     let integers = (i64::from(Integer::MIN) == -999_999_999_999_999)
         & (i64::from(Integer::MAX) == 999_999_999_999_999)
