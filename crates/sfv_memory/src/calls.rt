@@ -26,6 +26,8 @@ pub enum Call {
     CopyBareItem(usize),
     /// Copies a parsed string.
     CopyRead(&'static [u8], &'static str),
+    /// Clones a parsed bare item.
+    CloneRead(&'static [u8]),
     /// Clones a field.
     Copy(FieldKind, &'static [u8]),
     /// Clones the first member of a list.
@@ -126,6 +128,10 @@ pub const CALLS: &[Call] = &[
     Call::CopyBareItem(3),
     Call::CopyRead(b"\"a b\"", "a b"),
     Call::CopyRead(b"\"\\\"\"", "\""),
+    Call::CloneRead(b"\"a b\""),
+    Call::CloneRead(b"\"\\\"\""),
+    Call::CloneRead(b":aGk=:"),
+    Call::CloneRead(b"%\"%c3%bc\""),
     Call::Copy(FieldKind::Item, b"\"a\";b=c"),
     Call::Copy(FieldKind::List, b"\"a\", (b)"),
     Call::Copy(FieldKind::Dictionary, b"a=\"a\", b=(b)"),
@@ -186,6 +192,7 @@ pub fn perform(alloc: Global, call: Call) -> Result<bool, Error> {
         Call::CopyString => copies::string(alloc),
         Call::CopyBareItem(row) => copies::bare_item(alloc, row),
         Call::CopyRead(input, text) => copies::read_string(alloc, input, text),
+        Call::CloneRead(input) => copies::read_item(alloc, input),
         Call::Copy(FieldKind::Item, input) => copies::field::<Item>(alloc, input),
         Call::Copy(FieldKind::List, input) => copies::field::<List>(alloc, input),
         Call::Copy(FieldKind::Dictionary, input) => copies::field::<Dictionary>(alloc, input),

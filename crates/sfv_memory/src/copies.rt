@@ -3,9 +3,9 @@
 use crate::refused_if;
 use sfv::visitor::ItemFault;
 use sfv::{
-    BareItem, BareItemFromInput, Dictionary, Error, FieldType, GenericBareItem, Item, List,
-    ListEntry, Parameters, ParseError, Parser, RefBareItem, insert_entry, insert_param, key_ref,
-    string_ref, token_ref,
+    BareItem, BareItemFromInput, Dictionary, Error, ErrorKind, FieldType, GenericBareItem, Item,
+    List, ListEntry, OutOfMemory, Parameters, ParseError, Parser, RefBareItem, insert_entry,
+    insert_param, key_ref, string_ref, token_ref,
 };
 use std::alloc::Global;
 
@@ -68,6 +68,29 @@ pub fn read_string(alloc: Global, input: &[u8], text: &str) -> Result<bool, Erro
         Ok(read) => is_string(&read.try_into_owned(alloc)?, text),
         Err(ParseError::Syntax(error)) => Err(error),
         Err(ParseError::Visitor(fault)) => refused_if(fault == ItemFault::OutOfMemory),
+    }
+}
+
+/// Parses a bare item.
+fn read(alloc: Global, input: &[u8]) -> Result<BareItemFromInput<'_>, Error> {
+    match Parser::new(input).parse_item::<BareItemFromInput<'_>>(alloc) {
+        Ok(value) => Ok(value),
+        Err(ParseError::Syntax(error)) => Err(error),
+        Err(ParseError::Visitor(ItemFault::OutOfMemory)) => Err(Error::from(OutOfMemory)),
+        Err(ParseError::Visitor(_)) => Err(Error::with_kind(ErrorKind::Empty, None)),
+    }
+}
+
+/// Clones a parsed bare item, and then its string, if it is one.
+pub fn read_item(alloc: Global, input: &[u8]) -> Result<bool, Error> {
+    let value = read(alloc, input)?;
+    let same = read(alloc, input)?;
+    if !is_cloned(&value, &same)? {
+        return Ok(false);
+    }
+    match (&value, &same) {
+        (GenericBareItem::String(value), GenericBareItem::String(same)) => is_cloned(value, same),
+        _ => Ok(true),
     }
 }
 
