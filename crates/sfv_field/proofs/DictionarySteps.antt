@@ -9,8 +9,8 @@ use Rattle.sfv_spec.specs.Ordered.{ordered, ordered_item, ordered_member}
 use Rattle.sfv_spec.specs.Visiting.{RunsTo}
 use Rattle.sfv_spec.proofs.Last.{over}
 use Rattle.sfv_field.specs.declared.dictionary.DictionaryVisitor.{DictionaryVisitor}
-use Rattle.sfv_field.specs.Words.{Head, of_item, of_inner_list, member_of, raw_item, put}
-use Rattle.sfv_field.specs.Steps.{IsIgnored, WithinKey, DictionaryTakes}
+use Rattle.sfv_field.specs.Words.{Head, of_item, of_inner_list, member_of, raw_item, put, IsIgnored}
+use Rattle.sfv_field.specs.Steps.{WithinKey, DictionaryTakes}
 use Rattle.sfv_field.proofs.Puts.{put_all, all_put, collapse-over}
 use Rattle.sfv_field.proofs.Runs.{split_run, items_known, on_none, on_some}
 
@@ -148,7 +148,7 @@ module _ {R K I : Type 0} (inner : I → List RawItem → Type 0) (text : K → 
 
       by : (o : Option K) → begun.key ≡ o → reads to.reader (put ms k (ordered_member m))
       by None e =
-          let ignored : IsIgnored inner text reads k = on_none _ _ begun.key e taken.1 in
+          let ignored : IsIgnored reads k = on_none _ _ begun.key e taken.1 in
           subst (λ (r : R). reads r (put ms k (ordered_member m))) (sym (member_passed m begun to e run))
           (ignored begun.reader ms (ordered_member m) there)
       by (Some key) e =

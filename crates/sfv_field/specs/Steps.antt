@@ -3,7 +3,7 @@ use Rattle.std.specs.Prelude.{◌≡◌, ⊤, ℕ, List, [], ◌∷◌, ◌++◌
 use Rattle.sfv_spec.specs.Values.{BareValue, RawItem, RawParameters, RawMember}
 use Rattle.sfv_spec.specs.Events.{TreeEvent, entry, keyed_entry, begins_item, begins_inner_list, bare_item, parameter}
 use Rattle.sfv_spec.specs.Events.{parameters_end, inner_list_end}
-use Rattle.sfv_field.specs.Words.{Head, of_item, of_inner_list, member_of, head_of, parameters_of, raw_item, put}
+use Rattle.sfv_field.specs.Words.{Head, of_item, of_inner_list, member_of, head_of, parameters_of, raw_item, put, IsIgnored}
 use Rattle.sfv_field.specs.declared.list.ListVisitor.{ListVisitor}
 use Rattle.sfv_field.specs.declared.dictionary.DictionaryVisitor.{DictionaryVisitor}
 
@@ -50,10 +50,6 @@ module _ {R M I : Type 0} (inner : I → List RawItem → Type 0) (keeps : M →
 
 module _ {R K I : Type 0} (inner : I → List RawItem → Type 0) (text : K → List ℕ)
     (reads : R → List (List ℕ × RawMember) → Type 0) where
-  -- a member of this key changes nothing
-  abbrev pub IsIgnored : List ℕ → Type 0
-  IsIgnored k = (s : R) (ms : List (List ℕ × RawMember)) (m : RawMember) → reads s ms → reads s (put ms k m)
-
   -- within an inner list whose key matters, after these items
   abbrev pub WithinKey : DictionaryVisitor R K I → List RawItem → Type 0
   WithinKey s xs = (i : I) × (s.items ≡ Some i) × inner i xs
@@ -63,7 +59,7 @@ module _ {R K I : Type 0} (inner : I → List RawItem → Type 0) (text : K → 
   Passes s after = (after.reader ≡ s.reader) × (after.key ≡ None) × (after.outer ≡ s.outer)
 
   abbrev pub TakesKey : DictionaryVisitor R K I → List ℕ → DictionaryVisitor R K I → Type 0
-  TakesKey s k after = (after.reader ≡ s.reader) × MatchOption after.key (IsIgnored k) (λ key. text key ≡ k)
+  TakesKey s k after = (after.reader ≡ s.reader) × MatchOption after.key (IsIgnored reads k) (λ key. text key ≡ k)
 
   abbrev pub TakesItems : DictionaryVisitor R K I → DictionaryVisitor R K I → Type 0
   TakesItems s after = (after.reader ≡ s.reader) × (after.key ≡ None) × (after.outer ≡ s.key)

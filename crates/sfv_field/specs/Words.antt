@@ -37,3 +37,46 @@ put ps k v = collapse (ps ++ (k, v) ∷ [])
 -- the text parses to a field, and the reader's state is the state after its value
 abbrev pub IsReadBy : {R : Type 0} → Version → (kind : FieldKind) → (R → RawField kind → Type 0) → List ℕ → R → Type 0
 IsReadBy version kind reads t found = (value : RawField kind) × IsParsedAs version kind t value × reads found value
+
+-- the items with one more, which has no parameters yet
+abbrev pub AddsItem : {R : Type 0} → (R → List RawItem → Type 0) → R → R → BareValue → Type 0
+AddsItem reads old new b = (xs : List RawItem) → reads old xs → reads new (xs ++ raw_item b [] ∷ [])
+
+-- one more parameter of the last item
+abbrev pub AddsItemParameter : {R : Type 0} → (R → List RawItem → Type 0) → R → R → List ℕ → BareValue → Type 0
+AddsItemParameter reads old new key value = (xs : List RawItem) (b : BareValue) (ps : RawParameters)
+    → reads old (xs ++ raw_item b ps ∷ []) → reads new (xs ++ raw_item b (put ps key value) ∷ [])
+
+-- one more parameter of a member
+abbrev pub AddsParameter : {M : Type 0} → (M → Head → RawParameters → Type 0) → M → M → List ℕ → BareValue → Type 0
+AddsParameter keeps old new key value =
+    (head : Head) (ps : RawParameters) → keeps old head ps → keeps new head (put ps key value)
+
+-- the list with one more member
+abbrev pub AddsMember : {R M : Type 0} → (R → List RawMember → Type 0) → (M → Head → RawParameters → Type 0) → R → R
+    → M → Type 0
+AddsMember reads keeps old new member = (m : RawMember) (ms : List RawMember)
+    → keeps member (head_of m) (parameters_of m) → reads old ms → reads new (ms ++ m ∷ [])
+
+-- the members of a dictionary with their keys
+abbrev pub Members : Type 0
+Members = List (List ℕ × RawMember)
+
+-- a member with this key changes nothing
+abbrev pub IsIgnored : {R : Type 0} → (R → Members → Type 0) → List ℕ → Type 0
+IsIgnored {R} reads key = (s : R) (ms : Members) (m : RawMember) → reads s ms → reads s (put ms key m)
+
+-- the member with this key is now an item without parameters
+abbrev pub PutsItem : {R : Type 0} → (R → Members → Type 0) → R → R → List ℕ → BareValue → Type 0
+PutsItem reads old new key b = (ms : Members) → reads old ms → reads new (put ms key (member_of (of_item b) []))
+
+-- the member with this key is now the inner list of these items, without parameters
+abbrev pub PutsInnerList : {R I : Type 0} → (R → Members → Type 0) → (I → List RawItem → Type 0) → R → R → List ℕ → I
+    → Type 0
+PutsInnerList reads inner old new key items = (ms : Members) (xs : List RawItem) → inner items xs → reads old ms
+    → reads new (put ms key (member_of (of_inner_list xs) []))
+
+-- one more parameter of the member with this key
+abbrev pub PutsParameter : {R : Type 0} → (R → Members → Type 0) → R → R → List ℕ → List ℕ → BareValue → Type 0
+PutsParameter reads old new key name value = (ms : Members) (head : Head) (ps : RawParameters)
+    → reads old (put ms key (member_of head ps)) → reads new (put ms key (member_of head (put ps name value)))

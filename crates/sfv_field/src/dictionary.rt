@@ -4,7 +4,7 @@ ghost use Rattle.std.specs.Prelude.{◌≡◌, ⊤, ℕ, List, [], MatchOption};
 ghost use Rattle.sfv_spec.specs.Values.{RawItem, RawParameters, RawMember};
 ghost use Rattle.sfv_text.specs.KeyText.{key_text};
 ghost use Rattle.sfv_bare.specs.BareItems.{input_value};
-ghost use Rattle.sfv_field.specs.Words.{Head, of_item, of_inner_list, member_of, put};
+ghost use Rattle.sfv_field.specs.Words.{Members, IsIgnored, PutsItem, PutsInnerList, PutsParameter};
 
 use crate::inner_list::InnerListReader;
 use sfv_bare::bare::BareItemFromInput;
@@ -28,28 +28,23 @@ pub trait DictionaryReader<'de>: Drop {
     ghost text: { Self.Key → List ℕ };
 
     /// `reads reader members`: `reader` is the state after these members. No key is repeated.
-    ghost reads: { Self → List (List ℕ × RawMember) → Type 0 };
+    ghost reads: { Self → Members → Type 0 };
 
     /// Returns the `Key` of a key, or `None` if its member changes nothing.
     fn key(key: KeyRef<'de>) -> Option<Self::Key>
-        ensures { MatchOption result ((s : Self) (ms : List (List ℕ × RawMember)) (m : RawMember) → reads s ms
-            → reads s (put ms (key_text key.entry) m)) (λ found. text found ≡ key_text key.entry) };
+        ensures { MatchOption result (IsIgnored reads (key_text key.entry)) (λ found. text found ≡ key_text key.entry) };
 
     /// Receives the bare item of a member that is an item. The member replaces an earlier one with the same key.
     fn item(&mut self, key: Self::Key, item: BareItemFromInput<'de>)
-        ensures { (ms : List (List ℕ × RawMember)) → reads self.old ms
-            → reads self.new (put ms (text key) (member_of (of_item (input_value item.entry)) [])) };
+        ensures { PutsItem reads self.old self.new (text key) (input_value item.entry) };
 
     /// Receives the items of a member that is an inner list. The member replaces an earlier one with the same key.
     fn inner_list(&mut self, key: Self::Key, items: Self::Items)
-        ensures { (ms : List (List ℕ × RawMember)) (xs : List RawItem) → Self.Items.reads items xs → reads self.old ms
-            → reads self.new (put ms (text key) (member_of (of_inner_list xs) [])) };
+        ensures { PutsInnerList reads Self.Items.reads self.old self.new (text key) items };
 
     /// Receives a parameter of the member. It replaces an earlier one with the same name.
     fn parameter(&mut self, key: Self::Key, name: KeyRef<'de>, value: BareItemFromInput<'de>)
-        ensures { (ms : List (List ℕ × RawMember)) (head : Head) (ps : RawParameters)
-            → reads self.old (put ms (text key) (member_of head ps))
-            → reads self.new (put ms (text key) (member_of head (put ps (key_text name.entry) (input_value value.entry)))) };
+        ensures { PutsParameter reads self.old self.new (text key) (key_text name.entry) (input_value value.entry) };
 }
 
 /// A visitor that passes the parts of a dictionary to a reader.

@@ -1,10 +1,10 @@
 //! Readers of the items of an inner list.
 
-ghost use Rattle.std.specs.Prelude.{⊤, List, [], ◌∷◌, ◌++◌, OnOk};
-ghost use Rattle.sfv_spec.specs.Values.{BareValue, RawItem, RawParameters};
+ghost use Rattle.std.specs.Prelude.{⊤, List, [], OnOk};
+ghost use Rattle.sfv_spec.specs.Values.{RawItem};
 ghost use Rattle.sfv_text.specs.KeyText.{key_text};
 ghost use Rattle.sfv_bare.specs.BareItems.{input_value};
-ghost use Rattle.sfv_field.specs.Words.{raw_item, put};
+ghost use Rattle.sfv_field.specs.Words.{AddsItem, AddsItemParameter};
 
 use sfv_bare::bare::BareItemFromInput;
 use sfv_base::error::OutOfMemory;
@@ -26,8 +26,7 @@ pub trait InnerListReader<'de>: Drop {
     ///
     /// Returns `OutOfMemory` if memory runs out, which ends the parsing.
     fn item(&mut self, item: BareItemFromInput<'de>) -> Result<(), OutOfMemory>
-        ensures { OnOk result ((xs : List RawItem) → reads self.old xs
-            → reads self.new (xs ++ raw_item (input_value item.entry) [] ∷ [])) };
+        ensures { OnOk result (AddsItem reads self.old self.new (input_value item.entry)) };
 
     /// Receives a parameter of the last item. It replaces an earlier one with the same key.
     ///
@@ -39,9 +38,8 @@ pub trait InnerListReader<'de>: Drop {
         key: KeyRef<'de>,
         value: BareItemFromInput<'de>,
     ) -> Result<(), OutOfMemory>
-        ensures { OnOk result ((xs : List RawItem) (bare : BareValue) (ps : RawParameters)
-            → reads self.old (xs ++ raw_item bare ps ∷ [])
-            → reads self.new (xs ++ raw_item bare (put ps (key_text key.entry) (input_value value.entry)) ∷ [])) };
+        ensures { OnOk result
+            (AddsItemParameter reads self.old self.new (key_text key.entry) (input_value value.entry)) };
 }
 
 /// A reader that ignores the items of an inner list.

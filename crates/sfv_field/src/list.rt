@@ -1,10 +1,10 @@
 //! Readers of lists.
 
-ghost use Rattle.std.specs.Prelude.{◌≡◌, ⊤, None, List, [], ◌∷◌, ◌++◌, OnOk};
+ghost use Rattle.std.specs.Prelude.{◌≡◌, ⊤, None, List, [], OnOk};
 ghost use Rattle.sfv_spec.specs.Values.{RawItem, RawParameters, RawMember};
 ghost use Rattle.sfv_text.specs.KeyText.{key_text};
 ghost use Rattle.sfv_bare.specs.BareItems.{input_value};
-ghost use Rattle.sfv_field.specs.Words.{Head, of_item, of_inner_list, head_of, parameters_of, put};
+ghost use Rattle.sfv_field.specs.Words.{Head, of_item, of_inner_list, AddsParameter, AddsMember};
 
 use crate::inner_list::InnerListReader;
 use sfv_bare::bare::BareItemFromInput;
@@ -41,8 +41,7 @@ pub trait ListReader<'de>: Drop {
 
     /// Receives a parameter of the member. It replaces an earlier one with the same key.
     fn parameter(member: &mut Self::Member, key: KeyRef<'de>, value: BareItemFromInput<'de>)
-        ensures { (head : Head) (ps : RawParameters) → keeps member.old head ps
-            → keeps member.new head (put ps (key_text key.entry) (input_value value.entry)) };
+        ensures { AddsParameter keeps member.old member.new (key_text key.entry) (input_value value.entry) };
 
     /// Receives the member after its last parameter.
     ///
@@ -50,8 +49,7 @@ pub trait ListReader<'de>: Drop {
     ///
     /// Returns `OutOfMemory` if memory runs out, which ends the parsing.
     fn member(&mut self, member: Self::Member) -> Result<(), OutOfMemory>
-        ensures { OnOk result ((m : RawMember) (ms : List RawMember) → keeps member (head_of m) (parameters_of m)
-            → reads self.old ms → reads self.new (ms ++ m ∷ [])) };
+        ensures { OnOk result (AddsMember reads keeps self.old self.new member) };
 }
 
 /// A visitor that passes the parts of a list to a reader.
