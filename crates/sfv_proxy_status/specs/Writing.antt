@@ -1,7 +1,10 @@
 -- The text of an intermediary.
 use Rattle.std.specs.Prelude.{ℕ, List, [], ◌∷◌, Some, codes, pos}
 use Rattle.sfv_field.specs.Field.{Version, list_field, BareValue, integer, token, RawMember, item, canonical}
-use Rattle.sfv_proxy_status.specs.ProxyStatus.{ProxyValue, IsLastProxyOf}
+use Rattle.sfv_field.specs.Field.{token_text}
+use Rattle.sfv.specs.TokenText.{TokenRef}
+use Rattle.sfv_proxy_status.specs.ProxyStatus.{ProxyValue, IsLastProxyOf, name_value}
+use Rattle.sfv_proxy_status.specs.declared.reading.Name.{Name}
 
 abbrev pub written_members : BareValue → List ℕ → ℕ → List RawMember
 written_members name error status = item (record {
@@ -19,3 +22,10 @@ written_proxy name error status = record { name = name; error = Some error; rece
 abbrev pub IsReadAsProxy : BareValue → List ℕ → ℕ → Type 0
 IsReadAsProxy name error status =
     (version : Version) → IsLastProxyOf version (proxy_text name error status) (Some (written_proxy name error status))
+
+-- the same for Rust values
+abbrev pub text_of : Name → TokenRef → ℕ → List ℕ
+text_of name error status = proxy_text (name_value name) (token_text error) status
+
+abbrev pub IsReadAs : Name → TokenRef → ℕ → Type 0
+IsReadAs name error status = IsReadAsProxy (name_value name) (token_text error) status

@@ -3,7 +3,7 @@
 ghost use Rattle.std.specs.Prelude.{◌≡◌, ◌≤◌, IfOk, OnOk};
 ghost use Rattle.sfv_field.specs.Field.{ref_value, token_text, described_list, AppendsOrKeeps};
 ghost use Rattle.sfv_proxy_status.specs.ProxyStatus.{name_value};
-ghost use Rattle.sfv_proxy_status.specs.Writing.{written_members, proxy_text, IsReadAsProxy};
+ghost use Rattle.sfv_proxy_status.specs.Writing.{written_members, text_of, IsReadAs};
 
 use crate::reading::Name;
 use sfv::script::{ItemCalls, MemberCalls, ParamCall, run_list};
@@ -60,10 +60,8 @@ pub fn write_proxy(
 ) -> Result<bool, OutOfMemory>
     requires least { 100 ≤ received_status }
     requires most { received_status ≤ 599 }
-    ensures text { AppendsOrKeeps text.old text.new
-        (proxy_text (name_value name.now) (token_text error.entry) received_status) result }
-    ensures read_back { OnOk result
-        (IsReadAsProxy (name_value name.now) (token_text error.entry) received_status) }
+    ensures text { AppendsOrKeeps text.old text.new (text_of name.now error.entry received_status) result }
+    ensures read_back { OnOk result (IsReadAs name.now error.entry received_status) }
 {
     let calls = calls_of(*text.allocator(), name, error, received_status)?;
     run_list(text, calls.as_slice())
