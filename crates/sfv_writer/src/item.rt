@@ -16,7 +16,7 @@ ghost use Rattle.sfv_text.specs.KeyText.{key_text};
 ghost use Rattle.sfv_text.specs.TokenText.{token_text};
 ghost use Rattle.sfv_tree.specs.Trees.{pairs_tree, item_tree};
 ghost use Rattle.sfv_writer.specs.Written.{AsksForRoom, Appends, Extends, param_text, lent_pairs};
-ghost use Rattle.sfv_writer.specs.Versions.{FailsAmong, FailsFrom, LacksAmong, values_of_pairs};
+ghost use Rattle.sfv_writer.specs.Versions.{FailsAmong, FailsFrom, LacksAmong, StopsEarly, parameter_pairs, values_of_pairs};
 
 use crate::byte_sequence::serialize_byte_sequence;
 use crate::display_string::serialize_display_string;
@@ -252,9 +252,7 @@ pub fn append_parameters<'k, A: Allocator, I: Iterator<Item = (&'k Key, &'k Bare
     ensures text { OnOk result ((pairs : List _) × Drains I.next_gives params pairs
         × (string_bytes output.new ≡ string_bytes output.old ++ parameters_text (lent_pairs pairs))
         × AreParameters (lent_pairs pairs) × AllFit version (values_of_pairs pairs)) }
-    ensures failed { IfErr result (FailsAmong I.next_gives params values_of_pairs version) }
-    ensures room { IfErr result (LacksAmong I.next_gives params values_of_pairs version output.old
-        (λ taken. parameters_text (lent_pairs taken))) }
+    ensures failed { IfErr result (StopsEarly parameter_pairs version I.next_gives params output.old true) }
     ensures stays { string_capacity output.old ≤ string_capacity output.new }
     ensures kept { OnErr result (string_bytes output.new ≡ string_bytes output.old) }
 {
