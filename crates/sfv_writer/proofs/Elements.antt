@@ -3,6 +3,8 @@ use Rattle.std.proofs.Common.{◌≡◌, ◌<◌, Bool, List, [], ◌∷◌, len
 use Rattle.std.specs.Prelude.{Option, IfErr}
 use Rattle.std.specs.declared.string.String.{String}
 use Rattle.sfv_spec.specs.declared.version.Version.{Version}
+use Rattle.sfv_spec.specs.declared.version.Version.TheVariants.{Rfc9651}
+use Rattle.sfv_writer.proofs.Looks.{newer_fails}
 use Rattle.sfv_writer.specs.Versions.{ElementKind, StopsEarly, FailsAmong, LacksAmong}
 use Rattle.sfv_writer.specs.Written.{LacksRoom}
 use Rattle.sfv_writer.specs.declared.serialize_error.SerializeError.{SerializeError}
@@ -42,3 +44,9 @@ module _ {A S Z : Type 0} (kind : ElementKind A) (version : Version) (gives : S 
       → IfErr r (StopsEarly kind version gives elements old is_first)
   stops_early (Ok x) f l = tt
   stops_early (Err e) f l = stops_at e f l
+
+-- RFC 9651 has every value
+pub newer_stops : {A S Z : Type 0} (kind : ElementKind A) (gives : S → Option A → S → Type 0) (elements : S) (old : String Z)
+    (is_first : Bool) (e : SerializeError) → StopsEarly kind Rfc9651 gives elements old is_first e → e ≡ errors.OutOfMemory
+newer_stops kind gives elements old is_first e h =
+    newer_fails gives elements kind.values e (h.taken, h.rest, h.yielded, h.some, h.cause)
