@@ -46,7 +46,7 @@ TextRests lent result =
     RestsIfErr text_row lent (λ p. (params_sink p).ghost_name) result
     (λ last. (string_bytes last ≡ string_bytes lent.now) × (string_capacity lent.now ≤ string_capacity last))
 
--- the text of `p` is the borrowed text with this text appended
+-- this text is appended to the borrowed text, which `p` writes to
 abbrev pub ContinuesText : MutBor Text → List ℕ → ParameterSerializer Text → Type 0
 ContinuesText lent more p = string_bytes (params_sink p).now ≡ string_bytes lent.now ++ more
 
@@ -77,10 +77,11 @@ inner_list_name s = s.sink.ghost_name
 abbrev pub length_before : {X : Type 0} → SequenceSerializer X InnerListItems → ℕ
 length_before s = s.kind.len_before
 
--- parts, and an inner list among them
+-- a serializer of parts: the members of a list or a dictionary, or the items of an inner list
 abbrev pub Parts : Type 0 → Type 0 → Type 0
 Parts = SequenceSerializer
 
+-- a serializer of the items of an inner list, which borrows the serializer of the parts around it
 abbrev pub InnerList : Type 0 → Type 0 → Type 0
 InnerList W K = SequenceSerializer (MutBor (Parts W K)) InnerListItems
 
@@ -133,32 +134,32 @@ module _ {W : Type 0} (w : Sink W) where
       × (t.is_first ≡ s.is_first) × (t.version ≡ s.version) × (t.kind ≡ s.kind) × KeepsRoom s t
 
 module _ {W K : Type 0} (w : Sink W) where
-  -- `t` is `s` with the text of all elements appended
+  -- `t` is `s` with the text of all elements that the iterator gives, and the version of `s` has their values
   abbrev pub WritesAll : {A S : Type 0} → ElementKind A → (S → Option A → S → Type 0) → S → Parts W K → Parts W K → Type 0
   WritesAll kind gives elements s t = TakesAll kind s.version gives elements
       (λ taken. HasAppended w s t (kind.text s.is_first taken) (is_first_after s.is_first taken))
 
-  -- the error of a call that appends all elements to `s`
+  -- the error of appending the elements of an iterator to `s`
   abbrev pub FailsToWrite : {A S : Type 0} → ElementKind A → (S → Option A → S → Type 0) → S → Parts W K → SerializeError → Type 0
   FailsToWrite kind gives elements s = StopsEarly kind s.version gives elements (w.text s.sink) s.is_first
 
-  -- `p` writes the parameters of an item, which is the next part of `s` and has this text
+  -- an item of this text is appended to `s` as the next part, and `p` writes its parameters
   abbrev pub HasAppendedItem : List ℕ → Parts W K → List ℕ → ParameterSerializer (Parts W K) → Type 0
   HasAppendedItem separator s text p = HasAppendedNext w separator s (params_sink p).now text false
 
-  -- `l` writes the items of an inner list, which is the next part of `s` and begins with this text
+  -- an inner list that begins with this text is appended to `s` as the next part, and `l` writes its items
   abbrev pub HasAppendedOpening : List ℕ → Parts W K → List ℕ → InnerList W K → Type 0
   HasAppendedOpening separator s text l = HasAppendedNext w separator s (sequence_sink l).now text s.is_first
 
-  -- `l` has no item, and remembers the length of the text of `s`
+  -- `l` has no item, and keeps the length of the text of `s`
   abbrev pub BeginsAfter : Parts W K → InnerList W K → Type 0
   BeginsAfter s l = (is_empty_so_far l ≡ true) × (length_before l ≡ string_len (w.text s.sink))
 
-  -- `p` writes the parameters of the inner list `l`, which is closed
+  -- the inner list `l` is closed, and `p` writes its parameters
   abbrev pub HasClosed : InnerList W K → ParameterSerializer (Parts W K) → Type 0
   HasClosed l p = HasAppended w (sequence_sink l).now (params_sink p).now (codes ")") false
 
-  -- `p` is the borrowed serializer with this text appended
+  -- this text is appended to the borrowed parts, which `p` writes to
   abbrev pub Continues : MutBor (Parts W K) → List ℕ → ParameterSerializer (Parts W K) → Type 0
   Continues lent more p = HasAppended w lent.now (params_sink p).now more lent.now.is_first
 
@@ -166,28 +167,28 @@ module _ {W K : Type 0} (w : Sink W) where
   abbrev pub params_text : ParameterSerializer (Parts W K) → Text
   params_text s = w.text (params_sink s).now.sink
 
-  -- the capacity of `s` doesn't hold the next part, which has this text, with its separator
+  -- the capacity of the text of `s` doesn't hold a next part of this text, with the separator before it
   abbrev pub LacksNext : List ℕ → Parts W K → List ℕ → Type 0
   LacksNext separator s text = LacksRoom (w.text s.sink) (separator_before s.is_first separator ++ text)
 
 module _ {X S : Type 0} (gives : S → Option (Bor (List ℕ) × Bor OwnedBareItem) → S → Type 0) (pairs : S) where
-  -- `p` is `s` with all parameters, where `continues` says what appends a text
+  -- all parameters that the iterator gives are appended to `s`, by this relation for a text, and `p` writes more of them
   abbrev pub WritesParameters : (MutBor X → List ℕ → ParameterSerializer X → Type 0) → ParameterSerializer X
       → ParameterSerializer X → Type 0
-  WritesParameters continues s p = TakesAll parameter_pairs (params_version s) gives pairs
-      (λ taken. continues (params_sink s) (parameters_text (lent_pairs taken)) p)
+  WritesParameters appends s p = TakesAll parameter_pairs (params_version s) gives pairs
+      (λ taken. appends (params_sink s) (parameters_text (lent_pairs taken)) p)
 
-  -- the error of a call that appends all parameters to `s`, which has this text
+  -- the error of appending the parameters of an iterator to `s`, which writes to this text
   abbrev pub FailsToWriteParameters : ParameterSerializer X → Text → SerializeError → Type 0
   FailsToWriteParameters s text = StopsEarly parameter_pairs (params_version s) gives pairs text true
 
 module _ (W K : RattleType) where
-  -- the result is a serializer of parameters, or an error after which this holds of the old and the new borrowed parts
+  -- on success, a serializer of parameters borrows the parts; after an error, this holds of their old and new state
   abbrev pub ParamsRest : {E : Type 0} → (Parts W.Denot K.Denot → Parts W.Denot K.Denot → Type 0)
       → MutBor (Parts W.Denot K.Denot) → Result (ParameterSerializer (Parts W.Denot K.Denot)) E → Fml
   ParamsRest says lent result = RestsIfErr (sequence.the_row W K) lent params_name result (says lent.now)
 
-  -- the same of a serializer of an inner list
+  -- the same for a serializer of an inner list
   abbrev pub InnerListRests : {E : Type 0} → (Parts W.Denot K.Denot → Parts W.Denot K.Denot → Type 0)
       → MutBor (Parts W.Denot K.Denot) → Result (InnerList W.Denot K.Denot) E → Fml
   InnerListRests says lent result = RestsIfErr (sequence.the_row W K) lent inner_list_name result (says lent.now)

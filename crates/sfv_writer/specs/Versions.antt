@@ -68,18 +68,14 @@ LacksAmong {S} {A} steps from values version old text error = error ≡ errors.O
     → (taken : List A) × (rest : S) × Yields steps from taken rest × AllFit version (values taken)
     × LacksRoom old (text taken)
 
--- the values of borrowed parameters
-abbrev pub values_of_pairs : List (Bor (List ℕ) × Bor OwnedBareItem) → List BareValue
-values_of_pairs pairs = map (λ p. bare_value p.1.now) pairs
-
--- A kind of elements that calls take from an iterator. `text` is their text, where the flag is true if no part is written
--- before them; the version must have their `values`; `are_valid` means that each is in its range or class.
+-- A kind of elements that calls take from an iterator: their text, where the flag is true if no part is written before
+-- them; the values that the version must have; and whether each is in its range or class.
 pub record ElementKind (A : Type 0) : Type 1 where
   pub text : Bool → List A → List ℕ
   pub values : List A → List BareValue
   pub are_valid : List A → Type 0
 
--- elements with this separator, where each has this text and these values, and is valid
+-- elements with this separator, where these give the text of each, its values, and whether it is valid
 abbrev pub separated : {A : Type 0} → List ℕ → (A → List ℕ) → (A → List BareValue) → (A → Type 0) → ElementKind A
 separated separator text values is_valid = record {
   text = λ is_first elements. with_separators is_first separator (map text elements);
@@ -107,7 +103,7 @@ dictionary_members = separated (codes ", ") (λ m. dictionary_member_text (lent_
 abbrev pub parameter_pairs : ElementKind (Bor (List ℕ) × Bor OwnedBareItem)
 parameter_pairs = record {
   text = λ _ pairs. parameters_text (lent_pairs pairs);
-  values = values_of_pairs;
+  values = map (λ p. bare_value p.1.now);
   are_valid = λ pairs. AreParameters (lent_pairs pairs);
 }
 
@@ -121,7 +117,7 @@ module _ {A S : Type 0} (kind : ElementKind A) (version : Version) (gives : S �
     pub supported : AllFit version (kind.values taken)
 
   -- The iterator gives at least one element, and is not called after that. The error is for these elements: the version
-  -- lacks one of their values, or memory runs out and the capacity of `old` doesn't hold their text.
+  -- lacks one of their values; or it has all, memory runs out, and the capacity of `old` doesn't hold their text.
   pub record StopsEarly {Z : Type 0} (old : String Z) (is_first : Bool) (error : SerializeError) : Type 0 where
     pub taken : List A
     pub rest : S

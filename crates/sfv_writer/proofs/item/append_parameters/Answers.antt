@@ -2,7 +2,7 @@ use Rattle.std.proofs.Common.{◌∷◌, Some, rules, true, refl}
 use Rattle.indexmap.proofs.MapLemmas.{OnOk-map}
 use Rattle.sfv_spec.specs.Canonical.{parameters_text}
 use Rattle.sfv_writer.specs.Written.{lent_pairs}
-use Rattle.sfv_writer.specs.Versions.{values_of_pairs, parameter_pairs}
+use Rattle.sfv_writer.specs.Versions.{parameter_pairs}
 use Rattle.sfv_writer.proofs.Elements.{stops_early}
 use Rattle.sfv_writer.proofs.Lacks.{lacks_from_first}
 use Rattle.sfv_writer.proofs.Looks.{fails_from_first, drains_from_first}
@@ -25,6 +25,6 @@ returns-clause-failed g c =
     let e = c.append_first_and_rest.ensures in
     let step : steps c.args.params (Some c.in-Some.first) c.next.new.self = search rules in
     stops_early parameter_pairs version steps c.args.params old true refl r
-    (fails_from_first steps c.args.params c.in-Some.first c.next.new.self values_of_pairs version r step e.failed)
-    (lacks_from_first steps c.args.params c.in-Some.first c.next.new.self values_of_pairs version old
+    (fails_from_first steps c.args.params c.in-Some.first c.next.new.self parameter_pairs.values version r step e.failed)
+    (lacks_from_first steps c.args.params c.in-Some.first c.next.new.self parameter_pairs.values version old
     (λ taken. parameters_text (lent_pairs taken)) r step e.room)
