@@ -67,7 +67,7 @@ pub use Rattle.sfv_serializer.proofs.Steps.{more_after}
 pub use Rattle.sfv_writer.proofs.Room.{len_of, room_after, room_before}
 pub use Rattle.sfv_writer.proofs.Lacks.{parameters_lack, front_lacks}
 pub use Rattle.sfv_writer.proofs.Lent.{pairs_front, members_front, entries_front}
-pub use Rattle.sfv_writer.proofs.Looks.{newer_fails}
+pub use Rattle.sfv_writer.proofs.Elements.{newer_stops}
 -- what a visitor did with the events of a field
 pub use Rattle.sfv_spec.proofs.Runs.{runs_fold, key_in, entry_in, keys_in_events, entries_in_events, fails_somewhere}
 -- what is kept of a field by the last of each key

@@ -23,7 +23,7 @@ use Rattle.sfv_serializer.specs.Scripts.{WritesInner, WritesList, WritesDictiona
 use Rattle.sfv_serializer.specs.declared.sequence_kind.InnerListItems.{InnerListItems}
 use Rattle.sfv_serializer.specs.declared.sequence.SequenceSerializer.{SequenceSerializer}
 use Rattle.sfv_serializer.specs.declared.sink.Sink.{Ghosts as Sink}
-use Rattle.sfv_serializer.specs.Serializers.{HasAppended, KeepsSequence, GrowsSequence, IsSequenceTruncatedTo, lent_sequence, sequence_sink}
+use Rattle.sfv_serializer.specs.Serializers.{HasAppended, KeepsSequence, GrowsSequence, Removes, lent_sequence, sequence_sink}
 use Rattle.sfv_serializer.specs.Serializers.{is_empty_so_far, length_before}
 
 is_first_after-append : {A : Type 0} (b : Bool) (xs ys : List A)
@@ -156,7 +156,7 @@ module _ {W K : Type 0} (w : Sink W) (again : (r s t : W) → w.same r s → w.s
   pub taken_away : (s v : SequenceSerializer W K) (t u : SequenceSerializer (MutBor (SequenceSerializer W K)) InnerListItems) (more : List ℕ)
       → HasAppended w s (sequence_sink t).now more (is_empty_so_far s)
       → length_before t ≡ string_len (w.text (sequence_sink s)) → GrowsSequence (lent_sequence w) t u
-      → IsSequenceTruncatedTo w (length_before u) (sequence_sink u).now v → KeepsSequence w s v
+      → Removes w u (sequence_sink u).now v → KeepsSequence w s v
   taken_away s v t u more begun long grown cut =
       let whole : List ℕ = string_bytes (w.text (sequence_sink s)) in (
         again _ _ _ begun.0 (again _ _ _ grown.0.1 cut.0),
@@ -173,7 +173,7 @@ module _ {W K : Type 0} (w : Sink W) (again : (r s t : W) → w.same r s → w.s
   pub away_grown : (s v : SequenceSerializer W K) (t u : SequenceSerializer (MutBor (SequenceSerializer W K)) InnerListItems) (more : List ℕ) (b : W) (k : K)
       → ((s : W) → w.same s s) → HasAppended w s (sequence_sink t).now more (is_empty_so_far s)
       → length_before t ≡ string_len (w.text (sequence_sink s)) → GrowsSequence (lent_sequence w) t u
-      → IsSequenceTruncatedTo w (length_before u) (sequence_sink u).now v → b ≡ v.sink → k ≡ v.kind
+      → Removes w u (sequence_sink u).now v → b ≡ v.sink → k ≡ v.kind
       → w.same s.sink b × Extends (string_bytes (w.text s.sink)) (string_bytes (w.text b)) × (k ≡ s.kind)
       × (string_capacity (w.text s.sink) ≤ string_capacity (w.text b))
   away_grown s v t u more b k itself begun long grown cut e q =

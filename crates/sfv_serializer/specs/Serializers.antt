@@ -1,8 +1,18 @@
 -- The texts of serializers.
-use Rattle.std.specs.Prelude.{◌≡◌, ◌≤◌, ◌++◌, ℕ, Bool, List, Result, IfOk, string_bytes, string_capacity}
-use Rattle.std.specs.Borrow.{MutBor, RattleType, Fml, GName, RestsIfErr}
+use Rattle.std.specs.Prelude.{◌≡◌, ◌≤◌, ◌++◌, ℕ, Bool, true, false, List, codes, Option, Result}
+use Rattle.std.specs.Prelude.{string_bytes, string_len, string_capacity}
+use Rattle.std.specs.Borrow.{Bor, MutBor, RattleType, Fml, GName, RestsIfErr}
+use Rattle.sfv_spec.specs.Canonical.{value_text, parameters_text}
 use Rattle.sfv_spec.specs.declared.version.Version.{Version}
-use Rattle.sfv_writer.specs.Written.{Extends, IsTruncatedTo, separator_before}
+use Rattle.sfv_bare.specs.BareItems.{ref_value}
+use Rattle.sfv_bare.specs.declared.bare.GenericBareItem.{GenericBareItem}
+use Rattle.sfv_text.specs.KeyText.{KeyRef, key_text}
+use Rattle.sfv_text.specs.StringText.{StringRef}
+use Rattle.sfv_text.specs.TokenText.{TokenRef}
+use Rattle.sfv_tree.specs.Trees.{OwnedBareItem}
+use Rattle.sfv_writer.specs.Versions.{ElementKind, TakesAll, StopsEarly, parameter_pairs}
+use Rattle.sfv_writer.specs.Written.{Extends, IsTruncatedTo, LacksRoom, separator_before, is_first_after, lent_pairs}
+use Rattle.sfv_writer.specs.declared.serialize_error.SerializeError.{SerializeError}
 use Rattle.sfv_serializer.specs.declared.item_serializer.ItemSerializer.{ItemSerializer}
 use Rattle.sfv_serializer.specs.declared.parameter_serializer.ParameterSerializer.{ParameterSerializer}
 use Rattle.sfv_serializer.specs.declared.sink.Sink.{Ghosts as Sink}
@@ -36,9 +46,17 @@ TextRests lent result =
     RestsIfErr text_row lent (λ p. (params_sink p).ghost_name) result
     (λ last. (string_bytes last ≡ string_bytes lent.now) × (string_capacity lent.now ≤ string_capacity last))
 
--- the returned serializer has the same text, with this text appended
-abbrev pub HoldsMore : {E : Type 0} → MutBor Text → List ℕ → Result (ParameterSerializer Text) E → Type 0
-HoldsMore lent more result = IfOk result (λ p. string_bytes (params_sink p).now ≡ string_bytes lent.now ++ more)
+-- this text is appended to the borrowed text, which `p` writes to
+abbrev pub ContinuesText : MutBor Text → List ℕ → ParameterSerializer Text → Type 0
+ContinuesText lent more p = string_bytes (params_sink p).now ≡ string_bytes lent.now ++ more
+
+-- the text of a key with its value
+abbrev pub keyed : KeyRef → GenericBareItem StringRef (Bor (List ℕ)) TokenRef (Bor (List ℕ)) → List ℕ
+keyed key value = key_text key ++ value_text (ref_value value)
+
+-- the text of a parameter
+abbrev pub param : KeyRef → GenericBareItem StringRef (Bor (List ℕ)) TokenRef (Bor (List ℕ)) → List ℕ
+param key value = codes ";" ++ keyed key value
 
 -- the output of a serializer of parts
 abbrev pub sequence_sink : {W K : Type 0} → SequenceSerializer W K → W
@@ -58,6 +76,14 @@ inner_list_name s = s.sink.ghost_name
 -- the length of the text before the inner list, its separator and its key
 abbrev pub length_before : {X : Type 0} → SequenceSerializer X InnerListItems → ℕ
 length_before s = s.kind.len_before
+
+-- a serializer of parts: the members of a list or a dictionary, or the items of an inner list
+abbrev pub Parts : Type 0 → Type 0 → Type 0
+Parts = SequenceSerializer
+
+-- a serializer of the items of an inner list, which borrows the serializer of the parts around it
+abbrev pub InnerList : Type 0 → Type 0 → Type 0
+InnerList W K = SequenceSerializer (MutBor (Parts W K)) InnerListItems
 
 module _ {W : Type 0} (w : Sink W) where
   -- the same output, version and kind, and the same `is_empty_so_far`
@@ -101,14 +127,68 @@ module _ {W : Type 0} (w : Sink W) where
   GrowsSequence s t = w.same s.sink t.sink × Extends (string_bytes (w.text s.sink)) (string_bytes (w.text t.sink))
       × (t.kind ≡ s.kind) × KeepsRoom s t
 
-  -- the same output, version, kind and `is_empty_so_far`; the text is truncated to this earlier length
-  abbrev pub IsSequenceTruncatedTo : {K : Type 0} → ℕ → SequenceSerializer W K → SequenceSerializer W K → Type 0
-  IsSequenceTruncatedTo len s t = w.same s.sink t.sink
-      × IsTruncatedTo len (string_bytes (w.text s.sink)) (string_bytes (w.text t.sink))
+  -- `t` is `s` without the inner list `l`: the same output, version, kind and `is_empty_so_far`, and the text before `l`
+  abbrev pub Removes : {K : Type 0} → InnerList W K → Parts W K → Parts W K → Type 0
+  Removes l s t = w.same s.sink t.sink
+      × IsTruncatedTo (length_before l) (string_bytes (w.text s.sink)) (string_bytes (w.text t.sink))
       × (t.is_first ≡ s.is_first) × (t.version ≡ s.version) × (t.kind ≡ s.kind) × KeepsRoom s t
 
+module _ {W K : Type 0} (w : Sink W) where
+  -- `t` is `s` with the text of all elements that the iterator gives, and the version of `s` has their values
+  abbrev pub WritesAll : {A S : Type 0} → ElementKind A → (S → Option A → S → Type 0) → S → Parts W K → Parts W K → Type 0
+  WritesAll kind gives elements s t = TakesAll kind s.version gives elements
+      (λ taken. HasAppended w s t (kind.text s.is_first taken) (is_first_after s.is_first taken))
+
+  -- the error of appending the elements of an iterator to `s`
+  abbrev pub FailsToWrite : {A S : Type 0} → ElementKind A → (S → Option A → S → Type 0) → S → Parts W K → SerializeError → Type 0
+  FailsToWrite kind gives elements s = StopsEarly kind s.version gives elements (w.text s.sink) s.is_first
+
+  -- an item of this text is appended to `s` as the next part, and `p` writes its parameters
+  abbrev pub HasAppendedItem : List ℕ → Parts W K → List ℕ → ParameterSerializer (Parts W K) → Type 0
+  HasAppendedItem separator s text p = HasAppendedNext w separator s (params_sink p).now text false
+
+  -- an inner list that begins with this text is appended to `s` as the next part, and `l` writes its items
+  abbrev pub HasAppendedOpening : List ℕ → Parts W K → List ℕ → InnerList W K → Type 0
+  HasAppendedOpening separator s text l = HasAppendedNext w separator s (sequence_sink l).now text s.is_first
+
+  -- `l` has no item, and keeps the length of the text of `s`
+  abbrev pub BeginsAfter : Parts W K → InnerList W K → Type 0
+  BeginsAfter s l = (is_empty_so_far l ≡ true) × (length_before l ≡ string_len (w.text s.sink))
+
+  -- the inner list `l` is closed, and `p` writes its parameters
+  abbrev pub HasClosed : InnerList W K → ParameterSerializer (Parts W K) → Type 0
+  HasClosed l p = HasAppended w (sequence_sink l).now (params_sink p).now (codes ")") false
+
+  -- this text is appended to the borrowed parts, which `p` writes to
+  abbrev pub Continues : MutBor (Parts W K) → List ℕ → ParameterSerializer (Parts W K) → Type 0
+  Continues lent more p = HasAppended w lent.now (params_sink p).now more lent.now.is_first
+
+  -- the text that parameters are appended to
+  abbrev pub params_text : ParameterSerializer (Parts W K) → Text
+  params_text s = w.text (params_sink s).now.sink
+
+  -- the capacity of the text of `s` doesn't hold a next part of this text, with the separator before it
+  abbrev pub LacksNext : List ℕ → Parts W K → List ℕ → Type 0
+  LacksNext separator s text = LacksRoom (w.text s.sink) (separator_before s.is_first separator ++ text)
+
+module _ {X S : Type 0} (gives : S → Option (Bor (List ℕ) × Bor OwnedBareItem) → S → Type 0) (pairs : S) where
+  -- all parameters that the iterator gives are appended to `s`, by this relation for a text, and `p` writes more of them
+  abbrev pub WritesParameters : (MutBor X → List ℕ → ParameterSerializer X → Type 0) → ParameterSerializer X
+      → ParameterSerializer X → Type 0
+  WritesParameters appends s p = TakesAll parameter_pairs (params_version s) gives pairs
+      (λ taken. appends (params_sink s) (parameters_text (lent_pairs taken)) p)
+
+  -- the error of appending the parameters of an iterator to `s`, which writes to this text
+  abbrev pub FailsToWriteParameters : ParameterSerializer X → Text → SerializeError → Type 0
+  FailsToWriteParameters s text = StopsEarly parameter_pairs (params_version s) gives pairs text true
+
 module _ (W K : RattleType) where
-  -- after an error, this holds of the old and the new state of the borrowed parts
-  abbrev pub SequenceRests : {A E : Type 0} → (SequenceSerializer W.Denot K.Denot → SequenceSerializer W.Denot K.Denot → Type 0)
-      → MutBor (SequenceSerializer W.Denot K.Denot) → (A → GName) → Result A E → Fml
-  SequenceRests says lent name result = RestsIfErr (sequence.the_row W K) lent name result (λ last. says lent.now last)
+  -- on success, a serializer of parameters borrows the parts; after an error, this holds of their old and new state
+  abbrev pub ParamsRest : {E : Type 0} → (Parts W.Denot K.Denot → Parts W.Denot K.Denot → Type 0)
+      → MutBor (Parts W.Denot K.Denot) → Result (ParameterSerializer (Parts W.Denot K.Denot)) E → Fml
+  ParamsRest says lent result = RestsIfErr (sequence.the_row W K) lent params_name result (says lent.now)
+
+  -- the same for a serializer of an inner list
+  abbrev pub InnerListRests : {E : Type 0} → (Parts W.Denot K.Denot → Parts W.Denot K.Denot → Type 0)
+      → MutBor (Parts W.Denot K.Denot) → Result (InnerList W.Denot K.Denot) E → Fml
+  InnerListRests says lent result = RestsIfErr (sequence.the_row W K) lent inner_list_name result (says lent.now)

@@ -1,20 +1,18 @@
 //! The serializer of dictionaries (RFC 9651, section 4.1.2).
 
-ghost use Rattle.std.specs.Prelude.{◌≡◌, ◌∷◌, ◌++◌, [], true, false, IfOk, IfErr, OnOk, OnErr, List, IsTrue, codes};
-ghost use Rattle.std.specs.Prelude.{string_len};
+ghost use Rattle.std.specs.Prelude.{◌≡◌, ◌∷◌, ◌++◌, [], false, IfOk, IfErr, OnOk, OnErr, IsTrue, codes};
 ghost use Rattle.std.specs.Borrow.{sem};
-ghost use Rattle.std.specs.Iterator.{IsFinite, Drains};
+ghost use Rattle.std.specs.Iterator.{IsFinite};
 ghost use Rattle.sfv_spec.specs.Classes.{is_key};
 ghost use Rattle.sfv_spec.specs.Values.{IsBareValue};
-ghost use Rattle.sfv_spec.specs.Values.{AllFit};
 ghost use Rattle.sfv_bare.specs.BareItems.{ref_value};
 ghost use Rattle.sfv_text.specs.KeyText.{key_text};
-ghost use Rattle.sfv_writer.specs.Written.{LacksRoom, separator_before, keyed_text, is_first_after, dictionary_members_text, AreDictionaryMembers};
-ghost use Rattle.sfv_writer.specs.Versions.{LacksWhereRefused, ChecksVersionFirst, FailsAmong, LacksAmong, values_of_dictionary_members};
-ghost use Rattle.sfv_serializer.specs.Serializers.{SequenceRests, HasAppended, HasAppendedNext, KeepsSequence, sequence_sink};
-ghost use Rattle.sfv_serializer.specs.Serializers.{sequence_version, is_empty_so_far, params_sink, params_name, params_version};
-ghost use Rattle.sfv_serializer.specs.Serializers.{inner_list_name, length_before};
-ghost use Rattle.sfv_serializer.specs.contracts.sequence_kind.DictMembers.{the_row as dict_members};
+ghost use Rattle.sfv_writer.specs.Versions.{OnOutOfMemory, ChecksVersionFirst, dictionary_members};
+ghost use Rattle.sfv_serializer.specs.Serializers.{KeepsSequence};
+ghost use Rattle.sfv_serializer.specs.Serializers.{sequence_version, params_name, params_version};
+ghost use Rattle.sfv_serializer.specs.Serializers.{inner_list_name};
+ghost use Rattle.sfv_serializer.specs.Serializers.{WritesAll, FailsToWrite, InnerListRests, ParamsRest, HasAppendedItem, HasAppendedOpening, BeginsAfter, LacksNext, keyed};
+ghost use Rattle.sfv_serializer.specs.contracts.sequence_kind.DictMembers.{the_row as dict_row};
 
 use crate::fragment::{KeyValue, KeyedInnerListStart};
 use crate::inner_list_serializer::InnerListSerializer;
@@ -52,14 +50,12 @@ impl<W: Sink> SequenceSerializer<W, DictMembers> {
         name: KeyRef<'_>,
         value: RefBareItem<'_>,
     ) -> Result<ParameterSerializer<'_, DictSerializer<W>>, SerializeError>
-        ensures* kept { sem 𝓛 (SequenceRests W.row dict_members (KeepsSequence W.Sink) self.entry params_name result) }
+        ensures* kept { sem 𝓛 (ParamsRest W.row dict_row (KeepsSequence W.Sink) self.entry result) }
         ensures lent { IfOk result (λ p. params_name p ≡ self.entry.ghost_name) }
         ensures version { IfOk result (λ p. params_version p ≡ sequence_version self.old) }
         ensures unsupported { ChecksVersionFirst (sequence_version self.old) (ref_value value.entry ∷ []) result }
-        ensures text { IfOk result (λ p. HasAppendedNext W.Sink (codes ", ") self.old (params_sink p).now
-            (keyed_text (key_text name.entry) (ref_value value.entry)) false) }
-        ensures room { LacksWhereRefused (W.text (sequence_sink self.old))
-            (separator_before (is_empty_so_far self.old) (codes ", ") ++ keyed_text (key_text name.entry) (ref_value value.entry)) result }
+        ensures text { IfOk result (HasAppendedItem W.Sink (codes ", ") self.old (keyed name.entry value.entry)) }
+        ensures room { OnOutOfMemory result (LacksNext W.Sink (codes ", ") self.old (keyed name.entry value.entry)) }
         ensures is_key { IsTrue (is_key (key_text name.entry)) }
         ensures is_value { IsBareValue (ref_value value.entry) }
     {
@@ -84,16 +80,12 @@ impl<W: Sink> SequenceSerializer<W, DictMembers> {
         &mut self,
         name: KeyRef<'_>,
     ) -> Result<InnerListSerializer<&mut DictSerializer<W>>, OutOfMemory>
-        ensures* out_of_memory { sem 𝓛 (SequenceRests W.row dict_members (KeepsSequence W.Sink) self.entry
-            inner_list_name result) }
+        ensures* out_of_memory { sem 𝓛 (InnerListRests W.row dict_row (KeepsSequence W.Sink) self.entry result) }
         ensures lent { IfOk result (λ s. inner_list_name s ≡ self.entry.ghost_name) }
         ensures version { IfOk result (λ s. sequence_version s ≡ sequence_version self.old) }
-        ensures text { IfOk result (λ s. HasAppendedNext W.Sink (codes ", ") self.old (sequence_sink s).now
-            (key_text name.entry ++ codes "=(") (is_empty_so_far self.old)) }
-        ensures begins { IfOk result (λ s. (is_empty_so_far s ≡ true)
-            × (length_before s ≡ string_len (W.text (sequence_sink self.old)))) }
-        ensures room { OnErr result (LacksRoom (W.text (sequence_sink self.old))
-            (separator_before (is_empty_so_far self.old) (codes ", ") ++ key_text name.entry ++ codes "=(")) }
+        ensures text { IfOk result (HasAppendedOpening W.Sink (codes ", ") self.old (key_text name.entry ++ codes "=(")) }
+        ensures begins { IfOk result (BeginsAfter W.Sink self.old) }
+        ensures room { OnErr result (LacksNext W.Sink (codes ", ") self.old (key_text name.entry ++ codes "=(")) }
         ensures is_key { IsTrue (is_key (key_text name.entry)) }
     {
         key_invariant(name);
@@ -112,13 +104,8 @@ impl<W: Sink> SequenceSerializer<W, DictMembers> {
     ) -> Result<(), SerializeError>
         requires can { I.can_next members }
         requires ends { IsFinite (I.remaining members) }
-        ensures text { OnOk result ((taken : List _) × Drains I.next_gives members taken
-            × HasAppended W.Sink self.old self.new (dictionary_members_text (is_empty_so_far self.old) taken)
-            (is_first_after (is_empty_so_far self.old) taken)
-            × AreDictionaryMembers taken × AllFit (sequence_version self.old) (values_of_dictionary_members taken)) }
-        ensures failed { IfErr result (FailsAmong I.next_gives members values_of_dictionary_members (sequence_version self.old)) }
-        ensures room { IfErr result (LacksAmong I.next_gives members values_of_dictionary_members (sequence_version self.old)
-            (W.text (sequence_sink self.old)) (dictionary_members_text (is_empty_so_far self.old))) }
+        ensures text { OnOk result (WritesAll W.Sink dictionary_members I.next_gives members self.old self.new) }
+        ensures failed { IfErr result (FailsToWrite W.Sink dictionary_members I.next_gives members self.old) }
         ensures kept { OnErr result (KeepsSequence W.Sink self.old self.new) }
     {
         self.append_each(members)

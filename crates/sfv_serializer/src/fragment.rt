@@ -8,7 +8,8 @@ ghost use Rattle.sfv_spec.specs.Canonical.{bare_text};
 ghost use Rattle.sfv_bare.specs.BareItems.{ref_value};
 ghost use Rattle.sfv_text.specs.KeyText.{key_text};
 ghost use Rattle.sfv_text.specs.TokenText.{token_text};
-ghost use Rattle.sfv_writer.specs.Written.{AsksForRoom, Appends, AppendsOrKeeps, keyed_text, param_text, separator_before};
+ghost use Rattle.sfv_writer.specs.Written.{AsksForRoom, Appends, AppendsOrKeeps, separator_before};
+ghost use Rattle.sfv_serializer.specs.Serializers.{keyed, param};
 
 use sfv_bare::bare::RefBareItem;
 use sfv_base::error::OutOfMemory;
@@ -115,7 +116,7 @@ pub(crate) struct KeyValue<'a> {
 }
 
 impl<'a> Fragment for KeyValue<'a> {
-    ghost text = { λ p. keyed_text (key_text p.name) (ref_value p.value) };
+    ghost text = { λ p. keyed p.name p.value };
 
     ghost is_valid = { λ p. IsTrue (is_key (key_text p.name)) × IsBareValue (ref_value p.value) };
 
@@ -133,7 +134,7 @@ pub(crate) struct Parameter<'a> {
 }
 
 impl<'a> Fragment for Parameter<'a> {
-    ghost text = { λ p. param_text (key_text p.named.name) (ref_value p.named.value) };
+    ghost text = { λ p. param p.named.name p.named.value };
 
     ghost is_valid = { λ p. IsTrue (is_key (key_text p.named.name)) × IsBareValue (ref_value p.named.value) };
 

@@ -1,13 +1,13 @@
 //! The serializer of inner lists (RFC 9651, section 4.1.1.1).
 
-ghost use Rattle.std.specs.Prelude.{◌≡◌, false, IfOk, IfErr, OnOk, OnErr, List, codes};
+ghost use Rattle.std.specs.Prelude.{◌≡◌, false, IfOk, IfErr, OnOk, OnErr, codes};
 ghost use Rattle.std.specs.Borrow.{sem};
-ghost use Rattle.std.specs.Iterator.{IsFinite, Drains};
-ghost use Rattle.sfv_spec.specs.Values.{AllFit};
-ghost use Rattle.sfv_writer.specs.Written.{LacksRoom, is_first_after, items_text, AreItems};
-ghost use Rattle.sfv_writer.specs.Versions.{FailsAmong, LacksAmong, values_of_items};
-ghost use Rattle.sfv_serializer.specs.Serializers.{SequenceRests, HasAppended, KeepsSequence, IsSequenceTruncatedTo, KeepsCapacity, sequence_sink, sequence_version};
-ghost use Rattle.sfv_serializer.specs.Serializers.{is_empty_so_far, params_sink, params_name, params_version, length_before};
+ghost use Rattle.std.specs.Iterator.{IsFinite};
+ghost use Rattle.sfv_writer.specs.Written.{LacksRoom};
+ghost use Rattle.sfv_writer.specs.Versions.{inner_items};
+ghost use Rattle.sfv_serializer.specs.Serializers.{KeepsSequence, KeepsCapacity, sequence_sink, sequence_version};
+ghost use Rattle.sfv_serializer.specs.Serializers.{WritesAll, FailsToWrite, ParamsRest, Removes, HasClosed};
+ghost use Rattle.sfv_serializer.specs.Serializers.{params_name, params_version};
 
 use crate::parameter_serializer::ParameterSerializer;
 use crate::sequence::SequenceSerializer;
@@ -36,13 +36,8 @@ impl<X: Sink> SequenceSerializer<X, InnerListItems> {
     ) -> Result<(), SerializeError>
         requires can { I.can_next items }
         requires ends { IsFinite (I.remaining items) }
-        ensures text { OnOk result ((taken : List _) × Drains I.next_gives items taken
-            × HasAppended X.Sink self.old self.new (items_text (is_empty_so_far self.old) taken)
-            (is_first_after (is_empty_so_far self.old) taken)
-            × AreItems taken × AllFit (sequence_version self.old) (values_of_items taken)) }
-        ensures failed { IfErr result (FailsAmong I.next_gives items values_of_items (sequence_version self.old)) }
-        ensures room { IfErr result (LacksAmong I.next_gives items values_of_items (sequence_version self.old)
-            (X.text (sequence_sink self.old)) (items_text (is_empty_so_far self.old))) }
+        ensures text { OnOk result (WritesAll X.Sink inner_items I.next_gives items self.old self.new) }
+        ensures failed { IfErr result (FailsToWrite X.Sink inner_items I.next_gives items self.old) }
         ensures kept { OnErr result (KeepsSequence X.Sink self.old self.new) }
     {
         self.append_each(items)
@@ -57,12 +52,10 @@ impl<'s, W: Sink, K> SequenceSerializer<&'s mut SequenceSerializer<W, K>, InnerL
     /// Returns `OutOfMemory` if memory runs out. The inner list is then removed with its separator or key, as by
     /// `abandon`.
     pub fn finish(self) -> Result<ParameterSerializer<'s, SequenceSerializer<W, K>>, OutOfMemory>
-        ensures* out_of_memory { sem 𝓛 (SequenceRests W.row K.row (IsSequenceTruncatedTo W.Sink (length_before self.entry))
-            (sequence_sink self.entry) params_name result) }
+        ensures* out_of_memory { sem 𝓛 (ParamsRest W.row K.row (Removes W.Sink self.entry) (sequence_sink self.entry) result) }
         ensures lent { IfOk result (λ p. params_name p ≡ (sequence_sink self.entry).ghost_name) }
         ensures version { IfOk result (λ p. params_version p ≡ sequence_version (sequence_sink self.entry).now) }
-        ensures text { IfOk result (λ p. HasAppended W.Sink (sequence_sink self.entry).now (params_sink p).now
-            (codes ")") false) }
+        ensures text { IfOk result (HasClosed W.Sink self.entry) }
         ensures room { OnErr result (LacksRoom (W.text (sequence_sink (sequence_sink self.entry).now)) (codes ")")) }
     {
         let SequenceSerializer {
@@ -85,7 +78,7 @@ impl<'s, W: Sink, K> SequenceSerializer<&'s mut SequenceSerializer<W, K>, InnerL
     /// Removes the inner list with its separator or key. The text and `has_member` are as before the inner list
     /// began.
     pub fn abandon(self)
-        ensures text { IsSequenceTruncatedTo W.Sink (length_before self.entry) (sequence_sink self.entry).now self.exit.0.now }
+        ensures text { Removes W.Sink self.entry (sequence_sink self.entry).now self.exit.0.now }
         ensures room { KeepsCapacity W.Sink (sequence_sink self.entry).now self.exit.0.now }
     {
         let SequenceSerializer {

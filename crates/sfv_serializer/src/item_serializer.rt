@@ -6,8 +6,9 @@ ghost use Rattle.sfv_spec.specs.Values.{IsBareValue};
 ghost use Rattle.sfv_spec.specs.declared.version.Version.TheVariants.{Rfc9651};
 ghost use Rattle.sfv_spec.specs.Canonical.{bare_text};
 ghost use Rattle.sfv_bare.specs.BareItems.{ref_value};
-ghost use Rattle.sfv_writer.specs.Versions.{LacksWhereRefused, ChecksVersionFirst};
-ghost use Rattle.sfv_serializer.specs.Serializers.{TextRests, HoldsMore, item_buffer, params_sink, item_version, params_version};
+ghost use Rattle.sfv_writer.specs.Written.{LacksRoom};
+ghost use Rattle.sfv_writer.specs.Versions.{OnOutOfMemory, ChecksVersionFirst};
+ghost use Rattle.sfv_serializer.specs.Serializers.{TextRests, ContinuesText, item_buffer, params_sink, item_version, params_version};
 
 use crate::fragment::{BareItemFragment, append};
 use crate::parameter_serializer::ParameterSerializer;
@@ -66,8 +67,8 @@ impl<'a> ItemSerializer<'a> {
         ensures lent { IfOk result (λ p. (params_sink p).ghost_name ≡ (item_buffer self.entry).ghost_name) }
         ensures version { IfOk result (λ p. params_version p ≡ item_version self.entry) }
         ensures unsupported { ChecksVersionFirst (item_version self.entry) (ref_value bare_item.entry ∷ []) result }
-        ensures text { HoldsMore (item_buffer self.entry) (bare_text (ref_value bare_item.entry)) result }
-        ensures room { LacksWhereRefused (item_buffer self.entry).now (bare_text (ref_value bare_item.entry)) result }
+        ensures text { IfOk result (ContinuesText (item_buffer self.entry) (bare_text (ref_value bare_item.entry))) }
+        ensures room { OnOutOfMemory result (LacksRoom (item_buffer self.entry).now (bare_text (ref_value bare_item.entry))) }
         ensures stays { IfOk result (λ p. string_capacity (item_buffer self.entry).now ≤ string_capacity (params_sink p).now) }
         ensures is_value { IsBareValue (ref_value bare_item.entry) }
     {

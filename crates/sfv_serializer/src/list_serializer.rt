@@ -1,14 +1,13 @@
 //! The serializer of lists (RFC 9651, section 4.1.1).
 
-ghost use Rattle.std.specs.Prelude.{◌≡◌, ◌++◌, true, IfOk, IfErr, OnOk, OnErr, List, codes, string_len};
+ghost use Rattle.std.specs.Prelude.{◌≡◌, IfOk, IfErr, OnOk, OnErr, codes};
 ghost use Rattle.std.specs.Borrow.{sem};
-ghost use Rattle.std.specs.Iterator.{IsFinite, Drains};
-ghost use Rattle.sfv_spec.specs.Values.{AllFit};
-ghost use Rattle.sfv_writer.specs.Written.{LacksRoom, separator_before, is_first_after, list_members_text, AreListMembers};
-ghost use Rattle.sfv_writer.specs.Versions.{FailsAmong, LacksAmong, values_of_list_members};
-ghost use Rattle.sfv_serializer.specs.Serializers.{SequenceRests, HasAppended, HasAppendedNext, KeepsSequence, sequence_sink};
-ghost use Rattle.sfv_serializer.specs.Serializers.{sequence_version, is_empty_so_far, inner_list_name, length_before};
-ghost use Rattle.sfv_serializer.specs.contracts.sequence_kind.ListMembers.{the_row as list_members};
+ghost use Rattle.std.specs.Iterator.{IsFinite};
+ghost use Rattle.sfv_writer.specs.Versions.{list_members};
+ghost use Rattle.sfv_serializer.specs.Serializers.{KeepsSequence};
+ghost use Rattle.sfv_serializer.specs.Serializers.{sequence_version, inner_list_name};
+ghost use Rattle.sfv_serializer.specs.Serializers.{WritesAll, FailsToWrite, InnerListRests, HasAppendedOpening, BeginsAfter, LacksNext};
+ghost use Rattle.sfv_serializer.specs.contracts.sequence_kind.ListMembers.{the_row as list_row};
 
 use crate::fragment::InnerListStart;
 use crate::inner_list_serializer::InnerListSerializer;
@@ -34,16 +33,12 @@ impl<W: Sink> SequenceSerializer<W, ListMembers> {
     ///
     /// Returns `OutOfMemory` if memory runs out. The text and `has_member` are then unchanged.
     pub fn inner_list(&mut self) -> Result<InnerListSerializer<&mut ListSerializer<W>>, OutOfMemory>
-        ensures* out_of_memory { sem 𝓛 (SequenceRests W.row list_members (KeepsSequence W.Sink) self.entry
-            inner_list_name result) }
+        ensures* out_of_memory { sem 𝓛 (InnerListRests W.row list_row (KeepsSequence W.Sink) self.entry result) }
         ensures lent { IfOk result (λ s. inner_list_name s ≡ self.entry.ghost_name) }
         ensures version { IfOk result (λ s. sequence_version s ≡ sequence_version self.old) }
-        ensures text { IfOk result (λ s. HasAppendedNext W.Sink (codes ", ") self.old (sequence_sink s).now
-            (codes "(") (is_empty_so_far self.old)) }
-        ensures begins { IfOk result (λ s. (is_empty_so_far s ≡ true)
-            × (length_before s ≡ string_len (W.text (sequence_sink self.old)))) }
-        ensures room { OnErr result (LacksRoom (W.text (sequence_sink self.old))
-            (separator_before (is_empty_so_far self.old) (codes ", ") ++ codes "(")) }
+        ensures text { IfOk result (HasAppendedOpening W.Sink (codes ", ") self.old (codes "(")) }
+        ensures begins { IfOk result (BeginsAfter W.Sink self.old) }
+        ensures room { OnErr result (LacksNext W.Sink (codes ", ") self.old (codes "(")) }
     {
         self.begin(InnerListStart {})
     }
@@ -60,13 +55,8 @@ impl<W: Sink> SequenceSerializer<W, ListMembers> {
     ) -> Result<(), SerializeError>
         requires can { I.can_next members }
         requires ends { IsFinite (I.remaining members) }
-        ensures text { OnOk result ((taken : List _) × Drains I.next_gives members taken
-            × HasAppended W.Sink self.old self.new (list_members_text (is_empty_so_far self.old) taken)
-            (is_first_after (is_empty_so_far self.old) taken)
-            × AreListMembers taken × AllFit (sequence_version self.old) (values_of_list_members taken)) }
-        ensures failed { IfErr result (FailsAmong I.next_gives members values_of_list_members (sequence_version self.old)) }
-        ensures room { IfErr result (LacksAmong I.next_gives members values_of_list_members (sequence_version self.old)
-            (W.text (sequence_sink self.old)) (list_members_text (is_empty_so_far self.old))) }
+        ensures text { OnOk result (WritesAll W.Sink list_members I.next_gives members self.old self.new) }
+        ensures failed { IfErr result (FailsToWrite W.Sink list_members I.next_gives members self.old) }
         ensures kept { OnErr result (KeepsSequence W.Sink self.old self.new) }
     {
         self.append_each(members)

@@ -1,18 +1,17 @@
 //! The serializer of parameters (RFC 9651, section 4.1.1.2).
 
-ghost use Rattle.std.specs.Prelude.{◌≡◌, ◌≤◌, ◌∷◌, ◌++◌, [], List, IfOk, IfErr, IsTrue, string_bytes, string_capacity};
+ghost use Rattle.std.specs.Prelude.{◌≡◌, ◌≤◌, ◌∷◌, [], IfOk, IfErr, IsTrue, string_capacity};
 ghost use Rattle.std.specs.Borrow.{sem};
-ghost use Rattle.std.specs.Iterator.{IsFinite, Drains};
+ghost use Rattle.std.specs.Iterator.{IsFinite};
 ghost use Rattle.sfv_spec.specs.Classes.{is_key};
-ghost use Rattle.sfv_spec.specs.Values.{IsBareValue, AreParameters};
-ghost use Rattle.sfv_spec.specs.Canonical.{parameters_text};
-ghost use Rattle.sfv_spec.specs.Values.{AllFit};
+ghost use Rattle.sfv_spec.specs.Values.{IsBareValue};
 ghost use Rattle.sfv_bare.specs.BareItems.{ref_value};
 ghost use Rattle.sfv_text.specs.KeyText.{key_text};
-ghost use Rattle.sfv_writer.specs.Written.{param_text, lent_pairs};
-ghost use Rattle.sfv_writer.specs.Versions.{LacksWhereRefused, ChecksVersionFirst, FailsAmong, LacksAmong, values_of_pairs};
-ghost use Rattle.sfv_serializer.specs.Serializers.{TextRests, HoldsMore, params_sink, params_name, params_version};
-ghost use Rattle.sfv_serializer.specs.Serializers.{SequenceRests, KeepsSequence, HasAppended, is_empty_so_far, sequence_sink};
+ghost use Rattle.sfv_writer.specs.Written.{LacksRoom};
+ghost use Rattle.sfv_writer.specs.Versions.{OnOutOfMemory, ChecksVersionFirst};
+ghost use Rattle.sfv_serializer.specs.Serializers.{TextRests, ContinuesText, params_sink, params_name, params_version};
+ghost use Rattle.sfv_serializer.specs.Serializers.{WritesParameters, FailsToWriteParameters, ParamsRest, Continues, params_text, param};
+ghost use Rattle.sfv_serializer.specs.Serializers.{KeepsSequence};
 
 use crate::fragment::{KeyValue, Parameter, append};
 use crate::sequence::SequenceSerializer;
@@ -76,11 +75,9 @@ impl<'s> ParameterSerializer<'s, StdString> {
         ensures* kept { sem 𝓛 (TextRests (params_sink self.entry) result) }
         ensures lent { IfOk result (λ p. (params_sink p).ghost_name ≡ (params_sink self.entry).ghost_name) }
         ensures version { IfOk result (λ p. params_version p ≡ params_version self.entry) }
-        ensures text { HoldsMore (params_sink self.entry)
-            (param_text (key_text name.entry) (ref_value value.entry)) result }
+        ensures text { IfOk result (ContinuesText (params_sink self.entry) (param name.entry value.entry)) }
         ensures unsupported { ChecksVersionFirst (params_version self.entry) (ref_value value.entry ∷ []) result }
-        ensures room { LacksWhereRefused (params_sink self.entry).now
-            (param_text (key_text name.entry) (ref_value value.entry)) result }
+        ensures room { OnOutOfMemory result (LacksRoom (params_sink self.entry).now (param name.entry value.entry)) }
         ensures stays { IfOk result (λ p. string_capacity (params_sink self.entry).now ≤ string_capacity (params_sink p).now) }
         ensures is_key { IsTrue (is_key (key_text name.entry)) }
         ensures is_value { IsBareValue (ref_value value.entry) }
@@ -110,13 +107,8 @@ impl<'s> ParameterSerializer<'s, StdString> {
         ensures* kept { sem 𝓛 (TextRests (params_sink self.entry) result) }
         ensures lent { IfOk result (λ p. (params_sink p).ghost_name ≡ (params_sink self.entry).ghost_name) }
         ensures version { IfOk result (λ p. params_version p ≡ params_version self.entry) }
-        ensures text { IfOk result (λ p. (pairs : List _) × Drains I.next_gives params pairs
-            × (string_bytes (params_sink p).now
-            ≡ string_bytes (params_sink self.entry).now ++ parameters_text (lent_pairs pairs))
-            × AreParameters (lent_pairs pairs) × AllFit (params_version self.entry) (values_of_pairs pairs)) }
-        ensures failed { IfErr result (FailsAmong I.next_gives params values_of_pairs (params_version self.entry)) }
-        ensures room { IfErr result (LacksAmong I.next_gives params values_of_pairs (params_version self.entry)
-            (params_sink self.entry).now (λ taken. parameters_text (lent_pairs taken))) }
+        ensures text { IfOk result (WritesParameters I.next_gives params ContinuesText self.entry) }
+        ensures failed { IfErr result (FailsToWriteParameters I.next_gives params self.entry (params_sink self.entry).now) }
         ensures stays { IfOk result (λ p. string_capacity (params_sink self.entry).now ≤ string_capacity (params_sink p).now) }
     {
         let ParameterSerializer { sink, version } = self;
@@ -138,14 +130,12 @@ impl<'s, W: Sink, K> ParameterSerializer<'s, SequenceSerializer<W, K>> {
         name: KeyRef<'_>,
         value: RefBareItem<'_>,
     ) -> Result<ParameterSerializer<'s, SequenceSerializer<W, K>>, SerializeError>
-        ensures* kept { sem 𝓛 (SequenceRests W.row K.row (KeepsSequence W.Sink) (params_sink self.entry) params_name result) }
+        ensures* kept { sem 𝓛 (ParamsRest W.row K.row (KeepsSequence W.Sink) (params_sink self.entry) result) }
         ensures lent { IfOk result (λ p. params_name p ≡ params_name self.entry) }
         ensures version { IfOk result (λ p. params_version p ≡ params_version self.entry) }
-        ensures text { IfOk result (λ p. HasAppended W.Sink (params_sink self.entry).now (params_sink p).now
-            (param_text (key_text name.entry) (ref_value value.entry)) (is_empty_so_far (params_sink self.entry).now)) }
+        ensures text { IfOk result (Continues W.Sink (params_sink self.entry) (param name.entry value.entry)) }
         ensures unsupported { ChecksVersionFirst (params_version self.entry) (ref_value value.entry ∷ []) result }
-        ensures room { LacksWhereRefused (W.text (sequence_sink (params_sink self.entry).now))
-            (param_text (key_text name.entry) (ref_value value.entry)) result }
+        ensures room { OnOutOfMemory result (LacksRoom (params_text W.Sink self.entry) (param name.entry value.entry)) }
         ensures is_key { IsTrue (is_key (key_text name.entry)) }
         ensures is_value { IsBareValue (ref_value value.entry) }
     {
@@ -171,16 +161,11 @@ impl<'s, W: Sink, K> ParameterSerializer<'s, SequenceSerializer<W, K>> {
     ) -> Result<ParameterSerializer<'s, SequenceSerializer<W, K>>, SerializeError>
         requires can { I.can_next params }
         requires ends { IsFinite (I.remaining params) }
-        ensures* kept { sem 𝓛 (SequenceRests W.row K.row (KeepsSequence W.Sink) (params_sink self.entry) params_name result) }
+        ensures* kept { sem 𝓛 (ParamsRest W.row K.row (KeepsSequence W.Sink) (params_sink self.entry) result) }
         ensures lent { IfOk result (λ p. params_name p ≡ params_name self.entry) }
         ensures version { IfOk result (λ p. params_version p ≡ params_version self.entry) }
-        ensures text { IfOk result (λ p. (pairs : List _) × Drains I.next_gives params pairs
-            × HasAppended W.Sink (params_sink self.entry).now (params_sink p).now (parameters_text (lent_pairs pairs))
-            (is_empty_so_far (params_sink self.entry).now)
-            × AreParameters (lent_pairs pairs) × AllFit (params_version self.entry) (values_of_pairs pairs)) }
-        ensures failed { IfErr result (FailsAmong I.next_gives params values_of_pairs (params_version self.entry)) }
-        ensures room { IfErr result (LacksAmong I.next_gives params values_of_pairs (params_version self.entry)
-            (W.text (sequence_sink (params_sink self.entry).now)) (λ taken. parameters_text (lent_pairs taken))) }
+        ensures text { IfOk result (WritesParameters I.next_gives params (Continues W.Sink) self.entry) }
+        ensures failed { IfErr result (FailsToWriteParameters I.next_gives params self.entry (params_text W.Sink self.entry)) }
     {
         let ParameterSerializer { sink, version } = self;
         append_parameters(version, params, sink.sink.text_mut(OPENER))?;

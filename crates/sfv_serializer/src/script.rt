@@ -15,7 +15,7 @@ ghost use Rattle.sfv_spec.specs.Calls.{described};
 ghost use Rattle.sfv_spec.specs.Canonical.{canonical, item_text, dictionary_member_text};
 ghost use Rattle.sfv_text.specs.KeyText.{key_text};
 ghost use Rattle.sfv_writer.specs.Written.{Appends, AppendsOrKeeps, AsksForRoom, LacksRoom, IsReadBack, separator_before, with_separators, is_first_after};
-ghost use Rattle.sfv_writer.specs.Versions.{LacksWhereRefused, ChecksVersionFirst};
+ghost use Rattle.sfv_writer.specs.Versions.{OnOutOfMemory, ChecksVersionFirst};
 ghost use Rattle.sfv_writer.specs.declared.serialize_error.SerializeError.TheVariants as errors;
 ghost use Rattle.sfv_serializer.specs.Serializers.{lent_sequence, HasAppended, HasAppendedNext, GrowsSequence, inner_list_name, is_empty_so_far};
 ghost use Rattle.sfv_serializer.specs.Serializers.{sequence_version, sequence_sink};
@@ -427,7 +427,7 @@ pub fn run_item_for(
     calls: &ItemCalls<'_>,
 ) -> Result<(), SerializeError>
     ensures text { AppendsOrKeeps text.old text.new (canonical item_field (item_of_calls calls.now)) result }
-    ensures room { LacksWhereRefused text.old (canonical item_field (item_of_calls calls.now)) result }
+    ensures room { OnOutOfMemory result (LacksRoom text.old (canonical item_field (item_of_calls calls.now))) }
     ensures stays { string_capacity text.old ≤ string_capacity text.new }
     ensures value { OnOk result (IsFieldValue item_field (item_of_calls calls.now)) }
     ensures unsupported { ChecksVersionFirst version (bare_values item_field (item_of_calls calls.now)) result }

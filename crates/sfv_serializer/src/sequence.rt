@@ -1,22 +1,20 @@
 //! The common serializer of list members, dictionary members and items of inner lists (RFC 9651, sections 4.1.1,
 //! 4.1.1.1 and 4.1.2).
 
-ghost use Rattle.std.specs.Prelude.{◌≡◌, ◌++◌, ◌∷◌, ◌↔◌, [], true, false, not, IsTrue, IsNone, IfSome, IfOk, IfErr, OnOk};
-ghost use Rattle.std.specs.Prelude.{OnErr, List, map, flat_map, string_bytes, string_len, string_capacity};
-ghost use Rattle.std.specs.List.{AllByRecursion};
+ghost use Rattle.std.specs.Prelude.{◌≡◌, ◌∷◌, ◌↔◌, [], true, false, not, IsTrue, IsNone, IfSome, IfOk, IfErr, OnOk};
+ghost use Rattle.std.specs.Prelude.{OnErr, string_bytes, string_capacity};
 ghost use Rattle.std.specs.Borrow.{sem};
-ghost use Rattle.std.specs.Iterator.{IsFinite, Drains};
+ghost use Rattle.std.specs.Iterator.{IsFinite};
 ghost use Rattle.std.proofs.Common.{◌∙◌, refl};
 ghost use Rattle.sfv_spec.specs.Values.{IsBareValue};
 ghost use Rattle.sfv_spec.specs.declared.version.Version.TheVariants.{Rfc9651};
 ghost use Rattle.sfv_spec.specs.Canonical.{bare_text};
-ghost use Rattle.sfv_spec.specs.Values.{AllFit};
 ghost use Rattle.sfv_bare.specs.BareItems.{ref_value};
-ghost use Rattle.sfv_writer.specs.Written.{LacksRoom, separator_before, with_separators, is_first_after};
-ghost use Rattle.sfv_writer.specs.Versions.{LacksWhereRefused, ChecksVersionFirst, FailsAmong, LacksAmong};
-ghost use Rattle.sfv_serializer.specs.Serializers.{IsSameSequence, KeepsSequence, HasAppended, HasAppendedNext, SequenceRests, sequence_sink};
-ghost use Rattle.sfv_serializer.specs.Serializers.{sequence_version, is_empty_so_far, params_sink, params_name, params_version};
-ghost use Rattle.sfv_serializer.specs.Serializers.{inner_list_name, length_before};
+ghost use Rattle.sfv_writer.specs.Versions.{separated, OnOutOfMemory, ChecksVersionFirst};
+ghost use Rattle.sfv_serializer.specs.Serializers.{IsSameSequence, KeepsSequence, HasAppendedNext, sequence_sink};
+ghost use Rattle.sfv_serializer.specs.Serializers.{sequence_version, is_empty_so_far, params_name, params_version};
+ghost use Rattle.sfv_serializer.specs.Serializers.{WritesAll, FailsToWrite, InnerListRests, ParamsRest, HasAppendedItem, HasAppendedOpening, BeginsAfter, LacksNext};
+ghost use Rattle.sfv_serializer.specs.Serializers.{inner_list_name};
 
 use crate::fragment::{BareItemFragment, Fragment, Separated, TokenFragment, append};
 use crate::inner_list_serializer::InnerListSerializer;
@@ -113,8 +111,7 @@ impl<W: Sink, K: SequenceKind> SequenceSerializer<W, K> {
     pub(crate) fn append<P: Fragment>(&mut self, fragment: P) -> Result<(), OutOfMemory>
         ensures text { OnOk result
             (HasAppendedNext W.Sink K.separator self.old self.new (P.text fragment) (is_empty_so_far self.old)) }
-        ensures room { OnErr result (LacksRoom (W.text (sequence_sink self.old))
-            (separator_before (is_empty_so_far self.old) K.separator ++ P.text fragment)) }
+        ensures room { OnErr result (LacksNext W.Sink K.separator self.old (P.text fragment)) }
         ensures valid { OnOk result (P.is_valid fragment) }
         ensures kept { OnErr result (KeepsSequence W.Sink self.old self.new) }
     {
@@ -133,13 +130,10 @@ impl<W: Sink, K: SequenceKind> SequenceSerializer<W, K> {
     ) -> Result<(), SerializeError>
         requires can { I.can_next elements }
         requires ends { IsFinite (I.remaining elements) }
-        ensures text { OnOk result ((taken : List _) × Drains I.next_gives elements taken
-            × HasAppended W.Sink self.old self.new (with_separators (is_empty_so_far self.old) K.separator (map E.text taken))
-            (is_first_after (is_empty_so_far self.old) taken)
-            × AllByRecursion E.is_valid taken × AllFit (sequence_version self.old) (flat_map E.values taken)) }
-        ensures failed { IfErr result (FailsAmong I.next_gives elements (flat_map E.values) (sequence_version self.old)) }
-        ensures room { IfErr result (LacksAmong I.next_gives elements (flat_map E.values) (sequence_version self.old)
-            (W.text (sequence_sink self.old)) (λ taken. with_separators (is_empty_so_far self.old) K.separator (map E.text taken))) }
+        ensures text { OnOk result (WritesAll W.Sink (separated K.separator E.text E.values E.is_valid) I.next_gives elements
+            self.old self.new) }
+        ensures failed { IfErr result (FailsToWrite W.Sink (separated K.separator E.text E.values E.is_valid) I.next_gives
+            elements self.old) }
         ensures kept { OnErr result (KeepsSequence W.Sink self.old self.new) }
     {
         let separator = K::separator();
@@ -159,15 +153,12 @@ impl<W: Sink, K: SequenceKind> SequenceSerializer<W, K> {
         &mut self,
         opening: P,
     ) -> Result<InnerListSerializer<&mut SequenceSerializer<W, K>>, OutOfMemory>
-        ensures* out_of_memory { sem 𝓛 (SequenceRests W.row K.row (KeepsSequence W.Sink) self.entry inner_list_name result) }
+        ensures* out_of_memory { sem 𝓛 (InnerListRests W.row K.row (KeepsSequence W.Sink) self.entry result) }
         ensures lent { IfOk result (λ s. inner_list_name s ≡ self.entry.ghost_name) }
         ensures version { IfOk result (λ s. sequence_version s ≡ sequence_version self.old) }
-        ensures text { IfOk result (λ s. HasAppendedNext W.Sink K.separator self.old (sequence_sink s).now
-            (P.text opening) (is_empty_so_far self.old)) }
-        ensures room { OnErr result (LacksRoom (W.text (sequence_sink self.old))
-            (separator_before (is_empty_so_far self.old) K.separator ++ P.text opening)) }
-        ensures begins { IfOk result (λ s. (is_empty_so_far s ≡ true)
-            × (length_before s ≡ string_len (W.text (sequence_sink self.old)))) }
+        ensures text { IfOk result (HasAppendedOpening W.Sink K.separator self.old (P.text opening)) }
+        ensures room { OnErr result (LacksNext W.Sink K.separator self.old (P.text opening)) }
+        ensures begins { IfOk result (BeginsAfter W.Sink self.old) }
         ensures valid { OnOk result (P.is_valid opening) }
     {
         let len_before = self.sink.text_mut(OPENER).len();
@@ -197,14 +188,12 @@ impl<W: Sink, K: Keyless> SequenceSerializer<W, K> {
         &mut self,
         bare_item: RefBareItem<'_>,
     ) -> Result<ParameterSerializer<'_, SequenceSerializer<W, K>>, SerializeError>
-        ensures* kept { sem 𝓛 (SequenceRests W.row K.row (KeepsSequence W.Sink) self.entry params_name result) }
+        ensures* kept { sem 𝓛 (ParamsRest W.row K.row (KeepsSequence W.Sink) self.entry result) }
         ensures lent { IfOk result (λ p. params_name p ≡ self.entry.ghost_name) }
         ensures version { IfOk result (λ p. params_version p ≡ sequence_version self.old) }
         ensures unsupported { ChecksVersionFirst (sequence_version self.old) (ref_value bare_item.entry ∷ []) result }
-        ensures text { IfOk result (λ p. HasAppendedNext W.Sink K.separator self.old (params_sink p).now
-            (bare_text (ref_value bare_item.entry)) false) }
-        ensures room { LacksWhereRefused (W.text (sequence_sink self.old))
-            (separator_before (is_empty_so_far self.old) K.separator ++ bare_text (ref_value bare_item.entry)) result }
+        ensures text { IfOk result (HasAppendedItem W.Sink K.separator self.old (bare_text (ref_value bare_item.entry))) }
+        ensures room { OnOutOfMemory result (LacksNext W.Sink K.separator self.old (bare_text (ref_value bare_item.entry))) }
         ensures is_value { IsBareValue (ref_value bare_item.entry) }
     {
         bare_item_invariant(bare_item);

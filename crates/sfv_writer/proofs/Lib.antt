@@ -10,3 +10,4 @@ pub mod Looks
 pub mod Lent
 pub mod Rows
 pub mod Drained
+pub mod Elements

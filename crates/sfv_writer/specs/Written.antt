@@ -1,19 +1,16 @@
 -- The text of a buffer after an append.
 use Rattle.std.specs.Prelude.{◌≡◌, ℕ, Bool, false, if◌then◌else◌, List, [], ◌∷◌, ◌++◌, map, Result, MatchResult}
-use Rattle.std.specs.Prelude.{IsTrue, codes, string_bytes, string_len, string_capacity, length, IsUtf8, Option, option_map}
+use Rattle.std.specs.Prelude.{codes, string_bytes, string_len, string_capacity, length, IsUtf8, Option, option_map}
 use Rattle.std.specs.Prelude.{◌≤◌, ◌<◌, ◌+◌, OnErr}
 use Rattle.std.specs.Borrow.{Bor}
-use Rattle.std.specs.List.{AllByRecursion}
 use Rattle.std.specs.declared.alloc.Global.{Global}
 use Rattle.std.specs.declared.string.String.{String}
 use Rattle.sfv_spec.specs.Values.{RawField, BareValue, RawParameters, RawItem, RawMember}
 use Rattle.sfv_spec.specs.declared.field_kind.FieldKind.{FieldKind}
 use Rattle.sfv_spec.specs.declared.version.Version.{Version}
 use Rattle.sfv_spec.specs.declared.version.Version.TheVariants.{Rfc9651}
-use Rattle.sfv_spec.specs.Values.{IsItem, IsMember}
-use Rattle.sfv_spec.specs.Ordered.{ordered, IsOrderedItem, IsOrderedMember}
-use Rattle.sfv_spec.specs.Classes.{is_key}
-use Rattle.sfv_spec.specs.Canonical.{value_text, item_text, member_text, dictionary_member_text, canonical}
+use Rattle.sfv_spec.specs.Ordered.{ordered}
+use Rattle.sfv_spec.specs.Canonical.{value_text, canonical}
 use Rattle.sfv_spec.specs.Statements.{IsParsedAs, IsSerializedAs}
 use Rattle.sfv_tree.specs.Trees.{OwnedBareItem, pairs_tree, item_tree, member_tree}
 use Rattle.sfv_tree.specs.declared.parsed.Item.{Item}
@@ -88,24 +85,3 @@ lent_list_member member = member_tree member.now
 
 abbrev pub lent_dictionary_member : Bor (List ℕ) × Bor ListEntry → List ℕ × RawMember
 lent_dictionary_member member = (member.0.now, member_tree member.1.now)
-
--- Each part is in its range or class, and no key occurs twice in parameters.
-abbrev pub AreItems : List (Bor Item) → Type 0
-AreItems = AllByRecursion (λ i. IsItem (lent_item i) × IsOrderedItem (lent_item i))
-
-abbrev pub AreListMembers : List (Bor ListEntry) → Type 0
-AreListMembers = AllByRecursion (λ m. IsMember (lent_list_member m) × IsOrderedMember (lent_list_member m))
-
-abbrev pub AreDictionaryMembers : List (Bor (List ℕ) × Bor ListEntry) → Type 0
-AreDictionaryMembers = AllByRecursion (λ m. (IsTrue (is_key m.0.now) × IsMember (member_tree m.1.now))
-    × IsOrderedMember (member_tree m.1.now))
-
--- their texts
-abbrev pub items_text : Bool → List (Bor Item) → List ℕ
-items_text is_first items = with_separators is_first (codes " ") (map (λ i. item_text (lent_item i)) items)
-
-abbrev pub list_members_text : Bool → List (Bor ListEntry) → List ℕ
-list_members_text is_first members = with_separators is_first (codes ", ") (map (λ m. member_text (lent_list_member m)) members)
-
-abbrev pub dictionary_members_text : Bool → List (Bor (List ℕ) × Bor ListEntry) → List ℕ
-dictionary_members_text is_first members = with_separators is_first (codes ", ") (map (λ m. dictionary_member_text (lent_dictionary_member m)) members)

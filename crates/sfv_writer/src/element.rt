@@ -11,7 +11,7 @@ ghost use Rattle.sfv_spec.specs.Ordered.{IsOrderedItem, IsOrderedMember};
 ghost use Rattle.sfv_spec.specs.Canonical.{item_text, member_text, dictionary_member_text};
 ghost use Rattle.sfv_spec.specs.Values.{AllFit};
 ghost use Rattle.sfv_tree.specs.Trees.{member_tree};
-ghost use Rattle.sfv_writer.specs.Versions.{ChecksVersion, FailsAmong, LacksAmong};
+ghost use Rattle.sfv_writer.specs.Versions.{ChecksVersion, FailsAmong, LacksAmong, StopsEarly, separated};
 ghost use Rattle.sfv_spec.specs.Values.{item_values, member_values};
 ghost use Rattle.sfv_writer.specs.Written.{AsksForRoom, Appends, Extends, with_separators, is_first_after, lent_item, lent_list_member, lent_dictionary_member};
 
@@ -158,9 +158,8 @@ pub fn append_each<E: Element, A: Allocator, I: Iterator<Item = E> + Drop>(
         × (string_bytes output.new ≡ string_bytes output.old ++ with_separators is_first separator.now (map E.text taken))
         × (none ≡ is_first_after is_first taken) × AllByRecursion E.is_valid taken
         × AllFit version (flat_map E.values taken)) }
-    ensures failed { IfErr result (FailsAmong I.next_gives elements (flat_map E.values) version) }
-    ensures room { IfErr result (LacksAmong I.next_gives elements (flat_map E.values) version output.old
-        (λ taken. with_separators is_first separator.now (map E.text taken))) }
+    ensures failed { IfErr result (StopsEarly (separated separator.now E.text E.values E.is_valid) version I.next_gives
+        elements output.old is_first) }
     ensures stays { string_capacity output.old ≤ string_capacity output.new }
     ensures kept { OnErr result (string_bytes output.new ≡ string_bytes output.old) }
 {

@@ -16,7 +16,7 @@ ghost use Rattle.sfv_text.specs.KeyText.{key_text};
 ghost use Rattle.sfv_text.specs.TokenText.{token_text};
 ghost use Rattle.sfv_tree.specs.Trees.{pairs_tree, item_tree};
 ghost use Rattle.sfv_writer.specs.Written.{AsksForRoom, Appends, Extends, param_text, lent_pairs};
-ghost use Rattle.sfv_writer.specs.Versions.{FailsAmong, FailsFrom, LacksAmong, values_of_pairs};
+ghost use Rattle.sfv_writer.specs.Versions.{FailsAmong, FailsFrom, LacksAmong, StopsEarly, parameter_pairs};
 
 use crate::byte_sequence::serialize_byte_sequence;
 use crate::display_string::serialize_display_string;
@@ -165,9 +165,9 @@ pub(crate) fn serialize_parameters<
     requires ends { IsFinite (I.remaining params) }
     ensures text { OnOk result ((pairs : List _) × Drains I.next_gives params pairs
         × (string_bytes output.new ≡ string_bytes output.old ++ parameters_text (lent_pairs pairs))
-        × AreParameters (lent_pairs pairs) × AllFit version (values_of_pairs pairs)) }
-    ensures failed { IfErr result (FailsAmong I.next_gives params values_of_pairs version) }
-    ensures room { IfErr result (LacksAmong I.next_gives params values_of_pairs version output.old
+        × AreParameters (lent_pairs pairs) × AllFit version (parameter_pairs.values pairs)) }
+    ensures failed { IfErr result (FailsAmong I.next_gives params parameter_pairs.values version) }
+    ensures room { IfErr result (LacksAmong I.next_gives params parameter_pairs.values version output.old
         (λ taken. parameters_text (lent_pairs taken))) }
     ensures stays { string_capacity output.old ≤ string_capacity output.new }
     ensures grows { OnErr result (Extends (string_bytes output.old) (string_bytes output.new)) }
@@ -191,10 +191,10 @@ fn serialize_first_and_rest<'k, A: Allocator, I: Iterator<Item = (&'k Key, &'k B
     requires ends { IsFinite (I.remaining rest) }
     ensures text { OnOk result ((pairs : List _) × Drains I.next_gives rest pairs
         × (string_bytes output.new ≡ string_bytes output.old ++ parameters_text (lent_pairs (first.entry ∷ pairs)))
-        × AreParameters (lent_pairs (first.entry ∷ pairs)) × AllFit version (values_of_pairs (first.entry ∷ pairs))) }
+        × AreParameters (lent_pairs (first.entry ∷ pairs)) × AllFit version (parameter_pairs.values (first.entry ∷ pairs))) }
     ensures failed { IfErr result
-        (FailsFrom I.next_gives rest (λ taken. values_of_pairs (first.entry ∷ taken)) version) }
-    ensures room { IfErr result (LacksAmong I.next_gives rest (λ taken. values_of_pairs (first.entry ∷ taken))
+        (FailsFrom I.next_gives rest (λ taken. parameter_pairs.values (first.entry ∷ taken)) version) }
+    ensures room { IfErr result (LacksAmong I.next_gives rest (λ taken. parameter_pairs.values (first.entry ∷ taken))
         version output.old (λ taken. parameters_text (lent_pairs (first.entry ∷ taken)))) }
     ensures stays { string_capacity output.old ≤ string_capacity output.new }
     ensures grows { OnErr result (Extends (string_bytes output.old) (string_bytes output.new)) }
@@ -218,10 +218,10 @@ fn append_first_and_rest<'k, A: Allocator, I: Iterator<Item = (&'k Key, &'k Bare
     requires ends { IsFinite (I.remaining rest) }
     ensures text { OnOk result ((pairs : List _) × Drains I.next_gives rest pairs
         × (string_bytes output.new ≡ string_bytes output.old ++ parameters_text (lent_pairs (first.entry ∷ pairs)))
-        × AreParameters (lent_pairs (first.entry ∷ pairs)) × AllFit version (values_of_pairs (first.entry ∷ pairs))) }
+        × AreParameters (lent_pairs (first.entry ∷ pairs)) × AllFit version (parameter_pairs.values (first.entry ∷ pairs))) }
     ensures failed { IfErr result
-        (FailsFrom I.next_gives rest (λ taken. values_of_pairs (first.entry ∷ taken)) version) }
-    ensures room { IfErr result (LacksAmong I.next_gives rest (λ taken. values_of_pairs (first.entry ∷ taken))
+        (FailsFrom I.next_gives rest (λ taken. parameter_pairs.values (first.entry ∷ taken)) version) }
+    ensures room { IfErr result (LacksAmong I.next_gives rest (λ taken. parameter_pairs.values (first.entry ∷ taken))
         version output.old (λ taken. parameters_text (lent_pairs (first.entry ∷ taken)))) }
     ensures stays { string_capacity output.old ≤ string_capacity output.new }
     ensures kept { OnErr result (string_bytes output.new ≡ string_bytes output.old) }
@@ -251,10 +251,8 @@ pub fn append_parameters<'k, A: Allocator, I: Iterator<Item = (&'k Key, &'k Bare
     requires ends { IsFinite (I.remaining params) }
     ensures text { OnOk result ((pairs : List _) × Drains I.next_gives params pairs
         × (string_bytes output.new ≡ string_bytes output.old ++ parameters_text (lent_pairs pairs))
-        × AreParameters (lent_pairs pairs) × AllFit version (values_of_pairs pairs)) }
-    ensures failed { IfErr result (FailsAmong I.next_gives params values_of_pairs version) }
-    ensures room { IfErr result (LacksAmong I.next_gives params values_of_pairs version output.old
-        (λ taken. parameters_text (lent_pairs taken))) }
+        × AreParameters (lent_pairs pairs) × AllFit version (parameter_pairs.values pairs)) }
+    ensures failed { IfErr result (StopsEarly parameter_pairs version I.next_gives params output.old true) }
     ensures stays { string_capacity output.old ≤ string_capacity output.new }
     ensures kept { OnErr result (string_bytes output.new ≡ string_bytes output.old) }
 {

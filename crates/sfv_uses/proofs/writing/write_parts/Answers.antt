@@ -1,4 +1,4 @@
-use Rattle.std.proofs.Common.{rules, ◌≡◌, ◌++◌, ◌∙◌, string_bytes, ap, append_assoc, subst, arith, Result, Ok, Err}
+use Rattle.std.proofs.Common.{rules, ◌≡◌, true, ◌++◌, ◌∙◌, string_bytes, ap, append_assoc, subst, arith, Result, Ok, Err}
 use Rattle.std.specs.Prelude.{OnErr}
 use Rattle.std.specs.Iterator.{Yields}
 use Rattle.std.specs.Map.Iter.{TakesFirst, deref_pair}
@@ -6,8 +6,8 @@ use Rattle.sfv.specs.Canonical.{bare_text, item_text, parameters_text}
 use Rattle.sfv.specs.BareItems.{bare_value}
 use Rattle.sfv.specs.Trees.{pairs_tree, item_tree}
 use Rattle.sfv.specs.Written.{lent_pairs}
-use Rattle.sfv.specs.Versions.{FailsAmong, values_of_pairs}
-use Rattle.sfv.proofs.Callers.{lent_all, newer_fails, parameters_lack, room_after}
+use Rattle.sfv.specs.Versions.{StopsEarly, parameter_pairs}
+use Rattle.sfv.proofs.Callers.{lent_all, newer_stops, parameters_lack, room_after}
 use Rattle.sfv_uses.proofs.writing.write_parts.Goals as goal
 
 -- what always holds, holds for an error
@@ -20,12 +20,12 @@ returns-clause-text c =
     let item = c.args.item.now in
     let old = string_bytes c.args.text.now in
     let written = c.in_ok-text.ensures.text in
-    let lent : lent_pairs written.0 ≡ pairs_tree item.params.entries =
-    lent_all c.iter.result written.0 c.iter.ensures.runs written.1 ∙ ap pairs_tree c.iter.ensures.rest in
+    let lent : lent_pairs written.taken ≡ pairs_tree item.params.entries =
+    lent_all c.iter.result written.taken c.iter.ensures.runs written.drained ∙ ap pairs_tree c.iter.ensures.rest in
     let front : string_bytes c.in_ok-params.params.sink.now ≡ old ++ bare_text (bare_value item.bare_item) =
     search rules in
     let whole : string_bytes c.in_ok-text.field-0.sink.now ≡ old ++ item_text (item_tree item) =
-    written.2 ∙ rw (front, lent) (append_assoc old (bare_text (bare_value item.bare_item))
+    written.written ∙ rw (front, lent) (append_assoc old (bare_text (bare_value item.bare_item))
     (parameters_text (pairs_tree item.params.entries))) in
     (search rules) ∙ whole
 
@@ -36,11 +36,11 @@ returns-in_err-text-clause-room c =
     let written = c.in_ok-params.ensures in
     let params = c.in_ok-params.params.sink.now in
     let error = c.in_err-text.field-0.0 in
-    let failed = subst (λ version. FailsAmong (TakesFirst deref_pair) c.iter.result values_of_pairs version error)
+    let early = subst (λ version. StopsEarly parameter_pairs version (TakesFirst deref_pair) c.iter.result params true error)
     (written.version ∙ c.with_buffer.ensures.version) c.in_err-text.ensures.failed in
-    let p = c.in_err-text.ensures.room (newer_fails (TakesFirst deref_pair) c.iter.result values_of_pairs error failed) in
-    let none = parameters_lack params item.params.entries p.1 p.0
-    (subst (λ s. Yields (TakesFirst deref_pair) s p.0 p.1) c.iter.ensures.rest p.2) p.4 in
+    let lacks = early.room (newer_stops parameter_pairs (TakesFirst deref_pair) c.iter.result params true error early) in
+    let none = parameters_lack params item.params.entries early.rest early.taken
+    (subst (λ s. Yields (TakesFirst deref_pair) s early.taken early.rest) c.iter.ensures.rest early.yielded) lacks in
     let front : string_bytes params ≡ string_bytes old ++ bare_text (bare_value item.bare_item) = search rules in
     of_any c.from_residual-in_err-text.result
     (room_after old params (bare_text (bare_value item.bare_item)) (parameters_text (pairs_tree item.params.entries))

@@ -10,7 +10,7 @@ use Rattle.sfv_spec.specs.Statements.{IsValue}
 use Rattle.sfv_tree.specs.Trees.{dictionary_tree}
 use Rattle.sfv_tree.proofs.Distinct.{members_distinct}
 use Rattle.sfv_writer.specs.Written.{lent_dictionary_member}
-use Rattle.sfv_writer.specs.Versions.{values_of_dictionary_members}
+use Rattle.sfv_writer.specs.Versions.{dictionary_members}
 use Rattle.sfv_writer.proofs.Lacks.{front_lacks}
 use Rattle.sfv_writer.proofs.Lent.{members_all, members_front}
 use Rattle.sfv_writer.proofs.Looks.{newer_fails}
@@ -20,7 +20,7 @@ use Rattle.sfv_writer.proofs.dictionary.serialize_dictionary.Goals as goal
 
 pub expect_out_of_memory-requires : goal.expect_out_of_memory-requires
 expect_out_of_memory-requires g c =
-    newer_fails (TakesFirst deref_pair) c.iter.result values_of_dictionary_members _ c.in-Err.ensures.failed
+    newer_fails (TakesFirst deref_pair) c.iter.result dictionary_members.values _ c.in-Err.ensures.failed
 
 pub returns : goal.returns
 returns g c =
@@ -38,7 +38,7 @@ returns g c =
 pub returns-in-Err-clause-room : goal.returns-in-Err-clause-room
 returns-in-Err-clause-room g c =
     let e = c.in-Err.ensures in
-    let p = e.room (newer_fails (TakesFirst deref_pair) c.iter.result values_of_dictionary_members _ e.failed) in
+    let p = e.room (newer_fails (TakesFirst deref_pair) c.iter.result dictionary_members.values _ e.failed) in
     let members = dictionary_tree c.args.dictionary.now.entries in (
       e.stays,
       front_lacks lent_dictionary_member dictionary_member_text (codes ", ") c.args.output.now p.0 members (dictionary_tree p.1)

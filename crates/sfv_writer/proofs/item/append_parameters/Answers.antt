@@ -1,8 +1,9 @@
-use Rattle.std.proofs.Common.{◌∷◌, Some, rules}
+use Rattle.std.proofs.Common.{◌∷◌, Some, rules, true, refl}
 use Rattle.indexmap.proofs.MapLemmas.{OnOk-map}
 use Rattle.sfv_spec.specs.Canonical.{parameters_text}
 use Rattle.sfv_writer.specs.Written.{lent_pairs}
-use Rattle.sfv_writer.specs.Versions.{values_of_pairs}
+use Rattle.sfv_writer.specs.Versions.{parameter_pairs}
+use Rattle.sfv_writer.proofs.Elements.{stops_early}
 use Rattle.sfv_writer.proofs.Lacks.{lacks_from_first}
 use Rattle.sfv_writer.proofs.Looks.{fails_from_first, drains_from_first}
 use Rattle.sfv_writer.proofs.item.append_parameters.Goals as goal
@@ -18,14 +19,12 @@ returns-clause-text g c =
 pub returns-clause-failed : goal.returns-clause-failed
 returns-clause-failed g c =
     let steps = g.I.Iterator.next_gives in
+    let version = c.args.version in
+    let old = c.args.output.now in
+    let r = c.append_first_and_rest.result in
+    let e = c.append_first_and_rest.ensures in
     let step : steps c.args.params (Some c.in-Some.first) c.next.new.self = search rules in
-    fails_from_first steps c.args.params c.in-Some.first c.next.new.self values_of_pairs
-    c.args.version c.append_first_and_rest.result step c.append_first_and_rest.ensures.failed
-
-pub returns-clause-room : goal.returns-clause-room
-returns-clause-room g c =
-    let steps = g.I.Iterator.next_gives in
-    let step : steps c.args.params (Some c.in-Some.first) c.next.new.self = search rules in
-    lacks_from_first steps c.args.params c.in-Some.first c.next.new.self values_of_pairs c.args.version
-    c.args.output.now (λ taken. parameters_text (lent_pairs taken)) c.append_first_and_rest.result step
-    c.append_first_and_rest.ensures.room
+    stops_early parameter_pairs version steps c.args.params old true refl r
+    (fails_from_first steps c.args.params c.in-Some.first c.next.new.self parameter_pairs.values version r step e.failed)
+    (lacks_from_first steps c.args.params c.in-Some.first c.next.new.self parameter_pairs.values version old
+    (λ taken. parameters_text (lent_pairs taken)) r step e.room)

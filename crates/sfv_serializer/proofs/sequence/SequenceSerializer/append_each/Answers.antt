@@ -7,10 +7,10 @@ returns-clause-text g c =
     let w = c.in_ok-none.ensures.text in
     let sink = c.args.self.now.sink in
     let text = c.append_each.new.output in
-    let more = rw (c.text_mut.ensures.text, c.separator-separator.ensures) at w.2 in (
-      w.0,
-      w.1,
-      (
+    let more = rw (c.text_mut.ensures.text, c.separator-separator.ensures) at w.2 in record {
+      taken = w.0;
+      drained = w.1;
+      written = (
         g.met.W.Sink.same_with sink text,
         ap string_bytes (g.met.W.Sink.text_of_with sink text) ∙ more,
         w.3,
@@ -18,12 +18,12 @@ returns-clause-text g c =
         refl,
         subst (λ t. string_capacity (g.W.Sink.text sink) ≤ string_capacity t) (sym (g.met.W.Sink.text_of_with sink text))
             (subst (λ t. string_capacity t ≤ string_capacity text) c.text_mut.ensures.text c.append_each.ensures.stays),
-      ),
-      w.4,
-      w.5,
-    )
+      );
+      valid = w.4;
+      supported = w.5;
+    }
 
-pub returns-in_err-none-clause-room : goal.returns-in_err-none-clause-room
-returns-in_err-none-clause-room g c =
+pub returns-in_err-none-clause-failed : goal.returns-in_err-none-clause-failed
+returns-in_err-none-clause-failed g c =
     at_exit c.from_residual.result _ _ _ c.from_residual.ensures.1
-    (rw (c.text_mut.ensures.text, c.separator-separator.ensures) at c.in_err-none.ensures.room)
+    (rw (c.text_mut.ensures.text, c.separator-separator.ensures) at c.in_err-none.ensures.failed)
