@@ -1,4 +1,4 @@
--- The definitions of a field crate's clauses, in one file. Those of `std` come from `Rattle.std.specs.Prelude`.
+-- The definitions of a field crate's clauses, in one file. Definitions of `std` come from `Rattle.std.specs.Prelude`.
 -- fields and their values
 pub use Rattle.sfv_spec.specs.declared.field_kind.FieldKind.{FieldKind}
 pub use Rattle.sfv_spec.specs.declared.field_kind.FieldKind.TheVariants.{Item as item_field, List as list_field}

@@ -71,7 +71,7 @@ pub(crate) enum CallFault {
     Read(Error),
     /// What was read isn't written.
     Write(SerializeError),
-    /// The rows are not those of a field: the index of the first wrong row, or their number if more are needed.
+    /// The rows denote no field: the index of the first wrong row, or their number if more are needed.
     Rows(usize),
 }
 

@@ -17,9 +17,9 @@ use std::alloc::{AllocFailed, Global};
 /// Why events aren't read on.
 #[derive(Clone, Copy, Drop)]
 pub(crate) enum ParseStop {
-    /// So many are left, of which the first can't come here; or none, and they end too early.
+    /// The number of rows that are left. The first of them can't come here. If it is 0, the rows end too early.
     At(usize),
-    /// Memory was refused.
+    /// Memory ran out.
     Memory,
 }
 

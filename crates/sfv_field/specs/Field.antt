@@ -1,4 +1,4 @@
--- The definitions for the clauses of a field crate: the library's, and those of members. Field crates import this file.
+-- The definitions for the clauses of a field crate: the library's, and more for members. Field crates import this file.
 pub use Rattle.sfv.specs.Field.{Version, Rfc8941, Rfc9651, FieldKind, item_field, list_field, dictionary_field}
 pub use Rattle.sfv.specs.Field.{BareValue, integer, decimal, string, token, byte_sequence, boolean, date}
 pub use Rattle.sfv.specs.Field.{display_string, RawParameters, RawItem, RawInnerList, RawMember, item, inner_list}

@@ -42,7 +42,7 @@ abbrev pub PushesOrHoldsItem : RawMember → BareValue → Bool → Option BareV
 PushesOrHoldsItem m value is_put held n =
     LeadsIn (λ p. list_step p (bare_item value)) (state_in member_stages.InnerHead m) m (pushed_state is_put held n) n
 
--- what is under a seed stays under it
+-- every seed of the first member is also a seed of the second
 abbrev pub KeepsSeed : ListEntry → ListEntry → Type 0
 KeepsSeed m n = (seed : HashSeed) → MemberHasSeed seed m → MemberHasSeed seed n
 

@@ -14,7 +14,7 @@ pub trait MemoryErrors<E>: Drop {
     ghost is_memory: { E → Type 0 };
 }
 
-/// The classification in which no error means out of memory.
+/// The classification of errors that never mean out of memory.
 #[derive(Drop)]
 pub struct NoMemoryError;
 

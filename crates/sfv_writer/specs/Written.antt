@@ -31,7 +31,7 @@ abbrev pub AppendsOrKeeps : {Z T E : Type 0} → String Z → String Z → List 
 AppendsOrKeeps old new text result =
     MatchResult result (λ _. string_bytes new ≡ string_bytes old ++ text) (λ _. string_bytes new ≡ string_bytes old)
 
--- The buffer's capacity doesn't hold the text and what is added to it.
+-- The buffer's capacity is too small for its text and the appended text.
 abbrev pub LacksRoom : {Z : Type 0} → String Z → List ℕ → Type 0
 LacksRoom old text = string_capacity old < string_len old + length text
 

@@ -15,7 +15,7 @@ use std::alloc::Global;
 pub enum Member {
     /// The urgency.
     Urgency,
-    /// Whether the response is processed incrementally.
+    /// The member `i`: the response is processed incrementally.
     Incremental,
 }
 
