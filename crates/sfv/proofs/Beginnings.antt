@@ -36,27 +36,10 @@ pub bare_none : (version : Version) (t : List ℕ) → NoOpener t → Apart is_t
     → located (bare_at version t) ≡ Err (ExpectedStartOfBareItem, t)
 bare_none version t opener token = ap located (bare_token version t opener) ∙ token_none t token
 
-led_located : {A : Type 0} (es : List TreeEvent) (a : Answer A) (k : ErrorKind) (q : List ℕ) → located a ≡ Err (k, q)
-    → located (led_answer es a) ≡ Err (k, q)
-led_located es (Ok x) k q h = absurd cc
-led_located es (Err f) k q h = h
-
 item_none : (version : Version) (t : List ℕ) (k : ErrorKind) (q : List ℕ) → located (bare_at version t) ≡ Err (k, q)
     → located (item_at version t) ≡ Err (k, q)
 unfolding item_at
 item_none version t k q h = fault_bind (bare_at version) _ t k q h
-
-entry_none : (version : Version) (t : List ℕ) (k : ErrorKind) (q : List ℕ) → Apart (byte left_parenthesis) t
-    → located (bare_at version t) ≡ Err (k, q) → located (entry_at version t) ≡ Err (k, q)
-unfolding entry_at member_at led
-entry_none version t k q apart h =
-    led_located (entry ∷ []) _ k q (ap located (branch_past _ _ _ t apart)
-    ∙ led_located (begins_item ∷ []) _ k q (fault_bind (item_at version) _ t k q (item_none version t k q h)))
-
-keyed_none : (version : Version) (t : List ℕ) (k : ErrorKind) (q : List ℕ) → located (key_at t) ≡ Err (k, q)
-    → located (keyed_at version t) ≡ Err (k, q)
-unfolding keyed_at
-keyed_none version t k q h = fault_bind key_at _ t k q h
 
 -- the error of a part is that of the whole, where the whole is at fault with it
 carried : {A : Type 0} (version : Version) (kind : FieldKind) (t : List ℕ) (e : Error) (a : Answer A)
@@ -75,24 +58,6 @@ no_item : (version : Version) (t s r : List ℕ) (e : Error) → span is_space t
 no_item version t s r e skipped fault = carried version item_field t e (bare_at version r)
     (λ k q h. field_faulty version t s r k q skipped (item_none version r k q h)) fault
 
-no_list : (version : Version) (t s r : List ℕ) (e : Error) → span is_space t ≡ Ok (s, r)
-    → is_some (first r) ≡ true → Apart (byte left_parenthesis) r
-    → IsFaultOf t e (bare_at version r) → IsParseError version list_field t e
-unfolding read_field whole_field_at first_of
-no_list version t s r e skipped some apart fault = carried version list_field t e (bare_at version r)
-    (λ k q h. ending_located (events list_field) _ k q
-    (ap located (members_first entry_events (entry_at version) t s r skipped some)
-    ∙ fault_bind (entry_at version) _ r k q (entry_none version r k q apart h))) fault
-
-pub no_dictionary : (version : Version) (t s r : List ℕ) (e : Error) → span is_space t ≡ Ok (s, r)
-    → is_some (first r) ≡ true
-    → IsFaultOf t e (key_at r) → IsParseError version dictionary_field t e
-unfolding read_field whole_field_at first_of
-no_dictionary version t s r e skipped some fault = carried version dictionary_field t e (key_at r)
-    (λ k q h. ending_located (events dictionary_field) _ k q
-    (ap located (members_first keyed_events (keyed_at version) t s r skipped some)
-    ∙ fault_bind (keyed_at version) _ r k q (keyed_none version r k q h))) fault
-
 -- what a look at the cursor found is found in what the cursor keeps
 found : (k : Parser × Global) (c : Cursor) (e : Error) → kept c ≡ k
     → IsFaultOf (input c) e (bare_at (version c) (rest c))
@@ -108,11 +73,3 @@ item_refused k c s result same skipped =
     IfErr-weaker result _ _ (λ e fault. no_item (kept_version k) (kept_input k) s (rest c) e skipped
     (found k c e same fault))
 
-pub list_refused : (k : Parser × Global) (c : Cursor) (s : List ℕ) (result : Result (Unit {0}) Error) → kept c ≡ k
-    → span is_space (kept_input k) ≡ Ok (s, rest c) → is_some (first (rest c)) ≡ true
-    → Apart (byte left_parenthesis) (rest c)
-    → IfErr result (λ e. IsFaultOf (input c) e (bare_at (version c) (rest c)))
-    → IfErr result (IsParseError (kept_version k) list_field (kept_input k))
-list_refused k c s result same skipped some apart =
-    IfErr-weaker result _ _ (λ e fault. no_list (kept_version k) (kept_input k) s (rest c) e skipped some apart
-    (found k c e same fault))

@@ -1,5 +1,6 @@
 pub mod built
 pub mod visits
+pub mod trees
 pub mod reads
 pub mod Parsed
 pub mod Memory

@@ -35,44 +35,13 @@ use Rattle.sfv.specs.parser.Visits.{VisitsField}
 
 -- ---- a byte of a text
 
-first_in : (c : ℕ) (t : List ℕ) → Contains (c ∷ t) c
+pub first_in : (c : ℕ) (t : List ℕ) → Contains (c ∷ t) c
 first_in c t = Contains-get_or (c ∷ t) 0 0 (omega arith)
 
 -- ---- texts with more than spaces
 
-other_than_space : (c : ℕ) → is_space c ≡ false → ¬ (c ≡ space)
+pub other_than_space : (c : ℕ) → is_space c ≡ false → ¬ (c ≡ space)
 other_than_space c h same = true≢false (subst (λ (x : ℕ). is_space x ≡ false) same h)
-
-more_or_spaces : (t : List ℕ) → HasMoreThanSpaces t ⊎ RunOf is_space t
-more_or_spaces [] = inr refl
-more_or_spaces (c ∷ t) = elim (cases_Bool (is_space c)) [
-  | inl e ↦ elim (more_or_spaces t) [
-    | inl h ↦ inl (h.0, Contains-append_right (c ∷ []) t h.0 h.1, h.2)
-    | inr h ↦ inr (and_from (is_space c) _ e h)
-  ]
-  | inr e ↦ inl (c, first_in c t, other_than_space c e)
-]
-
-no_parts : (before : List TreeEvent) (e : TreeEvent) (after : List TreeEvent) → [] ≡ before ++ e ∷ after → ⊥
-no_parts [] e after h = absurd cc
-no_parts (c ∷ before) e after h = absurd cc
-
--- A visitor fails that never fails at the end, of a field which is empty where spaces alone stand.
-pub failed_more : {S E : Type 0} (takes : S → TreeEvent → S → Type 0) (fails : S → TreeEvent → E → Type 0)
-    (finish_fails : S → E → Type 0) (version : Version) (kind : FieldKind) (t : List ℕ) (from : S) (fault : E)
-    (raw : RawField kind) → (RunOf is_space t → IsFieldText version kind raw t) → events kind raw ≡ []
-    → ((s : S) → finish_fails s fault → ⊥)
-    → IsVisitorErrorOf takes fails finish_fails version kind t from (Visitor fault) → HasMoreThanSpaces t
-failed_more {S} {E} takes fails finish_fails version kind t from fault raw empty none never h =
-    elim (more_or_spaces t) [
-      | inl more ↦ more
-      | inr blank ↦ absurd (on (subst (λ (es : List TreeEvent). IsVisitorError takes fails finish_fails from es fault)
-          none (h.0 raw (empty blank))))
-    ]
-  where
-    on : IsVisitorError takes fails finish_fails from [] fault → ⊥
-    on (inl x) = no_parts x.0 x.1 x.2 x.4
-    on (inr x) = never x.0 x.2
 
 front_more : (front : List ℕ) (v : BareValue) (version : Version) → IsBareText version v front → HasMoreThanSpaces front
 front_more front v version h = on front (bare_begins version v front h)
@@ -113,29 +82,6 @@ ItemEndFails s fault = (fault ≡ faults.NoItem) × ((i : RawItem) → ¬ (item_
 pub item_more : (version : Version) (t : List ℕ) (from : ItemBuilder) (fault : ItemFault)
     → VisitsFirst ItemSteps ItemFails ItemEndFails version t from (Visitor fault) → HasMoreThanSpaces t
 item_more version t from fault h = first_more ItemSteps ItemFails ItemEndFails version t from fault h
-
-abbrev ListSteps : ListBuilder → TreeEvent → ListBuilder → Type 0
-ListSteps s e after = (list_state after ≡ list_step (list_state s) e) × KeepsListSeed s after
-
-abbrev ListFails : ListBuilder → TreeEvent → OutOfMemory → Type 0
-ListFails s e fault = IsTrue (list_takes_memory (list_state s) e)
-
-pub list_more : (version : Version) (t : List ℕ) (from : ListBuilder) (fault : OutOfMemory)
-    → IsVisitorErrorOf ListSteps ListFails (λ _ _. ⊥) version list_field t from (Visitor fault) → HasMoreThanSpaces t
-list_more version t from fault h = failed_more ListSteps ListFails (λ _ _. ⊥) version list_field t from fault []
-    (λ blank. blank) refl (λ s never. never) h
-
-abbrev DictionarySteps : DictionaryBuilder → TreeEvent → DictionaryBuilder → Type 0
-DictionarySteps s e after = (dictionary_state after ≡ dictionary_step (dictionary_state s) e) × KeepsDictionarySeed s after
-
-abbrev DictionaryFails : DictionaryBuilder → TreeEvent → OutOfMemory → Type 0
-DictionaryFails s e fault = IsTrue (dictionary_takes_memory (dictionary_state s) e)
-
-pub dictionary_more : (version : Version) (t : List ℕ) (from : DictionaryBuilder) (fault : OutOfMemory)
-    → IsVisitorErrorOf DictionarySteps DictionaryFails (λ _ _. ⊥) version dictionary_field t from (Visitor fault)
-    → HasMoreThanSpaces t
-dictionary_more version t from fault h = failed_more DictionarySteps DictionaryFails (λ _ _. ⊥) version dictionary_field
-    t from fault [] (λ blank. blank) refl (λ s never. never) h
 
 -- ---- a reading with a visitor
 

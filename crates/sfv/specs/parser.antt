@@ -5,3 +5,4 @@ pub mod Base64
 pub mod Quoted
 pub mod Members
 pub mod Visits
+pub mod Trees

@@ -18,11 +18,11 @@ ghost use Rattle.sfv_writer.specs.Versions.{ChecksVersionFirst};
 ghost use Rattle.sfv.specs.Parsers.{input_of, version_of, IsParseError};
 ghost use Rattle.sfv.specs.Memory.{NeedsMoreThanSpaces};
 
-use crate::parser::{Parser, expect_dictionary_start, expect_item_start, expect_list_start};
+use crate::parser::{Parser, expect_item_start, parse_dictionary, parse_list};
 use sfv_base::error::{Error, OutOfMemory, ParseError};
 use sfv_spec::version::Version;
 use sfv_tree::parsed::{Dictionary, Item, List};
-use sfv_visitor::visitor::{DictionaryBuilder, ItemBuilder, ListBuilder};
+use sfv_visitor::visitor::ItemBuilder;
 use sfv_writer::{
     SerializeError, check_dictionary, check_item, check_list, dictionary_text, list_text,
     serialize_item,
@@ -153,13 +153,7 @@ impl FieldType for List {
     ghost into_written = { λ result text same. ap (option_map string_bytes) same };
 
     fn parse(alloc: Global, parser: Parser<'_>) -> Result<List, Error> {
-        expect_list_start(parser, alloc)?;
-        let builder = ListBuilder::new(List::new(alloc), parser.hash_seed());
-        match parser.parse_list_with_visitor(alloc, builder) {
-            Ok(list) => Ok(list),
-            Err(ParseError::Syntax(error)) => Err(error),
-            Err(ParseError::Visitor(error)) => Err(Error::from(error)),
-        }
+        parse_list(parser, alloc)
     }
 
     fn serialize(&self, alloc: Global) -> Result<Option<StdString>, OutOfMemory> {
@@ -191,14 +185,7 @@ impl FieldType for Dictionary {
     ghost into_written = { λ result text same. ap (option_map string_bytes) same };
 
     fn parse(alloc: Global, parser: Parser<'_>) -> Result<Dictionary, Error> {
-        expect_dictionary_start(parser, alloc)?;
-        let dictionary = Dictionary::with_hasher(alloc, parser.hash_seed());
-        let builder = DictionaryBuilder::new(dictionary);
-        match parser.parse_dictionary_with_visitor(alloc, builder) {
-            Ok(dictionary) => Ok(dictionary),
-            Err(ParseError::Syntax(error)) => Err(error),
-            Err(ParseError::Visitor(error)) => Err(Error::from(error)),
-        }
+        parse_dictionary(parser, alloc)
     }
 
     fn serialize(&self, alloc: Global) -> Result<Option<StdString>, OutOfMemory> {

@@ -11,7 +11,7 @@ mod item_builder;
 mod list_builder;
 mod member_stage;
 mod option;
-mod parameters;
+pub mod parameters;
 
 pub use dictionary_builder::DictionaryBuilder;
 pub use item_builder::ItemBuilder;

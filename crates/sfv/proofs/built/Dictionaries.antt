@@ -49,7 +49,7 @@ module _ {A B : Type 0} (f : A → B) where
       go ih true e = simp e ih
       go ih false e = simp e (ap (λ (x : List (List ℕ × B)). (k, f v) ∷ x) ih)
 
-  collapse-over : (ps : List (List ℕ × A)) → collapse (over f ps) ≡ over f (collapse ps)
+  pub collapse-over : (ps : List (List ℕ × A)) → collapse (over f ps) ≡ over f (collapse ps)
   unfolding collapse
   collapse-over [] = refl
   collapse-over ((k, v) ∷ ps) = rw (

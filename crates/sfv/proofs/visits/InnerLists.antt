@@ -99,7 +99,7 @@ module _ {S E : Type 0} (takes : S → TreeEvent → S → Type 0) (fails : S �
 
   -- ---- a member
 
-  member_list : (t q : List ℕ) → TakesIf (byte left_parenthesis) true t q
+  pub member_list : (t q : List ℕ) → TakesIf (byte left_parenthesis) true t q
       → member_at version t ≡ led (begins_inner_list ∷ []) (inner_at version) q
   unfolding member_at
   member_list t q m = branch_true (byte left_parenthesis) _ _ t q m
@@ -107,7 +107,7 @@ module _ {S E : Type 0} (takes : S → TreeEvent → S → Type 0) (fails : S �
   abbrev as_item : Reader RawMember
   as_item = item_at version >>= λ i. give (item i)
 
-  member_item : (t q : List ℕ) → TakesIf (byte left_parenthesis) false t q
+  pub member_item : (t q : List ℕ) → TakesIf (byte left_parenthesis) false t q
       → member_at version t ≡ led (begins_item ∷ []) as_item q
   unfolding member_at
   member_item t q m = branch_false (byte left_parenthesis) _ _ t q m

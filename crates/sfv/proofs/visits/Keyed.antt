@@ -64,7 +64,7 @@ module _ {S E : Type 0} (takes : S → TreeEvent → S → Type 0) (fails : S �
   abbrev true_events : RawParameters → List TreeEvent
   true_events ps = begins_item ∷ bare_item (boolean true) ∷ parameters_events ps
 
-  true_is : (t q : List ℕ) → TakesIf (byte equals_sign) false t q
+  pub true_is : (t q : List ℕ) → TakesIf (byte equals_sign) false t q
       → member_value_at version t ≡ (true_at >>= λ ps. give (true_with ps)) q
   unfolding member_value_at bind led give
   true_is t q m = branch_false (byte equals_sign) _ _ t q m ∙ on (parameters_at version q)

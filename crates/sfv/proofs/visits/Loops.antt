@@ -68,7 +68,7 @@ pub record SoFar {A S : Type 0} (takes : S → TreeEvent
   pub taken : RunsTo takes from (all_events l.parts front) to
 
 module _ {A : Type 0} (l : Loop A) (version : Version) where
-  next_none : (t r : List ℕ) → l.delimiter t ≡ Ok (false, r) → (l.next version) t ≡ Ok (None, r)
+  pub next_none : (t r : List ℕ) → l.delimiter t ≡ Ok (false, r) → (l.next version) t ≡ Ok (None, r)
   unfolding give
   next_none t r e = l.is_next version t ∙ bind_complete l.delimiter (one_if (l.one version)) t r false e
 
@@ -76,7 +76,7 @@ module _ {A : Type 0} (l : Loop A) (version : Version) where
       → (l.next version) t ≡ ((l.one version) >>= λ v. give (Some v)) r
   next_one t r e = l.is_next version t ∙ bind_complete l.delimiter (one_if (l.one version)) t r true e
 
-  next_some : (t r q : List ℕ) (v : A) → l.delimiter t ≡ Ok (true, r) → (l.one version) r ≡ Ok (v, q)
+  pub next_some : (t r q : List ℕ) (v : A) → l.delimiter t ≡ Ok (true, r) → (l.one version) r ≡ Ok (v, q)
       → (l.next version) t ≡ Ok (Some v, q)
   unfolding give
   next_some t r q v e k = next_one t r e ∙ bind_complete (l.one version) (λ v. give (Some v)) r q v k
@@ -238,7 +238,7 @@ pub record VisitedSoFar {A S : Type 0} (takes : S → TreeEvent
   pub same : kept now ≡ kept start
 
 -- one more is wanted, or none
-abbrev Wants : {A : Type 0} → Loop A → Bool → Cursor → Cursor → Type 0
+abbrev pub Wants : {A : Type 0} → Loop A → Bool → Cursor → Cursor → Type 0
 Wants l b now middle = (l.delimiter (rest now) ≡ Ok (b, rest middle)) × (kept middle ≡ kept now)
 
 pub shorter : {A S E : Type 0} (takes : S → TreeEvent → S → Type 0) (fails : S → TreeEvent
@@ -250,7 +250,7 @@ shorter takes fails l now middle after at to wanted one =
 module _ {A S E : Type 0} (takes : S → TreeEvent → S → Type 0) (fails : S → TreeEvent
     → E → Type 0) (l : Loop A) (start : Cursor) (total : Answer (List A)) where
   -- what the version at the start reads first
-  abbrev IsFirst : Cursor → Type 0
+  abbrev pub IsFirst : Cursor → Type 0
   IsFirst middle = (total ≡ first_of l.parts (l.one (version start)) (l.next (version start)) (rest middle))
       × (kept middle ≡ kept start)
 

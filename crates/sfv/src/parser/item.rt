@@ -43,7 +43,7 @@ impl<'de> Cursor<'de> {
     // Inlined into its only loop: as a call it takes 95 more instructions.
     #[inline(always)]
     #[tactic(auto, using(crate::proofs::reads::Steps::parameter_steps))]
-    fn parameter(&mut self) -> Result<Option<ReadParameter<'de>>, Error>
+    pub(super) fn parameter(&mut self) -> Result<Option<ReadParameter<'de>>, Error>
         ensures read { ReadsOrOutOfMemory (option_map read_pair) self.old self.new result
             (parameter_at (version self.old)) }
         ensures borrowed { IfOk result (λ parameter.

@@ -29,7 +29,7 @@ impl<'de> Cursor<'de> {
     /// Consumes the spaces between two items of an inner list, or its closing parenthesis. Returns `true` if another
     /// item follows.
     #[inline(always)]
-    fn consume_item_delimiter(&mut self) -> Result<bool, Error>
+    pub(super) fn consume_item_delimiter(&mut self) -> Result<bool, Error>
         ensures { Reads (λ wants. wants) self.old self.new result item_delimiter_at }
     {
         if self.take_if(b' ') {
@@ -104,7 +104,7 @@ impl<'de> Cursor<'de> {
     /// Consumes the comma between two members, with the spaces and tabs around it. Returns `true` if another member
     /// follows, and `false` at the end of the input.
     #[inline(always)]
-    fn consume_comma(&mut self) -> Result<bool, Error>
+    pub(super) fn consume_comma(&mut self) -> Result<bool, Error>
         ensures { Reads (λ wants. wants) self.old self.new result member_delimiter_at }
     {
         self.skip_ows();

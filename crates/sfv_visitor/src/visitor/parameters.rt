@@ -32,11 +32,11 @@ pub(crate) fn insert_parameter(
 
 /// The number of members, or of items of an inner list, above which unused memory of parameters is released. In a shorter
 /// list that memory is small, and the release takes longer than it saves.
-pub(crate) const MANY: usize = 4000;
+pub const MANY: usize = 4000;
 
-// Releases the unused memory of complete parameters. At its first entry, a map allocates room for nine.
+/// Releases the unused memory of complete parameters. At its first entry, a map allocates room for nine.
 #[inline(never)]
-pub(crate) fn fit(params: &mut Parameters)
+pub fn fit(params: &mut Parameters)
     ensures entries { params.new.entries ≡ params.old.entries }
     ensures seed { hasher_of params.new ≡ hasher_of params.old }
 {

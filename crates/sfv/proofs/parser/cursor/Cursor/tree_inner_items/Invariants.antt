@@ -1,0 +1,20 @@
+use Rattle.std.proofs.Common.{length, map}
+use Rattle.std.specs.Prelude.{All}
+use Rattle.sfv_spec.specs.Ordered.{ordered_item}
+use Rattle.sfv_tree.specs.Trees.{item_tree}
+use Rattle.sfv_tree.specs.Seeds.{ItemHasSeed}
+use Rattle.sfv_reading.specs.Members.{inner_items_at}
+use Rattle.sfv.specs.parser.Cursor.{version, rest}
+use Rattle.sfv.proofs.visits.Loops.{items_loop}
+use Rattle.sfv.proofs.trees.Loops.{BuiltSoFar}
+use Rattle.sfv.proofs.parser.cursor.Cursor.tree_inner_items.Given as goal
+
+abbrev pub invariant-loop-items : goal.invariant-loop-items
+invariant-loop-items l = record {
+  built : BuiltSoFar items_loop (map ordered_item) l.fn.self (inner_items_at (version l.fn.self) (rest l.fn.self))
+      l.self (map item_tree l.items.items);
+  seed : All (ItemHasSeed l.fn.self.parser.seed) l.items.items;
+}
+
+abbrev pub decreases-loop-items : goal.decreases-loop-items
+decreases-loop-items l = length (rest l.self)

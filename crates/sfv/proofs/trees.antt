@@ -1,0 +1,5 @@
+-- Parsing to trees: what the functions of `parser::tree` have read and built.
+pub mod Parameters
+pub mod Loops
+pub mod Parts
+pub mod Fields

@@ -1,0 +1,181 @@
+-- Items, inner lists and members that are built, by their parts.
+use Rattle.std.proofs.Common.{◌≡◌, ℕ, true, false, List, [], ◌∷◌, ◌++◌, map, None, Ok, Err, refl, sym, ap, ap₂, subst}
+use Rattle.std.proofs.Common.{◌∙◌}
+use Rattle.std.specs.Prelude.{⊤, Result, bytes_eq}
+use Rattle.std.proofs.lemmas.List.{map-append}
+use Rattle.indexmap.specs.IndexMap.{insert_entry}
+use Rattle.std.specs.declared.alloc.Global.{Global}
+use Rattle.sfv_spec.specs.Ascii.{equals_sign}
+use Rattle.sfv_spec.proofs.Marks.{left_parenthesis}
+use Rattle.sfv_spec.specs.Values.{BareValue, boolean, RawParameters, RawItem, RawMember, item, inner_list}
+use Rattle.sfv_spec.specs.declared.version.Version.{Version}
+use Rattle.sfv_spec.specs.Grammar.{true_with}
+use Rattle.sfv_spec.specs.Events.{TreeEvent, begins_item, begins_inner_list, bare_item, item_events, member_events, keyed_entry}
+use Rattle.sfv_spec.specs.Ordered.{collapse, ordered_item, ordered_member}
+use Rattle.sfv_base.specs.declared.error.ParseError.{ParseError}
+use Rattle.sfv_base.specs.declared.error.ParseError.TheVariants.{Syntax, Visitor}
+use Rattle.sfv_base.specs.declared.error.OutOfMemory.{OutOfMemory}
+use Rattle.sfv_reading.specs.Reader.{Answer, Reader, led, give, visited, ◌>>=◌, byte}
+use Rattle.sfv_reading.specs.Items.{key_at, parameter_event, parameter_at, parameters_at, item_at, item_of}
+use Rattle.sfv_reading.specs.Members.{inner_items_at, inner_at, inner_of, closed_events, member_at, member_value_at, keyed_at}
+use Rattle.sfv_reading.specs.Visits.{VisitorFails}
+use Rattle.sfv_reading.proofs.complete.Combinators.{bind_complete, led_complete}
+use Rattle.sfv_reading.proofs.sound.Many.{starts, is_done}
+use Rattle.sfv_reading.proofs.sound.Items.{Consumes-parameter}
+use Rattle.sfv.specs.declared.parser.Parser.{Parser}
+use Rattle.sfv.specs.declared.parser.cursor.Cursor.{Cursor}
+use Rattle.sfv.specs.parser.Cursor.{kept, version, rest, TakesIf}
+use Rattle.sfv.specs.parser.Trees.{Any, AnyFails, Builds}
+use Rattle.sfv.specs.parser.Visits.{VisitsAnswer, IsOfVisitor}
+use Rattle.sfv.proofs.reads.Steps.{branch_true}
+use Rattle.sfv.proofs.visits.InnerLists.{member_list, member_item}
+use Rattle.sfv_tree.specs.Trees.{member_tree, list_tree, dictionary_tree}
+use Rattle.sfv_tree.specs.Seeds.{MemberHasSeed, ListHasSeed, EntriesHaveSeed}
+use Rattle.sfv_tree.specs.declared.hash_seed.HashSeed.{HashSeed}
+use Rattle.sfv_tree.proofs.Entered.{dictionary_tree-insert}
+use Rattle.sfv_visitor.proofs.Seeded.{all_push, all_entered}
+use Rattle.sfv_tree.specs.declared.parsed.ListEntry.{ListEntry}
+use Rattle.sfv.proofs.reads.Errors.{kept_reads}
+use Rattle.sfv.proofs.visits.Keyed.{true_is, value_visits}
+use Rattle.sfv.proofs.visits.Parameters.{of_visitor}
+use Rattle.sfv.proofs.visits.Parts.{led_visits, kept_visits}
+
+-- no parameters
+pub no_parameters : (version : Version) (t : List ℕ) → parameter_at version t ≡ Ok (None, t)
+    → parameters_at version t ≡ Ok ([], t)
+unfolding parameters_at
+no_parameters version t e = is_done parameter_event (parameter_at version) (Consumes-parameter version) [] t t
+    (parameters_at version t) e (starts parameter_event (parameters_at version t))
+
+-- an event and then a part
+pub led_builds : {X Y Z : Type 0} (view : X → Z) (collapsed : Y → Z) (e : TreeEvent) (parts : Y → List TreeEvent)
+    (f : Version → Reader Y) (before after : Cursor) (r : Result X (ParseError OutOfMemory))
+    → Builds view collapsed parts before after r f
+    → Builds view collapsed (λ v. e ∷ parts v) before after r (λ version. led (e ∷ []) (f version))
+led_builds view collapsed e parts f before after (Ok x) h =
+    (h.0, led_complete (e ∷ []) (f (version before)) (rest before) (rest after) h.0 h.1, h.2, h.3)
+led_builds view collapsed e parts f before after (Err error) h =
+    led_visits Any AnyFails e parts (f (version before)) (rest before) tt tt tt (kept before) after (Err error) tt h
+
+-- memory ran out after a value was read that has an event
+pub fails_after : {A : Type 0} (parts : A → List TreeEvent) (k : Parser × Global) (after : Cursor)
+    (error : ParseError OutOfMemory) (answer : Answer A) (raw : A) (q : List ℕ) (e : TreeEvent) (es : List TreeEvent)
+    → answer ≡ Ok (raw, q) → parts raw ≡ e ∷ es → IsOfVisitor (λ _. ⊤) error
+    → VisitsAnswer Any AnyFails parts k after tt tt (Err error) answer
+fails_after parts k after error answer raw q e es read all failed =
+    of_visitor Any AnyFails parts k after tt tt (λ _. ⊤) error answer failed (λ fault f. record {
+      before = [];
+      e = e;
+      after = es;
+      s = tt;
+      all = ap (visited parts) read ∙ all;
+      taken = refl;
+      failed = tt;
+    })
+
+abbrev pub with_parts : BareValue → RawParameters → RawItem
+with_parts b ps = record { bare = b; parameters = ps }
+
+-- the value of an item by its parts
+pub item_parts : (b c : BareValue) (ps qs : RawParameters) → b ≡ c → ps ≡ collapse qs
+    → with_parts b ps ≡ ordered_item (item_of c qs)
+item_parts b c ps qs same all = ap₂ with_parts same all
+
+abbrev pub list_with : List RawItem → RawParameters → RawMember
+list_with is ps = inner_list (record { items = is; parameters = ps })
+
+-- the value of an inner list by its parts
+pub inner_list_parts : (is js : List RawItem) (ps qs : RawParameters) → is ≡ map ordered_item js → ps ≡ collapse qs
+    → list_with is ps ≡ ordered_member (inner_of js qs)
+inner_list_parts is js ps qs same all = ap₂ list_with same all
+
+-- ---- readers, by their parts
+
+pub inner_some : (version : Version) (t q r : List ℕ) (is : List RawItem) (ps : RawParameters)
+    → inner_items_at version t ≡ Ok (is, q) → parameters_at version q ≡ Ok (ps, r)
+    → inner_at version t ≡ Ok (inner_of is ps, r)
+unfolding inner_at give
+inner_some version t q r is ps e k =
+    bind_complete (inner_items_at version) _ t q is e
+    ∙ led_complete (closed_events is) (parameters_at version >>= λ ps. give (inner_of is ps)) q r (inner_of is ps)
+    (bind_complete (parameters_at version) _ q r ps k)
+
+pub member_list_some : (version : Version) (t q r : List ℕ) (m : RawMember)
+    → TakesIf (byte left_parenthesis) true t q → inner_at version q ≡ Ok (m, r) → member_at version t ≡ Ok (m, r)
+member_list_some version t q r m takes e =
+    member_list Any AnyFails version t q takes ∙ led_complete (begins_inner_list ∷ []) (inner_at version) q r m e
+
+pub member_item_some : (version : Version) (t q r : List ℕ) (i : RawItem)
+    → TakesIf (byte left_parenthesis) false t q → item_at version q ≡ Ok (i, r) → member_at version t ≡ Ok (item i, r)
+unfolding give
+member_item_some version t q r i takes e =
+    member_item Any AnyFails version t q takes
+    ∙ led_complete (begins_item ∷ []) (item_at version >>= λ i. give (item i)) q r (item i)
+    (bind_complete (item_at version) _ q r i e)
+
+pub value_some : (version : Version) (t q r : List ℕ) (m : RawMember) → TakesIf (byte equals_sign) true t q
+    → member_at version q ≡ Ok (m, r) → member_value_at version t ≡ Ok (m, r)
+unfolding member_value_at
+value_some version t q r m takes e = branch_true (byte equals_sign) _ _ t q takes ∙ e
+
+pub true_some : (version : Version) (t q r : List ℕ) (ps : RawParameters) → TakesIf (byte equals_sign) false t q
+    → parameters_at version q ≡ Ok (ps, r) → member_value_at version t ≡ Ok (true_with ps, r)
+unfolding give
+true_some version t q r ps takes e =
+    true_is Any AnyFails version t q takes
+    ∙ bind_complete _ _ q r ps (led_complete (begins_item ∷ []) _ q r ps
+    (led_complete (bare_item (boolean true) ∷ []) (parameters_at version) q r ps e))
+
+pub keyed_some : (version : Version) (t q r key : List ℕ) (m : RawMember) → key_at t ≡ Ok (key, q)
+    → member_value_at version q ≡ Ok (m, r) → keyed_at version t ≡ Ok ((key, m), r)
+unfolding keyed_at give
+keyed_some version t q r key m e k =
+    bind_complete key_at _ t q key e
+    ∙ led_complete (keyed_entry key ∷ []) (member_value_at version >>= λ m. give (key, m)) q r (key, m)
+    (bind_complete (member_value_at version) _ q r m k)
+
+-- after an equals sign
+pub value_builds : (before middle after : Cursor) (r : Result ListEntry (ParseError OutOfMemory))
+    → TakesIf (byte equals_sign) true (rest before) (rest middle) → kept middle ≡ kept before
+    → Builds member_tree ordered_member member_events middle after r member_at
+    → Builds member_tree ordered_member member_events before after r member_value_at
+value_builds before middle after (Ok m) takes same h = (
+  h.0,
+  value_some (version before) (rest before) (rest middle) (rest after) h.0 takes
+      (kept_reads member_at (rest middle) (kept middle) (kept before) same ∙ h.1),
+  h.2,
+  h.3 ∙ same,
+)
+value_builds before middle after (Err e) takes same h =
+    value_visits Any AnyFails (version before) (rest before) (rest middle) tt tt (kept before) after (Err e) takes
+    (kept_visits Any AnyFails member_events member_at middle after tt tt (kept before) (Err e) same h)
+
+-- ---- members of a list
+
+pub pushed_tree : (old middle new : List ListEntry) (m : ListEntry) (raw : RawMember) → middle ≡ old
+    → new ≡ middle ++ m ∷ [] → member_tree m ≡ ordered_member raw
+    → list_tree new ≡ list_tree old ++ ordered_member raw ∷ []
+pushed_tree old middle new m raw same add built =
+    ap list_tree (add ∙ ap (λ (ms : List ListEntry). ms ++ m ∷ []) same) ∙ map-append member_tree old (m ∷ [])
+    ∙ ap (λ (r : RawMember). list_tree old ++ r ∷ []) built
+
+pub pushed_seed : (seed : HashSeed) (old middle new : List ListEntry) (m : ListEntry) → middle ≡ old
+    → new ≡ middle ++ m ∷ [] → MemberHasSeed seed m → ListHasSeed seed old → ListHasSeed seed new
+pushed_seed seed old middle new m same add one h =
+    subst (ListHasSeed seed) (sym (add ∙ ap (λ (ms : List ListEntry). ms ++ m ∷ []) same))
+    (all_push (MemberHasSeed seed) old m one h)
+
+-- ---- members of a dictionary
+
+pub entered_tree : (old new : List (List ℕ × ListEntry)) (key : List ℕ) (m : ListEntry) (raw : RawMember)
+    (name : List ℕ) → new ≡ insert_entry bytes_eq old key m → key ≡ name → member_tree m ≡ ordered_member raw
+    → dictionary_tree new ≡ insert_entry bytes_eq (dictionary_tree old) name (ordered_member raw)
+entered_tree old new key m raw name add same built =
+    ap dictionary_tree add ∙ dictionary_tree-insert old key m
+    ∙ ap₂ (λ (k : List ℕ) (r : RawMember). insert_entry bytes_eq (dictionary_tree old) k r) same built
+
+pub entered_seed : (seed : HashSeed) (old new : List (List ℕ × ListEntry)) (key : List ℕ) (m : ListEntry)
+    → new ≡ insert_entry bytes_eq old key m → MemberHasSeed seed m → EntriesHaveSeed seed old
+    → EntriesHaveSeed seed new
+entered_seed seed old new key m add one h =
+    subst (EntriesHaveSeed seed) (sym add) (all_entered bytes_eq (MemberHasSeed seed) old key m one h)

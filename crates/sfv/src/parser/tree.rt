@@ -1,0 +1,390 @@
+//! Parsing of lists and dictionaries to trees (RFC 9651, sections 4.2.1 and 4.2.2).
+//!
+//! These functions build what `ListBuilder` and `DictionaryBuilder` build from events, and allocate in the same order.
+
+ghost use Rattle.std.specs.Prelude.{◌≡◌, ◌<◌, ◌++◌, ◌∷◌, [], ⊤, OnOk, OnErr, IfOk, IfErr, IsTrue, All, map, flat_map, length, vec_capacity};
+ghost use Rattle.std.specs.Prelude.{bytes_eq};
+ghost use Rattle.indexmap.specs.IndexMap.{hasher_of, insert_entry};
+ghost use Rattle.sfv_spec.specs.Values.{inner_list};
+ghost use Rattle.sfv_spec.specs.Statements.{IsParsedAs};
+ghost use Rattle.sfv_spec.specs.declared.field_kind.FieldKind.TheVariants.{List as list_field};
+ghost use Rattle.sfv_spec.specs.declared.field_kind.FieldKind.TheVariants.{Dictionary as dictionary_field};
+ghost use Rattle.sfv_spec.specs.Ordered.{collapse, ordered_item, ordered_member};
+ghost use Rattle.sfv_spec.specs.Events.{parameters_events, item_events, inner_item_events, member_events};
+ghost use Rattle.sfv_spec.specs.Events.{entry_events, keyed_events};
+ghost use Rattle.sfv_bare.specs.BareItems.{bare_value, input_value};
+ghost use Rattle.sfv_text.specs.KeyText.{key_text};
+ghost use Rattle.sfv_tree.specs.Trees.{pairs_tree, item_tree, inner_list_tree, member_tree, list_tree, dictionary_tree};
+ghost use Rattle.sfv_tree.specs.Seeds.{ItemHasSeed, InnerListHasSeed, MemberHasSeed, ListHasSeed, EntriesHaveSeed};
+ghost use Rattle.sfv_tree.specs.Seeds.{DictionaryHasSeed};
+ghost use Rattle.sfv_reading.specs.Items.{parameters_at, item_at};
+ghost use Rattle.sfv_reading.specs.Members.{inner_item_at, inner_items_at, inner_at, member_at, member_value_at, entry_at, keyed_at};
+ghost use Rattle.sfv_reading.specs.Fields.{members_at};
+ghost use Rattle.sfv.specs.Memory.{HasMoreThanSpaces, NeedsMoreThanSpaces};
+ghost use Rattle.sfv.specs.Parsers.{input_of, version_of, IsParseError};
+ghost use Rattle.sfv.specs.parser.Cursor.{rest};
+ghost use Rattle.sfv.specs.parser.Members.{after_begin};
+ghost use Rattle.sfv.specs.parser.Trees.{Builds, ordered_pairs};
+ghost use Rattle.sfv.specs.parser.Visits.{IsOfVisitor};
+
+use crate::parser::Parser;
+use crate::parser::cursor::Cursor;
+use crate::parser::item::ReadParameter;
+use sfv_bare::bare::{BareItem, BareItemFromInput, GenericBareItem};
+use sfv_base::error::{Error, ErrorKind, OutOfMemory, ParseError};
+use sfv_text::key::Key;
+use sfv_text::key_ref::KeyRef;
+use sfv_tree::parsed::{Dictionary, InnerList, Item, List, ListEntry, Parameters};
+use sfv_visitor::visitor::parameters::{MANY, fit};
+use std::alloc::Global;
+
+/// Makes room for one more element, if `is_needed` is true.
+#[inline(always)]
+fn make_room<T>(items: &mut Vec<T>, is_needed: bool) -> Result<(), ParseError<OutOfMemory>>
+    ensures items { items.new.items ≡ items.old.items }
+    ensures room { OnOk result (IsTrue is_needed → length items.new.items < vec_capacity items.new) }
+    ensures failed { IfErr result (IsOfVisitor (λ _. ⊤)) }
+{
+    if !is_needed {
+        return Ok(());
+    }
+    match items.reserve(1) {
+        Ok(()) => Ok(()),
+        Err(_) => Err(ParseError::Visitor(OutOfMemory)),
+    }
+}
+
+/// Returns the same value with owned text.
+#[inline(always)]
+fn own(item: BareItemFromInput<'_>, alloc: Global) -> Result<BareItem, ParseError<OutOfMemory>>
+    ensures value { IfOk result (λ owned. bare_value owned ≡ input_value item.entry) }
+    ensures failed { IfErr result (IsOfVisitor (λ _. ⊤)) }
+{
+    item.try_into_owned(alloc).map_err(ParseError::Visitor)
+}
+
+/// Returns the same key with owned text.
+#[inline(always)]
+fn own_key(key: KeyRef<'_>, alloc: Global) -> Result<Key, ParseError<OutOfMemory>>
+    ensures value { IfOk result (λ owned. owned ≡ key_text key.entry) }
+    ensures failed { IfErr result (IsOfVisitor (λ _. ⊤)) }
+{
+    key.to_owned(alloc).map_err(ParseError::Visitor)
+}
+
+/// Inserts a parsed parameter.
+#[inline(always)]
+fn insert(
+    alloc: Global,
+    params: &mut Parameters,
+    parameter: ReadParameter<'_>,
+) -> Result<(), ParseError<OutOfMemory>>
+    ensures seed { hasher_of params.new ≡ hasher_of params.old }
+    ensures entries { OnOk result (pairs_tree params.new.entries ≡ insert_entry bytes_eq
+        (pairs_tree params.old.entries) (key_text parameter.entry.key) (input_value parameter.entry.value)) }
+    ensures failed { IfErr result (IsOfVisitor (λ _. ⊤)) }
+{
+    let ReadParameter { key, value } = parameter;
+    let key = own_key(key, alloc)?;
+    let value = own(value, alloc)?;
+    match params.insert(key, value) {
+        Ok(_) => Ok(()),
+        Err(_) => Err(ParseError::Visitor(OutOfMemory)),
+    }
+}
+
+/// Inserts a member.
+#[inline(always)]
+fn enter(
+    dictionary: &mut Dictionary,
+    key: Key,
+    member: ListEntry,
+) -> Result<(), ParseError<OutOfMemory>>
+    ensures hasher { hasher_of dictionary.new ≡ hasher_of dictionary.old }
+    ensures entries { OnOk result (dictionary.new.entries ≡ insert_entry bytes_eq dictionary.old.entries key member) }
+    ensures failed { IfErr result (IsOfVisitor (λ _. ⊤)) }
+{
+    match dictionary.insert(key, member) {
+        Ok(_) => Ok(()),
+        Err(_) => Err(ParseError::Visitor(OutOfMemory)),
+    }
+}
+
+/// Releases the unused memory of parameters, if there are any, after at least `MANY` other members or items.
+#[inline(always)]
+fn fit_after(count: usize, params: &mut Parameters)
+    ensures entries { params.new.entries ≡ params.old.entries }
+    ensures seed { hasher_of params.new ≡ hasher_of params.old }
+{
+    if count >= MANY && !params.is_empty() {
+        fit(params);
+    }
+}
+
+/// Returns the number of elements, or 0 if they need no room.
+#[inline(always)]
+fn count_if<T>(needs_room: bool, items: &Vec<T>) -> usize {
+    if needs_room { items.len() } else { 0 }
+}
+
+impl<'de> Cursor<'de> {
+    /// Parses parameters. Before each insertion, and at their end, there is room for one more element of `items`, if
+    /// `needs_room` is true. Then the unused memory of parameters is released after many items.
+    #[inline(never)]
+    fn collect_parameters<T>(
+        &mut self,
+        items: &mut Vec<T>,
+        needs_room: bool,
+    ) -> Result<Parameters, ParseError<OutOfMemory>>
+        ensures tree { Builds (λ params. pairs_tree params.entries) collapse parameters_events
+            self.old self.new result parameters_at }
+        ensures seed { IfOk result (λ params. hasher_of params ≡ self.old.parser.seed) }
+        ensures items { items.new.items ≡ items.old.items }
+        ensures room { OnOk result (IsTrue needs_room → length items.new.items < vec_capacity items.new) }
+    {
+        let mut params = Parameters::with_hasher(self.alloc, self.parser.seed);
+        while let Some(parameter) = self.parameter()? {
+            make_room(items, needs_room)?;
+            insert(self.alloc, &mut params, parameter)?;
+        }
+        make_room(items, needs_room)?;
+        fit_after(count_if(needs_room, items), &mut params);
+        Ok(params)
+    }
+
+    /// Parses any number of parameters, as `collect_parameters` does.
+    #[inline(always)]
+    fn tree_parameters<T>(
+        &mut self,
+        items: &mut Vec<T>,
+        needs_room: bool,
+    ) -> Result<Parameters, ParseError<OutOfMemory>>
+        ensures tree { Builds (λ params. pairs_tree params.entries) collapse parameters_events
+            self.old self.new result parameters_at }
+        ensures seed { IfOk result (λ params. hasher_of params ≡ self.old.parser.seed) }
+        ensures items { items.new.items ≡ items.old.items }
+        ensures room { OnOk result (IsTrue needs_room → length items.new.items < vec_capacity items.new) }
+    {
+        if self.next_is(b';') {
+            return self.collect_parameters(items, needs_room);
+        }
+        make_room(items, needs_room)?;
+        Ok(Parameters::with_hasher(self.alloc, self.parser.seed))
+    }
+
+    /// Parses an item, and makes room for one more element of `items` as `collect_parameters` does.
+    #[inline(always)]
+    fn tree_item<T>(
+        &mut self,
+        items: &mut Vec<T>,
+        needs_room: bool,
+    ) -> Result<Item, ParseError<OutOfMemory>>
+        ensures tree { Builds item_tree ordered_item item_events self.old self.new result item_at }
+        ensures seed { IfOk result (ItemHasSeed self.old.parser.seed) }
+        ensures items { items.new.items ≡ items.old.items }
+        ensures room { OnOk result (IsTrue needs_room → length items.new.items < vec_capacity items.new) }
+    {
+        let bare_item = self.bare_item()?;
+        let bare_item = own(bare_item, self.alloc)?;
+        let params = self.tree_parameters(items, needs_room)?;
+        Ok(Item::with_params(bare_item, params))
+    }
+
+    /// Parses an item of an inner list, and appends it to `items`.
+    #[inline(always)]
+    fn push_inner_item(&mut self, items: &mut Vec<Item>) -> Result<(), ParseError<OutOfMemory>>
+        ensures tree { Builds (λ _. map item_tree items.new.items)
+            (λ raw. map item_tree items.old.items ++ ordered_item raw ∷ []) inner_item_events
+            self.old self.new result inner_item_at }
+        ensures seed { OnOk result (All (ItemHasSeed self.old.parser.seed) items.old.items
+            → All (ItemHasSeed self.old.parser.seed) items.new.items) }
+    {
+        let item = self.tree_item(items, true)?;
+        items.push_reserved(item);
+        Ok(())
+    }
+
+    /// Parses the items of an inner list after its opening parenthesis, with the closing one.
+    fn tree_inner_items(&mut self) -> Result<Vec<Item>, ParseError<OutOfMemory>>
+        ensures tree { Builds (λ items. map item_tree items.items) (λ raw. map ordered_item raw)
+            (λ raw. flat_map inner_item_events raw) self.old self.new result inner_items_at }
+        ensures seed { IfOk result (λ items. All (ItemHasSeed self.old.parser.seed) items.items) }
+    {
+        if self.peek().is_none() {
+            let error = self.error(ErrorKind::UnterminatedInnerList);
+            return Err(ParseError::Syntax(error));
+        }
+        self.skip_sp();
+        let mut items = Vec::new(self.alloc);
+        if self.take_if(b')') {
+            return Ok(items);
+        }
+        self.push_inner_item(&mut items)?;
+        while self.consume_item_delimiter()? {
+            self.push_inner_item(&mut items)?;
+        }
+        Ok(items)
+    }
+
+    /// Parses an inner list after its opening parenthesis, with its parameters. `count` other members come before.
+    #[inline(never)]
+    fn tree_inner_list(&mut self, count: usize) -> Result<InnerList, ParseError<OutOfMemory>>
+        ensures tree { Builds (λ list. inner_list (inner_list_tree list)) ordered_member after_begin
+            self.old self.new result inner_at }
+        ensures seed { IfOk result (InnerListHasSeed self.old.parser.seed) }
+    {
+        let mut items = self.tree_inner_items()?;
+        let mut params = self.tree_parameters(&mut items, false)?;
+        fit_after(count, &mut params);
+        Ok(InnerList::with_params(items, params))
+    }
+
+    /// Parses an item or an inner list.
+    #[inline(always)]
+    fn tree_member(&mut self) -> Result<ListEntry, ParseError<OutOfMemory>>
+        ensures tree { Builds member_tree ordered_member member_events self.old self.new result member_at }
+        ensures seed { IfOk result (MemberHasSeed self.old.parser.seed) }
+    {
+        if self.take_if(b'(') {
+            let list = self.tree_inner_list(0)?;
+            return Ok(ListEntry::InnerList(list));
+        }
+        let mut none: Vec<Item> = Vec::new(self.alloc);
+        let item = self.tree_item(&mut none, false)?;
+        Ok(ListEntry::Item(item))
+    }
+
+    /// Parses the rest of a dictionary member after its key. Without `=`, the member is the item true.
+    #[inline(always)]
+    fn tree_member_value(&mut self) -> Result<ListEntry, ParseError<OutOfMemory>>
+        ensures tree { Builds member_tree ordered_member member_events self.old self.new result member_value_at }
+        ensures seed { IfOk result (MemberHasSeed self.old.parser.seed) }
+    {
+        if self.take_if(b'=') {
+            return self.tree_member();
+        }
+        let mut none: Vec<Item> = Vec::new(self.alloc);
+        let params = self.tree_parameters(&mut none, false)?;
+        let item = Item::with_params(GenericBareItem::Boolean(true), params);
+        Ok(ListEntry::Item(item))
+    }
+
+    /// Parses a member of a list, and appends it to `list`.
+    #[inline(always)]
+    fn push_member(&mut self, list: &mut List) -> Result<(), ParseError<OutOfMemory>>
+        ensures tree { Builds (λ _. list_tree list.new.items)
+            (λ raw. list_tree list.old.items ++ ordered_member raw ∷ []) member_events
+            self.old self.new result member_at }
+        ensures seed { OnOk result (ListHasSeed self.old.parser.seed list.old.items
+            → ListHasSeed self.old.parser.seed list.new.items) }
+    {
+        if self.take_if(b'(') {
+            make_room(list, true)?;
+            let inner = self.tree_inner_list(list.len())?;
+            list.push_reserved(ListEntry::InnerList(inner));
+            return Ok(());
+        }
+        let item = self.tree_item(list, true)?;
+        list.push_reserved(ListEntry::Item(item));
+        Ok(())
+    }
+
+    /// Parses a member of a dictionary, and inserts it into `dictionary`.
+    #[inline(always)]
+    fn insert_member(&mut self, dictionary: &mut Dictionary) -> Result<(), ParseError<OutOfMemory>>
+        ensures tree { Builds (λ _. dictionary_tree dictionary.new.entries)
+            (λ raw. insert_entry bytes_eq (dictionary_tree dictionary.old.entries) raw.0 (ordered_member raw.1))
+            keyed_events self.old self.new result keyed_at }
+        ensures hasher { hasher_of dictionary.new ≡ hasher_of dictionary.old }
+        ensures seed { OnOk result (EntriesHaveSeed self.old.parser.seed dictionary.old.entries
+            → EntriesHaveSeed self.old.parser.seed dictionary.new.entries) }
+    {
+        let key = self.key()?;
+        let key = own_key(key, self.alloc)?;
+        let member = self.tree_member_value()?;
+        enter(dictionary, key, member)?;
+        Ok(())
+    }
+
+    /// Parses the members of a list up to the end of the input.
+    fn tree_list(&mut self) -> Result<List, ParseError<OutOfMemory>>
+        ensures tree { Builds (λ list. list_tree list.items) (λ raw. map ordered_member raw)
+            (λ raw. flat_map entry_events raw) self.old self.new result
+            (λ version. members_at entry_events (entry_at version)) }
+        ensures end { OnOk result (rest self.new ≡ []) }
+        ensures seed { IfOk result (λ list. ListHasSeed self.old.parser.seed list.items) }
+        ensures memory { OnErr result (HasMoreThanSpaces (rest self.old)) }
+    {
+        let mut list = List::new(self.alloc);
+        self.skip_sp();
+        if self.peek().is_none() {
+            return Ok(list);
+        }
+        self.push_member(&mut list)?;
+        while self.consume_comma()? {
+            self.push_member(&mut list)?;
+        }
+        Ok(list)
+    }
+
+    /// Parses the members of a dictionary up to the end of the input.
+    fn tree_dictionary(&mut self) -> Result<Dictionary, ParseError<OutOfMemory>>
+        ensures tree { Builds (λ dictionary. dictionary_tree dictionary.entries) (λ raw. collapse (ordered_pairs raw))
+            (λ raw. flat_map keyed_events raw) self.old self.new result
+            (λ version. members_at keyed_events (keyed_at version)) }
+        ensures end { OnOk result (rest self.new ≡ []) }
+        ensures seed { IfOk result (DictionaryHasSeed self.old.parser.seed) }
+        ensures memory { OnErr result (HasMoreThanSpaces (rest self.old)) }
+    {
+        let mut dictionary = Dictionary::with_hasher(self.alloc, self.parser.seed);
+        self.skip_sp();
+        if self.peek().is_none() {
+            return Ok(dictionary);
+        }
+        self.insert_member(&mut dictionary)?;
+        while self.consume_comma()? {
+            self.insert_member(&mut dictionary)?;
+        }
+        Ok(dictionary)
+    }
+}
+
+/// Parses the input as a list.
+///
+/// # Errors
+///
+/// Returns the errors of `Parser::parse`.
+pub(crate) fn parse_list(parser: Parser<'_>, alloc: Global) -> Result<List, Error>
+    ensures read { IfOk result (λ list.
+        IsParsedAs (version_of parser.entry) list_field (input_of parser.entry) (list_tree list.items)) }
+    ensures seed { IfOk result (λ list. ListHasSeed parser.entry.seed list.items) }
+    ensures rejected { IfErr result (IsParseError (version_of parser.entry) list_field (input_of parser.entry)) }
+    ensures memory { IfErr result (NeedsMoreThanSpaces (input_of parser.entry)) }
+{
+    let mut cursor = Cursor::new(parser, alloc);
+    match cursor.tree_list() {
+        Ok(list) => Ok(list),
+        Err(ParseError::Syntax(error)) => Err(error),
+        Err(ParseError::Visitor(error)) => Err(Error::from(error)),
+    }
+}
+
+/// Parses the input as a dictionary.
+///
+/// # Errors
+///
+/// Returns the errors of `Parser::parse`.
+pub(crate) fn parse_dictionary(parser: Parser<'_>, alloc: Global) -> Result<Dictionary, Error>
+    ensures read { IfOk result (λ dictionary. IsParsedAs (version_of parser.entry) dictionary_field
+        (input_of parser.entry) (dictionary_tree dictionary.entries)) }
+    ensures seed { IfOk result (DictionaryHasSeed parser.entry.seed) }
+    ensures rejected { IfErr result (IsParseError (version_of parser.entry) dictionary_field (input_of parser.entry)) }
+    ensures memory { IfErr result (NeedsMoreThanSpaces (input_of parser.entry)) }
+{
+    let mut cursor = Cursor::new(parser, alloc);
+    match cursor.tree_dictionary() {
+        Ok(dictionary) => Ok(dictionary),
+        Err(ParseError::Syntax(error)) => Err(error),
+        Err(ParseError::Visitor(error)) => Err(Error::from(error)),
+    }
+}
