@@ -127,7 +127,9 @@ impl FieldType for Item {
     }
 
     fn serialize(&self, alloc: Global) -> Result<StdString, OutOfMemory> {
-        let mut text = StdString::new(alloc);
+        // An estimate: most items need no second allocation.
+        let capacity = 32 + 24 * self.params.len().min(100);
+        let mut text = StdString::with_capacity(alloc, capacity)?;
         serialize_item(self, &mut text)?;
         Ok(text)
     }

@@ -1,11 +1,23 @@
-//! Separators, and truncation of text that was just appended.
+//! New texts, separators, and truncation of text that was just appended.
 
-ghost use Rattle.std.specs.Prelude.{◌≡◌, string_bytes, string_capacity};
+ghost use Rattle.std.specs.Prelude.{◌≡◌, ◌≤◌, [], IfOk, string_bytes, string_capacity};
 ghost use Rattle.sfv_writer.specs.Written.{AsksForRoom, Appends, IsTruncatedTo, separator_before};
 
 use sfv_base::error::OutOfMemory;
-use std::alloc::Allocator;
+use std::alloc::{Allocator, Global};
 use std::string::String as StdString;
+
+/// Creates an empty text for a list or a dictionary with this number of members, allocated from `alloc`.
+///
+/// The capacity is an estimate from the number of members, of which it counts at most 1000. Most texts need no second
+/// allocation.
+pub(crate) fn text_for_members(members: usize, alloc: Global) -> Result<StdString, OutOfMemory>
+    ensures bytes { IfOk result (λ text. string_bytes text ≡ []) }
+    ensures room { IfOk result (λ text. 64 ≤ string_capacity text) }
+{
+    let text = StdString::with_capacity(alloc, 64 + 8 * members.min(1000))?;
+    Ok(text)
+}
 
 /// Truncates `output` to `len` bytes, an earlier length of the same text.
 pub fn truncate_to<A: Allocator>(len: usize, output: &mut StdString<A>)

@@ -10,5 +10,5 @@ returns-clause-text c = (
   tt,
   written item_field (item_tree c.args.self.now) _ c.in_ok-serialize_item.ensures.value
       (c.in_ok-serialize_item.ensures.text ∙ ap (λ (s : List ℕ). s ++ item_text (item_tree c.args.self.now))
-      c.new-text.ensures.bytes),
+      c.in_ok-text.ensures.bytes),
 )
