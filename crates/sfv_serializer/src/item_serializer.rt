@@ -15,6 +15,7 @@ use crate::parameter_serializer::ParameterSerializer;
 use sfv_bare::bare::RefBareItem;
 use sfv_spec::version::Version;
 use sfv_writer::invariants::bare_item_invariant;
+use sfv_writer::output::prepare;
 use sfv_writer::serialize_error::SerializeError;
 use sfv_writer::version_check::check_bare_item;
 use std::string::String as StdString;
@@ -75,6 +76,7 @@ impl<'a> ItemSerializer<'a> {
         let ItemSerializer { buffer, version } = self;
         bare_item_invariant(bare_item);
         check_bare_item(version, bare_item)?;
+        prepare(buffer);
         append(BareItemFragment { value: bare_item }, buffer)?;
         Ok(ParameterSerializer::new(buffer, version))
     }

@@ -1,6 +1,6 @@
 //! New texts, separators, and truncation of text that was just appended.
 
-ghost use Rattle.std.specs.Prelude.{◌≡◌, ◌≤◌, [], IfOk, string_bytes, string_capacity};
+ghost use Rattle.std.specs.Prelude.{◌≡◌, ◌<◌, ◌≤◌, [], IfOk, string_bytes, string_capacity};
 ghost use Rattle.sfv_writer.specs.Written.{AsksForRoom, Appends, IsTruncatedTo, separator_before};
 
 use sfv_base::error::OutOfMemory;
@@ -30,7 +30,30 @@ pub fn truncate_to<A: Allocator>(len: usize, output: &mut StdString<A>)
     }
 }
 
-/// Appends `separator`, unless `is_first` is true.
+/// Requests memory for 64 bytes. A failure is no error: the text may need fewer bytes.
+#[cold]
+#[inline(never)]
+fn request_first_memory<A: Allocator>(output: &mut StdString<A>)
+    ensures text { string_bytes output.new ≡ string_bytes output.old }
+    ensures room { string_capacity output.old ≤ string_capacity output.new }
+{
+    let _ = output.reserve(64);
+}
+
+/// Requests memory for 64 bytes if `output` has none yet, so a short text needs one allocation. Otherwise changes
+/// nothing.
+#[inline(always)]
+pub fn prepare<A: Allocator>(output: &mut StdString<A>)
+    ensures text { string_bytes output.new ≡ string_bytes output.old }
+    ensures room { string_capacity output.old ≤ string_capacity output.new }
+    ensures idle { 0 < string_capacity output.old → string_capacity output.new ≡ string_capacity output.old }
+{
+    if output.capacity() == 0 {
+        request_first_memory(output);
+    }
+}
+
+/// Appends `separator`, unless `is_first` is true. Before the first part, requests memory if `output` has none yet.
 ///
 /// # Errors
 ///
@@ -45,6 +68,7 @@ pub fn serialize_separator<A: Allocator>(
     ensures room { AsksForRoom output.old output.new (separator_before is_first separator.now) result }
 {
     if is_first {
+        prepare(output);
         return Ok(());
     }
     // Characters that are known at compile time take fewer instructions than the copy of a `str`.
