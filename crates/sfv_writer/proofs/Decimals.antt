@@ -1,9 +1,11 @@
 -- The digits of a decimal.
-use Rattle.std.proofs.Common.{◌≡◌, ℕ, ◌+◌, ◌<◌, ◌/◌, ◌%◌, Bool, true, false, eqb, List, [], ◌∷◌, ◌++◌, refl, ap, subst}
+use Rattle.std.proofs.Common.{◌≡◌, ℕ, ◌+◌, ◌<◌, ◌≤◌, ◌/◌, ◌%◌, Bool, true, false, eqb, List, [], ◌∷◌, ◌++◌, refl, ap, subst}
 use Rattle.std.proofs.Common.{◌∙◌, arith, Result, ℤ, pos, negsuc, to_z, of_z, w64}
 use Rattle.std.specs.Prelude.{MatchResult, nat_abs, int_lt, codes, decimal as decimal_digits}
 use Rattle.std.proofs.lemmas.Bool.{ltb-true}
+use Rattle.std.proofs.lemmas.Fmt.{decimal_digit, decimal_step}
 use Rattle.std.proofs.lemmas.Int.{to_z-of_z}
+use Rattle.std.specs.Fmt.{signed_decimal}
 use Rattle.sfv_spec.specs.Ascii.{digit_zero}
 use Rattle.sfv_spec.specs.Numbers.{minus_text, is_negative}
 use Rattle.sfv_spec.specs.Canonical.{fraction_digits, decimal_text}
@@ -22,6 +24,23 @@ pub fraction_three : (f : ℕ) → eqb (f % 100) 0 ≡ false → eqb (f % 10) 0 
 fraction_three f e k = rw (e, k) refl
 
 pub ruleset fraction_steps = (fraction_one, fraction_two, fraction_three)
+
+-- the digits of a number below 100, and of one below 1000
+pub two_digits : (n : ℕ) → 10 ≤ n → n < 100 → decimal_digits n ≡ (48 + n / 10) ∷ (48 + n % 10) ∷ []
+two_digits n l h =
+    rw (decimal_step n l (omega (arith, h)), decimal_digit (n / 10) (omega (arith, h))) refl
+
+pub three_digits : (n : ℕ) → 100 ≤ n → n < 1000
+    → decimal_digits n ≡ (48 + n / 100) ∷ (48 + n / 10 % 10) ∷ (48 + n % 10) ∷ []
+three_digits n l h =
+    let hundreds : n / 10 / 10 ≡ n / 100 = omega (arith, h) in
+    rw (
+      decimal_step n (omega (arith, l)) (omega (arith, h)),
+      two_digits (n / 10) (omega (arith, l)) (omega (arith, h)),
+      hundreds,
+    ) refl
+
+pub ruleset short_steps = (decimal_digit, two_digits, three_digits)
 
 -- a number that fits is the same in bits
 fits_same : (i : ℤ) → nat_abs i < 1000000000000000 → to_z w64 (of_z w64 i) ≡ i
@@ -44,17 +63,31 @@ minus_of v z b e h = ap minus_text (test z b (rw e at h))
 pub front_of : (old text sign mid new : List ℕ) → new ≡ mid → mid ≡ old ++ text → text ≡ sign → new ≡ old ++ sign
 front_of old text sign mid new a b e = a ∙ put old text sign mid b e
 
+-- a sign and digits are the text of an integer
+signed_text : (z : ℤ) → minus_text (is_negative z) ++ decimal_digits (nat_abs z) ≡ signed_decimal z
+signed_text (pos n) = refl
+signed_text (negsuc n) = refl
+
+-- the parts of an integer, one after another
+pub signed_parts : {T E : Type 0} (old front new : List ℕ) (z : ℤ) (m : ℕ) (r : Result T E)
+    → m ≡ nat_abs z → front ≡ old ++ minus_text (is_negative z)
+    → MatchResult r (λ _. new ≡ front ++ decimal_digits m) (λ _. Extends front new)
+    → MatchResult r (λ _. new ≡ old ++ signed_decimal z) (λ _. Extends old new)
+signed_parts {T} {E} old front new z m r e a h =
+    subst (λ (text : List ℕ). MatchResult r (λ _. new ≡ old ++ text) (λ _. Extends old new))
+    (ap (λ (n : ℕ). minus_text (is_negative z) ++ decimal_digits n) e ∙ signed_text z)
+    (after old (minus_text (is_negative z)) front (decimal_digits m) new r a h)
+
 -- the parts of a decimal, one after another
-pub decimal_parts : {T E : Type 0} (old front digits whole dot point new : List ℕ) (z : ℤ) (m : ℕ) (r : Result T E)
-    → m ≡ nat_abs z → front ≡ old ++ minus_text (is_negative z) → digits ≡ decimal_digits (m / 1000)
-    → whole ≡ front ++ digits → dot ≡ codes "." → point ≡ whole ++ dot
+pub decimal_parts : {T E : Type 0} (old front whole dot point new : List ℕ) (z : ℤ) (m : ℕ) (r : Result T E)
+    → m ≡ nat_abs z → front ≡ old ++ minus_text (is_negative z) → whole ≡ front ++ decimal_digits (m / 1000) → dot ≡ codes "." → point ≡ whole ++ dot
     → MatchResult r (λ _. new ≡ point ++ fraction_digits (m % 1000)) (λ _. Extends point new)
     → MatchResult r (λ _. new ≡ old ++ decimal_text z) (λ _. Extends old new)
-decimal_parts {T} {E} old front digits whole dot point new z m r e a d b k c h =
+decimal_parts {T} {E} old front whole dot point new z m r e a b k c h =
     let minus : List ℕ = minus_text (is_negative z) in
     subst (λ (n : ℕ). MatchResult r (λ _. new ≡ old ++ (minus ++ decimal_digits (n / 1000) ++ codes "."
     ++ fraction_digits (n % 1000))) (λ _. Extends old new)) e
     (after old (minus ++ decimal_digits (m / 1000) ++ codes ".") point _ new r
     (next old (minus ++ decimal_digits (m / 1000)) whole (codes ".") point
-    (next old minus front (decimal_digits (m / 1000)) whole a (put front digits (decimal_digits (m / 1000)) whole b d))
+    (next old minus front (decimal_digits (m / 1000)) whole a b)
     (put whole dot (codes ".") point c k)) h)

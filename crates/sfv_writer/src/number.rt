@@ -1,6 +1,6 @@
 //! Serialization of numbers and dates (RFC 9651, sections 4.1.4, 4.1.5 and 4.1.10).
 
-ghost use Rattle.std.specs.Prelude.{◌≡◌, ◌++◌, ◌+◌, ◌<◌, codes};
+ghost use Rattle.std.specs.Prelude.{◌≡◌, ◌∷◌, ◌++◌, ◌+◌, ◌/◌, ◌%◌, ◌<◌, [], codes, decimal};
 ghost use Rattle.std.specs.Fmt.{signed_decimal};
 ghost use Rattle.sfv_spec.specs.Values.{IsInRange};
 ghost use Rattle.sfv_spec.specs.Canonical.{fraction_digits, decimal_text};
@@ -15,6 +15,93 @@ use sfv_base::integer::Integer;
 use std::alloc::Allocator;
 use std::string::String as StdString;
 
+/// Returns the digit of a number below ten.
+fn digit(value: u64) -> char
+    requires { value < 10 }
+    ensures digit { result ≡ 0x30 + value }
+    ensures ascii { result < 128 }
+{
+    (b'0' + value as u8) as char
+}
+
+/// Appends the digit of a number below ten.
+#[inline(always)]
+fn serialize_one_digit<A: Allocator>(
+    value: u64,
+    output: &mut StdString<A>,
+) -> Result<(), OutOfMemory>
+    requires { value < 10 }
+    ensures text { Appends output.old output.new ((0x30 + value) ∷ []) result }
+    ensures room { AsksForRoom output.old output.new ((0x30 + value) ∷ []) result }
+{
+    output.push(digit(value))?;
+    Ok(())
+}
+
+/// Appends the two digits of a number below 100.
+#[inline(always)]
+fn serialize_two_digits<A: Allocator>(
+    value: u64,
+    output: &mut StdString<A>,
+) -> Result<(), OutOfMemory>
+    requires { value < 100 }
+    ensures text { Appends output.old output.new ((0x30 + value / 10) ∷ (0x30 + value % 10) ∷ []) result }
+    ensures room { AsksForRoom output.old output.new ((0x30 + value / 10) ∷ (0x30 + value % 10) ∷ []) result }
+{
+    output.push(digit(value / 10))?;
+    output.push(digit(value % 10))?;
+    Ok(())
+}
+
+/// Appends the three digits of a number below 1000.
+#[inline(always)]
+fn serialize_three_digits<A: Allocator>(
+    value: u64,
+    output: &mut StdString<A>,
+) -> Result<(), OutOfMemory>
+    requires { value < 1000 }
+    ensures text { Appends output.old output.new
+        ((0x30 + value / 100) ∷ (0x30 + value / 10 % 10) ∷ (0x30 + value % 10) ∷ []) result }
+    ensures room { AsksForRoom output.old output.new
+        ((0x30 + value / 100) ∷ (0x30 + value / 10 % 10) ∷ (0x30 + value % 10) ∷ []) result }
+{
+    output.push(digit(value / 100))?;
+    output.push(digit(value / 10 % 10))?;
+    output.push(digit(value % 10))?;
+    Ok(())
+}
+
+/// Appends the decimal digits of a number of any length.
+#[inline(never)]
+fn serialize_long<A: Allocator>(value: u64, output: &mut StdString<A>) -> Result<(), OutOfMemory>
+    ensures text { Appends output.old output.new (decimal value) result }
+    ensures room { AsksForRoom output.old output.new (decimal value) result }
+{
+    let mut buffer = Buffer::new();
+    output.push_str(buffer.format(value))?;
+    Ok(())
+}
+
+/// Appends the decimal digits of a number.
+// Up to three digits are appended one at a time, which takes fewer instructions than a buffer and its copy.
+#[inline(always)]
+#[tactic(auto, using(crate::proofs::Decimals::short_steps))]
+fn serialize_natural<A: Allocator>(value: u64, output: &mut StdString<A>) -> Result<(), OutOfMemory>
+    ensures text { Appends output.old output.new (decimal value) result }
+    ensures room { AsksForRoom output.old output.new (decimal value) result }
+{
+    if value < 10 {
+        return serialize_one_digit(value, output);
+    }
+    if value < 100 {
+        return serialize_two_digits(value, output);
+    }
+    if value < 1000 {
+        return serialize_three_digits(value, output);
+    }
+    serialize_long(value, output)
+}
+
 #[inline(never)]
 pub(crate) fn serialize_integer<A: Allocator>(
     value: Integer,
@@ -24,9 +111,11 @@ pub(crate) fn serialize_integer<A: Allocator>(
     ensures room { AsksForRoom output.old output.new (signed_decimal (integer_of value)) result }
     ensures range { IsInRange (integer_of value) }
 {
-    let mut buffer = Buffer::new();
-    output.push_str(buffer.format(i64::from(value)))?;
-    Ok(())
+    let value = i64::from(value);
+    if value < 0 {
+        output.push('-')?;
+    }
+    serialize_natural(value.unsigned_abs(), output)
 }
 
 #[inline(never)]
@@ -40,15 +129,6 @@ pub(crate) fn serialize_date<A: Allocator>(
 {
     output.push('@')?;
     serialize_integer(value.unix_seconds(), output)
-}
-
-/// Returns the digit of a number below ten.
-fn digit(value: u64) -> char
-    requires { value < 10 }
-    ensures digit { result ≡ 0x30 + value }
-    ensures ascii { result < 128 }
-{
-    (b'0' + value as u8) as char
 }
 
 /// Appends one to three digits of a fraction, without trailing zeros except a single `0`.
@@ -87,8 +167,7 @@ pub(crate) fn serialize_decimal<A: Allocator>(
         output.push('-')?;
     }
     let magnitude = value.unsigned_abs();
-    let mut buffer = Buffer::new();
-    output.push_str(buffer.format(magnitude / 1000))?;
+    serialize_natural(magnitude / 1000, output)?;
     output.push('.')?;
     serialize_fraction(magnitude % 1000, output)
 }

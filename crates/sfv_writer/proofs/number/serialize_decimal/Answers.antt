@@ -1,5 +1,5 @@
 use Rattle.std.proofs.Common.{◌≡◌, ◌++◌, ◌∙◌, List, [], ℕ, true, false, lit<, string_bytes, sym, ap}
-use Rattle.std.specs.Prelude.{nat_abs}
+use Rattle.std.specs.Prelude.{◌/◌, nat_abs, decimal}
 use Rattle.std.proofs.lemmas.List.{append-nil}
 use Rattle.sfv_base.specs.Numbers.{thousandths_of}
 use Rattle.sfv_spec.specs.Numbers.{minus_text, is_negative}
@@ -21,21 +21,21 @@ returns-clause-text g c =
       | else-value-lt0 w ↦ front_of old [] _ _ _ (ap string_bytes w.output-is) (sym (append-nil old))
           (sym (minus_of _ z false same w.if-value-lt0.false))
     ] in
-    decimal_parts _ _ _ _ _ _ _ z _ _ (c.unsigned_abs-magnitude.ensures.value ∙ ap nat_abs same) front
-    c.format.ensures.text c.in_ok-push_str.ensures.bytes (c.in_ok-push-2.ensures.ascii (lit< tt))
+    decimal_parts _ _ _ _ _ _ z _ _ (c.unsigned_abs-magnitude.ensures.value ∙ ap nat_abs same) front
+    c.in_ok-serialize_natural.ensures.text (c.in_ok-push-2.ensures.ascii (lit< tt))
     c.in_ok-push-2.ensures.bytes c.serialize_fraction.ensures.text
 
-pub returns-in_err-push_str-clause-text : goal.returns-in_err-push_str-clause-text
-returns-in_err-push_str-clause-text g c =
+pub returns-in_err-serialize_natural-clause-text : goal.returns-in_err-serialize_natural-clause-text
+returns-in_err-serialize_natural-clause-text g c =
     let old : List ℕ = string_bytes c.args.output.now in
     let front : Extends old (string_bytes c.if-value-lt0.output) = elim c.if-value-lt0.branch [
       | then-value-lt0+in_ok-push w ↦ (_, ap string_bytes w.output-is ∙ w.in_ok-push.ensures.bytes)
       | else-value-lt0 w ↦ unchanged old _ (ap string_bytes w.output-is)
     ] in
     stops old front.0 _ _ (decimal_text (thousandths_of c.args.value))
-    c.from_residual-in_err-push_str.result c.from_residual-in_err-push_str.ensures.0
+    c.from_residual-in_err-serialize_natural.result c.from_residual-in_err-serialize_natural.ensures.0
     front.1
-    (unchanged _ _ c.in_err-push_str.ensures.bytes)
+    c.in_err-serialize_natural.ensures.text
 
 pub returns-in_err-push-2-clause-text : goal.returns-in_err-push-2-clause-text
 returns-in_err-push-2-clause-text g c =
@@ -44,7 +44,7 @@ returns-in_err-push-2-clause-text g c =
       | then-value-lt0+in_ok-push w ↦ (_, ap string_bytes w.output-is ∙ w.in_ok-push.ensures.bytes)
       | else-value-lt0 w ↦ unchanged old _ (ap string_bytes w.output-is)
     ] in
-    stops old (front.0 ++ c.format.result.now) _ _ (decimal_text (thousandths_of c.args.value))
+    stops old (front.0 ++ decimal (c.unsigned_abs-magnitude.result / 1000)) _ _ (decimal_text (thousandths_of c.args.value))
     c.from_residual-in_err-push-2.result c.from_residual-in_err-push-2.ensures.0
-    (next old front.0 _ c.format.result.now _ front.1 c.in_ok-push_str.ensures.bytes)
+    (next old front.0 _ (decimal (c.unsigned_abs-magnitude.result / 1000)) _ front.1 c.in_ok-serialize_natural.ensures.text)
     (unchanged _ _ c.in_err-push-2.ensures.bytes)
