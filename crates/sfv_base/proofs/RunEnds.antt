@@ -7,6 +7,8 @@ use Rattle.std.proofs.lemmas.List.Sums.{prefix_len-le-length, prefix_len_stops}
 use Rattle.std.proofs.lemmas.Bool.{eq-eqb, ne_eqb, and_from}
 use Rattle.std.specs.List.{prefix_len, list_all}
 use Rattle.std.specs.Simd.{first_chunks}
+use Rattle.std.specs.Array.{IsWholeChunk}
+use Rattle.std.proofs.lemmas.List.{take_all}
 use lib.Lanes.{chunk}
 use lib.Count.{count_trailing_zeros}
 use Rattle.sfv_base.specs.Lanes.{outside_mask}
@@ -63,29 +65,66 @@ module _ (class : ℕ → Bool) where
       (ne_eqb _ _ (λ (e : prefix_len class c ≡ length c). omega (arith, whole c e)))
       ∙ same_run c ∙ sym (trailing_mask_l other 64 c (omega (arith, length-chunk i n d room)) some)
 
-  -- ---- one block of 32 bytes, of which those before let the run go on
+  -- ---- one block of n bytes, of which those before let the run go on
 
-  module _ (xs : List ℕ) (blocks : List (List ℕ)) (i end mask : ℕ)
-      (front : blocks ≡ first_chunks 32 (length xs / 32) xs) (count : length blocks
-      ≡ length xs / 32) (lt : i < length blocks)
-      (so_far : prefix_len class xs ≡ end + prefix_len class (drop end xs)) (place : end ≡ 32 * i)
+  module _ (n : ℕ) (short : n ≤ 64) (xs : List ℕ) (blocks : List (List ℕ)) (i end mask : ℕ)
+      (front : blocks ≡ first_chunks n (length xs / n) xs) (count : length blocks
+      ≡ length xs / n) (lt : i < length blocks)
+      (so_far : prefix_len class xs ≡ end + prefix_len class (drop end xs)) (place : end ≡ n * i)
+      (room : end + n ≤ length xs)
       (masked : mask ≡ outside_mask class (get_or blocks i [])) where
-    room : end + 32 ≤ length xs
-    room = omega arith
-
-    mask_is : mask ≡ outside_mask class (chunk end 32 xs)
+    mask_is : mask ≡ outside_mask class (chunk end n xs)
     mask_is =
         masked ∙ ap (outside_mask class) (ap (λ l. get_or l i []) front
-        ∙ chunk_at 32 (length xs / 32) xs i (omega arith))
-        ∙ ap (λ k. outside_mask class (chunk k 32 xs)) (sym place)
+        ∙ chunk_at n (length xs / n) xs i (omega (arith, count, lt)))
+        ∙ ap (λ k. outside_mask class (chunk k n xs)) (sym place)
 
-    pub block_passed : mask ≡ 0 → prefix_len class xs ≡ end + 32 + prefix_len class (drop (end + 32) xs)
-    block_passed none = omega (arith, run_through xs end 32 room (sym mask_is ∙ none))
+    pub block_passed : mask ≡ 0 → prefix_len class xs ≡ end + n + prefix_len class (drop (end + n) xs)
+    block_passed none = omega (arith, so_far, run_through xs end n room (sym mask_is ∙ none))
 
     pub block_ends : (mask ≡ 0 → ⊥) → prefix_len class xs ≡ end + count_trailing_zeros 64 mask
     block_ends some =
-        so_far ∙ ap (λ k. end + k) (run_stops xs end 32 room (omega arith) (omega (arith, mask_is))
+        so_far ∙ ap (λ k. end + k) (run_stops xs end n room short (omega (arith, some, mask_is))
         ∙ ap (count_trailing_zeros 64) (sym mask_is))
+
+  -- ---- the last n bytes, of which those before let the run go on
+
+  -- a run that reaches an index goes on from each index before
+  pub run_from : (xs : List ℕ) (i : ℕ) → i ≤ prefix_len class xs
+      → prefix_len class xs ≡ i + prefix_len class (drop i xs)
+  run_from xs zero le = omega arith
+  run_from [] (suc i) le = absurd (omega (arith, le))
+  run_from (x ∷ xs) (suc i) le = go (class x) (prefix_len class xs) le (run_from xs i)
+    where
+      go : (b : Bool) (l : ℕ) → suc i ≤ cond b (1 + l) 0 → (i ≤ l → l ≡ i + prefix_len class (drop i xs))
+          → cond b (1 + l) 0 ≡ suc i + prefix_len class (drop i xs)
+      go true l le rest = omega (arith, rest (omega (arith, le)))
+      go false l le rest = absurd (omega (arith, le))
+
+  module _ (n : ℕ) (short : n ≤ 64) (xs : List ℕ) (start end mask : ℕ) (room : start + n ≡ length xs)
+      (so_far : prefix_len class xs ≡ end + prefix_len class (drop end xs)) (near : start ≤ end)
+      (masked : mask ≡ outside_mask class (chunk start n xs)) where
+    pub last_passed : mask ≡ 0 → prefix_len class xs ≡ length xs
+    last_passed none =
+        omega (
+          arith,
+          run_from xs start (omega (arith, so_far, near)),
+          run_through xs start n (omega (arith, room)) (sym masked ∙ none),
+          room,
+          prefix_len-le-length class xs,
+        )
+
+    pub last_ends : (mask ≡ 0 → ⊥) → prefix_len class xs ≡ start + count_trailing_zeros 64 mask
+    last_ends some =
+        run_from xs start (omega (arith, so_far, near))
+        ∙ ap (λ k. start + k) (run_stops xs start n (omega (arith, room)) short (omega (arith, some, masked))
+        ∙ ap (count_trailing_zeros 64) (sym masked))
+
+  -- the mask of a last chunk
+  pub last_mask : (n : ℕ) (xs last : List ℕ) (start mask : ℕ) → mask ≡ outside_mask class last
+      → IsWholeChunk (drop start xs) last n → mask ≡ outside_mask class (chunk start n xs)
+  last_mask n xs last start mask e whole =
+      e ∙ ap (outside_mask class) (whole.same ∙ sym (take_all n (drop start xs) (omega (arith, whole.long))))
 
   -- ---- what the end tells
 

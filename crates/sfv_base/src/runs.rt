@@ -10,7 +10,7 @@ ghost use Rattle.sfv_spec.proofs.Marks.{is_symbol};
 ghost use Rattle.sfv_base.specs.Lanes.{outside_mask, is_table_of};
 ghost use Rattle.sfv_base.specs.Rows.{run_class_sum};
 
-use crate::lanes::{LANES, unmarked};
+use crate::lanes::{HALF, LANES, unmarked, unmarked_half};
 use crate::utils::{
     is_allowed_inner_key_char, is_allowed_inner_token_char, is_allowed_string_char,
 };
@@ -194,6 +194,14 @@ fn outside<C: RunClass>(lanes: u8x32) -> u64
     unmarked(C::table(), lanes)
 }
 
+// Returns the same as `outside`, for 16 bytes.
+#[inline(always)]
+fn outside_half<C: RunClass>(lanes: u8x16) -> u64
+    ensures { result ≡ outside_mask C.class lanes }
+{
+    unmarked_half(C::table(), lanes)
+}
+
 // How many bytes of a long text are tested one at a time, before blocks are. Most runs are shorter.
 const NEAR: usize = 12;
 
@@ -224,6 +232,32 @@ fn block_end<C: RunClass>(bytes: &[u8]) -> usize
         end += LANES;
     }
     end + byte_end::<C>(rest)
+}
+
+// Finds the end of the run, 16 bytes at once. The last 16 bytes are tested again where a block is not full.
+#[inline(always)]
+fn half_block_end<C: RunClass>(bytes: &[u8]) -> usize
+    requires { 16 ≤ length bytes.now }
+    ensures { result ≡ prefix_len C.class bytes.now }
+{
+    let (blocks, _rest) = bytes.as_chunks::<HALF>();
+    let mut end = 0;
+    for block in blocks {
+        let outside = outside_half::<C>(u8x16::from_array(*block));
+        if outside != 0 {
+            return end + outside.trailing_zeros() as usize;
+        }
+        end += HALF;
+    }
+    let start = bytes.len() - HALF;
+    let Some(last) = bytes.last_chunk::<HALF>() else {
+        unreachable!();
+    };
+    let outside = outside_half::<C>(u8x16::from_array(*last));
+    if outside != 0 {
+        return start + outside.trailing_zeros() as usize;
+    }
+    bytes.len()
 }
 
 /// Returns the length of the longest run of the class at the start of `bytes`.
@@ -258,6 +292,21 @@ pub fn long_run_end<C: RunClass>(bytes: &[u8]) -> usize
     block_end::<C>(bytes)
 }
 
+/// Returns the same as `run_end`. Tests all bytes in blocks of 16, which is faster where most runs are the whole input.
+#[inline]
+#[tactic(auto, using(crate::proofs::RunEnds::end_within, crate::proofs::RunEnds::end_each, crate::proofs::RunEnds::end_stops))]
+pub fn whole_run_end<C: RunClass>(bytes: &[u8]) -> usize
+    ensures value { result ≡ prefix_len C.class bytes.now }
+    ensures within { result ≤ length bytes.now }
+    ensures each { RunOf C.class (take result bytes.now) }
+    ensures ends { result < length bytes.now → IsFalse (C.class (slice_index bytes.now result)) }
+{
+    if bytes.len() < HALF {
+        return byte_end::<C>(bytes);
+    }
+    half_block_end::<C>(bytes)
+}
+
 /// Returns the index at which the longest run of the class from `start` on ends.
 #[inline]
 pub fn run_end_from<C: RunClass>(bytes: &[u8], start: usize) -> usize
@@ -277,5 +326,5 @@ pub fn split_run<C: RunClass>(bytes: &[u8]) -> (&[u8], &[u8])
     ensures each { RunOf C.class result.0.now }
     ensures ends { 0 < length result.1.now → IsFalse (C.class (slice_index result.1.now 0)) }
 {
-    bytes.split_at(run_end::<C>(bytes))
+    bytes.split_at(whole_run_end::<C>(bytes))
 }

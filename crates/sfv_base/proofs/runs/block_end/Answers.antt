@@ -5,15 +5,15 @@ use Rattle.sfv_base.proofs.runs.block_end.Goals as goal
 pub returns-then-outside-ne0 : goal.returns-then-outside-ne0
 returns-then-outside-ne0 g c =
     let made = c.as_chunks.ensures in
-    sym (block_ends g.C.RunClass.class c.args.bytes.now _ c.loop-block.block-index c.loop-block.end _ made.front
-    made.front_len c.loop-block-test.true c.loop-block.invariant.0 c.loop-block.invariant.1
+    sym (block_ends g.C.RunClass.class 32 (omega arith) c.args.bytes.now _ c.loop-block.block-index c.loop-block.end _ made.front
+    made.front_len c.loop-block-test.true c.loop-block.invariant.0 c.loop-block.invariant.1 (omega (arith, made.front_len, c.loop-block-test.true, c.loop-block.invariant.1))
     c.outside-outside.ensures c.if-outside-ne0.true)
 
 pub loop-block-preserved : goal.loop-block-preserved
 loop-block-preserved g c =
     let made = c.as_chunks.ensures in (
-      block_passed g.C.RunClass.class c.args.bytes.now _ c.loop-block.block-index c.loop-block.end _ made.front
-          made.front_len c.loop-block-test.true c.loop-block.invariant.0 c.loop-block.invariant.1
+      block_passed g.C.RunClass.class 32 (omega arith) c.args.bytes.now _ c.loop-block.block-index c.loop-block.end _ made.front
+          made.front_len c.loop-block-test.true c.loop-block.invariant.0 c.loop-block.invariant.1 (omega (arith, made.front_len, c.loop-block-test.true, c.loop-block.invariant.1))
           c.outside-outside.ensures c.if-outside-ne0.false,
       omega arith,
     )
