@@ -1,14 +1,14 @@
 -- A run of a class, seen 32 bytes at a time through the mask of those outside it.
-use Rattle.std.proofs.Common.{◌≡◌, ℕ, zero, suc, ◌+◌, ◌*◌, ◌/◌, ◌<◌, ◌≤◌, Bool, true, false, not, cond, eqb, List, []}
-use Rattle.std.proofs.Common.{◌∷◌, length, get_or, take, drop, refl, sym, ap, ap₂, ◌∙◌, arith, drop-drop}
+use Rattle.std.proofs.Common.{◌≡◌, ℕ, zero, suc, ◌+◌, ◌-◌, ◌*◌, ◌/◌, ◌<◌, ◌≤◌, Bool, true, false, not, cond, eqb, List, []}
+use Rattle.std.proofs.Common.{◌∷◌, ◌++◌, inl, inr, length, get_or, take, drop, refl, sym, ap, ap₂, ◌∙◌, arith, drop-drop, length-drop}
 use Rattle.std.proofs.lemmas.Simd.{chunk-drop, length-chunk, leading_from_mask_l, trailing_mask_l}
 use Rattle.std.proofs.lemmas.List.Folds.{prefix_len-append}
 use Rattle.std.proofs.lemmas.List.Sums.{prefix_len-le-length, prefix_len_stops}
-use Rattle.std.proofs.lemmas.Bool.{eq-eqb, ne_eqb, and_from}
+use Rattle.std.proofs.lemmas.Bool.{eq-eqb, ne_eqb, and_from, cases_lt}
 use Rattle.std.specs.List.{prefix_len, list_all}
 use Rattle.std.specs.Simd.{first_chunks}
 use Rattle.std.specs.Array.{IsWholeChunk}
-use Rattle.std.proofs.lemmas.List.{take_all}
+use Rattle.std.proofs.lemmas.List.{take_all, take-append-drop, length-take-le, length-append}
 use lib.Lanes.{chunk}
 use lib.Count.{count_trailing_zeros}
 use Rattle.sfv_base.specs.Lanes.{outside_mask}
@@ -125,6 +125,84 @@ module _ (class : ℕ → Bool) where
       → IsWholeChunk (drop start xs) last n → mask ≡ outside_mask class (chunk start n xs)
   last_mask n xs last start mask e whole =
       e ∙ ap (outside_mask class) (whole.same ∙ sym (take_all n (drop start xs) (omega (arith, whole.long))))
+
+  -- ---- what the mask of a whole vector tells
+
+  -- no byte is outside
+  pub mask_none : (xs : List ℕ) (mask n : ℕ) → mask ≡ outside_mask class xs → mask ≡ 0 → length xs ≡ n
+      → prefix_len class xs ≡ n
+  mask_none xs mask n e none long = same_run xs ∙ leading_from_mask_l other xs (sym e ∙ none) ∙ long
+
+  -- the lowest bit is the end
+  pub mask_first : (xs : List ℕ) (mask : ℕ) → mask ≡ outside_mask class xs → (mask ≡ 0 → ⊥) → length xs ≤ 64
+      → prefix_len class xs ≡ count_trailing_zeros 64 mask
+  mask_first xs mask e some long =
+      same_run xs ∙ sym (trailing_mask_l other 64 xs long (omega (arith, e, some))) ∙ ap (count_trailing_zeros 64) (sym e)
+
+  -- ---- the first k bytes and the last k, tested together
+
+  module _ (k : ℕ) (xs both : List ℕ) (near : k ≤ length xs) (far : length xs ≤ k + k)
+      (joined : both ≡ take k xs ++ drop (length xs - k) xs) where
+    abbrev first : List ℕ
+    first = take k xs
+
+    abbrev last : List ℕ
+    last = drop (length xs - k) xs
+
+    first_long : length first ≡ k
+    first_long = length-take-le k xs near
+
+    pub both_long : length both ≡ k + k
+    both_long =
+        omega (
+          arith,
+          ap (length {A = ℕ}) joined,
+          length-append first last,
+          first_long,
+          length-drop (length xs - k) xs,
+          near,
+        )
+
+    ends_first : prefix_len class first < k
+        → (prefix_len class both ≡ prefix_len class first) × (prefix_len class xs ≡ prefix_len class first)
+    ends_first lt =
+        let no = ne_eqb (prefix_len class first) (length first) (λ e. omega (arith, e, lt, first_long)) in (
+          ap (prefix_len class) joined ∙ prefix_len-append class first last ∙ rw no refl,
+          ap (prefix_len class) (sym (take-append-drop k xs)) ∙ prefix_len-append class first (drop k xs) ∙ rw no refl,
+        )
+
+    ends_last : k ≤ prefix_len class first
+        → (prefix_len class both ≡ k + prefix_len class last)
+        × (prefix_len class xs + k ≡ length xs + prefix_len class last)
+    ends_last le =
+        let whole : prefix_len class first ≡ length first =
+        omega (arith, le, first_long, prefix_len-le-length class first) in
+        let yes = eq-eqb (prefix_len class first) (length first) whole in
+        let on : prefix_len class xs ≡ length first + prefix_len class (drop k xs) =
+        ap (prefix_len class) (sym (take-append-drop k xs)) ∙ prefix_len-append class first (drop k xs) ∙ rw yes refl in
+        let joined_on : prefix_len class both ≡ length first + prefix_len class last =
+        ap (prefix_len class) joined ∙ prefix_len-append class first last ∙ rw yes refl in (
+          omega (arith, joined_on, first_long),
+          omega (arith, run_from xs (length xs - k) (omega (arith, on, first_long, near, far)), near),
+        )
+
+    pub pair_whole : prefix_len class both ≡ k + k → prefix_len class xs ≡ length xs
+    pair_whole e = elim (cases_lt (prefix_len class first) k) [
+      | inl below ↦ absurd (omega (arith, e, below, (ends_first below).0))
+      | inr above ↦ omega (arith, e, (ends_last above).0, (ends_last above).1)
+    ]
+
+    pub pair_before : prefix_len class both < k → prefix_len class xs ≡ prefix_len class both
+    pair_before lt = elim (cases_lt (prefix_len class first) k) [
+      | inl below ↦ omega (arith, (ends_first below).0, (ends_first below).1)
+      | inr above ↦ absurd (omega (arith, lt, (ends_last above).0))
+    ]
+
+    pub pair_after : k ≤ prefix_len class both → prefix_len class xs + k + k ≡ prefix_len class both + length xs
+    pair_after le = elim (cases_lt (prefix_len class first) k) [
+      | inl below ↦ absurd (omega (arith, le, below, (ends_first below).0))
+      | inr above ↦ omega (arith, (ends_last above).0, (ends_last above).1)
+    ]
 
   -- ---- what the end tells
 

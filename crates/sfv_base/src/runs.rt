@@ -1,7 +1,7 @@
 //! Searches for the end of a run of bytes of one class.
 
-ghost use Rattle.std.specs.Prelude.{◌≡◌, ◌++◌, ◌≤◌, ◌<◌, ℕ, Bool, IsTrue, IsFalse, length, take, slice_index};
-ghost use Rattle.std.specs.Prelude.{slice_range};
+ghost use Rattle.std.specs.Prelude.{◌≡◌, ◌++◌, ◌-◌, ◌≤◌, ◌<◌, ℕ, Bool, IsTrue, IsFalse, length, take, drop};
+ghost use Rattle.std.specs.Prelude.{slice_index, slice_range};
 ghost use Rattle.std.specs.List.{prefix_len};
 ghost use Rattle.sfv_spec.specs.Texts.{RunOf};
 ghost use Rattle.sfv_spec.specs.Classes.{is_string_byte, is_token_inner, is_key_inner};
@@ -234,6 +234,37 @@ fn block_end<C: RunClass>(bytes: &[u8]) -> usize
     end + byte_end::<C>(rest)
 }
 
+// Returns the first 8 bytes, and then the last 8.
+#[inline(always)]
+fn ends_of(bytes: &[u8]) -> [u8; HALF]
+    requires { 8 ≤ length bytes.now }
+    ensures { result ≡ take 8 bytes.now ++ drop (length bytes.now - 8) bytes.now }
+{
+    let mut ends = [0u8; HALF];
+    ends[..8].copy_from_slice(&bytes[..8]);
+    ends[8..].copy_from_slice(&bytes[bytes.len() - 8..]);
+    ends
+}
+
+// Finds the end of the run in 8 to 16 bytes: tests the first 8 and the last 8 at once.
+#[inline(always)]
+fn pair_end<C: RunClass>(bytes: &[u8]) -> usize
+    requires near { 8 ≤ length bytes.now }
+    requires far { length bytes.now ≤ 16 }
+    ensures { result ≡ prefix_len C.class bytes.now }
+{
+    let ends = ends_of(bytes);
+    let outside = outside_half::<C>(u8x16::from_array(ends));
+    if outside == 0 {
+        return bytes.len();
+    }
+    let end = outside.trailing_zeros() as usize;
+    if end < 8 {
+        return end;
+    }
+    end + bytes.len() - HALF
+}
+
 // Finds the end of the run, 16 bytes at once. The last 16 bytes are tested again where a block is not full.
 #[inline(always)]
 fn half_block_end<C: RunClass>(bytes: &[u8]) -> usize
@@ -292,7 +323,7 @@ pub fn long_run_end<C: RunClass>(bytes: &[u8]) -> usize
     block_end::<C>(bytes)
 }
 
-/// Returns the same as `run_end`. Tests all bytes in blocks of 16, which is faster where most runs are the whole input.
+/// Returns the same as `run_end`. Tests vectors of 16 bytes, which is faster where most runs are the whole input.
 #[inline]
 #[tactic(auto, using(crate::proofs::RunEnds::end_within, crate::proofs::RunEnds::end_each, crate::proofs::RunEnds::end_stops))]
 pub fn whole_run_end<C: RunClass>(bytes: &[u8]) -> usize
@@ -301,8 +332,11 @@ pub fn whole_run_end<C: RunClass>(bytes: &[u8]) -> usize
     ensures each { RunOf C.class (take result bytes.now) }
     ensures ends { result < length bytes.now → IsFalse (C.class (slice_index bytes.now result)) }
 {
-    if bytes.len() < HALF {
+    if bytes.len() < 8 {
         return byte_end::<C>(bytes);
+    }
+    if bytes.len() < HALF {
+        return pair_end::<C>(bytes);
     }
     half_block_end::<C>(bytes)
 }
