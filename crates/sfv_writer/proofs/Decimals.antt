@@ -1,5 +1,5 @@
 -- The digits of a decimal.
-use Rattle.std.proofs.Common.{◌≡◌, ℕ, ◌+◌, ◌<◌, ◌≤◌, ◌/◌, ◌%◌, Bool, true, false, eqb, List, [], ◌∷◌, ◌++◌, refl, ap, subst, append_assoc}
+use Rattle.std.proofs.Common.{◌≡◌, ℕ, ◌+◌, ◌<◌, ◌≤◌, ◌/◌, ◌%◌, Bool, true, false, eqb, List, [], ◌∷◌, ◌++◌, refl, ap, subst}
 use Rattle.std.proofs.Common.{◌∙◌, arith, Result, ℤ, pos, negsuc, to_z, of_z, w64}
 use Rattle.std.specs.Prelude.{MatchResult, nat_abs, int_lt, codes, decimal as decimal_digits}
 use Rattle.std.proofs.lemmas.Bool.{ltb-true}
@@ -41,29 +41,6 @@ three_digits n l h =
     ) refl
 
 pub ruleset short_steps = (decimal_digit, two_digits, three_digits)
-
--- the digits of a number of more than three digits, and of one of more than six
-pub thousands : (n : ℕ) → 1000 ≤ n → n < 1000000000
-    → decimal_digits n ≡ decimal_digits (n / 1000) ++ (48 + n % 1000 / 100) ∷ (48 + n % 1000 / 10 % 10) ∷ (48 + n % 1000 % 10) ∷ []
-thousands n l h =
-    let front : n / 10 / 10 / 10 ≡ n / 1000 = omega (arith, h) in
-    let hundreds : n / 10 / 10 % 10 ≡ n % 1000 / 100 = omega (arith, h) in
-    let tens : n / 10 % 10 ≡ n % 1000 / 10 % 10 = omega (arith, h) in
-    let ones : n % 10 ≡ n % 1000 % 10 = omega (arith, h) in
-    decimal_step n (omega (arith, l)) (omega (arith, h))
-    ∙ ap (λ (t : List ℕ). t ++ (48 + n % 10) ∷ []) (decimal_step (n / 10) (omega (arith, l)) (omega (arith, h))
-    ∙ ap (λ (t : List ℕ). t ++ (48 + n / 10 % 10) ∷ []) (decimal_step (n / 10 / 10) (omega (arith, l)) (omega (arith, h))))
-    ∙ rw (front, hundreds, tens, ones, append_assoc, append_assoc) refl
-
-pub millions : (n : ℕ) → 1000000 ≤ n → n < 1000000000
-    → decimal_digits n ≡ (decimal_digits (n / 1000000)
-    ++ (48 + n / 1000 % 1000 / 100) ∷ (48 + n / 1000 % 1000 / 10 % 10) ∷ (48 + n / 1000 % 1000 % 10) ∷ [])
-    ++ (48 + n % 1000 / 100) ∷ (48 + n % 1000 / 10 % 10) ∷ (48 + n % 1000 % 10) ∷ []
-millions n l h =
-    let front : n / 1000 / 1000 ≡ n / 1000000 = omega (arith, h) in
-    rw (thousands n (omega (arith, l)) h, thousands (n / 1000) (omega (arith, l)) (omega (arith, h)), front) refl
-
-pub ruleset long_steps = (thousands, millions)
 
 -- a number that fits is the same in bits
 fits_same : (i : ℤ) → nat_abs i < 1000000000000000 → to_z w64 (of_z w64 i) ≡ i

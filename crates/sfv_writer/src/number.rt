@@ -83,7 +83,7 @@ fn serialize_long<A: Allocator>(value: u64, output: &mut StdString<A>) -> Result
 }
 
 /// Appends the decimal digits of a number below 1000.
-#[inline(always)]
+#[inline(never)]
 #[tactic(auto, using(crate::proofs::Decimals::short_steps))]
 fn serialize_short<A: Allocator>(value: u64, output: &mut StdString<A>) -> Result<(), OutOfMemory>
     requires { value < 1000 }
@@ -99,69 +99,15 @@ fn serialize_short<A: Allocator>(value: u64, output: &mut StdString<A>) -> Resul
     serialize_three_digits(value, output)
 }
 
-/// Appends the decimal digits of `front` and three digits of `back`.
-#[inline(always)]
-fn serialize_two_groups<A: Allocator>(
-    front: u64,
-    back: u64,
-    output: &mut StdString<A>,
-) -> Result<(), OutOfMemory>
-    requires front { front < 1000 }
-    requires back { back < 1000 }
-    ensures text { Appends output.old output.new
-        (decimal front ++ (0x30 + back / 100) ∷ (0x30 + back / 10 % 10) ∷ (0x30 + back % 10) ∷ []) result }
-    ensures room { AsksForRoom output.old output.new
-        (decimal front ++ (0x30 + back / 100) ∷ (0x30 + back / 10 % 10) ∷ (0x30 + back % 10) ∷ []) result }
-{
-    serialize_short(front, output)?;
-    serialize_three_digits(back, output)?;
-    Ok(())
-}
-
-/// Appends the decimal digits of `front`, and three digits each of `middle` and `back`.
-#[inline(always)]
-fn serialize_three_groups<A: Allocator>(
-    front: u64,
-    middle: u64,
-    back: u64,
-    output: &mut StdString<A>,
-) -> Result<(), OutOfMemory>
-    requires front { front < 1000 }
-    requires middle { middle < 1000 }
-    requires back { back < 1000 }
-    ensures text { Appends output.old output.new
-        ((decimal front ++ (0x30 + middle / 100) ∷ (0x30 + middle / 10 % 10) ∷ (0x30 + middle % 10) ∷ [])
-        ++ (0x30 + back / 100) ∷ (0x30 + back / 10 % 10) ∷ (0x30 + back % 10) ∷ []) result }
-    ensures room { AsksForRoom output.old output.new
-        ((decimal front ++ (0x30 + middle / 100) ∷ (0x30 + middle / 10 % 10) ∷ (0x30 + middle % 10) ∷ [])
-        ++ (0x30 + back / 100) ∷ (0x30 + back / 10 % 10) ∷ (0x30 + back % 10) ∷ []) result }
-{
-    serialize_two_groups(front, middle, output)?;
-    serialize_three_digits(back, output)?;
-    Ok(())
-}
-
 /// Appends the decimal digits of a number.
-// Up to nine digits are appended in groups of three, which takes fewer instructions than a buffer and its copy.
-#[inline(never)]
-#[tactic(auto, using(crate::proofs::Decimals::long_steps))]
+// Up to three digits are appended one at a time, which takes fewer instructions than a buffer and its copy.
+#[inline(always)]
 fn serialize_natural<A: Allocator>(value: u64, output: &mut StdString<A>) -> Result<(), OutOfMemory>
     ensures text { Appends output.old output.new (decimal value) result }
     ensures room { AsksForRoom output.old output.new (decimal value) result }
 {
-    if value < 1_000 {
+    if value < 1000 {
         return serialize_short(value, output);
-    }
-    if value < 1_000_000 {
-        return serialize_two_groups(value / 1_000, value % 1_000, output);
-    }
-    if value < 1_000_000_000 {
-        return serialize_three_groups(
-            value / 1_000_000,
-            value / 1_000 % 1_000,
-            value % 1_000,
-            output,
-        );
     }
     serialize_long(value, output)
 }
