@@ -3,6 +3,7 @@ pub mod Runs
 pub mod Steps
 pub mod Contents
 pub mod Coded
+pub mod SymbolValues
 pub mod Escapes
 pub mod Errors
 pub mod Delimiters

@@ -1,66 +1,13 @@
--- Base64 as the crate `base64` writes and reads it.
-use Rattle.std.proofs.Common.{◌≡◌, ℕ, zero, suc, ◌<◌, ◌≤◌, ◌+◌, ◌*◌, ◌/◌, ◌%◌, List, [], ◌∷◌, ◌++◌, length, map}
-use Rattle.std.proofs.Common.{append_assoc, take, drop, refl, sym, ◌∙◌, ap, subst, true, arith, get_or, Ok}
+-- The bytes of symbols, group by group.
+use Rattle.std.proofs.Common.{◌≡◌, ℕ, ◌<◌, ◌≤◌, ◌+◌, ◌*◌, ◌/◌, ◌%◌, List, [], ◌∷◌, ◌++◌, length, map}
+use Rattle.std.proofs.Common.{append_assoc, take, drop, refl, sym, ◌∙◌, ap, true, arith, get_or}
 use Rattle.std.specs.List.{list_all}
-use Rattle.std.proofs.lemmas.Bool.{and_parts, ltb-true}
-use Rattle.std.proofs.lemmas.List.{append-nil, length-map, length-take-le, take-append-drop, map-append}
-use Rattle.base64.specs.Rfc4648.{encode_symbols}
-use Rattle.base64.specs.Engines.{standard_no_pad}
-use Rattle.base64.specs.GeneralPurpose.{encode_of, decode_of, IsBytes}
-use Rattle.base64.proofs.EngineFacts.{decode_of-encode_of}
-use Rattle.sfv_spec.specs.Values.{is_byte}
-use Rattle.sfv_spec.specs.Base64.{symbols, symbol}
+use Rattle.std.proofs.lemmas.Bool.{and_parts}
+use Rattle.std.proofs.lemmas.List.{append-nil, length-map, length-take-le, length-drop, take-append-drop, map-append}
+use Rattle.std.proofs.lemmas.List.Folds.{list_all-append}
 use Rattle.sfv_spec.proofs.Marks.{is_symbol}
 use Rattle.sfv_reading.specs.Content.{symbol_value, bytes_from}
 use Rattle.sfv.specs.parser.Base64.{decoded_symbols}
-use Rattle.sfv_reading.proofs.base64.Bits.{is_value, head_value, bytes_within}
-use Rattle.sfv_reading.proofs.base64.Shape.{are_values, symbols-values}
-
--- bytes, place by place
-are_bytes : (bs : List ℕ) → list_all is_byte bs ≡ true → IsBytes bs
-are_bytes [] h i = omega arith
-are_bytes (b ∷ bs) h zero = ltb-true b 256 (and_parts (is_byte b) (list_all is_byte bs) h).0
-are_bytes (b ∷ bs) h (suc i) = are_bytes bs (and_parts (is_byte b) (list_all is_byte bs) h).1 i
-
-group_zeros : (a b c d : ℕ) → a < 64 → b < 64 → c < 64 → d < 64 → (rest : List ℕ)
-    → encode_symbols symbols ((a * 4 + b / 16) ∷ (b % 16 * 16 + c / 4) ∷ (c % 4 * 64 + d) ∷ rest)
-    ≡ symbol a ∷ symbol b ∷ symbol c ∷ symbol d ∷ encode_symbols symbols rest
-unfolding encode_symbols
-group_zeros a b c d la lb lc ld rest =
-    let e0 : (a * 4 + b / 16) / 4 ≡ a = omega arith in
-    let e1 : (a * 4 + b / 16) % 4 * 16 + (b % 16 * 16 + c / 4) / 16 ≡ b = omega arith in
-    let e2 : (b % 16 * 16 + c / 4) % 16 * 4 + (c % 4 * 64 + d) / 64 ≡ c = omega arith in
-    let e3 : (c % 4 * 64 + d) % 64 ≡ d = omega arith in
-    rw (e0, e1, e2, e3) refl
-
-pub groups_zeros : (vs : List ℕ) → list_all is_value vs ≡ true → length vs % 4 ≡ 0
-    → encode_symbols symbols (bytes_from vs) ≡ map symbol vs
-unfolding bytes_from encode_symbols
-groups_zeros [] h n = refl
-groups_zeros (a ∷ []) h n = absurd (omega (arith, n))
-groups_zeros (a ∷ b ∷ []) h n = absurd (omega (arith, n))
-groups_zeros (a ∷ b ∷ c ∷ []) h n = absurd (omega (arith, n))
-groups_zeros (a ∷ b ∷ c ∷ d ∷ rest) h n =
-    let o = head_value a (b ∷ c ∷ d ∷ rest) h in
-    let p = head_value b (c ∷ d ∷ rest) o.1 in
-    let q = head_value c (d ∷ rest) p.1 in
-    let r = head_value d rest q.1 in
-    let m : length rest % 4 ≡ 0 = omega (arith, n) in
-    group_zeros a b c d o.0 p.0 q.0 r.0 (bytes_from rest)
-    ∙ ap (λ (t : List ℕ). symbol a ∷ symbol b ∷ symbol c ∷ symbol d ∷ t) (groups_zeros rest r.1 m)
-
--- what is read of whole groups
-pub decoded : (cs : List ℕ) → list_all is_symbol cs ≡ true → length cs % 4 ≡ 0
-    → decode_of standard_no_pad cs ≡ Ok (decoded_symbols cs)
-decoded cs h n =
-    let vs : List ℕ = map symbol_value cs in
-    let bytes : List ℕ = decoded_symbols cs in
-    let same : encode_symbols symbols bytes ≡ cs =
-    groups_zeros vs (are_values cs h) (rw (length-map cs symbol_value) n) ∙ symbols-values cs h in
-    let text : encode_of standard_no_pad bytes ≡ cs = append-nil (encode_symbols symbols bytes) ∙ same in
-    subst (λ (t : List ℕ). decode_of standard_no_pad t
-    ≡ Ok bytes) text (decode_of-encode_of standard_no_pad bytes refl
-    (are_bytes bytes (bytes_within vs (are_values cs h))))
 
 -- groups of four one after the other
 pub bytes_from-append : (vs ws : List ℕ) → length vs % 4 ≡ 0 → bytes_from (vs ++ ws) ≡ bytes_from vs ++ bytes_from ws
@@ -72,6 +19,13 @@ bytes_from-append (a ∷ b ∷ c ∷ []) ws n = absurd (omega (arith, n))
 bytes_from-append (a ∷ b ∷ c ∷ d ∷ rest) ws n =
     let m : length rest % 4 ≡ 0 = omega (arith, n) in
     cc (bytes_from-append rest ws m)
+
+-- symbols up to a place, and from there on
+pub all_parts : (n : ℕ) (cs : List ℕ) → list_all is_symbol cs ≡ true
+    → (list_all is_symbol (take n cs) ≡ true) × (list_all is_symbol (drop n cs) ≡ true)
+all_parts n cs h =
+    and_parts _ _ (sym (list_all-append is_symbol (take n cs) (drop n cs))
+    ∙ ap (list_all is_symbol) (take-append-drop n cs) ∙ h)
 
 -- ---- the whole groups, and what is left
 
@@ -115,6 +69,50 @@ three_decoded (a ∷ []) three = absurd (omega (arith, three))
 three_decoded (a ∷ b ∷ []) three = absurd (omega (arith, three))
 three_decoded (a ∷ b ∷ c ∷ []) three = refl
 three_decoded (a ∷ b ∷ c ∷ d ∷ cs) three = absurd (omega (arith, three))
+
+group_parts : (cs : List ℕ) → length cs ≡ 4
+    → (symbol_value (get_or cs 0 0) * 4 + symbol_value (get_or cs 1 0) / 16)
+    ∷ (symbol_value (get_or cs 1 0) % 16 * 16 + symbol_value (get_or cs 2 0) / 4)
+    ∷ (symbol_value (get_or cs 2 0) % 4 * 64 + symbol_value (get_or cs 3 0)) ∷ [] ≡ decoded_symbols cs
+unfolding bytes_from
+group_parts [] four = absurd (omega (arith, four))
+group_parts (a ∷ []) four = absurd (omega (arith, four))
+group_parts (a ∷ b ∷ []) four = absurd (omega (arith, four))
+group_parts (a ∷ b ∷ c ∷ []) four = absurd (omega (arith, four))
+group_parts (a ∷ b ∷ c ∷ d ∷ []) four = refl
+group_parts (a ∷ b ∷ c ∷ d ∷ e ∷ cs) four = absurd (omega (arith, four))
+
+-- a group of symbols
+pub group_decoded : (cs : List ℕ) (a b c d : ℕ) → length cs ≡ 4 → a ≡ symbol_value (get_or cs 0 0)
+    → b ≡ symbol_value (get_or cs 1 0) → c ≡ symbol_value (get_or cs 2 0) → d ≡ symbol_value (get_or cs 3 0)
+    → (a * 4 + b / 16) ∷ (b % 16 * 16 + c / 4) ∷ (c % 4 * 64 + d) ∷ [] ≡ decoded_symbols cs
+group_decoded cs a b c d four first second third fourth = rw (first, second, third, fourth) (group_parts cs four)
+
+-- What is known of the bytes and of the symbols that are left, when those before are decoded.
+pub record IsDecodedUpTo (before symbols rest bytes : List ℕ) : Type 0 where
+  pub each : list_all is_symbol rest ≡ true
+  pub whole : length rest % 4 ≡ 0
+  pub all : bytes ++ decoded_symbols rest ≡ before ++ decoded_symbols symbols
+
+-- some symbols more are decoded
+pub more_decoded : (before symbols rest bytes part after new : List ℕ) (n : ℕ)
+    → IsDecodedUpTo before symbols rest bytes → n ≤ length rest → n % 4 ≡ 0 → part ≡ take n rest → after ≡ drop n rest
+    → new ≡ bytes ++ decoded_symbols part
+    → IsDecodedUpTo before symbols after new
+more_decoded before symbols rest bytes part after new n so_far fits groups front back is =
+    let parts = symbols_from rest n fits groups in
+    record {
+      each = rw back ((all_parts n rest so_far.each).1);
+      whole = rw back (omega (arith, length-drop n rest, so_far.whole, groups));
+      all = rw (is, front, back, append_assoc, ← parts) so_far.all;
+    }
+
+-- none is left
+pub all_decoded : (before symbols rest bytes : List ℕ) → IsDecodedUpTo before symbols rest bytes → length rest < 4
+    → bytes ≡ before ++ decoded_symbols symbols
+all_decoded before symbols rest bytes so_far few =
+    sym (append-nil bytes)
+    ∙ ap (λ t. bytes ++ t) (sym (few_decoded rest (omega (arith, so_far.whole, few)))) ∙ so_far.all
 
 -- the same after other bytes
 pub few_after : (old cs : List ℕ) → length cs < 2 → old ≡ old ++ decoded_symbols cs

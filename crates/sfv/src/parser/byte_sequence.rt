@@ -1,8 +1,8 @@
 //! Parsing of byte sequences (RFC 9651, section 4.2.7).
 //!
-//! The symbols and the padding are checked before memory is allocated. `base64` decodes only whole groups of four
-//! symbols. The last two or three symbols are decoded here, because padding may be missing and their spare bits need
-//! not be zero.
+//! The symbols and the padding are checked before memory is allocated, once, for all bytes. So decoding tests no symbol.
+//! The last two or three symbols are decoded apart from the whole groups of four symbols, because padding may be missing
+//! and their spare bits need not be zero.
 
 ghost use Rattle.std.specs.Prelude.{◌≡◌, ◌<◌, ◌%◌, ◌++◌, length, IfOk, IfErr, IsOk, OnOk};
 ghost use Rattle.sfv_spec.specs.Texts.{RunOf};
@@ -15,22 +15,37 @@ ghost use Rattle.sfv.specs.parser.Base64.{decoded_symbols};
 
 use crate::parser::base64_symbols::{padding_after, padding_run, symbol_run, value_of};
 use crate::parser::cursor::Cursor;
-use base64::engine::general_purpose::STANDARD_NO_PAD;
-use base64::{DecodeAllocError, decoded_len_estimate};
 use sfv_base::error::{Error, ErrorKind};
 use std::alloc::{AllocError, Global};
 
-/// Appends the bytes of whole groups of four symbols. A whole group has no spare bits.
+/// Returns the bytes of a group of four symbols. A group has no spare bits.
+#[inline(always)]
+#[tactic(auto, using(crate::proofs::reads::Coded::group_decoded))]
+fn group_bytes(group: &[u8; 4]) -> [u8; 3]
+    requires { RunOf is_symbol group.now }
+    ensures { result ≡ decoded_symbols group.now }
+{
+    let second = value_of(group[1]);
+    let third = value_of(group[2]);
+    [
+        value_of(group[0]) * 4 + second / 16,
+        second % 16 * 16 + third / 4,
+        third % 4 * 64 + value_of(group[3]),
+    ]
+}
+
+/// Appends the bytes of whole groups of four symbols.
 fn append_groups(symbols: &[u8], bytes: &mut Vec<u8>) -> Result<(), AllocError>
     requires symbols { RunOf is_symbol symbols.now }
     requires whole { length symbols.now % 4 ≡ 0 }
     ensures { OnOk result (bytes.new.items ≡ bytes.old.items ++ decoded_symbols symbols.now) }
 {
-    match STANDARD_NO_PAD.decode_vec(symbols, bytes) {
-        Ok(()) => Ok(()),
-        Err(DecodeAllocError::OutOfMemory) => Err(AllocError),
-        Err(DecodeAllocError::DecodeError(_)) => unreachable!(),
+    let mut rest = symbols;
+    while let Some((group, after)) = rest.split_first_chunk::<4>() {
+        bytes.extend_from_slice(&group_bytes(group))?;
+        rest = after;
     }
+    Ok(())
 }
 
 /// Appends the bytes of the symbols after the whole groups, and ignores spare bits. A single symbol has no byte.
@@ -57,7 +72,8 @@ fn decode_symbols(alloc: Global, symbols: &[u8]) -> Result<Vec<u8>, AllocError>
     requires { RunOf is_symbol symbols.now }
     ensures { IfOk result (λ bytes. bytes.items ≡ decoded_symbols symbols.now) }
 {
-    let mut bytes = Vec::with_capacity(alloc, decoded_len_estimate(symbols.len()))?;
+    let len = symbols.len() / 4 * 3 + symbols.len() % 4 * 3 / 4;
+    let mut bytes = Vec::with_capacity(alloc, len)?;
     let (groups, last) = symbols.split_at(symbols.len() / 4 * 4);
     append_groups(groups, &mut bytes)?;
     append_last(last, &mut bytes)?;

@@ -1,17 +1,15 @@
-use Rattle.std.proofs.Common.{◌≡◌, drop, sym, ◌∙◌}
-use Rattle.std.proofs.lemmas.List.{take-append-drop}
-use Rattle.sfv.specs.parser.Base64.{decoded_symbols}
-use Rattle.sfv.proofs.reads.Coded.{decoded}
+use Rattle.std.proofs.Common.{◌∙◌, arith, refl}
+use Rattle.sfv.proofs.reads.Coded.{more_decoded, all_decoded}
 use Rattle.sfv.proofs.parser.byte_sequence.append_groups.Goals as goal
 
-pub unreachable-requires : goal.unreachable-requires
-unreachable-requires c =
-    let ok = decoded c.args.symbols.now c.requires.symbols c.requires.whole in
-    let bad = rw c.in-Err-DecodeError.field-0-is at c.in-Err-DecodeError.ensures.err in
-    let both = sym ok ∙ bad in cc
+pub loop-group-preserved : goal.loop-group-preserved
+loop-group-preserved c =
+    let split = c.in-Some.ensures.cases in
+    more_decoded c.args.bytes.now.items c.args.symbols.now c.loop-group.rest.now c.loop-group.bytes.items c.in-Some.group.now
+    c.in-Some.after.now c.extend_from_slice.new.self.items 4 c.loop-group.invariant (omega (arith, split.2)) (omega arith)
+    split.0 split.1 (c.in_ok-extend_from_slice.ensures.items ∙ rw c.group_bytes.ensures refl)
 
-pub returns-in-Ok : goal.returns-in-Ok
-returns-in-Ok c =
-    let ok = sym (decoded c.args.symbols.now c.requires.symbols c.requires.whole) ∙ c.in-Ok.ensures.ok in
-    let same : decoded_symbols c.args.symbols.now ≡ drop c.args.bytes.now.len c.decode_vec.new.buffer.items = cc in
-    sym (take-append-drop c.args.bytes.now.len c.decode_vec.new.buffer.items) ∙ cc (c.in-Ok.ensures.front, same)
+pub returns : goal.returns
+returns c =
+    all_decoded c.args.bytes.now.items c.args.symbols.now c.loop-group.rest.now c.loop-group.bytes.items
+    c.loop-group.invariant c.in_default.ensures.cases
