@@ -4,6 +4,7 @@ pub mod Steps
 pub mod Contents
 pub mod Coded
 pub mod SymbolValues
+pub mod Blocks
 pub mod Escapes
 pub mod Errors
 pub mod Delimiters

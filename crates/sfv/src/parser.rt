@@ -16,6 +16,7 @@ use sfv_visitor::visitor::Visitor;
 use std::alloc::Global;
 
 mod bare_item;
+mod base64_blocks;
 mod base64_symbols;
 mod byte_sequence;
 mod cursor;

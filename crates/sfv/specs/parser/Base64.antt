@@ -1,5 +1,5 @@
 -- Runs of Base64 symbols and of padding, and the bytes of symbols.
-use Rattle.std.specs.Prelude.{◌≡◌, ℕ, ◌≤◌, ◌⊎◌, List, length, take, drop, replicate, map}
+use Rattle.std.specs.Prelude.{◌≡◌, ℕ, ◌+◌, ◌*◌, ◌/◌, ◌%◌, ◌≤◌, ◌⊎◌, List, [], ◌∷◌, length, take, drop, replicate, map}
 use Rattle.sfv_spec.specs.Ascii.{equals_sign}
 use Rattle.sfv_spec.specs.Texts.{RunOf}
 use Rattle.sfv_spec.proofs.Marks.{is_symbol}
@@ -22,3 +22,16 @@ pub record IsPaddingRun (t : List ℕ) (most n : ℕ) : Type 0 where
 -- the bytes that these symbols encode
 abbrev pub decoded_symbols : List ℕ → List ℕ
 decoded_symbols cs = bytes_from (map symbol_value cs)
+
+-- the number of each group of four six-bit values, the first value highest
+unfoldable pub group_numbers : List ℕ → List ℕ
+group_numbers [] = []
+group_numbers (a ∷ []) = []
+group_numbers (a ∷ b ∷ []) = []
+group_numbers (a ∷ b ∷ c ∷ []) = []
+group_numbers (a ∷ b ∷ c ∷ d ∷ rest) = ((a * 64 + b) * 4096 + (c * 64 + d)) ∷ group_numbers rest
+
+-- the three lowest bytes of each number, the highest first
+unfoldable pub bytes_of_groups : List ℕ → List ℕ
+bytes_of_groups [] = []
+bytes_of_groups (n ∷ rest) = (n / 65536 % 256) ∷ (n / 256 % 256) ∷ (n % 256) ∷ bytes_of_groups rest

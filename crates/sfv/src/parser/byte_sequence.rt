@@ -13,6 +13,7 @@ ghost use Rattle.sfv.specs.parser.Cursor.{rest, ReadsOrOutOfMemory};
 ghost use Rattle.sfv.specs.parser.Values.{vec_bytes};
 ghost use Rattle.sfv.specs.parser.Base64.{decoded_symbols};
 
+use crate::parser::base64_blocks::block_bytes;
 use crate::parser::base64_symbols::{padding_after, padding_run, symbol_run, value_of};
 use crate::parser::cursor::Cursor;
 use sfv_base::error::{Error, ErrorKind};
@@ -41,6 +42,10 @@ fn append_groups(symbols: &[u8], bytes: &mut Vec<u8>) -> Result<(), AllocError>
     ensures { OnOk result (bytes.new.items ≡ bytes.old.items ++ decoded_symbols symbols.now) }
 {
     let mut rest = symbols;
+    while let Some((block, after)) = rest.split_first_chunk::<16>() {
+        bytes.extend_from_slice(&block_bytes(block)[..12])?;
+        rest = after;
+    }
     while let Some((group, after)) = rest.split_first_chunk::<4>() {
         bytes.extend_from_slice(&group_bytes(group))?;
         rest = after;
