@@ -1,9 +1,6 @@
 use Rattle.std.proofs.Common.{ℕ, [], ◌∷◌, ◌++◌, length, string_bytes, ap, arith}
-use Rattle.base64.specs.Engines.{standard}
-use Rattle.base64.specs.GeneralPurpose.{encode_of}
 use Rattle.std.proofs.lemmas.List.{length-append}
 use Rattle.sfv_spec.specs.Base64.{base64_text}
-use Rattle.sfv_writer.proofs.Encoded.{encoded}
 use Rattle.sfv_writer.proofs.Room.{refused}
 use Rattle.sfv_writer.proofs.byte_sequence.serialize_byte_sequence.Goals as goal
 
@@ -15,7 +12,6 @@ returns-in_err-serialize_base64-clause-room g c =
     (omega (
       arith,
       c.in_err-serialize_base64.ensures.room.1,
-      ap (length {A = ℕ}) (encoded bytes),
       c.in_ok-push.ensures.len,
       c.in_ok-push.ensures.ascii_len,
       c.in_ok-push.ensures.capacity,
@@ -31,7 +27,6 @@ returns-in_err-push-2-clause-room g c =
       arith,
       c.in_err-push-2.ensures.full,
       c.in_err-push-2.ensures.ascii_len,
-      ap (length {A = ℕ}) (encoded bytes),
       c.in_ok-push.ensures.len,
       c.in_ok-push.ensures.ascii_len,
       c.in_ok-push.ensures.capacity,
@@ -39,6 +34,6 @@ returns-in_err-push-2-clause-room g c =
       ap (length {A = ℕ}) c.in_ok-serialize_base64.ensures.text,
       c.serialize_base64.new.output.bytes.ok.0,
       c.push.new.self.bytes.ok.0,
-      length-append (string_bytes c.push.new.self) (encode_of standard bytes),
+      length-append (string_bytes c.push.new.self) (base64_text bytes),
       length-append (base64_text bytes) (58 ∷ []),
     ))
