@@ -153,3 +153,16 @@ pub in_front : (rest part after : List ℕ) (n : ℕ) → n ≤ length rest → 
 in_front rest part after n fits groups front back =
     let size : length part % 3 ≡ 0 = rw (front, length-take-le n rest fits) groups in
     ap base64_text (sym (take-append-drop n rest)) ∙ rw (← front, ← back, text-append part after size) refl
+
+front_of_front : (n k : ℕ) (xs : List ℕ) → n ≤ k → take n (take k xs) ≡ take n xs
+front_of_front zero k xs le = refl
+front_of_front (suc n) zero xs le = absurd (omega arith)
+front_of_front (suc n) (suc k) [] le = refl
+front_of_front (suc n) (suc k) (x ∷ xs) le = ap (λ (l : List ℕ). x ∷ l) (front_of_front n k xs (omega arith))
+
+-- the text of the first twelve bytes of a block in front, and of the rest
+pub block_in_front : (rest block after : List ℕ) → 16 ≤ length rest → block ≡ take 16 rest → after ≡ drop 12 rest
+    → base64_text rest ≡ base64_text (take 12 block) ++ base64_text after
+block_in_front rest block after fits front back =
+    let same : take 12 block ≡ take 12 rest = ap (take 12) front ∙ front_of_front 12 16 rest (omega arith) in
+    in_front rest (take 12 block) after 12 (omega (arith, fits)) refl same back

@@ -3,6 +3,7 @@ pub mod Lacks
 pub mod Appended
 pub mod Parameters
 pub mod Encoded
+pub mod Blocks
 pub mod ReadBack
 pub mod Decimals
 pub mod Written

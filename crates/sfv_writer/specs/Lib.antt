@@ -1,3 +1,4 @@
 pub mod Written
 pub mod Versions
 pub mod Quoted
+pub mod Base64

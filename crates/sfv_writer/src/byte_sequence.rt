@@ -8,6 +8,7 @@ ghost use Rattle.sfv_spec.specs.Base64.{symbol, base64_text};
 ghost use Rattle.sfv_spec.specs.Canonical.{bare_text};
 ghost use Rattle.sfv_writer.specs.Written.{AsksForRoom, Appends, AppendsOrKeeps};
 
+use crate::base64_blocks::block_text;
 use sfv_base::error::OutOfMemory;
 use std::alloc::Allocator;
 use std::string::String;
@@ -77,6 +78,10 @@ fn serialize_base64<A: Allocator>(input: &[u8], output: &mut String<A>) -> Resul
     ensures room { AsksForRoom output.old output.new (base64_text input.now) result }
 {
     let mut rest = input;
+    while let Some(block) = rest.first_chunk::<16>() {
+        push_ascii(&block_text(block), output)?;
+        rest = &rest[12..];
+    }
     while let Some((group, after)) = rest.split_first_chunk::<3>() {
         push_ascii(&group_text(group), output)?;
         rest = after;

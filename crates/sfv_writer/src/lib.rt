@@ -1,6 +1,7 @@
 //! Serialization of trees (RFC 9651, section 4.1).
 #![tactic(auto)]
 
+mod base64_blocks;
 mod byte_sequence;
 mod dictionary;
 mod display_string;
