@@ -1,6 +1,7 @@
 use Rattle.std.proofs.Common.{ℕ, [], ◌∷◌, ◌++◌, length, string_bytes, ap, arith}
 use Rattle.std.proofs.lemmas.List.{length-append}
 use Rattle.sfv_spec.specs.Base64.{base64_text}
+use Rattle.sfv_writer.proofs.Encoded.{text_len}
 use Rattle.sfv_writer.proofs.Room.{refused}
 use Rattle.sfv_writer.proofs.byte_sequence.serialize_byte_sequence.Goals as goal
 
@@ -35,5 +36,18 @@ returns-in_err-push-2-clause-room g c =
       c.serialize_base64.new.output.bytes.ok.0,
       c.push.new.self.bytes.ok.0,
       length-append (string_bytes c.push.new.self) (base64_text bytes),
+      length-append (base64_text bytes) (58 ∷ []),
+    ))
+
+pub returns-in_err-reserve-clause-room : goal.returns-in_err-reserve-clause-room
+returns-in_err-reserve-clause-room g c =
+    let bytes = c.args.value.now in
+    refused c.args.output.now c.reserve.new.self (58 ∷ (base64_text bytes ++ 58 ∷ [])) c.from_residual.result
+    c.in_err-reserve.ensures.capacity
+    (omega (
+      arith,
+      c.in_err-reserve.ensures.full,
+      c.div_ceil.ensures,
+      text_len bytes,
       length-append (base64_text bytes) (58 ∷ []),
     ))
