@@ -1,4 +1,4 @@
-//! The Base64 texts of twelve bytes at once, by vectors.
+//! Encodes twelve bytes to Base64 at once, by vectors. The method is that of Wojciech Muła.
 
 ghost use Rattle.std.specs.Prelude.{◌≡◌, map, nat_lt, take};
 ghost use Rattle.sfv_spec.specs.Texts.{RunOf};
@@ -7,13 +7,13 @@ ghost use Rattle.sfv_writer.specs.Base64.{six_bits, byte_pairs, value_pairs};
 
 use std::simd::prelude::*;
 
-// What makes the symbol of a value, modulo 256: for the values 26 to 51, then for each value from 52 on, then for the
-// values below 26.
+// The symbol minus the value, modulo 256. Index 0 is for the values 26 to 51, indices 1 to 12 are for the values 52 to 63,
+// and index 13 is for the values below 26.
 const OFFSETS: [u8; 16] = [
     71, 252, 252, 252, 252, 252, 252, 252, 252, 252, 252, 237, 240, 65, 0, 0,
 ];
 
-// Returns the first and the second, and the second and the third of each three of the first twelve bytes, as numbers.
+// For each three of the first twelve bytes, returns two numbers: the first and second byte, and the second and third.
 #[inline(always)]
 fn pairs_of(bytes: u8x16) -> u16x8
     ensures { result ≡ byte_pairs (take 12 bytes) }
@@ -21,7 +21,7 @@ fn pairs_of(bytes: u8x16) -> u16x8
     u16x8::from_le_bytes(bytes.swizzle([1, 0, 2, 1, 4, 3, 5, 4, 7, 6, 8, 7, 10, 9, 11, 10]))
 }
 
-// Returns the two values in each of these numbers. The first is in the low half.
+// Returns the two six-bit values in each of these numbers. The first value is in the low half.
 #[inline(always)]
 fn values_in(pairs: u16x8) -> u16x8
     ensures { result ≡ value_pairs pairs }
@@ -32,7 +32,7 @@ fn values_in(pairs: u16x8) -> u16x8
     (low & u16x8::splat(63)) + (high & u16x8::splat(63)) * u16x8::splat(256)
 }
 
-// Returns the four values of each three of the first twelve bytes.
+// Returns the four six-bit values of each three of the first twelve bytes.
 #[inline(always)]
 fn values_of(bytes: u8x16) -> u8x16
     ensures { result ≡ six_bits (take 12 bytes) }
@@ -40,7 +40,7 @@ fn values_of(bytes: u8x16) -> u8x16
     values_in(pairs_of(bytes)).to_le_bytes()
 }
 
-// Returns the symbols of values.
+// Returns the symbols of six-bit values.
 #[inline(always)]
 fn symbols_of(values: u8x16) -> u8x16
     requires { RunOf (λ v. nat_lt v 64) values }

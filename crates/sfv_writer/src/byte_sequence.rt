@@ -103,6 +103,7 @@ pub(crate) fn serialize_byte_sequence<A: Allocator>(
     ensures room { AsksForRoom output.old output.new (bare_text (byte_sequence value.now)) result }
     ensures bytes { RunOf is_byte value.now }
 {
+    // Room for the whole text at once: otherwise, a small buffer would grow several times.
     output.reserve(value.len().div_ceil(3) * 4 + 2)?;
     output.push(':')?;
     serialize_base64(value, output)?;

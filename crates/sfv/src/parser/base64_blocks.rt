@@ -1,4 +1,4 @@
-//! The bytes of 16 Base64 symbols at once, by vectors.
+//! Decodes 16 Base64 symbols at once, by vectors. The method is that of Wojciech Muła.
 
 ghost use Rattle.std.specs.Prelude.{◌≡◌, map, nat_lt, take};
 ghost use Rattle.sfv_spec.specs.Texts.{RunOf};
@@ -8,7 +8,8 @@ ghost use Rattle.sfv.specs.parser.Base64.{decoded_symbols, group_numbers, bytes_
 
 use std::simd::prelude::*;
 
-// For each high half of a symbol, what makes its value of it, modulo 256. The slash is at 1, apart from the plus sign.
+// For each high half of a symbol: the value minus the symbol, modulo 256. The plus sign and the slash have the same high
+// half, so the slash uses index 1.
 const OFFSETS: [u8; 16] = [0, 16, 19, 4, 191, 191, 185, 185, 0, 0, 0, 0, 0, 0, 0, 0];
 
 // Returns the values of symbols.
@@ -22,7 +23,7 @@ fn values_of(symbols: u8x16) -> u8x16
     symbols + u8x16::from_array(OFFSETS).swizzle_dyn(row)
 }
 
-// Returns the numbers of groups of four values.
+// Returns the number of each group of four values, with the first value highest.
 #[inline(always)]
 fn groups_of(values: u8x16) -> u32x4
     requires { RunOf (λ v. nat_lt v 64) values }
@@ -35,7 +36,7 @@ fn groups_of(values: u8x16) -> u32x4
     front * u32x4::splat(4096) + back
 }
 
-// Returns the three bytes of each number, the highest first, and after them four bytes that mean nothing.
+// Returns the three bytes of each number, the highest first. Four bytes of no meaning follow.
 #[inline(always)]
 fn bytes_of(groups: u32x4) -> u8x16
     ensures { take 12 result ≡ bytes_of_groups groups }
@@ -45,7 +46,7 @@ fn bytes_of(groups: u32x4) -> u8x16
         .swizzle([2, 1, 0, 6, 5, 4, 10, 9, 8, 14, 13, 12, 15, 15, 15, 15])
 }
 
-/// Returns the twelve bytes of a block of symbols, and after them four bytes that mean nothing.
+/// Returns the twelve bytes of a block of symbols. Four bytes of no meaning follow.
 #[inline(always)]
 pub(crate) fn block_bytes(block: &[u8; 16]) -> [u8; 16]
     requires { RunOf is_symbol block.now }
