@@ -72,4 +72,3 @@ pub item_refused : (k : Parser × Global) (c : Cursor) (s : List ℕ) (result : 
 item_refused k c s result same skipped =
     IfErr-weaker result _ _ (λ e fault. no_item (kept_version k) (kept_input k) s (rest c) e skipped
     (found k c e same fault))
-
