@@ -1,6 +1,6 @@
 -- The digits of a decimal.
 use Rattle.std.proofs.Common.{◌≡◌, ℕ, ◌+◌, ◌<◌, ◌≤◌, ◌/◌, ◌%◌, Bool, true, false, eqb, List, [], ◌∷◌, ◌++◌, refl, ap, subst}
-use Rattle.std.proofs.Common.{◌∙◌, arith, Result, ℤ, pos, negsuc, to_z, of_z, w64}
+use Rattle.std.proofs.Common.{◌∙◌, arith, sym, Result, ℤ, pos, negsuc, to_z, of_z, w64}
 use Rattle.std.specs.Prelude.{MatchResult, nat_abs, int_lt, codes, decimal as decimal_digits}
 use Rattle.std.proofs.lemmas.Bool.{ltb-true}
 use Rattle.std.proofs.lemmas.Fmt.{decimal_digit, decimal_step}
@@ -68,15 +68,13 @@ signed_text : (z : ℤ) → minus_text (is_negative z) ++ decimal_digits (nat_ab
 signed_text (pos n) = refl
 signed_text (negsuc n) = refl
 
--- the parts of an integer, one after another
-pub signed_parts : {T E : Type 0} (old front new : List ℕ) (z : ℤ) (m : ℕ) (r : Result T E)
-    → m ≡ nat_abs z → front ≡ old ++ minus_text (is_negative z)
-    → MatchResult r (λ _. new ≡ front ++ decimal_digits m) (λ _. Extends front new)
-    → MatchResult r (λ _. new ≡ old ++ signed_decimal z) (λ _. Extends old new)
-signed_parts {T} {E} old front new z m r e a h =
-    subst (λ (text : List ℕ). MatchResult r (λ _. new ≡ old ++ text) (λ _. Extends old new))
-    (ap (λ (n : ℕ). minus_text (is_negative z) ++ decimal_digits n) e ∙ signed_text z)
-    (after old (minus_text (is_negative z)) front (decimal_digits m) new r a h)
+-- the digits of a number that is not below zero are its text
+pub natural_text : (v z : ℤ) (m : ℕ) → v ≡ z → m ≡ nat_abs z → int_lt v (pos 0) ≡ false
+    → decimal_digits m ≡ signed_decimal z
+natural_text v z m same e h =
+    ap decimal_digits e
+    ∙ ap (λ (minus : List ℕ). minus ++ decimal_digits (nat_abs z)) (sym (minus_of v z false same h))
+    ∙ signed_text z
 
 -- the parts of a decimal, one after another
 pub decimal_parts : {T E : Type 0} (old front whole dot point new : List ℕ) (z : ℤ) (m : ℕ) (r : Result T E)

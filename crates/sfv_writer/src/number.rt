@@ -38,7 +38,7 @@ fn serialize_one_digit<A: Allocator>(
     Ok(())
 }
 
-/// Appends the two digits of a number below 100.
+/// Appends the two digits of a number below 100, after one request for both.
 #[inline(always)]
 fn serialize_two_digits<A: Allocator>(
     value: u64,
@@ -48,12 +48,13 @@ fn serialize_two_digits<A: Allocator>(
     ensures text { Appends output.old output.new ((0x30 + value / 10) ∷ (0x30 + value % 10) ∷ []) result }
     ensures room { AsksForRoom output.old output.new ((0x30 + value / 10) ∷ (0x30 + value % 10) ∷ []) result }
 {
+    output.reserve(2)?;
     output.push(digit(value / 10))?;
     output.push(digit(value % 10))?;
     Ok(())
 }
 
-/// Appends the three digits of a number below 1000.
+/// Appends the three digits of a number below 1000, after one request for all.
 #[inline(always)]
 fn serialize_three_digits<A: Allocator>(
     value: u64,
@@ -65,9 +66,24 @@ fn serialize_three_digits<A: Allocator>(
     ensures room { AsksForRoom output.old output.new
         ((0x30 + value / 100) ∷ (0x30 + value / 10 % 10) ∷ (0x30 + value % 10) ∷ []) result }
 {
+    output.reserve(3)?;
     output.push(digit(value / 100))?;
     output.push(digit(value / 10 % 10))?;
     output.push(digit(value % 10))?;
+    Ok(())
+}
+
+/// Appends the minus sign and the decimal digits of a negative number.
+#[inline(never)]
+fn serialize_negative<A: Allocator>(
+    value: i64,
+    output: &mut StdString<A>,
+) -> Result<(), OutOfMemory>
+    ensures text { Appends output.old output.new (signed_decimal value) result }
+    ensures room { AsksForRoom output.old output.new (signed_decimal value) result }
+{
+    let mut buffer = Buffer::new();
+    output.push_str(buffer.format(value))?;
     Ok(())
 }
 
@@ -123,7 +139,7 @@ pub(crate) fn serialize_integer<A: Allocator>(
 {
     let value = i64::from(value);
     if value < 0 {
-        output.push('-')?;
+        return serialize_negative(value, output);
     }
     serialize_natural(value.unsigned_abs(), output)
 }
