@@ -1,7 +1,8 @@
 //! Long fields, and long texts in the buffer of a serializer.
 
 use crate::common::{gives, has_text, is_text, repeated};
-use sfv::{BareItem, FieldType, Item, ListSerializer, Parser, RefBareItem};
+use sfv::visitor::ListBuilder;
+use sfv::{BareItem, FieldType, Item, List, ListEntry, ListSerializer, Parser, RefBareItem};
 use std::alloc::Global;
 use std::fmt::Write;
 use std::test::Fail;
@@ -165,4 +166,50 @@ fn is_left_by_finish(alloc: Global) -> bool {
 #[test]
 fn finish_leaves_a_long_text_as_it_is(rt: HostRuntime) {
     assert!(rt; is_left_by_finish(rt.alloc()));
+}
+
+/// Returns `true` if the parameters of both members, and of their items, have the same capacity.
+fn is_as_roomy(member: &ListEntry, other: &ListEntry) -> bool {
+    match (member, other) {
+        (ListEntry::Item(item), ListEntry::Item(other)) => {
+            item.params.capacity() == other.params.capacity()
+        }
+        (ListEntry::InnerList(list), ListEntry::InnerList(other)) => {
+            let mut holds = list.params.capacity() == other.params.capacity();
+            for (item, other) in list.items.iter().zip(other.items.iter()) {
+                holds &= item.params.capacity() == other.params.capacity();
+            }
+            holds
+        }
+        _ => false,
+    }
+}
+
+/// Returns `true` if `parse` and a builder make the same list of this input, of the same capacity.
+fn is_built_alike(alloc: Global, input: &str) -> bool {
+    let parser = Parser::new(input.as_bytes());
+    let builder = ListBuilder::new(List::new(alloc), parser.hash_seed());
+    let Ok(built) = parser.parse_list_with_visitor(alloc, builder) else {
+        return false;
+    };
+    let Ok(parsed) = parser.parse::<List>(alloc) else {
+        return false;
+    };
+    let mut holds = parsed == built && parsed.capacity() == built.capacity();
+    for (member, other) in parsed.iter().zip(built.iter()) {
+        holds &= is_as_roomy(member, other);
+    }
+    holds
+}
+
+// From the 4,001st member or item on, unused memory of parameters is released.
+#[test]
+fn long_lists_have_the_capacity_that_their_builder_gives(rt: HostRuntime) -> Result<(), Fail> {
+    let alloc = rt.alloc();
+    for &times in &[3_999, 4_000, 4_001] {
+        let items = repeated(alloc, "a;b", ", a;b", times, ", (a;b);c")?;
+        let inner = repeated(alloc, "(a;b", " a;b", times, ");c")?;
+        assert!(rt; is_built_alike(alloc, items.as_str()) && is_built_alike(alloc, inner.as_str()));
+    }
+    Ok(())
 }

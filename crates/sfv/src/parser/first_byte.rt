@@ -1,4 +1,4 @@
-//! Early rejection: tests the first byte that is not a space, before a builder is created.
+//! Early rejection of items: tests the first byte that is not a space, before a builder is created.
 
 ghost use Rattle.std.specs.Prelude.{IfErr};
 ghost use Rattle.sfv_spec.specs.declared.field_kind.FieldKind.TheVariants.{Item as item_field};

@@ -1,8 +1,9 @@
 //! Parsing of lists and dictionaries to trees (RFC 9651, sections 4.2.1 and 4.2.2).
 //!
-//! These functions build what `ListBuilder` and `DictionaryBuilder` build from events, and allocate in the same order.
+//! These functions build what `ListBuilder` and `DictionaryBuilder` build from events, and request memory in the same
+//! order. They need no list for the member of a dictionary.
 
-ghost use Rattle.std.specs.Prelude.{◌≡◌, ◌<◌, ◌++◌, ◌∷◌, [], ⊤, OnOk, OnErr, IfOk, IfErr, IsTrue, All, map, flat_map, length, vec_capacity};
+ghost use Rattle.std.specs.Prelude.{◌≡◌, ◌<◌, ◌++◌, ◌∷◌, [], ⊤, OnOk, OnErr, IfOk, IfErr, IsTrue, IsFalse, All, map, flat_map, length, vec_capacity};
 ghost use Rattle.std.specs.Prelude.{bytes_eq};
 ghost use Rattle.indexmap.specs.IndexMap.{hasher_of, insert_entry};
 ghost use Rattle.sfv_spec.specs.Values.{inner_list};
@@ -123,7 +124,10 @@ fn fit_after(count: usize, params: &mut Parameters)
 
 /// Returns the number of elements, or 0 if they need no room.
 #[inline(always)]
-fn count_if<T>(needs_room: bool, items: &Vec<T>) -> usize {
+fn count_if<T>(needs_room: bool, items: &Vec<T>) -> usize
+    ensures count { IsTrue needs_room → result ≡ length items.now.items }
+    ensures none { IsFalse needs_room → result ≡ 0 }
+{
     if needs_room { items.len() } else { 0 }
 }
 
