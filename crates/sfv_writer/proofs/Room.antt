@@ -1,11 +1,11 @@
 -- Room for what is added to a text.
 use Rattle.std.proofs.Common.{◌≡◌, ◌≤◌, ◌+◌, ℕ, Bool, true, List, [], ◌∷◌, ◌++◌, length, string_bytes, string_len, string_capacity}
-use Rattle.std.proofs.Common.{ap, arith, refl, Result, Ok, Err}
+use Rattle.std.proofs.Common.{ap, sym, arith, refl, Result, Ok, Err}
 use Rattle.std.specs.Prelude.{flat_map}
 use Rattle.std.specs.declared.string.String.{String}
 use Rattle.std.specs.List.{list_all}
 use Rattle.std.proofs.lemmas.Bool.{and_parts}
-use Rattle.std.proofs.lemmas.List.{length-append}
+use Rattle.std.proofs.lemmas.List.{append-nil, length-append}
 use Rattle.sfv_spec.specs.Texts.{RunOf}
 use Rattle.sfv_writer.specs.Written.{LacksRoom, AsksForRoom}
 use Rattle.sfv_writer.proofs.Written.{IsWrittenUpTo}
@@ -73,3 +73,14 @@ room_inside piece old output bytes rest run after w e c h =
       c,
       h,
     ))
+
+-- the same of the rest, which a call writes
+pub rest_room : {Z T E : Type 0} (piece : ℕ → List ℕ) (old output new : String Z) (bytes rest : List ℕ)
+    (r : Result T E) → IsWrittenUpTo piece (string_bytes old) bytes rest (string_bytes output)
+    → string_capacity old ≤ string_capacity output → AsksForRoom output new (flat_map piece rest) r
+    → AsksForRoom old new (flat_map piece bytes) r
+rest_room piece old output new bytes rest (Ok x) w c h = (omega (arith, c, h.0), tt)
+rest_room piece old output new bytes rest (Err x) w c h = (
+  omega (arith, c, h.0),
+  room_inside piece old output bytes rest rest [] w (sym (append-nil rest)) c h.1,
+)

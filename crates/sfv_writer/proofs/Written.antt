@@ -1,7 +1,7 @@
 -- A text is written run by run.
 use Rattle.std.proofs.Common.{◌≡◌, ℕ, Bool, true, false, cond, not, List, [], ◌∷◌, ◌++◌, length, take, refl, sym, ap}
-use Rattle.std.proofs.Common.{subst, ◌∙◌, append_assoc, arith, inl, inr}
-use Rattle.std.specs.Prelude.{◌<◌, string_bytes, slice_index, IsUtf8}
+use Rattle.std.proofs.Common.{subst, ◌∙◌, append_assoc, arith, inl, inr, Result}
+use Rattle.std.specs.Prelude.{◌<◌, string_bytes, slice_index, IsUtf8, MatchResult}
 use Rattle.std.specs.Str.{IsCharBoundary}
 use Rattle.std.specs.declared.string.String.{String}
 use Rattle.std.specs.List.{flat_map, list_all}
@@ -18,6 +18,7 @@ use Rattle.sfv_reading.proofs.quoted.DisplaySteps as in_display
 use Rattle.sfv_writer.specs.Written.{Extends, IsTruncatedTo}
 use Rattle.sfv_spec.proofs.Marks.{plain_of}
 use Rattle.sfv_writer.specs.Quoted.{piece_of}
+use Rattle.sfv_writer.proofs.Appended.{after}
 
 flat_map_append : (f : ℕ → List ℕ) (xs ys : List ℕ) → flat_map f (xs ++ ys) ≡ flat_map f xs ++ flat_map f ys
 flat_map_append f [] ys = refl
@@ -75,6 +76,16 @@ module _ (piece : ℕ → List ℕ) (before bytes : List ℕ) where
   whole_written [] output w e =
       w.done ∙ ap (λ (l : List ℕ). before ++ flat_map piece l) (sym (w.whole ∙ append-nil w.front))
   whole_written (c ∷ rest) output w e = absurd (omega (arith, e))
+
+  -- the rest is written by a call that may fail
+  pub rest_written : {T E : Type 0} (rest output new : List ℕ) (r : Result T E)
+      → IsWrittenUpTo piece before bytes rest output
+      → MatchResult r (λ _. new ≡ output ++ flat_map piece rest) (λ _. Extends output new)
+      → MatchResult r (λ _. new ≡ before ++ flat_map piece bytes) (λ _. Extends before new)
+  rest_written rest output new r w h =
+      subst (λ t. MatchResult r (λ _. new ≡ before ++ t) (λ _. Extends before new))
+      (sym (ap (flat_map piece) w.whole ∙ flat_map_append piece w.front rest))
+      (after before (flat_map piece w.front) output (flat_map piece rest) new r w.done h)
 
   -- the next byte passes a test that all pass
   pub next_held : (held : ℕ → Bool) (rest output after : List ℕ) (byte : ℕ) → RunOf held bytes

@@ -7,7 +7,7 @@ ghost use Rattle.sfv_writer.specs.Written.{AsksForRoom, Appends};
 
 use crate::quoted::{Escaping, serialize_inside};
 use sfv_base::error::OutOfMemory;
-use sfv_base::runs::{PlainInDisplayString, RunClass, split_run};
+use sfv_base::runs::{PlainInDisplayString, RunClass, split_run, split_whole_run};
 use std::alloc::{AllocError, Allocator};
 
 /// Returns the lower-case hexadecimal digit of a number below 16.
@@ -37,6 +37,11 @@ impl Escaping for DisplayEscaping {
     #[inline(always)]
     fn split_plain(bytes: &[u8]) -> (&[u8], &[u8]) {
         split_run::<PlainInDisplayString>(bytes)
+    }
+
+    #[inline(always)]
+    fn split_whole(bytes: &[u8]) -> (&[u8], &[u8]) {
+        split_whole_run::<PlainInDisplayString>(bytes)
     }
 
     #[inline(always)]

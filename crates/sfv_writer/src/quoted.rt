@@ -24,6 +24,12 @@ pub(super) trait Escaping {
         ensures each { RunOf (plain_of display) result.0.now }
         ensures ends { 0 < length result.1.now → IsFalse (plain_of display (slice_index result.1.now 0)) };
 
+    /// Splits as `split_plain` does, for a whole text. Most texts have no escape.
+    fn split_whole(bytes: &[u8]) -> (&[u8], &[u8])
+        ensures whole { bytes.now ≡ result.0.now ++ result.1.now }
+        ensures each { RunOf (plain_of display) result.0.now }
+        ensures ends { 0 < length result.1.now → IsFalse (plain_of display (slice_index result.1.now 0)) };
+
     /// Appends the escape of a byte.
     fn push_escape<A: Allocator>(output: &mut String<A>, byte: u8) -> Result<(), AllocError>
         requires held { IsTrue (held_of display byte) }
@@ -33,7 +39,24 @@ pub(super) trait Escaping {
 }
 
 /// Appends these bytes, each as itself or as its escape.
+#[inline(always)]
 pub(super) fn serialize_inside<Q: Escaping, A: Allocator>(
+    bytes: &[u8],
+    output: &mut String<A>,
+) -> Result<(), OutOfMemory>
+    requires { RunOf (held_of Q.display) bytes.now }
+    ensures text { Appends output.old output.new (flat_map (piece_of Q.display) bytes.now) result }
+    ensures room { AsksForRoom output.old output.new (flat_map (piece_of Q.display) bytes.now) result }
+{
+    let (run, rest) = Q::split_whole(bytes);
+    // SAFETY: plain bytes are ASCII.
+    output.push_str(unsafe { std::str::from_utf8_unchecked(run) })?;
+    serialize_pieces::<Q, A>(rest, output)
+}
+
+/// Appends these bytes, run by run and escape by escape.
+#[inline(always)]
+fn serialize_pieces<Q: Escaping, A: Allocator>(
     bytes: &[u8],
     output: &mut String<A>,
 ) -> Result<(), OutOfMemory>

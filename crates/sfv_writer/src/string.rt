@@ -8,7 +8,7 @@ ghost use Rattle.sfv_writer.specs.Written.{AsksForRoom, Appends};
 
 use crate::quoted::{Escaping, serialize_inside};
 use sfv_base::error::OutOfMemory;
-use sfv_base::runs::{PlainInString, split_run};
+use sfv_base::runs::{PlainInString, split_run, split_whole_run};
 use sfv_base::utils::is_escaped_in_string;
 use sfv_text::string_ref::StringRef;
 use std::alloc::{AllocError, Allocator};
@@ -27,6 +27,11 @@ impl Escaping for StringEscaping {
     #[inline(always)]
     fn split_plain(bytes: &[u8]) -> (&[u8], &[u8]) {
         split_run::<PlainInString>(bytes)
+    }
+
+    #[inline(always)]
+    fn split_whole(bytes: &[u8]) -> (&[u8], &[u8]) {
+        split_whole_run::<PlainInString>(bytes)
     }
 
     #[inline(always)]

@@ -1,7 +1,7 @@
 use Rattle.std.proofs.Common.{◌≤◌, length, string_bytes, string_capacity}
 use Rattle.sfv_writer.specs.Quoted.{piece_of}
 use Rattle.sfv_writer.proofs.Written.{IsWrittenUpTo}
-use Rattle.sfv_writer.proofs.quoted.serialize_inside.Given as goal
+use Rattle.sfv_writer.proofs.quoted.serialize_pieces.Given as goal
 
 abbrev pub invariant-loop-byte : goal.invariant-loop-byte
 invariant-loop-byte g l = IsWrittenUpTo (piece_of g.Q.Escaping.display) (string_bytes l.fn.output) l.bytes l.rest
