@@ -30,17 +30,17 @@ pub fn truncate_to<A: Allocator>(len: usize, output: &mut StdString<A>)
     }
 }
 
-/// Requests memory for 64 bytes. A failure is no error: the text may need fewer bytes.
+/// Requests memory for 128 bytes. A failure is no error: the text may need fewer bytes.
 #[cold]
 #[inline(never)]
 fn request_first_memory<A: Allocator>(output: &mut StdString<A>)
     ensures text { string_bytes output.new ≡ string_bytes output.old }
     ensures room { string_capacity output.old ≤ string_capacity output.new }
 {
-    let _ = output.reserve(64);
+    let _ = output.reserve(128);
 }
 
-/// Requests memory for 64 bytes if `output` has none yet, so a short text needs one allocation. Otherwise changes
+/// Requests memory for 128 bytes if `output` has none yet, so a short text needs one allocation. Otherwise changes
 /// nothing.
 #[inline(always)]
 pub fn prepare<A: Allocator>(output: &mut StdString<A>)
