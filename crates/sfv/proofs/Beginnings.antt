@@ -1,24 +1,19 @@
 -- Where no field begins, the fault of its first part is that of the field.
-use Rattle.std.proofs.Common.{◌≡◌, ℕ, ◌≤◌, true, List, [], ◌∷◌, length, drop, Option, Some, None, Ok, Err, ap, subst, ◌∙◌}
-use Rattle.std.specs.Prelude.{MatchOption, is_some, Result, IfErr}
+use Rattle.std.proofs.Common.{◌≡◌, ℕ, ◌≤◌, List, length, drop, Option, Some, None, Ok, Err, ap, subst, ◌∙◌}
+use Rattle.std.specs.Prelude.{MatchOption, Result, IfErr}
 use Rattle.std.specs.declared.alloc.Global.{Global}
 use Rattle.std.proofs.lemmas.Result.{IfErr-weaker}
-use Rattle.sfv_spec.proofs.Marks.{left_parenthesis}
 use Rattle.sfv_spec.specs.Classes.{is_space, is_token_start}
 use Rattle.sfv_spec.specs.declared.field_kind.FieldKind.{FieldKind}
-use Rattle.sfv_spec.specs.declared.field_kind.FieldKind.TheVariants.{Item as item_field, List as list_field}
-use Rattle.sfv_spec.specs.declared.field_kind.FieldKind.TheVariants.{Dictionary as dictionary_field}
+use Rattle.sfv_spec.specs.declared.field_kind.FieldKind.TheVariants.{Item as item_field}
 use Rattle.sfv_spec.specs.declared.version.Version.{Version}
-use Rattle.sfv_spec.specs.Events.{TreeEvent, entry, begins_item, events, entry_events, keyed_events}
 use Rattle.sfv_base.specs.declared.error.Error.{Error}
 use Rattle.sfv_spec.specs.declared.error_kind.ErrorKind.{ErrorKind}
 use Rattle.sfv_spec.specs.declared.error_kind.ErrorKind.TheVariants.{ExpectedStartOfBareItem}
-use Rattle.sfv_reading.specs.Reader.{Answer, Apart, first, byte, span, led, led_answer}
+use Rattle.sfv_reading.specs.Reader.{Answer, Apart, span}
 use Rattle.sfv_reading.specs.Bare.{bare_at}
-use Rattle.sfv_reading.specs.Items.{key_at, item_at}
-use Rattle.sfv_reading.specs.Members.{member_at, entry_at, keyed_at}
-use Rattle.sfv_reading.specs.Fields.{whole_field_at, read_field}
-use Rattle.sfv_reading.proofs.complete.Combinators.{branch_past}
+use Rattle.sfv_reading.specs.Items.{item_at}
+use Rattle.sfv_reading.specs.Fields.{read_field}
 use Rattle.sfv.specs.Parsers.{IsParseError}
 use Rattle.sfv.specs.Memory.{IsRefusal}
 use Rattle.sfv.specs.declared.parser.Parser.{Parser}
@@ -28,8 +23,7 @@ use Rattle.sfv.specs.parser.Cursor.{IsFaultOf}
 use Rattle.sfv.proofs.Parsed.{parse_error}
 use Rattle.sfv.proofs.reads.Errors.{fault_bind}
 use Rattle.sfv.proofs.reads.Steps.{NoOpener, bare_token, token_none}
-use Rattle.sfv.proofs.reads.Delimiters.{first_of, members_first}
-use Rattle.sfv.proofs.visits.Whole.{ending_located, field_faulty}
+use Rattle.sfv.proofs.visits.Whole.{field_faulty}
 
 -- no byte stands next that a bare item begins with
 pub bare_none : (version : Version) (t : List ℕ) → NoOpener t → Apart is_token_start t

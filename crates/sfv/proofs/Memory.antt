@@ -1,36 +1,29 @@
 -- Texts for which a reading asks for memory.
 use Rattle.std.proofs.Common.{◌≡◌, ℕ, true, false, List, [], ◌∷◌, ◌++◌, Result, Ok}
-use Rattle.std.proofs.Common.{Err, refl, sym, subst, inl, inr, arith}
-use Rattle.std.specs.Prelude.{◌⊎◌, IfErr, IsTrue}
+use Rattle.std.proofs.Common.{Err, sym, subst, arith}
+use Rattle.std.specs.Prelude.{IfErr, IsTrue}
 use Rattle.std.specs.List.{Contains}
-use Rattle.std.proofs.lemmas.Bool.{cases_Bool, true≢false, and_from}
+use Rattle.std.proofs.lemmas.Bool.{true≢false}
 use Rattle.std.proofs.lemmas.List.Elements.{Contains-append_left, Contains-append_right, Contains-get_or}
 use Rattle.sfv_spec.specs.Ascii.{space}
 use Rattle.sfv_spec.specs.Classes.{is_space}
-use Rattle.sfv_spec.specs.Texts.{RunOf}
-use Rattle.sfv_spec.specs.Values.{BareValue, RawItem, RawField, item}
+use Rattle.sfv_spec.specs.Values.{BareValue, RawItem, item}
 use Rattle.sfv_spec.specs.declared.field_kind.FieldKind.{FieldKind}
-use Rattle.sfv_spec.specs.declared.field_kind.FieldKind.TheVariants.{List as list_field, Dictionary as dictionary_field}
 use Rattle.sfv_spec.specs.declared.version.Version.{Version}
-use Rattle.sfv_spec.specs.Grammar.{IsBareText, IsFieldText}
-use Rattle.sfv_spec.specs.Events.{TreeEvent, events}
-use Rattle.sfv_spec.specs.Visiting.{IsVisitorError}
+use Rattle.sfv_spec.specs.Grammar.{IsBareText}
+use Rattle.sfv_spec.specs.Events.{TreeEvent}
 use Rattle.sfv_spec.proofs.Settled.{begins}
 use Rattle.sfv_spec.proofs.Bare.{is_bare_start, bare_begins}
 use Rattle.sfv_base.specs.declared.error.Error.{Error}
 use Rattle.sfv_base.specs.declared.error.ParseError.{ParseError}
 use Rattle.sfv_base.specs.declared.error.ParseError.TheVariants.{Syntax, Visitor}
-use Rattle.sfv_base.specs.declared.error.OutOfMemory.{OutOfMemory}
-use Rattle.sfv_visitor.specs.Builders.{item_state, member_step, ended, takes_memory, list_state, list_step}
-use Rattle.sfv_visitor.specs.Builders.{KeepsItemSeed, KeepsListSeed, KeepsDictionarySeed}
-use Rattle.sfv_visitor.specs.Builders.{list_takes_memory, dictionary_state, dictionary_step, dictionary_takes_memory}
+use Rattle.sfv_visitor.specs.Builders.{item_state, member_step, ended, takes_memory}
+use Rattle.sfv_visitor.specs.Builders.{KeepsItemSeed}
 use Rattle.sfv_visitor.specs.declared.visitor.ItemFault.{ItemFault}
 use Rattle.sfv_visitor.specs.declared.visitor.ItemFault.TheVariants as faults
 use Rattle.sfv_visitor.specs.declared.visitor.item_builder.ItemBuilder.{ItemBuilder}
-use Rattle.sfv_visitor.specs.declared.visitor.list_builder.ListBuilder.{ListBuilder}
-use Rattle.sfv_visitor.specs.declared.visitor.dictionary_builder.DictionaryBuilder.{DictionaryBuilder}
 use Rattle.sfv.specs.Memory.{HasMoreThanSpaces, NeedsMark}
-use Rattle.sfv.specs.Parsers.{IsVisitorErrorOf, VisitsFirst}
+use Rattle.sfv.specs.Parsers.{VisitsFirst}
 use Rattle.sfv.specs.parser.Visits.{VisitsField}
 
 -- ---- a byte of a text

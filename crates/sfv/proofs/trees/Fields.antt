@@ -1,7 +1,6 @@
 -- Whole lists and dictionaries that are built.
-use Rattle.std.proofs.Common.{◌≡◌, ℕ, Bool, true, false, List, [], ◌∷◌, ◌++◌, map, Ok, Err, refl, sym, ap, ◌∙◌, inl, inr}
+use Rattle.std.proofs.Common.{◌≡◌, ℕ, true, false, List, [], ◌∷◌, ◌++◌, map, Ok, Err, refl, sym, ap, ◌∙◌, inl, inr}
 use Rattle.std.specs.Prelude.{⊤, Result, bytes_eq, flat_map, is_some, cond}
-use Rattle.std.specs.List.{Contains}
 use Rattle.std.specs.declared.alloc.Global.{Global}
 use Rattle.std.proofs.lemmas.Bool.{cases_Bool}
 use Rattle.std.proofs.lemmas.List.{map-append}
@@ -13,12 +12,12 @@ use Rattle.sfv_spec.specs.Classes.{is_space}
 use Rattle.sfv_spec.specs.declared.field_kind.FieldKind.TheVariants.{List as list_field, Dictionary as dictionary_field}
 use Rattle.sfv_spec.specs.declared.version.Version.{Version}
 use Rattle.sfv_spec.specs.Events.{TreeEvent, entry, member_events, entry_events, keyed_events}
-use Rattle.sfv_spec.specs.Ordered.{collapse, ordered, ordered_member}
+use Rattle.sfv_spec.specs.Ordered.{collapse, ordered_member}
 use Rattle.sfv_spec.specs.Statements.{IsParsedAs}
 use Rattle.sfv_spec.proofs.Collapse.{collapse-push}
 use Rattle.sfv_base.specs.declared.error.Error.{Error}
 use Rattle.sfv_base.specs.declared.error.ParseError.{ParseError}
-use Rattle.sfv_base.specs.declared.error.ParseError.TheVariants.{Syntax, Visitor}
+use Rattle.sfv_base.specs.declared.error.ParseError.TheVariants.{Syntax}
 use Rattle.sfv_base.specs.declared.error.OutOfMemory.{OutOfMemory}
 use Rattle.sfv_reading.specs.Reader.{Answer, Reader, and_then, first, give, span}
 use Rattle.sfv_reading.specs.Members.{member_at, entry_at, keyed_at}

@@ -1,21 +1,20 @@
 -- Parts that are built one by one, each after a delimiter: the items of inner lists, and members.
-use Rattle.std.proofs.Common.{◌≡◌, ℕ, true, false, List, [], ◌∷◌, ◌++◌, map, Ok, sym, ap, subst, ◌∙◌}
+use Rattle.std.proofs.Common.{◌≡◌, true, false, List, [], ◌∷◌, ◌++◌, map, Ok, sym, ap, subst, ◌∙◌}
 use Rattle.std.proofs.lemmas.List.{map-append}
 use Rattle.sfv_spec.specs.Values.{RawItem}
 use Rattle.sfv_spec.specs.Ordered.{ordered_item}
 use Rattle.std.specs.declared.alloc.Global.{Global}
-use Rattle.sfv_spec.specs.declared.version.Version.{Version}
 use Rattle.sfv_tree.specs.declared.hash_seed.HashSeed.{HashSeed}
 use Rattle.sfv_reading.specs.Reader.{Answer, and_then, bind, give, led, many, ◌>>=◌}
 use Rattle.sfv_reading.proofs.sound.Many.{put, in_front, starts, regroup, goes_on, is_done}
 use Rattle.sfv.specs.declared.parser.Parser.{Parser}
 use Rattle.sfv.specs.declared.parser.cursor.Cursor.{Cursor}
-use Rattle.sfv.specs.parser.Cursor.{kept, kept_version, version, rest}
+use Rattle.sfv.specs.parser.Cursor.{kept, version, rest}
 use Rattle.sfv.specs.parser.Trees.{Any, AnyFails}
 use Rattle.sfv.specs.parser.Visits.{Visits}
 use Rattle.sfv.proofs.reads.Delimiters.{first_of}
 use Rattle.sfv.proofs.reads.Errors.{kept_reads}
-use Rattle.sfv.proofs.visits.Loops.{Loop, SoFar, VisitedSoFar, Wants, all_events, next_none, next_some}
+use Rattle.sfv.proofs.visits.Loops.{Loop, VisitedSoFar, Wants, all_events, next_none, next_some}
 use Rattle.sfv.proofs.trees.Parameters.{any_run}
 
 -- What was read of a whole since the start, and what was built from it: `all front`.

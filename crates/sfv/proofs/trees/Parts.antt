@@ -1,7 +1,7 @@
 -- Items, inner lists and members that are built, by their parts.
 use Rattle.std.proofs.Common.{◌≡◌, ℕ, true, false, List, [], ◌∷◌, ◌++◌, map, None, Ok, Err, refl, sym, ap, ap₂, subst}
 use Rattle.std.proofs.Common.{◌∙◌}
-use Rattle.std.specs.Prelude.{⊤, Result, bytes_eq}
+use Rattle.std.specs.Prelude.{⊤, All, Result, bytes_eq}
 use Rattle.std.proofs.lemmas.List.{map-append}
 use Rattle.indexmap.specs.IndexMap.{insert_entry}
 use Rattle.std.specs.declared.alloc.Global.{Global}
@@ -10,15 +10,13 @@ use Rattle.sfv_spec.proofs.Marks.{left_parenthesis}
 use Rattle.sfv_spec.specs.Values.{BareValue, boolean, RawParameters, RawItem, RawMember, item, inner_list}
 use Rattle.sfv_spec.specs.declared.version.Version.{Version}
 use Rattle.sfv_spec.specs.Grammar.{true_with}
-use Rattle.sfv_spec.specs.Events.{TreeEvent, begins_item, begins_inner_list, bare_item, item_events, member_events, keyed_entry}
+use Rattle.sfv_spec.specs.Events.{TreeEvent, begins_item, begins_inner_list, bare_item, member_events, keyed_entry}
 use Rattle.sfv_spec.specs.Ordered.{collapse, ordered_item, ordered_member}
 use Rattle.sfv_base.specs.declared.error.ParseError.{ParseError}
-use Rattle.sfv_base.specs.declared.error.ParseError.TheVariants.{Syntax, Visitor}
 use Rattle.sfv_base.specs.declared.error.OutOfMemory.{OutOfMemory}
 use Rattle.sfv_reading.specs.Reader.{Answer, Reader, led, give, visited, ◌>>=◌, byte}
 use Rattle.sfv_reading.specs.Items.{key_at, parameter_event, parameter_at, parameters_at, item_at, item_of}
 use Rattle.sfv_reading.specs.Members.{inner_items_at, inner_at, inner_of, closed_events, member_at, member_value_at, keyed_at}
-use Rattle.sfv_reading.specs.Visits.{VisitorFails}
 use Rattle.sfv_reading.proofs.complete.Combinators.{bind_complete, led_complete}
 use Rattle.sfv_reading.proofs.sound.Many.{starts, is_done}
 use Rattle.sfv_reading.proofs.sound.Items.{Consumes-parameter}
@@ -29,11 +27,12 @@ use Rattle.sfv.specs.parser.Trees.{Any, AnyFails, Builds}
 use Rattle.sfv.specs.parser.Visits.{VisitsAnswer, IsOfVisitor}
 use Rattle.sfv.proofs.reads.Steps.{branch_true}
 use Rattle.sfv.proofs.visits.InnerLists.{member_list, member_item}
-use Rattle.sfv_tree.specs.Trees.{member_tree, list_tree, dictionary_tree}
-use Rattle.sfv_tree.specs.Seeds.{MemberHasSeed, ListHasSeed, EntriesHaveSeed}
+use Rattle.sfv_tree.specs.Trees.{item_tree, member_tree, list_tree, dictionary_tree}
+use Rattle.sfv_tree.specs.Seeds.{ItemHasSeed, MemberHasSeed, ListHasSeed, EntriesHaveSeed}
 use Rattle.sfv_tree.specs.declared.hash_seed.HashSeed.{HashSeed}
 use Rattle.sfv_tree.proofs.Entered.{dictionary_tree-insert}
 use Rattle.sfv_visitor.proofs.Seeded.{all_push, all_entered}
+use Rattle.sfv_tree.specs.declared.parsed.Item.{Item}
 use Rattle.sfv_tree.specs.declared.parsed.ListEntry.{ListEntry}
 use Rattle.sfv.proofs.reads.Errors.{kept_reads}
 use Rattle.sfv.proofs.visits.Keyed.{true_is, value_visits}
@@ -135,20 +134,34 @@ keyed_some version t q r key m e k =
     (bind_complete (member_value_at version) _ q r m k)
 
 -- after an equals sign
-pub value_builds : (before middle after : Cursor) (r : Result ListEntry (ParseError OutOfMemory))
-    → TakesIf (byte equals_sign) true (rest before) (rest middle) → kept middle ≡ kept before
-    → Builds member_tree ordered_member member_events middle after r member_at
-    → Builds member_tree ordered_member member_events before after r member_value_at
-value_builds before middle after (Ok m) takes same h = (
+pub value_builds : {X : Type 0} (view : X → RawMember) (before middle after : Cursor)
+    (r : Result X (ParseError OutOfMemory)) → TakesIf (byte equals_sign) true (rest before) (rest middle)
+    → kept middle ≡ kept before → Builds view ordered_member member_events middle after r member_at
+    → Builds view ordered_member member_events before after r member_value_at
+value_builds view before middle after (Ok m) takes same h = (
   h.0,
   value_some (version before) (rest before) (rest middle) (rest after) h.0 takes
       (kept_reads member_at (rest middle) (kept middle) (kept before) same ∙ h.1),
   h.2,
   h.3 ∙ same,
 )
-value_builds before middle after (Err e) takes same h =
+value_builds view before middle after (Err e) takes same h =
     value_visits Any AnyFails (version before) (rest before) (rest middle) tt tt (kept before) after (Err e) takes
     (kept_visits Any AnyFails member_events member_at middle after tt tt (kept before) (Err e) same h)
+
+-- ---- items of an inner list
+
+pub pushed_item : (old middle new : List Item) (i : Item) (raw : RawItem) → middle ≡ old → new ≡ middle ++ i ∷ []
+    → item_tree i ≡ ordered_item raw → map item_tree new ≡ map item_tree old ++ ordered_item raw ∷ []
+pushed_item old middle new i raw same add built =
+    ap (map item_tree) (add ∙ ap (λ (is : List Item). is ++ i ∷ []) same) ∙ map-append item_tree old (i ∷ [])
+    ∙ ap (λ (r : RawItem). map item_tree old ++ r ∷ []) built
+
+pub pushed_item_seed : (seed : HashSeed) (old middle new : List Item) (i : Item) → middle ≡ old
+    → new ≡ middle ++ i ∷ [] → ItemHasSeed seed i → All (ItemHasSeed seed) old → All (ItemHasSeed seed) new
+pushed_item_seed seed old middle new i same add one h =
+    subst (All (ItemHasSeed seed)) (sym (add ∙ ap (λ (is : List Item). is ++ i ∷ []) same))
+    (all_push (ItemHasSeed seed) old i one h)
 
 -- ---- members of a list
 

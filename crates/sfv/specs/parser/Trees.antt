@@ -1,13 +1,18 @@
 -- Results of parsing to a tree.
-use Rattle.std.specs.Prelude.{◌≡◌, ⊤, ℕ, List, map, Result, Ok, Err}
-use Rattle.sfv_spec.specs.Values.{RawMember}
+use Rattle.std.specs.Prelude.{◌≡◌, ⊤, ℕ, List, All, map, Result, Ok, Err}
+use Rattle.sfv_spec.specs.Values.{RawMember, item, inner_list}
 use Rattle.sfv_spec.specs.Ordered.{ordered_member}
 use Rattle.sfv_spec.specs.declared.version.Version.{Version}
 use Rattle.sfv_spec.specs.Events.{TreeEvent}
 use Rattle.sfv_base.specs.declared.error.ParseError.{ParseError}
 use Rattle.sfv_base.specs.declared.error.OutOfMemory.{OutOfMemory}
+use Rattle.sfv_tree.specs.Trees.{OwnedBareItem, item_with, inner_list_with}
+use Rattle.sfv_tree.specs.Seeds.{ItemHasSeed}
+use Rattle.sfv_tree.specs.declared.hash_seed.HashSeed.{HashSeed}
 use Rattle.sfv_reading.specs.Reader.{Reader}
 use Rattle.sfv.specs.declared.parser.cursor.Cursor.{Cursor}
+use Rattle.sfv.specs.declared.parser.tree.Head.{Head}
+use Rattle.sfv.specs.declared.parser.tree.Head.TheVariants as heads
 use Rattle.sfv.specs.parser.Cursor.{kept, version, rest}
 use Rattle.sfv.specs.parser.Visits.{VisitsAnswer}
 
@@ -32,3 +37,13 @@ Builds view collapsed parts before after (Err e) reader =
 -- each key with its member, whose keys are collapsed
 abbrev pub ordered_pairs : List (List ℕ × RawMember) → List (List ℕ × RawMember)
 ordered_pairs ms = map (λ m. (m.0, ordered_member m.1)) ms
+
+-- the member with these parameters
+abbrev pub head_tree : Head → List (List ℕ × OwnedBareItem) → RawMember
+head_tree (heads.Item value) params = item (item_with value params)
+head_tree (heads.InnerList items) params = inner_list (inner_list_with items.items params)
+
+-- the parameters of the items hash under this seed
+abbrev pub HeadHasSeed : HashSeed → Head → Type 0
+HeadHasSeed seed (heads.Item value) = ⊤
+HeadHasSeed seed (heads.InnerList items) = All (ItemHasSeed seed) items.items

@@ -15,9 +15,11 @@ ghost use Rattle.sfv_spec.specs.Events.{parameters_events, item_events, inner_it
 ghost use Rattle.sfv_spec.specs.Events.{entry_events, keyed_events};
 ghost use Rattle.sfv_bare.specs.BareItems.{bare_value, input_value};
 ghost use Rattle.sfv_text.specs.KeyText.{key_text};
-ghost use Rattle.sfv_tree.specs.Trees.{pairs_tree, item_tree, inner_list_tree, member_tree, list_tree, dictionary_tree};
-ghost use Rattle.sfv_tree.specs.Seeds.{ItemHasSeed, InnerListHasSeed, MemberHasSeed, ListHasSeed, EntriesHaveSeed};
+ghost use Rattle.sfv_tree.specs.Trees.{pairs_tree, item_with, item_tree, inner_list_with, member_tree, list_tree};
+ghost use Rattle.sfv_tree.specs.Trees.{dictionary_tree};
+ghost use Rattle.sfv_tree.specs.Seeds.{ItemHasSeed, MemberHasSeed, ListHasSeed, EntriesHaveSeed};
 ghost use Rattle.sfv_tree.specs.Seeds.{DictionaryHasSeed};
+ghost use Rattle.sfv_tree.specs.declared.hash_seed.HashSeed.{HashSeed};
 ghost use Rattle.sfv_reading.specs.Items.{parameters_at, item_at};
 ghost use Rattle.sfv_reading.specs.Members.{inner_item_at, inner_items_at, inner_at, member_at, member_value_at, entry_at, keyed_at};
 ghost use Rattle.sfv_reading.specs.Fields.{members_at};
@@ -25,7 +27,7 @@ ghost use Rattle.sfv.specs.Memory.{HasMoreThanSpaces, NeedsMoreThanSpaces};
 ghost use Rattle.sfv.specs.Parsers.{input_of, version_of, IsParseError};
 ghost use Rattle.sfv.specs.parser.Cursor.{rest};
 ghost use Rattle.sfv.specs.parser.Members.{after_begin};
-ghost use Rattle.sfv.specs.parser.Trees.{Builds, ordered_pairs};
+ghost use Rattle.sfv.specs.parser.Trees.{Builds, HeadHasSeed, head_tree, ordered_pairs};
 ghost use Rattle.sfv.specs.parser.Visits.{IsOfVisitor};
 
 use crate::parser::Parser;
@@ -38,6 +40,30 @@ use sfv_text::key_ref::KeyRef;
 use sfv_tree::parsed::{Dictionary, InnerList, Item, List, ListEntry, Parameters};
 use sfv_visitor::visitor::parameters::{MANY, fit};
 use std::alloc::Global;
+
+/// A member without its parameters.
+#[derive(Drop)]
+pub(crate) enum Head {
+    Item(BareItem),
+    InnerList(Vec<Item>),
+}
+
+impl Head {
+    /// Returns the member with these parameters.
+    #[inline(always)]
+    fn with_params(self, params: Parameters) -> ListEntry
+        ensures tree { member_tree result ≡ head_tree self params.entries }
+        ensures seed { (seed : HashSeed) → HeadHasSeed seed self → hasher_of params ≡ seed
+            → MemberHasSeed seed result }
+    {
+        match self {
+            Head::Item(bare_item) => ListEntry::Item(Item::with_params(bare_item, params)),
+            Head::InnerList(items) => {
+                ListEntry::InnerList(InnerList::with_params(items, params))
+            }
+        }
+    }
+}
 
 /// Makes room for one more element, if `is_needed` is true.
 #[inline(always)]
@@ -132,66 +158,74 @@ fn count_if<T>(needs_room: bool, items: &Vec<T>) -> usize
 }
 
 impl<'de> Cursor<'de> {
-    /// Parses parameters. Before each insertion, and at their end, there is room for one more element of `items`, if
-    /// `needs_room` is true. Then the unused memory of parameters is released after many items.
+    /// Parses parameters into `params`. Before each insertion, and at their end, there is room for one more element of
+    /// `items`, if `needs_room` is true. Then the unused memory of parameters is released after many items.
+    // The parameters are filled in place: a result that contains them is copied at each return.
     #[inline(never)]
     fn collect_parameters<T>(
         &mut self,
+        params: &mut Parameters,
         items: &mut Vec<T>,
         needs_room: bool,
-    ) -> Result<Parameters, ParseError<OutOfMemory>>
-        ensures tree { Builds (λ params. pairs_tree params.entries) collapse parameters_events
+    ) -> Result<(), ParseError<OutOfMemory>>
+        requires { params.old.entries ≡ [] }
+        ensures tree { Builds (λ _. pairs_tree params.new.entries) collapse parameters_events
             self.old self.new result parameters_at }
-        ensures seed { IfOk result (λ params. hasher_of params ≡ self.old.parser.seed) }
+        ensures seed { hasher_of params.new ≡ hasher_of params.old }
         ensures items { items.new.items ≡ items.old.items }
         ensures room { OnOk result (IsTrue needs_room → length items.new.items < vec_capacity items.new) }
     {
-        let mut params = Parameters::with_hasher(self.alloc, self.parser.seed);
         while let Some(parameter) = self.parameter()? {
             make_room(items, needs_room)?;
-            insert(self.alloc, &mut params, parameter)?;
+            insert(self.alloc, params, parameter)?;
         }
         make_room(items, needs_room)?;
-        fit_after(count_if(needs_room, items), &mut params);
-        Ok(params)
+        fit_after(count_if(needs_room, items), params);
+        Ok(())
     }
 
     /// Parses any number of parameters, as `collect_parameters` does.
     #[inline(always)]
     fn tree_parameters<T>(
         &mut self,
+        params: &mut Parameters,
         items: &mut Vec<T>,
         needs_room: bool,
-    ) -> Result<Parameters, ParseError<OutOfMemory>>
-        ensures tree { Builds (λ params. pairs_tree params.entries) collapse parameters_events
+    ) -> Result<(), ParseError<OutOfMemory>>
+        requires { params.old.entries ≡ [] }
+        ensures tree { Builds (λ _. pairs_tree params.new.entries) collapse parameters_events
             self.old self.new result parameters_at }
-        ensures seed { IfOk result (λ params. hasher_of params ≡ self.old.parser.seed) }
+        ensures seed { hasher_of params.new ≡ hasher_of params.old }
         ensures items { items.new.items ≡ items.old.items }
         ensures room { OnOk result (IsTrue needs_room → length items.new.items < vec_capacity items.new) }
     {
         if self.next_is(b';') {
-            return self.collect_parameters(items, needs_room);
+            return self.collect_parameters(params, items, needs_room);
         }
         make_room(items, needs_room)?;
-        Ok(Parameters::with_hasher(self.alloc, self.parser.seed))
+        Ok(())
     }
 
-    /// Parses an item, and makes room for one more element of `items` as `collect_parameters` does.
+    /// Parses an item: returns its bare item, and fills `params`. Makes room for one more element of `items` as
+    /// `collect_parameters` does.
     #[inline(always)]
     fn tree_item<T>(
         &mut self,
+        params: &mut Parameters,
         items: &mut Vec<T>,
         needs_room: bool,
-    ) -> Result<Item, ParseError<OutOfMemory>>
-        ensures tree { Builds item_tree ordered_item item_events self.old self.new result item_at }
-        ensures seed { IfOk result (ItemHasSeed self.old.parser.seed) }
+    ) -> Result<BareItem, ParseError<OutOfMemory>>
+        requires { params.old.entries ≡ [] }
+        ensures tree { Builds (λ bare_item. item_with bare_item params.new.entries) ordered_item item_events
+            self.old self.new result item_at }
+        ensures seed { hasher_of params.new ≡ hasher_of params.old }
         ensures items { items.new.items ≡ items.old.items }
         ensures room { OnOk result (IsTrue needs_room → length items.new.items < vec_capacity items.new) }
     {
         let bare_item = self.bare_item()?;
         let bare_item = own(bare_item, self.alloc)?;
-        let params = self.tree_parameters(items, needs_room)?;
-        Ok(Item::with_params(bare_item, params))
+        self.tree_parameters(params, items, needs_room)?;
+        Ok(bare_item)
     }
 
     /// Parses an item of an inner list, and appends it to `items`.
@@ -203,8 +237,9 @@ impl<'de> Cursor<'de> {
         ensures seed { OnOk result (All (ItemHasSeed self.old.parser.seed) items.old.items
             → All (ItemHasSeed self.old.parser.seed) items.new.items) }
     {
-        let item = self.tree_item(items, true)?;
-        items.push_reserved(item);
+        let mut params = Parameters::with_hasher(self.alloc, self.parser.seed);
+        let bare_item = self.tree_item(&mut params, items, true)?;
+        items.push_reserved(Item::with_params(bare_item, params));
         Ok(())
     }
 
@@ -230,47 +265,63 @@ impl<'de> Cursor<'de> {
         Ok(items)
     }
 
-    /// Parses an inner list after its opening parenthesis, with its parameters. `count` other members come before.
+    /// Parses an inner list after its opening parenthesis: returns its items, and fills `params`. `count` other members
+    /// come before.
     #[inline(never)]
-    fn tree_inner_list(&mut self, count: usize) -> Result<InnerList, ParseError<OutOfMemory>>
-        ensures tree { Builds (λ list. inner_list (inner_list_tree list)) ordered_member after_begin
-            self.old self.new result inner_at }
-        ensures seed { IfOk result (InnerListHasSeed self.old.parser.seed) }
+    fn tree_inner_list(
+        &mut self,
+        params: &mut Parameters,
+        count: usize,
+    ) -> Result<Vec<Item>, ParseError<OutOfMemory>>
+        requires { params.old.entries ≡ [] }
+        ensures tree { Builds (λ items. inner_list (inner_list_with items.items params.new.entries)) ordered_member
+            after_begin self.old self.new result inner_at }
+        ensures seed { hasher_of params.new ≡ hasher_of params.old }
+        ensures item_seeds { IfOk result (λ items. All (ItemHasSeed self.old.parser.seed) items.items) }
     {
         let mut items = self.tree_inner_items()?;
-        let mut params = self.tree_parameters(&mut items, false)?;
-        fit_after(count, &mut params);
-        Ok(InnerList::with_params(items, params))
+        self.tree_parameters(params, &mut items, false)?;
+        fit_after(count, params);
+        Ok(items)
     }
 
-    /// Parses an item or an inner list.
+    /// Parses an item or an inner list: returns it without its parameters, and fills `params`.
     #[inline(always)]
-    fn tree_member(&mut self) -> Result<ListEntry, ParseError<OutOfMemory>>
-        ensures tree { Builds member_tree ordered_member member_events self.old self.new result member_at }
-        ensures seed { IfOk result (MemberHasSeed self.old.parser.seed) }
+    fn tree_member(&mut self, params: &mut Parameters) -> Result<Head, ParseError<OutOfMemory>>
+        requires { params.old.entries ≡ [] }
+        ensures tree { Builds (λ head. head_tree head params.new.entries) ordered_member member_events
+            self.old self.new result member_at }
+        ensures seed { hasher_of params.new ≡ hasher_of params.old }
+        ensures item_seeds { IfOk result (HeadHasSeed self.old.parser.seed) }
     {
         if self.take_if(b'(') {
-            let list = self.tree_inner_list(0)?;
-            return Ok(ListEntry::InnerList(list));
+            let items = self.tree_inner_list(params, 0)?;
+            return Ok(Head::InnerList(items));
         }
         let mut none: Vec<Item> = Vec::new(self.alloc);
-        let item = self.tree_item(&mut none, false)?;
-        Ok(ListEntry::Item(item))
+        let bare_item = self.tree_item(params, &mut none, false)?;
+        Ok(Head::Item(bare_item))
     }
 
-    /// Parses the rest of a dictionary member after its key. Without `=`, the member is the item true.
+    /// Parses the rest of a dictionary member after its key, as `tree_member` does. Without `=`, the member is the item
+    /// true.
     #[inline(always)]
-    fn tree_member_value(&mut self) -> Result<ListEntry, ParseError<OutOfMemory>>
-        ensures tree { Builds member_tree ordered_member member_events self.old self.new result member_value_at }
-        ensures seed { IfOk result (MemberHasSeed self.old.parser.seed) }
+    fn tree_member_value(
+        &mut self,
+        params: &mut Parameters,
+    ) -> Result<Head, ParseError<OutOfMemory>>
+        requires { params.old.entries ≡ [] }
+        ensures tree { Builds (λ head. head_tree head params.new.entries) ordered_member member_events
+            self.old self.new result member_value_at }
+        ensures seed { hasher_of params.new ≡ hasher_of params.old }
+        ensures item_seeds { IfOk result (HeadHasSeed self.old.parser.seed) }
     {
         if self.take_if(b'=') {
-            return self.tree_member();
+            return self.tree_member(params);
         }
         let mut none: Vec<Item> = Vec::new(self.alloc);
-        let params = self.tree_parameters(&mut none, false)?;
-        let item = Item::with_params(GenericBareItem::Boolean(true), params);
-        Ok(ListEntry::Item(item))
+        self.tree_parameters(params, &mut none, false)?;
+        Ok(Head::Item(GenericBareItem::Boolean(true)))
     }
 
     /// Parses a member of a list, and appends it to `list`.
@@ -282,14 +333,15 @@ impl<'de> Cursor<'de> {
         ensures seed { OnOk result (ListHasSeed self.old.parser.seed list.old.items
             → ListHasSeed self.old.parser.seed list.new.items) }
     {
+        let mut params = Parameters::with_hasher(self.alloc, self.parser.seed);
         if self.take_if(b'(') {
             make_room(list, true)?;
-            let inner = self.tree_inner_list(list.len())?;
-            list.push_reserved(ListEntry::InnerList(inner));
+            let items = self.tree_inner_list(&mut params, list.len())?;
+            list.push_reserved(ListEntry::InnerList(InnerList::with_params(items, params)));
             return Ok(());
         }
-        let item = self.tree_item(list, true)?;
-        list.push_reserved(ListEntry::Item(item));
+        let bare_item = self.tree_item(&mut params, list, true)?;
+        list.push_reserved(ListEntry::Item(Item::with_params(bare_item, params)));
         Ok(())
     }
 
@@ -305,8 +357,9 @@ impl<'de> Cursor<'de> {
     {
         let key = self.key()?;
         let key = own_key(key, self.alloc)?;
-        let member = self.tree_member_value()?;
-        enter(dictionary, key, member)?;
+        let mut params = Parameters::with_hasher(self.alloc, self.parser.seed);
+        let head = self.tree_member_value(&mut params)?;
+        enter(dictionary, key, head.with_params(params))?;
         Ok(())
     }
 

@@ -1,6 +1,6 @@
 use Rattle.std.specs.Prelude.{is_some}
 use Rattle.sfv_reading.specs.Reader.{first}
-use Rattle.std.proofs.Common.{◌≡◌, ◌∙◌, true, ap, not, refl, sym, subst, [], Ok, Err}
+use Rattle.std.proofs.Common.{◌≡◌, ◌∙◌, true, ap, not, sym, subst, []}
 use Rattle.std.proofs.Common.{ℕ, List}
 use Rattle.std.proofs.lemmas.List.Elements.{All-nil}
 use Rattle.sfv_spec.specs.Events.{keyed_events}

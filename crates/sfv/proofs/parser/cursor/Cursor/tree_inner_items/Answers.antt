@@ -1,12 +1,11 @@
-use Rattle.std.proofs.Common.{◌≡◌, ◌∙◌, false, true, ap, map, not, refl, sym, subst, [], Ok, Err}
+use Rattle.std.proofs.Common.{◌≡◌, ◌∙◌, false, ap, map, not, sym, subst, []}
 use Rattle.std.specs.Prelude.{All, is_some}
 use Rattle.std.proofs.lemmas.List.Elements.{All-nil}
 use Rattle.sfv_spec.specs.Ordered.{ordered_item}
 use Rattle.sfv_tree.specs.Trees.{item_tree}
 use Rattle.sfv_tree.specs.Seeds.{ItemHasSeed}
 use Rattle.sfv_reading.specs.Reader.{first}
-use Rattle.sfv_reading.specs.Members.{inner_items_at}
-use Rattle.sfv.specs.parser.Cursor.{version, rest}
+use Rattle.sfv.specs.parser.Cursor.{rest}
 use Rattle.sfv.specs.parser.Trees.{Any, AnyFails}
 use Rattle.sfv.proofs.reads.Delimiters.{items_closed, items_first}
 use Rattle.sfv.proofs.reads.Errors.{left_with}

@@ -1,14 +1,8 @@
 use Rattle.std.proofs.Common.{◌∙◌, ap, map, sym, subst, Err}
 use Rattle.std.specs.Prelude.{All}
-use Rattle.std.specs.declared.alloc.Global.{Global}
-use Rattle.std.specs.declared.vec.Vec.{Vec}
-use Rattle.indexmap.specs.IndexMap.{hasher_of}
 use Rattle.sfv_spec.specs.Events.{parameters_events}
-use Rattle.sfv_spec.specs.Values.{inner_list}
 use Rattle.sfv_tree.specs.Trees.{item_tree, pairs_tree}
 use Rattle.sfv_tree.specs.Seeds.{ItemHasSeed}
-use Rattle.sfv_tree.specs.declared.parsed.Item.{Item}
-use Rattle.sfv.specs.declared.parser.Parser.{Parser}
 use Rattle.sfv_reading.specs.Items.{parameters_at}
 use Rattle.sfv_reading.specs.Members.{inner_of}
 use Rattle.sfv.specs.parser.Cursor.{kept, version, rest}
@@ -25,32 +19,27 @@ returns-in_err-items-clause-tree c =
     rw (left_with c.from_residual.ensures.1) (items_fail Any AnyFails (version c.args.self.now)
     (rest c.args.self.now) tt tt (kept c.args.self.now) c.tree_inner_items.new.self _ c.in_err-items.ensures.tree)
 
-pub returns-in_err-params-clause-tree : goal.returns-in_err-params-clause-tree
-returns-in_err-params-clause-tree c =
+pub returns-in_err-tree_parameters-clause-tree : goal.returns-in_err-tree_parameters-clause-tree
+returns-in_err-tree_parameters-clause-tree c =
     let read = c.in_ok-items.ensures.tree in
-    rw (left_with c.from_residual-in_err-params.ensures.1) (inner_list_visits Any AnyFails (version c.args.self.now)
+    rw (left_with c.from_residual-in_err-tree_parameters.ensures.1) (inner_list_visits Any AnyFails (version c.args.self.now)
     (rest c.args.self.now) (rest c.tree_inner_items.new.self) read.0 tt tt tt tt (kept c.args.self.now)
-    c.tree_parameters.new.self (Err c.in_err-params.field-0.0) read.1 (any_run _) tt
+    c.tree_parameters.new.self (Err c.in_err-tree_parameters.field-0.0) read.1 (any_run _) tt
     (kept_visits Any AnyFails parameters_events parameters_at c.tree_inner_items.new.self c.tree_parameters.new.self
-    tt tt _ (Err c.in_err-params.field-0.0) read.3 c.in_err-params.ensures.tree))
+    tt tt _ (Err c.in_err-tree_parameters.field-0.0) read.3 c.in_err-tree_parameters.ensures.tree))
 
 pub returns-clause-tree : goal.returns-clause-tree
 returns-clause-tree c =
     let read = c.in_ok-items.ensures.tree in
-    let built = c.in_ok-params.ensures.tree in (
+    let built = c.in_ok-tree_parameters.ensures.tree in (
       inner_of read.0 built.0,
       inner_some _ _ _ _ _ _ read.1 (kept_reads parameters_at _ _ _ read.3 ∙ built.1),
-      ap inner_list c.with_params.ensures.tree ∙ inner_list_parts _ _ _ _ (ap (map item_tree) c.in_ok-params.ensures.items ∙ read.2)
+      inner_list_parts _ _ _ _ (ap (map item_tree) c.in_ok-tree_parameters.ensures.items ∙ read.2)
           (ap pairs_tree c.fit_after.ensures.entries ∙ built.2),
       built.3 ∙ read.3,
     )
 
-pub returns-clause-seed : goal.returns-clause-seed
-returns-clause-seed c =
-    let seed = c.args.self.now.parser.seed in
-    let same = c.in_ok-items.ensures.tree.3 in (
-      ap hasher_of c.with_params.ensures.params ∙ c.fit_after.ensures.seed ∙ c.in_ok-params.ensures.seed
-          ∙ ap (λ (k : Parser × Global). k.0.seed) same,
-      subst (All (ItemHasSeed seed)) (sym (ap (λ (v : Vec Item Global). v.items) c.with_params.ensures.items
-          ∙ c.in_ok-params.ensures.items)) c.in_ok-items.ensures.seed,
-    )
+pub returns-clause-item_seeds : goal.returns-clause-item_seeds
+returns-clause-item_seeds c =
+    subst (All (ItemHasSeed c.args.self.now.parser.seed)) (sym c.in_ok-tree_parameters.ensures.items)
+    c.in_ok-items.ensures.seed

@@ -1,9 +1,8 @@
 use Rattle.std.specs.Prelude.{is_some}
 use Rattle.sfv_reading.specs.Reader.{first}
-use Rattle.std.proofs.Common.{◌≡◌, ◌∙◌, false, true, ap, not, refl, sym, subst, [], Ok, Err}
+use Rattle.std.proofs.Common.{◌≡◌, ◌∙◌, false, true, ap, not, sym, subst, [], Ok, Err}
 use Rattle.std.proofs.Common.{map}
 use Rattle.std.proofs.lemmas.List.Elements.{All-nil}
-use Rattle.sfv_spec.specs.Values.{RawMember}
 use Rattle.sfv_spec.specs.Events.{entry_events}
 use Rattle.sfv_spec.specs.Ordered.{ordered_member}
 use Rattle.sfv_tree.specs.Trees.{list_tree}

@@ -3,7 +3,7 @@ use Rattle.sfv_spec.specs.Events.{item_events}
 use Rattle.sfv_spec.specs.Values.{item}
 use Rattle.sfv_reading.specs.Items.{item_at}
 use Rattle.sfv_reading.specs.Members.{inner_at}
-use Rattle.sfv.specs.parser.Cursor.{kept, version, rest}
+use Rattle.sfv.specs.parser.Cursor.{kept, version}
 use Rattle.sfv.specs.parser.Members.{after_begin}
 use Rattle.sfv.specs.parser.Trees.{Any, AnyFails}
 use Rattle.sfv.proofs.reads.Errors.{left_with, kept_reads}
@@ -12,16 +12,16 @@ use Rattle.sfv.proofs.visits.Parts.{kept_visits}
 use Rattle.sfv.proofs.trees.Parts.{member_list_some, member_item_some}
 use Rattle.sfv.proofs.parser.cursor.Cursor.tree_member.Goals as goal
 
-pub returns-in_err-list-clause-tree : goal.returns-in_err-list-clause-tree
-returns-in_err-list-clause-tree c =
+pub returns-in_err-items-clause-tree : goal.returns-in_err-items-clause-tree
+returns-in_err-items-clause-tree c =
     rw (left_with c.from_residual.ensures.1) (list_member_visits Any AnyFails (version c.args.self.now) _ _ tt tt tt
-    (kept c.args.self.now) c.tree_inner_list.new.self (Err c.in_err-list.field-0.0) c.if-take_if.ensures.takes tt
+    (kept c.args.self.now) c.tree_inner_list.new.self (Err c.in_err-items.field-0.0) c.if-take_if.ensures.takes tt
     (kept_visits Any AnyFails after_begin inner_at c.take_if.new.self c.tree_inner_list.new.self tt tt _
-    (Err c.in_err-list.field-0.0) c.take_if.ensures.kept c.in_err-list.ensures.tree))
+    (Err c.in_err-items.field-0.0) c.take_if.ensures.kept c.in_err-items.ensures.tree))
 
 pub returns-then-take_if-clause-tree : goal.returns-then-take_if-clause-tree
 returns-then-take_if-clause-tree c =
-    let built = c.in_ok-list.ensures.tree in (
+    let built = c.in_ok-items.ensures.tree in (
       built.0,
       member_list_some _ _ _ _ _ c.if-take_if.ensures.takes (kept_reads inner_at _ _ _ c.take_if.ensures.kept
           ∙ built.1),
@@ -29,17 +29,17 @@ returns-then-take_if-clause-tree c =
       built.3 ∙ c.take_if.ensures.kept,
     )
 
-pub returns-in_err-item-clause-tree : goal.returns-in_err-item-clause-tree
-returns-in_err-item-clause-tree c =
-    rw (left_with c.from_residual-in_err-item.ensures.1) (item_member_visits Any AnyFails (version c.args.self.now)
-    _ _ tt tt tt (kept c.args.self.now) c.tree_item.new.self (Err c.in_err-item.field-0.0)
+pub returns-in_err-bare_item-clause-tree : goal.returns-in_err-bare_item-clause-tree
+returns-in_err-bare_item-clause-tree c =
+    rw (left_with c.from_residual-in_err-bare_item.ensures.1) (item_member_visits Any AnyFails (version c.args.self.now)
+    _ _ tt tt tt (kept c.args.self.now) c.tree_item.new.self (Err c.in_err-bare_item.field-0.0)
     c.if-take_if.ensures.takes tt
     (kept_visits Any AnyFails item_events item_at c.take_if.new.self c.tree_item.new.self tt tt _
-    (Err c.in_err-item.field-0.0) c.take_if.ensures.kept c.in_err-item.ensures.tree))
+    (Err c.in_err-bare_item.field-0.0) c.take_if.ensures.kept c.in_err-bare_item.ensures.tree))
 
 pub returns-clause-tree : goal.returns-clause-tree
 returns-clause-tree c =
-    let built = c.in_ok-item.ensures.tree in (
+    let built = c.in_ok-bare_item.ensures.tree in (
       item built.0,
       member_item_some _ _ _ _ _ c.if-take_if.ensures.takes (kept_reads item_at _ _ _ c.take_if.ensures.kept
           ∙ built.1),

@@ -25,4 +25,4 @@ unfolding collapse
 returns-clause-tree g c =
     let t = rest c.args.self.now in
     let none = parameter_none (version c.args.self.now) t t (refl, c.if-next_is.ensures) in
-    ([], no_parameters (version c.args.self.now) t none, ap pairs_tree c.with_hasher.ensures.empty, refl)
+    ([], no_parameters (version c.args.self.now) t none, ap pairs_tree c.requires, refl)
