@@ -1,0 +1,46 @@
+//! Numbers that a seed determines (the generator SplitMix64).
+
+/// A source of numbers.
+pub struct Random {
+    state: u64,
+}
+
+impl Random {
+    /// Creates the source of this seed.
+    pub fn new(seed: u64) -> Random {
+        Random { state: seed }
+    }
+
+    /// Returns the next number.
+    pub fn next(&mut self) -> u64 {
+        self.state = self.state.wrapping_add(0x9e37_79b9_7f4a_7c15);
+        let mixed = (self.state ^ (self.state >> 30)).wrapping_mul(0xbf58_476d_1ce4_e5b9);
+        let mixed = (mixed ^ (mixed >> 27)).wrapping_mul(0x94d0_49bb_1331_11eb);
+        mixed ^ (mixed >> 31)
+    }
+
+    /// Returns a number below a billion.
+    pub fn number(&mut self) -> u32 {
+        (self.next() % 1_000_000_000) as u32
+    }
+
+    /// Returns a decimal digit.
+    pub fn digit(&mut self) -> u8 {
+        b'0' + (self.next() % 10) as u8
+    }
+
+    /// Returns a lower-case letter.
+    pub fn letter(&mut self) -> u8 {
+        b'a' + (self.next() % 26) as u8
+    }
+
+    /// Returns a letter, which is a symbol of Base64.
+    pub fn symbol(&mut self) -> u8 {
+        let place = (self.next() % 26) as u8;
+        if self.next() % 2 == 0 {
+            b'a' + place
+        } else {
+            b'A' + place
+        }
+    }
+}
