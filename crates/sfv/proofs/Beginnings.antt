@@ -1,19 +1,24 @@
 -- Where no field begins, the fault of its first part is that of the field.
-use Rattle.std.proofs.Common.{◌≡◌, ℕ, ◌≤◌, List, length, drop, Option, Some, None, Ok, Err, ap, subst, ◌∙◌}
-use Rattle.std.specs.Prelude.{MatchOption, Result, IfErr}
+use Rattle.std.proofs.Common.{◌≡◌, ℕ, ◌≤◌, true, List, [], ◌∷◌, length, drop, Option, Some, None, Ok, Err, ap, subst, ◌∙◌}
+use Rattle.std.specs.Prelude.{MatchOption, is_some, Result, IfErr}
 use Rattle.std.specs.declared.alloc.Global.{Global}
 use Rattle.std.proofs.lemmas.Result.{IfErr-weaker}
+use Rattle.sfv_spec.proofs.Marks.{left_parenthesis}
 use Rattle.sfv_spec.specs.Classes.{is_space, is_token_start}
 use Rattle.sfv_spec.specs.declared.field_kind.FieldKind.{FieldKind}
-use Rattle.sfv_spec.specs.declared.field_kind.FieldKind.TheVariants.{Item as item_field}
+use Rattle.sfv_spec.specs.declared.field_kind.FieldKind.TheVariants.{Item as item_field, List as list_field}
+use Rattle.sfv_spec.specs.declared.field_kind.FieldKind.TheVariants.{Dictionary as dictionary_field}
 use Rattle.sfv_spec.specs.declared.version.Version.{Version}
+use Rattle.sfv_spec.specs.Events.{TreeEvent, entry, begins_item, events, entry_events, keyed_events}
 use Rattle.sfv_base.specs.declared.error.Error.{Error}
 use Rattle.sfv_spec.specs.declared.error_kind.ErrorKind.{ErrorKind}
 use Rattle.sfv_spec.specs.declared.error_kind.ErrorKind.TheVariants.{ExpectedStartOfBareItem}
-use Rattle.sfv_reading.specs.Reader.{Answer, Apart, span}
+use Rattle.sfv_reading.specs.Reader.{Answer, Apart, first, byte, span, led, led_answer}
 use Rattle.sfv_reading.specs.Bare.{bare_at}
-use Rattle.sfv_reading.specs.Items.{item_at}
-use Rattle.sfv_reading.specs.Fields.{read_field}
+use Rattle.sfv_reading.specs.Items.{key_at, item_at}
+use Rattle.sfv_reading.specs.Members.{member_at, entry_at, keyed_at}
+use Rattle.sfv_reading.specs.Fields.{whole_field_at, read_field}
+use Rattle.sfv_reading.proofs.complete.Combinators.{branch_past}
 use Rattle.sfv.specs.Parsers.{IsParseError}
 use Rattle.sfv.specs.Memory.{IsRefusal}
 use Rattle.sfv.specs.declared.parser.Parser.{Parser}
@@ -23,17 +28,35 @@ use Rattle.sfv.specs.parser.Cursor.{IsFaultOf}
 use Rattle.sfv.proofs.Parsed.{parse_error}
 use Rattle.sfv.proofs.reads.Errors.{fault_bind}
 use Rattle.sfv.proofs.reads.Steps.{NoOpener, bare_token, token_none}
-use Rattle.sfv.proofs.visits.Whole.{field_faulty}
+use Rattle.sfv.proofs.reads.Delimiters.{first_of, members_first}
+use Rattle.sfv.proofs.visits.Whole.{ending_located, field_faulty}
 
 -- no byte stands next that a bare item begins with
 pub bare_none : (version : Version) (t : List ℕ) → NoOpener t → Apart is_token_start t
     → located (bare_at version t) ≡ Err (ExpectedStartOfBareItem, t)
 bare_none version t opener token = ap located (bare_token version t opener) ∙ token_none t token
 
+led_located : {A : Type 0} (es : List TreeEvent) (a : Answer A) (k : ErrorKind) (q : List ℕ) → located a ≡ Err (k, q)
+    → located (led_answer es a) ≡ Err (k, q)
+led_located es (Ok x) k q h = absurd cc
+led_located es (Err f) k q h = h
+
 item_none : (version : Version) (t : List ℕ) (k : ErrorKind) (q : List ℕ) → located (bare_at version t) ≡ Err (k, q)
     → located (item_at version t) ≡ Err (k, q)
 unfolding item_at
 item_none version t k q h = fault_bind (bare_at version) _ t k q h
+
+entry_none : (version : Version) (t : List ℕ) (k : ErrorKind) (q : List ℕ) → Apart (byte left_parenthesis) t
+    → located (bare_at version t) ≡ Err (k, q) → located (entry_at version t) ≡ Err (k, q)
+unfolding entry_at member_at led
+entry_none version t k q apart h =
+    led_located (entry ∷ []) _ k q (ap located (branch_past _ _ _ t apart)
+    ∙ led_located (begins_item ∷ []) _ k q (fault_bind (item_at version) _ t k q (item_none version t k q h)))
+
+keyed_none : (version : Version) (t : List ℕ) (k : ErrorKind) (q : List ℕ) → located (key_at t) ≡ Err (k, q)
+    → located (keyed_at version t) ≡ Err (k, q)
+unfolding keyed_at
+keyed_none version t k q h = fault_bind key_at _ t k q h
 
 -- the error of a part is that of the whole, where the whole is at fault with it
 carried : {A : Type 0} (version : Version) (kind : FieldKind) (t : List ℕ) (e : Error) (a : Answer A)
@@ -52,6 +75,24 @@ no_item : (version : Version) (t s r : List ℕ) (e : Error) → span is_space t
 no_item version t s r e skipped fault = carried version item_field t e (bare_at version r)
     (λ k q h. field_faulty version t s r k q skipped (item_none version r k q h)) fault
 
+no_list : (version : Version) (t s r : List ℕ) (e : Error) → span is_space t ≡ Ok (s, r)
+    → is_some (first r) ≡ true → Apart (byte left_parenthesis) r
+    → IsFaultOf t e (bare_at version r) → IsParseError version list_field t e
+unfolding read_field whole_field_at first_of
+no_list version t s r e skipped some apart fault = carried version list_field t e (bare_at version r)
+    (λ k q h. ending_located (events list_field) _ k q
+    (ap located (members_first entry_events (entry_at version) t s r skipped some)
+    ∙ fault_bind (entry_at version) _ r k q (entry_none version r k q apart h))) fault
+
+pub no_dictionary : (version : Version) (t s r : List ℕ) (e : Error) → span is_space t ≡ Ok (s, r)
+    → is_some (first r) ≡ true
+    → IsFaultOf t e (key_at r) → IsParseError version dictionary_field t e
+unfolding read_field whole_field_at first_of
+no_dictionary version t s r e skipped some fault = carried version dictionary_field t e (key_at r)
+    (λ k q h. ending_located (events dictionary_field) _ k q
+    (ap located (members_first keyed_events (keyed_at version) t s r skipped some)
+    ∙ fault_bind (keyed_at version) _ r k q (keyed_none version r k q h))) fault
+
 -- what a look at the cursor found is found in what the cursor keeps
 found : (k : Parser × Global) (c : Cursor) (e : Error) → kept c ≡ k
     → IsFaultOf (input c) e (bare_at (version c) (rest c))
@@ -65,4 +106,13 @@ pub item_refused : (k : Parser × Global) (c : Cursor) (s : List ℕ) (result : 
     → IfErr result (IsParseError (kept_version k) item_field (kept_input k))
 item_refused k c s result same skipped =
     IfErr-weaker result _ _ (λ e fault. no_item (kept_version k) (kept_input k) s (rest c) e skipped
+    (found k c e same fault))
+
+pub list_refused : (k : Parser × Global) (c : Cursor) (s : List ℕ) (result : Result (Unit {0}) Error) → kept c ≡ k
+    → span is_space (kept_input k) ≡ Ok (s, rest c) → is_some (first (rest c)) ≡ true
+    → Apart (byte left_parenthesis) (rest c)
+    → IfErr result (λ e. IsFaultOf (input c) e (bare_at (version c) (rest c)))
+    → IfErr result (IsParseError (kept_version k) list_field (kept_input k))
+list_refused k c s result same skipped some apart =
+    IfErr-weaker result _ _ (λ e fault. no_list (kept_version k) (kept_input k) s (rest c) e skipped some apart
     (found k c e same fault))

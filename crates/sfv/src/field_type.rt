@@ -18,7 +18,10 @@ ghost use Rattle.sfv_writer.specs.Versions.{ChecksVersionFirst};
 ghost use Rattle.sfv.specs.Parsers.{input_of, version_of, IsParseError};
 ghost use Rattle.sfv.specs.Memory.{NeedsMoreThanSpaces};
 
-use crate::parser::{Parser, expect_item_start, parse_dictionary, parse_list};
+use crate::parser::{
+    Parser, expect_dictionary_start, expect_item_start, expect_list_start, parse_dictionary,
+    parse_list,
+};
 use sfv_base::error::{Error, OutOfMemory, ParseError};
 use sfv_spec::version::Version;
 use sfv_tree::parsed::{Dictionary, Item, List};
@@ -155,6 +158,7 @@ impl FieldType for List {
     ghost into_written = { λ result text same. ap (option_map string_bytes) same };
 
     fn parse(alloc: Global, parser: Parser<'_>) -> Result<List, Error> {
+        expect_list_start(parser, alloc)?;
         parse_list(parser, alloc)
     }
 
@@ -187,6 +191,7 @@ impl FieldType for Dictionary {
     ghost into_written = { λ result text same. ap (option_map string_bytes) same };
 
     fn parse(alloc: Global, parser: Parser<'_>) -> Result<Dictionary, Error> {
+        expect_dictionary_start(parser, alloc)?;
         parse_dictionary(parser, alloc)
     }
 

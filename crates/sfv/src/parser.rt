@@ -35,7 +35,7 @@ mod tree;
 mod visit;
 
 use field::{parse_item_field, parse_members_field};
-pub(crate) use first_byte::expect_item_start;
+pub(crate) use first_byte::{expect_dictionary_start, expect_item_start, expect_list_start};
 use member::{Entry, KeyedEntry};
 pub(crate) use tree::{parse_dictionary, parse_list};
 

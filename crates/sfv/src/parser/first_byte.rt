@@ -1,7 +1,8 @@
-//! Early rejection of items: tests the first byte that is not a space, before a builder is created.
+//! Early rejection: tests the first byte that is not a space, before anything is built.
 
 ghost use Rattle.std.specs.Prelude.{IfErr};
-ghost use Rattle.sfv_spec.specs.declared.field_kind.FieldKind.TheVariants.{Item as item_field};
+ghost use Rattle.sfv_spec.specs.declared.field_kind.FieldKind.TheVariants.{Item as item_field, List as list_field};
+ghost use Rattle.sfv_spec.specs.declared.field_kind.FieldKind.TheVariants.{Dictionary as dictionary_field};
 ghost use Rattle.sfv_reading.specs.Bare.{bare_at};
 ghost use Rattle.sfv.specs.Parsers.{input_of, version_of, IsParseError};
 ghost use Rattle.sfv.specs.Memory.{NeedsMoreThanSpaces};
@@ -41,4 +42,38 @@ pub(crate) fn expect_item_start(parser: Parser<'_>, alloc: Global) -> Result<(),
     let mut cursor = Cursor::new(parser, alloc);
     cursor.skip_sp();
     cursor.expect_bare_item_start()
+}
+
+/// Fails if, after leading spaces, neither a list member begins nor the input ends.
+#[inline(always)]
+pub(crate) fn expect_list_start(parser: Parser<'_>, alloc: Global) -> Result<(), Error>
+    ensures rejected { IfErr result (IsParseError (version_of parser.entry) list_field (input_of parser.entry)) }
+    ensures memory { IfErr result (NeedsMoreThanSpaces (input_of parser.entry)) }
+{
+    let mut cursor = Cursor::new(parser, alloc);
+    cursor.skip_sp();
+    if cursor.peek().is_none() {
+        return Ok(());
+    }
+    if cursor.next_is(b'(') {
+        return Ok(());
+    }
+    cursor.expect_bare_item_start()
+}
+
+/// Fails if, after leading spaces, neither a key begins nor the input ends.
+#[inline(always)]
+pub(crate) fn expect_dictionary_start(parser: Parser<'_>, alloc: Global) -> Result<(), Error>
+    ensures rejected { IfErr result (IsParseError (version_of parser.entry) dictionary_field (input_of parser.entry)) }
+    ensures memory { IfErr result (NeedsMoreThanSpaces (input_of parser.entry)) }
+{
+    let mut cursor = Cursor::new(parser, alloc);
+    cursor.skip_sp();
+    if cursor.peek().is_none() {
+        return Ok(());
+    }
+    if cursor.next_is_key_start() {
+        return Ok(());
+    }
+    Err(cursor.error(ErrorKind::ExpectedStartOfKey))
 }

@@ -411,6 +411,7 @@ impl<'de> Cursor<'de> {
 /// # Errors
 ///
 /// Returns the errors of `Parser::parse`.
+#[inline(never)]
 pub(crate) fn parse_list(parser: Parser<'_>, alloc: Global) -> Result<List, Error>
     ensures read { IfOk result (λ list.
         IsParsedAs (version_of parser.entry) list_field (input_of parser.entry) (list_tree list.items)) }
@@ -431,6 +432,7 @@ pub(crate) fn parse_list(parser: Parser<'_>, alloc: Global) -> Result<List, Erro
 /// # Errors
 ///
 /// Returns the errors of `Parser::parse`.
+#[inline(never)]
 pub(crate) fn parse_dictionary(parser: Parser<'_>, alloc: Global) -> Result<Dictionary, Error>
     ensures read { IfOk result (λ dictionary. IsParsedAs (version_of parser.entry) dictionary_field
         (input_of parser.entry) (dictionary_tree dictionary.entries)) }
