@@ -161,7 +161,7 @@ fn main() -> ExitCode {
         }
         None => {
             eprintln!("{job}: no such job");
-            ExitCode::from(2)
+            ExitCode::from(3)
         }
     }
 }

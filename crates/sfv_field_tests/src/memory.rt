@@ -2,6 +2,7 @@
 
 use linked_list_allocator::LocalHeap;
 use sfv::{Item, OutOfMemory, Parser};
+use sfv_writer::output::serialize_separator;
 use sfv_writer::serialize_item;
 use std::alloc::Global;
 
@@ -58,4 +59,32 @@ fn items_are_written_or_refused_and_the_old_text_stays(rt: HostRuntime) {
     for &text in ITEMS {
         assert!(rt; is_written_or_refused(rt.alloc(), text), "{text}");
     }
+}
+
+/// Requests the first memory of a text on a heap of this size, and appends a short text. Returns whether the heap
+/// refused the request. Returns `None` if the heap is too small for the short text, too.
+fn is_first_memory_refused(alloc: Global, size: usize) -> Option<bool> {
+    let heap = LocalHeap::new(alloc, size).ok()?;
+    let mut text = String::new(&heap);
+    serialize_separator(true, ", ", &mut text).ok()?;
+    let is_refused = text.capacity() == 0;
+    text.push_str("u=1").ok()?;
+    if text.as_str() == "u=1" {
+        Some(is_refused)
+    } else {
+        None
+    }
+}
+
+#[test]
+fn a_short_text_is_written_without_its_first_memory(rt: HostRuntime) {
+    let (mut was_refused, mut was_granted) = (false, false);
+    for size in SIZES {
+        match is_first_memory_refused(rt.alloc(), size) {
+            Some(true) => was_refused = true,
+            Some(false) => was_granted = true,
+            None => {}
+        }
+    }
+    assert!(rt; was_refused && was_granted);
 }

@@ -108,14 +108,6 @@ pub record IsEncodedUpTo {Z : Type 0} (before : String Z) (input rest : List ℕ
   pub whole : base64_text input ≡ done ++ base64_text rest
   pub grown : string_capacity before ≤ string_capacity output
 
-pub none_encoded : {Z : Type 0} (before : String Z) (input : List ℕ) → IsEncodedUpTo before input input before
-none_encoded before input = record {
-  done = [];
-  text = sym (append-nil (string_bytes before));
-  whole = refl;
-  grown = omega arith;
-}
-
 -- some bytes more are encoded
 pub more_encoded : {Z : Type 0} (before output new : String Z) (input rest part after : List ℕ)
     → IsEncodedUpTo before input rest output → base64_text rest ≡ part ++ base64_text after

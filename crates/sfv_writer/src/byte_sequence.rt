@@ -68,6 +68,7 @@ fn push_ascii<A: Allocator>(text: &[u8], output: &mut String<A>) -> Result<(), O
     ensures text { AppendsOrKeeps output.old output.new text.now result }
     ensures room { AsksForRoom output.old output.new text.now result }
 {
+    // SAFETY: the text is ASCII.
     output.push_str(unsafe { std::str::from_utf8_unchecked(text) })?;
     Ok(())
 }
