@@ -130,7 +130,7 @@ impl FieldType for Item {
     }
 
     fn serialize(&self, alloc: Global) -> Result<StdString, OutOfMemory> {
-        // An estimate: most items need no second allocation.
+        // An estimate: most short items need no second allocation.
         let capacity = 32 + 24 * self.params.len().min(100);
         let mut text = StdString::with_capacity(alloc, capacity)?;
         serialize_item(self, &mut text)?;

@@ -9,8 +9,8 @@ use std::string::String as StdString;
 
 /// Creates an empty text for a list or a dictionary with this number of members, allocated from `alloc`.
 ///
-/// The capacity is an estimate from the number of members, of which it counts at most 1000. Most texts need no second
-/// allocation.
+/// The capacity is an estimate from the number of members, of which it counts at most 1000. Most short texts need no
+/// second allocation.
 pub(crate) fn text_for_members(members: usize, alloc: Global) -> Result<StdString, OutOfMemory>
     ensures bytes { IfOk result (λ text. string_bytes text ≡ []) }
     ensures room { IfOk result (λ text. 64 ≤ string_capacity text) }
