@@ -5,7 +5,6 @@ pub mod Unique
 pub mod Invalid
 pub mod Valid
 pub mod Accepted
-pub mod Reached
 pub mod RowEvents
 pub mod WrongRows
 pub mod Fields

@@ -1,17 +1,13 @@
 -- Rows and the events that they are.
-use Rattle.std.proofs.Common.{◌≡◌, ℕ, ℤ, suc, ◌<◌, ◌≤◌, List, [], ◌∷◌, ◌++◌, length, drop, get_or, refl, sym, ◌∙◌, ap, subst, arith}
-use Rattle.std.proofs.Math.Seq.{drop-cons}
-use Rattle.std.proofs.Math.ListN.{drop_of_length-le}
-use Rattle.std.proofs.lemmas.List.{append-nil}
+use Rattle.std.proofs.Common.{◌≡◌, ℕ, ℤ, zero, suc, ◌+◌, ◌<◌, List, [], ◌∷◌, ◌++◌, length, take, refl, sym, ◌∙◌, ap, subst, arith}
 use Rattle.sfv.specs.Events.{TreeEvent}
 use Rattle.sfv_c.specs.declared.rows.Row.{Row}
 use Rattle.sfv_c.specs.Rows.{EventNumbers, numbers_of}
 use Rattle.sfv_c.specs.Writing.{IsRowOf, IsRowOfNumbers, AreRowsOf}
-use Rattle.sfv_c.specs.RowEvents.{IsValidEvent, AreEventsOf}
+use Rattle.sfv_c.specs.RowEvents.{IsValidEvent, Reads}
 use Rattle.sfv_c.proofs.Unique.{same_event}
 use Rattle.sfv_c.proofs.Valid.{AreValid}
 
--- a row is that of one event alone
 made_of : ℕ → List ℕ → ℕ → ℤ → List ℕ → EventNumbers
 made_of t k n z b = record { tag = t; key = k; value = record { kind = n; number = z; bytes = b } }
 
@@ -34,50 +30,67 @@ same_row bytes row p q h k =
     (sym h.value.text_there ∙ k.value.text_there)
     ∙ made_whole q)
 
+-- a row is that of one event alone
+pub only_event : (bytes : List ℕ) (row : Row) (a b : TreeEvent) → IsRowOf bytes row a → IsRowOf bytes row b → a ≡ b
+only_event bytes row a b h k = same_event a b (same_row bytes row (numbers_of a) (numbers_of b) h k)
+
 module _ (bytes : List ℕ) where
-  pub only_events : (rows : List Row) (es others : List TreeEvent) → AreEventsOf bytes rows es → AreValid others
-      → AreRowsOf bytes rows others → (others ≡ es) × (length es ≡ length rows)
-  only_events [] [] [] d v h = (refl, refl)
-  only_events [] [] (o ∷ os) d v h = absurd h
-  only_events [] (e ∷ es) os d v h = absurd d
-  only_events (r ∷ rs) [] [] d v h = absurd h
-  only_events (r ∷ rs) [] (o ∷ os) d v h = absurd (d o v.0 h.0)
-  only_events (r ∷ rs) (e ∷ es) [] d v h = absurd h
-  only_events (r ∷ rs) (e ∷ es) (o ∷ os) d v h =
-      let i = only_events rs es os d.2 v.1 h.1 in
-      let x : o ≡ e = same_event o e (same_row bytes r (numbers_of o) (numbers_of e) h.0 d.1) in
-      let y = i.0 in
-      (cc, ap suc i.1)
+  -- further
+  pub reads_on : (rows : List Row) (es : List TreeEvent) (mid : List Row) (more : List TreeEvent) (rest : List Row)
+      → Reads bytes rows es mid → Reads bytes mid more rest → Reads bytes rows (es ++ more) rest
+  reads_on rows [] mid more rest h k = subst (λ (r : List Row). Reads bytes r more rest) (sym h) k
+  reads_on [] (e ∷ es) mid more rest h k = absurd h
+  reads_on (r ∷ rs) (e ∷ es) mid more rest h k = (h.0, h.1, reads_on rs es mid more rest h.2 k)
 
-  pub few_events : (rows : List Row) (es : List TreeEvent) → AreEventsOf bytes rows es → length es ≤ length rows
-  few_events [] [] d = omega arith
-  few_events [] (e ∷ es) d = absurd d
-  few_events (r ∷ rs) [] d = omega arith
-  few_events (r ∷ rs) (e ∷ es) d = omega (arith, few_events rs es d.2)
+  pub reads_one : (row : Row) (rest : List Row) (e : TreeEvent) → IsValidEvent e → IsRowOf bytes row e
+      → Reads bytes (row ∷ rest) (e ∷ []) rest
+  reads_one row rest e v h = (v, h, refl)
 
-  pub whole_rows : (rows : List Row) (es : List TreeEvent) → AreEventsOf bytes rows es → length es ≡ length rows
-      → AreRowsOf bytes rows es
-  whole_rows [] [] d h = tt
-  whole_rows [] (e ∷ es) d h = absurd d
-  whole_rows (r ∷ rs) [] d h = absurd (omega (arith, h))
-  whole_rows (r ∷ rs) (e ∷ es) d h = (d.1, whole_rows rs es d.2 (omega (arith, h)))
+  pub reads_length : (rows : List Row) (es : List TreeEvent) (rest : List Row) → Reads bytes rows es rest
+      → length rows ≡ length es + length rest
+  reads_length rows [] rest h = omega (arith, ap length h)
+  reads_length [] (e ∷ es) rest h = absurd h
+  reads_length (r ∷ rs) (e ∷ es) rest h = omega (arith, reads_length rs es rest h.2)
 
-  pub valid_events : (rows : List Row) (es : List TreeEvent) → AreEventsOf bytes rows es → AreValid es
-  valid_events [] [] d = tt
-  valid_events [] (e ∷ es) d = absurd d
-  valid_events (r ∷ rs) [] d = tt
-  valid_events (r ∷ rs) (e ∷ es) d = (d.0, valid_events rs es d.2)
+  pub reads_shrinks : (rows : List Row) (e : TreeEvent) (rest : List Row) (es : List TreeEvent) (left : List Row)
+      → Reads bytes rows (e ∷ []) rest → Reads bytes rest es left → length left < length rows
+  reads_shrinks rows e rest es left h k =
+      omega (arith, reads_length rows (e ∷ []) rest h, reads_length rest es left k)
 
-  -- where reading the rows ends
-  pub no_more : (rows : List Row) (es : List TreeEvent) (at : ℕ) (row : Row) → at < length rows
-      → ((e : TreeEvent) → IsValidEvent e → ¬ IsRowOf bytes (get_or rows at row) e)
-      → ((more : List TreeEvent) → AreEventsOf bytes (drop at rows) more → AreEventsOf bytes rows (es ++ more))
-      → AreEventsOf bytes rows es
-  no_more rows es at row h n inv = subst (AreEventsOf bytes rows) (append-nil es)
-      (inv [] (subst (λ r. AreEventsOf bytes r []) (sym (drop-cons rows at row h)) n))
+  pub reads_valid : (rows : List Row) (es : List TreeEvent) (rest : List Row) → Reads bytes rows es rest → AreValid es
+  reads_valid rows [] rest h = tt
+  reads_valid [] (e ∷ es) rest h = absurd h
+  reads_valid (r ∷ rs) (e ∷ es) rest h = (h.0, reads_valid rs es rest h.2)
 
-  pub no_row_more : (rows : List Row) (es : List TreeEvent) (at : ℕ) → length rows ≤ at
-      → ((more : List TreeEvent) → AreEventsOf bytes (drop at rows) more → AreEventsOf bytes rows (es ++ more))
-      → AreEventsOf bytes rows es
-  no_row_more rows es at h inv = subst (AreEventsOf bytes rows) (append-nil es)
-      (inv [] (subst (λ r. AreEventsOf bytes r []) (sym (drop_of_length-le rows h)) tt))
+  pub reads_rows : (rows : List Row) (es : List TreeEvent) → Reads bytes rows es [] → AreRowsOf bytes rows es
+  reads_rows [] [] h = tt
+  reads_rows (r ∷ rs) [] h = absurd (cc)
+  reads_rows [] (e ∷ es) h = absurd h
+  reads_rows (r ∷ rs) (e ∷ es) h = (h.1, reads_rows rs es h.2)
+
+  pub rows_length : (rows : List Row) (es : List TreeEvent) → AreRowsOf bytes rows es → length rows ≡ length es
+  rows_length [] [] h = refl
+  rows_length [] (e ∷ es) h = absurd h
+  rows_length (r ∷ rs) [] h = absurd h
+  rows_length (r ∷ rs) (e ∷ es) h = omega (arith, rows_length rs es h.1)
+
+  -- the rows that are read, and so many more
+  pub reads_taken : (rows : List Row) (es : List TreeEvent) (rest : List Row) (k n : ℕ) → n ≡ length es + k
+      → Reads bytes rows es rest → Reads bytes (take n rows) es (take k rest)
+  reads_taken rows [] rest k n q h = subst (λ (m : ℕ). take m rows ≡ take k rest) (omega (arith, q)) (ap (take k) h)
+  reads_taken [] (e ∷ es) rest k n q h = absurd h
+  reads_taken (r ∷ rs) (e ∷ es) rest k zero q h = absurd (omega (arith, q))
+  reads_taken (r ∷ rs) (e ∷ es) rest k (suc m) q h = (h.0, h.1, reads_taken rs es rest k m (omega (arith, q)) h.2)
+
+  -- all rows that were read have the events that they were read as
+  pub read_alike : (rows : List Row) (es : List TreeEvent) (rest : List Row) (others : List TreeEvent)
+      → Reads bytes rows es rest → AreValid others → AreRowsOf bytes rows others
+      → (more : List TreeEvent) × (others ≡ es ++ more) × AreValid more × AreRowsOf bytes rest more
+  read_alike rows [] rest others d v h = (others, refl, v, subst (λ (r : List Row). AreRowsOf bytes r others) d h)
+  read_alike [] (e ∷ es) rest others d v h = absurd d
+  read_alike (r ∷ rs) (e ∷ es) rest [] d v h = absurd h
+  read_alike (r ∷ rs) (e ∷ es) rest (o ∷ os) d v h =
+      let i = read_alike rs es rest os d.2 v.1 h.1 in
+      let x : o ≡ e = only_event bytes r o e h.0 d.1 in
+      let y = i.1 in
+      (i.0, cc, i.2, i.3)

@@ -1,27 +1,27 @@
 -- Where the reading of events stops.
-use Rattle.std.proofs.Common.{◌≡◌, ℕ, suc, ◌+◌, ◌-◌, ◌<◌, ◌≤◌, List, [], ◌∷◌, ◌++◌, length, drop, get_or, flat_map, refl, sym, ◌∙◌, ap, subst}
-use Rattle.std.proofs.Common.{arith, add-one, append_assoc, length-append, length-drop, Bool, false, Option, Some, None}
-use Rattle.std.proofs.Common.{Result, Ok, Err, if◌then◌else◌}
+use Rattle.std.proofs.Common.{◌≡◌, ℕ, ◌<◌, List, [], ◌∷◌, ◌++◌, length, map, flat_map, refl, sym, ◌∙◌, ap, subst}
+use Rattle.std.proofs.Common.{arith, append_assoc, Bool, true, false, ◌==◌, Option, Some, None, MatchOption}
+use Rattle.std.proofs.Common.{Result, Ok, Err}
 use Rattle.std.specs.Result.{IsErrAnd, IfErr}
 use Rattle.std.specs.Borrow.{Bor}
-use Rattle.std.proofs.Math.Seq.{drop-cons}
-use Rattle.std.proofs.Math.ListN.{drop_of_length-le}
-use Rattle.std.proofs.lemmas.List.{length-map, append-nil, map-append}
+use Rattle.std.proofs.lemmas.Bool.Decides.{nat_tests}
+use Rattle.std.proofs.lemmas.List.{append-nil, map-append}
 use Rattle.std.proofs.lemmas.Grind.{flat_map-append}
 use Rattle.std.proofs.lemmas.List.Elements.{filter_map-append}
-use Rattle.sfv.specs.Events.{TreeEvent, entry, keyed_entry, member_events, entry_events, keyed_events}
+use Rattle.sfv.specs.Events.{TreeEvent, entry, keyed_entry, begins_item, item_events, inner_item_events, member_events}
+use Rattle.sfv.specs.Events.{entry_events, keyed_events}
 use Rattle.sfv.specs.Calls.{written, supplied_member}
 use Rattle.sfv.specs.KeyText.{KeyRef, key_text}
-use Rattle.sfv.specs.Scripts.{member_calls, supplied_list, described_list, supplied_dictionary, described_dictionary}
-use Rattle.sfv.specs.Types.{MemberCalls, GenericBareItem}
-use Rattle.sfv.specs.TokenText.{TokenRef}
-use Rattle.sfv.specs.StringText.{StringRef}
+use Rattle.sfv.specs.Scripts.{item_of_calls, member_calls, supplied_list, described_list, supplied_dictionary, described_dictionary}
+use Rattle.sfv.specs.Types.{ItemCalls, MemberCalls}
+use Rattle.sfv_c.specs.declared.rows.Row.{Row}
 use Rattle.sfv_c.specs.declared.row_event.RowEvent.{RowEvent}
 use Rattle.sfv_c.specs.declared.row_event.RowEvent.TheVariants as parts
 use Rattle.sfv_c.specs.declared.rows_to_calls.ParseStop.{ParseStop}
 use Rattle.sfv_c.specs.declared.rows_to_calls.ParseStop.TheVariants as stop
-use Rattle.sfv_c.specs.RowEvents.{ParseState, ended, list_members, dictionary_members, parameters, items, stops, after, may_end}
-use Rattle.sfv_c.specs.RowEvents.{tree_event, events_in, events_from, IsStop}
+use Rattle.sfv_c.specs.RowEvents.{ParseState, ended, list_members, dictionary_members, member, value, parameters, items}
+use Rattle.sfv_c.specs.RowEvents.{RefItem, stops, after, may_end, tree_event, HasNoEvent, Reads, IsStuck, StopsAt, IsStop}
+use Rattle.sfv_c.proofs.RowEvents.{reads_on, reads_length, only_event}
 
 -- an error that a call hands on
 pub err_and : {T E : Type 0} (r : Result T E) (e : E) (Q : E → Type 0) → IsErrAnd r (λ x. x ≡ e) → Q e → IfErr r Q
@@ -31,17 +31,6 @@ err_and (Err x) e Q h q = subst Q (sym h) q
 pub if_err : {T E : Type 0} (r : Result T E) (P Q : E → Type 0) → IfErr r P → ((e : E) → P e → Q e) → IfErr r Q
 if_err (Ok t) P Q h f = tt
 if_err (Err x) P Q h f = f x h
-
-pub left_length : (ps : List RowEvent) (at : ℕ) → length (events_from at ps) ≡ length ps - at
-left_length ps at = simp (length-map, length-drop)
-
-pub events_next : (ps : List RowEvent) (at : ℕ) (part : RowEvent) → at < length ps → part ≡ get_or ps at part
-    → events_from at ps ≡ tree_event part ∷ events_from (at + 1) ps
-events_next ps at part h e = rw add-one (ap events_in (drop-cons ps at part h)
-    ∙ ap (λ x. tree_event x ∷ events_in (drop (suc at) ps)) (sym e))
-
-pub events_over : (ps : List RowEvent) (at : ℕ) → length ps ≤ at → events_from at ps ≡ []
-events_over ps at h = ap events_in (drop_of_length-le ps h)
 
 pub no_place : (p : ParseState) (e : TreeEvent) (es : List TreeEvent) → after p e ≡ None
     → stops p (e ∷ es) ≡ Some (length (e ∷ es))
@@ -54,81 +43,129 @@ a_place p q e es h = subst
     (λ (o : Option ParseState). elim o [ None ↦ Some (length (e ∷ es)) | Some next ↦ stops next es ] ≡ stops q es)
     (sym h) refl
 
-pub stuck : (p : ParseState) (ps : List RowEvent) (at : ℕ) (part : RowEvent) (n : ℕ) → at < length ps → part ≡ get_or ps at part
-    → n ≡ length (events_from at ps) → after p (tree_event part) ≡ None → stops p (events_from at ps) ≡ Some n
-stuck p ps at part n h e w a =
-    let s = events_next ps at part h e in
-    ap (stops p) s ∙ (no_place p (tree_event part) (events_from (at + 1) ps) a ∙ ap Some (ap length (sym s) ∙ sym w))
+module _ (bytes : List ℕ) where
+  pub stop_here : (p : ParseState) (rows : List Row) (n : ℕ) → IsStuck bytes p rows → n ≡ length rows → StopsAt bytes p rows n
+  stop_here p rows n k c =
+      record { es = []; rest = rows; place = p; read = refl; leads = λ more. refl; stuck = k; count = c }
 
-pub short : (p : ParseState) (ps : List RowEvent) (at : ℕ) → length ps ≤ at → may_end p ≡ false
-    → stops p (events_from at ps) ≡ Some 0
-short p ps at h f = ap (stops p) (events_over ps at h)
-    ∙ subst (λ (b : Bool). if◌then◌else◌ {A = Option ℕ} b None (Some 0) ≡ Some 0) (sym f) refl
+  -- a stop further on is one from here
+  pub stop_after : (p q : ParseState) (rows : List Row) (es : List TreeEvent) (mid : List Row) → Reads bytes rows es mid
+      → ((more : List TreeEvent) → stops p (es ++ more) ≡ stops q more) → (s : ParseStop) → IsStop bytes q mid s
+      → IsStop bytes p rows s
+  stop_after p q rows es mid r l (stop.At n) h = record {
+    es = es ++ h.es;
+    rest = h.rest;
+    place = h.place;
+    read = reads_on bytes rows es mid h.es h.rest r h.read;
+    leads = λ more. ap (stops p) (append_assoc es h.es more) ∙ (l (h.es ++ more) ∙ h.leads more);
+    stuck = h.stuck;
+    count = h.count;
+  }
+  stop_after p q rows es mid r l stop.Memory h = omega (arith, reads_length bytes rows es mid r, h)
 
-pub goes_on : (p q : ParseState) (ps : List RowEvent) (at : ℕ) (part : RowEvent) → at < length ps → part ≡ get_or ps at part
-    → after p (tree_event part) ≡ Some q → stops p (events_from at ps) ≡ stops q (events_from (at + 1) ps)
-goes_on p q ps at part h e a = ap (stops p) (events_next ps at part h e)
-    ∙ a_place p q (tree_event part) (events_from (at + 1) ps) a
+  -- the same after one event more
+  pub after_event : (p q next : ParseState) (rows : List Row) (es : List TreeEvent) (left : List Row) (e : TreeEvent)
+      (rest : List Row) → Reads bytes rows es left → ((more : List TreeEvent) → stops p (es ++ more) ≡ stops q more)
+      → Reads bytes left (e ∷ []) rest → after q e ≡ Some next → (s : ParseStop) → IsStop bytes next rest s
+      → IsStop bytes p rows s
+  after_event p q next rows es left e rest r l h a s k = stop_after p q rows es left r l s
+      (stop_after q next left (e ∷ []) rest h (λ more. a_place q next e more a) s k)
 
-all_left : (es : List TreeEvent) → 0 < length es → stops ended es ≡ Some (length es)
-all_left [] h = absurd (omega (arith, h))
-all_left (e ∷ es) h = refl
+  -- where there is no next event, or it can't come
+  pub stuck_end : (p : ParseState) (rows : List Row) → HasNoEvent bytes rows → (rows ≡ [] → may_end p ≡ false)
+      → IsStuck bytes p rows
+  stuck_end p [] h f = f refl
+  stuck_end p (row ∷ rows) h f = λ e v i. absurd (h e v i)
 
--- nothing may follow an item
-pub over : (ps : List RowEvent) (at n : ℕ) → at < length ps → n ≡ length (events_from at ps)
-    → stops ended (events_from at ps) ≡ Some n
-over ps at n h e = all_left (events_from at ps) (omega (arith, left_length ps at)) ∙ ap Some (sym e)
+  pub stuck_at : (p : ParseState) (rows : List Row) (e : TreeEvent) (rest : List Row) → Reads bytes rows (e ∷ []) rest
+      → after p e ≡ None → IsStuck bytes p rows
+  stuck_at p [] e rest h a = absurd h
+  stuck_at p (row ∷ rows) e rest h a =
+      λ o v i. subst (λ (y : TreeEvent). after p y ≡ None) (only_event bytes row e o h.1 i) a
 
--- a stop further on is one from here
-pub carried : (p q : ParseState) (es rest : List TreeEvent) → stops p es ≡ stops q rest → 0 < length es → (s : ParseStop)
-    → IsStop q rest s → IsStop p es s
-carried p q es rest e some (stop.At n) h = e ∙ h
-carried p q es rest e some stop.Memory h = some
+  -- the same after events that were read
+  pub stopped_at : (p q : ParseState) (rows : List Row) (es : List TreeEvent) (left : List Row) (e : TreeEvent)
+      (rest : List Row) → Reads bytes rows es left → ((more : List TreeEvent) → stops p (es ++ more) ≡ stops q more)
+      → Reads bytes left (e ∷ []) rest → after q e ≡ None → StopsAt bytes p rows (length left)
+  stopped_at p q rows es left e rest r l h a = stop_after p q rows es left r l (stop.At (length left))
+      (stop_here q left (length left) (stuck_at q left e rest h a) refl)
 
-pub some_left : (es front : List TreeEvent) (ps : List RowEvent) (at : ℕ) → es ≡ front ++ events_from at ps
-    → at < length ps → 0 < length es
-some_left es front ps at e h =
-    omega (arith, ap length e, length-append front (events_from at ps), left_length ps at)
+  pub stopped_early : (p q : ParseState) (rows : List Row) (es : List TreeEvent) (left : List Row) → Reads bytes rows es left
+      → ((more : List TreeEvent) → stops p (es ++ more) ≡ stops q more) → HasNoEvent bytes left
+      → (left ≡ [] → may_end q ≡ false) → StopsAt bytes p rows (length left)
+  stopped_early p q rows es left r l h f = stop_after p q rows es left r l (stop.At (length left))
+      (stop_here q left (length left) (stuck_end q left h f) refl)
 
-pub some_here : (ps : List RowEvent) (at : ℕ) → at < length ps → 0 < length (events_from at ps)
-some_here ps at h = omega (arith, left_length ps at)
+  -- where an event was read, there is a row
+  pub some_row : (rows : List Row) (es : List TreeEvent) (left : List Row) (e : TreeEvent) (rest : List Row)
+      → Reads bytes rows es left → Reads bytes left (e ∷ []) rest → 0 < length rows
+  some_row rows es left e rest r h =
+      omega (arith, reads_length bytes rows es left r, reads_length bytes left (e ∷ []) rest h)
 
-pub shrinks : (ps : List RowEvent) (at end : ℕ) (front : List TreeEvent) → at < length ps
-    → events_from (at + 1) ps ≡ front ++ events_from end ps → length ps - end < length ps - at
-shrinks ps at end front h e = omega (
-  arith,
-  ap length e,
-  length-append front (events_from end ps),
-  left_length ps end,
-  left_length ps (at + 1),
-)
+  -- nothing may follow an item
+  pub over : (rows : List Row) → (rows ≡ [] → ⊥) → IsStuck bytes ended rows
+  over [] h = absurd (h refl)
+  over (row ∷ rows) h = λ e v i. refl
 
+pub not_empty : (rows : List Row) → false ≡ (length rows == 0) → rows ≡ [] → ⊥
+not_empty [] h e = cc
+not_empty (row ∷ rows) h e = cc
+
+none_left : (n : ℕ) → true ≡ (n == 0) → n ≡ 0
+none_left n h = grind (arith, nat_tests)
+
+pub is_empty : (rows : List Row) → true ≡ (length rows == 0) → rows ≡ []
+is_empty [] h = refl
+is_empty (row ∷ rows) h = absurd (omega (arith, none_left (length (row ∷ rows)) h))
+
+-- the events that may come at a place
 module _ (p : ParseState) where
-  pub not_parameter : (part : RowEvent)
-      → ((key : KeyRef) (v : GenericBareItem StringRef (Bor (List ℕ)) TokenRef (Bor (List ℕ)))
-      → part ≡ parts.Parameter key v → ⊥)
-      → (part ≡ parts.ParametersEnd → ⊥) → after (parameters p) (tree_event part) ≡ None
-  not_parameter (parts.Parameter key v) h g = absurd (h key v refl)
-  not_parameter parts.ParametersEnd h g = absurd (g refl)
+  pub not_parameter : (part : RowEvent) → ((key : KeyRef) (v : RefItem) → part ≡ parts.Parameter key v → ⊥) → (part ≡ parts.ParametersEnd → ⊥)
+      → after (parameters p) (tree_event part) ≡ None
   not_parameter parts.Entry h g = refl
   not_parameter (parts.KeyedEntry key) h g = refl
   not_parameter parts.Item h g = refl
   not_parameter parts.InnerList h g = refl
   not_parameter (parts.BareItem v) h g = refl
+  not_parameter (parts.Parameter key v) h g = absurd (h key v refl)
+  not_parameter parts.ParametersEnd h g = absurd (g refl)
   not_parameter parts.InnerListEnd h g = refl
+
+  pub not_value : (part : RowEvent) → ((v : RefItem) → part ≡ parts.BareItem v → ⊥)
+      → after (value p) (tree_event part) ≡ None
+  not_value parts.Entry h = refl
+  not_value (parts.KeyedEntry key) h = refl
+  not_value parts.Item h = refl
+  not_value parts.InnerList h = refl
+  not_value (parts.BareItem v) h = absurd (h v refl)
+  not_value (parts.Parameter key v) h = refl
+  not_value parts.ParametersEnd h = refl
+  not_value parts.InnerListEnd h = refl
 
   pub not_item : (part : RowEvent) → (part ≡ parts.Item → ⊥) → (part ≡ parts.InnerListEnd → ⊥)
       → after (items p) (tree_event part) ≡ None
-  not_item parts.Item h g = absurd (h refl)
-  not_item parts.InnerListEnd h g = absurd (g refl)
   not_item parts.Entry h g = refl
   not_item (parts.KeyedEntry key) h g = refl
+  not_item parts.Item h g = absurd (h refl)
   not_item parts.InnerList h g = refl
   not_item (parts.BareItem v) h g = refl
   not_item (parts.Parameter key v) h g = refl
   not_item parts.ParametersEnd h g = refl
+  not_item parts.InnerListEnd h g = absurd (g refl)
 
-pub not_entry : (part : RowEvent) → (part ≡ parts.Entry → ⊥) → after list_members (tree_event part) ≡ None
+  pub not_member : (part : RowEvent) → (part ≡ parts.Item → ⊥) → (part ≡ parts.InnerList → ⊥)
+      → after (member p) (tree_event part) ≡ None
+  not_member parts.Entry h g = refl
+  not_member (parts.KeyedEntry key) h g = refl
+  not_member parts.Item h g = absurd (h refl)
+  not_member parts.InnerList h g = absurd (g refl)
+  not_member (parts.BareItem v) h g = refl
+  not_member (parts.Parameter key v) h g = refl
+  not_member parts.ParametersEnd h g = refl
+  not_member parts.InnerListEnd h g = refl
+
+pub not_entry : (part : RowEvent) → (part ≡ parts.Entry → ⊥)
+    → after list_members (tree_event part) ≡ None
 not_entry parts.Entry h = absurd (h refl)
 not_entry (parts.KeyedEntry key) h = refl
 not_entry parts.Item h = refl
@@ -140,8 +177,8 @@ not_entry parts.InnerListEnd h = refl
 
 pub not_keyed : (part : RowEvent) → ((key : KeyRef) → part ≡ parts.KeyedEntry key → ⊥)
     → after dictionary_members (tree_event part) ≡ None
-not_keyed (parts.KeyedEntry key) h = absurd (h key refl)
 not_keyed parts.Entry h = refl
+not_keyed (parts.KeyedEntry key) h = absurd (h key refl)
 not_keyed parts.Item h = refl
 not_keyed parts.InnerList h = refl
 not_keyed (parts.BareItem v) h = refl
@@ -149,25 +186,43 @@ not_keyed (parts.Parameter key v) h = refl
 not_keyed parts.ParametersEnd h = refl
 not_keyed parts.InnerListEnd h = refl
 
--- one more member
-pub list_more : (es here rest : List TreeEvent) (ms : List MemberCalls) (m : MemberCalls)
-    → es ≡ flat_map entry_events (supplied_list ms) ++ (entry ∷ here)
-    → here ≡ member_events (supplied_member (member_calls m)) ++ rest
-    → es ≡ flat_map entry_events (supplied_list (ms ++ m ∷ [])) ++ rest
-list_more es here rest ms m e h = simp (map-append, flat_map-append, append_assoc, append-nil)
-    (e ∙ ap (λ (x : List TreeEvent). flat_map entry_events (supplied_list ms) ++ (entry ∷ x)) h)
+-- one more item or member
+pub items_more : (bytes : List ℕ) (rows left rest after : List Row) (is : List ItemCalls) (i : ItemCalls)
+    → Reads bytes rows (flat_map inner_item_events (map item_of_calls is)) left → Reads bytes left (begins_item ∷ []) rest
+    → Reads bytes rest (item_events (item_of_calls i)) after
+    → Reads bytes rows (flat_map inner_item_events (map item_of_calls (is ++ i ∷ []))) after
+items_more bytes rows left rest after is i h e k =
+    let o = reads_on bytes left (begins_item ∷ []) rest (item_events (item_of_calls i)) after e k in
+    let r = reads_on bytes rows (flat_map inner_item_events (map item_of_calls is)) left
+    (begins_item ∷ item_events (item_of_calls i)) after h o in
+    simp (map-append, flat_map-append, append-nil) r
+
+pub list_more : (bytes : List ℕ) (rows left rest after : List Row) (ms : List MemberCalls) (m : MemberCalls)
+    → Reads bytes rows (flat_map entry_events (supplied_list ms)) left → Reads bytes left (entry ∷ []) rest
+    → Reads bytes rest (member_events (supplied_member (member_calls m))) after
+    → Reads bytes rows (flat_map entry_events (supplied_list (ms ++ m ∷ []))) after
+list_more bytes rows left rest after ms m h e k =
+    let o = reads_on bytes left (entry ∷ []) rest (member_events (supplied_member (member_calls m))) after e k in
+    let r = reads_on bytes rows (flat_map entry_events (supplied_list ms)) left
+    (entry ∷ member_events (supplied_member (member_calls m))) after h o in
+    simp (map-append, flat_map-append, append-nil) r
 
 pub list_whole : (ms : List MemberCalls) (m : MemberCalls) → described_list ms ≡ supplied_list ms
     → member_calls m ≡ written (supplied_member (member_calls m))
     → described_list (ms ++ m ∷ []) ≡ supplied_list (ms ++ m ∷ [])
 list_whole ms m e h = simp (map-append, filter_map-append, e) (rw h refl)
 
-pub dictionary_more : (es here rest : List TreeEvent) (ms : List (KeyRef × MemberCalls)) (key : KeyRef) (m : MemberCalls)
-    → es ≡ flat_map keyed_events (supplied_dictionary ms) ++ (keyed_entry (key_text key) ∷ here)
-    → here ≡ member_events (supplied_member (member_calls m)) ++ rest
-    → es ≡ flat_map keyed_events (supplied_dictionary (ms ++ (key, m) ∷ [])) ++ rest
-dictionary_more es here rest ms key m e h = simp (map-append, flat_map-append, append_assoc, append-nil)
-    (e ∙ ap (λ (x : List TreeEvent). flat_map keyed_events (supplied_dictionary ms) ++ (keyed_entry (key_text key) ∷ x)) h)
+pub dictionary_more : (bytes : List ℕ) (rows left rest after : List Row) (ms : List (KeyRef × MemberCalls)) (key : KeyRef)
+    (m : MemberCalls) → Reads bytes rows (flat_map keyed_events (supplied_dictionary ms)) left
+    → Reads bytes left (keyed_entry (key_text key) ∷ []) rest
+    → Reads bytes rest (member_events (supplied_member (member_calls m))) after
+    → Reads bytes rows (flat_map keyed_events (supplied_dictionary (ms ++ (key, m) ∷ []))) after
+dictionary_more bytes rows left rest after ms key m h e k =
+    let o = reads_on bytes left (keyed_entry (key_text key) ∷ []) rest
+    (member_events (supplied_member (member_calls m))) after e k in
+    let r = reads_on bytes rows (flat_map keyed_events (supplied_dictionary ms)) left
+    (keyed_entry (key_text key) ∷ member_events (supplied_member (member_calls m))) after h o in
+    simp (map-append, flat_map-append, append-nil) r
 
 pub dictionary_whole : (ms : List (KeyRef × MemberCalls)) (key : KeyRef) (m : MemberCalls)
     → described_dictionary ms ≡ supplied_dictionary ms

@@ -1,91 +1,61 @@
 -- Where rows go wrong.
-use Rattle.std.proofs.Common.{◌≡◌, ℕ, suc, ◌+◌, ◌<◌, List, [], ◌∷◌, ◌++◌, length, take, refl, sym, ◌∙◌, ap, subst, arith}
-use Rattle.std.proofs.Common.{length-append, Bool, true, false, IsTrue, Option, Some, None}
+use Rattle.std.proofs.Common.{◌≡◌, ℕ, ◌+◌, ◌-◌, ◌<◌, List, [], ◌∷◌, ◌++◌, length, take, refl, sym, ◌∙◌, ap, subst, arith}
+use Rattle.std.proofs.Common.{append_assoc, false, None, Some, Option, if◌then◌else◌}
+use Rattle.std.proofs.lemmas.List.{append-nil}
 use Rattle.sfv.specs.Values.{RawField}
 use Rattle.sfv.specs.Types.{FieldKind}
 use Rattle.sfv.specs.Events.{TreeEvent, events}
 use Rattle.sfv_c.specs.declared.rows.Row.{Row}
-use Rattle.sfv_c.specs.Rows.{numbers_of}
 use Rattle.sfv_c.specs.Writing.{AreRowsOf, AreRowsOfField, BeginRowsOfField, AreWrongAt}
-use Rattle.sfv_c.specs.RowEvents.{AreEventsOf, stops, beginning, IsWrongAfter}
-use Rattle.sfv_c.proofs.Unique.{same_event}
+use Rattle.sfv_c.specs.RowEvents.{ParseState, Reads, StopsAt, IsStuck, stops, beginning, may_end}
 use Rattle.sfv_c.proofs.Valid.{AreValid, valid_first, field_valid, field_read}
 use Rattle.sfv_c.proofs.Accepted.{begin_field}
-use Rattle.sfv_c.proofs.Reached.{ReadsTo, reads_to, front_length, whole_length, stuck_after}
-use Rattle.sfv_c.proofs.RowEvents.{same_row, only_events, few_events, valid_events}
+use Rattle.sfv_c.proofs.Stops.{no_place}
+use Rattle.sfv_c.proofs.RowEvents.{reads_length, reads_valid, reads_rows, reads_taken, read_alike}
 
 module _ (bytes : List ℕ) where
-  front_rows : (rows : List Row) (front rest : List TreeEvent) → AreEventsOf bytes rows (front ++ rest)
-      → AreRowsOf bytes (take (length front) rows) front
-  front_rows [] [] rest d = tt
-  front_rows (r ∷ rs) [] rest d = tt
-  front_rows [] (f ∷ fs) rest d = absurd d
-  front_rows (r ∷ rs) (f ∷ fs) rest d = (d.1, front_rows rs fs rest d.2)
+  -- the rows where reading is stuck are those of no events that end a field
+  never_ends : (p : ParseState) (rest : List Row) (es : List TreeEvent) → IsStuck bytes p rest → AreValid es
+      → AreRowsOf bytes rest es → stops p es ≡ None → ⊥
+  never_ends p [] [] k v h n = let e = k in cc
+  never_ends p [] (e ∷ es) k v h n = absurd h
+  never_ends p (r ∷ rs) [] k v h n = absurd h
+  never_ends p (r ∷ rs) (e ∷ es) k v h n = let w = no_place p e es (k e v.0 h.0) in cc
 
-  -- the events of one more row than these are these and one more, so the row is that of the next
-  next_event : (rows : List Row) (front rest others : List TreeEvent) → AreEventsOf bytes rows (front ++ rest)
-      → AreValid others → AreRowsOf bytes (take (suc (length front)) rows) others → length front < length rows
-      → (e : TreeEvent) × (es : List TreeEvent) × (rest ≡ e ∷ es) × (others ≡ front ++ e ∷ [])
-  next_event [] [] rest others d v h l = absurd (omega (arith, l))
-  next_event [] (f ∷ fs) rest others d v h l = absurd d
-  next_event (r ∷ rs) [] rest [] d v h l = absurd h
-  next_event (r ∷ rs) [] [] (o ∷ os) d v h l = absurd (d o v.0 h.0)
-  next_event (r ∷ rs) [] (e ∷ es) (o ∷ []) d v h l = (
-    e,
-    es,
-    refl,
-    ap (λ (x : TreeEvent). x ∷ []) (same_event o e (same_row bytes r (numbers_of o) (numbers_of e) h.0 d.1)),
-  )
-  next_event (r ∷ rs) [] (e ∷ es) (o ∷ (x ∷ xs)) d v h l = absurd h.1
-  next_event (r ∷ rs) (f ∷ fs) rest [] d v h l = absurd h
-  next_event (r ∷ rs) (f ∷ fs) rest (o ∷ os) d v h l =
-      let i = next_event rs fs rest os d.2 v.1 h.1 (omega (arith, l)) in
-      let x : o ≡ f = same_event o f (same_row bytes r (numbers_of o) (numbers_of f) h.0 d.1) in
-      let y = i.3 in
-      (i.0, i.1, i.2, cc)
+  -- nor do events that go on after one row more
+  never_goes_on : (p : ParseState) (rest : List Row) (es more : List TreeEvent) → 0 < length rest → IsStuck bytes p rest
+      → AreValid es → AreRowsOf bytes (take 1 rest) es → stops p (es ++ more) ≡ None → ⊥
+  never_goes_on p [] es more l k v h n = absurd (omega (arith, l))
+  never_goes_on p (r ∷ rs) [] more l k v h n = absurd h
+  never_goes_on p (r ∷ rs) (e ∷ es) more l k v h n = let w = no_place p e (es ++ more) (k e v.0 h.0) in cc
 
-  wrong_from : (kind : FieldKind) (rows : List Row) (es : List TreeEvent) (n : ℕ) → AreEventsOf bytes rows es
-      → (r : ReadsTo (beginning kind) es) → length r.front ≡ n
-      → ((raw : RawField kind) → AreRowsOfField kind rows bytes raw → ⊥) → AreWrongAt kind rows bytes n
-  wrong_from kind rows es n d r c none =
-      let split : AreEventsOf bytes rows (r.front ++ r.rest) = subst (AreEventsOf bytes rows) r.split d in
+  pub wrong_rows : (kind : FieldKind) (rows : List Row) (left : ℕ) → StopsAt bytes (beginning kind) rows left
+      → AreWrongAt kind rows bytes (length rows - left)
+  wrong_rows kind rows left s =
+      let count : length rows - left ≡ length s.es = omega (arith, reads_length bytes rows s.es s.rest s.read, s.count) in
+      let valid = reads_valid bytes rows s.es s.rest s.read in
       record {
-        within = omega (arith, few_events bytes rows es d, ap length r.split, length-append r.front r.rest, c);
-        begun = subst (λ (k : ℕ). BeginRowsOfField kind (take k rows) bytes) c (record {
-          es = r.front;
-          in_rows = front_rows rows r.front r.rest split;
-          begins = begin_field kind r.front r.place
-              (valid_first r.front r.rest (subst AreValid r.split (valid_events bytes rows es d))) r.leads;
+        within = omega (arith, count, reads_length bytes rows s.es s.rest s.read);
+        begun = subst (λ (n : ℕ). BeginRowsOfField kind (take n rows) bytes) (sym count) (record {
+          es = s.es;
+          in_rows = reads_rows bytes (take (length s.es) rows) s.es
+              (reads_taken bytes rows s.es s.rest 0 (length s.es) (omega arith) s.read);
+          begins = begin_field kind s.es s.place valid s.leads;
         });
         wrong = λ l b.
             let v : AreValid b.es = valid_first b.es b.begins.more
             (subst AreValid b.begins.all (field_valid kind b.begins.raw b.begins.is_value)) in
-            let k : n + 1 ≡ suc (length r.front) = omega (arith, c) in
-            let i = next_event rows r.front r.rest b.es split v
-            (subst (λ (m : ℕ). AreRowsOf bytes (take m rows) b.es) k b.in_rows) (omega (arith, l, c)) in
-            stuck_after (beginning kind) es r i.0 i.1 b.begins.more i.2
-            (ap (stops (beginning kind)) (ap (λ (x : List TreeEvent). x ++ b.begins.more) (sym i.3) ∙ sym b.begins.all)
-            ∙ field_read kind b.begins.raw);
-        no_field = none;
+            let i = read_alike bytes (take (length s.es + 1) rows) s.es (take 1 s.rest) b.es
+            (reads_taken bytes rows s.es s.rest 1 (length s.es + 1) (omega arith) s.read) v
+            (subst (λ (n : ℕ). AreRowsOf bytes (take (n + 1) rows) b.es) count b.in_rows) in
+            never_goes_on s.place s.rest i.0 b.begins.more
+            (omega (arith, l, count, reads_length bytes rows s.es s.rest s.read)) s.stuck i.2 i.3
+            (sym (s.leads (i.0 ++ b.begins.more))
+            ∙ (ap (stops (beginning kind)) (sym (append_assoc s.es i.0 b.begins.more)
+            ∙ (ap (λ (x : List TreeEvent). x ++ b.begins.more) (sym i.1) ∙ sym b.begins.all))
+            ∙ field_read kind b.begins.raw));
+        no_field = λ raw f.
+            let i = read_alike bytes rows s.es s.rest (events kind raw) s.read (field_valid kind raw f.value) f.in_rows in
+            never_ends s.place s.rest i.0 s.stuck i.2 i.3
+            (sym (s.leads i.0) ∙ (ap (stops (beginning kind)) (sym i.1) ∙ field_read kind raw));
       }
-
-  counted : (kind : FieldKind) (es : List TreeEvent) (whole : Bool) (n : ℕ) (o : Option ℕ) → stops (beginning kind) es ≡ o
-      → IsWrongAfter o es whole n → (r : ReadsTo (beginning kind) es) → length r.front ≡ n
-  counted kind es whole n None s h r = whole_length (beginning kind) es r s ∙ sym h.1
-  counted kind es whole n (Some left) s h r = front_length (beginning kind) es r left s ∙ sym h
-
-  not_read : (es : List TreeEvent) (whole : Bool) (n : ℕ) (o : Option ℕ) → IsWrongAfter o es whole n → IsTrue whole
-      → o ≡ None → ⊥
-  not_read es true n None h t s = let f = h.0 in cc
-  not_read es false n None h t s = cc
-  not_read es whole n (Some left) h t s = cc
-
-  pub wrong_rows : (kind : FieldKind) (rows : List Row) (es : List TreeEvent) (whole : Bool) (n : ℕ)
-      → AreEventsOf bytes rows es → (length es ≡ length rows → IsTrue whole)
-      → IsWrongAfter (stops (beginning kind) es) es whole n → AreWrongAt kind rows bytes n
-  wrong_rows kind rows es whole n d from h =
-      let r = reads_to (beginning kind) es in
-      wrong_from kind rows es n d r (counted kind es whole n (stops (beginning kind) es) refl h r) (λ raw f.
-      let i = only_events bytes rows es (events kind raw) d (field_valid kind raw f.value) f.in_rows in
-      not_read es whole n (stops (beginning kind) es) h (from i.1)
-      (ap (stops (beginning kind)) (sym i.0) ∙ field_read kind raw))

@@ -1,5 +1,5 @@
 -- The events of rows, and their order.
-use Rattle.std.specs.Prelude.{◌≡◌, MatchOption, ⊤, ℕ, ◌-◌, ◌<◌, List, [], ◌∷◌, length, drop, map, Bool, true, false, IsTrue, Option, Some, None}
+use Rattle.std.specs.Prelude.{◌≡◌, MatchOption, ⊤, ℕ, ◌<◌, List, [], ◌∷◌, ◌++◌, length, Bool, true, false, IsTrue, Option, Some, None}
 use Rattle.std.specs.Prelude.{if◌then◌else◌, Result, Ok, Err, option_map, string_bytes}
 use Rattle.std.specs.Borrow.{Bor}
 use Rattle.sfv.specs.Values.{RawField, BareValue, IsBareValue}
@@ -7,23 +7,18 @@ use Rattle.sfv.specs.Types.{FieldKind, item_field, list_field, dictionary_field}
 use Rattle.sfv.specs.Types.{Version}
 use Rattle.sfv.specs.Classes.{is_key}
 use Rattle.sfv.specs.Events.{TreeEvent, entry, keyed_entry, begins_item, begins_inner_list, bare_item, parameter}
-use Rattle.sfv.specs.Events.{parameters_end, inner_list_end, events}
-use Rattle.sfv.specs.Values.{bare_values}
+use Rattle.sfv.specs.Events.{parameters_end, inner_list_end}
 use Rattle.sfv.specs.BareItems.{ref_value}
 use Rattle.sfv.specs.StringText.{StringRef}
 use Rattle.sfv.specs.TokenText.{TokenRef}
 use Rattle.sfv.specs.Types.{GenericBareItem}
 use Rattle.sfv.specs.KeyText.{key_text}
 use Rattle.sfv_c.specs.Rows.{ValueNumbers, EventNumbers, value_numbers, numbers_of}
-use Rattle.sfv_c.specs.Writing.{IsRowOf, IsScriptText}
+use Rattle.sfv_c.specs.Writing.{IsRowOf, IsScriptText, AreRowsOfField, IsWriteFault}
 use Rattle.sfv_c.specs.declared.answer.CallFault.{CallFault}
-use Rattle.sfv_c.specs.declared.answer.CallFault.TheVariants as faults
 use Rattle.std.specs.declared.alloc.Global.{Global}
 use Rattle.std.specs.declared.string.String as std_string
 use Rattle.sfv.specs.Values.{Fits}
-use Rattle.sfv.specs.Versions.{IsSerializeError}
-use Rattle.sfv.specs.Types.{BareItemType}
-use Rattle.sfv.specs.Types.serialize_errors as errors
 use Rattle.sfv_c.specs.declared.rows.Row.{Row}
 use Rattle.sfv_c.specs.declared.row_event.RowEvent.{RowEvent}
 use Rattle.sfv_c.specs.declared.row_event.RowEvent.TheVariants as row_events
@@ -43,13 +38,6 @@ tree_event (row_events.BareItem value) = bare_item (ref_value value)
 tree_event (row_events.Parameter key value) = parameter (key_text key) (ref_value value)
 tree_event row_events.ParametersEnd = parameters_end
 tree_event row_events.InnerListEnd = inner_list_end
-
-abbrev pub events_in : List RowEvent → List TreeEvent
-events_in ps = map tree_event ps
-
--- the events from this index on
-abbrev pub events_from : ℕ → List RowEvent → List TreeEvent
-events_from at ps = events_in (drop at ps)
 
 -- its key is a key, and its value is in its range or class
 abbrev pub IsValidEvent : TreeEvent → Type 0
@@ -73,12 +61,16 @@ abbrev pub GivesEvent : List ℕ → Row → Option RowEvent → Type 0
 GivesEvent bytes row r = MatchOption r ((e : TreeEvent) → IsValidEvent e → ¬ IsRowOf bytes row e)
     (λ part. IsValidEvent (tree_event part) × IsRowOf bytes row (tree_event part))
 
--- these are the events of the rows, up to the first row without an event
-abbrev pub AreEventsOf : List ℕ → List Row → List TreeEvent → Type 0
-AreEventsOf bytes [] [] = ⊤
-AreEventsOf bytes [] (e ∷ es) = ⊥
-AreEventsOf bytes (row ∷ rows) [] = (e : TreeEvent) → IsValidEvent e → ¬ IsRowOf bytes row e
-AreEventsOf bytes (row ∷ rows) (e ∷ es) = IsValidEvent e × IsRowOf bytes row e × AreEventsOf bytes rows es
+-- the rows are those of these events, and then these rows
+abbrev pub Reads : List ℕ → List Row → List TreeEvent → List Row → Type 0
+Reads bytes rows [] rest = rows ≡ rest
+Reads bytes [] (e ∷ es) rest = ⊥
+Reads bytes (row ∷ rows) (e ∷ es) rest = IsValidEvent e × IsRowOf bytes row e × Reads bytes rows es rest
+
+-- the first row has no event, or there is no row
+abbrev pub HasNoEvent : List ℕ → List Row → Type 0
+HasNoEvent bytes [] = ⊤
+HasNoEvent bytes (row ∷ rows) = (e : TreeEvent) → IsValidEvent e → ¬ IsRowOf bytes row e
 
 -- the events that may come next
 pub data ParseState : Type 0 where
@@ -116,38 +108,34 @@ abbrev pub stops : ParseState → List TreeEvent → Option ℕ
 stops p [] = if may_end p then None else Some 0
 stops p (e ∷ es) = elim (after p e) [ None ↦ Some (length (e ∷ es)) | Some next ↦ stops next es ]
 
--- the reason to stop: so many events are left, or memory ran out, which requires an event
-abbrev pub IsStop : ParseState → List TreeEvent → ParseStop → Type 0
-IsStop p es (stop.At left) = stops p es ≡ Some left
-IsStop p es stop.Memory = 0 < length es
+-- the next row has no event that may come here, or there is none and the field may not end here
+abbrev pub IsStuck : List ℕ → ParseState → List Row → Type 0
+IsStuck bytes p [] = may_end p ≡ false
+IsStuck bytes p (row ∷ rows) = (e : TreeEvent) → IsValidEvent e → IsRowOf bytes row e → after p e ≡ None
 
--- the version has the field of these events, and this is its text
-pub record IsTextOf (version : Version) (kind : FieldKind) (es : List TreeEvent) (text : Option (List ℕ)) : Type 0 where
+-- the rows are read up to where so many are left, and no further
+pub record StopsAt (bytes : List ℕ) (p : ParseState) (rows : List Row) (left : ℕ) : Type 0 where
+  pub es : List TreeEvent
+  pub rest : List Row
+  pub place : ParseState
+  pub read : Reads bytes rows es rest
+  pub leads : (more : List TreeEvent) → stops p (es ++ more) ≡ stops place more
+  pub stuck : IsStuck bytes place rest
+  pub count : left ≡ length rest
+
+-- the reason to stop: so many rows are left, or memory ran out, which requires a row
+abbrev pub IsStop : List ℕ → ParseState → List Row → ParseStop → Type 0
+IsStop bytes p rows (stop.At left) = StopsAt bytes p rows left
+IsStop bytes p rows stop.Memory = 0 < length rows
+
+-- the rows are those of a field that the version has, and this is its text
+pub record IsTextOf (version : Version) (kind : FieldKind) (rows : List Row) (bytes : List ℕ) (text : Option (List ℕ))
+    : Type 0 where
   pub raw : RawField kind
-  pub events_of : es ≡ events kind raw
+  pub rows_of : AreRowsOfField kind rows bytes raw
   pub fits : Fits version kind raw
   pub written : IsScriptText version kind raw text
 
--- the field of these events has a value of this kind, which the version lacks
-pub record IsUnsupported (version : Version) (kind : FieldKind) (es : List TreeEvent) (unfit : BareItemType) : Type 0
-  where
-    pub raw : RawField kind
-    pub events_of : es ≡ events kind raw
-    pub error : IsSerializeError version (bare_values kind raw) (errors.Unsupported unfit)
-
--- So many events are in order: those up to the first wrong one, or all, if more rows follow.
-abbrev pub IsWrongAfter : Option ℕ → List TreeEvent → Bool → ℕ → Type 0
-IsWrongAfter (Some left) es whole n = n ≡ length es - left
-IsWrongAfter None es whole n = (whole ≡ false) × (n ≡ length es)
-
--- the reason why the events, which may be incomplete, give no text
-abbrev pub IsTextFault : Version → FieldKind → List TreeEvent → Bool → CallFault → Type 0
-IsTextFault version kind es whole (faults.Read e) = ⊥
-IsTextFault version kind es whole (faults.Write errors.OutOfMemory) = 0 < length es
-IsTextFault version kind es whole (faults.Write (errors.Unsupported unfit)) =
-    IsTrue whole × IsUnsupported version kind es unfit
-IsTextFault version kind es whole (faults.Rows n) = IsWrongAfter (stops (beginning kind) es) es whole n
-
-abbrev pub IsTextMade : Version → FieldKind → List TreeEvent → Bool → Result (Option (std_string.String Global)) CallFault → Type 0
-IsTextMade version kind es whole (Ok text) = IsTrue whole × IsTextOf version kind es (option_map string_bytes text)
-IsTextMade version kind es whole (Err fault) = IsTextFault version kind es whole fault
+abbrev pub IsTextMade : Version → FieldKind → List Row → List ℕ → Result (Option (std_string.String Global)) CallFault → Type 0
+IsTextMade version kind rows bytes (Ok text) = IsTextOf version kind rows bytes (option_map string_bytes text)
+IsTextMade version kind rows bytes (Err fault) = IsWriteFault version kind rows bytes fault

@@ -1,20 +1,22 @@
-//! Events as the calls that write them.
+//! Rows as the calls that write them.
 
-ghost use Rattle.std.specs.Prelude.{◌≡◌, ◌++◌, ◌∷◌, [], map, flat_map, length, IfOk, IfErr};
+ghost use Rattle.std.specs.Prelude.{◌≡◌, ◌++◌, ◌∷◌, [], map, flat_map, MatchOption, IfOk, IfErr};
 ghost use Rattle.sfv.specs.Types.{item_field, list_field, dictionary_field};
-ghost use Rattle.sfv.specs.Events.{begins_inner_list, events, parameters_events, item_events, inner_item_events, member_events, inner_list_end, entry_events, keyed_events};
+ghost use Rattle.sfv.specs.Events.{begins_inner_list, parameters_events, item_events, inner_item_events, member_events, inner_list_end};
 ghost use Rattle.sfv.specs.Calls.{written, supplied_member};
 ghost use Rattle.sfv.specs.Scripts.{param_of_call, item_of_calls, member_calls, described_list, supplied_list};
 ghost use Rattle.sfv.specs.Scripts.{described_dictionary, supplied_dictionary};
-ghost use Rattle.sfv_c.specs.RowEvents.{ParseState, beginning, list_members, dictionary_members, member, value, parameters, items};
-ghost use Rattle.sfv_c.specs.RowEvents.{events_in, events_from, IsStop};
+ghost use Rattle.sfv_c.specs.Writing.{IsRowOf, AreRowsOfField};
+ghost use Rattle.sfv_c.specs.RowEvents.{ParseState, beginning, member, value, parameters, items};
+ghost use Rattle.sfv_c.specs.RowEvents.{tree_event, HasNoEvent, Reads, IsStop};
 
-use crate::row_event::RowEvent;
+use crate::row_event::{RowEvent, event_at};
+use crate::rows::Row;
 use sfv::KeyRef;
 use sfv::script::{ItemCalls, MemberCalls, ParamCall};
 use std::alloc::{AllocFailed, Global};
 
-/// Why events aren't read on.
+/// Why rows aren't read on.
 #[derive(Clone, Copy, Drop)]
 pub(crate) enum ParseStop {
     /// The number of rows that are left. The first of them can't come here. If it is 0, the rows end too early.
@@ -33,132 +35,137 @@ impl<T: Drop> From<AllocFailed<T>> for ParseStop {
     }
 }
 
-/// How many are left from this one on.
-fn remaining(row_events: &[RowEvent<'_>], at: usize) -> usize
-    ensures { result ≡ length (events_from at row_events.now) }
+/// The event of the first row, and the rows after it.
+fn split_event<'a, 'r>(rows: &'r [Row], bytes: &'a [u8]) -> Option<(RowEvent<'a>, &'r [Row])>
+    ensures { MatchOption result (HasNoEvent bytes.now rows.now)
+        (λ r. Reads bytes.now rows.now (tree_event r.0 ∷ []) r.1.now) }
 {
-    row_events.len().saturating_sub(at)
+    let (row, rest) = rows.split_first()?;
+    Some((event_at(row, bytes)?, rest))
 }
 
-/// Reads parameters and their end, and returns where they end.
-fn parameters<'a>(
+/// Reads parameters and their end, and returns the rows after them.
+fn parameters<'a, 'r>(
     alloc: Global,
-    row_events: &[RowEvent<'a>],
-    from: usize,
-) -> Result<(Vec<ParamCall<'a>>, usize), ParseStop>
-    ensures read { IfOk result (λ r. events_from from row_events.now
-        ≡ parameters_events (map param_of_call r.0.items) ++ events_from r.1 row_events.now) }
-    ensures stopped { IfErr result (λ stop. (p : ParseState) → IsStop (parameters p) (events_from from row_events.now) stop) }
+    rows: &'r [Row],
+    bytes: &'a [u8],
+) -> Result<(Vec<ParamCall<'a>>, &'r [Row]), ParseStop>
+    ensures read { IfOk result (λ r. Reads bytes.now rows.now (parameters_events (map param_of_call r.0.items)) r.1.now) }
+    ensures stopped { IfErr result (λ stop. (p : ParseState) → IsStop bytes.now (parameters p) rows.now stop) }
 {
     let mut params = Vec::new(alloc);
-    let mut at = from;
-    while let Some(part) = row_events.get(at) {
-        match *part {
+    let mut left = rows;
+    while let Some((event, rest)) = split_event(left, bytes) {
+        match event {
             RowEvent::Parameter(key, value) => params.push(ParamCall { key, value })?,
-            RowEvent::ParametersEnd => return Ok((params, at + 1)),
-            _ => return Err(ParseStop::At(remaining(row_events, at))),
+            RowEvent::ParametersEnd => return Ok((params, rest)),
+            _ => return Err(ParseStop::At(left.len())),
         }
-        at += 1;
+        left = rest;
     }
-    Err(ParseStop::At(0))
+    Err(ParseStop::At(left.len()))
 }
 
-/// Reads an item, and returns where it ends.
-fn item<'a>(
+/// Reads an item, and returns the rows after it.
+fn item<'a, 'r>(
     alloc: Global,
-    row_events: &[RowEvent<'a>],
-    at: usize,
-) -> Result<(ItemCalls<'a>, usize), ParseStop>
-    ensures read { IfOk result (λ r. events_from at row_events.now
-        ≡ item_events (item_of_calls r.0) ++ events_from r.1 row_events.now) }
-    ensures stopped { IfErr result (λ stop. (p : ParseState) → IsStop (value p) (events_from at row_events.now) stop) }
+    rows: &'r [Row],
+    bytes: &'a [u8],
+) -> Result<(ItemCalls<'a>, &'r [Row]), ParseStop>
+    ensures read { IfOk result (λ r. Reads bytes.now rows.now (item_events (item_of_calls r.0)) r.1.now) }
+    ensures stopped { IfErr result (λ stop. (p : ParseState) → IsStop bytes.now (value p) rows.now stop) }
 {
-    let Some(RowEvent::BareItem(value)) = row_events.get(at) else {
-        return Err(ParseStop::At(remaining(row_events, at)));
+    let Some((event, rest)) = split_event(rows, bytes) else {
+        return Err(ParseStop::At(rows.len()));
     };
-    let (params, end) = parameters(alloc, row_events, at + 1)?;
-    let value = *value;
-    Ok((ItemCalls { value, params }, end))
+    let RowEvent::BareItem(value) = event else {
+        return Err(ParseStop::At(rows.len()));
+    };
+    let (params, left) = parameters(alloc, rest, bytes)?;
+    Ok((ItemCalls { value, params }, left))
 }
 
-/// Reads the items of an inner list and their end, and returns where they end.
-fn items<'a>(
+/// Reads the items of an inner list and their end, and returns the rows after them.
+fn items<'a, 'r>(
     alloc: Global,
-    row_events: &[RowEvent<'a>],
-    from: usize,
-) -> Result<(Vec<ItemCalls<'a>>, usize), ParseStop>
-    ensures read { IfOk result (λ r. events_from from row_events.now
-        ≡ flat_map inner_item_events (map item_of_calls r.0.items) ++ inner_list_end ∷ events_from r.1 row_events.now) }
-    ensures stopped { IfErr result (λ stop. (p : ParseState) → IsStop (items p) (events_from from row_events.now) stop) }
+    rows: &'r [Row],
+    bytes: &'a [u8],
+) -> Result<(Vec<ItemCalls<'a>>, &'r [Row]), ParseStop>
+    ensures read { IfOk result (λ r. Reads bytes.now rows.now
+        (flat_map inner_item_events (map item_of_calls r.0.items) ++ inner_list_end ∷ []) r.1.now) }
+    ensures stopped { IfErr result (λ stop. (p : ParseState) → IsStop bytes.now (items p) rows.now stop) }
 {
     let mut items = Vec::new(alloc);
-    let mut at = from;
-    while let Some(part) = row_events.get(at) {
-        match *part {
+    let mut left = rows;
+    while let Some((event, rest)) = split_event(left, bytes) {
+        match event {
             RowEvent::Item => {}
-            RowEvent::InnerListEnd => return Ok((items, at + 1)),
-            _ => return Err(ParseStop::At(remaining(row_events, at))),
+            RowEvent::InnerListEnd => return Ok((items, rest)),
+            _ => return Err(ParseStop::At(left.len())),
         }
-        let (read, end) = item(alloc, row_events, at + 1)?;
+        let (read, after) = item(alloc, rest, bytes)?;
         items.push(read)?;
-        at = end;
+        left = after;
     }
-    Err(ParseStop::At(0))
+    Err(ParseStop::At(left.len()))
 }
 
-/// Reads an inner list, and returns where it ends.
-fn inner_list<'a>(
+/// Reads an inner list after the row that begins it, and returns the rows after it.
+fn inner_list<'a, 'r>(
     alloc: Global,
-    row_events: &[RowEvent<'a>],
-    at: usize,
-) -> Result<(MemberCalls<'a>, usize), ParseStop>
-    ensures read { IfOk result (λ r. begins_inner_list ∷ events_from at row_events.now
-        ≡ member_events (supplied_member (member_calls r.0)) ++ events_from r.1 row_events.now) }
+    rows: &'r [Row],
+    bytes: &'a [u8],
+) -> Result<(MemberCalls<'a>, &'r [Row]), ParseStop>
+    ensures read { IfOk result (λ r. (row : Row) → IsRowOf bytes.now row begins_inner_list
+        → Reads bytes.now (row ∷ rows.now) (member_events (supplied_member (member_calls r.0))) r.1.now) }
     ensures whole { IfOk result (λ r. member_calls r.0 ≡ written (supplied_member (member_calls r.0))) }
-    ensures stopped { IfErr result (λ stop. (p : ParseState) → IsStop (items p) (events_from at row_events.now) stop) }
+    ensures stopped { IfErr result (λ stop. (p : ParseState) → IsStop bytes.now (items p) rows.now stop) }
 {
-    let (items, end) = items(alloc, row_events, at)?;
-    let (params, end) = parameters(alloc, row_events, end)?;
+    let (items, left) = items(alloc, rows, bytes)?;
+    let (params, left) = parameters(alloc, left, bytes)?;
     let list = MemberCalls::InnerList {
         items,
         params,
         abandon: false,
     };
-    Ok((list, end))
+    Ok((list, left))
 }
 
-/// Reads a member, and returns where it ends.
-fn member<'a>(
+/// Reads a member, and returns the rows after it.
+fn member<'a, 'r>(
     alloc: Global,
-    row_events: &[RowEvent<'a>],
-    at: usize,
-) -> Result<(MemberCalls<'a>, usize), ParseStop>
-    ensures read { IfOk result (λ r. events_from at row_events.now
-        ≡ member_events (supplied_member (member_calls r.0)) ++ events_from r.1 row_events.now) }
+    rows: &'r [Row],
+    bytes: &'a [u8],
+) -> Result<(MemberCalls<'a>, &'r [Row]), ParseStop>
+    ensures read { IfOk result (λ r. Reads bytes.now rows.now (member_events (supplied_member (member_calls r.0))) r.1.now) }
     ensures whole { IfOk result (λ r. member_calls r.0 ≡ written (supplied_member (member_calls r.0))) }
-    ensures stopped { IfErr result (λ stop. (p : ParseState) → IsStop (member p) (events_from at row_events.now) stop) }
+    ensures stopped { IfErr result (λ stop. (p : ParseState) → IsStop bytes.now (member p) rows.now stop) }
 {
-    match row_events.get(at) {
-        Some(RowEvent::Item) => {
-            let (item, end) = item(alloc, row_events, at + 1)?;
-            Ok((MemberCalls::Item(item), end))
+    let Some((event, rest)) = split_event(rows, bytes) else {
+        return Err(ParseStop::At(rows.len()));
+    };
+    match event {
+        RowEvent::Item => {
+            let (item, left) = item(alloc, rest, bytes)?;
+            Ok((MemberCalls::Item(item), left))
         }
-        Some(RowEvent::InnerList) => inner_list(alloc, row_events, at + 1),
-        _ => Err(ParseStop::At(remaining(row_events, at))),
+        RowEvent::InnerList => inner_list(alloc, rest, bytes),
+        _ => Err(ParseStop::At(rows.len())),
     }
 }
 
 /// Reads an item, and nothing after it.
 pub(crate) fn item_of<'a>(
     alloc: Global,
-    row_events: &[RowEvent<'a>],
+    rows: &[Row],
+    bytes: &'a [u8],
 ) -> Result<ItemCalls<'a>, ParseStop>
-    ensures read { IfOk result (λ calls. events_in row_events.now ≡ events item_field (item_of_calls calls)) }
-    ensures stopped { IfErr result (IsStop (beginning item_field) (events_in row_events.now)) }
+    ensures read { IfOk result (λ calls. AreRowsOfField item_field rows.now bytes.now (item_of_calls calls)) }
+    ensures stopped { IfErr result (IsStop bytes.now (beginning item_field) rows.now) }
 {
-    let (item, end) = item(alloc, row_events, 0)?;
-    if end < row_events.len() {
-        return Err(ParseStop::At(remaining(row_events, end)));
+    let (item, left) = item(alloc, rows, bytes)?;
+    if !left.is_empty() {
+        return Err(ParseStop::At(left.len()));
     }
     Ok(item)
 }
@@ -166,21 +173,25 @@ pub(crate) fn item_of<'a>(
 /// Reads the members of a list.
 pub(crate) fn list_of<'a>(
     alloc: Global,
-    row_events: &[RowEvent<'a>],
+    rows: &[Row],
+    bytes: &'a [u8],
 ) -> Result<Vec<MemberCalls<'a>>, ParseStop>
-    ensures read { IfOk result (λ calls. events_in row_events.now ≡ events list_field (supplied_list calls.items)) }
+    ensures read { IfOk result (λ calls. AreRowsOfField list_field rows.now bytes.now (supplied_list calls.items)) }
     ensures whole { IfOk result (λ calls. described_list calls.items ≡ supplied_list calls.items) }
-    ensures stopped { IfErr result (IsStop (beginning list_field) (events_in row_events.now)) }
+    ensures stopped { IfErr result (IsStop bytes.now (beginning list_field) rows.now) }
 {
     let mut members = Vec::new(alloc);
-    let mut at = 0;
-    while let Some(part) = row_events.get(at) {
-        let RowEvent::Entry = *part else {
-            return Err(ParseStop::At(remaining(row_events, at)));
+    let mut left = rows;
+    while let Some((event, rest)) = split_event(left, bytes) {
+        let RowEvent::Entry = event else {
+            return Err(ParseStop::At(left.len()));
         };
-        let (read, end) = member(alloc, row_events, at + 1)?;
+        let (read, after) = member(alloc, rest, bytes)?;
         members.push(read)?;
-        at = end;
+        left = after;
+    }
+    if !left.is_empty() {
+        return Err(ParseStop::At(left.len()));
     }
     Ok(members)
 }
@@ -188,21 +199,25 @@ pub(crate) fn list_of<'a>(
 /// Reads the members of a dictionary.
 pub(crate) fn dictionary_of<'a>(
     alloc: Global,
-    row_events: &[RowEvent<'a>],
+    rows: &[Row],
+    bytes: &'a [u8],
 ) -> Result<Vec<(KeyRef<'a>, MemberCalls<'a>)>, ParseStop>
-    ensures read { IfOk result (λ calls. events_in row_events.now ≡ events dictionary_field (supplied_dictionary calls.items)) }
+    ensures read { IfOk result (λ calls. AreRowsOfField dictionary_field rows.now bytes.now (supplied_dictionary calls.items)) }
     ensures whole { IfOk result (λ calls. described_dictionary calls.items ≡ supplied_dictionary calls.items) }
-    ensures stopped { IfErr result (IsStop (beginning dictionary_field) (events_in row_events.now)) }
+    ensures stopped { IfErr result (IsStop bytes.now (beginning dictionary_field) rows.now) }
 {
     let mut members = Vec::new(alloc);
-    let mut at = 0;
-    while let Some(part) = row_events.get(at) {
-        let RowEvent::KeyedEntry(key) = *part else {
-            return Err(ParseStop::At(remaining(row_events, at)));
+    let mut left = rows;
+    while let Some((event, rest)) = split_event(left, bytes) {
+        let RowEvent::KeyedEntry(key) = event else {
+            return Err(ParseStop::At(left.len()));
         };
-        let (read, end) = member(alloc, row_events, at + 1)?;
+        let (read, after) = member(alloc, rest, bytes)?;
         members.push((key, read))?;
-        at = end;
+        left = after;
+    }
+    if !left.is_empty() {
+        return Err(ParseStop::At(left.len()));
     }
     Ok(members)
 }

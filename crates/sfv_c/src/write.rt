@@ -1,43 +1,23 @@
 //! Rows that are written as a text.
 
-ghost use Rattle.std.specs.Prelude.{◌≡◌, ◌<◌, length, IfOk, OnErr, Bool, List};
+ghost use Rattle.std.specs.Prelude.{◌≡◌, ℕ, List, length};
 ghost use Rattle.sfv.specs.Types.{FieldKind, item_field, list_field, dictionary_field};
 ghost use Rattle.sfv.specs.Types.{Version};
-ghost use Rattle.sfv.specs.Events.{TreeEvent};
-ghost use Rattle.sfv_c.specs.RowEvents.{events_in, beginning, AreEventsOf, IsTextMade, IsTextFault, IsStop};
-ghost use Rattle.sfv_c.specs.Writing.{IsWrite, IsWriteOutcome};
+ghost use Rattle.sfv_c.specs.declared.rows.Row.{Row};
+ghost use Rattle.sfv_c.specs.RowEvents.{beginning, IsTextMade, IsStop};
+ghost use Rattle.sfv_c.specs.Writing.{IsWrite, IsWriteOutcome, IsWriteFault};
 
 use crate::answer::{Answer, CallFault, Written, put_text};
-use crate::row_event::{RowEvent, event_at};
 use crate::rows::Row;
 use crate::rows_to_calls::{ParseStop, dictionary_of, item_of, list_of};
 use sfv::script::{run_dict_for, run_item_for, run_list_for};
-use sfv::{FieldKind, OutOfMemory, SerializeError, Version};
+use sfv::{FieldKind, SerializeError, Version};
 use std::alloc::Global;
 
-/// The events of the rows, up to the first row that is that of none.
-fn events_of_rows<'a>(
-    alloc: Global,
-    rows: &[Row],
-    bytes: &'a [u8],
-) -> Result<Vec<RowEvent<'a>>, OutOfMemory>
-    ensures events { IfOk result (λ row_events. AreEventsOf bytes.now rows.now (events_in row_events.items)) }
-    ensures some { OnErr result (0 < length rows.now) }
-{
-    let mut row_events = Vec::new(alloc);
-    for row in rows {
-        let Some(part) = event_at(row, bytes) else {
-            return Ok(row_events);
-        };
-        row_events.push(part)?;
-    }
-    Ok(row_events)
-}
-
-/// Why so many parts are those of no field.
+/// Why so many rows are those of no field.
 fn fault_of(count: usize, stop: ParseStop) -> CallFault
-    ensures { (kind : FieldKind) (es : List TreeEvent) (whole : Bool) (version : Version)
-        → count ≡ length es → IsStop (beginning kind) es stop → IsTextFault version kind es whole result }
+    ensures { (version : Version) (kind : FieldKind) (rows : List Row) (bytes : List ℕ)
+        → count ≡ length rows → IsStop bytes (beginning kind) rows stop → IsWriteFault version kind rows bytes result }
 {
     match stop {
         ParseStop::At(left) => CallFault::Rows(count.saturating_sub(left)),
@@ -45,77 +25,74 @@ fn fault_of(count: usize, stop: ParseStop) -> CallFault
     }
 }
 
-/// The text of an item of these events, if these are all.
+/// The text of the item of these rows.
 fn item_text(
     alloc: Global,
     writing: Version,
-    row_events: &[RowEvent<'_>],
-    whole: bool,
+    rows: &[Row],
+    bytes: &[u8],
 ) -> Result<Option<String>, CallFault>
-    ensures { IsTextMade writing item_field (events_in row_events.now) whole result }
+    ensures { IsTextMade writing item_field rows.now bytes.now result }
 {
-    let calls = match item_of(alloc, row_events) {
-        Ok(calls) if whole => calls,
-        Ok(_) => return Err(CallFault::Rows(row_events.len())),
-        Err(stop) => return Err(fault_of(row_events.len(), stop)),
+    let calls = match item_of(alloc, rows, bytes) {
+        Ok(calls) => calls,
+        Err(stop) => return Err(fault_of(rows.len(), stop)),
     };
     let mut text = String::new(alloc);
     run_item_for(writing, &mut text, &calls)?;
     Ok(Some(text))
 }
 
-/// The text of a list of these events, if these are all, and it has a member.
+/// The text of the list of these rows, if it has a member.
 fn list_text(
     alloc: Global,
     writing: Version,
-    row_events: &[RowEvent<'_>],
-    whole: bool,
+    rows: &[Row],
+    bytes: &[u8],
 ) -> Result<Option<String>, CallFault>
-    ensures { IsTextMade writing list_field (events_in row_events.now) whole result }
+    ensures { IsTextMade writing list_field rows.now bytes.now result }
 {
-    let calls = match list_of(alloc, row_events) {
-        Ok(calls) if whole => calls,
-        Ok(_) => return Err(CallFault::Rows(row_events.len())),
-        Err(stop) => return Err(fault_of(row_events.len(), stop)),
+    let calls = match list_of(alloc, rows, bytes) {
+        Ok(calls) => calls,
+        Err(stop) => return Err(fault_of(rows.len(), stop)),
     };
     let mut text = String::new(alloc);
     let stands = run_list_for(writing, &mut text, &calls)?;
     Ok(if stands { Some(text) } else { None })
 }
 
-/// The text of a dictionary of these events, if these are all, and it has a member.
+/// The text of the dictionary of these rows, if it has a member.
 fn dictionary_text(
     alloc: Global,
     writing: Version,
-    row_events: &[RowEvent<'_>],
-    whole: bool,
+    rows: &[Row],
+    bytes: &[u8],
 ) -> Result<Option<String>, CallFault>
-    ensures { IsTextMade writing dictionary_field (events_in row_events.now) whole result }
+    ensures { IsTextMade writing dictionary_field rows.now bytes.now result }
 {
-    let calls = match dictionary_of(alloc, row_events) {
-        Ok(calls) if whole => calls,
-        Ok(_) => return Err(CallFault::Rows(row_events.len())),
-        Err(stop) => return Err(fault_of(row_events.len(), stop)),
+    let calls = match dictionary_of(alloc, rows, bytes) {
+        Ok(calls) => calls,
+        Err(stop) => return Err(fault_of(rows.len(), stop)),
     };
     let mut text = String::new(alloc);
     let stands = run_dict_for(writing, &mut text, &calls)?;
     Ok(if stands { Some(text) } else { None })
 }
 
-/// The text of these events, if these are all.
+/// The text of the field of these rows.
 fn text_of(
     alloc: Global,
     field: FieldKind,
     writing: Version,
-    row_events: &[RowEvent<'_>],
-    whole: bool,
+    rows: &[Row],
+    bytes: &[u8],
 ) -> Result<Option<String>, CallFault>
-    ensures { IsTextMade writing field (events_in row_events.now) whole result }
+    ensures { IsTextMade writing field rows.now bytes.now result }
 {
     match field {
-        FieldKind::Item => item_text(alloc, writing, row_events, whole),
-        FieldKind::List => list_text(alloc, writing, row_events, whole),
-        FieldKind::Dictionary => dictionary_text(alloc, writing, row_events, whole),
+        FieldKind::Item => item_text(alloc, writing, rows, bytes),
+        FieldKind::List => list_text(alloc, writing, rows, bytes),
+        FieldKind::Dictionary => dictionary_text(alloc, writing, rows, bytes),
     }
 }
 
@@ -130,11 +107,7 @@ fn put_rows(
 ) -> Result<Written, CallFault>
     ensures { IsWriteOutcome writing field rows.now bytes.now out.old out.new result }
 {
-    let Ok(row_events) = events_of_rows(alloc, rows, bytes) else {
-        return Err(CallFault::Write(SerializeError::OutOfMemory));
-    };
-    let whole = row_events.len() == rows.len();
-    let text = text_of(alloc, field, writing, &row_events, whole)?;
+    let text = text_of(alloc, field, writing, rows, bytes)?;
     Ok(put_text(text, out))
 }
 

@@ -52,7 +52,7 @@ const TEXTS: &[(&str, &str, &str)] = &[
 #[test]
 fn texts_of_any_length_give_themselves(rt: HostRuntime) -> Result<(), Fail> {
     let alloc = rt.alloc();
-    for &times in &[31, 32, 33, 63, 64, 65, 1_001] {
+    for &times in &[7, 8, 9, 15, 16, 17, 31, 32, 33, 63, 64, 65, 1_001] {
         for &(front, text, end) in TEXTS {
             let item = repeated(alloc, front, text, times, end)?;
             let parameter = format!(in alloc; "1;a={item};b")?;

@@ -1,58 +1,73 @@
-use Rattle.std.proofs.Common.{◌≡◌, ◌∙◌, List, sym, subst, ◌∷◌, ◌++◌, ◌+◌, ◌<◌, ap, flat_map, length}
+use Rattle.std.proofs.Common.{◌≡◌, ◌∷◌, [], List, flat_map, refl, sym, subst}
 use Rattle.sfv.specs.Calls.{supplied_member}
-use Rattle.sfv.specs.Events.{TreeEvent, entry_events, member_events}
+use Rattle.sfv.specs.Events.{TreeEvent, entry, entry_events, member_events}
 use Rattle.sfv.specs.Scripts.{supplied_list, described_list, member_calls}
-use Rattle.sfv.specs.Types.{MemberCalls}
-use Rattle.sfv_c.specs.declared.row_event.RowEvent.{RowEvent}
-use Rattle.sfv_c.specs.RowEvents.{list_members, member, after, tree_event, stops, events_in, events_from}
+use Rattle.sfv.specs.Types.{MemberCalls, list_field}
+use Rattle.sfv_c.specs.declared.rows.Row.{Row}
+use Rattle.sfv_c.specs.RowEvents.{list_members, member, tree_event, Reads}
+use Rattle.sfv_c.proofs.Fields.{field_of}
 use Rattle.sfv_c.proofs.Places.{stops_list}
-use Rattle.sfv_c.proofs.Stops.{err_and, carried, goes_on, some_left, stuck, not_entry, shrinks, events_next, list_more, list_whole}
+use Rattle.sfv_c.proofs.RowEvents.{reads_shrinks}
+use Rattle.sfv_c.proofs.Stops.{err_and, after_event, stopped_at, stopped_early, some_row, not_entry, not_empty, is_empty}
+use Rattle.sfv_c.proofs.Stops.{list_more, list_whole}
 use Rattle.sfv_c.proofs.rows_to_calls.list_of.Goals as goal
 
-pub returns-in_default-part : goal.returns-in_default-part
-returns-in_default-part c = record {
+-- the events of these calls
+abbrev read_so_far : List MemberCalls → List TreeEvent
+read_so_far calls = flat_map entry_events (supplied_list calls)
+
+pub returns-in_default-event : goal.returns-in_default-event
+returns-in_default-event c = record {
   read = tt;
   whole = tt;
-  stopped = ap (stops list_members) c.loop-part.invariant.read
-      ∙ (stops_list (supplied_list c.loop-part.members.items) (events_from c.loop-part.at c.args.row_events.now)
-      ∙ stuck list_members c.args.row_events.now c.loop-part.at c.in-Some.part.now _ c.in-Some.ensures.lookup.3.0
-      c.in-Some.ensures.lookup.1 c.remaining.ensures (not_entry _ c.in_default-part.not-Entry));
+  stopped = stopped_at c.args.bytes.now list_members list_members c.args.rows.now
+      (read_so_far c.loop-event.members.items) c.loop-event.left.now (tree_event c.in-Some.event) c.in-Some.rest.now
+      c.loop-event.invariant.read (stops_list (supplied_list c.loop-event.members.items)) c.in-Some.ensures
+      (not_entry c.in-Some.event c.in_default-event.not-Entry);
 }
 
 pub returns-in_err-read-clause-stopped : goal.returns-in_err-read-clause-stopped
 returns-in_err-read-clause-stopped c = err_and c.from_residual.result _ _ c.from_residual.ensures.1
-    (let h : c.loop-part.at < length c.args.row_events.now = c.in-Some.ensures.lookup.3.0 in
-    carried list_members (member list_members) _ (events_from (c.loop-part.at + 1) c.args.row_events.now)
-    (ap (stops list_members) c.loop-part.invariant.read
-    ∙ (stops_list (supplied_list c.loop-part.members.items) (events_from c.loop-part.at c.args.row_events.now)
-    ∙ goes_on list_members (member list_members) c.args.row_events.now c.loop-part.at c.in-Some.part.now h
-    c.in-Some.ensures.lookup.1 (ap (λ x. after list_members (tree_event x)) c.in-Entry.is)))
-    (some_left _ (flat_map entry_events (supplied_list c.loop-part.members.items)) c.args.row_events.now
-    c.loop-part.at c.loop-part.invariant.read h)
-    _ (c.in_err-read.ensures.stopped list_members))
+    (after_event c.args.bytes.now list_members list_members (member list_members) c.args.rows.now
+    (read_so_far c.loop-event.members.items) c.loop-event.left.now entry c.in-Some.rest.now c.loop-event.invariant.read
+    (stops_list (supplied_list c.loop-event.members.items))
+    (subst (λ x. Reads c.args.bytes.now c.loop-event.left.now (tree_event x ∷ []) c.in-Some.rest.now) c.in-Entry.is
+    c.in-Some.ensures)
+    refl _ (c.in_err-read.ensures.stopped list_members))
 
-pub loop-part-smaller : goal.loop-part-smaller
-loop-part-smaller c = shrinks c.args.row_events.now c.loop-part.at c.in_ok-read.end
-    (member_events (supplied_member (member_calls c.in_ok-read.read))) c.in-Some.ensures.lookup.3.0
+pub returns-in_err-push-clause-stopped : goal.returns-in_err-push-clause-stopped
+returns-in_err-push-clause-stopped c =
+    err_and c.from_residual-in_err-push.result _ _ c.from_residual-in_err-push.ensures.1
+    (some_row c.args.bytes.now c.args.rows.now (read_so_far c.loop-event.members.items) c.loop-event.left.now
+    (tree_event c.in-Some.event) c.in-Some.rest.now c.loop-event.invariant.read c.in-Some.ensures)
+
+pub loop-event-smaller : goal.loop-event-smaller
+loop-event-smaller c = reads_shrinks c.args.bytes.now c.loop-event.left.now (tree_event c.in-Some.event) c.in-Some.rest.now
+    (member_events (supplied_member (member_calls c.in_ok-read.read))) c.in_ok-read.after.now c.in-Some.ensures
     c.in_ok-read.ensures.read
 
-pub loop-part-preserved : goal.loop-part-preserved
-loop-part-preserved c =
-    let next = events_next c.args.row_events.now c.loop-part.at c.in-Some.part.now c.in-Some.ensures.lookup.3.0
-    c.in-Some.ensures.lookup.1 in
-    let here = events_from (c.loop-part.at + 1) c.args.row_events.now in
-    record {
-      read = subst
-          (λ (ms : List MemberCalls). events_in c.args.row_events.now
-          ≡ flat_map entry_events (supplied_list ms) ++ events_from c.in_ok-read.end c.args.row_events.now)
-          (sym c.in_ok-push.ensures.items)
-          (list_more (events_in c.args.row_events.now) here (events_from c.in_ok-read.end c.args.row_events.now)
-          c.loop-part.members.items c.in_ok-read.read
-          (c.loop-part.invariant.read
-          ∙ ap (λ (x : List TreeEvent). flat_map entry_events (supplied_list c.loop-part.members.items) ++ x)
-          (next ∙ ap (λ (x : RowEvent). tree_event x ∷ here) c.in-Entry.is))
-          c.in_ok-read.ensures.read);
-      whole = subst (λ (ms : List MemberCalls). described_list ms ≡ supplied_list ms) (sym c.in_ok-push.ensures.items)
-          (list_whole c.loop-part.members.items c.in_ok-read.read c.loop-part.invariant.whole
-          c.in_ok-read.ensures.whole);
-    }
+pub loop-event-preserved : goal.loop-event-preserved
+loop-event-preserved c = record {
+  read = subst
+      (λ (calls : List MemberCalls). Reads c.args.bytes.now c.args.rows.now (read_so_far calls) c.in_ok-read.after.now)
+      (sym c.in_ok-push.ensures.items)
+      (list_more c.args.bytes.now c.args.rows.now c.loop-event.left.now c.in-Some.rest.now c.in_ok-read.after.now
+      c.loop-event.members.items c.in_ok-read.read c.loop-event.invariant.read
+      (subst (λ x. Reads c.args.bytes.now c.loop-event.left.now (tree_event x ∷ []) c.in-Some.rest.now) c.in-Entry.is
+      c.in-Some.ensures)
+      c.in_ok-read.ensures.read);
+  whole = subst (λ (calls : List MemberCalls). described_list calls ≡ supplied_list calls)
+      (sym c.in_ok-push.ensures.items)
+      (list_whole c.loop-event.members.items c.in_ok-read.read c.loop-event.invariant.whole c.in_ok-read.ensures.whole);
+}
+
+pub returns-then-not-is_empty-clause-stopped : goal.returns-then-not-is_empty-clause-stopped
+returns-then-not-is_empty-clause-stopped c = stopped_early c.args.bytes.now list_members list_members c.args.rows.now
+    (read_so_far c.loop-event.members.items) c.loop-event.left.now c.loop-event.invariant.read
+    (stops_list (supplied_list c.loop-event.members.items)) c.in_default.ensures
+    (λ e. absurd (not_empty c.loop-event.left.now c.if-not-is_empty.ensures e))
+
+pub returns-clause-read : goal.returns-clause-read
+returns-clause-read c = field_of list_field c.args.rows.now c.args.bytes.now (supplied_list c.loop-event.members.items)
+    (subst (λ (r : List Row). Reads c.args.bytes.now c.args.rows.now (read_so_far c.loop-event.members.items) r)
+    (is_empty c.loop-event.left.now c.if-not-is_empty.ensures) c.loop-event.invariant.read)

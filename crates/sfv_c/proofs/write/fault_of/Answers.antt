@@ -1,0 +1,10 @@
+use Rattle.std.proofs.Common.{◌≡◌, ◌∙◌, ◌-◌, sym, ap, subst}
+use Rattle.sfv_c.specs.Writing.{AreWrongAt}
+use Rattle.sfv_c.specs.RowEvents.{beginning, IsStop}
+use Rattle.sfv_c.proofs.WrongRows.{wrong_rows}
+use Rattle.sfv_c.proofs.write.fault_of.Goals as goal
+
+pub returns-in-At : goal.returns-in-At
+returns-in-At c version kind rows bytes h s = subst (AreWrongAt kind rows bytes)
+    (sym (c.saturating_sub.ensures ∙ ap (λ n. n - c.in-At.left) h))
+    (wrong_rows bytes kind rows c.in-At.left (subst (IsStop bytes (beginning kind) rows) c.in-At.is s))
