@@ -1,10 +1,12 @@
 -- Rows and the events that they are.
-use Rattle.std.proofs.Common.{◌≡◌, ℕ, ℤ, zero, suc, ◌+◌, ◌<◌, List, [], ◌∷◌, ◌++◌, length, take, refl, sym, ◌∙◌, ap, subst, arith}
-use Rattle.sfv.specs.Events.{TreeEvent}
+use Rattle.std.proofs.Common.{◌≡◌, ℕ, ℤ, zero, suc, ◌+◌, ◌<◌, List, [], ◌∷◌, ◌++◌, length, take, refl, sym, ◌∙◌, ap, subst, arith, Option, Some, None}
+use Rattle.sfv.specs.Events.{TreeEvent, keyed_entry, bare_item, parameter}
+use Rattle.sfv.specs.KeyText.{KeyRef}
+use Rattle.sfv.specs.Types.{ParamCall}
 use Rattle.sfv_c.specs.declared.rows.Row.{Row}
 use Rattle.sfv_c.specs.Rows.{EventNumbers, numbers_of}
 use Rattle.sfv_c.specs.Writing.{IsRowOf, IsRowOfNumbers, AreRowsOf}
-use Rattle.sfv_c.specs.RowEvents.{IsValidEvent, Reads}
+use Rattle.sfv_c.specs.RowEvents.{IsValidEvent, RefItem, GivesKey, GivesValue, GivesParameter, Reads}
 use Rattle.sfv_c.proofs.Unique.{same_event}
 use Rattle.sfv_c.proofs.Valid.{AreValid}
 
@@ -34,6 +36,23 @@ same_row bytes row p q h k =
 pub only_event : (bytes : List ℕ) (row : Row) (a b : TreeEvent) → IsRowOf bytes row a → IsRowOf bytes row b → a ≡ b
 only_event bytes row a b h k = same_event a b (same_row bytes row (numbers_of a) (numbers_of b) h k)
 
+-- what parts give, the row of these parts gives
+module _ (bytes : List ℕ) (row : Row) (p : EventNumbers) where
+  pub gives_key : (r : Option KeyRef) → IsRowOfNumbers bytes row p → GivesKey (λ e. numbers_of e ≡ p) r
+      → GivesKey (IsRowOf bytes row) r
+  gives_key None d h = λ key k is. h key k (same_row bytes row (numbers_of (keyed_entry key)) p is d)
+  gives_key (Some key) d h = (h.0, subst (IsRowOfNumbers bytes row) (sym h.1) d)
+
+  pub gives_value : (r : Option RefItem) → IsRowOfNumbers bytes row p → GivesValue (λ e. numbers_of e ≡ p) r
+      → GivesValue (IsRowOf bytes row) r
+  gives_value None d h = λ v b is. h v b (same_row bytes row (numbers_of (bare_item v)) p is d)
+  gives_value (Some item) d h = (h.0, subst (IsRowOfNumbers bytes row) (sym h.1) d)
+
+  pub gives_parameter : (r : Option ParamCall) → IsRowOfNumbers bytes row p → GivesParameter (λ e. numbers_of e ≡ p) r
+      → GivesParameter (IsRowOf bytes row) r
+  gives_parameter None d h = λ key v k b is. h key v k b (same_row bytes row (numbers_of (parameter key v)) p is d)
+  gives_parameter (Some call) d h = (h.0, h.1, subst (IsRowOfNumbers bytes row) (sym h.2) d)
+
 module _ (bytes : List ℕ) where
   -- further
   pub reads_on : (rows : List Row) (es : List TreeEvent) (mid : List Row) (more : List TreeEvent) (rest : List Row)
@@ -42,9 +61,9 @@ module _ (bytes : List ℕ) where
   reads_on [] (e ∷ es) mid more rest h k = absurd h
   reads_on (r ∷ rs) (e ∷ es) mid more rest h k = (h.0, h.1, reads_on rs es mid more rest h.2 k)
 
-  pub reads_one : (row : Row) (rest : List Row) (e : TreeEvent) → IsValidEvent e → IsRowOf bytes row e
-      → Reads bytes (row ∷ rest) (e ∷ []) rest
-  reads_one row rest e v h = (v, h, refl)
+  pub reads_one : (rows : List Row) (row : Row) (rest : List Row) (e : TreeEvent) → rows ≡ row ∷ rest → IsValidEvent e
+      → IsRowOf bytes row e → Reads bytes rows (e ∷ []) rest
+  reads_one rows row rest e is v h = subst (λ (r : List Row). Reads bytes r (e ∷ []) rest) (sym is) (v, h, refl)
 
   pub reads_length : (rows : List Row) (es : List TreeEvent) (rest : List Row) → Reads bytes rows es rest
       → length rows ≡ length es + length rest
@@ -52,10 +71,9 @@ module _ (bytes : List ℕ) where
   reads_length [] (e ∷ es) rest h = absurd h
   reads_length (r ∷ rs) (e ∷ es) rest h = omega (arith, reads_length rs es rest h.2)
 
-  pub reads_shrinks : (rows : List Row) (e : TreeEvent) (rest : List Row) (es : List TreeEvent) (left : List Row)
-      → Reads bytes rows (e ∷ []) rest → Reads bytes rest es left → length left < length rows
-  reads_shrinks rows e rest es left h k =
-      omega (arith, reads_length rows (e ∷ []) rest h, reads_length rest es left k)
+  pub reads_shrinks : (rows : List Row) (row : Row) (rest : List Row) (es : List TreeEvent) (left : List Row)
+      → rows ≡ row ∷ rest → Reads bytes rest es left → length left < length rows
+  reads_shrinks rows row rest es left is h = omega (arith, ap length is, reads_length rest es left h)
 
   pub reads_valid : (rows : List Row) (es : List TreeEvent) (rest : List Row) → Reads bytes rows es rest → AreValid es
   reads_valid rows [] rest h = tt

@@ -1,27 +1,27 @@
 -- Where the reading of events stops.
 use Rattle.std.proofs.Common.{◌≡◌, ℕ, ◌<◌, List, [], ◌∷◌, ◌++◌, length, map, flat_map, refl, sym, ◌∙◌, ap, subst}
-use Rattle.std.proofs.Common.{arith, append_assoc, Bool, true, false, ◌==◌, Option, Some, None, MatchOption}
+use Rattle.std.proofs.Common.{arith, append_assoc, Bool, true, false, IsTrue, ◌==◌, Option, Some, None}
 use Rattle.std.proofs.Common.{Result, Ok, Err}
 use Rattle.std.specs.Result.{IsErrAnd, IfErr}
-use Rattle.std.specs.Borrow.{Bor}
 use Rattle.std.proofs.lemmas.Bool.Decides.{nat_tests}
 use Rattle.std.proofs.lemmas.List.{append-nil, map-append}
 use Rattle.std.proofs.lemmas.Grind.{flat_map-append}
 use Rattle.std.proofs.lemmas.List.Elements.{filter_map-append}
 use Rattle.sfv.specs.Events.{TreeEvent, entry, keyed_entry, begins_item, item_events, inner_item_events, member_events}
-use Rattle.sfv.specs.Events.{entry_events, keyed_events}
+use Rattle.sfv.specs.Events.{entry_events, keyed_events, begins_inner_list, bare_item, parameter, parameters_end, inner_list_end}
+use Rattle.sfv.specs.Classes.{is_key}
+use Rattle.sfv.specs.Values.{BareValue, IsBareValue}
 use Rattle.sfv.specs.Calls.{written, supplied_member}
 use Rattle.sfv.specs.KeyText.{KeyRef, key_text}
 use Rattle.sfv.specs.Scripts.{item_of_calls, member_calls, supplied_list, described_list, supplied_dictionary, described_dictionary}
 use Rattle.sfv.specs.Types.{ItemCalls, MemberCalls}
 use Rattle.sfv_c.specs.declared.rows.Row.{Row}
-use Rattle.sfv_c.specs.declared.row_event.RowEvent.{RowEvent}
-use Rattle.sfv_c.specs.declared.row_event.RowEvent.TheVariants as parts
 use Rattle.sfv_c.specs.declared.rows_to_calls.ParseStop.{ParseStop}
 use Rattle.sfv_c.specs.declared.rows_to_calls.ParseStop.TheVariants as stop
 use Rattle.sfv_c.specs.RowEvents.{ParseState, ended, list_members, dictionary_members, member, value, parameters, items}
-use Rattle.sfv_c.specs.RowEvents.{RefItem, stops, after, may_end, tree_event, HasNoEvent, Reads, IsStuck, StopsAt, IsStop}
-use Rattle.sfv_c.proofs.RowEvents.{reads_on, reads_length, only_event}
+use Rattle.sfv_c.specs.RowEvents.{IsValidEvent, stops, after, may_end, Reads, IsStuck, StopsAt, IsStop}
+use Rattle.sfv_c.specs.Writing.{IsRowOf}
+use Rattle.sfv_c.proofs.RowEvents.{reads_on, reads_length}
 
 -- an error that a call hands on
 pub err_and : {T E : Type 0} (r : Result T E) (e : E) (Q : E → Type 0) → IsErrAnd r (λ x. x ≡ e) → Q e → IfErr r Q
@@ -42,6 +42,10 @@ pub a_place : (p q : ParseState) (e : TreeEvent) (es : List TreeEvent) → after
 a_place p q e es h = subst
     (λ (o : Option ParseState). elim o [ None ↦ Some (length (e ∷ es)) | Some next ↦ stops next es ] ≡ stops q es)
     (sym h) refl
+
+pub no_row : (rows : List Row) → length rows ≡ 0 → rows ≡ []
+no_row [] h = refl
+no_row (row ∷ rows) h = absurd (omega (arith, h))
 
 module _ (bytes : List ℕ) where
   pub stop_here : (p : ParseState) (rows : List Row) (n : ℕ) → IsStuck bytes p rows → n ≡ length rows → StopsAt bytes p rows n
@@ -71,36 +75,24 @@ module _ (bytes : List ℕ) where
   after_event p q next rows es left e rest r l h a s k = stop_after p q rows es left r l s
       (stop_after q next left (e ∷ []) rest h (λ more. a_place q next e more a) s k)
 
-  -- where there is no next event, or it can't come
-  pub stuck_end : (p : ParseState) (rows : List Row) → HasNoEvent bytes rows → (rows ≡ [] → may_end p ≡ false)
-      → IsStuck bytes p rows
-  stuck_end p [] h f = f refl
-  stuck_end p (row ∷ rows) h f = λ e v i. absurd (h e v i)
+  -- where no event can come, or there is none
+  pub stuck_at : (p : ParseState) (rows : List Row) (row : Row) (rest : List Row) → rows ≡ row ∷ rest
+      → ((e : TreeEvent) → IsValidEvent e → IsRowOf bytes row e → after p e ≡ None) → IsStuck bytes p rows
+  stuck_at p rows row rest is h = subst (IsStuck bytes p) (sym is) h
 
-  pub stuck_at : (p : ParseState) (rows : List Row) (e : TreeEvent) (rest : List Row) → Reads bytes rows (e ∷ []) rest
-      → after p e ≡ None → IsStuck bytes p rows
-  stuck_at p [] e rest h a = absurd h
-  stuck_at p (row ∷ rows) e rest h a =
-      λ o v i. subst (λ (y : TreeEvent). after p y ≡ None) (only_event bytes row e o h.1 i) a
+  pub stuck_end : (p : ParseState) (rows : List Row) → length rows ≡ 0 → may_end p ≡ false → IsStuck bytes p rows
+  stuck_end p rows is h = subst (IsStuck bytes p) (sym (no_row rows is)) h
 
   -- the same after events that were read
-  pub stopped_at : (p q : ParseState) (rows : List Row) (es : List TreeEvent) (left : List Row) (e : TreeEvent)
-      (rest : List Row) → Reads bytes rows es left → ((more : List TreeEvent) → stops p (es ++ more) ≡ stops q more)
-      → Reads bytes left (e ∷ []) rest → after q e ≡ None → StopsAt bytes p rows (length left)
-  stopped_at p q rows es left e rest r l h a = stop_after p q rows es left r l (stop.At (length left))
-      (stop_here q left (length left) (stuck_at q left e rest h a) refl)
+  pub stopped_at : (p q : ParseState) (rows : List Row) (es : List TreeEvent) (left : List Row) → Reads bytes rows es left
+      → ((more : List TreeEvent) → stops p (es ++ more) ≡ stops q more) → IsStuck bytes q left
+      → StopsAt bytes p rows (length left)
+  stopped_at p q rows es left r l k =
+      stop_after p q rows es left r l (stop.At (length left)) (stop_here q left (length left) k refl)
 
-  pub stopped_early : (p q : ParseState) (rows : List Row) (es : List TreeEvent) (left : List Row) → Reads bytes rows es left
-      → ((more : List TreeEvent) → stops p (es ++ more) ≡ stops q more) → HasNoEvent bytes left
-      → (left ≡ [] → may_end q ≡ false) → StopsAt bytes p rows (length left)
-  stopped_early p q rows es left r l h f = stop_after p q rows es left r l (stop.At (length left))
-      (stop_here q left (length left) (stuck_end q left h f) refl)
-
-  -- where an event was read, there is a row
-  pub some_row : (rows : List Row) (es : List TreeEvent) (left : List Row) (e : TreeEvent) (rest : List Row)
-      → Reads bytes rows es left → Reads bytes left (e ∷ []) rest → 0 < length rows
-  some_row rows es left e rest r h =
-      omega (arith, reads_length bytes rows es left r, reads_length bytes left (e ∷ []) rest h)
+  pub some_row : (rows : List Row) (es : List TreeEvent) (left : List Row) (row : Row) (rest : List Row)
+      → Reads bytes rows es left → left ≡ row ∷ rest → 0 < length rows
+  some_row rows es left row rest r h = omega (arith, reads_length bytes rows es left r, ap length h)
 
   -- nothing may follow an item
   pub over : (rows : List Row) → (rows ≡ [] → ⊥) → IsStuck bytes ended rows
@@ -115,76 +107,86 @@ none_left : (n : ℕ) → true ≡ (n == 0) → n ≡ 0
 none_left n h = grind (arith, nat_tests)
 
 pub is_empty : (rows : List Row) → true ≡ (length rows == 0) → rows ≡ []
-is_empty [] h = refl
-is_empty (row ∷ rows) h = absurd (omega (arith, none_left (length (row ∷ rows)) h))
+is_empty rows h = no_row rows (none_left (length rows) h)
+
+-- by a test of what holds
+pub holds : (Q : Type 0) (b : Bool) → (IsTrue b → Q) × (Q → IsTrue b) → b ≡ true → Q
+holds Q b h e = h.0 e
+
+pub fails : (Q : Type 0) (b : Bool) → (IsTrue b → Q) × (Q → IsTrue b) → b ≡ false → Q → ⊥
+fails Q b h e q = let t = h.1 q in cc
 
 -- the events that may come at a place
-module _ (p : ParseState) where
-  pub not_parameter : (part : RowEvent) → ((key : KeyRef) (v : RefItem) → part ≡ parts.Parameter key v → ⊥) → (part ≡ parts.ParametersEnd → ⊥)
-      → after (parameters p) (tree_event part) ≡ None
-  not_parameter parts.Entry h g = refl
-  not_parameter (parts.KeyedEntry key) h g = refl
-  not_parameter parts.Item h g = refl
-  not_parameter parts.InnerList h g = refl
-  not_parameter (parts.BareItem v) h g = refl
-  not_parameter (parts.Parameter key v) h g = absurd (h key v refl)
-  not_parameter parts.ParametersEnd h g = absurd (g refl)
-  not_parameter parts.InnerListEnd h g = refl
+module _ (bytes : List ℕ) (p : ParseState) (row : Row) where
+  pub not_parameter : (IsRowOf bytes row parameters_end → ⊥)
+      → ((key : List ℕ) (v : BareValue) → IsTrue (is_key key) → IsBareValue v → IsRowOf bytes row (parameter key v) → ⊥)
+      → (e : TreeEvent) → IsValidEvent e → IsRowOf bytes row e → after (parameters p) e ≡ None
+  not_parameter h g entry b i = refl
+  not_parameter h g (keyed_entry key) b i = refl
+  not_parameter h g begins_item b i = refl
+  not_parameter h g begins_inner_list b i = refl
+  not_parameter h g (bare_item v) b i = refl
+  not_parameter h g (parameter key v) b i = absurd (g key v b.0 b.1 i)
+  not_parameter h g parameters_end b i = absurd (h i)
+  not_parameter h g inner_list_end b i = refl
 
-  pub not_value : (part : RowEvent) → ((v : RefItem) → part ≡ parts.BareItem v → ⊥)
-      → after (value p) (tree_event part) ≡ None
-  not_value parts.Entry h = refl
-  not_value (parts.KeyedEntry key) h = refl
-  not_value parts.Item h = refl
-  not_value parts.InnerList h = refl
-  not_value (parts.BareItem v) h = absurd (h v refl)
-  not_value (parts.Parameter key v) h = refl
-  not_value parts.ParametersEnd h = refl
-  not_value parts.InnerListEnd h = refl
+  pub not_value : ((v : BareValue) → IsBareValue v → IsRowOf bytes row (bare_item v) → ⊥)
+      → (e : TreeEvent) → IsValidEvent e → IsRowOf bytes row e → after (value p) e ≡ None
+  not_value h entry b i = refl
+  not_value h (keyed_entry key) b i = refl
+  not_value h begins_item b i = refl
+  not_value h begins_inner_list b i = refl
+  not_value h (bare_item v) b i = absurd (h v b i)
+  not_value h (parameter key v) b i = refl
+  not_value h parameters_end b i = refl
+  not_value h inner_list_end b i = refl
 
-  pub not_item : (part : RowEvent) → (part ≡ parts.Item → ⊥) → (part ≡ parts.InnerListEnd → ⊥)
-      → after (items p) (tree_event part) ≡ None
-  not_item parts.Entry h g = refl
-  not_item (parts.KeyedEntry key) h g = refl
-  not_item parts.Item h g = absurd (h refl)
-  not_item parts.InnerList h g = refl
-  not_item (parts.BareItem v) h g = refl
-  not_item (parts.Parameter key v) h g = refl
-  not_item parts.ParametersEnd h g = refl
-  not_item parts.InnerListEnd h g = absurd (g refl)
+  pub not_item : (IsRowOf bytes row inner_list_end → ⊥)
+      → (IsRowOf bytes row begins_item → ⊥)
+      → (e : TreeEvent) → IsValidEvent e → IsRowOf bytes row e → after (items p) e ≡ None
+  not_item h g entry b i = refl
+  not_item h g (keyed_entry key) b i = refl
+  not_item h g begins_item b i = absurd (g i)
+  not_item h g begins_inner_list b i = refl
+  not_item h g (bare_item v) b i = refl
+  not_item h g (parameter key v) b i = refl
+  not_item h g parameters_end b i = refl
+  not_item h g inner_list_end b i = absurd (h i)
 
-  pub not_member : (part : RowEvent) → (part ≡ parts.Item → ⊥) → (part ≡ parts.InnerList → ⊥)
-      → after (member p) (tree_event part) ≡ None
-  not_member parts.Entry h g = refl
-  not_member (parts.KeyedEntry key) h g = refl
-  not_member parts.Item h g = absurd (h refl)
-  not_member parts.InnerList h g = absurd (g refl)
-  not_member (parts.BareItem v) h g = refl
-  not_member (parts.Parameter key v) h g = refl
-  not_member parts.ParametersEnd h g = refl
-  not_member parts.InnerListEnd h g = refl
+  pub not_member : (IsRowOf bytes row begins_item → ⊥)
+      → (IsRowOf bytes row begins_inner_list → ⊥)
+      → (e : TreeEvent) → IsValidEvent e → IsRowOf bytes row e → after (member p) e ≡ None
+  not_member h g entry b i = refl
+  not_member h g (keyed_entry key) b i = refl
+  not_member h g begins_item b i = absurd (h i)
+  not_member h g begins_inner_list b i = absurd (g i)
+  not_member h g (bare_item v) b i = refl
+  not_member h g (parameter key v) b i = refl
+  not_member h g parameters_end b i = refl
+  not_member h g inner_list_end b i = refl
 
-pub not_entry : (part : RowEvent) → (part ≡ parts.Entry → ⊥)
-    → after list_members (tree_event part) ≡ None
-not_entry parts.Entry h = absurd (h refl)
-not_entry (parts.KeyedEntry key) h = refl
-not_entry parts.Item h = refl
-not_entry parts.InnerList h = refl
-not_entry (parts.BareItem v) h = refl
-not_entry (parts.Parameter key v) h = refl
-not_entry parts.ParametersEnd h = refl
-not_entry parts.InnerListEnd h = refl
+module _ (bytes : List ℕ) (row : Row) where
+  pub not_entry : (IsRowOf bytes row entry → ⊥)
+      → (e : TreeEvent) → IsValidEvent e → IsRowOf bytes row e → after list_members e ≡ None
+  not_entry h entry b i = absurd (h i)
+  not_entry h (keyed_entry key) b i = refl
+  not_entry h begins_item b i = refl
+  not_entry h begins_inner_list b i = refl
+  not_entry h (bare_item v) b i = refl
+  not_entry h (parameter key v) b i = refl
+  not_entry h parameters_end b i = refl
+  not_entry h inner_list_end b i = refl
 
-pub not_keyed : (part : RowEvent) → ((key : KeyRef) → part ≡ parts.KeyedEntry key → ⊥)
-    → after dictionary_members (tree_event part) ≡ None
-not_keyed parts.Entry h = refl
-not_keyed (parts.KeyedEntry key) h = absurd (h key refl)
-not_keyed parts.Item h = refl
-not_keyed parts.InnerList h = refl
-not_keyed (parts.BareItem v) h = refl
-not_keyed (parts.Parameter key v) h = refl
-not_keyed parts.ParametersEnd h = refl
-not_keyed parts.InnerListEnd h = refl
+  pub not_keyed : ((key : List ℕ) → IsTrue (is_key key) → IsRowOf bytes row (keyed_entry key) → ⊥)
+      → (e : TreeEvent) → IsValidEvent e → IsRowOf bytes row e → after dictionary_members e ≡ None
+  not_keyed h entry b i = refl
+  not_keyed h (keyed_entry key) b i = absurd (h key b i)
+  not_keyed h begins_item b i = refl
+  not_keyed h begins_inner_list b i = refl
+  not_keyed h (bare_item v) b i = refl
+  not_keyed h (parameter key v) b i = refl
+  not_keyed h parameters_end b i = refl
+  not_keyed h inner_list_end b i = refl
 
 -- one more item or member
 pub items_more : (bytes : List ℕ) (rows left rest after : List Row) (is : List ItemCalls) (i : ItemCalls)

@@ -11,8 +11,8 @@ use Rattle.sfv.specs.Events.{parameters_end, inner_list_end}
 use Rattle.sfv.specs.BareItems.{ref_value}
 use Rattle.sfv.specs.StringText.{StringRef}
 use Rattle.sfv.specs.TokenText.{TokenRef}
-use Rattle.sfv.specs.Types.{GenericBareItem}
-use Rattle.sfv.specs.KeyText.{key_text}
+use Rattle.sfv.specs.Types.{GenericBareItem, ParamCall}
+use Rattle.sfv.specs.KeyText.{KeyRef, key_text}
 use Rattle.sfv_c.specs.Rows.{ValueNumbers, EventNumbers, value_numbers, numbers_of}
 use Rattle.sfv_c.specs.Writing.{IsRowOf, IsScriptText, AreRowsOfField, IsWriteFault}
 use Rattle.sfv_c.specs.declared.answer.CallFault.{CallFault}
@@ -20,24 +20,11 @@ use Rattle.std.specs.declared.alloc.Global.{Global}
 use Rattle.std.specs.declared.string.String as std_string
 use Rattle.sfv.specs.Values.{Fits}
 use Rattle.sfv_c.specs.declared.rows.Row.{Row}
-use Rattle.sfv_c.specs.declared.row_event.RowEvent.{RowEvent}
-use Rattle.sfv_c.specs.declared.row_event.RowEvent.TheVariants as row_events
 use Rattle.sfv_c.specs.declared.rows_to_calls.ParseStop.{ParseStop}
 use Rattle.sfv_c.specs.declared.rows_to_calls.ParseStop.TheVariants as stop
 
 abbrev pub RefItem : Type 0
 RefItem = GenericBareItem StringRef (Bor (List ℕ)) TokenRef (Bor (List ℕ))
-
--- the event of a part
-abbrev pub tree_event : RowEvent → TreeEvent
-tree_event row_events.Entry = entry
-tree_event (row_events.KeyedEntry key) = keyed_entry (key_text key)
-tree_event row_events.Item = begins_item
-tree_event row_events.InnerList = begins_inner_list
-tree_event (row_events.BareItem value) = bare_item (ref_value value)
-tree_event (row_events.Parameter key value) = parameter (key_text key) (ref_value value)
-tree_event row_events.ParametersEnd = parameters_end
-tree_event row_events.InnerListEnd = inner_list_end
 
 -- its key is a key, and its value is in its range or class
 abbrev pub IsValidEvent : TreeEvent → Type 0
@@ -51,26 +38,32 @@ abbrev pub GivesItem : ValueNumbers → Option RefItem → Type 0
 GivesItem p r = MatchOption r ((v : BareValue) → IsBareValue v → ¬ (value_numbers (Some v) ≡ p))
     (λ item. IsBareValue (ref_value item) × (value_numbers (Some (ref_value item)) ≡ p))
 
--- `Some` event of these parts, or no event has them
-abbrev pub GivesRowEvent : EventNumbers → Option RowEvent → Type 0
-GivesRowEvent p r = MatchOption r ((e : TreeEvent) → IsValidEvent e → ¬ (numbers_of e ≡ p))
-    (λ part. IsValidEvent (tree_event part) × (numbers_of (tree_event part) ≡ p))
+-- an event without key and value, as numbers
+abbrev pub plain_numbers : ℕ → EventNumbers
+plain_numbers tag = record { tag = tag; key = []; value = value_numbers None }
 
--- `Some` event of this row, or no event has it
-abbrev pub GivesEvent : List ℕ → Row → Option RowEvent → Type 0
-GivesEvent bytes row r = MatchOption r ((e : TreeEvent) → IsValidEvent e → ¬ IsRowOf bytes row e)
-    (λ part. IsValidEvent (tree_event part) × IsRowOf bytes row (tree_event part))
+-- `Some` key under which a member of a dictionary is next, or there is no such event
+abbrev pub GivesKey : (TreeEvent → Type 0) → Option KeyRef → Type 0
+GivesKey Is r = MatchOption r ((key : List ℕ) → IsTrue (is_key key) → ¬ Is (keyed_entry key))
+    (λ key. IsTrue (is_key (key_text key)) × Is (keyed_entry (key_text key)))
+
+-- `Some` value of an item, or there is no such event
+abbrev pub GivesValue : (TreeEvent → Type 0) → Option RefItem → Type 0
+GivesValue Is r = MatchOption r ((v : BareValue) → IsBareValue v → ¬ Is (bare_item v))
+    (λ item. IsBareValue (ref_value item) × Is (bare_item (ref_value item)))
+
+-- `Some` parameter, or there is no such event
+abbrev pub GivesParameter : (TreeEvent → Type 0) → Option ParamCall → Type 0
+GivesParameter Is r =
+    MatchOption r ((key : List ℕ) (v : BareValue) → IsTrue (is_key key) → IsBareValue v → ¬ Is (parameter key v))
+    (λ call. IsTrue (is_key (key_text call.key)) × IsBareValue (ref_value call.value)
+    × Is (parameter (key_text call.key) (ref_value call.value)))
 
 -- the rows are those of these events, and then these rows
 abbrev pub Reads : List ℕ → List Row → List TreeEvent → List Row → Type 0
 Reads bytes rows [] rest = rows ≡ rest
 Reads bytes [] (e ∷ es) rest = ⊥
 Reads bytes (row ∷ rows) (e ∷ es) rest = IsValidEvent e × IsRowOf bytes row e × Reads bytes rows es rest
-
--- the first row has no event, or there is no row
-abbrev pub HasNoEvent : List ℕ → List Row → Type 0
-HasNoEvent bytes [] = ⊤
-HasNoEvent bytes (row ∷ rows) = (e : TreeEvent) → IsValidEvent e → ¬ IsRowOf bytes row e
 
 -- the events that may come next
 pub data ParseState : Type 0 where

@@ -1,4 +1,4 @@
-//! Rows as events again.
+//! Rows as the parts of a field again.
 
 ghost use Rattle.std.specs.Prelude.{◌≡◌, ◌↔◌, [], pos, Bool, ◌+◌, ◌≤◌, length, None, MatchOption, IsTrue};
 ghost use Rattle.std.specs.List.{list_all};
@@ -9,33 +9,20 @@ ghost use Rattle.sfv.specs.StringText.{string_text};
 ghost use Rattle.sfv.specs.Values.{IsInRange, is_byte};
 ghost use Rattle.sfv.specs.Texts.{RunOf};
 ghost use Rattle.sfv.specs.NumberValues.{integer_of};
-ghost use Rattle.sfv_c.specs.Rows.{EventNumbers, value_numbers, lent_value, lent_numbers, number_of_bool};
-ghost use Rattle.sfv_c.specs.Writing.{IsAt, IsRowOfNumbers};
-ghost use Rattle.sfv_c.specs.RowEvents.{GivesItem, GivesRowEvent, GivesEvent};
+ghost use Rattle.sfv_c.specs.Rows.{EventNumbers, value_numbers, numbers_of, lent_value, lent_numbers, number_of_bool};
+ghost use Rattle.sfv_c.specs.Writing.{IsAt, IsRowOf, IsRowOfNumbers};
+ghost use Rattle.sfv_c.specs.RowEvents.{plain_numbers, GivesItem, GivesKey, GivesValue, GivesParameter};
 
 use crate::rows::{LentEvent, Row, Value};
+use sfv::script::ParamCall;
 use sfv::{Date, Decimal, GenericBareItem, Integer, KeyRef, RefBareItem, StringRef, TokenRef};
 
-/// An event whose texts are lent.
-#[derive(Clone, Copy, Drop)]
-pub(crate) enum RowEvent<'a> {
-    /// A member of a list is next.
-    Entry,
-    /// A member of a dictionary is next, under this key.
-    KeyedEntry(KeyRef<'a>),
-    /// The member, or the part of an inner list, is an item.
-    Item,
-    /// The member is an inner list.
-    InnerList,
-    /// The value of the item.
-    BareItem(RefBareItem<'a>),
-    /// A parameter.
-    Parameter(KeyRef<'a>, RefBareItem<'a>),
-    /// The parameters end.
-    ParametersEnd,
-    /// The items of the inner list end.
-    InnerListEnd,
-}
+/// The tags of the events without key and value.
+pub(crate) const ENTRY: u32 = 1;
+pub(crate) const ITEM: u32 = 3;
+pub(crate) const INNER_LIST: u32 = 4;
+pub(crate) const PARAMETERS_END: u32 = 7;
+pub(crate) const INNER_LIST_END: u32 = 8;
 
 /// The integer of a number without bytes.
 fn integer_in(value: Value<'_>) -> Option<Integer>
@@ -132,61 +119,43 @@ fn is_no_value(value: Value<'_>) -> bool
     value.kind == 0 && value.number == 0 && value.bytes.is_empty()
 }
 
-/// A part that has neither key nor value.
-fn alone<'a>(parts: LentEvent<'_>, part: RowEvent<'a>) -> Option<RowEvent<'a>>
-    ensures { MatchOption result (¬ ((parts.entry.key.now ≡ []) × (lent_value parts.entry.value ≡ value_numbers None)))
-        (λ r. (r ≡ part.entry) × (parts.entry.key.now ≡ []) × (lent_value parts.entry.value ≡ value_numbers None)) }
+/// Whether these parts are this tag, without key and value.
+fn is_alone(parts: LentEvent<'_>, tag: u32) -> bool
+    ensures { IsTrue result ↔ (lent_numbers parts.entry ≡ plain_numbers tag) }
 {
-    if parts.key.is_empty() && is_no_value(parts.value) {
-        Some(part)
-    } else {
-        None
-    }
+    parts.tag == tag && parts.key.is_empty() && is_no_value(parts.value)
 }
 
-/// The member of a dictionary that these parts begin.
-fn keyed_entry_in(parts: LentEvent<'_>) -> Option<RowEvent<'_>>
-    ensures { parts.entry.tag ≡ 2 → GivesRowEvent (lent_numbers parts.entry) result }
+/// The key of the member of a dictionary that these parts begin.
+fn keyed_entry_in(parts: LentEvent<'_>) -> Option<KeyRef<'_>>
+    ensures { GivesKey (λ e. numbers_of e ≡ lent_numbers parts.entry) result }
 {
-    if !is_no_value(parts.value) {
+    if parts.tag != 2 || !is_no_value(parts.value) {
         return None;
     }
-    Some(RowEvent::KeyedEntry(key_in(parts.key)?))
+    key_in(parts.key)
 }
 
 /// The value of an item of these parts.
-fn value_in(parts: LentEvent<'_>) -> Option<RowEvent<'_>>
-    ensures { parts.entry.tag ≡ 5 → GivesRowEvent (lent_numbers parts.entry) result }
+fn value_in(parts: LentEvent<'_>) -> Option<RefBareItem<'_>>
+    ensures { GivesValue (λ e. numbers_of e ≡ lent_numbers parts.entry) result }
 {
-    if !parts.key.is_empty() {
+    if parts.tag != 5 || !parts.key.is_empty() {
         return None;
     }
-    Some(RowEvent::BareItem(bare_item_in(parts.value)?))
+    bare_item_in(parts.value)
 }
 
 /// The parameter of these parts.
-fn parameter_in(parts: LentEvent<'_>) -> Option<RowEvent<'_>>
-    ensures { parts.entry.tag ≡ 6 → GivesRowEvent (lent_numbers parts.entry) result }
+fn parameter_in(parts: LentEvent<'_>) -> Option<ParamCall<'_>>
+    ensures { GivesParameter (λ e. numbers_of e ≡ lent_numbers parts.entry) result }
 {
-    let key = key_in(parts.key)?;
-    Some(RowEvent::Parameter(key, bare_item_in(parts.value)?))
-}
-
-/// The event of these parts.
-fn part_in(parts: LentEvent<'_>) -> Option<RowEvent<'_>>
-    ensures { GivesRowEvent (lent_numbers parts.entry) result }
-{
-    match parts.tag {
-        1 => alone(parts, RowEvent::Entry),
-        2 => keyed_entry_in(parts),
-        3 => alone(parts, RowEvent::Item),
-        4 => alone(parts, RowEvent::InnerList),
-        5 => value_in(parts),
-        6 => parameter_in(parts),
-        7 => alone(parts, RowEvent::ParametersEnd),
-        8 => alone(parts, RowEvent::InnerListEnd),
-        _ => None,
+    if parts.tag != 6 {
+        return None;
     }
+    let key = key_in(parts.key)?;
+    let value = bare_item_in(parts.value)?;
+    Some(ParamCall { key, value })
 }
 
 /// The bytes at this place, of this length.
@@ -211,9 +180,33 @@ fn parts_at<'a>(row: &Row, bytes: &'a [u8]) -> Option<LentEvent<'a>>
     Some(LentEvent { tag, key, value })
 }
 
-/// The event of a row.
-pub(crate) fn event_at<'a>(row: &Row, bytes: &'a [u8]) -> Option<RowEvent<'a>>
-    ensures { GivesEvent bytes.now row.now result }
+/// Whether the row is that of the event with this tag, without key and value.
+pub(crate) fn is_plain(row: &Row, bytes: &[u8], tag: u32) -> bool
+    ensures { IsTrue result ↔ IsRowOfNumbers bytes.now row.now (plain_numbers tag) }
 {
-    part_in(parts_at(row, bytes)?)
+    match parts_at(row, bytes) {
+        Some(parts) => is_alone(parts, tag),
+        None => false,
+    }
+}
+
+/// The key of the member of a dictionary that the row begins.
+pub(crate) fn keyed_entry_at<'a>(row: &Row, bytes: &'a [u8]) -> Option<KeyRef<'a>>
+    ensures { GivesKey (IsRowOf bytes.now row.now) result }
+{
+    keyed_entry_in(parts_at(row, bytes)?)
+}
+
+/// The value of an item of the row.
+pub(crate) fn value_at<'a>(row: &Row, bytes: &'a [u8]) -> Option<RefBareItem<'a>>
+    ensures { GivesValue (IsRowOf bytes.now row.now) result }
+{
+    value_in(parts_at(row, bytes)?)
+}
+
+/// The parameter of the row.
+pub(crate) fn parameter_at<'a>(row: &Row, bytes: &'a [u8]) -> Option<ParamCall<'a>>
+    ensures { GivesParameter (IsRowOf bytes.now row.now) result }
+{
+    parameter_in(parts_at(row, bytes)?)
 }

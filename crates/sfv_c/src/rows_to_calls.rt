@@ -1,6 +1,6 @@
 //! Rows as the calls that write them.
 
-ghost use Rattle.std.specs.Prelude.{◌≡◌, ◌++◌, ◌∷◌, [], map, flat_map, MatchOption, IfOk, IfErr};
+ghost use Rattle.std.specs.Prelude.{◌≡◌, ◌++◌, ◌∷◌, [], map, flat_map, IfOk, IfErr};
 ghost use Rattle.sfv.specs.Types.{item_field, list_field, dictionary_field};
 ghost use Rattle.sfv.specs.Events.{begins_inner_list, parameters_events, item_events, inner_item_events, member_events, inner_list_end};
 ghost use Rattle.sfv.specs.Calls.{written, supplied_member};
@@ -8,9 +8,10 @@ ghost use Rattle.sfv.specs.Scripts.{param_of_call, item_of_calls, member_calls, 
 ghost use Rattle.sfv.specs.Scripts.{described_dictionary, supplied_dictionary};
 ghost use Rattle.sfv_c.specs.Writing.{IsRowOf, AreRowsOfField};
 ghost use Rattle.sfv_c.specs.RowEvents.{ParseState, beginning, member, value, parameters, items};
-ghost use Rattle.sfv_c.specs.RowEvents.{tree_event, HasNoEvent, Reads, IsStop};
+ghost use Rattle.sfv_c.specs.RowEvents.{Reads, IsStop};
 
-use crate::row_event::{RowEvent, event_at};
+use crate::row_event::{ENTRY, INNER_LIST, INNER_LIST_END, ITEM, PARAMETERS_END};
+use crate::row_event::{is_plain, keyed_entry_at, parameter_at, value_at};
 use crate::rows::Row;
 use sfv::KeyRef;
 use sfv::script::{ItemCalls, MemberCalls, ParamCall};
@@ -35,15 +36,6 @@ impl<T: Drop> From<AllocFailed<T>> for ParseStop {
     }
 }
 
-/// The event of the first row, and the rows after it.
-fn split_event<'a, 'r>(rows: &'r [Row], bytes: &'a [u8]) -> Option<(RowEvent<'a>, &'r [Row])>
-    ensures { MatchOption result (HasNoEvent bytes.now rows.now)
-        (λ r. Reads bytes.now rows.now (tree_event r.0 ∷ []) r.1.now) }
-{
-    let (row, rest) = rows.split_first()?;
-    Some((event_at(row, bytes)?, rest))
-}
-
 /// Reads parameters and their end, and returns the rows after them.
 fn parameters<'a, 'r>(
     alloc: Global,
@@ -55,12 +47,14 @@ fn parameters<'a, 'r>(
 {
     let mut params = Vec::new(alloc);
     let mut left = rows;
-    while let Some((event, rest)) = split_event(left, bytes) {
-        match event {
-            RowEvent::Parameter(key, value) => params.push(ParamCall { key, value })?,
-            RowEvent::ParametersEnd => return Ok((params, rest)),
-            _ => return Err(ParseStop::At(left.len())),
+    while let Some((row, rest)) = left.split_first() {
+        if is_plain(row, bytes, PARAMETERS_END) {
+            return Ok((params, rest));
         }
+        let Some(call) = parameter_at(row, bytes) else {
+            return Err(ParseStop::At(left.len()));
+        };
+        params.push(call)?;
         left = rest;
     }
     Err(ParseStop::At(left.len()))
@@ -75,10 +69,10 @@ fn item<'a, 'r>(
     ensures read { IfOk result (λ r. Reads bytes.now rows.now (item_events (item_of_calls r.0)) r.1.now) }
     ensures stopped { IfErr result (λ stop. (p : ParseState) → IsStop bytes.now (value p) rows.now stop) }
 {
-    let Some((event, rest)) = split_event(rows, bytes) else {
+    let Some((row, rest)) = rows.split_first() else {
         return Err(ParseStop::At(rows.len()));
     };
-    let RowEvent::BareItem(value) = event else {
+    let Some(value) = value_at(row, bytes) else {
         return Err(ParseStop::At(rows.len()));
     };
     let (params, left) = parameters(alloc, rest, bytes)?;
@@ -97,11 +91,12 @@ fn items<'a, 'r>(
 {
     let mut items = Vec::new(alloc);
     let mut left = rows;
-    while let Some((event, rest)) = split_event(left, bytes) {
-        match event {
-            RowEvent::Item => {}
-            RowEvent::InnerListEnd => return Ok((items, rest)),
-            _ => return Err(ParseStop::At(left.len())),
+    while let Some((row, rest)) = left.split_first() {
+        if is_plain(row, bytes, INNER_LIST_END) {
+            return Ok((items, rest));
+        }
+        if !is_plain(row, bytes, ITEM) {
+            return Err(ParseStop::At(left.len()));
         }
         let (read, after) = item(alloc, rest, bytes)?;
         items.push(read)?;
@@ -141,17 +136,17 @@ fn member<'a, 'r>(
     ensures whole { IfOk result (λ r. member_calls r.0 ≡ written (supplied_member (member_calls r.0))) }
     ensures stopped { IfErr result (λ stop. (p : ParseState) → IsStop bytes.now (member p) rows.now stop) }
 {
-    let Some((event, rest)) = split_event(rows, bytes) else {
+    let Some((row, rest)) = rows.split_first() else {
         return Err(ParseStop::At(rows.len()));
     };
-    match event {
-        RowEvent::Item => {
-            let (item, left) = item(alloc, rest, bytes)?;
-            Ok((MemberCalls::Item(item), left))
-        }
-        RowEvent::InnerList => inner_list(alloc, rest, bytes),
-        _ => Err(ParseStop::At(rows.len())),
+    if is_plain(row, bytes, ITEM) {
+        let (item, left) = item(alloc, rest, bytes)?;
+        return Ok((MemberCalls::Item(item), left));
     }
+    if !is_plain(row, bytes, INNER_LIST) {
+        return Err(ParseStop::At(rows.len()));
+    }
+    inner_list(alloc, rest, bytes)
 }
 
 /// Reads an item, and nothing after it.
@@ -182,16 +177,13 @@ pub(crate) fn list_of<'a>(
 {
     let mut members = Vec::new(alloc);
     let mut left = rows;
-    while let Some((event, rest)) = split_event(left, bytes) {
-        let RowEvent::Entry = event else {
+    while let Some((row, rest)) = left.split_first() {
+        if !is_plain(row, bytes, ENTRY) {
             return Err(ParseStop::At(left.len()));
-        };
+        }
         let (read, after) = member(alloc, rest, bytes)?;
         members.push(read)?;
         left = after;
-    }
-    if !left.is_empty() {
-        return Err(ParseStop::At(left.len()));
     }
     Ok(members)
 }
@@ -208,16 +200,13 @@ pub(crate) fn dictionary_of<'a>(
 {
     let mut members = Vec::new(alloc);
     let mut left = rows;
-    while let Some((event, rest)) = split_event(left, bytes) {
-        let RowEvent::KeyedEntry(key) = event else {
+    while let Some((row, rest)) = left.split_first() {
+        let Some(key) = keyed_entry_at(row, bytes) else {
             return Err(ParseStop::At(left.len()));
         };
         let (read, after) = member(alloc, rest, bytes)?;
         members.push((key, read))?;
         left = after;
-    }
-    if !left.is_empty() {
-        return Err(ParseStop::At(left.len()));
     }
     Ok(members)
 }

@@ -5,11 +5,11 @@ use Rattle.sfv.specs.KeyText.{KeyRef, key_text}
 use Rattle.sfv.specs.Scripts.{supplied_dictionary, described_dictionary, member_calls}
 use Rattle.sfv.specs.Types.{MemberCalls, dictionary_field}
 use Rattle.sfv_c.specs.declared.rows.Row.{Row}
-use Rattle.sfv_c.specs.RowEvents.{dictionary_members, member, tree_event, Reads}
+use Rattle.sfv_c.specs.RowEvents.{dictionary_members, member, Reads}
 use Rattle.sfv_c.proofs.Fields.{field_of}
 use Rattle.sfv_c.proofs.Places.{stops_dictionary}
-use Rattle.sfv_c.proofs.RowEvents.{reads_shrinks}
-use Rattle.sfv_c.proofs.Stops.{err_and, after_event, stopped_at, stopped_early, some_row, not_keyed, not_empty, is_empty}
+use Rattle.sfv_c.proofs.RowEvents.{reads_one, reads_shrinks}
+use Rattle.sfv_c.proofs.Stops.{err_and, after_event, stopped_at, stuck_at, no_row, some_row, not_keyed}
 use Rattle.sfv_c.proofs.Stops.{dictionary_more, dictionary_whole}
 use Rattle.sfv_c.proofs.rows_to_calls.dictionary_of.Goals as goal
 
@@ -17,58 +17,52 @@ use Rattle.sfv_c.proofs.rows_to_calls.dictionary_of.Goals as goal
 abbrev read_so_far : List (KeyRef × MemberCalls) → List TreeEvent
 read_so_far calls = flat_map keyed_events (supplied_dictionary calls)
 
-pub returns-in_default-event : goal.returns-in_default-event
-returns-in_default-event c = record {
-  read = tt;
-  whole = tt;
-  stopped = stopped_at c.args.bytes.now dictionary_members dictionary_members c.args.rows.now
-      (read_so_far c.loop-event.members.items) c.loop-event.left.now (tree_event c.in-Some.event) c.in-Some.rest.now
-      c.loop-event.invariant.read (stops_dictionary (supplied_dictionary c.loop-event.members.items)) c.in-Some.ensures
-      (not_keyed c.in-Some.event c.in_default-event.not-KeyedEntry);
-}
+pub returns-in_default-keyed_entry_at-clause-stopped : goal.returns-in_default-keyed_entry_at-clause-stopped
+returns-in_default-keyed_entry_at-clause-stopped c = stopped_at c.args.bytes.now dictionary_members dictionary_members c.args.rows.now
+    (read_so_far c.loop-row.members.items) c.loop-row.left.now c.loop-row.invariant.read
+    (stops_dictionary (supplied_dictionary c.loop-row.members.items))
+    (stuck_at c.args.bytes.now dictionary_members c.loop-row.left.now c.in-Some.row.now c.in-Some.rest.now
+    c.in-Some.ensures.cases.0
+    (not_keyed c.args.bytes.now c.in-Some.row.now c.in_default-keyed_entry_at.ensures))
 
 pub returns-in_err-read-clause-stopped : goal.returns-in_err-read-clause-stopped
 returns-in_err-read-clause-stopped c = err_and c.from_residual.result _ _ c.from_residual.ensures.1
     (after_event c.args.bytes.now dictionary_members dictionary_members (member dictionary_members) c.args.rows.now
-    (read_so_far c.loop-event.members.items) c.loop-event.left.now (keyed_entry (key_text c.in-KeyedEntry.key)) c.in-Some.rest.now c.loop-event.invariant.read
-    (stops_dictionary (supplied_dictionary c.loop-event.members.items))
-    (subst (λ x. Reads c.args.bytes.now c.loop-event.left.now (tree_event x ∷ []) c.in-Some.rest.now) c.in-KeyedEntry.is
-    c.in-Some.ensures)
+    (read_so_far c.loop-row.members.items) c.loop-row.left.now (keyed_entry (key_text c.in-Some-keyed_entry_at.key)) c.in-Some.rest.now c.loop-row.invariant.read
+    (stops_dictionary (supplied_dictionary c.loop-row.members.items))
+    (reads_one c.args.bytes.now c.loop-row.left.now c.in-Some.row.now c.in-Some.rest.now
+    (keyed_entry (key_text c.in-Some-keyed_entry_at.key)) c.in-Some.ensures.cases.0 c.in-Some-keyed_entry_at.ensures.0
+    c.in-Some-keyed_entry_at.ensures.1)
     refl _ (c.in_err-read.ensures.stopped dictionary_members))
 
 pub returns-in_err-push-clause-stopped : goal.returns-in_err-push-clause-stopped
 returns-in_err-push-clause-stopped c =
     err_and c.from_residual-in_err-push.result _ _ c.from_residual-in_err-push.ensures.1
-    (some_row c.args.bytes.now c.args.rows.now (read_so_far c.loop-event.members.items) c.loop-event.left.now
-    (tree_event c.in-Some.event) c.in-Some.rest.now c.loop-event.invariant.read c.in-Some.ensures)
+    (some_row c.args.bytes.now c.args.rows.now (read_so_far c.loop-row.members.items) c.loop-row.left.now
+    c.in-Some.row.now c.in-Some.rest.now c.loop-row.invariant.read c.in-Some.ensures.cases.0)
 
-pub loop-event-smaller : goal.loop-event-smaller
-loop-event-smaller c = reads_shrinks c.args.bytes.now c.loop-event.left.now (tree_event c.in-Some.event) c.in-Some.rest.now
-    (member_events (supplied_member (member_calls c.in_ok-read.read))) c.in_ok-read.after.now c.in-Some.ensures
-    c.in_ok-read.ensures.read
+pub loop-row-smaller : goal.loop-row-smaller
+loop-row-smaller c = reads_shrinks c.args.bytes.now c.loop-row.left.now c.in-Some.row.now c.in-Some.rest.now
+    (member_events (supplied_member (member_calls c.in_ok-read.read))) c.in_ok-read.after.now
+    c.in-Some.ensures.cases.0 c.in_ok-read.ensures.read
 
-pub loop-event-preserved : goal.loop-event-preserved
-loop-event-preserved c = record {
+pub loop-row-preserved : goal.loop-row-preserved
+loop-row-preserved c = record {
   read = subst
       (λ (calls : List (KeyRef × MemberCalls)). Reads c.args.bytes.now c.args.rows.now (read_so_far calls) c.in_ok-read.after.now)
       (sym c.in_ok-push.ensures.items)
-      (dictionary_more c.args.bytes.now c.args.rows.now c.loop-event.left.now c.in-Some.rest.now c.in_ok-read.after.now
-      c.loop-event.members.items c.in-KeyedEntry.key c.in_ok-read.read c.loop-event.invariant.read
-      (subst (λ x. Reads c.args.bytes.now c.loop-event.left.now (tree_event x ∷ []) c.in-Some.rest.now) c.in-KeyedEntry.is
-      c.in-Some.ensures)
+      (dictionary_more c.args.bytes.now c.args.rows.now c.loop-row.left.now c.in-Some.rest.now c.in_ok-read.after.now
+      c.loop-row.members.items c.in-Some-keyed_entry_at.key c.in_ok-read.read c.loop-row.invariant.read
+      (reads_one c.args.bytes.now c.loop-row.left.now c.in-Some.row.now c.in-Some.rest.now
+    (keyed_entry (key_text c.in-Some-keyed_entry_at.key)) c.in-Some.ensures.cases.0 c.in-Some-keyed_entry_at.ensures.0
+    c.in-Some-keyed_entry_at.ensures.1)
       c.in_ok-read.ensures.read);
   whole = subst (λ (calls : List (KeyRef × MemberCalls)). described_dictionary calls ≡ supplied_dictionary calls)
       (sym c.in_ok-push.ensures.items)
-      (dictionary_whole c.loop-event.members.items c.in-KeyedEntry.key c.in_ok-read.read c.loop-event.invariant.whole c.in_ok-read.ensures.whole);
+      (dictionary_whole c.loop-row.members.items c.in-Some-keyed_entry_at.key c.in_ok-read.read c.loop-row.invariant.whole c.in_ok-read.ensures.whole);
 }
 
-pub returns-then-not-is_empty-clause-stopped : goal.returns-then-not-is_empty-clause-stopped
-returns-then-not-is_empty-clause-stopped c = stopped_early c.args.bytes.now dictionary_members dictionary_members c.args.rows.now
-    (read_so_far c.loop-event.members.items) c.loop-event.left.now c.loop-event.invariant.read
-    (stops_dictionary (supplied_dictionary c.loop-event.members.items)) c.in_default.ensures
-    (λ e. absurd (not_empty c.loop-event.left.now c.if-not-is_empty.ensures e))
-
 pub returns-clause-read : goal.returns-clause-read
-returns-clause-read c = field_of dictionary_field c.args.rows.now c.args.bytes.now (supplied_dictionary c.loop-event.members.items)
-    (subst (λ (r : List Row). Reads c.args.bytes.now c.args.rows.now (read_so_far c.loop-event.members.items) r)
-    (is_empty c.loop-event.left.now c.if-not-is_empty.ensures) c.loop-event.invariant.read)
+returns-clause-read c = field_of dictionary_field c.args.rows.now c.args.bytes.now (supplied_dictionary c.loop-row.members.items)
+    (subst (λ (r : List Row). Reads c.args.bytes.now c.args.rows.now (read_so_far c.loop-row.members.items) r)
+    (no_row c.loop-row.left.now c.in_default.ensures.cases) c.loop-row.invariant.read)

@@ -2,62 +2,70 @@ use Rattle.std.proofs.Common.{◌≡◌, ◌∷◌, [], List, map, flat_map, ref
 use Rattle.sfv.specs.Events.{TreeEvent, begins_item, inner_item_events, inner_list_end, item_events}
 use Rattle.sfv.specs.Scripts.{item_of_calls}
 use Rattle.sfv.specs.Types.{ItemCalls}
-use Rattle.sfv_c.specs.RowEvents.{items, value, tree_event, Reads}
+use Rattle.sfv_c.specs.RowEvents.{items, value, Reads}
+use Rattle.sfv_c.specs.Writing.{IsRowOf}
 use Rattle.sfv_c.proofs.Places.{stops_items}
-use Rattle.sfv_c.proofs.RowEvents.{reads_on, reads_shrinks}
-use Rattle.sfv_c.proofs.Stops.{err_and, stop_after, after_event, stopped_at, stopped_early, some_row, not_item, items_more}
+use Rattle.sfv_c.proofs.RowEvents.{reads_on, reads_one, reads_shrinks}
+use Rattle.sfv_c.proofs.Stops.{err_and, after_event, stopped_at, stuck_at, stuck_end, some_row, holds, fails, not_item, items_more}
 use Rattle.sfv_c.proofs.rows_to_calls.items.Goals as goal
 
 -- the events of these calls
 abbrev read_so_far : List ItemCalls → List TreeEvent
 read_so_far calls = flat_map inner_item_events (map item_of_calls calls)
 
-pub returns-in-InnerListEnd-clause-read : goal.returns-in-InnerListEnd-clause-read
-returns-in-InnerListEnd-clause-read c = reads_on c.args.bytes.now c.args.rows.now
-    (read_so_far c.loop-event.items.items) c.loop-event.left.now (inner_list_end ∷ []) c.in-Some.rest.now
-    c.loop-event.invariant
-    (subst (λ x. Reads c.args.bytes.now c.loop-event.left.now (tree_event x ∷ []) c.in-Some.rest.now) c.in-InnerListEnd.is
-    c.in-Some.ensures)
+pub returns-then-is_plain-clause-read : goal.returns-then-is_plain-clause-read
+returns-then-is_plain-clause-read c = reads_on c.args.bytes.now c.args.rows.now
+    (read_so_far c.loop-row.items.items) c.loop-row.left.now (inner_list_end ∷ []) c.in-Some.rest.now c.loop-row.invariant
+    (reads_one c.args.bytes.now c.loop-row.left.now c.in-Some.row.now c.in-Some.rest.now inner_list_end
+    c.in-Some.ensures.cases.0 tt
+    (holds (IsRowOf c.args.bytes.now c.in-Some.row.now inner_list_end) c.is_plain.result c.is_plain.ensures c.if-is_plain.true))
 
-pub returns-in_default-event : goal.returns-in_default-event
-returns-in_default-event c = record {
-  read = tt;
-  stopped = λ p. stopped_at c.args.bytes.now (items p) (items p) c.args.rows.now
-      (read_so_far c.loop-event.items.items) c.loop-event.left.now (tree_event c.in-Some.event) c.in-Some.rest.now
-      c.loop-event.invariant (stops_items p (map item_of_calls c.loop-event.items.items)) c.in-Some.ensures
-      (not_item p c.in-Some.event c.in_default-event.not-Item c.in_default-event.not-InnerListEnd);
-}
+pub returns-then-not-is_plain-clause-stopped : goal.returns-then-not-is_plain-clause-stopped
+returns-then-not-is_plain-clause-stopped c p = stopped_at c.args.bytes.now (items p) (items p) c.args.rows.now
+    (read_so_far c.loop-row.items.items) c.loop-row.left.now c.loop-row.invariant
+    (stops_items p (map item_of_calls c.loop-row.items.items))
+    (stuck_at c.args.bytes.now (items p) c.loop-row.left.now c.in-Some.row.now c.in-Some.rest.now c.in-Some.ensures.cases.0
+    (not_item c.args.bytes.now p c.in-Some.row.now
+    (fails (IsRowOf c.args.bytes.now c.in-Some.row.now inner_list_end) c.is_plain.result c.is_plain.ensures c.if-is_plain.false)
+    (fails (IsRowOf c.args.bytes.now c.in-Some.row.now begins_item) c.is_plain-in-Some.result c.is_plain-in-Some.ensures
+    c.if-not-is_plain.true)))
 
 pub returns-in_err-read-clause-stopped : goal.returns-in_err-read-clause-stopped
 returns-in_err-read-clause-stopped c = err_and c.from_residual.result _ _ c.from_residual.ensures.1
     (λ p. after_event c.args.bytes.now (items p) (items p) (value (items p)) c.args.rows.now
-    (read_so_far c.loop-event.items.items) c.loop-event.left.now begins_item c.in-Some.rest.now c.loop-event.invariant
-    (stops_items p (map item_of_calls c.loop-event.items.items))
-    (subst (λ x. Reads c.args.bytes.now c.loop-event.left.now (tree_event x ∷ []) c.in-Some.rest.now) c.in-Item.is
-    c.in-Some.ensures)
+    (read_so_far c.loop-row.items.items) c.loop-row.left.now begins_item c.in-Some.rest.now c.loop-row.invariant
+    (stops_items p (map item_of_calls c.loop-row.items.items))
+    (reads_one c.args.bytes.now c.loop-row.left.now c.in-Some.row.now c.in-Some.rest.now begins_item
+    c.in-Some.ensures.cases.0 tt
+    (holds (IsRowOf c.args.bytes.now c.in-Some.row.now begins_item) c.is_plain-in-Some.result c.is_plain-in-Some.ensures
+    c.if-not-is_plain.false))
     refl _ (c.in_err-read.ensures.stopped (items p)))
 
 pub returns-in_err-push-clause-stopped : goal.returns-in_err-push-clause-stopped
 returns-in_err-push-clause-stopped c =
     err_and c.from_residual-in_err-push.result _ _ c.from_residual-in_err-push.ensures.1
-    (λ p. some_row c.args.bytes.now c.args.rows.now (read_so_far c.loop-event.items.items) c.loop-event.left.now
-    (tree_event c.in-Some.event) c.in-Some.rest.now c.loop-event.invariant c.in-Some.ensures)
+    (λ p. some_row c.args.bytes.now c.args.rows.now (read_so_far c.loop-row.items.items) c.loop-row.left.now
+    c.in-Some.row.now c.in-Some.rest.now c.loop-row.invariant c.in-Some.ensures.cases.0)
 
-pub loop-event-smaller : goal.loop-event-smaller
-loop-event-smaller c = reads_shrinks c.args.bytes.now c.loop-event.left.now (tree_event c.in-Some.event) c.in-Some.rest.now
-    (item_events (item_of_calls c.in_ok-read.read)) c.in_ok-read.after.now c.in-Some.ensures c.in_ok-read.ensures.read
+pub loop-row-smaller : goal.loop-row-smaller
+loop-row-smaller c = reads_shrinks c.args.bytes.now c.loop-row.left.now c.in-Some.row.now c.in-Some.rest.now
+    (item_events (item_of_calls c.in_ok-read.read)) c.in_ok-read.after.now c.in-Some.ensures.cases.0
+    c.in_ok-read.ensures.read
 
-pub loop-event-preserved : goal.loop-event-preserved
-loop-event-preserved c = subst
+pub loop-row-preserved : goal.loop-row-preserved
+loop-row-preserved c = subst
     (λ (calls : List ItemCalls). Reads c.args.bytes.now c.args.rows.now (read_so_far calls) c.in_ok-read.after.now)
     (sym c.in_ok-push.ensures.items)
-    (items_more c.args.bytes.now c.args.rows.now c.loop-event.left.now c.in-Some.rest.now c.in_ok-read.after.now
-    c.loop-event.items.items c.in_ok-read.read c.loop-event.invariant
-    (subst (λ x. Reads c.args.bytes.now c.loop-event.left.now (tree_event x ∷ []) c.in-Some.rest.now) c.in-Item.is
-    c.in-Some.ensures)
+    (items_more c.args.bytes.now c.args.rows.now c.loop-row.left.now c.in-Some.rest.now c.in_ok-read.after.now
+    c.loop-row.items.items c.in_ok-read.read c.loop-row.invariant
+    (reads_one c.args.bytes.now c.loop-row.left.now c.in-Some.row.now c.in-Some.rest.now begins_item
+    c.in-Some.ensures.cases.0 tt
+    (holds (IsRowOf c.args.bytes.now c.in-Some.row.now begins_item) c.is_plain-in-Some.result c.is_plain-in-Some.ensures
+    c.if-not-is_plain.false))
     c.in_ok-read.ensures.read)
 
 pub returns-clause-stopped : goal.returns-clause-stopped
-returns-clause-stopped c p = stopped_early c.args.bytes.now (items p) (items p) c.args.rows.now
-    (read_so_far c.loop-event.items.items) c.loop-event.left.now c.loop-event.invariant
-    (stops_items p (map item_of_calls c.loop-event.items.items)) c.in_default.ensures (λ e. refl)
+returns-clause-stopped c p = stopped_at c.args.bytes.now (items p) (items p) c.args.rows.now
+    (read_so_far c.loop-row.items.items) c.loop-row.left.now c.loop-row.invariant
+    (stops_items p (map item_of_calls c.loop-row.items.items))
+    (stuck_end c.args.bytes.now (items p) c.loop-row.left.now c.in_default.ensures.cases refl)

@@ -4,9 +4,9 @@ use Rattle.sfv.specs.Scripts.{item_of_calls}
 use Rattle.sfv_c.specs.RowEvents.{Reads}
 use Rattle.sfv_c.proofs.rows_to_calls.items.Given as goal
 
-abbrev pub invariant-loop-event : goal.invariant-loop-event
-invariant-loop-event l =
+abbrev pub invariant-loop-row : goal.invariant-loop-row
+invariant-loop-row l =
     Reads l.bytes l.rows (flat_map inner_item_events (map item_of_calls l.items.items)) l.left
 
-abbrev pub decreases-loop-event : goal.decreases-loop-event
-decreases-loop-event l = length l.left
+abbrev pub decreases-loop-row : goal.decreases-loop-row
+decreases-loop-row l = length l.left

@@ -4,11 +4,12 @@ use Rattle.sfv.specs.Events.{TreeEvent, entry, entry_events, member_events}
 use Rattle.sfv.specs.Scripts.{supplied_list, described_list, member_calls}
 use Rattle.sfv.specs.Types.{MemberCalls, list_field}
 use Rattle.sfv_c.specs.declared.rows.Row.{Row}
-use Rattle.sfv_c.specs.RowEvents.{list_members, member, tree_event, Reads}
+use Rattle.sfv_c.specs.RowEvents.{list_members, member, Reads}
+use Rattle.sfv_c.specs.Writing.{IsRowOf}
 use Rattle.sfv_c.proofs.Fields.{field_of}
 use Rattle.sfv_c.proofs.Places.{stops_list}
-use Rattle.sfv_c.proofs.RowEvents.{reads_shrinks}
-use Rattle.sfv_c.proofs.Stops.{err_and, after_event, stopped_at, stopped_early, some_row, not_entry, not_empty, is_empty}
+use Rattle.sfv_c.proofs.RowEvents.{reads_one, reads_shrinks}
+use Rattle.sfv_c.proofs.Stops.{err_and, after_event, stopped_at, stuck_at, no_row, some_row, holds, fails, not_entry}
 use Rattle.sfv_c.proofs.Stops.{list_more, list_whole}
 use Rattle.sfv_c.proofs.rows_to_calls.list_of.Goals as goal
 
@@ -16,58 +17,53 @@ use Rattle.sfv_c.proofs.rows_to_calls.list_of.Goals as goal
 abbrev read_so_far : List MemberCalls → List TreeEvent
 read_so_far calls = flat_map entry_events (supplied_list calls)
 
-pub returns-in_default-event : goal.returns-in_default-event
-returns-in_default-event c = record {
-  read = tt;
-  whole = tt;
-  stopped = stopped_at c.args.bytes.now list_members list_members c.args.rows.now
-      (read_so_far c.loop-event.members.items) c.loop-event.left.now (tree_event c.in-Some.event) c.in-Some.rest.now
-      c.loop-event.invariant.read (stops_list (supplied_list c.loop-event.members.items)) c.in-Some.ensures
-      (not_entry c.in-Some.event c.in_default-event.not-Entry);
-}
+pub returns-then-not-is_plain-clause-stopped : goal.returns-then-not-is_plain-clause-stopped
+returns-then-not-is_plain-clause-stopped c = stopped_at c.args.bytes.now list_members list_members c.args.rows.now
+    (read_so_far c.loop-row.members.items) c.loop-row.left.now c.loop-row.invariant.read
+    (stops_list (supplied_list c.loop-row.members.items))
+    (stuck_at c.args.bytes.now list_members c.loop-row.left.now c.in-Some.row.now c.in-Some.rest.now
+    c.in-Some.ensures.cases.0
+    (not_entry c.args.bytes.now c.in-Some.row.now
+    (fails (IsRowOf c.args.bytes.now c.in-Some.row.now entry) c.is_plain.result c.is_plain.ensures c.if-not-is_plain.true)))
 
 pub returns-in_err-read-clause-stopped : goal.returns-in_err-read-clause-stopped
 returns-in_err-read-clause-stopped c = err_and c.from_residual.result _ _ c.from_residual.ensures.1
     (after_event c.args.bytes.now list_members list_members (member list_members) c.args.rows.now
-    (read_so_far c.loop-event.members.items) c.loop-event.left.now entry c.in-Some.rest.now c.loop-event.invariant.read
-    (stops_list (supplied_list c.loop-event.members.items))
-    (subst (λ x. Reads c.args.bytes.now c.loop-event.left.now (tree_event x ∷ []) c.in-Some.rest.now) c.in-Entry.is
-    c.in-Some.ensures)
+    (read_so_far c.loop-row.members.items) c.loop-row.left.now entry c.in-Some.rest.now c.loop-row.invariant.read
+    (stops_list (supplied_list c.loop-row.members.items))
+    (reads_one c.args.bytes.now c.loop-row.left.now c.in-Some.row.now c.in-Some.rest.now entry
+    c.in-Some.ensures.cases.0 tt
+    (holds (IsRowOf c.args.bytes.now c.in-Some.row.now entry) c.is_plain.result c.is_plain.ensures c.if-not-is_plain.false))
     refl _ (c.in_err-read.ensures.stopped list_members))
 
 pub returns-in_err-push-clause-stopped : goal.returns-in_err-push-clause-stopped
 returns-in_err-push-clause-stopped c =
     err_and c.from_residual-in_err-push.result _ _ c.from_residual-in_err-push.ensures.1
-    (some_row c.args.bytes.now c.args.rows.now (read_so_far c.loop-event.members.items) c.loop-event.left.now
-    (tree_event c.in-Some.event) c.in-Some.rest.now c.loop-event.invariant.read c.in-Some.ensures)
+    (some_row c.args.bytes.now c.args.rows.now (read_so_far c.loop-row.members.items) c.loop-row.left.now
+    c.in-Some.row.now c.in-Some.rest.now c.loop-row.invariant.read c.in-Some.ensures.cases.0)
 
-pub loop-event-smaller : goal.loop-event-smaller
-loop-event-smaller c = reads_shrinks c.args.bytes.now c.loop-event.left.now (tree_event c.in-Some.event) c.in-Some.rest.now
-    (member_events (supplied_member (member_calls c.in_ok-read.read))) c.in_ok-read.after.now c.in-Some.ensures
-    c.in_ok-read.ensures.read
+pub loop-row-smaller : goal.loop-row-smaller
+loop-row-smaller c = reads_shrinks c.args.bytes.now c.loop-row.left.now c.in-Some.row.now c.in-Some.rest.now
+    (member_events (supplied_member (member_calls c.in_ok-read.read))) c.in_ok-read.after.now
+    c.in-Some.ensures.cases.0 c.in_ok-read.ensures.read
 
-pub loop-event-preserved : goal.loop-event-preserved
-loop-event-preserved c = record {
+pub loop-row-preserved : goal.loop-row-preserved
+loop-row-preserved c = record {
   read = subst
       (λ (calls : List MemberCalls). Reads c.args.bytes.now c.args.rows.now (read_so_far calls) c.in_ok-read.after.now)
       (sym c.in_ok-push.ensures.items)
-      (list_more c.args.bytes.now c.args.rows.now c.loop-event.left.now c.in-Some.rest.now c.in_ok-read.after.now
-      c.loop-event.members.items c.in_ok-read.read c.loop-event.invariant.read
-      (subst (λ x. Reads c.args.bytes.now c.loop-event.left.now (tree_event x ∷ []) c.in-Some.rest.now) c.in-Entry.is
-      c.in-Some.ensures)
+      (list_more c.args.bytes.now c.args.rows.now c.loop-row.left.now c.in-Some.rest.now c.in_ok-read.after.now
+      c.loop-row.members.items c.in_ok-read.read c.loop-row.invariant.read
+      (reads_one c.args.bytes.now c.loop-row.left.now c.in-Some.row.now c.in-Some.rest.now entry
+    c.in-Some.ensures.cases.0 tt
+    (holds (IsRowOf c.args.bytes.now c.in-Some.row.now entry) c.is_plain.result c.is_plain.ensures c.if-not-is_plain.false))
       c.in_ok-read.ensures.read);
   whole = subst (λ (calls : List MemberCalls). described_list calls ≡ supplied_list calls)
       (sym c.in_ok-push.ensures.items)
-      (list_whole c.loop-event.members.items c.in_ok-read.read c.loop-event.invariant.whole c.in_ok-read.ensures.whole);
+      (list_whole c.loop-row.members.items c.in_ok-read.read c.loop-row.invariant.whole c.in_ok-read.ensures.whole);
 }
 
-pub returns-then-not-is_empty-clause-stopped : goal.returns-then-not-is_empty-clause-stopped
-returns-then-not-is_empty-clause-stopped c = stopped_early c.args.bytes.now list_members list_members c.args.rows.now
-    (read_so_far c.loop-event.members.items) c.loop-event.left.now c.loop-event.invariant.read
-    (stops_list (supplied_list c.loop-event.members.items)) c.in_default.ensures
-    (λ e. absurd (not_empty c.loop-event.left.now c.if-not-is_empty.ensures e))
-
 pub returns-clause-read : goal.returns-clause-read
-returns-clause-read c = field_of list_field c.args.rows.now c.args.bytes.now (supplied_list c.loop-event.members.items)
-    (subst (λ (r : List Row). Reads c.args.bytes.now c.args.rows.now (read_so_far c.loop-event.members.items) r)
-    (is_empty c.loop-event.left.now c.if-not-is_empty.ensures) c.loop-event.invariant.read)
+returns-clause-read c = field_of list_field c.args.rows.now c.args.bytes.now (supplied_list c.loop-row.members.items)
+    (subst (λ (r : List Row). Reads c.args.bytes.now c.args.rows.now (read_so_far c.loop-row.members.items) r)
+    (no_row c.loop-row.left.now c.in_default.ensures.cases) c.loop-row.invariant.read)

@@ -4,11 +4,11 @@ use Rattle.sfv.specs.Scripts.{described_list, supplied_list}
 use Rattle.sfv_c.specs.RowEvents.{Reads}
 use Rattle.sfv_c.proofs.rows_to_calls.list_of.Given as goal
 
-abbrev pub invariant-loop-event : goal.invariant-loop-event
-invariant-loop-event l = record {
+abbrev pub invariant-loop-row : goal.invariant-loop-row
+invariant-loop-row l = record {
   read : Reads l.bytes l.rows (flat_map entry_events (supplied_list l.members.items)) l.left;
   whole : described_list l.members.items ≡ supplied_list l.members.items;
 }
 
-abbrev pub decreases-loop-event : goal.decreases-loop-event
-decreases-loop-event l = length l.left
+abbrev pub decreases-loop-row : goal.decreases-loop-row
+decreases-loop-row l = length l.left

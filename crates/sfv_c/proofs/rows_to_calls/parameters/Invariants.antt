@@ -4,9 +4,9 @@ use Rattle.sfv.specs.Scripts.{param_of_call}
 use Rattle.sfv_c.specs.RowEvents.{Reads}
 use Rattle.sfv_c.proofs.rows_to_calls.parameters.Given as goal
 
-abbrev pub invariant-loop-event : goal.invariant-loop-event
-invariant-loop-event l =
+abbrev pub invariant-loop-row : goal.invariant-loop-row
+invariant-loop-row l =
     Reads l.bytes l.rows (map (λ p. parameter p.0 p.1) (map param_of_call l.params.items)) l.left
 
-abbrev pub decreases-loop-event : goal.decreases-loop-event
-decreases-loop-event l = length l.left
+abbrev pub decreases-loop-row : goal.decreases-loop-row
+decreases-loop-row l = length l.left
