@@ -1,13 +1,11 @@
 -- Where rows go wrong.
-use Rattle.std.proofs.Common.{◌≡◌, ℕ, ◌+◌, ◌-◌, ◌<◌, List, [], ◌∷◌, ◌++◌, length, take, refl, sym, ◌∙◌, ap, subst, arith}
-use Rattle.std.proofs.Common.{append_assoc, false, None, Some, Option, if◌then◌else◌}
-use Rattle.std.proofs.lemmas.List.{append-nil}
-use Rattle.sfv.specs.Values.{RawField}
+use Rattle.std.proofs.Common.{◌≡◌, ℕ, ◌+◌, ◌-◌, ◌<◌, List, [], ◌∷◌, ◌++◌, length, take, sym, ◌∙◌, ap, subst, arith}
+use Rattle.std.proofs.Common.{append_assoc, None}
 use Rattle.sfv.specs.Types.{FieldKind}
 use Rattle.sfv.specs.Events.{TreeEvent, events}
 use Rattle.sfv_c.specs.declared.rows.Row.{Row}
-use Rattle.sfv_c.specs.Writing.{AreRowsOf, AreRowsOfField, BeginRowsOfField, AreWrongAt}
-use Rattle.sfv_c.specs.RowEvents.{ParseState, Reads, StopsAt, IsStuck, stops, beginning, may_end}
+use Rattle.sfv_c.specs.Writing.{AreRowsOf, BeginRowsOfField, AreWrongAt}
+use Rattle.sfv_c.specs.RowEvents.{ParseState, StopsAt, IsStuck, stops, beginning}
 use Rattle.sfv_c.proofs.Valid.{AreValid, valid_first, field_valid, field_read}
 use Rattle.sfv_c.proofs.Accepted.{begin_field}
 use Rattle.sfv_c.proofs.Stops.{no_place}

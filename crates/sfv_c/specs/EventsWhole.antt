@@ -1,10 +1,9 @@
 -- Events that are collected first, and then copied into the caller's memory, all or none.
 use Rattle.std.specs.Prelude.{◌≡◌, ℕ, List, [], ◌∷◌, length, drop, ◌++◌, Result, Ok, Err, nat_le, ◌&&◌}
 use Rattle.std.specs.Prelude.{if◌then◌else◌, fold}
-use Rattle.sfv.specs.Values.{RawField}
 use Rattle.sfv.specs.Types.{FieldKind}
 use Rattle.sfv.specs.Types.{Version}
-use Rattle.sfv.specs.Grammar.{IsFieldText, HasField}
+use Rattle.sfv.specs.Grammar.{HasField}
 use Rattle.sfv.specs.Events.{TreeEvent, events}
 use Rattle.sfv.specs.Parsers.{IsParseError}
 use Rattle.sfv.specs.Types.{Error}

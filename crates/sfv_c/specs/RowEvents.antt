@@ -13,7 +13,7 @@ use Rattle.sfv.specs.StringText.{StringRef}
 use Rattle.sfv.specs.TokenText.{TokenRef}
 use Rattle.sfv.specs.Types.{GenericBareItem, ParamCall}
 use Rattle.sfv.specs.KeyText.{KeyRef, key_text}
-use Rattle.sfv_c.specs.Rows.{ValueNumbers, EventNumbers, value_numbers, numbers_of}
+use Rattle.sfv_c.specs.Rows.{ValueNumbers, EventNumbers, value_numbers}
 use Rattle.sfv_c.specs.Writing.{IsRowOf, IsScriptText, AreRowsOfField, IsWriteFault}
 use Rattle.sfv_c.specs.declared.answer.CallFault.{CallFault}
 use Rattle.std.specs.declared.alloc.Global.{Global}

@@ -17,11 +17,28 @@ use crate::rows::{LentEvent, Row, Value};
 use sfv::script::ParamCall;
 use sfv::{Date, Decimal, GenericBareItem, Integer, KeyRef, RefBareItem, StringRef, TokenRef};
 
-/// The tags of the events without key and value.
+/// The tag of `Event::Entry`.
 pub(crate) const ENTRY: u32 = 1;
+
+/// The tag of `Event::KeyedEntry`.
+const KEYED_ENTRY: u32 = 2;
+
+/// The tag of `Event::Item`.
 pub(crate) const ITEM: u32 = 3;
+
+/// The tag of `Event::InnerList`.
 pub(crate) const INNER_LIST: u32 = 4;
+
+/// The tag of `Event::BareItem`.
+const BARE_ITEM: u32 = 5;
+
+/// The tag of `Event::Parameter`.
+const PARAMETER: u32 = 6;
+
+/// The tag of `Event::ParametersEnd`.
 pub(crate) const PARAMETERS_END: u32 = 7;
+
+/// The tag of `Event::InnerListEnd`.
 pub(crate) const INNER_LIST_END: u32 = 8;
 
 /// The integer of a number without bytes.
@@ -130,7 +147,7 @@ fn is_alone(parts: LentEvent<'_>, tag: u32) -> bool
 fn keyed_entry_in(parts: LentEvent<'_>) -> Option<KeyRef<'_>>
     ensures { GivesKey (λ e. numbers_of e ≡ lent_numbers parts.entry) result }
 {
-    if parts.tag != 2 || !is_no_value(parts.value) {
+    if parts.tag != KEYED_ENTRY || !is_no_value(parts.value) {
         return None;
     }
     key_in(parts.key)
@@ -140,7 +157,7 @@ fn keyed_entry_in(parts: LentEvent<'_>) -> Option<KeyRef<'_>>
 fn value_in(parts: LentEvent<'_>) -> Option<RefBareItem<'_>>
     ensures { GivesValue (λ e. numbers_of e ≡ lent_numbers parts.entry) result }
 {
-    if parts.tag != 5 || !parts.key.is_empty() {
+    if parts.tag != BARE_ITEM || !parts.key.is_empty() {
         return None;
     }
     bare_item_in(parts.value)
@@ -150,7 +167,7 @@ fn value_in(parts: LentEvent<'_>) -> Option<RefBareItem<'_>>
 fn parameter_in(parts: LentEvent<'_>) -> Option<ParamCall<'_>>
     ensures { GivesParameter (λ e. numbers_of e ≡ lent_numbers parts.entry) result }
 {
-    if parts.tag != 6 {
+    if parts.tag != PARAMETER {
         return None;
     }
     let key = key_in(parts.key)?;

@@ -10,8 +10,10 @@ ghost use Rattle.sfv_c.specs.Writing.{IsRowOf, AreRowsOfField};
 ghost use Rattle.sfv_c.specs.RowEvents.{ParseState, beginning, member, value, parameters, items};
 ghost use Rattle.sfv_c.specs.RowEvents.{Reads, IsStop};
 
-use crate::row_event::{ENTRY, INNER_LIST, INNER_LIST_END, ITEM, PARAMETERS_END};
-use crate::row_event::{is_plain, keyed_entry_at, parameter_at, value_at};
+use crate::row_event::{
+    ENTRY, INNER_LIST, INNER_LIST_END, ITEM, PARAMETERS_END, is_plain, keyed_entry_at,
+    parameter_at, value_at,
+};
 use crate::rows::Row;
 use sfv::KeyRef;
 use sfv::script::{ItemCalls, MemberCalls, ParamCall};
@@ -61,6 +63,8 @@ fn parameters<'a, 'r>(
 }
 
 /// Reads an item, and returns the rows after it.
+// Inlined, since its result has 80 bytes, which a call would copy.
+#[inline(always)]
 fn item<'a, 'r>(
     alloc: Global,
     rows: &'r [Row],

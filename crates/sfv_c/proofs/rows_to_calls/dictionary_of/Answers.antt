@@ -1,4 +1,4 @@
-use Rattle.std.proofs.Common.{◌≡◌, ◌∷◌, [], List, flat_map, refl, sym, subst}
+use Rattle.std.proofs.Common.{◌≡◌, List, flat_map, refl, sym, subst}
 use Rattle.sfv.specs.Calls.{supplied_member}
 use Rattle.sfv.specs.Events.{TreeEvent, keyed_entry, keyed_events, member_events}
 use Rattle.sfv.specs.KeyText.{KeyRef, key_text}
@@ -54,8 +54,8 @@ loop-row-preserved c = record {
       (dictionary_more c.args.bytes.now c.args.rows.now c.loop-row.left.now c.in-Some.rest.now c.in_ok-read.after.now
       c.loop-row.members.items c.in-Some-keyed_entry_at.key c.in_ok-read.read c.loop-row.invariant.read
       (reads_one c.args.bytes.now c.loop-row.left.now c.in-Some.row.now c.in-Some.rest.now
-    (keyed_entry (key_text c.in-Some-keyed_entry_at.key)) c.in-Some.ensures.cases.0 c.in-Some-keyed_entry_at.ensures.0
-    c.in-Some-keyed_entry_at.ensures.1)
+      (keyed_entry (key_text c.in-Some-keyed_entry_at.key)) c.in-Some.ensures.cases.0 c.in-Some-keyed_entry_at.ensures.0
+      c.in-Some-keyed_entry_at.ensures.1)
       c.in_ok-read.ensures.read);
   whole = subst (λ (calls : List (KeyRef × MemberCalls)). described_dictionary calls ≡ supplied_dictionary calls)
       (sym c.in_ok-push.ensures.items)

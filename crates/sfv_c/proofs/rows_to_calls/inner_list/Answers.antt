@@ -1,4 +1,4 @@
-use Rattle.std.proofs.Common.{◌≡◌, ◌∙◌, ◌∷◌, [], ◌++◌, List, map, flat_map, append_assoc, ap, subst}
+use Rattle.std.proofs.Common.{◌∙◌, ◌∷◌, [], ◌++◌, List, map, flat_map, append_assoc, ap, subst}
 use Rattle.sfv.specs.Events.{TreeEvent, inner_item_events, inner_list_end, parameters_events}
 use Rattle.sfv.specs.Scripts.{item_of_calls, param_of_call}
 use Rattle.sfv_c.specs.RowEvents.{items, parameters, stops, Reads}

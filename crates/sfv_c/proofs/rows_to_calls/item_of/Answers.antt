@@ -1,4 +1,4 @@
-use Rattle.std.proofs.Common.{◌≡◌, List, length, refl, subst}
+use Rattle.std.proofs.Common.{List, length, refl, subst}
 use Rattle.sfv.specs.Events.{item_events}
 use Rattle.sfv.specs.Scripts.{item_of_calls}
 use Rattle.sfv.specs.Types.{item_field}

@@ -1,4 +1,4 @@
-use Rattle.std.proofs.Common.{◌≡◌, ◌∷◌, [], List, map, flat_map, refl, sym, subst}
+use Rattle.std.proofs.Common.{◌∷◌, [], List, map, flat_map, refl, sym, subst}
 use Rattle.sfv.specs.Events.{TreeEvent, begins_item, inner_item_events, inner_list_end, item_events}
 use Rattle.sfv.specs.Scripts.{item_of_calls}
 use Rattle.sfv.specs.Types.{ItemCalls}

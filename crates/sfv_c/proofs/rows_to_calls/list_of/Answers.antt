@@ -1,4 +1,4 @@
-use Rattle.std.proofs.Common.{◌≡◌, ◌∷◌, [], List, flat_map, refl, sym, subst}
+use Rattle.std.proofs.Common.{◌≡◌, List, flat_map, refl, sym, subst}
 use Rattle.sfv.specs.Calls.{supplied_member}
 use Rattle.sfv.specs.Events.{TreeEvent, entry, entry_events, member_events}
 use Rattle.sfv.specs.Scripts.{supplied_list, described_list, member_calls}
@@ -55,8 +55,8 @@ loop-row-preserved c = record {
       (list_more c.args.bytes.now c.args.rows.now c.loop-row.left.now c.in-Some.rest.now c.in_ok-read.after.now
       c.loop-row.members.items c.in_ok-read.read c.loop-row.invariant.read
       (reads_one c.args.bytes.now c.loop-row.left.now c.in-Some.row.now c.in-Some.rest.now entry
-    c.in-Some.ensures.cases.0 tt
-    (holds (IsRowOf c.args.bytes.now c.in-Some.row.now entry) c.is_plain.result c.is_plain.ensures c.if-not-is_plain.false))
+      c.in-Some.ensures.cases.0 tt
+      (holds (IsRowOf c.args.bytes.now c.in-Some.row.now entry) c.is_plain.result c.is_plain.ensures c.if-not-is_plain.false))
       c.in_ok-read.ensures.read);
   whole = subst (λ (calls : List MemberCalls). described_list calls ≡ supplied_list calls)
       (sym c.in_ok-push.ensures.items)

@@ -1,4 +1,4 @@
-use Rattle.std.proofs.Common.{◌≡◌, ◌∷◌, [], List, map, refl, sym, subst}
+use Rattle.std.proofs.Common.{◌∷◌, [], List, map, refl, sym, subst}
 use Rattle.std.proofs.lemmas.List.{map-append}
 use Rattle.sfv.specs.BareItems.{ref_value}
 use Rattle.sfv.specs.Events.{TreeEvent, parameter, parameters_end}

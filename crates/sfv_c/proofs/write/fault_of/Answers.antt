@@ -1,4 +1,4 @@
-use Rattle.std.proofs.Common.{◌≡◌, ◌∙◌, ◌-◌, sym, ap, subst}
+use Rattle.std.proofs.Common.{◌∙◌, ◌-◌, sym, ap, subst}
 use Rattle.sfv_c.specs.Writing.{AreWrongAt}
 use Rattle.sfv_c.specs.RowEvents.{beginning, IsStop}
 use Rattle.sfv_c.proofs.WrongRows.{wrong_rows}
