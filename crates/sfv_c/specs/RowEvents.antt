@@ -42,24 +42,24 @@ GivesItem p r = MatchOption r ((v : BareValue) → IsBareValue v → ¬ (value_n
 abbrev pub plain_numbers : ℕ → EventNumbers
 plain_numbers tag = record { tag = tag; key = []; value = value_numbers None }
 
--- `Some` key under which a member of a dictionary is next, or there is no such event
+-- `Some` key whose `keyed_entry` satisfies `Is`, or no valid one does
 abbrev pub GivesKey : (TreeEvent → Type 0) → Option KeyRef → Type 0
 GivesKey Is r = MatchOption r ((key : List ℕ) → IsTrue (is_key key) → ¬ Is (keyed_entry key))
     (λ key. IsTrue (is_key (key_text key)) × Is (keyed_entry (key_text key)))
 
--- `Some` value of an item, or there is no such event
+-- `Some` value whose `bare_item` satisfies `Is`, or no valid one does
 abbrev pub GivesValue : (TreeEvent → Type 0) → Option RefItem → Type 0
 GivesValue Is r = MatchOption r ((v : BareValue) → IsBareValue v → ¬ Is (bare_item v))
     (λ item. IsBareValue (ref_value item) × Is (bare_item (ref_value item)))
 
--- `Some` parameter, or there is no such event
+-- `Some` call whose `parameter` satisfies `Is`, or no valid one does
 abbrev pub GivesParameter : (TreeEvent → Type 0) → Option ParamCall → Type 0
 GivesParameter Is r =
     MatchOption r ((key : List ℕ) (v : BareValue) → IsTrue (is_key key) → IsBareValue v → ¬ Is (parameter key v))
     (λ call. IsTrue (is_key (key_text call.key)) × IsBareValue (ref_value call.value)
     × Is (parameter (key_text call.key) (ref_value call.value)))
 
--- the rows are those of these events, and then these rows
+-- the rows are those of these valid events, followed by these rows
 abbrev pub Reads : List ℕ → List Row → List TreeEvent → List Row → Type 0
 Reads bytes rows [] rest = rows ≡ rest
 Reads bytes [] (e ∷ es) rest = ⊥
@@ -101,12 +101,13 @@ abbrev pub stops : ParseState → List TreeEvent → Option ℕ
 stops p [] = if may_end p then None else Some 0
 stops p (e ∷ es) = elim (after p e) [ None ↦ Some (length (e ∷ es)) | Some next ↦ stops next es ]
 
--- the next row has no event that may come here, or there is none and the field may not end here
+-- the next row has no event that may come here, or no row is left and the field may not end here
 abbrev pub IsStuck : List ℕ → ParseState → List Row → Type 0
 IsStuck bytes p [] = may_end p ≡ false
 IsStuck bytes p (row ∷ rows) = (e : TreeEvent) → IsValidEvent e → IsRowOf bytes row e → after p e ≡ None
 
--- the rows are read up to where so many are left, and no further
+-- Reading stops where so many rows are left: the rows before them have events that lead from this place to one where
+-- reading is stuck.
 pub record StopsAt (bytes : List ℕ) (p : ParseState) (rows : List Row) (left : ℕ) : Type 0 where
   pub es : List TreeEvent
   pub rest : List Row
@@ -129,6 +130,7 @@ pub record IsTextOf (version : Version) (kind : FieldKind) (rows : List Row) (by
   pub fits : Fits version kind raw
   pub written : IsScriptText version kind raw text
 
+-- the text of the field of these rows, or the reason why there is none
 abbrev pub IsTextMade : Version → FieldKind → List Row → List ℕ → Result (Option (std_string.String Global)) CallFault → Type 0
 IsTextMade version kind rows bytes (Ok text) = IsTextOf version kind rows bytes (option_map string_bytes text)
 IsTextMade version kind rows bytes (Err fault) = IsWriteFault version kind rows bytes fault

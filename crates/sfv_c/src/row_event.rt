@@ -1,4 +1,4 @@
-//! Rows as the parts of a field again.
+//! The keys, values and parameters of rows.
 
 ghost use Rattle.std.specs.Prelude.{◌≡◌, ◌↔◌, [], pos, Bool, ◌+◌, ◌≤◌, length, None, MatchOption, IsTrue};
 ghost use Rattle.std.specs.List.{list_all};
@@ -13,33 +13,9 @@ ghost use Rattle.sfv_c.specs.Rows.{EventNumbers, value_numbers, numbers_of, lent
 ghost use Rattle.sfv_c.specs.Writing.{IsAt, IsRowOf, IsRowOfNumbers};
 ghost use Rattle.sfv_c.specs.RowEvents.{plain_numbers, GivesItem, GivesKey, GivesValue, GivesParameter};
 
-use crate::rows::{LentEvent, Row, Value};
+use crate::rows::{BARE_ITEM, KEYED_ENTRY, LentEvent, PARAMETER, Row, Value};
 use sfv::script::ParamCall;
 use sfv::{Date, Decimal, GenericBareItem, Integer, KeyRef, RefBareItem, StringRef, TokenRef};
-
-/// The tag of `Event::Entry`.
-pub(crate) const ENTRY: u32 = 1;
-
-/// The tag of `Event::KeyedEntry`.
-const KEYED_ENTRY: u32 = 2;
-
-/// The tag of `Event::Item`.
-pub(crate) const ITEM: u32 = 3;
-
-/// The tag of `Event::InnerList`.
-pub(crate) const INNER_LIST: u32 = 4;
-
-/// The tag of `Event::BareItem`.
-const BARE_ITEM: u32 = 5;
-
-/// The tag of `Event::Parameter`.
-const PARAMETER: u32 = 6;
-
-/// The tag of `Event::ParametersEnd`.
-pub(crate) const PARAMETERS_END: u32 = 7;
-
-/// The tag of `Event::InnerListEnd`.
-pub(crate) const INNER_LIST_END: u32 = 8;
 
 /// The integer of a number without bytes.
 fn integer_in(value: Value<'_>) -> Option<Integer>
@@ -137,7 +113,7 @@ fn is_no_value(value: Value<'_>) -> bool
 }
 
 /// Whether these parts are this tag, without key and value.
-fn is_alone(parts: LentEvent<'_>, tag: u32) -> bool
+fn is_plain_in(parts: LentEvent<'_>, tag: u32) -> bool
     ensures { IsTrue result ↔ (lent_numbers parts.entry ≡ plain_numbers tag) }
 {
     parts.tag == tag && parts.key.is_empty() && is_no_value(parts.value)
@@ -202,7 +178,7 @@ pub(crate) fn is_plain(row: &Row, bytes: &[u8], tag: u32) -> bool
     ensures { IsTrue result ↔ IsRowOfNumbers bytes.now row.now (plain_numbers tag) }
 {
     match parts_at(row, bytes) {
-        Some(parts) => is_alone(parts, tag),
+        Some(parts) => is_plain_in(parts, tag),
         None => false,
     }
 }

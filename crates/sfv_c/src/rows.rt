@@ -8,6 +8,30 @@ ghost use Rattle.sfv_c.specs.Rows.{lent_value, lent_numbers, value_numbers, numb
 use sfv::visitor::Event;
 use sfv::{GenericBareItem, RefBareItem};
 
+/// The tag of `Event::Entry`.
+pub(crate) const ENTRY: u32 = 1;
+
+/// The tag of `Event::KeyedEntry`.
+pub(crate) const KEYED_ENTRY: u32 = 2;
+
+/// The tag of `Event::Item`.
+pub(crate) const ITEM: u32 = 3;
+
+/// The tag of `Event::InnerList`.
+pub(crate) const INNER_LIST: u32 = 4;
+
+/// The tag of `Event::BareItem`.
+pub(crate) const BARE_ITEM: u32 = 5;
+
+/// The tag of `Event::Parameter`.
+pub(crate) const PARAMETER: u32 = 6;
+
+/// The tag of `Event::ParametersEnd`.
+pub(crate) const PARAMETERS_END: u32 = 7;
+
+/// The tag of `Event::InnerListEnd`.
+pub(crate) const INNER_LIST_END: u32 = 8;
+
 /// An event in numbers.
 #[repr(C)]
 #[derive(Clone, Copy, Drop)]
@@ -90,14 +114,14 @@ pub(crate) fn numbers_of<'a>(event: &'a Event<'_>) -> LentEvent<'a>
 {
     let plain = number_value(0, 0);
     let (tag, key, value) = match event {
-        Event::Entry => (1, "", plain),
-        Event::KeyedEntry(key) => (2, key.as_str(), plain),
-        Event::Item => (3, "", plain),
-        Event::InnerList => (4, "", plain),
-        Event::BareItem(item) => (5, "", value_of(item.as_ref_item())),
-        Event::Parameter(key, item) => (6, key.as_str(), value_of(item.as_ref_item())),
-        Event::ParametersEnd => (7, "", plain),
-        Event::InnerListEnd => (8, "", plain),
+        Event::Entry => (ENTRY, "", plain),
+        Event::KeyedEntry(key) => (KEYED_ENTRY, key.as_str(), plain),
+        Event::Item => (ITEM, "", plain),
+        Event::InnerList => (INNER_LIST, "", plain),
+        Event::BareItem(item) => (BARE_ITEM, "", value_of(item.as_ref_item())),
+        Event::Parameter(key, item) => (PARAMETER, key.as_str(), value_of(item.as_ref_item())),
+        Event::ParametersEnd => (PARAMETERS_END, "", plain),
+        Event::InnerListEnd => (INNER_LIST_END, "", plain),
     };
     LentEvent {
         tag,

@@ -10,11 +10,8 @@ ghost use Rattle.sfv_c.specs.Writing.{IsRowOf, AreRowsOfField};
 ghost use Rattle.sfv_c.specs.RowEvents.{ParseState, beginning, member, value, parameters, items};
 ghost use Rattle.sfv_c.specs.RowEvents.{Reads, IsStop};
 
-use crate::row_event::{
-    ENTRY, INNER_LIST, INNER_LIST_END, ITEM, PARAMETERS_END, is_plain, keyed_entry_at,
-    parameter_at, value_at,
-};
-use crate::rows::Row;
+use crate::row_event::{is_plain, keyed_entry_at, parameter_at, value_at};
+use crate::rows::{ENTRY, INNER_LIST, INNER_LIST_END, ITEM, PARAMETERS_END, Row};
 use sfv::KeyRef;
 use sfv::script::{ItemCalls, MemberCalls, ParamCall};
 use std::alloc::{AllocFailed, Global};
