@@ -1,3 +1,2 @@
-pub mod Lasts
-mod Pairs
+mod Members
 pub mod Seeded

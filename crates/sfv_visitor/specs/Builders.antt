@@ -1,24 +1,24 @@
 -- The steps of the builders of owned trees.
 use Rattle.std.specs.Prelude.{◌≡◌, ⊤, MatchOption}
-use Rattle.std.specs.Prelude.{ℕ, List, [], ◌∷◌, ◌++◌, Bool, true, false, ◌&&◌, ◌||◌, Option, Some, None, is_none, option_map}
+use Rattle.std.specs.Prelude.{ℕ, List, [], ◌∷◌, ◌++◌, Bool, true, false, ◌&&◌, ◌||◌, Option, Some, None, is_none}
 use Rattle.std.specs.Prelude.{bytes_eq}
 use Rattle.std.specs.Map.{lookup}
-use Rattle.indexmap.specs.IndexMap.{IndexMap, insert_entry}
-use Rattle.sfv_spec.specs.Values.{BareValue, RawParameters, RawItem, RawInnerList, RawMember, item, inner_list}
+use Rattle.indexmap.specs.IndexMap.{IndexMap, hasher_of, insert_entry}
+use Rattle.sfv_spec.specs.Values.{BareValue, RawItem, RawInnerList, RawMember, item, inner_list}
 use Rattle.sfv_spec.specs.Events.{TreeEvent, entry, keyed_entry, begins_item, begins_inner_list}
 use Rattle.sfv_spec.specs.Events.{bare_item, parameter, parameters_end, inner_list_end}
-use Rattle.sfv_bare.specs.BareItems.{is_text, bare_value}
-use Rattle.sfv_tree.specs.Trees.{item_tree, list_tree, dictionary_tree}
-use Rattle.sfv_tree.specs.Seeds.{ItemHasSeed, ListHasSeed, DictionaryHasSeed}
+use Rattle.sfv_bare.specs.BareItems.{is_text}
+use Rattle.sfv_tree.specs.Trees.{item_tree, inner_list_tree, member_tree, list_tree, dictionary_tree}
+use Rattle.sfv_tree.specs.Seeds.{ItemHasSeed, InnerListHasSeed, MemberHasSeed, ListHasSeed, DictionaryHasSeed}
 use Rattle.sfv_tree.specs.declared.hash_seed.HashSeed.{HashSeed}
 use Rattle.sfv_tree.specs.declared.parsed.Item.{Item}
 use Rattle.sfv_tree.specs.declared.parsed.ListEntry.{ListEntry}
 use Rattle.sfv_visitor.specs.declared.visitor.item_builder.ItemBuilder.{ItemBuilder}
 use Rattle.sfv_visitor.specs.declared.visitor.list_builder.ListBuilder.{ListBuilder}
-use Rattle.sfv_visitor.specs.declared.visitor.list_builder.Stage.{Stage}
-use Rattle.sfv_visitor.specs.declared.visitor.list_builder.Stage.TheVariants as stages
-use Rattle.sfv_visitor.specs.declared.visitor.member_stage.MemberStage.{MemberStage}
-use Rattle.sfv_visitor.specs.declared.visitor.member_stage.MemberStage.TheVariants as member_stages
+use Rattle.sfv_visitor.specs.declared.visitor.member.Member.{Member}
+use Rattle.sfv_visitor.specs.declared.visitor.member.Member.TheVariants as members
+use Rattle.sfv_visitor.specs.declared.visitor.member.Step.{Step}
+use Rattle.sfv_visitor.specs.declared.visitor.member.Step.TheVariants as steps
 use Rattle.sfv_visitor.specs.declared.visitor.dictionary_builder.DictionaryBuilder.{DictionaryBuilder}
 
 -- the pairs after an insertion: an existing key keeps its place and gets the new value, and a new key goes last
@@ -81,14 +81,37 @@ abbrev pub has_ended : MemberState → Bool
 has_ended (ended m) = true
 has_ended p = false
 
--- The state of an item's builder: it reads the item as a member is read.
-abbrev pub item_so_far : Bool → Option Item → MemberState
-item_so_far is_whole None = item_head
-item_so_far false (Some i) = item_parameters (item_tree i)
-item_so_far true (Some i) = ended (item (item_tree i))
+-- the state of a builder's member
+abbrev pub member_state : Member → MemberState
+member_state members.Begun = begun
+member_state members.ItemHead = item_head
+member_state (members.ItemParams i) = item_parameters (item_tree i)
+member_state (members.Items l) = inner_items (inner_list_tree l)
+member_state (members.InnerHead l) = inner_head (inner_list_tree l)
+member_state (members.InnerParams l i) = inner_parameters (inner_list_tree l) (item_tree i)
+member_state (members.ListParams l) = list_parameters (inner_list_tree l)
 
+abbrev pub step_state : Step → MemberState
+step_state (steps.Within p) = member_state p
+step_state (steps.Ended m) = ended (member_tree m)
+
+-- the parameters in the member so far hash under this seed
+abbrev pub MemberSoFarHasSeed : HashSeed → Member → Type 0
+MemberSoFarHasSeed seed members.Begun = ⊤
+MemberSoFarHasSeed seed members.ItemHead = ⊤
+MemberSoFarHasSeed seed (members.ItemParams i) = ItemHasSeed seed i
+MemberSoFarHasSeed seed (members.Items l) = InnerListHasSeed seed l
+MemberSoFarHasSeed seed (members.InnerHead l) = InnerListHasSeed seed l
+MemberSoFarHasSeed seed (members.InnerParams l i) = InnerListHasSeed seed l × ItemHasSeed seed i
+MemberSoFarHasSeed seed (members.ListParams l) = InnerListHasSeed seed l
+
+abbrev pub StepHasSeed : HashSeed → Step → Type 0
+StepHasSeed seed (steps.Within p) = MemberSoFarHasSeed seed p
+StepHasSeed seed (steps.Ended m) = MemberHasSeed seed m
+
+-- The state of an item's builder: it reads the item as a member is read.
 abbrev pub item_state : ItemBuilder → MemberState
-item_state b = item_so_far b.is_whole b.item
+item_state b = step_state b.item
 
 -- the hash seed of a builder
 abbrev pub item_seed : ItemBuilder → HashSeed
@@ -96,7 +119,7 @@ item_seed b = b.seed
 
 -- the parameters of the item so far hash under the builder's seed
 abbrev pub IsItemSeeded : ItemBuilder → Type 0
-IsItemSeeded b = MatchOption b.item ⊤ (ItemHasSeed b.seed)
+IsItemSeeded b = StepHasSeed b.seed b.item
 
 -- a step keeps the seed, and adds only maps under it
 abbrev pub KeepsItemSeed : ItemBuilder → ItemBuilder → Type 0
@@ -122,84 +145,31 @@ list_step (between ms) entry = within ms begun
 list_step (between ms) e = between ms
 list_step (within ms p) e = settle ms (member_step p e)
 
--- A member goes into the list here: an inner list at its start, and an item at the end of its parameters, or before.
-abbrev pub goes_in : MemberState → TreeEvent → Bool
-goes_in begun begins_inner_list = true
-goes_in (item_parameters i) parameters_end = true
-goes_in p e = false
-
--- the event allocates here: within the member, or because the member goes into the list
+-- the event allocates here: within the member, or because the complete member goes into the list
 abbrev pub list_takes_memory : ListState → TreeEvent → Bool
 list_takes_memory (between ms) e = false
-list_takes_memory (within ms p) e = takes_memory p e || goes_in p e
+list_takes_memory (within ms p) e = takes_memory p e || has_ended (member_step p e)
 
 -- the complete members
 abbrev pub list_members : ListState → List RawMember
 list_members (between ms) = ms
 list_members (within ms p) = ms
 
--- all elements except the last, and the last
-abbrev pub split_from : {X : Type 0} → X → List X → List X × X
-split_from x [] = ([], x)
-split_from x (y ∷ ys) = (x ∷ (split_from y ys).0, (split_from y ys).1)
-
-abbrev pub split_last : {X : Type 0} → List X → Option (List X × X)
-split_last [] = None
-split_last (x ∷ xs) = Some (split_from x xs)
-
--- the state in an inner list with an incomplete last item; no builder reaches it without an item
-abbrev pub among_items : RawParameters → Option (List RawItem × RawItem) → MemberState
-among_items ps (Some (is, i)) = inner_parameters (record { items = is; parameters = ps }) i
-among_items ps None = inner_items (record { items = []; parameters = ps })
-
--- the state in a member that expects this part, if the member can
-abbrev pub state_in : MemberStage → RawMember → Option MemberState
-state_in member_stages.Params (item i) = Some (item_parameters i)
-state_in member_stages.Items (inner_list l) = Some (inner_items l)
-state_in member_stages.InnerHead (inner_list l) = Some (inner_head l)
-state_in member_stages.InnerParams (inner_list l) = Some (among_items l.parameters (split_last l.items))
-state_in member_stages.ListParams (inner_list l) = Some (list_parameters l)
-state_in p m = None
-
--- the state in an inner list that holds back the bare item of an item
-abbrev pub held_state : Option BareValue → RawMember → Option MemberState
-held_state (Some value) (inner_list l) = Some (inner_parameters l (plain_item value))
-held_state held m = None
-
--- the state with the last member, complete or not
-abbrev pub with_last : List RawMember → RawMember → Option MemberState → ListState
-with_last ms m None = between (ms ++ m ∷ [])
-with_last ms m (Some p) = within ms p
-
-abbrev pub at_last : (RawMember → Option MemberState) → Option (List RawMember × RawMember) → ListState
-at_last place None = between []
-at_last place (Some (ms, m)) = with_last ms m (place m)
-
--- the state of a member whose bare item is held back
-abbrev pub held_shown : Option BareValue → List RawMember → ListState
-held_shown (Some value) ms = within ms (item_parameters (plain_item value))
-held_shown None ms = between ms
-
--- The state at this stage, with the members so far. If the last member cannot expect this part, or nothing is held
--- back, all members are complete; no builder reaches these stages.
-abbrev pub list_shown : Stage → Option BareValue → List RawMember → ListState
-list_shown stages.Between held ms = between ms
-list_shown stages.Begun held ms = within ms begun
-list_shown stages.Head held ms = within ms item_head
-list_shown stages.Held held ms = held_shown held ms
-list_shown stages.InnerHeld held ms = at_last (held_state held) (split_last ms)
-list_shown (stages.Within p) held ms = at_last (state_in p) (split_last ms)
+-- the state with these complete members and the current member
+abbrev pub list_shown : List RawMember → Option Member → ListState
+list_shown ms None = between ms
+list_shown ms (Some p) = within ms (member_state p)
 
 -- the state of a builder, with the list so far
 abbrev pub list_state : ListBuilder → ListState
-list_state b = list_shown b.stage (option_map bare_value b.held) (list_tree b.list.items)
+list_state b = list_shown (list_tree b.list.items) b.member
 
 abbrev pub list_seed : ListBuilder → HashSeed
 list_seed b = b.seed
 
 -- the maps of the members so far hash under the builder's seed
 abbrev pub IsListSeeded : ListBuilder → Type 0
-IsListSeeded b = ListHasSeed b.seed b.list.items
+IsListSeeded b = ListHasSeed b.seed b.list.items × MatchOption b.member ⊤ (MemberSoFarHasSeed b.seed)
 
 -- a step keeps the seed, and adds only maps under it
 abbrev pub KeepsListSeed : ListBuilder → ListBuilder → Type 0
@@ -229,43 +199,35 @@ dictionary_step (within_pair ms key p) e = settle_pair ms key (member_step p e)
 abbrev pub settle_takes_memory : List (List ℕ × RawMember) → List ℕ → MemberState → Bool
 settle_takes_memory ms key p = has_ended p && is_none (lookup (bytes_eq key) ms)
 
--- an inner list begins here, in a separate list until it is inserted
-abbrev pub begins_list : MemberState → TreeEvent → Bool
-begins_list begun begins_inner_list = true
-begins_list p e = false
-
--- The event allocates here. A key is copied. An event may allocate within the member. An inner list allocates at its
--- start. A member with a new key allocates at its end, when it is inserted.
+-- The event allocates here. A key is copied. An event may allocate within the member. A member with a new key allocates
+-- at its end, when it is inserted.
 abbrev pub dictionary_takes_memory : DictionaryState → TreeEvent → Bool
 dictionary_takes_memory (between_pairs ms) (keyed_entry key) = true
 dictionary_takes_memory (between_pairs ms) e = false
-dictionary_takes_memory (within_pair ms key p) e =
-    takes_memory p e || begins_list p e || settle_takes_memory ms key (member_step p e)
+dictionary_takes_memory (within_pair ms key p) e = takes_memory p e || settle_takes_memory ms key (member_step p e)
 
 -- the complete pairs
 abbrev pub dictionary_members : DictionaryState → List (List ℕ × RawMember)
 dictionary_members (between_pairs ms) = ms
 dictionary_members (within_pair ms key p) = ms
 
--- The state among pairs, where the member of the key is the last of a separate list. A key without a current member
--- gives the state between pairs; no builder reaches it.
-abbrev pub state_among_pairs : List (List ℕ × RawMember) → Option (List ℕ) → ListState → DictionaryState
-state_among_pairs ms None p = between_pairs ms
-state_among_pairs ms (Some key) (between ns) = between_pairs ms
-state_among_pairs ms (Some key) (within ns (ended m)) = between_pairs ms
-state_among_pairs ms (Some key) (within ns p) = within_pair ms key p
+-- the state with these complete pairs and the current member, with its key
+abbrev pub dictionary_shown : List (List ℕ × RawMember) → Option (List ℕ × Member) → DictionaryState
+dictionary_shown ms None = between_pairs ms
+dictionary_shown ms (Some (key, p)) = within_pair ms key (member_state p)
 
 -- the state of a builder, with the dictionary so far
 abbrev pub dictionary_state : DictionaryBuilder → DictionaryState
-dictionary_state b = state_among_pairs (dictionary_tree b.dictionary.entries) b.key (list_state b.member)
+dictionary_state b = dictionary_shown (dictionary_tree b.dictionary.entries) b.member
 
 -- the hash seed of a builder's dictionary, also for its parameters
 abbrev pub dictionary_seed : DictionaryBuilder → HashSeed
-dictionary_seed b = list_seed b.member
+dictionary_seed b = hasher_of b.dictionary
 
 -- the dictionary, its members so far, and the current member hash under the builder's seed
 abbrev pub IsDictionarySeeded : DictionaryBuilder → Type 0
-IsDictionarySeeded b = DictionaryHasSeed (list_seed b.member) b.dictionary × IsListSeeded b.member
+IsDictionarySeeded b = DictionaryHasSeed (dictionary_seed b) b.dictionary
+    × MatchOption b.member ⊤ (λ p. MemberSoFarHasSeed (dictionary_seed b) p.1)
 
 -- a step keeps the seed, and adds only maps under it
 abbrev pub KeepsDictionarySeed : DictionaryBuilder → DictionaryBuilder → Type 0

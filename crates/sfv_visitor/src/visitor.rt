@@ -9,7 +9,7 @@ ghost use Rattle.sfv_visitor.specs.declared.visitor.Event.{Event};
 mod dictionary_builder;
 mod item_builder;
 mod list_builder;
-mod member_stage;
+mod member;
 mod option;
 pub mod parameters;
 

@@ -8,12 +8,13 @@ ghost use Rattle.sfv_visitor.specs.Builders.{item_head, ended, member_step, item
 ghost use Rattle.sfv_visitor.specs.Builders.{IsItemSeeded, KeepsItemSeed, AnswersSeeded};
 ghost use Rattle.sfv_visitor.specs.declared.visitor.ItemFault.TheVariants as faults;
 
-use crate::visitor::parameters::insert_parameter;
+use crate::visitor::member::{Member, Step};
 use crate::visitor::{Event, ItemFault, Visitor};
 use sfv_base::error::OutOfMemory;
 use sfv_tree::hash_seed::HashSeed;
-use sfv_tree::parsed::{Item, Parameters};
+use sfv_tree::parsed::{Item, ListEntry};
 use std::alloc::Global;
+use std::mem;
 
 /// A visitor that builds an item. A repeated key keeps its first position and takes its last value (RFC 9651,
 /// section 4.2.3.2).
@@ -24,9 +25,7 @@ use std::alloc::Global;
 pub struct ItemBuilder {
     alloc: Global,
     seed: HashSeed,
-    item: Option<Item>,
-    // The parameters of `item` have ended.
-    is_whole: bool,
+    item: Step,
 }
 
 impl ItemBuilder {
@@ -39,8 +38,7 @@ impl ItemBuilder {
         ItemBuilder {
             alloc,
             seed,
-            item: None,
-            is_whole: false,
+            item: Step::Within(Member::ItemHead),
         }
     }
 
@@ -51,18 +49,9 @@ impl ItemBuilder {
         ensures copied { OnErr result (is_moved event.entry ≡ false) }
         ensures seed { OnOk result (KeepsItemSeed self.old self.new) }
     {
-        match (&mut self.item, event) {
-            (None, Event::BareItem(bare_item)) => {
-                let bare_item = bare_item.try_into_owned(self.alloc)?;
-                let params = Parameters::with_hasher(self.alloc, self.seed);
-                self.item = Some(Item::with_params(bare_item, params));
-                self.is_whole = false;
-            }
-            (Some(item), Event::Parameter(key, value)) if !self.is_whole => {
-                insert_parameter(self.alloc, &mut item.params, key, value)?;
-            }
-            (Some(_), Event::ParametersEnd) => self.is_whole = true,
-            _ => {}
+        match mem::replace(&mut self.item, Step::Within(Member::ItemHead)) {
+            Step::Within(item) => self.item = item.step(self.alloc, self.seed, event)?,
+            whole => self.item = whole,
         }
         Ok(())
     }
@@ -95,7 +84,7 @@ impl<'de> Visitor<'de> for ItemBuilder {
 
     fn finish(self) -> Result<Item, ItemFault> {
         match self.item {
-            Some(item) if self.is_whole => Ok(item),
+            Step::Ended(ListEntry::Item(item)) => Ok(item),
             _ => Err(ItemFault::NoItem),
         }
     }
