@@ -2,8 +2,9 @@
 //!
 //! Standard input may contain the number of one call, from 0 to 99; otherwise each call is made. If an allocation fails
 //! (`rt try --fail-alloc N`), the call returns that memory ran out, and its arguments are as its contract states. The
-//! status is then 1. Any other result is printed as a line, and the status is 0. `docs/check-memory.sh` fails the first
-//! allocation of each call, the second, and so on.
+//! status is then 1. Any other result is printed as a line, and the status is 0. If only the request for the first
+//! capacity of a text fails, the call succeeds. `docs/check-memory.sh` fails the first allocation of each call, the
+//! second, and so on.
 #![tactic(auto)]
 
 mod calls;
