@@ -51,7 +51,8 @@ fn request_first_memory<A: Allocator>(output: &mut StdString<A>)
 pub fn prepare<A: Allocator>(output: &mut StdString<A>)
     ensures text { string_bytes output.new ≡ string_bytes output.old }
     ensures room { string_capacity output.old ≤ string_capacity output.new }
-    ensures first { string_capacity output.old ≡ 0 → (string_capacity output.new ≡ 0) ⊎ (string_capacity output.new ≡ 128) }
+    ensures first { string_capacity output.old ≡ 0
+        → (string_capacity output.new ≡ 0) ⊎ (string_capacity output.new ≡ 128) }
     ensures idle { 0 < string_capacity output.old → string_capacity output.new ≡ string_capacity output.old }
 {
     if output.capacity() == 0 {

@@ -1,7 +1,7 @@
 //! Serialization of bare items, parameters and items (RFC 9651, sections 4.1.1.2, 4.1.3 and 4.1.3.1).
 
-ghost use Rattle.std.specs.Prelude.{◌≡◌, ◌∷◌, ◌++◌, List, Some, true, IfOk, IfErr, OnOk, OnErr, MatchBool, IsTrue, codes, string_bytes};
-ghost use Rattle.std.specs.Prelude.{◌≤◌, string_capacity};
+ghost use Rattle.std.specs.Prelude.{◌≡◌, ◌∷◌, ◌++◌, List, true, IfErr, OnOk, OnErr, MatchBool, IsTrue, codes, string_bytes};
+ghost use Rattle.std.specs.Prelude.{◌≤◌, Some, IfOk, string_capacity};
 ghost use Rattle.std.specs.Iterator.{IsFinite, Drains};
 ghost use Rattle.sfv_spec.specs.Classes.{is_key, is_token};
 ghost use Rattle.sfv_spec.specs.Values.{IsBareValue, AreParameters, boolean};
@@ -309,7 +309,8 @@ pub fn serialize_item<A: Allocator>(
 ///
 /// Returns `OutOfMemory` if memory runs out.
 pub fn item_text(item: &Item, alloc: Global) -> Result<StdString, OutOfMemory>
-    ensures text { IfOk result (λ text. IsSerializedAs Rfc9651 item_field (item_tree item.now) (Some (string_bytes text))) }
+    ensures text { IfOk result (λ text.
+        IsSerializedAs Rfc9651 item_field (item_tree item.now) (Some (string_bytes text))) }
 {
     let mut text = text_for_item(item.params.len(), alloc);
     serialize_item(item, &mut text)?;
