@@ -27,8 +27,8 @@ use sfv_spec::version::Version;
 use sfv_tree::parsed::{Dictionary, Item, List};
 use sfv_visitor::visitor::ItemBuilder;
 use sfv_writer::{
-    SerializeError, check_dictionary, check_item, check_list, dictionary_text, list_text,
-    serialize_item,
+    SerializeError, check_dictionary, check_item, check_list, dictionary_text, item_text,
+    list_text,
 };
 use std::alloc::Global;
 use std::string::String as StdString;
@@ -130,11 +130,7 @@ impl FieldType for Item {
     }
 
     fn serialize(&self, alloc: Global) -> Result<StdString, OutOfMemory> {
-        // An estimate: most short items need no second allocation.
-        let capacity = 32 + 24 * self.params.len().min(100);
-        let mut text = StdString::with_capacity(alloc, capacity)?;
-        serialize_item(self, &mut text)?;
-        Ok(text)
+        item_text(self, alloc)
     }
 
     fn serialize_for(&self, alloc: Global, version: Version) -> Result<StdString, SerializeError> {
