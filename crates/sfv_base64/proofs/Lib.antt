@@ -1,0 +1,2 @@
+mod Encoded
+mod Symbols
