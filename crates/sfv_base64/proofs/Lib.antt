@@ -1,2 +1,4 @@
 mod Encoded
 mod Symbols
+mod Groups
+mod Contents
