@@ -27,14 +27,14 @@ first_four (a ∷ b ∷ []) four = absurd (omega arith)
 first_four (a ∷ b ∷ c ∷ []) four = absurd (omega arith)
 first_four (a ∷ b ∷ c ∷ d ∷ xs) four = refl
 
-four_at : (s : List ℕ) (at : ℕ) → at + 4 ≤ length s
+pub four_at : (s : List ℕ) (at : ℕ) → at + 4 ≤ length s
     → take 4 (drop at s) ≡ slice_index s at ∷ slice_index s (at + 1) ∷ slice_index s (at + 2) ∷ slice_index s (at + 3) ∷ []
 four_at s at fits =
     let here : at + 0 ≡ at = omega arith in
     first_four (drop at s) (omega (arith, length-drop at s, fits))
     ∙ rw (get_or-drop at s 0 0, get_or-drop at s 1 0, get_or-drop at s 2 0, get_or-drop at s 3 0, here) refl
 
-each_of_four : (a b c d : ℕ) → list_all is_symbol (a ∷ b ∷ c ∷ d ∷ []) ≡ true
+pub each_of_four : (a b c d : ℕ) → list_all is_symbol (a ∷ b ∷ c ∷ d ∷ []) ≡ true
     → (is_symbol a ≡ true) × (is_symbol b ≡ true) × (is_symbol c ≡ true) × (is_symbol d ≡ true)
 each_of_four a b c d h =
     let p = and_parts _ _ h in
@@ -82,7 +82,7 @@ groups dec s (suc q) table fits h =
 
 -- the state after the first symbols
 
-one_scanned : (dec : List ℕ) (a at : ℕ) (t : List ℕ) → IsSymbol dec a
+pub one_scanned : (dec : List ℕ) (a at : ℕ) (t : List ℕ) → IsSymbol dec a
     → scan dec 61 at no_leftover 0 (a ∷ t) ≡ scan dec 61 at (record no_leftover {
       morsels = symbol_value a ∷ 0 ∷ 0 ∷ 0 ∷ [];
       morsels_count = 1;
@@ -92,7 +92,7 @@ one_scanned : (dec : List ℕ) (a at : ℕ) (t : List ℕ) → IsSymbol dec a
 one_scanned dec a at t x =
     scan-cons_ok dec 61 at no_leftover 0 a t _ (rw (x.other, x.found, x.value) refl)
 
-two_scanned : (dec : List ℕ) (a b at : ℕ) (t : List ℕ) → IsSymbol dec a → IsSymbol dec b
+pub two_scanned : (dec : List ℕ) (a b at : ℕ) (t : List ℕ) → IsSymbol dec a → IsSymbol dec b
     → scan dec 61 at no_leftover 0 (a ∷ b ∷ t) ≡ scan dec 61 at (record no_leftover {
       morsels = symbol_value a ∷ symbol_value b ∷ 0 ∷ 0 ∷ [];
       morsels_count = 2;
@@ -103,7 +103,7 @@ two_scanned dec a b at t x y =
     one_scanned dec a at (b ∷ t) x
     ∙ scan-cons_ok dec 61 at _ 1 b t _ (rw (y.other, y.found, y.value) refl)
 
-three_scanned : (dec : List ℕ) (a b c at : ℕ) (t : List ℕ) → IsSymbol dec a → IsSymbol dec b → IsSymbol dec c
+pub three_scanned : (dec : List ℕ) (a b c at : ℕ) (t : List ℕ) → IsSymbol dec a → IsSymbol dec b → IsSymbol dec c
     → scan dec 61 at no_leftover 0 (a ∷ b ∷ c ∷ t) ≡ scan dec 61 at (record no_leftover {
       morsels = symbol_value a ∷ symbol_value b ∷ symbol_value c ∷ 0 ∷ [];
       morsels_count = 3;
