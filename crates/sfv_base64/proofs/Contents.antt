@@ -12,18 +12,20 @@ use Rattle.std.specs.declared.result.Result.{Result}
 use Rattle.base64.specs.declared.decode.DecodeError.{DecodeError}
 use Rattle.base64.specs.declared.engine.DecodePaddingMode.TheVariants.{Indifferent}
 use Rattle.base64.specs.Decode.{lone_error, groups_error, groups_bytes, scan_steps, suffix_error, suffix_bytes, decode_error, decoded_bytes, decode_outcome, groups_before_last}
-use Rattle.base64.specs.GeneralPurpose.{IsBytes, decode_of}
+use Rattle.base64.specs.GeneralPurpose.{IsBytes, IsDecodeFailure, decode_of}
 use Rattle.base64.proofs.Tables.{are_tables_inverse, are_tables_padding}
 use Rattle.sfv_spec.specs.Base64.{IsBase64Text, symbols, symbol}
 use Rattle.sfv_reading.proofs.base64.Contents.{counted, well_formed, gives_the_bytes}
 use Rattle.sfv_reading.proofs.base64.Shape.{are_symbols}
 use Rattle.std.specs.declared.option.Option.{Option}
 use Rattle.std.proofs.lemmas.List.Folds.{list_all-append}
-use Rattle.std.specs.Prelude.{◌↔◌}
+use Rattle.std.specs.Prelude.{◌↔◌, IfOk, IfErr}
+use Rattle.base64.specs.declared.decode.DecodeAllocError.{DecodeAllocError}
+use Rattle.base64.specs.declared.decode.DecodeAllocError.TheVariants.{DecodeError as Failed, OutOfMemory}
 use Rattle.sfv_spec.proofs.Marks.{is_symbol}
 use Rattle.sfv_reading.specs.Content.{symbol_value, bytes_from, most_padding}
 use Rattle.sfv.proofs.reads.Coded.{all_parts, bytes_from-append}
-use Rattle.sfv_base64.specs.Agreement.{IsLenient, ParsedAsDecoded}
+use Rattle.sfv_base64.specs.Agreement.{HasNoBytes, IsLenient, ParsedAsDecoded}
 use Rattle.sfv_base64.proofs.Symbols.{IsTable}
 use Rattle.sfv_base64.proofs.Groups.{groups, last}
 use Rattle.sfv_base64.proofs.Accepted.{or_else_none, groups_symbols, last_symbols}
@@ -219,3 +221,18 @@ parsed engine lenient content bytes are =
       padding = rw lenient.padding at (are_tables_padding engine.encode_table engine.decode_table engine.padding.value engine.tables);
     } in
     rw (lenient.padding, lenient.config.1, lenient.config.2) (table_decodes engine.decode_table content bytes table are)
+
+-- what the decoder returns
+pub ok_parsed : {T : Type 0} (engine : GeneralPurpose) (content : List ℕ) (r : Result T DecodeAllocError)
+    (items : T → List ℕ) → IsLenient engine → IsBytes content → IfOk r (λ v. decode_of engine content ≡ Ok (items v))
+    → IfOk r (λ v. IsBase64Text (items v) content)
+ok_parsed engine content (Ok v) items lenient are h = (parsed engine lenient content (items v) are).1 h
+ok_parsed engine content (Err e) items lenient are h = tt
+
+pub err_rejected : {T : Type 0} (engine : GeneralPurpose) (content : List ℕ) (r : Result T DecodeAllocError)
+    → IsLenient engine → IsBytes content → IfErr r (IsDecodeFailure engine content) → IfErr r (HasNoBytes content)
+err_rejected engine content (Ok v) lenient are h = tt
+err_rejected engine content (Err (Failed d)) lenient are h = λ bytes is.
+    let both = sym h ∙ (parsed engine lenient content bytes are).0 is in
+    cc both
+err_rejected engine content (Err OutOfMemory) lenient are h = tt

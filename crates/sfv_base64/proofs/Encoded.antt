@@ -1,8 +1,10 @@
 -- What `base64` encodes.
-use Rattle.std.proofs.Common.{◌≡◌, ℕ, suc, ◌%◌, List, [], ◌∷◌, length, refl, arith}
+use Rattle.std.proofs.Common.{◌++◌, codes, ◌≡◌, ℕ, suc, ◌%◌, List, [], ◌∷◌, length, refl, arith}
 use Rattle.base64.specs.Rfc4648.{encode_symbols}
 use Rattle.base64.specs.Engines.{standard}
 use Rattle.base64.specs.GeneralPurpose.{encode_of}
+use Rattle.sfv_spec.specs.Values.{byte_sequence}
+use Rattle.sfv_spec.specs.Canonical.{bare_text}
 use Rattle.sfv_spec.specs.Base64.{base64_text}
 use Rattle.sfv_base64.specs.Agreement.{WrittenAsEncoded}
 
@@ -17,3 +19,7 @@ encoded (a ∷ b ∷ c ∷ rest) =
 
 pub written : WrittenAsEncoded
 written bytes = rw (encoded bytes) refl
+
+pub between_colons : (bytes text : List ℕ) → text ≡ encode_of standard bytes
+    → bare_text (byte_sequence bytes) ≡ codes ":" ++ text ++ codes ":"
+between_colons bytes text is = rw is (written bytes)

@@ -1,10 +1,12 @@
 -- Byte sequences, and what the crate `base64` encodes and decodes.
-use Rattle.std.specs.Prelude.{◌≡◌, ◌↔◌, ℕ, List, ◌++◌, codes, true}
+use Rattle.std.specs.Prelude.{◌≡◌, ◌↔◌, ℕ, List, ◌++◌, codes, true, ⊤}
 use Rattle.base64.specs.declared.engine.general_purpose.GeneralPurpose.{GeneralPurpose}
 use Rattle.base64.specs.declared.engine.DecodePaddingMode.TheVariants.{Indifferent}
 use Rattle.base64.specs.Engines.{standard}
 use Rattle.base64.specs.GeneralPurpose.{IsBytes, IsConfig, decode_of, encode_of, engine_config, engine_padding, engine_symbols}
 use Rattle.std.specs.declared.result.Result.TheVariants.{Ok}
+use Rattle.base64.specs.declared.decode.DecodeAllocError.{DecodeAllocError}
+use Rattle.base64.specs.declared.decode.DecodeAllocError.TheVariants.{DecodeError, OutOfMemory}
 use Rattle.sfv_spec.specs.Ascii.{equals_sign}
 use Rattle.sfv_spec.specs.Values.{byte_sequence}
 use Rattle.sfv_spec.specs.Base64.{IsBase64Text, symbols}
@@ -25,3 +27,8 @@ WrittenAsEncoded = (bytes : List ℕ)
 abbrev pub ParsedAsDecoded : Type 0
 ParsedAsDecoded = (engine : GeneralPurpose) → IsLenient engine → (content bytes : List ℕ) → IsBytes content
     → IsBase64Text bytes content ↔ (decode_of engine content ≡ Ok bytes)
+
+-- what an error says of a content: no byte sequence has it, or memory ran out
+abbrev pub HasNoBytes : List ℕ → DecodeAllocError → Type 0
+HasNoBytes content (DecodeError error) = (bytes : List ℕ) → ¬ IsBase64Text bytes content
+HasNoBytes content OutOfMemory = ⊤
