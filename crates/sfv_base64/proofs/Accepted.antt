@@ -88,7 +88,7 @@ first_symbol dec a at t table byte h = elim (cases_Bool (is_symbol a)) [
             absurd (not_accepted dec at (61 ∷ t) (InvalidByte (at + 0) 61) (pad_first dec at t) (rw is at h))
         | inr p ↦
             absurd (not_accepted dec at (a ∷ t) (InvalidByte (at + 0) a)
-                (scan-cons_err dec 61 at no_leftover 0 a t (InvalidByte (at + 0) a) (rw (p, found) refl)) h)
+            (scan-cons_err dec 61 at no_leftover 0 a t (InvalidByte (at + 0) a) (rw (p, found) refl)) h)
       ]
 ]
 
@@ -101,12 +101,12 @@ second_symbol dec a b at t table x byte h = elim (cases_Bool (is_symbol b)) [
       elim (cases_Bool (b == 61)) [
         | inl p ↦
             absurd (not_accepted dec at (a ∷ b ∷ t) (InvalidByte (at + 1) b)
-                (one_scanned dec a at (b ∷ t) x
-                ∙ scan-cons_err dec 61 at _ 1 b t (InvalidByte (at + 1) b) (rw p refl)) h)
+            (one_scanned dec a at (b ∷ t) x
+            ∙ scan-cons_err dec 61 at _ 1 b t (InvalidByte (at + 1) b) (rw p refl)) h)
         | inr p ↦
             absurd (not_accepted dec at (a ∷ b ∷ t) (InvalidByte (at + 1) b)
-                (one_scanned dec a at (b ∷ t) x
-                ∙ scan-cons_err dec 61 at _ 1 b t (InvalidByte (at + 1) b) (rw (p, found) refl)) h)
+            (one_scanned dec a at (b ∷ t) x
+            ∙ scan-cons_err dec 61 at _ 1 b t (InvalidByte (at + 1) b) (rw (p, found) refl)) h)
       ]
 ]
 
@@ -120,8 +120,8 @@ third dec a b c at t table x y byte h = elim (cases_Bool (is_symbol c)) [
         | inl p ↦ inl (eqb-true c 61 p)
         | inr p ↦
             absurd (not_accepted dec at (a ∷ b ∷ c ∷ t) (InvalidByte (at + 2) c)
-                (two_scanned dec a b at (c ∷ t) x y
-                ∙ scan-cons_err dec 61 at _ 2 c t (InvalidByte (at + 2) c) (rw (p, found) refl)) h)
+            (two_scanned dec a b at (c ∷ t) x y
+            ∙ scan-cons_err dec 61 at _ 2 c t (InvalidByte (at + 2) c) (rw (p, found) refl)) h)
       ]
 ]
 
@@ -135,8 +135,8 @@ fourth dec a b c d at table x y z byte h = elim (cases_Bool (is_symbol d)) [
         | inl p ↦ inl (eqb-true d 61 p)
         | inr p ↦
             absurd (not_accepted dec at (a ∷ b ∷ c ∷ d ∷ []) (InvalidByte (at + 3) d)
-                (three_scanned dec a b c at (d ∷ []) x y z
-                ∙ scan-cons_err dec 61 at _ 3 d [] (InvalidByte (at + 3) d) (rw (p, found) refl)) h)
+            (three_scanned dec a b c at (d ∷ []) x y z
+            ∙ scan-cons_err dec 61 at _ 3 d [] (InvalidByte (at + 3) d) (rw (p, found) refl)) h)
       ]
 ]
 
@@ -146,8 +146,8 @@ padded_again dec a b d at x y h = elim (cases_Bool (d == 61)) [
   | inl p ↦ eqb-true d 61 p
   | inr p ↦
       absurd (not_accepted dec at (a ∷ b ∷ 61 ∷ d ∷ []) (InvalidByte (at + 2) 61)
-          (two_scanned dec a b at (61 ∷ d ∷ []) x y ∙ scan-cons_ok dec 61 at _ 2 61 (d ∷ []) _ refl
-          ∙ scan-cons_err dec 61 at _ 3 d [] (InvalidByte (at + 2) 61) (rw p refl)) h)
+      (two_scanned dec a b at (61 ∷ d ∷ []) x y ∙ scan-cons_ok dec 61 at _ 2 61 (d ∷ []) _ refl
+      ∙ scan-cons_err dec 61 at _ 3 d [] (InvalidByte (at + 2) 61) (rw p refl)) h)
 ]
 
 lone_first : (dec : List ℕ) (a at : ℕ) → IsSymbol dec a → IsAcceptedLast dec at (a ∷ []) → ⊥

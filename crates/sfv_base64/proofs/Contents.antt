@@ -30,7 +30,6 @@ use Rattle.sfv_base64.proofs.Symbols.{IsTable}
 use Rattle.sfv_base64.proofs.Groups.{groups, last}
 use Rattle.sfv_base64.proofs.Accepted.{or_else_none, groups_symbols, last_symbols}
 
-
 -- the decoding of a lenient engine, by its table
 abbrev decoding : List ℕ → List ℕ → Result (List ℕ) DecodeError
 decoding dec s = decode_outcome (decode_error dec 61 true Indifferent s) (decoded_bytes dec 61 s)

@@ -71,8 +71,7 @@ groups dec s (suc q) table fits h =
     let here = group_decoded dec s w table (omega (arith, fits)) both.1 in
     let size : length (map symbol_value (take w s)) ≡ w = length-map (take w s) symbol_value
     ∙ length-take-le w s (omega (arith, fits)) in
-    let whole : length (map symbol_value (take w s)) % 4 ≡ 0 = omega (arith, size) in
-    (
+    let whole : length (map symbol_value (take w s)) % 4 ≡ 0 = omega (arith, size) in (
       rw (held.0) here.0,
       rw (held.1, here.1, parts, map-append symbol_value (take w s) (take 4 (drop w s)))
           (sym (bytes_from-append (map symbol_value (take w s)) (map symbol_value (take 4 (drop w s))) whole)),

@@ -8,10 +8,9 @@ ghost use Rattle.sfv_spec.specs.Base64.{IsBase64Text};
 ghost use Rattle.sfv_spec.specs.Canonical.{bare_text};
 ghost use Rattle.sfv_base64.specs.Agreement.{HasNoBytes, IsLenient, ParsedAsDecoded, WrittenAsEncoded};
 
-use base64::DecodeAllocError;
-use base64::alphabet;
 use base64::engine::general_purpose::STANDARD;
 use base64::engine::{DecodePaddingMode, GeneralPurpose, GeneralPurposeConfig};
+use base64::{DecodeAllocError, alphabet};
 use std::alloc::{AllocError, Global};
 
 #[cfg(test)]
