@@ -5,7 +5,7 @@ use sfv::{BareItem, FieldType, Item, Parser};
 use std::alloc::{AllocError, Global};
 use std::test::Fail;
 
-/// Returns the item whose content is `content`.
+/// Returns the text of a byte sequence with this content.
 fn item_with(alloc: Global, content: &[u8]) -> Result<Vec<u8>, AllocError> {
     let mut input = Vec::with_capacity(alloc, content.len() + 2)?;
     input.push(b':')?;
@@ -16,7 +16,9 @@ fn item_with(alloc: Global, content: &[u8]) -> Result<Vec<u8>, AllocError> {
 
 /// Returns the bytes to which the library parses this item.
 fn parsed(alloc: Global, input: &[u8]) -> Option<Vec<u8>> {
-    match Parser::new(input).parse::<Item>(alloc).ok()?.bare_item {
+    let item = Parser::new(input).parse::<Item>(alloc).ok()?;
+    let Item { bare_item, .. } = item;
+    match bare_item {
         BareItem::ByteSequence(bytes) => Some(bytes),
         _ => None,
     }
