@@ -1,5 +1,5 @@
 -- The events of rows, and their order.
-use Rattle.std.specs.Prelude.{◌≡◌, MatchOption, ⊤, ℕ, ◌<◌, List, [], ◌∷◌, ◌++◌, length, Bool, true, false, IsTrue, Option, Some, None}
+use Rattle.std.specs.Prelude.{◌≡◌, MatchOption, ⊤, ℕ, List, [], ◌∷◌, ◌++◌, length, Bool, true, false, IsTrue, Option, Some, None}
 use Rattle.std.specs.Prelude.{if◌then◌else◌, Result, Ok, Err, option_map, string_bytes}
 use Rattle.std.specs.Borrow.{Bor}
 use Rattle.sfv.specs.Values.{RawField, BareValue, IsBareValue}
