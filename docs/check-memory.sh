@@ -2,7 +2,8 @@
 # Usage: docs/check-memory.sh
 # Makes the calls of `sfv_memory` once for each memory request that they make, and fails this request. Prints for each
 # call how many of its requests make it run out of memory, and how many requests the calls can do without. The status
-# is 1 if a call answers otherwise, faults or hangs, and 2 if the program does not run. It needs `rt`, and no C compiler.
+# is 1 if a call answers otherwise, faults or hangs, and 2 if the program does not run. It needs `rt`, but no C
+# compiler.
 cd "$(dirname "$0")/../crates/sfv_memory" || exit 2
 if ! command -v rt >/dev/null; then
     echo 'check-memory: there is no rt' >&2

@@ -125,8 +125,8 @@ takes_memory parameters_end ended = false
 takes_memory parameters_end p = true
 takes_memory e p = false
 
--- Memory may run out: there are rows with events that lead from this place into parameters, and then a row with an event
--- that allocates there.
+-- Memory may run out: there are rows with events that lead from this place into parameters, and then a row with an
+-- event that allocates there.
 pub record RunsOut (bytes : List ℕ) (p : ParseState) (rows : List Row) : Type 0 where
   pub es : List TreeEvent
   pub last : TreeEvent
