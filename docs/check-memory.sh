@@ -1,8 +1,9 @@
 #!/bin/sh
 # Usage: docs/check-memory.sh
-# Makes the calls of `sfv_memory` once for each memory request that they make, and fails this request. Prints how many
-# requests each call makes, if it is then out of memory, and how many requests the calls can do without. The status is 1
-# if a call answers otherwise, faults or hangs. It needs `rt`, no C compiler, and takes about a minute.
+# Makes the calls of `sfv_memory` once for each memory request that they make, and fails this request. Prints for each
+# call how many of its requests make it run out of memory, and how many requests the calls can do without. The status
+# is 1 if a call answers otherwise, faults or hangs, and 2 if the program does not run. It needs `rt`, but no C
+# compiler.
 cd "$(dirname "$0")/../crates/sfv_memory" || exit 2
 if ! command -v rt >/dev/null; then
     echo 'check-memory: there is no rt' >&2
@@ -13,42 +14,45 @@ trap 'rm -rf "$room"' EXIT
 trap 'exit 2' HUP INT TERM
 
 # The program is compiled once. Each case is a run of it: its standard input is the number of the request that fails.
-# There are more cases than requests, so the last one has to meet no failure.
-most=500
+# The last case has to be one in which no request of a call fails.
+most=600
 mkdir "$room/cases"
 for request in $(seq 1 "$most"); do
     printf '%s' "$request" >"$room/cases/$request"
 done
 rt try --steps 1 --fail-alloc 1000 --cases "$room/cases" </dev/null >"$room/log" 2>&1
 
-# `rt try` prints for each case its number, the program's line, and how the run ended.
+# `rt try` prints for each case the program's line, and then how the run ended.
 awk -v most="$most" '
-    /^== / { request = $2 }
-    / is out of memory$/ { answer[request] = "call " $2 }
-    / made nevertheless$/ { answer[request] = "estimate" }
-    /^[0-9]+ made$/ { answer[request] = "none"; calls = $1 }
+    { lines = lines $0 "\n" }
+    / is out of memory$/ { answer = "call " $2 }
+    / made nevertheless$/ { answer = "usual" }
+    /^[0-9]+ made$/ { answer = "no failure"; calls = $1 }
     /^case=/ {
-        sub(/^case=/, "", $1)
-        ended[$1] = $2 " " $3 == "run=ended status=0"
+        request = substr($1, 6)
+        answers[request] = $2 " " $3 == "run=ended status=0" ? answer : ""
+        texts[request] = lines
+        answer = lines = ""
+        cases++
     }
     END {
-        for (requests = 1; answer[requests] != "none" && requests <= most; requests++) {
-            if (!ended[requests] || answer[requests] == "") {
-                print "where request " requests " fails, a call answers otherwise, faults or hangs"
+        if (!cases) {
+            printf "%s", lines
+            exit 2
+        }
+        for (request = 1; request <= most && answers[request] != "no failure"; request++) {
+            if (answers[request] == "") {
+                printf "where request %d fails, a call answers otherwise, faults or hangs:\n%s", request, texts[request]
                 failed = 1
             }
-            count[answer[requests]]++
+            count[answers[request]]++
         }
-        if (requests > most) {
-            print "there are more requests than cases, or the program did not run"
+        if (request > most) {
+            print "the calls make more requests than there are cases"
             exit 1
         }
-        requests--
         for (call = 0; call < calls; call++)
-            print "call " call ": " count["call " call] + 0 " requests"
-        print calls " calls make " requests " requests; " count["estimate"] + 0 " of them are not needed"
+            print "call " call ": " count["call " call] + 0
+        print calls " calls make " request - 1 " requests, and can do without " count["usual"] + 0 " of them"
         exit failed
     }' "$room/log"
-status=$?
-[ "$status" = 0 ] || cat "$room/log"
-exit "$status"

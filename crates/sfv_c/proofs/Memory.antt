@@ -1,5 +1,5 @@
 -- Rows where memory runs out begin a field.
-use Rattle.std.proofs.Common.{◌≡◌, ℕ, zero, suc, ◌<◌, ◌≤◌, List, [], ◌∷◌, ◌++◌, length, take, drop, refl, sym, ◌∙◌, ap, subst}
+use Rattle.std.proofs.Common.{◌≡◌, ℕ, ◌<◌, List, [], ◌∷◌, ◌++◌, length, take, drop, refl, sym, ◌∙◌, ap}
 use Rattle.std.proofs.Common.{arith, append_assoc, IsTrue, Some, None}
 use Rattle.std.proofs.lemmas.List.{append-nil, length-append, take-append-drop}
 use Rattle.sfv.specs.Types.{FieldKind, item_field, list_field, dictionary_field}
@@ -8,9 +8,9 @@ use Rattle.sfv.specs.Events.{parameters_end, inner_list_end}
 use Rattle.sfv.specs.Values.{BareValue, RawField}
 use Rattle.sfv.specs.Visiting.{BeginsEvents}
 use Rattle.sfv_c.specs.declared.rows.Row.{Row}
-use Rattle.sfv_c.specs.Writing.{AreRowsOf, AreRowsOfField, BeginRowsOfField}
+use Rattle.sfv_c.specs.Writing.{AreRowsOfField, BeginRowsOfField}
 use Rattle.sfv_c.specs.RowEvents.{ParseState, ended, list_members, dictionary_members, member, value, parameters, items}
-use Rattle.sfv_c.specs.RowEvents.{beginning, after, stops, Reads, RunsOut, takes_memory}
+use Rattle.sfv_c.specs.RowEvents.{beginning, after, stops, RunsOut, takes_memory}
 use Rattle.sfv_c.proofs.Accepted.{begin_field}
 use Rattle.sfv_c.proofs.Stops.{no_place, a_place}
 use Rattle.sfv_c.proofs.RowEvents.{reads_length, reads_valid, reads_first, rows_first, rows_length}

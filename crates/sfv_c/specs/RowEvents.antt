@@ -1,5 +1,5 @@
 -- The events of rows, and their order.
-use Rattle.std.specs.Prelude.{◌≡◌, MatchOption, ⊤, ℕ, ◌<◌, List, [], ◌∷◌, ◌++◌, length, Bool, true, false, IsTrue, Option, Some, None}
+use Rattle.std.specs.Prelude.{◌≡◌, MatchOption, ⊤, ℕ, List, [], ◌∷◌, ◌++◌, length, Bool, true, false, IsTrue, Option, Some, None}
 use Rattle.std.specs.Prelude.{if◌then◌else◌, Result, Ok, Err, option_map, string_bytes}
 use Rattle.std.specs.Borrow.{Bor}
 use Rattle.sfv.specs.Values.{RawField, BareValue, IsBareValue}
@@ -125,8 +125,8 @@ takes_memory parameters_end ended = false
 takes_memory parameters_end p = true
 takes_memory e p = false
 
--- Memory may run out: there are rows with events that lead from this place into parameters, and then a row with an event
--- that allocates there.
+-- Memory may run out: there are rows with events that lead from this place into parameters, and then a row with an
+-- event that allocates there.
 pub record RunsOut (bytes : List ℕ) (p : ParseState) (rows : List Row) : Type 0 where
   pub es : List TreeEvent
   pub last : TreeEvent

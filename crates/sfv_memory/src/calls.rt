@@ -229,9 +229,7 @@ pub fn perform(alloc: Global, call: Call) -> Result<bool, Error> {
         Call::NamedInnerList => writing::named_inner_list(alloc),
         Call::Items => writing::items(alloc),
         Call::Item(room) => writing::item(alloc, room),
-        Call::Value(field, row, before, written) => {
-            writing::value(alloc, field, row, before, written)
-        }
+        Call::Value(field, row, old, new) => writing::value(alloc, field, row, old, new),
         Call::FirstInnerList => writing::first_inner_list(alloc),
         Call::Run(field, bound) => scripts::run(alloc, field, bound),
     }

@@ -1,11 +1,13 @@
 //! Calls that allocate, each with its result if there is enough memory.
 //!
-//! Without standard input, it makes each call, and prints how many. Standard input may contain a number from 1 to 999, and
-//! then the program's 1000th allocation has to fail (`rt try --fail-alloc 1000`). The program allocates before the calls,
-//! so it is their allocation with this number that fails. It prints the number of the call that then returns that memory
-//! ran out, if one does, and whether the calls made so many allocations. A call whose allocation failed must return that
-//! memory ran out, with its arguments as its contract states, or its usual result. Each other call must return its
-//! usual result. If one does not, the status is 1. `docs/check-memory.sh` fails each allocation in turn.
+//! Without standard input, the program makes each call, and prints how many. Standard input may contain a number from 1
+//! to 999. Then the program's 1000th allocation has to fail (`rt try --fail-alloc 1000`). The program allocates before
+//! the calls, so the calls' allocation with this number fails.
+//!
+//! The call that meets the failure returns that memory ran out, with its arguments as its contract states, or it can do
+//! without the allocation and returns its usual result. Each other call returns its usual result. The program prints
+//! which of these happened, or that the calls make fewer allocations. The status is 1 if a call returns another result.
+//! `docs/check-memory.sh` fails each allocation in turn.
 #![tactic(auto)]
 
 mod calls;

@@ -1,4 +1,4 @@
-use Rattle.std.proofs.Common.{◌≡◌, ◌++◌, ◌∙◌, ℕ, List, ap, refl, sym, subst, string_bytes, arith}
+use Rattle.std.proofs.Common.{◌≡◌, ◌++◌, ◌∙◌, ℕ, List, ap, refl, sym, subst, string_bytes}
 use Rattle.sfv.specs.Canonical.{canonical}
 use Rattle.sfv.specs.Ordered.{ordered}
 use Rattle.sfv.specs.Scripts.{item_of_calls}
