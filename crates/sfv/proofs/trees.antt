@@ -2,4 +2,5 @@
 pub mod Parameters
 pub mod Loops
 pub mod Parts
+pub mod Errors
 pub mod Fields

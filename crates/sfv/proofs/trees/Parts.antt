@@ -23,7 +23,8 @@ use Rattle.sfv_reading.proofs.sound.Items.{Consumes-parameter}
 use Rattle.sfv.specs.declared.parser.Parser.{Parser}
 use Rattle.sfv.specs.declared.parser.cursor.Cursor.{Cursor}
 use Rattle.sfv.specs.parser.Cursor.{kept, version, rest, TakesIf}
-use Rattle.sfv.specs.parser.Trees.{Any, AnyFails, Builds}
+use Rattle.sfv.specs.parser.Trees.{Builds, TakesMemory}
+use Rattle.sfv.proofs.trees.Errors.{Any, NoMemory, as_answer, as_fault}
 use Rattle.sfv.specs.parser.Visits.{VisitsAnswer, IsOfVisitor}
 use Rattle.sfv.proofs.reads.Steps.{branch_true}
 use Rattle.sfv.proofs.visits.InnerLists.{member_list, member_item}
@@ -54,22 +55,23 @@ pub led_builds : {X Y Z : Type 0} (view : X → Z) (collapsed : Y → Z) (e : Tr
 led_builds view collapsed e parts f before after (Ok x) h =
     (h.0, led_complete (e ∷ []) (f (version before)) (rest before) (rest after) h.0 h.1, h.2, h.3)
 led_builds view collapsed e parts f before after (Err error) h =
-    led_visits Any AnyFails e parts (f (version before)) (rest before) tt tt tt (kept before) after (Err error) tt h
+    as_fault (led_visits Any NoMemory e parts
+    (f (version before)) (rest before) tt tt tt (kept before) after (Err error) tt (as_answer h))
 
 -- memory ran out after a value was read that has an event
 pub fails_after : {A : Type 0} (parts : A → List TreeEvent) (k : Parser × Global) (after : Cursor)
     (error : ParseError OutOfMemory) (answer : Answer A) (raw : A) (q : List ℕ) (e : TreeEvent) (es : List TreeEvent)
-    → answer ≡ Ok (raw, q) → parts raw ≡ e ∷ es → IsOfVisitor (λ _. ⊤) error
-    → VisitsAnswer Any AnyFails parts k after tt tt (Err error) answer
-fails_after parts k after error answer raw q e es read all failed =
-    of_visitor Any AnyFails parts k after tt tt (λ _. ⊤) error answer failed (λ fault f. record {
+    → answer ≡ Ok (raw, q) → parts raw ≡ e ∷ es → TakesMemory e → IsOfVisitor (λ _. ⊤) error
+    → VisitsAnswer Any NoMemory parts k after tt tt (Err error) answer
+fails_after parts k after error answer raw q e es read all takes failed =
+    of_visitor Any NoMemory parts k after tt tt (λ _. ⊤) error answer failed (λ fault f. record {
       before = [];
       e = e;
       after = es;
       s = tt;
       all = ap (visited parts) read ∙ all;
       taken = refl;
-      failed = tt;
+      failed = takes;
     })
 
 abbrev pub with_parts : BareValue → RawParameters → RawItem
@@ -102,13 +104,13 @@ inner_some version t q r is ps e k =
 pub member_list_some : (version : Version) (t q r : List ℕ) (m : RawMember)
     → TakesIf (byte left_parenthesis) true t q → inner_at version q ≡ Ok (m, r) → member_at version t ≡ Ok (m, r)
 member_list_some version t q r m takes e =
-    member_list Any AnyFails version t q takes ∙ led_complete (begins_inner_list ∷ []) (inner_at version) q r m e
+    member_list Any NoMemory version t q takes ∙ led_complete (begins_inner_list ∷ []) (inner_at version) q r m e
 
 pub member_item_some : (version : Version) (t q r : List ℕ) (i : RawItem)
     → TakesIf (byte left_parenthesis) false t q → item_at version q ≡ Ok (i, r) → member_at version t ≡ Ok (item i, r)
 unfolding give
 member_item_some version t q r i takes e =
-    member_item Any AnyFails version t q takes
+    member_item Any NoMemory version t q takes
     ∙ led_complete (begins_item ∷ []) (item_at version >>= λ i. give (item i)) q r (item i)
     (bind_complete (item_at version) _ q r i e)
 
@@ -121,7 +123,7 @@ pub true_some : (version : Version) (t q r : List ℕ) (ps : RawParameters) → 
     → parameters_at version q ≡ Ok (ps, r) → member_value_at version t ≡ Ok (true_with ps, r)
 unfolding give
 true_some version t q r ps takes e =
-    true_is Any AnyFails version t q takes
+    true_is Any NoMemory version t q takes
     ∙ bind_complete _ _ q r ps (led_complete (begins_item ∷ []) _ q r ps
     (led_complete (bare_item (boolean true) ∷ []) (parameters_at version) q r ps e))
 
@@ -146,8 +148,10 @@ value_builds view before middle after (Ok m) takes same h = (
   h.3 ∙ same,
 )
 value_builds view before middle after (Err e) takes same h =
-    value_visits Any AnyFails (version before) (rest before) (rest middle) tt tt (kept before) after (Err e) takes
-    (kept_visits Any AnyFails member_events member_at middle after tt tt (kept before) (Err e) same h)
+    as_fault (value_visits Any NoMemory (version before) (rest before)
+    (rest middle) tt tt (kept before) after (Err e) takes
+    (kept_visits Any NoMemory member_events member_at middle after tt tt (kept before) (Err e) same
+    (as_answer h)))
 
 -- ---- items of an inner list
 

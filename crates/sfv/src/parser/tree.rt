@@ -3,9 +3,9 @@
 //! These functions build what `ListBuilder` and `DictionaryBuilder` build from events, and request memory in the same
 //! order. They need no list for the member of a dictionary.
 
-ghost use Rattle.std.specs.Prelude.{◌≡◌, ◌<◌, ◌++◌, ◌∷◌, [], ⊤, OnOk, OnErr, IfOk, IfErr, IsTrue, IsFalse, All, map, flat_map, length, vec_capacity};
+ghost use Rattle.std.specs.Prelude.{◌≡◌, ◌<◌, ◌≤◌, ◌++◌, ◌∷◌, [], ⊤, None, OnOk, OnErr, IfOk, IfErr, IsTrue, IsFalse, All, map, flat_map, length, vec_capacity};
 ghost use Rattle.std.specs.Prelude.{bytes_eq};
-ghost use Rattle.indexmap.specs.IndexMap.{hasher_of, insert_entry};
+ghost use Rattle.indexmap.specs.IndexMap.{get, hasher_of, insert_entry, spare};
 ghost use Rattle.sfv_spec.specs.Values.{inner_list};
 ghost use Rattle.sfv_spec.specs.Statements.{IsParsedAs};
 ghost use Rattle.sfv_spec.specs.declared.field_kind.FieldKind.TheVariants.{List as list_field};
@@ -13,7 +13,7 @@ ghost use Rattle.sfv_spec.specs.declared.field_kind.FieldKind.TheVariants.{Dicti
 ghost use Rattle.sfv_spec.specs.Ordered.{collapse, ordered_item, ordered_member};
 ghost use Rattle.sfv_spec.specs.Events.{parameters_events, item_events, inner_item_events, member_events};
 ghost use Rattle.sfv_spec.specs.Events.{entry_events, keyed_events};
-ghost use Rattle.sfv_bare.specs.BareItems.{bare_value, input_value};
+ghost use Rattle.sfv_bare.specs.BareItems.{bare_value, input_value, is_borrowed};
 ghost use Rattle.sfv_text.specs.KeyText.{key_text};
 ghost use Rattle.sfv_tree.specs.Trees.{pairs_tree, item_with, item_tree, inner_list_with, member_tree, list_tree};
 ghost use Rattle.sfv_tree.specs.Trees.{dictionary_tree};
@@ -33,10 +33,12 @@ ghost use Rattle.sfv.specs.parser.Visits.{IsOfVisitor};
 use crate::parser::Parser;
 use crate::parser::cursor::Cursor;
 use crate::parser::item::ReadParameter;
+use indexmap::IndexMap;
 use sfv_bare::bare::{BareItem, BareItemFromInput, GenericBareItem};
 use sfv_base::error::{Error, ErrorKind, OutOfMemory, ParseError};
 use sfv_text::key::Key;
 use sfv_text::key_ref::KeyRef;
+use sfv_tree::hash_seed::HashSeed;
 use sfv_tree::parsed::{Dictionary, InnerList, Item, List, ListEntry, Parameters};
 use sfv_visitor::visitor::parameters::{MANY, fit};
 use std::alloc::Global;
@@ -70,6 +72,7 @@ impl Head {
 fn make_room<T>(items: &mut Vec<T>, is_needed: bool) -> Result<(), ParseError<OutOfMemory>>
     ensures items { items.new.items ≡ items.old.items }
     ensures room { OnOk result (IsTrue is_needed → length items.new.items < vec_capacity items.new) }
+    ensures full { OnErr result (IsTrue is_needed × (vec_capacity items.old ≤ length items.old.items)) }
     ensures failed { IfErr result (IsOfVisitor (λ _. ⊤)) }
 {
     if !is_needed {
@@ -85,12 +88,12 @@ fn make_room<T>(items: &mut Vec<T>, is_needed: bool) -> Result<(), ParseError<Ou
 #[inline(always)]
 fn own(item: BareItemFromInput<'_>, alloc: Global) -> Result<BareItem, ParseError<OutOfMemory>>
     ensures value { IfOk result (λ owned. bare_value owned ≡ input_value item.entry) }
-    ensures failed { IfErr result (IsOfVisitor (λ _. ⊤)) }
+    ensures failed { IfErr result (IsOfVisitor (λ _. IsTrue (is_borrowed item.entry))) }
 {
     item.try_into_owned(alloc).map_err(ParseError::Visitor)
 }
 
-/// Returns the same key with owned text.
+/// Returns the same key with owned text. A key has at least one byte, so each copy requests memory.
 #[inline(always)]
 fn own_key(key: KeyRef<'_>, alloc: Global) -> Result<Key, ParseError<OutOfMemory>>
     ensures value { IfOk result (λ owned. owned ≡ key_text key.entry) }
@@ -99,9 +102,29 @@ fn own_key(key: KeyRef<'_>, alloc: Global) -> Result<Key, ParseError<OutOfMemory
     key.to_owned(alloc).map_err(ParseError::Visitor)
 }
 
+/// Inserts an entry. An existing key keeps its place and takes the new value; a new key goes last.
+#[inline(always)]
+fn enter<V: Drop>(
+    map: &mut IndexMap<Key, V, HashSeed>,
+    key: Key,
+    value: V,
+) -> Result<(), ParseError<OutOfMemory>>
+    ensures entries { OnOk result (map.new.entries ≡ insert_entry bytes_eq map.old.entries key value) }
+    ensures hasher { hasher_of map.new ≡ hasher_of map.old }
+    ensures unchanged { OnErr result (map.new.entries ≡ map.old.entries) }
+    ensures absent { OnErr result (get bytes_eq map.old key ≡ None) }
+    ensures full { OnErr result (spare map.old ≡ 0) }
+    ensures failed { IfErr result (IsOfVisitor (λ _. ⊤)) }
+{
+    match map.insert(key, value) {
+        Ok(_) => Ok(()),
+        Err(_) => Err(ParseError::Visitor(OutOfMemory)),
+    }
+}
+
 /// Inserts a parsed parameter.
 #[inline(always)]
-fn insert(
+fn insert_parameter(
     alloc: Global,
     params: &mut Parameters,
     parameter: ReadParameter<'_>,
@@ -114,27 +137,8 @@ fn insert(
     let ReadParameter { key, value } = parameter;
     let key = own_key(key, alloc)?;
     let value = own(value, alloc)?;
-    match params.insert(key, value) {
-        Ok(_) => Ok(()),
-        Err(_) => Err(ParseError::Visitor(OutOfMemory)),
-    }
-}
-
-/// Inserts a member.
-#[inline(always)]
-fn enter(
-    dictionary: &mut Dictionary,
-    key: Key,
-    member: ListEntry,
-) -> Result<(), ParseError<OutOfMemory>>
-    ensures hasher { hasher_of dictionary.new ≡ hasher_of dictionary.old }
-    ensures entries { OnOk result (dictionary.new.entries ≡ insert_entry bytes_eq dictionary.old.entries key member) }
-    ensures failed { IfErr result (IsOfVisitor (λ _. ⊤)) }
-{
-    match dictionary.insert(key, member) {
-        Ok(_) => Ok(()),
-        Err(_) => Err(ParseError::Visitor(OutOfMemory)),
-    }
+    enter(params, key, value)?;
+    Ok(())
 }
 
 /// Releases the unused memory of parameters, if there are any, after at least `MANY` other members or items.
@@ -177,7 +181,7 @@ impl<'de> Cursor<'de> {
     {
         while let Some(parameter) = self.parameter()? {
             make_room(items, needs_room)?;
-            insert(self.alloc, params, parameter)?;
+            insert_parameter(self.alloc, params, parameter)?;
         }
         make_room(items, needs_room)?;
         fit_after(count_if(needs_room, items), params);

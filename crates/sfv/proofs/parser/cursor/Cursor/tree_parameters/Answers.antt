@@ -4,7 +4,7 @@ use Rattle.sfv_spec.specs.Events.{parameters_events}
 use Rattle.sfv_spec.specs.Ordered.{collapse}
 use Rattle.sfv_tree.specs.Trees.{pairs_tree}
 use Rattle.sfv.specs.parser.Cursor.{version, kept, rest}
-use Rattle.sfv.specs.parser.Trees.{Any, AnyFails}
+use Rattle.sfv.proofs.trees.Errors.{Any, NoMemory, as_answer, as_fault}
 use Rattle.sfv.proofs.reads.Errors.{left_with}
 use Rattle.sfv.proofs.reads.Steps.{parameter_none}
 use Rattle.sfv.proofs.visits.Parameters.{of_visitor, visited_none, end_failed}
@@ -15,10 +15,10 @@ pub returns-in_err-make_room-clause-tree : goal.returns-in_err-make_room-clause-
 returns-in_err-make_room-clause-tree g c =
     let t = rest c.args.self.now in
     let none = parameter_none (version c.args.self.now) t t (refl, c.if-next_is.ensures) in
-    rw (left_with c.from_residual.ensures.1) (of_visitor Any AnyFails parameters_events (kept c.args.self.now)
+    rw (left_with c.from_residual.ensures.1) (as_fault (of_visitor Any NoMemory parameters_events (kept c.args.self.now)
     c.args.self.now tt tt (λ _. ⊤) _ _ c.in_err-make_room.ensures.failed
-    (λ fault failed. end_failed Any AnyFails (version c.args.self.now) t t t tt tt fault
-    (visited_none Any (version c.args.self.now) t tt) none tt))
+    (λ fault failed. end_failed Any NoMemory (version c.args.self.now) t t t tt tt fault
+    (visited_none Any (version c.args.self.now) t tt) none tt)))
 
 pub returns-clause-tree : goal.returns-clause-tree
 unfolding collapse
