@@ -4,3 +4,4 @@ pub mod Loops
 pub mod Parts
 pub mod Errors
 pub mod Fields
+pub mod Items

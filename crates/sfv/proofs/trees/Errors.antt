@@ -1,15 +1,19 @@
 -- Errors of functions that build trees, as those of a visitor that takes every event, and that fails where memory may
 -- run out.
-use Rattle.std.proofs.Common.{◌≡◌, ℕ, List, [], ◌∷◌, ◌++◌, Option, Some, None, Result, Err, refl, ap, inl, inr, subst}
+use Rattle.std.proofs.Common.{◌≡◌, ℕ, List, [], ◌∷◌, ◌++◌, Option, Some, None, Ok, Err, map, refl, ap, inl, inr, subst}
 use Rattle.std.proofs.Common.{sym, arith}
-use Rattle.std.specs.Prelude.{⊤, IsTrue, MatchOption}
+use Rattle.std.specs.Prelude.{⊤, IsTrue, MatchOption, flat_map}
 use Rattle.std.specs.List.{Contains}
-use Rattle.std.proofs.lemmas.List.Elements.{Contains-append_right, Contains-append_cases, Contains-push_cases, Contains-get_or}
+use Rattle.std.proofs.lemmas.List.Elements.{Contains-append_left, Contains-append_right, Contains-append_cases}
+use Rattle.std.proofs.lemmas.List.Elements.{Contains-push, Contains-push_cases, Contains-get_or}
 use Rattle.std.specs.declared.alloc.Global.{Global}
 use Rattle.std.specs.declared.vec.Vec.{Vec}
 use Rattle.std.specs.declared.borrow.CowStr.{CowStr}
 use Rattle.sfv_spec.specs.declared.version.Version.{Version}
-use Rattle.sfv_spec.specs.Events.{TreeEvent}
+use Rattle.sfv_spec.specs.Values.{RawParameters, RawItem, RawMember, item, inner_list}
+use Rattle.sfv_spec.specs.Events.{TreeEvent, keyed_entry, begins_item, begins_inner_list, bare_item, parameter}
+use Rattle.sfv_spec.specs.Events.{parameters_end, inner_list_end, parameters_events, inner_item_events, member_events}
+use Rattle.sfv_spec.specs.Events.{keyed_events}
 use Rattle.sfv_spec.specs.Visiting.{RunsTo}
 use Rattle.sfv_base.specs.declared.error.Error.{Error}
 use Rattle.sfv_base.specs.Errors.{index_of}
@@ -25,7 +29,7 @@ use Rattle.sfv_reading.specs.Reader.{Answer, Reader, visited}
 use Rattle.sfv.specs.declared.parser.cursor.Cursor.{Cursor}
 use Rattle.sfv.specs.parser.Cursor.{kept, input, version, rest, IsErrorOf}
 use Rattle.sfv.specs.parser.Trees.{FailsAs, TakesMemory}
-use Rattle.sfv.specs.parser.Visits.{VisitsAnswer, TookAll}
+use Rattle.sfv.specs.parser.Visits.{VisitsAnswer, TookAll, IsOfVisitor}
 
 abbrev pub Any : Unit {0} → TreeEvent → Unit {0} → Type 0
 Any s e t = ⊤
@@ -93,6 +97,36 @@ as_fault {error = Visitor fault} h = record {
     h.failed,
   );
 }
+
+-- memory ran out after a value was read that has this event
+pub fails_after : {Y : Type 0} (parts : Y → List TreeEvent) (before : Cursor) (error : ParseError OutOfMemory)
+    (f : Version → Reader Y) (raw : Y) (q : List ℕ) (e : TreeEvent) → f (version before) (rest before) ≡ Ok (raw, q)
+    → Contains (parts raw) e → TakesMemory e → IsOfVisitor (λ _. ⊤) error → FailsAs parts before error f
+fails_after parts before (Syntax s) f raw q e read has takes failed = absurd failed
+fails_after {Y = Y} parts before (Visitor m) f raw q e read has takes failed = record {
+  syntax = λ s same. absurd cc;
+  memory = λ m same. (e, subst (λ (a : Answer Y). Contains (visited parts a) e) (sym read) has, takes);
+}
+
+-- ---- events at which a map or a list grows
+
+pub parameters_ends : (ps : RawParameters) → Contains (parameters_events ps) parameters_end
+parameters_ends ps = Contains-push (map (λ p. parameter p.0 p.1) ps) parameters_end
+
+pub item_ends : (i : RawItem) → Contains (inner_item_events i) parameters_end
+item_ends i = Contains-append_right (begins_item ∷ bare_item i.bare ∷ []) (parameters_events i.parameters)
+    parameters_end (parameters_ends i.parameters)
+
+pub member_ends : (m : RawMember) → Contains (member_events m) parameters_end
+member_ends (item i) = item_ends i
+member_ends (inner_list l) = Contains-append_right (begins_inner_list ∷ flat_map inner_item_events l.items)
+    (inner_list_end ∷ parameters_events l.parameters) parameters_end
+    (Contains-append_right (inner_list_end ∷ []) (parameters_events l.parameters) parameters_end
+    (parameters_ends l.parameters))
+
+pub keyed_begins : (key : List ℕ) (m : RawMember) → Contains (keyed_events (key, m)) (keyed_entry key)
+keyed_begins key m = Contains-append_left (keyed_entry key ∷ []) (member_events m) (keyed_entry key)
+    (Contains-push [] (keyed_entry key))
 
 -- only texts are borrowed
 pub borrowed_text : (item : GenericBareItem StringFromInput (Vec ℕ Global) TokenRef (CowStr Global))

@@ -58,22 +58,6 @@ led_builds view collapsed e parts f before after (Err error) h =
     as_fault (led_visits Any NoMemory e parts
     (f (version before)) (rest before) tt tt tt (kept before) after (Err error) tt (as_answer h))
 
--- memory ran out after a value was read that has an event
-pub fails_after : {A : Type 0} (parts : A → List TreeEvent) (k : Parser × Global) (after : Cursor)
-    (error : ParseError OutOfMemory) (answer : Answer A) (raw : A) (q : List ℕ) (e : TreeEvent) (es : List TreeEvent)
-    → answer ≡ Ok (raw, q) → parts raw ≡ e ∷ es → TakesMemory e → IsOfVisitor (λ _. ⊤) error
-    → VisitsAnswer Any NoMemory parts k after tt tt (Err error) answer
-fails_after parts k after error answer raw q e es read all takes failed =
-    of_visitor Any NoMemory parts k after tt tt (λ _. ⊤) error answer failed (λ fault f. record {
-      before = [];
-      e = e;
-      after = es;
-      s = tt;
-      all = ap (visited parts) read ∙ all;
-      taken = refl;
-      failed = takes;
-    })
-
 abbrev pub with_parts : BareValue → RawParameters → RawItem
 with_parts b ps = record { bare = b; parameters = ps }
 

@@ -4,7 +4,7 @@ use Rattle.std.specs.List.{Contains}
 use Rattle.sfv_spec.specs.Values.{RawMember, item, inner_list}
 use Rattle.sfv_spec.specs.Ordered.{ordered_member}
 use Rattle.sfv_spec.specs.declared.version.Version.{Version}
-use Rattle.sfv_spec.specs.Events.{TreeEvent, keyed_entry, begins_inner_list, bare_item, parameter, parameters_end}
+use Rattle.sfv_spec.specs.Events.{TreeEvent, keyed_entry, bare_item, parameter, parameters_end}
 use Rattle.sfv_base.specs.declared.error.Error.{Error}
 use Rattle.sfv_base.specs.declared.error.ParseError.{ParseError}
 use Rattle.sfv_base.specs.declared.error.ParseError.TheVariants.{Syntax, Visitor}
@@ -22,7 +22,6 @@ use Rattle.sfv.specs.parser.Cursor.{kept, input, version, rest, IsErrorOf}
 -- At these events memory may run out: a key or a text is copied, or a map or a list grows.
 abbrev pub TakesMemory : TreeEvent → Type 0
 TakesMemory (keyed_entry key) = ⊤
-TakesMemory begins_inner_list = ⊤
 TakesMemory (bare_item value) = IsTrue (is_text value)
 TakesMemory (parameter key value) = ⊤
 TakesMemory parameters_end = ⊤

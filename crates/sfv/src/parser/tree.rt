@@ -3,12 +3,12 @@
 //! These functions build what `ListBuilder` and `DictionaryBuilder` build from events, and request memory in the same
 //! order. They need no list for the member of a dictionary.
 
-ghost use Rattle.std.specs.Prelude.{◌≡◌, ◌<◌, ◌≤◌, ◌++◌, ◌∷◌, [], ⊤, None, OnOk, OnErr, IfOk, IfErr, IsTrue, IsFalse, All, map, flat_map, length, vec_capacity};
+ghost use Rattle.std.specs.Prelude.{◌≡◌, ◌<◌, ◌≤◌, ◌++◌, ◌∷◌, [], ⊤, None, OnOk, OnErr, IfOk, IfErr, IsTrue, All, map, flat_map, length, vec_capacity};
 ghost use Rattle.std.specs.Prelude.{bytes_eq};
 ghost use Rattle.indexmap.specs.IndexMap.{get, hasher_of, insert_entry, spare};
 ghost use Rattle.sfv_spec.specs.Values.{inner_list};
 ghost use Rattle.sfv_spec.specs.Statements.{IsParsedAs};
-ghost use Rattle.sfv_spec.specs.declared.field_kind.FieldKind.TheVariants.{List as list_field};
+ghost use Rattle.sfv_spec.specs.declared.field_kind.FieldKind.TheVariants.{Item as item_field, List as list_field};
 ghost use Rattle.sfv_spec.specs.declared.field_kind.FieldKind.TheVariants.{Dictionary as dictionary_field};
 ghost use Rattle.sfv_spec.specs.Ordered.{collapse, ordered_item, ordered_member};
 ghost use Rattle.sfv_spec.specs.Events.{parameters_events, item_events, inner_item_events, member_events};
@@ -67,17 +67,14 @@ impl Head {
     }
 }
 
-/// Makes room for one more element, if `is_needed` is true.
+/// Makes room for one more element.
 #[inline(always)]
-fn make_room<T>(items: &mut Vec<T>, is_needed: bool) -> Result<(), ParseError<OutOfMemory>>
+fn make_room<T>(items: &mut Vec<T>) -> Result<(), ParseError<OutOfMemory>>
     ensures items { items.new.items ≡ items.old.items }
-    ensures room { OnOk result (IsTrue is_needed → length items.new.items < vec_capacity items.new) }
-    ensures full { OnErr result (IsTrue is_needed × (vec_capacity items.old ≤ length items.old.items)) }
+    ensures room { OnOk result (length items.new.items < vec_capacity items.new) }
+    ensures full { OnErr result (vec_capacity items.old ≤ length items.old.items) }
     ensures failed { IfErr result (IsOfVisitor (λ _. ⊤)) }
 {
-    if !is_needed {
-        return Ok(());
-    }
     match items.reserve(1) {
         Ok(()) => Ok(()),
         Err(_) => Err(ParseError::Visitor(OutOfMemory)),
@@ -141,94 +138,72 @@ fn insert_parameter(
     Ok(())
 }
 
-/// Releases the unused memory of parameters, if there are any, after at least `MANY` other members or items.
+/// Releases the unused memory of parameters after at least `MANY` other members or items.
 #[inline(always)]
 fn fit_after(count: usize, params: &mut Parameters)
     ensures entries { params.new.entries ≡ params.old.entries }
     ensures seed { hasher_of params.new ≡ hasher_of params.old }
 {
-    if count >= MANY && !params.is_empty() {
+    if count >= MANY {
         fit(params);
     }
 }
 
-/// Returns the number of elements, or 0 if they need no room.
-#[inline(always)]
-fn count_if<T>(needs_room: bool, items: &Vec<T>) -> usize
-    ensures count { IsTrue needs_room → result ≡ length items.now.items }
-    ensures none { IsFalse needs_room → result ≡ 0 }
-{
-    if needs_room { items.len() } else { 0 }
-}
-
 impl<'de> Cursor<'de> {
-    /// Parses parameters into `params`. Before each insertion, and at their end, there is room for one more element of
-    /// `items`, if `needs_room` is true. Then the unused memory of parameters is released after many items.
+    /// Parses parameters into `params`. `count` other members or items come before.
     // The parameters are filled in place: a result that contains them is copied at each return.
     #[inline(never)]
-    fn collect_parameters<T>(
+    fn collect_parameters(
         &mut self,
         params: &mut Parameters,
-        items: &mut Vec<T>,
-        needs_room: bool,
+        count: usize,
     ) -> Result<(), ParseError<OutOfMemory>>
         requires { params.old.entries ≡ [] }
         ensures tree { Builds (λ _. pairs_tree params.new.entries) collapse parameters_events
             self.old self.new result parameters_at }
         ensures seed { hasher_of params.new ≡ hasher_of params.old }
-        ensures items { items.new.items ≡ items.old.items }
-        ensures room { OnOk result (IsTrue needs_room → length items.new.items < vec_capacity items.new) }
     {
         while let Some(parameter) = self.parameter()? {
-            make_room(items, needs_room)?;
             insert_parameter(self.alloc, params, parameter)?;
         }
-        make_room(items, needs_room)?;
-        fit_after(count_if(needs_room, items), params);
+        fit_after(count, params);
         Ok(())
     }
 
     /// Parses any number of parameters, as `collect_parameters` does.
+    // Most items have no parameters, so the choice is inlined.
     #[inline(always)]
-    fn tree_parameters<T>(
+    fn tree_parameters(
         &mut self,
         params: &mut Parameters,
-        items: &mut Vec<T>,
-        needs_room: bool,
+        count: usize,
     ) -> Result<(), ParseError<OutOfMemory>>
         requires { params.old.entries ≡ [] }
         ensures tree { Builds (λ _. pairs_tree params.new.entries) collapse parameters_events
             self.old self.new result parameters_at }
         ensures seed { hasher_of params.new ≡ hasher_of params.old }
-        ensures items { items.new.items ≡ items.old.items }
-        ensures room { OnOk result (IsTrue needs_room → length items.new.items < vec_capacity items.new) }
     {
         if self.next_is(b';') {
-            return self.collect_parameters(params, items, needs_room);
+            return self.collect_parameters(params, count);
         }
-        make_room(items, needs_room)?;
         Ok(())
     }
 
-    /// Parses an item: returns its bare item, and fills `params`. Makes room for one more element of `items` as
-    /// `collect_parameters` does.
+    /// Parses an item: returns its bare item, and fills `params`. `count` other members or items come before.
     #[inline(always)]
-    fn tree_item<T>(
+    fn tree_item(
         &mut self,
         params: &mut Parameters,
-        items: &mut Vec<T>,
-        needs_room: bool,
+        count: usize,
     ) -> Result<BareItem, ParseError<OutOfMemory>>
         requires { params.old.entries ≡ [] }
         ensures tree { Builds (λ bare_item. item_with bare_item params.new.entries) ordered_item item_events
             self.old self.new result item_at }
         ensures seed { hasher_of params.new ≡ hasher_of params.old }
-        ensures items { items.new.items ≡ items.old.items }
-        ensures room { OnOk result (IsTrue needs_room → length items.new.items < vec_capacity items.new) }
     {
         let bare_item = self.bare_item()?;
         let bare_item = own(bare_item, self.alloc)?;
-        self.tree_parameters(params, items, needs_room)?;
+        self.tree_parameters(params, count)?;
         Ok(bare_item)
     }
 
@@ -242,7 +217,8 @@ impl<'de> Cursor<'de> {
             → All (ItemHasSeed self.old.parser.seed) items.new.items) }
     {
         let mut params = Parameters::with_hasher(self.alloc, self.parser.seed);
-        let bare_item = self.tree_item(&mut params, items, true)?;
+        let bare_item = self.tree_item(&mut params, items.len())?;
+        make_room(items)?;
         items.push_reserved(Item::with_params(bare_item, params));
         Ok(())
     }
@@ -283,15 +259,19 @@ impl<'de> Cursor<'de> {
         ensures seed { hasher_of params.new ≡ hasher_of params.old }
         ensures item_seeds { IfOk result (λ items. All (ItemHasSeed self.old.parser.seed) items.items) }
     {
-        let mut items = self.tree_inner_items()?;
-        self.tree_parameters(params, &mut items, false)?;
-        fit_after(count, params);
+        let items = self.tree_inner_items()?;
+        self.tree_parameters(params, count)?;
         Ok(items)
     }
 
-    /// Parses an item or an inner list: returns it without its parameters, and fills `params`.
+    /// Parses an item or an inner list: returns it without its parameters, and fills `params`. `count` other members come
+    /// before.
     #[inline(always)]
-    fn tree_member(&mut self, params: &mut Parameters) -> Result<Head, ParseError<OutOfMemory>>
+    fn tree_member(
+        &mut self,
+        params: &mut Parameters,
+        count: usize,
+    ) -> Result<Head, ParseError<OutOfMemory>>
         requires { params.old.entries ≡ [] }
         ensures tree { Builds (λ head. head_tree head params.new.entries) ordered_member member_events
             self.old self.new result member_at }
@@ -299,11 +279,10 @@ impl<'de> Cursor<'de> {
         ensures item_seeds { IfOk result (HeadHasSeed self.old.parser.seed) }
     {
         if self.take_if(b'(') {
-            let items = self.tree_inner_list(params, 0)?;
+            let items = self.tree_inner_list(params, count)?;
             return Ok(Head::InnerList(items));
         }
-        let mut none: Vec<Item> = Vec::new(self.alloc);
-        let bare_item = self.tree_item(params, &mut none, false)?;
+        let bare_item = self.tree_item(params, count)?;
         Ok(Head::Item(bare_item))
     }
 
@@ -321,10 +300,9 @@ impl<'de> Cursor<'de> {
         ensures item_seeds { IfOk result (HeadHasSeed self.old.parser.seed) }
     {
         if self.take_if(b'=') {
-            return self.tree_member(params);
+            return self.tree_member(params, 0);
         }
-        let mut none: Vec<Item> = Vec::new(self.alloc);
-        self.tree_parameters(params, &mut none, false)?;
+        self.tree_parameters(params, 0)?;
         Ok(Head::Item(GenericBareItem::Boolean(true)))
     }
 
@@ -338,14 +316,9 @@ impl<'de> Cursor<'de> {
             → ListHasSeed self.old.parser.seed list.new.items) }
     {
         let mut params = Parameters::with_hasher(self.alloc, self.parser.seed);
-        if self.take_if(b'(') {
-            make_room(list, true)?;
-            let items = self.tree_inner_list(&mut params, list.len())?;
-            list.push_reserved(ListEntry::InnerList(InnerList::with_params(items, params)));
-            return Ok(());
-        }
-        let bare_item = self.tree_item(&mut params, list, true)?;
-        list.push_reserved(ListEntry::Item(Item::with_params(bare_item, params)));
+        let head = self.tree_member(&mut params, list.len())?;
+        make_room(list)?;
+        list.push_reserved(head.with_params(params));
         Ok(())
     }
 
@@ -407,6 +380,35 @@ impl<'de> Cursor<'de> {
             self.insert_member(&mut dictionary)?;
         }
         Ok(dictionary)
+    }
+}
+
+/// Parses the input as an item.
+///
+/// # Errors
+///
+/// Returns the errors of `Parser::parse`.
+#[inline(never)]
+pub(crate) fn parse_item(parser: Parser<'_>, alloc: Global) -> Result<Item, Error>
+    ensures read { IfOk result (λ item.
+        IsParsedAs (version_of parser.entry) item_field (input_of parser.entry) (item_tree item)) }
+    ensures seed { IfOk result (ItemHasSeed parser.entry.seed) }
+    ensures rejected { IfErr result (IsParseError (version_of parser.entry) item_field (input_of parser.entry)) }
+    ensures memory { IfErr result (NeedsMoreThanSpaces (input_of parser.entry)) }
+{
+    let mut cursor = Cursor::new(parser, alloc);
+    cursor.skip_sp();
+    let mut params = Parameters::with_hasher(alloc, parser.seed);
+    match cursor.tree_item(&mut params, 0) {
+        Ok(bare_item) => {
+            cursor.skip_sp();
+            if cursor.peek().is_some() {
+                return Err(cursor.error(ErrorKind::TrailingCharactersAfterParsedValue));
+            }
+            Ok(Item::with_params(bare_item, params))
+        }
+        Err(ParseError::Syntax(error)) => Err(error),
+        Err(ParseError::Visitor(error)) => Err(Error::from(error)),
     }
 }
 

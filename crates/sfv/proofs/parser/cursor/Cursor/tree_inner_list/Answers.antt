@@ -33,12 +33,6 @@ returns-clause-tree c =
     let built = c.in_ok-tree_parameters.ensures.tree in (
       inner_of read.0 built.0,
       inner_some _ _ _ _ _ _ read.1 (kept_reads parameters_at _ _ _ read.3 ∙ built.1),
-      inner_list_parts _ _ _ _ (ap (map item_tree) c.in_ok-tree_parameters.ensures.items ∙ read.2)
-          (ap pairs_tree c.fit_after.ensures.entries ∙ built.2),
+      inner_list_parts _ _ _ _ read.2 built.2,
       built.3 ∙ read.3,
     )
-
-pub returns-clause-item_seeds : goal.returns-clause-item_seeds
-returns-clause-item_seeds c =
-    subst (All (ItemHasSeed c.args.self.now.parser.seed)) (sym c.in_ok-tree_parameters.ensures.items)
-    c.in_ok-items.ensures.seed

@@ -13,18 +13,18 @@ use Rattle.sfv.proofs.trees.Parts.{item_parts}
 use Rattle.sfv.proofs.parser.cursor.Cursor.tree_item.Goals as goal
 
 pub returns-in_err-bare_item-clause-tree : goal.returns-in_err-bare_item-clause-tree
-returns-in_err-bare_item-clause-tree g c =
+returns-in_err-bare_item-clause-tree c =
     rw (left_with c.from_residual.ensures.1) (as_fault (bare_faulty Any (version c.args.self.now) (rest c.args.self.now)
     (input c.args.self.now) _ tt c.in_err-bare_item.ensures.read))
 
 pub returns-in_err-bare_item-2-clause-tree : goal.returns-in_err-bare_item-2-clause-tree
-returns-in_err-bare_item-2-clause-tree g c =
+returns-in_err-bare_item-2-clause-tree c =
     rw (left_with c.from_residual-in_err-bare_item-2.ensures.1) (as_fault (of_visitor Any NoMemory item_events
     (kept c.args.self.now) c.bare_item.new.self tt tt (λ _. IsTrue (is_borrowed c.in_ok-bare_item.bare_item)) _ _ c.in_err-bare_item-2.ensures.failed
     (λ fault failed. bare_failed Any NoMemory _ _ _ _ _ fault c.in_ok-bare_item.ensures.read.0 (borrowed_text _ failed))))
 
 pub returns-in_err-tree_parameters-clause-tree : goal.returns-in_err-tree_parameters-clause-tree
-returns-in_err-tree_parameters-clause-tree g c =
+returns-in_err-tree_parameters-clause-tree c =
     rw (left_with c.from_residual-in_err-tree_parameters.ensures.1) (as_fault (item_visits Any NoMemory _ _ _ _ tt tt tt
     (kept c.args.self.now) c.tree_parameters.new.self (Err c.in_err-tree_parameters.field-0.0)
     c.in_ok-bare_item.ensures.read.0 tt
@@ -33,7 +33,7 @@ returns-in_err-tree_parameters-clause-tree g c =
     (as_answer c.in_err-tree_parameters.ensures.tree))))
 
 pub returns-clause-tree : goal.returns-clause-tree
-returns-clause-tree g c =
+returns-clause-tree c =
     let built = c.in_ok-tree_parameters.ensures.tree in
     let read = c.in_ok-bare_item.ensures.read in (
       item_of (input_value c.in_ok-bare_item.bare_item) built.0,
