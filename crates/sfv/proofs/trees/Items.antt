@@ -50,8 +50,11 @@ marked t (inr (inl h)) = (percent_sign, h, other_than_space percent_sign refl)
 marked t (inr (inr h)) = (colon, h, other_than_space colon refl)
 
 -- from the start of the input, after its spaces
-module _ (before : Cursor) (k : Parser × Global) (s : List ℕ) (same : kept before ≡ k)
-    (skipped : span is_space (kept_input k) ≡ Ok (s, rest before)) where
+module _ (start before : Cursor) (k : Parser × Global) (s : List ℕ) (same : kept before ≡ k)
+    (whole : rest start ≡ kept_input k) (spaces_first : span is_space (rest start) ≡ Ok (s, rest before)) where
+  skipped : span is_space (kept_input k) ≡ Ok (s, rest before)
+  skipped = subst (λ (t : List ℕ). span is_space t ≡ Ok (s, rest before)) whole spaces_first
+
   pub item_rejected : (e : Error) → FailsAs item_events before (Syntax e) item_at
       → IsParseError (kept_version k) item_field (kept_input k) e
   item_rejected e h = parse_error (kept_version k) item_field (kept_input k) e

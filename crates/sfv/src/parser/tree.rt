@@ -1,9 +1,9 @@
-//! Parsing of lists and dictionaries to trees (RFC 9651, sections 4.2.1 and 4.2.2).
+//! Parsing to trees (RFC 9651, sections 4.2.1 to 4.2.3).
 //!
-//! These functions build what `ListBuilder` and `DictionaryBuilder` build from events, and request memory in the same
-//! order. They need no list for the member of a dictionary.
+//! These functions build what `ItemBuilder`, `ListBuilder` and `DictionaryBuilder` build from events. They need no list
+//! for the member of a dictionary. A list requests room for an element when the element is complete.
 
-ghost use Rattle.std.specs.Prelude.{◌≡◌, ◌<◌, ◌≤◌, ◌++◌, ◌∷◌, [], ⊤, None, OnOk, OnErr, IfOk, IfErr, IsTrue, All, map, flat_map, length, vec_capacity};
+ghost use Rattle.std.specs.Prelude.{◌≡◌, ◌<◌, ◌≤◌, ◌++◌, ◌∷◌, [], ⊤, None, Ok, OnOk, OnErr, IfOk, IfErr, IsTrue, All, map, flat_map, length, vec_capacity};
 ghost use Rattle.std.specs.Prelude.{bytes_eq};
 ghost use Rattle.indexmap.specs.IndexMap.{get, hasher_of, insert_entry, spare};
 ghost use Rattle.sfv_spec.specs.Values.{inner_list};
@@ -20,14 +20,15 @@ ghost use Rattle.sfv_tree.specs.Trees.{dictionary_tree};
 ghost use Rattle.sfv_tree.specs.Seeds.{ItemHasSeed, MemberHasSeed, ListHasSeed, EntriesHaveSeed};
 ghost use Rattle.sfv_tree.specs.Seeds.{DictionaryHasSeed};
 ghost use Rattle.sfv_tree.specs.declared.hash_seed.HashSeed.{HashSeed};
+ghost use Rattle.sfv_reading.specs.Bare.{bare_at};
 ghost use Rattle.sfv_reading.specs.Items.{parameters_at, item_at};
 ghost use Rattle.sfv_reading.specs.Members.{inner_item_at, inner_items_at, inner_at, member_at, member_value_at, entry_at, keyed_at};
 ghost use Rattle.sfv_reading.specs.Fields.{members_at};
 ghost use Rattle.sfv.specs.Memory.{HasMoreThanSpaces, NeedsMoreThanSpaces};
 ghost use Rattle.sfv.specs.Parsers.{input_of, version_of, IsParseError};
-ghost use Rattle.sfv.specs.parser.Cursor.{rest};
+ghost use Rattle.sfv.specs.parser.Cursor.{version, rest, Reads};
 ghost use Rattle.sfv.specs.parser.Members.{after_begin};
-ghost use Rattle.sfv.specs.parser.Trees.{Builds, HeadHasSeed, head_tree, ordered_pairs};
+ghost use Rattle.sfv.specs.parser.Trees.{Builds, FailsAs, HeadHasSeed, head_tree, ordered_pairs};
 ghost use Rattle.sfv.specs.parser.Visits.{IsOfVisitor};
 
 use crate::parser::Parser;
@@ -189,21 +190,26 @@ impl<'de> Cursor<'de> {
         Ok(())
     }
 
-    /// Parses an item: returns its bare item, and fills `params`. `count` other members or items come before.
+    /// Parses the bare item of an item, and returns it with owned text.
     #[inline(always)]
-    fn tree_item(
-        &mut self,
-        params: &mut Parameters,
-        count: usize,
-    ) -> Result<BareItem, ParseError<OutOfMemory>>
+    fn owned_bare_item(&mut self) -> Result<BareItem, ParseError<OutOfMemory>>
+        ensures read { IfOk result (λ value. Reads bare_value self.old self.new (Ok value) (bare_at (version self.old))) }
+        ensures failed { IfErr result (λ error. FailsAs item_events self.old error item_at) }
+    {
+        let bare_item = self.bare_item()?;
+        own(bare_item, self.alloc)
+    }
+
+    /// Parses an item: returns its bare item, and fills `params`.
+    #[inline(always)]
+    fn tree_item(&mut self, params: &mut Parameters) -> Result<BareItem, ParseError<OutOfMemory>>
         requires { params.old.entries ≡ [] }
         ensures tree { Builds (λ bare_item. item_with bare_item params.new.entries) ordered_item item_events
             self.old self.new result item_at }
         ensures seed { hasher_of params.new ≡ hasher_of params.old }
     {
-        let bare_item = self.bare_item()?;
-        let bare_item = own(bare_item, self.alloc)?;
-        self.tree_parameters(params, count)?;
+        let bare_item = self.owned_bare_item()?;
+        self.tree_parameters(params, 0)?;
         Ok(bare_item)
     }
 
@@ -217,7 +223,8 @@ impl<'de> Cursor<'de> {
             → All (ItemHasSeed self.old.parser.seed) items.new.items) }
     {
         let mut params = Parameters::with_hasher(self.alloc, self.parser.seed);
-        let bare_item = self.tree_item(&mut params, items.len())?;
+        let bare_item = self.owned_bare_item()?;
+        self.tree_parameters(&mut params, items.len())?;
         make_room(items)?;
         items.push_reserved(Item::with_params(bare_item, params));
         Ok(())
@@ -264,14 +271,9 @@ impl<'de> Cursor<'de> {
         Ok(items)
     }
 
-    /// Parses an item or an inner list: returns it without its parameters, and fills `params`. `count` other members come
-    /// before.
+    /// Parses an item or an inner list: returns it without its parameters, and fills `params`.
     #[inline(always)]
-    fn tree_member(
-        &mut self,
-        params: &mut Parameters,
-        count: usize,
-    ) -> Result<Head, ParseError<OutOfMemory>>
+    fn tree_member(&mut self, params: &mut Parameters) -> Result<Head, ParseError<OutOfMemory>>
         requires { params.old.entries ≡ [] }
         ensures tree { Builds (λ head. head_tree head params.new.entries) ordered_member member_events
             self.old self.new result member_at }
@@ -279,10 +281,10 @@ impl<'de> Cursor<'de> {
         ensures item_seeds { IfOk result (HeadHasSeed self.old.parser.seed) }
     {
         if self.take_if(b'(') {
-            let items = self.tree_inner_list(params, count)?;
+            let items = self.tree_inner_list(params, 0)?;
             return Ok(Head::InnerList(items));
         }
-        let bare_item = self.tree_item(params, count)?;
+        let bare_item = self.tree_item(params)?;
         Ok(Head::Item(bare_item))
     }
 
@@ -300,7 +302,7 @@ impl<'de> Cursor<'de> {
         ensures item_seeds { IfOk result (HeadHasSeed self.old.parser.seed) }
     {
         if self.take_if(b'=') {
-            return self.tree_member(params, 0);
+            return self.tree_member(params);
         }
         self.tree_parameters(params, 0)?;
         Ok(Head::Item(GenericBareItem::Boolean(true)))
@@ -316,9 +318,16 @@ impl<'de> Cursor<'de> {
             → ListHasSeed self.old.parser.seed list.new.items) }
     {
         let mut params = Parameters::with_hasher(self.alloc, self.parser.seed);
-        let head = self.tree_member(&mut params, list.len())?;
+        if self.take_if(b'(') {
+            let items = self.tree_inner_list(&mut params, list.len())?;
+            make_room(list)?;
+            list.push_reserved(ListEntry::InnerList(InnerList::with_params(items, params)));
+            return Ok(());
+        }
+        let bare_item = self.owned_bare_item()?;
+        self.tree_parameters(&mut params, list.len())?;
         make_room(list)?;
-        list.push_reserved(head.with_params(params));
+        list.push_reserved(ListEntry::Item(Item::with_params(bare_item, params)));
         Ok(())
     }
 
@@ -399,7 +408,7 @@ pub(crate) fn parse_item(parser: Parser<'_>, alloc: Global) -> Result<Item, Erro
     let mut cursor = Cursor::new(parser, alloc);
     cursor.skip_sp();
     let mut params = Parameters::with_hasher(alloc, parser.seed);
-    match cursor.tree_item(&mut params, 0) {
+    match cursor.tree_item(&mut params) {
         Ok(bare_item) => {
             cursor.skip_sp();
             if cursor.peek().is_some() {

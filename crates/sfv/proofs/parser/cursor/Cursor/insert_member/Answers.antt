@@ -1,4 +1,4 @@
-use Rattle.std.proofs.Common.{◌∙◌, refl, ap, Err}
+use Rattle.std.proofs.Common.{◌∙◌, ap, Err}
 use Rattle.sfv_spec.specs.Events.{keyed_entry, member_events, keyed_events}
 use Rattle.sfv_text.specs.KeyText.{key_text}
 use Rattle.std.specs.declared.alloc.Global.{Global}

@@ -1,8 +1,5 @@
-use Rattle.std.proofs.Common.{◌∙◌, ap, map, sym, subst, Err}
-use Rattle.std.specs.Prelude.{All}
+use Rattle.std.proofs.Common.{◌∙◌, Err}
 use Rattle.sfv_spec.specs.Events.{parameters_events}
-use Rattle.sfv_tree.specs.Trees.{item_tree, pairs_tree}
-use Rattle.sfv_tree.specs.Seeds.{ItemHasSeed}
 use Rattle.sfv_reading.specs.Items.{parameters_at}
 use Rattle.sfv_reading.specs.Members.{inner_of}
 use Rattle.sfv.specs.parser.Cursor.{kept, version, rest}

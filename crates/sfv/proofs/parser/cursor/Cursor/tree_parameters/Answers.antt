@@ -1,13 +1,8 @@
 use Rattle.std.proofs.Common.{refl, [], ap}
-use Rattle.std.specs.Prelude.{⊤}
-use Rattle.sfv_spec.specs.Events.{parameters_events}
 use Rattle.sfv_spec.specs.Ordered.{collapse}
 use Rattle.sfv_tree.specs.Trees.{pairs_tree}
-use Rattle.sfv.specs.parser.Cursor.{version, kept, rest}
-use Rattle.sfv.proofs.trees.Errors.{Any, NoMemory, as_answer, as_fault}
-use Rattle.sfv.proofs.reads.Errors.{left_with}
+use Rattle.sfv.specs.parser.Cursor.{version, rest}
 use Rattle.sfv.proofs.reads.Steps.{parameter_none}
-use Rattle.sfv.proofs.visits.Parameters.{of_visitor, visited_none, end_failed}
 use Rattle.sfv.proofs.trees.Parts.{no_parameters}
 use Rattle.sfv.proofs.parser.cursor.Cursor.tree_parameters.Goals as goal
 
