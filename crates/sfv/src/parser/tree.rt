@@ -190,6 +190,25 @@ impl<'de> Cursor<'de> {
         Ok(())
     }
 
+    /// Parses the parameters of the next element of `items` into `params`, and makes room for the element.
+    #[inline(always)]
+    fn element_parameters<T>(
+        &mut self,
+        params: &mut Parameters,
+        items: &mut Vec<T>,
+    ) -> Result<(), ParseError<OutOfMemory>>
+        requires { params.old.entries ≡ [] }
+        ensures tree { Builds (λ _. pairs_tree params.new.entries) collapse parameters_events
+            self.old self.new result parameters_at }
+        ensures seed { hasher_of params.new ≡ hasher_of params.old }
+        ensures items { items.new.items ≡ items.old.items }
+        ensures room { OnOk result (length items.new.items < vec_capacity items.new) }
+    {
+        self.tree_parameters(params, items.len())?;
+        make_room(items)?;
+        Ok(())
+    }
+
     /// Parses the bare item of an item, and returns it with owned text.
     #[inline(always)]
     fn owned_bare_item(&mut self) -> Result<BareItem, ParseError<OutOfMemory>>
@@ -224,8 +243,7 @@ impl<'de> Cursor<'de> {
     {
         let mut params = Parameters::with_hasher(self.alloc, self.parser.seed);
         let bare_item = self.owned_bare_item()?;
-        self.tree_parameters(&mut params, items.len())?;
-        make_room(items)?;
+        self.element_parameters(&mut params, items)?;
         items.push_reserved(Item::with_params(bare_item, params));
         Ok(())
     }
@@ -325,8 +343,7 @@ impl<'de> Cursor<'de> {
             return Ok(());
         }
         let bare_item = self.owned_bare_item()?;
-        self.tree_parameters(&mut params, list.len())?;
-        make_room(list)?;
+        self.element_parameters(&mut params, list)?;
         list.push_reserved(ListEntry::Item(Item::with_params(bare_item, params)));
         Ok(())
     }

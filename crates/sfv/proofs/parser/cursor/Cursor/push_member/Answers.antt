@@ -66,34 +66,23 @@ returns-in_err-bare_item-clause-tree c =
     rw (left_with c.from_residual-in_err-bare_item.ensures.1) (member_item_fails c.args.self.now c.take_if.new.self _
     c.if-take_if.ensures.takes c.take_if.ensures.kept c.in_err-bare_item.ensures.failed)
 
-pub returns-in_err-tree_parameters-clause-tree : goal.returns-in_err-tree_parameters-clause-tree
-returns-in_err-tree_parameters-clause-tree c =
+pub returns-in_err-element_parameters-clause-tree : goal.returns-in_err-element_parameters-clause-tree
+returns-in_err-element_parameters-clause-tree c =
     let read = c.in_ok-bare_item.ensures.read in
-    rw (left_with c.from_residual-in_err-tree_parameters.ensures.1) (member_item_fails c.args.self.now
+    rw (left_with c.from_residual-in_err-element_parameters.ensures.1) (member_item_fails c.args.self.now
     c.take_if.new.self _ c.if-take_if.ensures.takes c.take_if.ensures.kept (later_fails c.take_if.new.self
-    c.owned_bare_item.new.self _ _ read.0 read.1 c.in_err-tree_parameters.ensures.tree))
-
-pub returns-in_err-make_room-2-clause-tree : goal.returns-in_err-make_room-2-clause-tree
-returns-in_err-make_room-2-clause-tree c =
-    let read = c.in_ok-bare_item.ensures.read in
-    let built = item_builds c.take_if.new.self c.owned_bare_item.new.self c.tree_parameters.new.self
-    (bare_value c.in_ok-bare_item.bare_item) c.tree_parameters.new.params.entries read.0 read.1
-    c.in_ok-tree_parameters.ensures.tree in
-    rw (left_with c.from_residual-in_err-make_room-2.ensures.1) (fails_after member_events c.args.self.now _ member_at
-    (item built.0) _ parameters_end (member_item_some _ _ _ _ _ c.if-take_if.ensures.takes
-    (kept_reads item_at _ _ _ c.take_if.ensures.kept ∙ built.1)) (member_ends (item built.0)) tt
-    c.in_err-make_room-2.ensures.failed)
+    c.owned_bare_item.new.self _ _ read.0 read.1 c.in_err-element_parameters.ensures.tree))
 
 pub returns-clause-tree : goal.returns-clause-tree
 returns-clause-tree c =
     let read = c.in_ok-bare_item.ensures.read in
-    let built = item_builds c.take_if.new.self c.owned_bare_item.new.self c.tree_parameters.new.self
-    (bare_value c.in_ok-bare_item.bare_item) c.tree_parameters.new.params.entries read.0 read.1
-    c.in_ok-tree_parameters.ensures.tree in (
+    let built = item_builds c.take_if.new.self c.owned_bare_item.new.self c.element_parameters.new.self
+    (bare_value c.in_ok-bare_item.bare_item) c.element_parameters.new.params.entries read.0 read.1
+    c.in_ok-element_parameters.ensures.tree in (
       item built.0,
       member_item_some _ _ _ _ _ c.if-take_if.ensures.takes (kept_reads item_at _ _ _ c.take_if.ensures.kept
           ∙ built.1),
-      pushed_tree _ _ _ (entries.Item c.with_params-2.result) (item built.0) c.in_ok-make_room-2.ensures.items
+      pushed_tree _ _ _ (entries.Item c.with_params-2.result) (item built.0) c.in_ok-element_parameters.ensures.items
           c.push_reserved-2.ensures.items (ap item (c.with_params-2.ensures.tree ∙ built.2)),
       built.3 ∙ c.take_if.ensures.kept,
     )
@@ -101,5 +90,5 @@ returns-clause-tree c =
 pub returns-clause-seed : goal.returns-clause-seed
 returns-clause-seed c h =
     pushed_seed c.args.self.now.parser.seed _ _ _ (entries.Item c.with_params-2.result)
-    c.in_ok-make_room-2.ensures.items c.push_reserved-2.ensures.items (ap hasher_of c.with_params-2.ensures.params
-    ∙ c.in_ok-tree_parameters.ensures.seed ∙ c.with_hasher-params.ensures.hasher) h
+    c.in_ok-element_parameters.ensures.items c.push_reserved-2.ensures.items (ap hasher_of c.with_params-2.ensures.params
+    ∙ c.in_ok-element_parameters.ensures.seed ∙ c.with_hasher-params.ensures.hasher) h
