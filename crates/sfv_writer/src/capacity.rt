@@ -35,13 +35,14 @@ pub(crate) fn text_for_members(members: usize, alloc: Global) -> StdString
     text_with_capacity(64 + 8 * members.min(1000), alloc)
 }
 
-/// Requests the first memory of a text that has none.
+/// Requests memory for 128 bytes.
 #[cold]
 #[inline(never)]
 fn request_first_memory<A: Allocator>(output: &mut StdString<A>)
-    requires { string_capacity output.old ≡ 0 }
     ensures text { string_bytes output.new ≡ string_bytes output.old }
-    ensures first { (string_capacity output.new ≡ 0) ⊎ (string_capacity output.new ≡ 128) }
+    ensures room { string_capacity output.old ≤ string_capacity output.new }
+    ensures first { string_capacity output.old ≡ 0
+        → (string_capacity output.new ≡ 0) ⊎ (string_capacity output.new ≡ 128) }
 {
     let _ = output.reserve_exact(128);
 }
