@@ -100,13 +100,16 @@ fn own_key(key: KeyRef<'_>, alloc: Global) -> Result<Key, ParseError<OutOfMemory
     key.to_owned(alloc).map_err(ParseError::Visitor)
 }
 
-/// Inserts an entry. An existing key keeps its place and takes the new value; a new key goes last.
+/// Inserts an entry, and returns the old value of the key. An existing key keeps its place and takes the new value; a
+/// new key goes last.
+// The caller drops the old value: here, where its type is not known, a call would drop it.
 #[inline(always)]
 fn enter<V: Drop>(
     map: &mut IndexMap<Key, V, HashSeed>,
     key: Key,
     value: V,
-) -> Result<(), ParseError<OutOfMemory>>
+) -> Result<Option<V>, ParseError<OutOfMemory>>
+    ensures old { IfOk result (λ old. old ≡ get bytes_eq map.old key) }
     ensures entries { OnOk result (map.new.entries ≡ insert_entry bytes_eq map.old.entries key value) }
     ensures hasher { hasher_of map.new ≡ hasher_of map.old }
     ensures unchanged { OnErr result (map.new.entries ≡ map.old.entries) }
@@ -115,7 +118,7 @@ fn enter<V: Drop>(
     ensures failed { IfErr result (IsOfVisitor (λ _. ⊤)) }
 {
     match map.insert(key, value) {
-        Ok(_) => Ok(()),
+        Ok(old) => Ok(old),
         Err(_) => Err(ParseError::Visitor(OutOfMemory)),
     }
 }
