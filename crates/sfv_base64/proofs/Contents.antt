@@ -1,20 +1,20 @@
 -- What `base64` decodes, and the contents of byte sequences.
-use Rattle.std.proofs.Common.{◌≡◌, ℕ, zero, suc, ◌<◌, ◌≤◌, ◌+◌, ◌-◌, ◌*◌, ◌/◌, ◌%◌, Bool, true, false, List, [], ◌∷◌, ◌++◌, length, map, take}
-use Rattle.std.proofs.Common.{drop, replicate, append_assoc, refl, sym, ◌∙◌, ap, subst, arith, slice_index, inl, inr, ◌⊎◌}
-use Rattle.std.specs.Prelude.{◌==◌, not}
+use Rattle.std.proofs.Common.{◌≡◌, ℕ, ◌<◌, ◌≤◌, ◌+◌, ◌-◌, ◌*◌, ◌/◌, ◌%◌, true, false, List, [], ◌∷◌, ◌++◌, length, map, take}
+use Rattle.std.proofs.Common.{drop, replicate, append_assoc, refl, sym, ◌∙◌, ap, subst, arith, inl, inr}
+use Rattle.std.specs.Prelude.{◌==◌}
 use Rattle.std.specs.List.{list_all}
 use Rattle.std.specs.declared.option.Option.TheVariants.{None, Some}
 use Rattle.std.specs.declared.result.Result.TheVariants.{Ok, Err}
-use Rattle.std.proofs.lemmas.Bool.{and_parts, cases_Bool, eqb-true, eqb-false, ne_eqb, eq-eqb, cases_lt}
+use Rattle.std.proofs.lemmas.Bool.{cases_Bool, eqb-true, eqb-false, ne_eqb, cases_lt}
 use Rattle.std.proofs.lemmas.List.{length-append, length-replicate, length-drop, length-map, length-take-le, map-append, take-append-drop, take-append-le, drop-append-le, get_or-drop, nil_from_length}
 use Rattle.base64.specs.declared.engine.general_purpose.GeneralPurpose.{GeneralPurpose}
 use Rattle.std.specs.declared.result.Result.{Result}
 use Rattle.base64.specs.declared.decode.DecodeError.{DecodeError}
 use Rattle.base64.specs.declared.engine.DecodePaddingMode.TheVariants.{Indifferent}
-use Rattle.base64.specs.Decode.{lone_error, groups_error, groups_bytes, scan_steps, suffix_error, suffix_bytes, decode_error, decoded_bytes, decode_outcome, groups_before_last}
+use Rattle.base64.specs.Decode.{lone_error, groups_error, groups_bytes, scan_steps, decode_error, decoded_bytes, decode_outcome, groups_before_last}
 use Rattle.base64.specs.GeneralPurpose.{IsBytes, IsDecodeFailure, decode_of}
 use Rattle.base64.proofs.Tables.{are_tables_inverse, are_tables_padding}
-use Rattle.sfv_spec.specs.Base64.{IsBase64Text, symbols, symbol}
+use Rattle.sfv_spec.specs.Base64.{IsBase64Text, symbol}
 use Rattle.sfv_reading.proofs.base64.Contents.{counted, well_formed, gives_the_bytes}
 use Rattle.sfv_reading.proofs.base64.Shape.{are_symbols}
 use Rattle.std.specs.declared.option.Option.{Option}

@@ -1,21 +1,19 @@
 -- The decoder of `base64` on symbols and padding, group by group.
-use Rattle.std.proofs.Common.{◌≡◌, ℕ, zero, suc, ◌<◌, ◌≤◌, ◌+◌, ◌*◌, ◌/◌, ◌%◌, Bool, true, false, List, [], ◌∷◌, ◌++◌, length, map, take}
-use Rattle.std.proofs.Common.{drop, replicate, get_or, refl, sym, ◌∙◌, ap, arith, slice_index, inl, inr, ◌⊎◌}
-use Rattle.std.specs.Prelude.{◌==◌, nat_lt, slice_set}
+use Rattle.std.proofs.Common.{◌≡◌, ℕ, zero, suc, ◌≤◌, ◌+◌, ◌*◌, ◌/◌, ◌%◌, true, false, List, [], ◌∷◌, ◌++◌, length, map, take}
+use Rattle.std.proofs.Common.{drop, replicate, get_or, refl, sym, ◌∙◌, ap, arith, slice_index}
 use Rattle.std.specs.List.{list_all}
 use Rattle.std.specs.declared.option.Option.TheVariants.{None}
-use Rattle.std.proofs.lemmas.Bool.{and_parts, and_from, cases_Bool, eqb-true}
+use Rattle.std.proofs.lemmas.Bool.{and_parts}
 use Rattle.std.proofs.lemmas.List.{get_or-drop, length-map, length-take-le, length-drop, map-append}
 use Rattle.std.proofs.lemmas.List.Folds.{list_all-append}
 use lib.Seq.{take-add}
 use Rattle.base64.specs.declared.engine.DecodePaddingMode.TheVariants.{Indifferent}
-use Rattle.base64.specs.Decode.{group_error, group_bytes, groups_error, groups_bytes, scan, scan_steps, scan_error, scan_bytes, no_leftover, push_leftover}
+use Rattle.base64.specs.Decode.{group_error, group_bytes, groups_error, groups_bytes, scan, scan_steps, scan_error, scan_bytes, no_leftover}
 use Rattle.base64.proofs.Decoding.{scan-cons_ok}
-use Rattle.std.specs.declared.result.Result.TheVariants.{Ok}
 use Rattle.sfv_spec.proofs.Marks.{is_symbol}
 use Rattle.sfv_reading.specs.Content.{symbol_value, bytes_from, most_padding}
 use Rattle.sfv.proofs.reads.Coded.{bytes_from-append}
-use Rattle.sfv_base64.proofs.Symbols.{IsTable, IsSymbol, symbol_of, no_symbol}
+use Rattle.sfv_base64.proofs.Symbols.{IsTable, IsSymbol, symbol_of}
 
 -- ---- one group of four
 

@@ -1,14 +1,13 @@
 -- The values of symbols, in the table of an engine.
-use Rattle.std.proofs.Common.{◌≡◌, ℕ, ◌<◌, Bool, true, false, List, refl, sym, ◌∙◌, ap, subst, arith, slice_index, inl, inr, ◌⊎◌}
-use Rattle.std.specs.Prelude.{◌==◌, not}
-use Rattle.std.proofs.lemmas.Bool.{cases_Bool, eqb-true, eq-eqb, ne_eqb, ltb-true, lt-ltb, both_ways}
+use Rattle.std.proofs.Common.{◌≡◌, ℕ, ◌<◌, true, false, List, refl, sym, ◌∙◌, ap, arith, slice_index, inl, inr}
+use Rattle.std.specs.Prelude.{◌==◌}
+use Rattle.std.proofs.lemmas.Bool.{eq-eqb, ne_eqb, ltb-true, lt-ltb, both_ways}
 use Rattle.base64.specs.Tables.{is_inverse}
 use Rattle.base64.proofs.Tables.{decode-encode_table, encode-decode_table}
-use Rattle.sfv_spec.specs.Base64.{symbols, symbol}
+use Rattle.sfv_spec.specs.Base64.{symbols}
 use Rattle.sfv_spec.proofs.Marks.{is_symbol}
-use Rattle.sfv_spec.proofs.Parts.{implied}
 use Rattle.sfv_reading.specs.Content.{symbol_value}
-use Rattle.sfv_reading.proofs.base64.Shape.{symbol-value, value_within, symbol_below, symbol-is_symbol}
+use Rattle.sfv_reading.proofs.base64.Shape.{symbol-value, value_within, symbol-is_symbol}
 
 -- the table of an engine with the standard alphabet
 pub record IsTable (dec : List ℕ) : Type 0 where

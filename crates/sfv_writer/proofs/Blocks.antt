@@ -4,7 +4,7 @@ use Rattle.std.proofs.Common.{List, [], ◌∷◌, ◌++◌, map, take, length, 
 use Rattle.std.proofs.Common.{w8, w16, Fits}
 use Rattle.std.specs.Prelude.{◌==◌, nat_lt}
 use Rattle.std.specs.List.{list_all, range_with_len}
-use Rattle.std.proofs.lemmas.Bool.{agree_below, agree_below_at, eqb-true, and_parts, and_from, both_ways, cases_Bool, ltb-true, lt-ltb}
+use Rattle.std.proofs.lemmas.Bool.{agree_below_at, eqb-true, and_parts, and_from, both_ways, cases_Bool, ltb-true, lt-ltb}
 use Rattle.std.proofs.lemmas.Nat.{and_mask}
 use Rattle.std.proofs.lemmas.List.{get_or-map, length-map, length-take-le, ext_get_or}
 use Rattle.std.proofs.lemmas.List.Folds.{list_all_at}
