@@ -9,7 +9,7 @@ use std::test::Fail;
 
 /// Returns `true` if at most half of the memory for elements is unused, or if it is for `least` elements.
 fn is_tight(capacity: usize, len: usize, least: usize) -> bool {
-    capacity <= least || capacity <= 2 * len
+    capacity <= least || capacity.div_ceil(2) <= len
 }
 
 /// Returns `true` if parameters have no unused memory after 4,000 other members or items, and keep it before.
@@ -65,8 +65,7 @@ fn are_lists_fit(alloc: Global, input: &str, count: usize) -> bool {
 /// The same for a dictionary.
 fn are_dictionaries_fit(alloc: Global, input: &str, count: usize) -> bool {
     let parser = Parser::new(input.as_bytes());
-    let builder =
-        DictionaryBuilder::new(Dictionary::with_hasher(alloc, parser.hash_seed()));
+    let builder = DictionaryBuilder::new(Dictionary::with_hasher(alloc, parser.hash_seed()));
     let Ok(built) = parser.parse_dictionary_with_visitor(alloc, builder) else {
         return false;
     };
