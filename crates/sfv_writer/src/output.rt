@@ -1,6 +1,6 @@
 //! Separators, and truncation of text that was just appended.
 
-ghost use Rattle.std.specs.Prelude.{◌≡◌, ◌<◌, ◌⊎◌, IsTrue, string_bytes, string_capacity};
+ghost use Rattle.std.specs.Prelude.{◌≡◌, ◌≤◌, IsTrue, max, string_bytes, string_capacity};
 ghost use Rattle.sfv_writer.specs.Written.{AsksForRoom, Appends, IsTruncatedTo, separator_before};
 
 use crate::capacity::prepare;
@@ -32,10 +32,7 @@ pub fn serialize_separator<A: Allocator>(
 ) -> Result<(), OutOfMemory>
     ensures text { Appends output.old output.new (separator_before is_first separator.now) result }
     ensures room { AsksForRoom output.old output.new (separator_before is_first separator.now) result }
-    ensures first { IsTrue is_first → string_capacity output.old ≡ 0
-        → (string_capacity output.new ≡ 0) ⊎ (string_capacity output.new ≡ 128) }
-    ensures idle { IsTrue is_first → 0 < string_capacity output.old
-        → string_capacity output.new ≡ string_capacity output.old }
+    ensures first { IsTrue is_first → string_capacity output.new ≤ max 128 (string_capacity output.old) }
 {
     if is_first {
         prepare(output);
