@@ -12,8 +12,8 @@ use Rattle.std.specs.declared.borrow.CowStr.{CowStr}
 use Rattle.sfv_spec.specs.declared.version.Version.{Version}
 use Rattle.sfv_spec.specs.Values.{RawParameters, RawItem, RawMember, item, inner_list}
 use Rattle.sfv_spec.specs.Events.{TreeEvent, keyed_entry, begins_item, begins_inner_list, bare_item, parameter}
-use Rattle.sfv_spec.specs.Events.{parameters_end, inner_list_end, parameters_events, inner_item_events, member_events}
-use Rattle.sfv_spec.specs.Events.{keyed_events}
+use Rattle.sfv_spec.specs.Events.{parameters_end, inner_list_end, parameters_events, item_events, inner_item_events}
+use Rattle.sfv_spec.specs.Events.{member_events, keyed_events}
 use Rattle.sfv_spec.specs.Visiting.{RunsTo}
 use Rattle.sfv_base.specs.declared.error.Error.{Error}
 use Rattle.sfv_base.specs.Errors.{index_of}
@@ -110,15 +110,15 @@ fails_after {Y = Y} parts before (Visitor m) f raw q e read has takes failed = r
 
 -- ---- events at which a map or a list grows
 
-pub parameters_ends : (ps : RawParameters) → Contains (parameters_events ps) parameters_end
+parameters_ends : (ps : RawParameters) → Contains (parameters_events ps) parameters_end
 parameters_ends ps = Contains-push (map (λ p. parameter p.0 p.1) ps) parameters_end
 
-pub item_ends : (i : RawItem) → Contains (inner_item_events i) parameters_end
-item_ends i = Contains-append_right (begins_item ∷ bare_item i.bare ∷ []) (parameters_events i.parameters)
-    parameters_end (parameters_ends i.parameters)
+pub item_ends : (i : RawItem) → Contains (item_events i) parameters_end
+item_ends i = Contains-append_right (bare_item i.bare ∷ []) (parameters_events i.parameters) parameters_end
+    (parameters_ends i.parameters)
 
 pub member_ends : (m : RawMember) → Contains (member_events m) parameters_end
-member_ends (item i) = item_ends i
+member_ends (item i) = Contains-append_right (begins_item ∷ []) (item_events i) parameters_end (item_ends i)
 member_ends (inner_list l) = Contains-append_right (begins_inner_list ∷ flat_map inner_item_events l.items)
     (inner_list_end ∷ parameters_events l.parameters) parameters_end
     (Contains-append_right (inner_list_end ∷ []) (parameters_events l.parameters) parameters_end

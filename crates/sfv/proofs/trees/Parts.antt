@@ -10,14 +10,14 @@ use Rattle.sfv_spec.specs.Values.{BareValue, boolean, RawParameters, RawItem, Ra
 use Rattle.sfv_spec.specs.declared.version.Version.{Version}
 use Rattle.sfv_spec.specs.Grammar.{true_with}
 use Rattle.sfv_spec.specs.Events.{TreeEvent, begins_item, begins_inner_list, bare_item, member_events, keyed_entry}
-use Rattle.sfv_spec.specs.Events.{parameters_events, item_events, inner_item_events}
+use Rattle.sfv_spec.specs.Events.{parameters_events, item_events}
 use Rattle.sfv_spec.specs.Ordered.{collapse, ordered_item, ordered_member}
 use Rattle.sfv_base.specs.declared.error.ParseError.{ParseError}
 use Rattle.sfv_base.specs.declared.error.OutOfMemory.{OutOfMemory}
 use Rattle.sfv_reading.specs.Reader.{Reader, led, give, ◌>>=◌, byte}
 use Rattle.sfv_reading.specs.Items.{key_at, parameter_event, parameter_at, parameters_at, item_at, item_of}
 use Rattle.sfv_reading.specs.Bare.{bare_at}
-use Rattle.sfv_reading.specs.Members.{inner_item_at, inner_items_at, inner_at, inner_of, closed_events, member_at, member_value_at, keyed_at}
+use Rattle.sfv_reading.specs.Members.{inner_items_at, inner_at, inner_of, closed_events, member_at, member_value_at, keyed_at}
 use Rattle.sfv_reading.proofs.complete.Combinators.{bind_complete, led_complete}
 use Rattle.sfv_reading.proofs.sound.Many.{starts, is_done}
 use Rattle.sfv_reading.proofs.sound.Items.{Consumes-parameter}
@@ -27,7 +27,7 @@ use Rattle.sfv.specs.parser.Trees.{Builds, FailsAs}
 use Rattle.sfv.specs.parser.Visits.{IsOfVisitor}
 use Rattle.sfv.proofs.trees.Errors.{Any, NoMemory, as_answer, as_fault, borrowed_text}
 use Rattle.sfv.proofs.reads.Steps.{branch_true, item_some}
-use Rattle.sfv.proofs.visits.InnerLists.{member_list, member_item, item_member_visits}
+use Rattle.sfv.proofs.visits.InnerLists.{member_list, member_item}
 use Rattle.sfv_bare.specs.BareItems.{bare_value, input_value, is_borrowed}
 use Rattle.sfv_visitor.specs.ProvidedVisitors.{ReadBareItem}
 use Rattle.sfv_tree.specs.Trees.{OwnedBareItem, pairs_tree, item_tree, member_tree, list_tree, dictionary_tree}
@@ -181,31 +181,7 @@ item_builds before between after value entries read same h = (
   h.3 ∙ same,
 )
 
--- a member that is an item
-pub member_item_fails : (before middle : Cursor) (error : ParseError OutOfMemory)
-    → TakesIf (byte left_parenthesis) false (rest before) (rest middle) → kept middle ≡ kept before
-    → FailsAs item_events middle error item_at → FailsAs member_events before error member_at
-member_item_fails before middle error takes same h =
-    as_fault (item_member_visits Any NoMemory (version before) (rest before) (rest middle) tt tt tt (kept before) before
-    (Err error) takes tt (kept_visits Any NoMemory item_events item_at middle before tt tt (kept before) (Err error) same
-    (as_answer h)))
-
 -- ---- items of an inner list
-
-pub inner_fails : (before : Cursor) (error : ParseError OutOfMemory) → FailsAs item_events before error item_at
-    → FailsAs inner_item_events before error inner_item_at
-unfolding inner_item_at
-inner_fails before error h =
-    led_builds (λ (u : Unit {0}). u) (λ (i : RawItem). tt) begins_item item_events item_at before before (Err error) h
-
-pub inner_builds : (before after : Cursor) (value : BareValue) (entries : List (List ℕ × OwnedBareItem))
-    → Builds (λ (u : Unit {0}). with_parts value (pairs_tree entries)) ordered_item item_events before after (Ok tt)
-    item_at → Builds (λ (u : Unit {0}). with_parts value (pairs_tree entries)) ordered_item inner_item_events before after
-    (Ok tt) inner_item_at
-unfolding inner_item_at
-inner_builds before after value entries h = led_builds (λ (u : Unit {0}). with_parts value (pairs_tree entries))
-    ordered_item begins_item item_events item_at before after (Ok tt) h
-
 
 pub pushed_item : (old middle new : List Item) (i : Item) (raw : RawItem) → middle ≡ old → new ≡ middle ++ i ∷ []
     → item_tree i ≡ ordered_item raw → map item_tree new ≡ map item_tree old ++ ordered_item raw ∷ []

@@ -193,25 +193,6 @@ impl<'de> Cursor<'de> {
         Ok(())
     }
 
-    /// Parses the parameters of the next element of `items` into `params`, and makes room for the element.
-    #[inline(always)]
-    fn element_parameters<T>(
-        &mut self,
-        params: &mut Parameters,
-        items: &mut Vec<T>,
-    ) -> Result<(), ParseError<OutOfMemory>>
-        requires { params.old.entries ≡ [] }
-        ensures tree { Builds (λ _. pairs_tree params.new.entries) collapse parameters_events
-            self.old self.new result parameters_at }
-        ensures seed { hasher_of params.new ≡ hasher_of params.old }
-        ensures items { items.new.items ≡ items.old.items }
-        ensures room { OnOk result (length items.new.items < vec_capacity items.new) }
-    {
-        self.tree_parameters(params, items.len())?;
-        make_room(items)?;
-        Ok(())
-    }
-
     /// Parses the bare item of an item, and returns it with owned text.
     #[inline(always)]
     fn owned_bare_item(&mut self) -> Result<BareItem, ParseError<OutOfMemory>>
@@ -235,6 +216,26 @@ impl<'de> Cursor<'de> {
         Ok(bare_item)
     }
 
+    /// Parses an item, as `tree_item` does, and makes room for it in `items`.
+    #[inline(always)]
+    fn element_item<T>(
+        &mut self,
+        params: &mut Parameters,
+        items: &mut Vec<T>,
+    ) -> Result<BareItem, ParseError<OutOfMemory>>
+        requires { params.old.entries ≡ [] }
+        ensures tree { Builds (λ bare_item. item_with bare_item params.new.entries) ordered_item item_events
+            self.old self.new result item_at }
+        ensures seed { hasher_of params.new ≡ hasher_of params.old }
+        ensures items { items.new.items ≡ items.old.items }
+        ensures room { OnOk result (length items.new.items < vec_capacity items.new) }
+    {
+        let bare_item = self.owned_bare_item()?;
+        self.tree_parameters(params, items.len())?;
+        make_room(items)?;
+        Ok(bare_item)
+    }
+
     /// Parses an item of an inner list, and appends it to `items`.
     #[inline(always)]
     fn push_inner_item(&mut self, items: &mut Vec<Item>) -> Result<(), ParseError<OutOfMemory>>
@@ -245,8 +246,7 @@ impl<'de> Cursor<'de> {
             → All (ItemHasSeed self.old.parser.seed) items.new.items) }
     {
         let mut params = Parameters::with_hasher(self.alloc, self.parser.seed);
-        let bare_item = self.owned_bare_item()?;
-        self.element_parameters(&mut params, items)?;
+        let bare_item = self.element_item(&mut params, items)?;
         items.push_reserved(Item::with_params(bare_item, params));
         Ok(())
     }
@@ -345,8 +345,7 @@ impl<'de> Cursor<'de> {
             list.push_reserved(ListEntry::InnerList(InnerList::with_params(items, params)));
             return Ok(());
         }
-        let bare_item = self.owned_bare_item()?;
-        self.element_parameters(&mut params, list)?;
+        let bare_item = self.element_item(&mut params, list)?;
         list.push_reserved(ListEntry::Item(Item::with_params(bare_item, params)));
         Ok(())
     }

@@ -4,8 +4,7 @@ use Rattle.std.specs.declared.alloc.Global.{Global}
 use Rattle.std.specs.declared.vec.Vec.{Vec}
 use Rattle.indexmap.specs.IndexMap.{hasher_of}
 use Rattle.sfv_spec.specs.Values.{item, inner_list}
-use Rattle.sfv_spec.specs.Events.{member_events, parameters_end}
-use Rattle.sfv_bare.specs.BareItems.{bare_value}
+use Rattle.sfv_spec.specs.Events.{item_events, member_events, parameters_end}
 use Rattle.sfv_reading.specs.Items.{item_at}
 use Rattle.sfv_reading.specs.Members.{inner_at, member_at}
 use Rattle.sfv_tree.specs.Seeds.{ItemHasSeed}
@@ -15,20 +14,12 @@ use Rattle.sfv.specs.parser.Cursor.{kept, version}
 use Rattle.sfv.specs.parser.Members.{after_begin}
 use Rattle.sfv.proofs.trees.Errors.{Any, NoMemory, as_answer, as_fault, fails_after, member_ends}
 use Rattle.sfv.proofs.reads.Errors.{left_with, kept_reads}
-use Rattle.sfv.proofs.visits.InnerLists.{list_member_visits}
+use Rattle.sfv.proofs.visits.InnerLists.{list_member_visits, item_member_visits}
 use Rattle.sfv.proofs.visits.Parts.{kept_visits}
+use Rattle.sfv.proofs.trees.Parts.{member_list_some, member_item_some}
 use Rattle.sfv.proofs.trees.Loops.{seed_kept}
-use Rattle.sfv.proofs.trees.Parts.{member_list_some, member_item_some, later_fails, item_builds, member_item_fails}
 use Rattle.sfv.proofs.trees.Parts.{pushed_tree, pushed_seed}
 use Rattle.sfv.proofs.parser.cursor.Cursor.push_member.Goals as goal
-
-pub returns-in_err-items-clause-tree : goal.returns-in_err-items-clause-tree
-returns-in_err-items-clause-tree c =
-    rw (left_with c.from_residual.ensures.1) (as_fault (list_member_visits Any NoMemory (version c.args.self.now) _ _
-    tt tt tt (kept c.args.self.now) c.tree_inner_list.new.self (Err c.in_err-items.field-0.0)
-    c.if-take_if.ensures.takes tt
-    (kept_visits Any NoMemory after_begin inner_at c.take_if.new.self c.tree_inner_list.new.self tt tt _
-    (Err c.in_err-items.field-0.0) c.take_if.ensures.kept (as_answer c.in_err-items.ensures.tree))))
 
 pub returns-in_err-make_room-clause-tree : goal.returns-in_err-make_room-clause-tree
 returns-in_err-make_room-clause-tree c =
@@ -37,6 +28,14 @@ returns-in_err-make_room-clause-tree c =
     built.0 _ parameters_end (member_list_some _ _ _ _ _ c.if-take_if.ensures.takes
     (kept_reads inner_at _ _ _ c.take_if.ensures.kept ∙ built.1)) (member_ends built.0) tt
     c.in_err-make_room.ensures.failed)
+
+pub returns-in_err-items-clause-tree : goal.returns-in_err-items-clause-tree
+returns-in_err-items-clause-tree c =
+    rw (left_with c.from_residual.ensures.1) (as_fault (list_member_visits Any NoMemory (version c.args.self.now) _ _
+    tt tt tt (kept c.args.self.now) c.tree_inner_list.new.self (Err c.in_err-items.field-0.0)
+    c.if-take_if.ensures.takes tt
+    (kept_visits Any NoMemory after_begin inner_at c.take_if.new.self c.tree_inner_list.new.self tt tt _
+    (Err c.in_err-items.field-0.0) c.take_if.ensures.kept (as_answer c.in_err-items.ensures.tree))))
 
 pub returns-then-take_if-clause-tree : goal.returns-then-take_if-clause-tree
 returns-then-take_if-clause-tree c =
@@ -63,32 +62,25 @@ returns-then-take_if-clause-seed c h =
 
 pub returns-in_err-bare_item-clause-tree : goal.returns-in_err-bare_item-clause-tree
 returns-in_err-bare_item-clause-tree c =
-    rw (left_with c.from_residual-in_err-bare_item.ensures.1) (member_item_fails c.args.self.now c.take_if.new.self _
-    c.if-take_if.ensures.takes c.take_if.ensures.kept c.in_err-bare_item.ensures.failed)
-
-pub returns-in_err-element_parameters-clause-tree : goal.returns-in_err-element_parameters-clause-tree
-returns-in_err-element_parameters-clause-tree c =
-    let read = c.in_ok-bare_item.ensures.read in
-    rw (left_with c.from_residual-in_err-element_parameters.ensures.1) (member_item_fails c.args.self.now
-    c.take_if.new.self _ c.if-take_if.ensures.takes c.take_if.ensures.kept (later_fails c.take_if.new.self
-    c.owned_bare_item.new.self _ _ read.0 read.1 c.in_err-element_parameters.ensures.tree))
+    rw (left_with c.from_residual-in_err-bare_item.ensures.1) (as_fault (item_member_visits Any NoMemory (version c.args.self.now)
+    _ _ tt tt tt (kept c.args.self.now) c.element_item.new.self (Err c.in_err-bare_item.field-0.0)
+    c.if-take_if.ensures.takes tt
+    (kept_visits Any NoMemory item_events item_at c.take_if.new.self c.element_item.new.self tt tt _
+    (Err c.in_err-bare_item.field-0.0) c.take_if.ensures.kept (as_answer c.in_err-bare_item.ensures.tree))))
 
 pub returns-clause-tree : goal.returns-clause-tree
 returns-clause-tree c =
-    let read = c.in_ok-bare_item.ensures.read in
-    let built = item_builds c.take_if.new.self c.owned_bare_item.new.self c.element_parameters.new.self
-    (bare_value c.in_ok-bare_item.bare_item) c.element_parameters.new.params.entries read.0 read.1
-    c.in_ok-element_parameters.ensures.tree in (
+    let built = c.in_ok-bare_item.ensures.tree in (
       item built.0,
       member_item_some _ _ _ _ _ c.if-take_if.ensures.takes (kept_reads item_at _ _ _ c.take_if.ensures.kept
           ∙ built.1),
-      pushed_tree _ _ _ (entries.Item c.with_params-2.result) (item built.0) c.in_ok-element_parameters.ensures.items
+      pushed_tree _ _ _ (entries.Item c.with_params-2.result) (item built.0) c.in_ok-bare_item.ensures.items
           c.push_reserved-2.ensures.items (ap item (c.with_params-2.ensures.tree ∙ built.2)),
       built.3 ∙ c.take_if.ensures.kept,
     )
 
 pub returns-clause-seed : goal.returns-clause-seed
 returns-clause-seed c h =
-    pushed_seed c.args.self.now.parser.seed _ _ _ (entries.Item c.with_params-2.result)
-    c.in_ok-element_parameters.ensures.items c.push_reserved-2.ensures.items (ap hasher_of c.with_params-2.ensures.params
-    ∙ c.in_ok-element_parameters.ensures.seed ∙ c.with_hasher-params.ensures.hasher) h
+    pushed_seed c.args.self.now.parser.seed _ _ _ (entries.Item c.with_params-2.result) c.in_ok-bare_item.ensures.items
+    c.push_reserved-2.ensures.items (ap hasher_of c.with_params-2.ensures.params ∙ c.in_ok-bare_item.ensures.seed
+    ∙ c.with_hasher-params.ensures.hasher) h
