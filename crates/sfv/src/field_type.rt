@@ -26,8 +26,7 @@ use sfv_base::error::{Error, OutOfMemory};
 use sfv_spec::version::Version;
 use sfv_tree::parsed::{Dictionary, Item, List};
 use sfv_writer::{
-    SerializeError, check_dictionary, check_item, check_list, dictionary_text, item_text,
-    list_text,
+    SerializeError, check_dictionary, check_item, check_list, dictionary_text, item_text, list_text,
 };
 use std::alloc::Global;
 use std::string::String as StdString;

@@ -34,12 +34,10 @@ ghost use Rattle.sfv.specs.parser.Visits.{IsOfVisitor};
 use crate::parser::Parser;
 use crate::parser::cursor::Cursor;
 use crate::parser::item::ReadParameter;
-use indexmap::IndexMap;
 use sfv_bare::bare::{BareItem, BareItemFromInput, GenericBareItem};
 use sfv_base::error::{Error, ErrorKind, OutOfMemory, ParseError};
 use sfv_text::key::Key;
 use sfv_text::key_ref::KeyRef;
-use sfv_tree::hash_seed::HashSeed;
 use sfv_tree::parsed::{Dictionary, InnerList, Item, List, ListEntry, Parameters};
 use sfv_visitor::visitor::parameters::{MANY, fit};
 use std::alloc::Global;
@@ -100,25 +98,44 @@ fn own_key(key: KeyRef<'_>, alloc: Global) -> Result<Key, ParseError<OutOfMemory
     key.to_owned(alloc).map_err(ParseError::Visitor)
 }
 
-/// Inserts an entry, and returns the old value of the key. An existing key keeps its place and takes the new value; a
-/// new key goes last.
-// The caller drops the old value: here, where its type is not known, a call would drop it.
+/// Inserts an owned parameter. An existing key keeps its place and takes the new value; a new key goes last.
+// This and `enter_member` are one function for each type of values: with a type parameter, an old value is dropped by a
+// call, or moved to the caller.
 #[inline(always)]
-fn enter<V: Drop>(
-    map: &mut IndexMap<Key, V, HashSeed>,
+fn enter_parameter(
+    params: &mut Parameters,
     key: Key,
-    value: V,
-) -> Result<Option<V>, ParseError<OutOfMemory>>
-    ensures old { IfOk result (λ old. old ≡ get bytes_eq map.old key) }
-    ensures entries { OnOk result (map.new.entries ≡ insert_entry bytes_eq map.old.entries key value) }
-    ensures hasher { hasher_of map.new ≡ hasher_of map.old }
-    ensures unchanged { OnErr result (map.new.entries ≡ map.old.entries) }
-    ensures absent { OnErr result (get bytes_eq map.old key ≡ None) }
-    ensures full { OnErr result (spare map.old ≡ 0) }
+    value: BareItem,
+) -> Result<(), ParseError<OutOfMemory>>
+    ensures entries { OnOk result (params.new.entries ≡ insert_entry bytes_eq params.old.entries key value) }
+    ensures hasher { hasher_of params.new ≡ hasher_of params.old }
+    ensures unchanged { OnErr result (params.new.entries ≡ params.old.entries) }
+    ensures absent { OnErr result (get bytes_eq params.old key ≡ None) }
+    ensures full { OnErr result (spare params.old ≡ 0) }
     ensures failed { IfErr result (IsOfVisitor (λ _. ⊤)) }
 {
-    match map.insert(key, value) {
-        Ok(old) => Ok(old),
+    match params.insert(key, value) {
+        Ok(_) => Ok(()),
+        Err(_) => Err(ParseError::Visitor(OutOfMemory)),
+    }
+}
+
+/// Inserts a member, as `enter_parameter` inserts a parameter.
+#[inline(always)]
+fn enter_member(
+    dictionary: &mut Dictionary,
+    key: Key,
+    member: ListEntry,
+) -> Result<(), ParseError<OutOfMemory>>
+    ensures entries { OnOk result (dictionary.new.entries ≡ insert_entry bytes_eq dictionary.old.entries key member) }
+    ensures hasher { hasher_of dictionary.new ≡ hasher_of dictionary.old }
+    ensures unchanged { OnErr result (dictionary.new.entries ≡ dictionary.old.entries) }
+    ensures absent { OnErr result (get bytes_eq dictionary.old key ≡ None) }
+    ensures full { OnErr result (spare dictionary.old ≡ 0) }
+    ensures failed { IfErr result (IsOfVisitor (λ _. ⊤)) }
+{
+    match dictionary.insert(key, member) {
+        Ok(_) => Ok(()),
         Err(_) => Err(ParseError::Visitor(OutOfMemory)),
     }
 }
@@ -138,7 +155,7 @@ fn insert_parameter(
     let ReadParameter { key, value } = parameter;
     let key = own_key(key, alloc)?;
     let value = own(value, alloc)?;
-    enter(params, key, value)?;
+    enter_parameter(params, key, value)?;
     Ok(())
 }
 
@@ -364,7 +381,7 @@ impl<'de> Cursor<'de> {
         let key = own_key(key, self.alloc)?;
         let mut params = Parameters::with_hasher(self.alloc, self.parser.seed);
         let head = self.tree_member_value(&mut params)?;
-        enter(dictionary, key, head.with_params(params))?;
+        enter_member(dictionary, key, head.with_params(params))?;
         Ok(())
     }
 
