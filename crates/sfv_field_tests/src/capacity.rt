@@ -12,15 +12,16 @@ fn is_tight(capacity: usize, len: usize, least: usize) -> bool {
     capacity <= least || capacity.div_ceil(2) <= len
 }
 
-/// Returns `true` if parameters have no unused memory after 4,000 other members or items, and keep it before.
+/// Returns `true` if parameters have no unused memory after 4,000 other members and items, and keep it before.
 fn is_fit(params: &Parameters, place: usize) -> bool {
     (params.capacity() == params.len()) == (place >= 4_000)
 }
 
-fn are_items_fit(items: &Vec<Item>) -> bool {
+// `count` members come before the inner list.
+fn are_items_fit(items: &Vec<Item>, count: usize) -> bool {
     let mut holds = is_tight(items.capacity(), items.len(), 4);
     for (place, item) in items.iter().enumerate() {
-        holds &= is_fit(&item.params, place);
+        holds &= is_fit(&item.params, count.saturating_add(place));
     }
     holds
 }
@@ -28,7 +29,8 @@ fn are_items_fit(items: &Vec<Item>) -> bool {
 fn is_member_fit(member: &ListEntry, place: usize) -> bool {
     match member {
         ListEntry::Item(item) => is_fit(&item.params, place),
-        ListEntry::InnerList(list) => is_fit(&list.params, place) && are_items_fit(&list.items),
+        ListEntry::InnerList(list) => is_fit(&list.params, place)
+            && are_items_fit(&list.items, place),
     }
 }
 
@@ -40,11 +42,10 @@ fn is_list_fit(list: &List, count: usize) -> bool {
     holds
 }
 
-// The parameters of a dictionary's members keep their memory.
 fn is_dictionary_fit(dictionary: &Dictionary, count: usize) -> bool {
     let mut holds = dictionary.len() == count && is_tight(dictionary.capacity(), count, 9);
-    for (_, member) in dictionary.iter() {
-        holds &= is_member_fit(member, 0);
+    for (place, (_, member)) in dictionary.iter().enumerate() {
+        holds &= is_member_fit(member, place);
     }
     holds
 }

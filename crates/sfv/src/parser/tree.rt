@@ -220,16 +220,20 @@ impl<'de> Cursor<'de> {
         own(bare_item, self.alloc)
     }
 
-    /// Parses an item: returns its bare item, and fills `params`.
+    /// Parses an item: returns its bare item, and fills `params`. `count` other members come before.
     #[inline(always)]
-    fn tree_item(&mut self, params: &mut Parameters) -> Result<BareItem, ParseError<OutOfMemory>>
+    fn tree_item(
+        &mut self,
+        params: &mut Parameters,
+        count: usize,
+    ) -> Result<BareItem, ParseError<OutOfMemory>>
         requires { params.old.entries ≡ [] }
         ensures tree { Builds (λ bare_item. item_with bare_item params.new.entries) ordered_item item_events
             self.old self.new result item_at }
         ensures seed { hasher_of params.new ≡ hasher_of params.old }
     {
         let bare_item = self.owned_bare_item()?;
-        self.tree_parameters(params, 0)?;
+        self.tree_parameters(params, count)?;
         Ok(bare_item)
     }
 
@@ -239,6 +243,7 @@ impl<'de> Cursor<'de> {
         &mut self,
         params: &mut Parameters,
         items: &mut Vec<T>,
+        count: usize,
     ) -> Result<BareItem, ParseError<OutOfMemory>>
         requires { params.old.entries ≡ [] }
         ensures tree { Builds (λ bare_item. item_with bare_item params.new.entries) ordered_item item_events
@@ -248,14 +253,18 @@ impl<'de> Cursor<'de> {
         ensures room { OnOk result (length items.new.items < vec_capacity items.new) }
     {
         let bare_item = self.owned_bare_item()?;
-        self.tree_parameters(params, items.len())?;
+        self.tree_parameters(params, count)?;
         make_room(items)?;
         Ok(bare_item)
     }
 
-    /// Parses an item of an inner list, and appends it to `items`.
+    /// Parses an item of an inner list, and appends it to `items`. `count` members come before the inner list.
     #[inline(always)]
-    fn push_inner_item(&mut self, items: &mut Vec<Item>) -> Result<(), ParseError<OutOfMemory>>
+    fn push_inner_item(
+        &mut self,
+        items: &mut Vec<Item>,
+        count: usize,
+    ) -> Result<(), ParseError<OutOfMemory>>
         ensures tree { Builds (λ _. map item_tree items.new.items)
             (λ raw. map item_tree items.old.items ++ ordered_item raw ∷ []) inner_item_events
             self.old self.new result inner_item_at }
@@ -263,13 +272,14 @@ impl<'de> Cursor<'de> {
             → All (ItemHasSeed self.old.parser.seed) items.new.items) }
     {
         let mut params = Parameters::with_hasher(self.alloc, self.parser.seed);
-        let bare_item = self.element_item(&mut params, items)?;
+        let count = count.saturating_add(items.len());
+        let bare_item = self.element_item(&mut params, items, count)?;
         items.push_reserved(Item::with_params(bare_item, params));
         Ok(())
     }
 
-    /// Parses the items of an inner list after its opening parenthesis, with the closing one.
-    fn tree_inner_items(&mut self) -> Result<Vec<Item>, ParseError<OutOfMemory>>
+    /// Parses the items of an inner list after its opening parenthesis, with the closing one. `count` members come before.
+    fn tree_inner_items(&mut self, count: usize) -> Result<Vec<Item>, ParseError<OutOfMemory>>
         ensures tree { Builds (λ items. map item_tree items.items) (λ raw. map ordered_item raw)
             (λ raw. flat_map inner_item_events raw) self.old self.new result inner_items_at }
         ensures seed { IfOk result (λ items. All (ItemHasSeed self.old.parser.seed) items.items) }
@@ -283,9 +293,9 @@ impl<'de> Cursor<'de> {
         if self.take_if(b')') {
             return Ok(items);
         }
-        self.push_inner_item(&mut items)?;
+        self.push_inner_item(&mut items, count)?;
         while self.consume_item_delimiter()? {
-            self.push_inner_item(&mut items)?;
+            self.push_inner_item(&mut items, count)?;
         }
         Ok(items)
     }
@@ -304,14 +314,19 @@ impl<'de> Cursor<'de> {
         ensures seed { hasher_of params.new ≡ hasher_of params.old }
         ensures item_seeds { IfOk result (λ items. All (ItemHasSeed self.old.parser.seed) items.items) }
     {
-        let items = self.tree_inner_items()?;
+        let items = self.tree_inner_items(count)?;
         self.tree_parameters(params, count)?;
         Ok(items)
     }
 
-    /// Parses an item or an inner list: returns it without its parameters, and fills `params`.
+    /// Parses an item or an inner list: returns it without its parameters, and fills `params`. `count` other members come
+    /// before.
     #[inline(always)]
-    fn tree_member(&mut self, params: &mut Parameters) -> Result<Head, ParseError<OutOfMemory>>
+    fn tree_member(
+        &mut self,
+        params: &mut Parameters,
+        count: usize,
+    ) -> Result<Head, ParseError<OutOfMemory>>
         requires { params.old.entries ≡ [] }
         ensures tree { Builds (λ head. head_tree head params.new.entries) ordered_member member_events
             self.old self.new result member_at }
@@ -319,10 +334,10 @@ impl<'de> Cursor<'de> {
         ensures item_seeds { IfOk result (HeadHasSeed self.old.parser.seed) }
     {
         if self.take_if(b'(') {
-            let items = self.tree_inner_list(params, 0)?;
+            let items = self.tree_inner_list(params, count)?;
             return Ok(Head::InnerList(items));
         }
-        let bare_item = self.tree_item(params)?;
+        let bare_item = self.tree_item(params, count)?;
         Ok(Head::Item(bare_item))
     }
 
@@ -332,6 +347,7 @@ impl<'de> Cursor<'de> {
     fn tree_member_value(
         &mut self,
         params: &mut Parameters,
+        count: usize,
     ) -> Result<Head, ParseError<OutOfMemory>>
         requires { params.old.entries ≡ [] }
         ensures tree { Builds (λ head. head_tree head params.new.entries) ordered_member member_events
@@ -340,9 +356,9 @@ impl<'de> Cursor<'de> {
         ensures item_seeds { IfOk result (HeadHasSeed self.old.parser.seed) }
     {
         if self.take_if(b'=') {
-            return self.tree_member(params);
+            return self.tree_member(params, count);
         }
-        self.tree_parameters(params, 0)?;
+        self.tree_parameters(params, count)?;
         Ok(Head::Item(GenericBareItem::Boolean(true)))
     }
 
@@ -362,7 +378,8 @@ impl<'de> Cursor<'de> {
             list.push_reserved(ListEntry::InnerList(InnerList::with_params(items, params)));
             return Ok(());
         }
-        let bare_item = self.element_item(&mut params, list)?;
+        let count = list.len();
+        let bare_item = self.element_item(&mut params, list, count)?;
         list.push_reserved(ListEntry::Item(Item::with_params(bare_item, params)));
         Ok(())
     }
@@ -378,9 +395,10 @@ impl<'de> Cursor<'de> {
             → EntriesHaveSeed self.old.parser.seed dictionary.new.entries) }
     {
         let key = self.key()?;
-        let key = own_key(key, self.alloc)?;
         let mut params = Parameters::with_hasher(self.alloc, self.parser.seed);
-        let head = self.tree_member_value(&mut params)?;
+        let head = self.tree_member_value(&mut params, dictionary.len())?;
+        // After the value: if that is wrong, there is no copy.
+        let key = own_key(key, self.alloc)?;
         enter_member(dictionary, key, head.with_params(params))?;
         Ok(())
     }
@@ -444,7 +462,7 @@ pub(crate) fn parse_item(parser: Parser<'_>, alloc: Global) -> Result<Item, Erro
     let mut cursor = Cursor::new(parser, alloc);
     cursor.skip_sp();
     let mut params = Parameters::with_hasher(alloc, parser.seed);
-    match cursor.tree_item(&mut params) {
+    match cursor.tree_item(&mut params, 0) {
         Ok(bare_item) => {
             cursor.skip_sp();
             if cursor.peek().is_some() {

@@ -8,7 +8,7 @@ use Rattle.sfv.specs.parser.Cursor.{kept, version, rest}
 use Rattle.sfv.specs.parser.Trees.{HeadHasSeed}
 use Rattle.sfv.proofs.trees.Errors.{Any, NoMemory, as_answer, as_fault, fails_after, keyed_begins}
 use Rattle.sfv.proofs.reads.Errors.{left_with, kept_reads, ErrorOf-fault}
-use Rattle.sfv.proofs.visits.Keyed.{key_fails, keyed_fails, keyed_visits}
+use Rattle.sfv.proofs.visits.Keyed.{key_fails, keyed_visits}
 use Rattle.sfv.proofs.visits.Parts.{kept_visits}
 use Rattle.sfv.proofs.trees.Loops.{seed_kept}
 use Rattle.sfv.proofs.trees.Parts.{keyed_some, entered_tree, entered_seed}
@@ -19,11 +19,6 @@ returns-in_err-key-clause-tree c =
     rw (left_with c.from_residual.ensures.1) (as_fault (key_fails Any NoMemory (version c.args.self.now) (rest c.args.self.now)
     (kept c.args.self.now) _ tt (ErrorOf-fault _ _ _ c.in_err-key.ensures.read)))
 
-pub returns-in_err-key-2-clause-tree : goal.returns-in_err-key-2-clause-tree
-returns-in_err-key-2-clause-tree c =
-    rw (left_with c.from_residual-in_err-key-2.ensures.1) (as_fault (keyed_fails Any NoMemory (version c.args.self.now) _ _ _
-    tt tt (kept c.args.self.now) c.key.new.self _ c.in_ok-key.ensures.read.0 c.in_err-key-2.ensures.failed))
-
 pub returns-in_err-head-clause-tree : goal.returns-in_err-head-clause-tree
 returns-in_err-head-clause-tree c =
     rw (left_with c.from_residual-in_err-head.ensures.1) (as_fault (keyed_visits Any NoMemory (version c.args.self.now) _ _ _
@@ -31,6 +26,15 @@ returns-in_err-head-clause-tree c =
     c.in_ok-key.ensures.read.0 tt
     (kept_visits Any NoMemory member_events member_value_at c.key.new.self c.tree_member_value.new.self tt tt _
     (Err c.in_err-head.field-0.0) c.in_ok-key.ensures.read.1 (as_answer c.in_err-head.ensures.tree))))
+
+pub returns-in_err-key-2-clause-tree : goal.returns-in_err-key-2-clause-tree
+returns-in_err-key-2-clause-tree c =
+    let built = c.in_ok-head.ensures.tree in
+    let read = c.in_ok-key.ensures.read in
+    rw (left_with c.from_residual-in_err-key-2.ensures.1) (fails_after keyed_events c.args.self.now _ keyed_at
+    (key_text c.in_ok-key.key, built.0) _ (keyed_entry (key_text c.in_ok-key.key))
+    (keyed_some _ _ _ _ _ _ read.0 (kept_reads member_value_at _ _ _ read.1 ∙ built.1))
+    (keyed_begins (key_text c.in_ok-key.key) built.0) tt c.in_err-key-2.ensures.failed)
 
 pub returns-in_err-enter_member-clause-tree : goal.returns-in_err-enter_member-clause-tree
 returns-in_err-enter_member-clause-tree c =
