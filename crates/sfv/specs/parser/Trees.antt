@@ -6,7 +6,8 @@ use Rattle.sfv_spec.specs.declared.version.Version.{Version}
 use Rattle.sfv_spec.specs.Events.{TreeEvent}
 use Rattle.sfv_base.specs.declared.error.ParseError.{ParseError}
 use Rattle.sfv_base.specs.declared.error.OutOfMemory.{OutOfMemory}
-use Rattle.sfv_tree.specs.Trees.{OwnedBareItem, item_with, inner_list_with}
+use Rattle.sfv_tree.specs.Trees.{OwnedBareItem}
+use Rattle.sfv_tree.proofs.Words.{item_with, inner_list_with}
 use Rattle.sfv_tree.specs.Seeds.{ItemHasSeed}
 use Rattle.sfv_tree.specs.declared.hash_seed.HashSeed.{HashSeed}
 use Rattle.sfv_reading.specs.Reader.{Reader}

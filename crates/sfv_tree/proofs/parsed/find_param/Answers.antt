@@ -1,7 +1,7 @@
 use Rattle.std.proofs.Common.{rules, ◌≡◌, ◌∙◌, sym, ap, Some, None, option_map}
 use Rattle.std.specs.Prelude.{bytes_eq}
 use Rattle.std.specs.Map.{lookup}
-use Rattle.sfv_text.specs.KeyText.{key_text}
+use Rattle.sfv_text.specs.CheckedTexts.{text_of as key_text}
 use Rattle.sfv_bare.specs.BareItems.{bare_value}
 use Rattle.sfv_tree.proofs.Distinct.{param_found}
 use Rattle.sfv_tree.proofs.parsed.find_param.Goals as goal
