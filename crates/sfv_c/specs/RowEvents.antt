@@ -1,5 +1,5 @@
 -- The events of rows, and their order.
-use Rattle.std.specs.Prelude.{◌≡◌, MatchOption, ⊤, ℕ, ◌<◌, List, [], ◌∷◌, ◌++◌, length, Bool, true, false, IsTrue, Option, Some, None}
+use Rattle.std.specs.Prelude.{◌≡◌, MatchOption, ⊤, ℕ, List, [], ◌∷◌, ◌++◌, length, Bool, true, false, IsTrue, Option, Some, None}
 use Rattle.std.specs.Prelude.{if◌then◌else◌, Result, Ok, Err, option_map, string_bytes}
 use Rattle.std.specs.Borrow.{Bor}
 use Rattle.sfv.specs.Values.{RawField, BareValue, IsBareValue}
@@ -118,10 +118,29 @@ pub record StopsAt (bytes : List ℕ) (p : ParseState) (rows : List Row) (left :
   pub stuck : IsStuck bytes place rest
   pub count : left ≡ length rest
 
--- the reason to stop: so many rows are left, or memory ran out, which requires a row
+-- The event allocates in parameters that this place follows: a parameter does, and so does the end of parameters, which
+-- completes an item of an inner list or a member.
+abbrev pub takes_memory : TreeEvent → ParseState → Bool
+takes_memory (parameter key v) p = true
+takes_memory parameters_end ended = false
+takes_memory parameters_end p = true
+takes_memory e p = false
+
+-- Memory may run out: there are rows with events that lead from this place into parameters, and then a row with an
+-- event that allocates there.
+pub record RunsOut (bytes : List ℕ) (p : ParseState) (rows : List Row) : Type 0 where
+  pub es : List TreeEvent
+  pub last : TreeEvent
+  pub rest : List Row
+  pub place : ParseState
+  pub read : Reads bytes rows (es ++ last ∷ []) rest
+  pub leads : (more : List TreeEvent) → stops p (es ++ more) ≡ stops (parameters place) more
+  pub allocates : IsTrue (takes_memory last place)
+
+-- the reason to stop: so many rows are left, or memory ran out
 abbrev pub IsStop : List ℕ → ParseState → List Row → ParseStop → Type 0
 IsStop bytes p rows (stop.At left) = StopsAt bytes p rows left
-IsStop bytes p rows stop.Memory = 0 < length rows
+IsStop bytes p rows stop.Memory = RunsOut bytes p rows
 
 -- the rows are those of a field that the version has, and this is its text
 pub record IsTextOf (version : Version) (kind : FieldKind) (rows : List Row) (bytes : List ℕ) (text : Option (List ℕ))

@@ -155,8 +155,8 @@ pub extern "C" fn sfv_c_events_whole(
 ///
 /// No field, if the rows are those of no field of this type, with the index of the first that no field has there, or with
 /// their number, if more are wanted; unsupported, with the kind of the first value that the version doesn't have; out of
-/// memory, and only where there is a row; too small, with the length that is wanted; and nothing, of a list or a dictionary
-/// without members. The buffer is then as it was.
+/// memory, and only where the first two rows begin a field; too small, with the length that is wanted; and nothing, of a
+/// list or a dictionary without members. The buffer is then as it was.
 #[unsafe(no_mangle)]
 pub extern "C" fn sfv_c_write(
     alloc: Global,

@@ -2,7 +2,7 @@
 
 ghost use Rattle.std.specs.Prelude.{◌≡◌, ◌+◌, ◌<◌, ◌≤◌, [], IsOk, IfOk, OnOk, OnErr, IsTrue, None, map, bytes_eq};
 ghost use Rattle.std.specs.Prelude.{option_copied, option_map};
-ghost use Rattle.indexmap.specs.IndexMap.{get, hasher_of, insert_entry, spare};
+ghost use Rattle.indexmap.specs.IndexMap.{get, hasher_of, insert_entry, spare, IsUnique};
 ghost use Rattle.sfv_spec.specs.Ordered.{last_of, no_repeats};
 ghost use Rattle.sfv_spec.proofs.Marks.{keys};
 ghost use Rattle.sfv_bare.specs.BareItems.{bare_value};
@@ -183,34 +183,56 @@ impl Clone for ListEntry {
     }
 }
 
-/// Returns the member of a key in a dictionary (RFC 9651, section 3.2), or `None`. Does not allocate.
-///
-/// Compares the keys in order: the time is linear in the number of members.
-pub fn find_entry<'a>(dictionary: &'a Dictionary, key: KeyRef<'_>) -> Option<&'a ListEntry>
-    ensures value { option_copied result ≡ get bytes_eq dictionary.now (text_of key.entry) }
-    ensures last { found_member result ≡ last_of (text_of key.entry) (dictionary_tree dictionary.now.entries) }
-{
-    for (name, member) in dictionary.iter() {
-        if name.as_str() == key.as_str() {
-            return Some(member);
-        }
-    }
-    None
+// Returns the number of entries up to which comparing them one by one costs no more than a hash of the key. Keys of
+// more than eight bytes are hashed by SipHash, which takes longer.
+#[inline(always)]
+fn few(key: KeyRef<'_>) -> usize {
+    if key.as_str().len() > 8 { 16 } else { 6 }
 }
 
-/// Returns the value of a parameter (RFC 9651, section 3.1.2), or `None`. Does not allocate.
-///
-/// Compares the keys in order: the time is linear in the number of parameters.
-pub fn find_param<'a>(params: &'a Parameters, key: KeyRef<'_>) -> Option<&'a BareItem>
-    ensures value { option_copied result ≡ get bytes_eq params.now (text_of key.entry) }
-    ensures last { found_value result ≡ last_of (text_of key.entry) (pairs_tree params.now.entries) }
+// Returns the value of a key, or `None`, by the hash of the key.
+#[inline(never)]
+fn find_hashed<'a, V>(map: &'a IndexMap<Key, V, HashSeed>, key: KeyRef<'_>) -> Option<&'a V>
+    ensures { option_copied result ≡ get bytes_eq map.now (text_of key.entry) }
 {
-    for (name, value) in params.iter() {
+    map.get(key)
+}
+
+// Returns the value of a key, or `None`.
+#[inline(always)]
+fn find<'a, V>(map: &'a IndexMap<Key, V, HashSeed>, key: KeyRef<'_>) -> Option<&'a V>
+    ensures value { option_copied result ≡ get bytes_eq map.now (text_of key.entry) }
+    ensures unique { IsUnique bytes_eq map.now }
+{
+    if map.len() > few(key) {
+        return find_hashed(map, key);
+    }
+    for (name, value) in map.iter() {
         if name.as_str() == key.as_str() {
             return Some(value);
         }
     }
     None
+}
+
+/// Returns the member of a key in a dictionary (RFC 9651, section 3.2), or `None`. Does not allocate.
+///
+/// The same as `dictionary.get(key)`, but compares the keys of a small dictionary one by one, without a hash.
+pub fn find_entry<'a>(dictionary: &'a Dictionary, key: KeyRef<'_>) -> Option<&'a ListEntry>
+    ensures value { option_copied result ≡ get bytes_eq dictionary.now (text_of key.entry) }
+    ensures last { found_member result ≡ last_of (text_of key.entry) (dictionary_tree dictionary.now.entries) }
+{
+    find(dictionary, key)
+}
+
+/// Returns the value of a parameter (RFC 9651, section 3.1.2), or `None`. Does not allocate.
+///
+/// The same as `params.get(key)`, but compares the keys of few parameters one by one, without a hash.
+pub fn find_param<'a>(params: &'a Parameters, key: KeyRef<'_>) -> Option<&'a BareItem>
+    ensures value { option_copied result ≡ get bytes_eq params.now (text_of key.entry) }
+    ensures last { found_value result ≡ last_of (text_of key.entry) (pairs_tree params.now.entries) }
+{
+    find(params, key)
 }
 
 /// Inserts a member into a dictionary (RFC 9651, section 3.2), and returns the old member of the key, or `None`.

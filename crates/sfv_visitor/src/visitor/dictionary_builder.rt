@@ -123,8 +123,10 @@ impl DictionaryBuilder {
     {
         match self.member.stage {
             Stage::Held => self.insert_held(),
-            Stage::Within(MemberStage::Params) | Stage::Within(MemberStage::ListParams) =>
-                self.insert_last(),
+            Stage::Within(MemberStage::Params) | Stage::Within(MemberStage::ListParams) => {
+                self.member.fit_parameters(self.dictionary.len());
+                self.insert_last()
+            }
             _ => self.end_inner_parameters(),
         }
     }
@@ -141,7 +143,7 @@ impl DictionaryBuilder {
         ensures seed { OnOk result (KeepsDictionarySeed self.old self.new) }
     {
         self.member.push_held()?;
-        self.member.fit_parameters();
+        self.member.fit_parameters(self.dictionary.len());
         self.member.end_parameters();
         Ok(())
     }

@@ -327,32 +327,33 @@ impl ListBuilder {
         }
     }
 
-    // Releases the unused memory of the last member's parameters that have ended.
+    // Releases the unused memory of the last member's parameters that have ended. `count` members come before.
     #[inline(never)]
-    fn fit_last(&mut self)
+    fn fit_last(&mut self, count: usize)
         ensures state { list_state self.new ≡ list_state self.old }
         ensures stage { self.new.stage ≡ self.old.stage }
         ensures seed { KeepsListSeed self.old self.new }
     {
         if let Stage::Within(member_stage) = self.stage {
             if let Some(member) = self.list.last_mut() {
-                member_stage.fit(member);
+                member_stage.fit(member, count);
             }
         }
     }
 
-    // Releases the unused memory of the parameters that have ended, for one of many members, or of many items of an inner
-    // list.
+    // Releases the unused memory of the parameters that have ended, if they come after many members, or many items of an
+    // inner list. `count` members come before those of the list.
     #[inline(always)]
-    pub(crate) fn fit_parameters(&mut self)
+    pub(crate) fn fit_parameters(&mut self, count: usize)
         ensures state { list_state self.new ≡ list_state self.old }
         ensures stage { self.new.stage ≡ self.old.stage }
         ensures seed { KeepsListSeed self.old self.new }
     {
         if self.has_grown {
             self.has_grown = false;
-            if self.list.len() > MANY || self.stage == Stage::Within(MemberStage::InnerParams) {
-                self.fit_last();
+            let count = count.saturating_add(self.list.len().saturating_sub(1));
+            if count >= MANY || self.stage == Stage::Within(MemberStage::InnerParams) {
+                self.fit_last(count);
             }
         }
     }
@@ -417,7 +418,7 @@ impl ListBuilder {
             }
             Event::ParametersEnd => {
                 self.push_held()?;
-                self.fit_parameters();
+                self.fit_parameters(0);
                 self.end_parameters();
             }
             Event::InnerListEnd => self.end_inner_list(),

@@ -230,13 +230,14 @@ impl MemberStage {
         Ok(())
     }
 
-    // Releases the unused memory of the parameters of the last item, if there are many items.
+    // Releases the unused memory of the parameters of the last item, if it comes after many. `count` members come before
+    // the inner list.
     #[inline(always)]
-    fn fit_last(items: &mut Vec<Item>)
+    fn fit_last(items: &mut Vec<Item>, count: usize)
         ensures tree { map item_tree items.new.items ≡ map item_tree items.old.items }
         ensures seed { (seed : HashSeed) → All (ItemHasSeed seed) items.old.items → All (ItemHasSeed seed) items.new.items }
     {
-        if items.len() <= MANY {
+        if count.saturating_add(items.len()) <= MANY {
             return;
         }
         if let Some(item) = items.last_mut() {
@@ -244,16 +245,17 @@ impl MemberStage {
         }
     }
 
-    /// Releases the unused memory of the member's parameters that have ended.
+    /// Releases the unused memory of the member's parameters that have ended. For an item of an inner list, this needs many
+    /// items or members before it; `count` members come before the inner list.
     #[inline(always)]
-    pub(crate) fn fit(self, member: &mut ListEntry)
+    pub(crate) fn fit(self, member: &mut ListEntry, count: usize)
         ensures tree { member_tree member.new ≡ member_tree member.old }
         ensures seed { KeepsSeed member.old member.new }
     {
         match member {
             ListEntry::Item(item) => fit(&mut item.params),
             ListEntry::InnerList(list) => match self {
-                MemberStage::InnerParams => MemberStage::fit_last(&mut list.items),
+                MemberStage::InnerParams => MemberStage::fit_last(&mut list.items, count),
                 _ => fit(&mut list.params),
             },
         }

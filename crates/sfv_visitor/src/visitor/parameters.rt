@@ -30,8 +30,8 @@ pub(crate) fn insert_parameter(
     Ok(())
 }
 
-/// The number of members, or of items of an inner list, above which unused memory of parameters is released. In a shorter
-/// list that memory is small, and the release takes longer than it saves.
+/// The number of members, or of members and items of an inner list, after which unused memory of parameters is released.
+/// Before, that memory is small, and the release takes longer than it saves.
 pub const MANY: usize = 4000;
 
 /// Releases the unused memory of complete parameters. At its first entry, a map allocates room for nine.

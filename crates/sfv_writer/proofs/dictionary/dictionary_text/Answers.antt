@@ -16,12 +16,6 @@ returns-then-is_empty-clause-text c =
 pub returns-in_err-serialize_dictionary-clause-out_of_memory : goal.returns-in_err-serialize_dictionary-clause-out_of_memory
 returns-in_err-serialize_dictionary-clause-out_of_memory c =
     let some : 0 < length c.args.dictionary.now.entries = search rules in
-    anyway (HasMember dictionary_field (dictionary_tree c.args.dictionary.now.entries)) c.from_residual-in_err-serialize_dictionary.result
-    (first_of_some entry_tree c.args.dictionary.now.entries some)
-
-pub returns-in_err-text-clause-out_of_memory : goal.returns-in_err-text-clause-out_of_memory
-returns-in_err-text-clause-out_of_memory c =
-    let some : 0 < length c.args.dictionary.now.entries = search rules in
     anyway (HasMember dictionary_field (dictionary_tree c.args.dictionary.now.entries)) c.from_residual.result
     (first_of_some entry_tree c.args.dictionary.now.entries some)
 
@@ -32,5 +26,5 @@ returns-clause-text c =
       first_of_some entry_tree c.args.dictionary.now.entries some,
       written dictionary_field members _ c.in_ok-serialize_dictionary.ensures.value
           (c.in_ok-serialize_dictionary.ensures.text
-          ∙ ap (λ (s : List ℕ). s ++ canonical dictionary_field members) c.in_ok-text.ensures.bytes),
+          ∙ ap (λ (s : List ℕ). s ++ canonical dictionary_field members) c.text_for_members-text.ensures.bytes),
     )

@@ -1,0 +1,93 @@
+//! Fields of 1 MB. Each is parsed to a tree and written once, by a process of its own, which has its memory for itself.
+
+use crate::cases::{accepted, Case};
+use crate::{processor_time, Task};
+use sfv_c::{DICTIONARY, LIST};
+use std::process::Command;
+
+const BYTES: usize = 1 << 20;
+const ROUNDS: u32 = 7;
+
+fn list(name: &'static str, member: &str) -> Case {
+    let field = format!("{member},").repeat(BYTES / (member.len() + 1)) + member;
+    accepted(name, LIST, field)
+}
+
+fn inner_list(name: &'static str, item: &str) -> Case {
+    let field = format!("({})", format!("{item} ").repeat(BYTES / (item.len() + 1)));
+    accepted(name, LIST, field)
+}
+
+fn dictionary(name: &'static str, value: &str) -> Case {
+    let members = (0..BYTES / (value.len() + 7)).map(|n| format!("k{n}{value}"));
+    accepted(name, DICTIONARY, members.collect::<Vec<_>>().join(","))
+}
+
+fn all() -> Vec<Case> {
+    vec![
+        list("`()`", "()"),
+        list("`1`", "1"),
+        list("`\"\\\\\"`", "\"\\\\\""),
+        list("`a;b=1, (c;d);e`", "a;b=1,(c;d);e"),
+        list("`?1;a`", "?1;a"),
+        list("`a;a`", "a;a"),
+        list("`();a`", "();a"),
+        inner_list("inner list of `a;a`", "a;a"),
+        dictionary("dictionary of `k0`, ..", ""),
+        dictionary("dictionary of `k0;a`, ..", ";a"),
+        dictionary("dictionary of `k0=(c;d);e`, ..", "=(c;d);e"),
+    ]
+}
+
+/// The largest memory that this process has had, in kilobytes.
+fn peak() -> u64 {
+    let status = std::fs::read_to_string("/proc/self/status").unwrap_or_default();
+    let peak = status.lines().find_map(|line| line.strip_prefix("VmHWM:"));
+    peak.and_then(|peak| peak.trim().strip_suffix(" kB")?.parse().ok()).expect("Linux names the peak")
+}
+
+/// Runs one side on a field, and prints the time and the peak.
+pub fn run_one(side: &str, place: usize) {
+    let case = all().swap_remove(place);
+    let start = processor_time();
+    match side {
+        "ours" => {
+            crate::Ours::writing(&case).run(&case, Task::Canonical);
+        }
+        #[cfg(feature = "theirs")]
+        "theirs" => crate::theirs::Theirs::parsing().run(&case, Task::Canonical),
+        _ => panic!("no side {side}"),
+    }
+    println!("{} {}", processor_time() - start, peak());
+}
+
+/// The least time of a side in nanoseconds, and its least peak.
+fn least(side: &str, place: usize) -> (f64, f64) {
+    let program = std::env::current_exe().expect("the program has a path");
+    let (mut time, mut memory) = (f64::MAX, f64::MAX);
+    for _ in 0..ROUNDS {
+        let run = Command::new(&program).args(["one", side, &place.to_string()]).output().expect("the program runs");
+        assert!(run.status.success(), "{side} {place}");
+        let line = String::from_utf8(run.stdout).expect("two numbers");
+        let (this_time, this_memory) = line.trim().split_once(' ').expect("two numbers");
+        time = time.min(this_time.parse().expect("a time"));
+        memory = memory.min(this_memory.parse().expect("a number"));
+    }
+    (time, memory)
+}
+
+pub fn print() {
+    println!("\nFields of 1 MB, each parsed to a tree and written by a process of its own, least of {ROUNDS} runs.\n");
+    println!("| field of 1 MB | time | ms | peak memory | MB |\n|---|--:|--:|--:|--:|");
+    for (place, case) in all().iter().enumerate() {
+        let (time, memory) = least("ours", place);
+        let ratios = cfg!(feature = "theirs").then(|| least("theirs", place));
+        let (times, memories) = match ratios {
+            Some((their_time, their_memory)) => {
+                (format!("{:.2}", time / their_time), format!("{:.2}", memory / their_memory))
+            }
+            None => (String::new(), String::new()),
+        };
+        println!("| {} | {times} | {:.1} | {memories} | {:.1} |", case.name, time / 1e6, memory / 1e3);
+    }
+}
