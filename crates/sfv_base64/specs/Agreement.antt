@@ -7,7 +7,7 @@ use Rattle.base64.specs.GeneralPurpose.{IsBytes, IsConfig, decode_of, encode_of,
 use Rattle.std.specs.declared.result.Result.TheVariants.{Ok}
 use Rattle.base64.specs.declared.decode.DecodeAllocError.{DecodeAllocError}
 use Rattle.base64.specs.declared.decode.DecodeAllocError.TheVariants.{DecodeError, OutOfMemory}
-use Rattle.sfv_spec.specs.Ascii.{equals_sign}
+use Rattle.sfv_spec.specs.Ascii.{byte}
 use Rattle.sfv_spec.specs.Values.{byte_sequence}
 use Rattle.sfv_spec.specs.Base64.{IsBase64Text, symbols}
 use Rattle.sfv_spec.specs.Canonical.{bare_text}
@@ -15,7 +15,7 @@ use Rattle.sfv_spec.specs.Canonical.{bare_text}
 -- an engine of `base64` with the standard alphabet, which accepts missing padding and spare bits of any value
 pub record IsLenient (engine : GeneralPurpose) : Type 0 where
   pub alphabet : engine_symbols engine ≡ symbols
-  pub padding : engine_padding engine ≡ equals_sign
+  pub padding : engine_padding engine ≡ byte "="
   pub config : IsConfig (engine_config engine) true true Indifferent
 
 -- the canonical text of a byte sequence is what `base64` encodes, with the standard alphabet and padding, between colons

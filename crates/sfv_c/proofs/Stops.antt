@@ -12,7 +12,8 @@ use Rattle.sfv.specs.Events.{entry_events, keyed_events, begins_inner_list, bare
 use Rattle.sfv.specs.Classes.{is_key}
 use Rattle.sfv.specs.Values.{BareValue, IsBareValue, RawParameters, RawItem, RawMember, item, inner_list}
 use Rattle.sfv.specs.Calls.{written, supplied_member}
-use Rattle.sfv.specs.KeyText.{KeyRef, key_text}
+use Rattle.sfv.specs.KeyText.{KeyRef}
+use Rattle.sfv.specs.CheckedTexts.{text_of as key_text}
 use Rattle.sfv.specs.Scripts.{item_of_calls, member_calls, supplied_list, described_list, supplied_dictionary, described_dictionary}
 use Rattle.sfv.specs.Types.{ItemCalls, MemberCalls}
 use Rattle.sfv_c.specs.declared.rows.Row.{Row}

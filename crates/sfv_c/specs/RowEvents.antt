@@ -12,7 +12,8 @@ use Rattle.sfv.specs.BareItems.{ref_value}
 use Rattle.sfv.specs.StringText.{StringRef}
 use Rattle.sfv.specs.TokenText.{TokenRef}
 use Rattle.sfv.specs.Types.{GenericBareItem, ParamCall}
-use Rattle.sfv.specs.KeyText.{KeyRef, key_text}
+use Rattle.sfv.specs.KeyText.{KeyRef}
+use Rattle.sfv.specs.CheckedTexts.{text_of}
 use Rattle.sfv_c.specs.Rows.{ValueNumbers, EventNumbers, value_numbers}
 use Rattle.sfv_c.specs.Writing.{IsRowOf, IsScriptText, AreRowsOfField, IsWriteFault}
 use Rattle.sfv_c.specs.declared.answer.CallFault.{CallFault}
@@ -45,7 +46,7 @@ plain_numbers tag = record { tag = tag; key = []; value = value_numbers None }
 -- `Some` key whose `keyed_entry` satisfies `Is`, or no valid one does
 abbrev pub GivesKey : (TreeEvent → Type 0) → Option KeyRef → Type 0
 GivesKey Is r = MatchOption r ((key : List ℕ) → IsTrue (is_key key) → ¬ Is (keyed_entry key))
-    (λ key. IsTrue (is_key (key_text key)) × Is (keyed_entry (key_text key)))
+    (λ key. IsTrue (is_key (text_of key)) × Is (keyed_entry (text_of key)))
 
 -- `Some` value whose `bare_item` satisfies `Is`, or no valid one does
 abbrev pub GivesValue : (TreeEvent → Type 0) → Option RefItem → Type 0
@@ -56,8 +57,8 @@ GivesValue Is r = MatchOption r ((v : BareValue) → IsBareValue v → ¬ Is (ba
 abbrev pub GivesParameter : (TreeEvent → Type 0) → Option ParamCall → Type 0
 GivesParameter Is r =
     MatchOption r ((key : List ℕ) (v : BareValue) → IsTrue (is_key key) → IsBareValue v → ¬ Is (parameter key v))
-    (λ call. IsTrue (is_key (key_text call.key)) × IsBareValue (ref_value call.value)
-    × Is (parameter (key_text call.key) (ref_value call.value)))
+    (λ call. IsTrue (is_key (text_of call.key)) × IsBareValue (ref_value call.value)
+    × Is (parameter (text_of call.key) (ref_value call.value)))
 
 -- the rows are those of these valid events, followed by these rows
 abbrev pub Reads : List ℕ → List Row → List TreeEvent → List Row → Type 0

@@ -6,15 +6,15 @@ ghost use Rattle.std.specs.Iterator.{IsFinite, Drains};
 ghost use Rattle.sfv_spec.specs.Classes.{is_key, is_token};
 ghost use Rattle.sfv_spec.specs.Values.{IsBareValue, AreParameters, boolean};
 ghost use Rattle.sfv_spec.specs.declared.field_kind.FieldKind.TheVariants.{Item as item_field};
-ghost use Rattle.sfv_spec.specs.Ordered.{keys, no_repeats};
+ghost use Rattle.sfv_spec.specs.Ordered.{no_repeats};
+ghost use Rattle.sfv_spec.proofs.Marks.{keys};
 ghost use Rattle.sfv_spec.specs.Grammar.{boolean_text};
 ghost use Rattle.sfv_spec.specs.Canonical.{bare_text, value_text, parameters_text, item_text};
 ghost use Rattle.sfv_spec.specs.declared.version.Version.TheVariants.{Rfc9651};
 ghost use Rattle.sfv_spec.specs.Statements.{IsValue, IsSerializedAs};
 ghost use Rattle.sfv_spec.specs.Values.{AllFit};
 ghost use Rattle.sfv_bare.specs.BareItems.{ref_value, bare_value};
-ghost use Rattle.sfv_text.specs.KeyText.{key_text};
-ghost use Rattle.sfv_text.specs.TokenText.{token_text};
+ghost use Rattle.sfv_text.specs.CheckedTexts.{text_of};
 ghost use Rattle.sfv_tree.specs.Trees.{pairs_tree, item_tree};
 ghost use Rattle.sfv_writer.specs.Written.{AsksForRoom, Appends, Extends, param_text, lent_pairs};
 ghost use Rattle.sfv_writer.specs.Versions.{FailsAmong, FailsFrom, LacksAmong, StopsEarly, parameter_pairs};
@@ -46,9 +46,9 @@ pub fn serialize_key<A: Allocator>(
     key: KeyRef<'_>,
     output: &mut StdString<A>,
 ) -> Result<(), OutOfMemory>
-    ensures text { Appends output.old output.new (key_text key.entry) result }
-    ensures room { AsksForRoom output.old output.new (key_text key.entry) result }
-    ensures key { IsTrue (is_key (key_text key.entry)) }
+    ensures text { Appends output.old output.new (text_of key.entry) result }
+    ensures room { AsksForRoom output.old output.new (text_of key.entry) result }
+    ensures key { IsTrue (is_key (text_of key.entry)) }
 {
     output.push_str(key.as_str())?;
     Ok(())
@@ -64,9 +64,9 @@ pub fn serialize_token<A: Allocator>(
     value: TokenRef<'_>,
     output: &mut StdString<A>,
 ) -> Result<(), OutOfMemory>
-    ensures text { Appends output.old output.new (token_text value.entry) result }
-    ensures room { AsksForRoom output.old output.new (token_text value.entry) result }
-    ensures token { IsTrue (is_token (token_text value.entry)) }
+    ensures text { Appends output.old output.new (text_of value.entry) result }
+    ensures room { AsksForRoom output.old output.new (text_of value.entry) result }
+    ensures token { IsTrue (is_token (text_of value.entry)) }
 {
     output.push_str(value.as_str())?;
     Ok(())

@@ -3,8 +3,8 @@ use Rattle.std.proofs.Common.{◌≡◌, ℕ, true, false, List, [], ◌∷◌, 
 use Rattle.std.specs.Prelude.{is_some}
 use Rattle.std.specs.List.{Contains}
 use Rattle.std.specs.declared.alloc.Global.{Global}
-use Rattle.sfv_spec.specs.Ascii.{backslash, percent_sign, colon}
-use Rattle.sfv_spec.specs.Classes.{is_space}
+use Rattle.sfv_spec.proofs.Marks.{backslash, percent_sign, colon}
+use Rattle.sfv_spec.proofs.Marks.{is_space}
 use Rattle.sfv_spec.specs.Values.{RawItem}
 use Rattle.sfv_spec.specs.Events.{TreeEvent, item_events}
 use Rattle.sfv_spec.specs.Ordered.{ordered_item}

@@ -2,7 +2,7 @@
 use Rattle.std.specs.Prelude.{◌≡◌, ℕ, ◌+◌, ◌*◌, ◌/◌, ◌%◌, ◌≤◌, ◌⊎◌, List, [], ◌∷◌, length, take, drop, replicate, map}
 use Rattle.std.specs.Prelude.{◌==◌, slice_index, if◌then◌else◌, IsTrue}
 use Rattle.std.specs.List.{list_all}
-use Rattle.sfv_spec.specs.Ascii.{equals_sign}
+use Rattle.sfv_spec.proofs.Marks.{equals_sign}
 use Rattle.sfv_spec.specs.Base64.{symbols}
 use Rattle.sfv_spec.specs.Texts.{RunOf}
 use Rattle.sfv_spec.proofs.Marks.{is_symbol, slash}

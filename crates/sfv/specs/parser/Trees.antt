@@ -10,7 +10,8 @@ use Rattle.sfv_base.specs.declared.error.ParseError.{ParseError}
 use Rattle.sfv_base.specs.declared.error.ParseError.TheVariants.{Syntax, Visitor}
 use Rattle.sfv_base.specs.declared.error.OutOfMemory.{OutOfMemory}
 use Rattle.sfv_bare.specs.BareItems.{is_text}
-use Rattle.sfv_tree.specs.Trees.{OwnedBareItem, item_with, inner_list_with}
+use Rattle.sfv_tree.specs.Trees.{OwnedBareItem}
+use Rattle.sfv_tree.proofs.Words.{item_with, inner_list_with}
 use Rattle.sfv_tree.specs.Seeds.{ItemHasSeed}
 use Rattle.sfv_tree.specs.declared.hash_seed.HashSeed.{HashSeed}
 use Rattle.sfv_reading.specs.Reader.{Reader, visited}

@@ -14,8 +14,9 @@ ghost use Rattle.sfv_spec.specs.Ordered.{collapse, ordered_item, ordered_member}
 ghost use Rattle.sfv_spec.specs.Events.{parameters_events, item_events, inner_item_events, member_events};
 ghost use Rattle.sfv_spec.specs.Events.{entry_events, keyed_events};
 ghost use Rattle.sfv_bare.specs.BareItems.{bare_value, input_value, is_borrowed};
-ghost use Rattle.sfv_text.specs.KeyText.{key_text};
-ghost use Rattle.sfv_tree.specs.Trees.{pairs_tree, item_with, item_tree, inner_list_with, member_tree, list_tree};
+ghost use Rattle.sfv_text.specs.CheckedTexts.{text_of};
+ghost use Rattle.sfv_tree.specs.Trees.{pairs_tree, item_tree, member_tree, list_tree};
+ghost use Rattle.sfv_tree.proofs.Words.{item_with, inner_list_with};
 ghost use Rattle.sfv_tree.specs.Trees.{dictionary_tree};
 ghost use Rattle.sfv_tree.specs.Seeds.{ItemHasSeed, MemberHasSeed, ListHasSeed, EntriesHaveSeed};
 ghost use Rattle.sfv_tree.specs.Seeds.{DictionaryHasSeed};
@@ -92,7 +93,7 @@ fn own(item: BareItemFromInput<'_>, alloc: Global) -> Result<BareItem, ParseErro
 /// Returns the same key with owned text. A key has at least one byte, so each copy requests memory.
 #[inline(always)]
 fn own_key(key: KeyRef<'_>, alloc: Global) -> Result<Key, ParseError<OutOfMemory>>
-    ensures value { IfOk result (λ owned. owned ≡ key_text key.entry) }
+    ensures value { IfOk result (λ owned. owned ≡ text_of key.entry) }
     ensures failed { IfErr result (IsOfVisitor (λ _. ⊤)) }
 {
     key.to_owned(alloc).map_err(ParseError::Visitor)
@@ -149,7 +150,7 @@ fn insert_parameter(
 ) -> Result<(), ParseError<OutOfMemory>>
     ensures seed { hasher_of params.new ≡ hasher_of params.old }
     ensures entries { OnOk result (pairs_tree params.new.entries ≡ insert_entry bytes_eq
-        (pairs_tree params.old.entries) (key_text parameter.entry.key) (input_value parameter.entry.value)) }
+        (pairs_tree params.old.entries) (text_of parameter.entry.key) (input_value parameter.entry.value)) }
     ensures failed { IfErr result (IsOfVisitor (λ _. ⊤)) }
 {
     let ReadParameter { key, value } = parameter;

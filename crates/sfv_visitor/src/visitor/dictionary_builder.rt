@@ -3,7 +3,7 @@
 ghost use Rattle.std.specs.Prelude.{◌≡◌, ⊤, false, true, OnOk, OnErr, IsTrue, IsSome};
 ghost use Rattle.indexmap.specs.IndexMap.{hasher_of};
 ghost use Rattle.sfv_spec.specs.Events as tree;
-ghost use Rattle.sfv_text.specs.KeyText.{key_text};
+ghost use Rattle.sfv_text.specs.CheckedTexts.{text_of};
 ghost use Rattle.sfv_tree.specs.Trees.{dictionary_tree};
 ghost use Rattle.sfv_visitor.specs.Events.{event_of, is_moved};
 ghost use Rattle.sfv_visitor.specs.Builders.{dictionary_step, dictionary_state, dictionary_members, begun, within_pair};
@@ -60,7 +60,7 @@ impl DictionaryBuilder {
     #[inline(never)]
     fn begin(&mut self, key: KeyRef<'_>) -> Result<(), OutOfMemory>
         ensures state { OnOk result (dictionary_state self.new
-            ≡ within_pair (dictionary_tree self.old.dictionary.entries) (key_text key.entry) begun) }
+            ≡ within_pair (dictionary_tree self.old.dictionary.entries) (text_of key.entry) begun) }
         ensures seed { OnOk result (KeepsDictionarySeed self.old self.new) }
     {
         self.key = Some(key.to_owned(*self.dictionary.allocator())?);

@@ -3,7 +3,7 @@
 ghost use Rattle.std.specs.Prelude.{◌≡◌, ◌<◌, ⊤, false, OnOk, OnErr, IsTrue, option_map, length, vec_capacity};
 ghost use Rattle.sfv_spec.specs.Events as tree;
 ghost use Rattle.sfv_bare.specs.BareItems.{bare_value, input_value, is_borrowed};
-ghost use Rattle.sfv_text.specs.KeyText.{key_text};
+ghost use Rattle.sfv_text.specs.CheckedTexts.{text_of};
 ghost use Rattle.sfv_tree.specs.Trees.{list_tree};
 ghost use Rattle.sfv_visitor.specs.Events.{event_of, is_moved};
 ghost use Rattle.sfv_visitor.specs.Builders.{between, list_step, list_state, list_members, list_takes_memory, list_seed};
@@ -384,10 +384,10 @@ impl ListBuilder {
     ) -> Result<(), OutOfMemory>
         requires { is_held self.old.stage ≡ false }
         ensures state { OnOk result (list_state self.new
-            ≡ list_step (list_state self.old) (tree.parameter (key_text key.entry) (input_value value.entry))) }
+            ≡ list_step (list_state self.old) (tree.parameter (text_of key.entry) (input_value value.entry))) }
         ensures seed { OnOk result (KeepsListSeed self.old self.new) }
         ensures out_of_memory { OnErr result (IsTrue (list_takes_memory (list_state self.old)
-            (tree.parameter (key_text key.entry) (input_value value.entry)))) }
+            (tree.parameter (text_of key.entry) (input_value value.entry)))) }
     {
         let alloc = *self.list.allocator();
         if let Stage::Within(member_stage) = self.stage {

@@ -3,7 +3,7 @@
 ghost use Rattle.std.specs.Prelude.{◌≡◌, ◌<◌, Some, IfOk, OnOk, OnErr, IsTrue, All, is_some, length, map, option_map};
 ghost use Rattle.sfv_spec.specs.Events as tree;
 ghost use Rattle.sfv_bare.specs.BareItems.{bare_value, input_value, is_borrowed};
-ghost use Rattle.sfv_text.specs.KeyText.{key_text};
+ghost use Rattle.sfv_text.specs.CheckedTexts.{text_of};
 ghost use Rattle.sfv_tree.specs.Trees.{item_tree, member_tree};
 ghost use Rattle.sfv_tree.specs.Seeds.{ItemHasSeed, MemberHasSeed};
 ghost use Rattle.sfv_tree.specs.declared.hash_seed.HashSeed.{HashSeed};
@@ -76,10 +76,10 @@ impl MemberStage {
         value: BareItemFromInput<'_>,
     ) -> Result<(), OutOfMemory>
         ensures state { OnOk result (Enters (state_in member_stages.Params) (member_tree member.old)
-            (key_text key.entry) (input_value value.entry) (member_tree member.new)) }
+            (text_of key.entry) (input_value value.entry) (member_tree member.new)) }
         ensures seed { OnOk result (KeepsSeed member.old member.new) }
         ensures out_of_memory { OnErr result (TakesMemoryIn (state_in member_stages.Params (member_tree member.old)) (member_tree member.old)
-            (tree.parameter (key_text key.entry) (input_value value.entry))) }
+            (tree.parameter (text_of key.entry) (input_value value.entry))) }
     {
         match member {
             ListEntry::Item(item) => insert_parameter(alloc, &mut item.params, key, value),
@@ -96,10 +96,10 @@ impl MemberStage {
         value: BareItemFromInput<'_>,
     ) -> Result<(), OutOfMemory>
         ensures state { OnOk result (Enters (state_in member_stages.ListParams) (member_tree member.old)
-            (key_text key.entry) (input_value value.entry) (member_tree member.new)) }
+            (text_of key.entry) (input_value value.entry) (member_tree member.new)) }
         ensures seed { OnOk result (KeepsSeed member.old member.new) }
         ensures out_of_memory { OnErr result (TakesMemoryIn (state_in member_stages.ListParams (member_tree member.old)) (member_tree member.old)
-            (tree.parameter (key_text key.entry) (input_value value.entry))) }
+            (tree.parameter (text_of key.entry) (input_value value.entry))) }
     {
         match member {
             ListEntry::InnerList(list) => insert_parameter(alloc, &mut list.params, key, value),
@@ -115,7 +115,7 @@ impl MemberStage {
         key: KeyRef<'_>,
         value: BareItemFromInput<'_>,
     ) -> Result<(), OutOfMemory>
-        ensures state { OnOk result (EntersLast (map item_tree items.old.items) (key_text key.entry)
+        ensures state { OnOk result (EntersLast (map item_tree items.old.items) (text_of key.entry)
             (input_value value.entry) (map item_tree items.new.items)) }
         ensures seed { OnOk result ((seed : HashSeed) → All (ItemHasSeed seed) items.old.items
             → All (ItemHasSeed seed) items.new.items) }
@@ -139,10 +139,10 @@ impl MemberStage {
         value: BareItemFromInput<'_>,
     ) -> Result<(), OutOfMemory>
         ensures state { OnOk result (Enters (state_in member_stages.InnerParams) (member_tree member.old)
-            (key_text key.entry) (input_value value.entry) (member_tree member.new)) }
+            (text_of key.entry) (input_value value.entry) (member_tree member.new)) }
         ensures seed { OnOk result (KeepsSeed member.old member.new) }
         ensures out_of_memory { OnErr result (TakesMemoryIn (state_in member_stages.InnerParams (member_tree member.old)) (member_tree member.old)
-            (tree.parameter (key_text key.entry) (input_value value.entry))) }
+            (tree.parameter (text_of key.entry) (input_value value.entry))) }
     {
         match member {
             ListEntry::InnerList(list) => {
@@ -163,10 +163,10 @@ impl MemberStage {
         value: BareItemFromInput<'_>,
     ) -> Result<(), OutOfMemory>
         ensures state { OnOk result (Enters (state_in self) (member_tree member.old)
-            (key_text key.entry) (input_value value.entry) (member_tree member.new)) }
+            (text_of key.entry) (input_value value.entry) (member_tree member.new)) }
         ensures seed { OnOk result (KeepsSeed member.old member.new) }
         ensures out_of_memory { OnErr result (TakesMemoryIn (state_in self (member_tree member.old)) (member_tree member.old)
-            (tree.parameter (key_text key.entry) (input_value value.entry))) }
+            (tree.parameter (text_of key.entry) (input_value value.entry))) }
     {
         match self {
             MemberStage::Params => MemberStage::parameter_of_item(alloc, member, key, value),

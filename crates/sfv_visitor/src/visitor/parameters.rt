@@ -3,7 +3,7 @@
 ghost use Rattle.std.specs.Prelude.{◌≡◌, OnOk, bytes_eq};
 ghost use Rattle.indexmap.specs.IndexMap.{hasher_of, insert_entry};
 ghost use Rattle.sfv_bare.specs.BareItems.{input_value};
-ghost use Rattle.sfv_text.specs.KeyText.{key_text};
+ghost use Rattle.sfv_text.specs.CheckedTexts.{text_of};
 ghost use Rattle.sfv_tree.specs.Trees.{pairs_tree};
 
 use sfv_bare::bare::BareItemFromInput;
@@ -22,7 +22,7 @@ pub(crate) fn insert_parameter(
 ) -> Result<(), OutOfMemory>
     ensures seed { hasher_of params.new ≡ hasher_of params.old }
     ensures entries { OnOk result (pairs_tree params.new.entries
-        ≡ insert_entry bytes_eq (pairs_tree params.old.entries) (key_text key.entry) (input_value value.entry)) }
+        ≡ insert_entry bytes_eq (pairs_tree params.old.entries) (text_of key.entry) (input_value value.entry)) }
 {
     let key = key.to_owned(alloc)?;
     let value = value.try_into_owned(alloc)?;

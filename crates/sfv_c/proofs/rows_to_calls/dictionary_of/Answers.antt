@@ -1,7 +1,8 @@
 use Rattle.std.proofs.Common.{◌≡◌, List, flat_map, refl, sym, subst}
 use Rattle.sfv.specs.Calls.{supplied_member}
 use Rattle.sfv.specs.Events.{TreeEvent, keyed_entry, keyed_events, member_events}
-use Rattle.sfv.specs.KeyText.{KeyRef, key_text}
+use Rattle.sfv.specs.KeyText.{KeyRef}
+use Rattle.sfv.specs.CheckedTexts.{text_of as key_text}
 use Rattle.sfv.specs.Scripts.{supplied_dictionary, described_dictionary, member_calls}
 use Rattle.sfv.specs.Types.{MemberCalls, dictionary_field}
 use Rattle.sfv_c.specs.declared.rows.Row.{Row}

@@ -2,7 +2,7 @@ use Rattle.std.proofs.Common.{◌∷◌, [], List, map, refl, sym, subst}
 use Rattle.std.proofs.lemmas.List.{map-append}
 use Rattle.sfv.specs.BareItems.{ref_value}
 use Rattle.sfv.specs.Events.{TreeEvent, parameter, parameters_end}
-use Rattle.sfv.specs.KeyText.{key_text}
+use Rattle.sfv.specs.CheckedTexts.{text_of as key_text}
 use Rattle.sfv.specs.Scripts.{param_of_call}
 use Rattle.sfv.specs.Types.{ParamCall}
 use Rattle.sfv_c.specs.RowEvents.{parameters, Reads}

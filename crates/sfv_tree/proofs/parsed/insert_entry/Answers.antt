@@ -18,8 +18,5 @@ pub returns-clause-last : goal.returns-clause-last
 returns-clause-last c =
     ap (option_map member_tree) c.in_ok-insert.ensures.old ∙ member_found _ _ c.len-len.ensures.unique
 
-pub returns-clause-tree : goal.returns-clause-tree
-returns-clause-tree c = rw (c.in_ok-insert.ensures.entries, dictionary_tree-insert) refl
-
 pub returns-clause-distinct : goal.returns-clause-distinct
 returns-clause-distinct c = members_distinct _ c.insert.ensures.unique

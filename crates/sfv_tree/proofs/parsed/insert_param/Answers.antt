@@ -19,8 +19,5 @@ pub returns-clause-last : goal.returns-clause-last
 returns-clause-last c =
     ap (option_map bare_value) c.in_ok-insert.ensures.old ∙ param_found _ _ c.len-len.ensures.unique
 
-pub returns-clause-tree : goal.returns-clause-tree
-returns-clause-tree c = rw (c.in_ok-insert.ensures.entries, pairs_tree-insert) refl
-
 pub returns-clause-distinct : goal.returns-clause-distinct
 returns-clause-distinct c = pairs_distinct _ c.insert.ensures.unique

@@ -2,7 +2,8 @@ use Rattle.std.proofs.Common.{◌≡◌, ◌++◌, ◌<◌, ◌∙◌, List, ℕ
 use Rattle.sfv_spec.specs.Values.{HasMember}
 use Rattle.sfv_spec.specs.declared.field_kind.FieldKind.TheVariants.{Dictionary as dictionary_field}
 use Rattle.sfv_spec.specs.Canonical.{canonical}
-use Rattle.sfv_tree.specs.Trees.{entry_tree, dictionary_tree}
+use Rattle.sfv_tree.specs.Trees.{dictionary_tree}
+use Rattle.sfv_tree.proofs.Words.{entry_tree}
 use Rattle.sfv_writer.proofs.ReadBack.{written}
 use Rattle.sfv_writer.proofs.Rows.{first_of_some, first_of_none, anyway}
 use Rattle.sfv_writer.proofs.dictionary.dictionary_text.Goals as goal

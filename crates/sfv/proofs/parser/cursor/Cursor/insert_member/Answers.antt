@@ -1,6 +1,6 @@
 use Rattle.std.proofs.Common.{◌∙◌, ap, Err}
 use Rattle.sfv_spec.specs.Events.{keyed_entry, member_events, keyed_events}
-use Rattle.sfv_text.specs.KeyText.{key_text}
+use Rattle.sfv_text.specs.CheckedTexts.{text_of as key_text}
 use Rattle.std.specs.declared.alloc.Global.{Global}
 use Rattle.sfv.specs.declared.parser.Parser.{Parser}
 use Rattle.sfv_reading.specs.Members.{member_value_at, keyed_at}

@@ -4,7 +4,7 @@ use Rattle.sfv_spec.specs.Ordered.{ordered_item}
 use Rattle.sfv_reading.specs.Items.{item_at}
 use Rattle.sfv_reading.specs.Members.{inner_item_at}
 use Rattle.indexmap.specs.IndexMap.{hasher_of}
-use Rattle.sfv_tree.specs.Trees.{item_with}
+use Rattle.sfv_tree.proofs.Words.{item_with}
 use Rattle.sfv.proofs.reads.Errors.{left_with}
 use Rattle.sfv.proofs.trees.Parts.{led_builds, pushed_item, pushed_item_seed}
 use Rattle.sfv.proofs.parser.cursor.Cursor.push_inner_item.Goals as goal

@@ -1,6 +1,6 @@
 use Rattle.std.proofs.Common.{ap, ◌∙◌}
 use Rattle.sfv_bare.specs.BareItems.{input_value}
-use Rattle.sfv_text.specs.KeyText.{key_text}
+use Rattle.sfv_text.specs.CheckedTexts.{text_of as key_text}
 use Rattle.sfv_spec.specs.Events as tree
 use Rattle.sfv_visitor.specs.Builders.{ListState, list_step}
 use Rattle.sfv_visitor.proofs.Pairs.{step_item, step_list, step_bare, step_parameter, step_list_end}

@@ -2,7 +2,7 @@ use Rattle.std.proofs.Common.{rules, ◌≡◌, ◌<◌, ◌-◌, length, slice_
 use Rattle.std.specs.Vec.{vec_len}
 use Rattle.std.specs.Prelude.{IsTrue}
 use Rattle.sfv_bare.specs.BareItems.{input_value}
-use Rattle.sfv_text.specs.KeyText.{key_text}
+use Rattle.sfv_text.specs.CheckedTexts.{text_of as key_text}
 use Rattle.sfv_spec.specs.Events as tree
 use Rattle.sfv_visitor.specs.Builders.{list_state, list_step, state_in, list_takes_memory}
 use Rattle.sfv_visitor.proofs.Lasts.{is_last, lead_last, memory_last}

@@ -1,5 +1,6 @@
 use Rattle.std.proofs.Common.{rules, ◌≡◌, ◌<◌, ◌-◌, length, ap, slice_index_or}
-use Rattle.sfv_tree.specs.Trees.{item_tree, item_with}
+use Rattle.sfv_tree.specs.Trees.{item_tree}
+use Rattle.sfv_tree.proofs.Words.{item_with}
 use Rattle.std.specs.Vec.{vec_len}
 use Rattle.sfv_visitor.proofs.Lasts.{is_last, map_last}
 use Rattle.sfv_visitor.proofs.visitor.member_stage.MemberStage.fit_last.Goals as goal
