@@ -1,8 +1,7 @@
-use Rattle.std.proofs.Common.{rules, ◌≡◌, ◌∙◌, sym, ap, None, option_map, refl}
+use Rattle.std.proofs.Common.{rules, ◌≡◌, ◌∙◌, sym, ap, None, option_map}
 use Rattle.sfv_spec.specs.Ordered.{last_of}
 use Rattle.sfv_tree.specs.Trees.{member_tree, dictionary_tree}
 use Rattle.sfv_tree.proofs.Distinct.{member_found, members_distinct}
-use Rattle.sfv_tree.proofs.Entered.{dictionary_tree-insert}
 use Rattle.sfv_tree.proofs.parsed.insert_entry.Goals as goal
 
 pub returns-in_err-insert-clause-absent : goal.returns-in_err-insert-clause-absent

@@ -1,9 +1,8 @@
-use Rattle.std.proofs.Common.{rules, ◌≡◌, ◌∙◌, sym, ap, None, option_map, refl}
+use Rattle.std.proofs.Common.{rules, ◌≡◌, ◌∙◌, sym, ap, None, option_map}
 use Rattle.sfv_spec.specs.Ordered.{last_of}
 use Rattle.sfv_bare.specs.BareItems.{bare_value}
 use Rattle.sfv_tree.specs.Trees.{pairs_tree}
 use Rattle.sfv_tree.proofs.Distinct.{param_found, pairs_distinct}
-use Rattle.sfv_tree.proofs.Entered.{pairs_tree-insert}
 use Rattle.sfv_tree.proofs.parsed.insert_param.Goals as goal
 
 pub returns-in_err-insert-clause-absent : goal.returns-in_err-insert-clause-absent
