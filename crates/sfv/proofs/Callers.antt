@@ -55,6 +55,8 @@ pub use Rattle.sfv_spec.proofs.Last.{last_of-ordered}
 pub use Rattle.sfv_spec.proofs.Collapse.{last_of-collapse, last_of-absent}
 -- an insertion, seen as the pairs
 pub use Rattle.sfv_tree.proofs.Entered.{dictionary_tree-insert, pairs_tree-insert}
+-- what an accessor of a bare item returns, as the content of the value
+pub use Rattle.sfv_bare.proofs.Parts.{decimal_part, integer_part, boolean_part, date_part, display_string_part}
 -- the pairs that an iterator over a map lends
 pub use Rattle.sfv_writer.proofs.Lent.{lent_all}
 -- what is written of a field is read as its ordered value, repeated keys too, and what is written of a value as itself,
