@@ -1,44 +1,58 @@
 #!/bin/sh
-# Usage: docs/check-memory.sh [CALL..]
-# Refuses the first request for memory of these calls of `sfv_memory`, or of each, then the second, and so on, until no
-# call has so many. Prints how many requests each call makes, and each call that isn't out of memory where one of them is
-# refused, or then leaves what its contract doesn't say: the status is 1 if one does, or if a run faults or hangs. A run
-# of `rt try` takes some 20 seconds, and there are some 35.
+# Usage: docs/check-memory.sh
+# Makes the calls of `sfv_memory` once for each memory request that they make, and fails this request. Prints for each
+# call how many of its requests make it run out of memory, and how many requests the calls can do without. The status
+# is 1 if a call answers otherwise, faults or hangs, and 2 if the program does not run. It needs `rt`, but no C
+# compiler.
 cd "$(dirname "$0")/../crates/sfv_memory" || exit 2
+if ! command -v rt >/dev/null; then
+    echo 'check-memory: there is no rt' >&2
+    exit 2
+fi
 room=$(mktemp -d) || exit 2
 trap 'rm -rf "$room"' EXIT
+trap 'exit 2' HUP INT TERM
+
+# The program is compiled once. Each case is a run of it: its standard input is the number of the request that fails.
+# The last case has to be one in which no request of a call fails.
+most=600
 mkdir "$room/cases"
-
-# The numbers of the calls, each as a case: it prints that it was made, or the line of another answer.
-[ $# -gt 0 ] || set -- $(seq 0 $(($(sed 's/ .*//' stdout) - 1)))
-for number in "$@"; do
-    printf '%s' "$number" >"$room/cases/$number"
-    echo '1 made' >"$room/cases/$number.stdout"
+for request in $(seq 1 "$most"); do
+    printf '%s' "$request" >"$room/cases/$request"
 done
+rt try --steps 1 --fail-alloc 1000 --cases "$room/cases" </dev/null >"$room/log" 2>&1
 
-# Runs the cases with this request refused, and prints the number of each, of its requests, its status and its output.
-refused() {
-    rt try --steps 200000 --fail-alloc "$1" --cases "$room/cases" </dev/null >"$room/log" 2>&1
-    awk '$1 == "allocations:" { requests = $2 }
-        /^case=/ { sub(/^case=/, ""); sub(/status=/, "", $3); sub(/output=/, "", $5); print $1, requests, $3, $5 }' \
-        "$room/log"
-}
-
-failed=0
-refusal=1
-while [ -n "$(ls "$room/cases")" ]; do
-    refused "$refusal" >"$room/seen"
-    [ -s "$room/seen" ] || { cat "$room/log"; exit 2; }
-    while read -r number requests status output; do
-        if [ "$refusal" -gt "$requests" ] && [ "$status $output" = "0 expected" ]; then
-            # Its last request was refused before.
-            echo "call $number: $requests requests"
-            rm "$room/cases/$number" "$room/cases/$number.stdout"
-        elif [ "$status $output" != "1 expected" ]; then
-            echo "call $number answers otherwise where request $refusal is refused (status $status, output $output)"
-            failed=1
-        fi
-    done <"$room/seen"
-    refusal=$((refusal + 1))
-done
-exit "$failed"
+# `rt try` prints for each case the program's line, and then how the run ended.
+awk -v most="$most" '
+    { lines = lines $0 "\n" }
+    / is out of memory$/ { answer = "call " $2 }
+    / made nevertheless$/ { answer = "usual" }
+    /^[0-9]+ made$/ { answer = "no failure"; calls = $1 }
+    /^case=/ {
+        request = substr($1, 6)
+        answers[request] = $2 " " $3 == "run=ended status=0" ? answer : ""
+        texts[request] = lines
+        answer = lines = ""
+        cases++
+    }
+    END {
+        if (!cases) {
+            printf "%s", lines
+            exit 2
+        }
+        for (request = 1; request <= most && answers[request] != "no failure"; request++) {
+            if (answers[request] == "") {
+                printf "where request %d fails, a call answers otherwise, faults or hangs:\n%s", request, texts[request]
+                failed = 1
+            }
+            count[answers[request]]++
+        }
+        if (request > most) {
+            print "the calls make more requests than there are cases"
+            exit 1
+        }
+        for (call = 0; call < calls; call++)
+            print "call " call ": " count["call " call] + 0
+        print calls " calls make " request - 1 " requests, and can do without " count["usual"] + 0 " of them"
+        exit failed
+    }' "$room/log"

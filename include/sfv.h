@@ -205,7 +205,8 @@ static inline sfv_answer sfv_events_whole(sfv_type type, sfv_version version, co
  * was. SFV_TOO_SMALL: `length` is wanted. SFV_ROW: no field of this type has these rows. Those before `index` begin the
  * rows of one, but the row at `index` is none, or can't follow them, or is missing (then `index` is `events_length`);
  * whichever rows a field has, they are taken. SFV_UNSUPPORTED: only of SFV_RFC8941, and `kind` is SFV_DATE or SFV_DISPLAY.
- * SFV_OUT_OF_MEMORY: only where there is a row. May also answer SFV_NOTHING, SFV_BAD_ARGUMENT. No map is built. */
+ * SFV_OUT_OF_MEMORY: only where the first two rows begin those of a field. May also answer SFV_NOTHING, SFV_BAD_ARGUMENT.
+ * No map is built. */
 static inline sfv_answer sfv_write(sfv_type type, sfv_version version, const sfv_event *events, size_t events_length,
                                    const void *bytes, size_t bytes_length, void *out, size_t out_length) {
     uint8_t none = 0, nothing = 0;

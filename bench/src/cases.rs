@@ -14,7 +14,7 @@ pub struct Case {
     pub seed: u64,
 }
 
-fn accepted(name: &'static str, kind: u32, field: impl Into<Vec<u8>>) -> Case {
+pub fn accepted(name: &'static str, kind: u32, field: impl Into<Vec<u8>>) -> Case {
     Case { name, kind, field: field.into(), accepted: true, seed: SEED }
 }
 

@@ -3,6 +3,7 @@
 
 mod cases;
 mod keys;
+mod large;
 #[cfg(feature = "theirs")]
 mod theirs;
 
@@ -35,6 +36,11 @@ struct Ours {
 }
 
 impl Ours {
+    /// Only with a buffer for the text.
+    fn writing(case: &Case) -> Ours {
+        Ours { out: vec![0; 4 * case.field.len() + 16], rows: Vec::new(), bytes: Vec::new(), read: Answer::default() }
+    }
+
     fn new(case: &Case) -> Ours {
         let out = vec![0; 4 * case.field.len() + 16];
         let mut rows = vec![Event::default(); 2 * case.field.len() + 2];
@@ -128,7 +134,12 @@ fn cells(case: &Case, task: Task, rounds: u32) -> String {
 }
 
 fn main() {
-    let rounds = std::env::args().nth(1).map_or(40, |arg| arg.parse().expect("a number of rounds"));
+    let args: Vec<String> = std::env::args().skip(1).collect();
+    if let [one, side, place] = &args[..] {
+        assert_eq!(one, "one");
+        return large::run_one(side, place.parse().expect("a number"));
+    }
+    let rounds = args.first().map_or(40, |arg| arg.parse().expect("a number of rounds"));
     let with = if cfg!(feature = "theirs") { "beside the Rust crate" } else { "alone: the Rust crate isn't there" };
     println!("The library {with}, on {}, least of {rounds} rounds.\n", processor());
     println!("| field | bytes | tree and text | ns | ignored | ns | list of parts | ns | written | ns |");
@@ -140,4 +151,5 @@ fn main() {
         let cells = TASKS.map(|task| cells(&case, task, rounds));
         println!("| {} | {} | {} |", case.name, case.field.len(), cells.join(" | "));
     }
+    large::print();
 }

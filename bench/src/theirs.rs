@@ -201,6 +201,11 @@ pub struct Theirs<'de> {
 }
 
 impl<'de> Theirs<'de> {
+    /// Without room for parts.
+    pub fn parsing() -> Theirs<'de> {
+        Theirs { parts: Vec::new() }
+    }
+
     pub fn new(case: &'de Case) -> Theirs<'de> {
         let mut parts = Vec::with_capacity(2 * case.field.len() + 2);
         events(case.kind, Parser::new(&case.field), &mut parts);

@@ -6,24 +6,36 @@ use crate::random::Random;
 use sfv::visitor::Ignored;
 use sfv::{Dictionary, Error, Item, List, Parser};
 
-/// Spoils a field: at its first byte, before its changing part, or at its last byte.
+/// Puts a byte at an index, or appends it.
+fn put(field: &mut Field, index: usize, byte: u8) {
+    match field.text.get_mut(index) {
+        Some(place) => *place = byte,
+        None => field.text.push(byte),
+    }
+}
+
+/// Spoils a field after its changing digits: right after them, in the middle of the rest, at its last byte, or after its
+/// end. Each such field is rejected, and changes before its error.
 pub fn spoil(random: &mut Random, field: &mut Field) {
+    let after = field.after_stamp();
     let length = field.text.len();
-    let before = field.stamp();
     let index = match random.next() % 4 {
-        0 => 0,
-        1 => before / 2,
-        2 => before.saturating_sub(1),
-        _ => length.saturating_sub(1),
+        0 => after,
+        1 => after / 2 + length / 2,
+        2 => length - 1,
+        _ => length,
     };
+    let index = index.max(after).min(length);
     let byte = match random.next() % 4 {
         0 => b'}',
         1 => 0x7f,
         2 => b'=',
         _ => 0xc3,
     };
-    if let Some(place) = field.text.get_mut(index) {
-        *place = byte;
+    put(field, index, byte);
+    if error_without_tree(field).is_none() {
+        // A text may contain the byte, and no part of a field contains this one.
+        put(field, index, 0x7f);
     }
 }
 
@@ -46,13 +58,18 @@ pub fn reject(field: &Field, digest: &mut Digest) {
     add(field, error, digest);
 }
 
-/// Checks a field, and adds its error.
-pub fn check(field: &Field, digest: &mut Digest) {
+/// Returns the error of a field that is parsed without a tree.
+fn error_without_tree(field: &Field) -> Option<Error> {
     let parser = Parser::new(&field.text);
     let checked = match field.kind {
         Kind::Item => parser.parse_item_with_visitor(Ignored),
         Kind::List => parser.parse_list_with_visitor(Ignored),
         Kind::Dictionary => parser.parse_dictionary_with_visitor(Ignored),
     };
-    add(field, checked.err(), digest);
+    checked.err()
+}
+
+/// Checks a field, and adds its error.
+pub fn check(field: &Field, digest: &mut Digest) {
+    add(field, error_without_tree(field), digest);
 }

@@ -116,7 +116,7 @@ fn dict_script(text: &mut String, parts: &Parts<'_>, random: &mut Random) {
     }
 }
 
-/// Appends a Priority field (RFC 9218). Members with their default values are omitted.
+/// Appends a Priority field (RFC 9218) with an extension. Members with their default values are omitted.
 fn priority(text: &mut String, random: &mut Random) {
     let urgency = (random.next() % 8) as u8;
     let incremental = random.next() % 2 == 0;
@@ -127,6 +127,7 @@ fn priority(text: &mut String, random: &mut Random) {
     if incremental {
         dictionary.bare_item(key_ref("i"), true);
     }
+    dictionary.bare_item(key_ref("n"), number(random));
 }
 
 /// Writes the field with this number, and adds its text.

@@ -20,7 +20,8 @@ use Rattle.sfv_spec.specs.declared.field_kind.FieldKind.TheVariants.{Item as ite
 use Rattle.sfv_spec.specs.declared.field_kind.FieldKind.TheVariants.{Dictionary as dictionary_field}
 use Rattle.sfv_spec.specs.declared.version.Version.{Version}
 use Rattle.sfv_spec.specs.Grammar.{IsFieldText, IsAccepted}
-use Rattle.sfv_spec.specs.Ordered.{keys, last_of, ordered, ordered_member, no_repeats, IsOrdered}
+use Rattle.sfv_spec.specs.Ordered.{last_of, ordered, ordered_member, no_repeats, IsOrdered}
+use Rattle.sfv_spec.proofs.Marks.{keys}
 use Rattle.sfv_spec.specs.Statements.{IsParsedAs, IsValue}
 use Rattle.sfv_spec.proofs.Collapse.{entered, collapse-distinct, collapse-push, last_of-push}
 use Rattle.sfv_spec.proofs.Structure.{one_field_lem}
@@ -52,6 +53,10 @@ use Rattle.sfv.proofs.built.Dictionaries.{built_dictionary_after}
 pub use Rattle.sfv_spec.proofs.Last.{IsLast, last_of-split, split-last_of, none-last_of, lookup-last_of, last_of-over}
 pub use Rattle.sfv_spec.proofs.Last.{last_of-ordered}
 pub use Rattle.sfv_spec.proofs.Collapse.{last_of-collapse, last_of-absent}
+-- an insertion, seen as the pairs
+pub use Rattle.sfv_tree.proofs.Entered.{dictionary_tree-insert, pairs_tree-insert}
+-- what an accessor of a bare item returns, as the content of the value
+pub use Rattle.sfv_bare.proofs.Parts.{decimal_part, integer_part, boolean_part, date_part, display_string_part}
 -- the pairs that an iterator over a map lends
 pub use Rattle.sfv_writer.proofs.Lent.{lent_all}
 -- what is written of a field is read as its ordered value, repeated keys too, and what is written of a value as itself,

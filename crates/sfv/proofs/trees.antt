@@ -2,4 +2,6 @@
 pub mod Parameters
 pub mod Loops
 pub mod Parts
+pub mod Errors
 pub mod Fields
+pub mod Items

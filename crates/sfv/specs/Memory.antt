@@ -1,7 +1,7 @@
 -- The texts for which the parser allocates memory.
 use Rattle.std.specs.Prelude.{◌≡◌, ⊤, ℕ, List, ◌⊎◌}
 use Rattle.std.specs.List.{Contains}
-use Rattle.sfv_spec.specs.Ascii.{backslash, percent_sign, colon, space}
+use Rattle.sfv_spec.specs.Ascii.{byte}
 use Rattle.sfv_base.specs.declared.error.Error.{Error}
 use Rattle.sfv_spec.specs.declared.error_kind.ErrorKind.TheVariants.{OutOfMemory}
 use Rattle.sfv_base.specs.declared.error.ParseError.{ParseError}
@@ -10,11 +10,11 @@ use Rattle.sfv_base.specs.Errors.{kind_of, out_of_memory}
 
 -- the text contains a backslash, a percent sign or a colon
 abbrev pub HoldsMark : List ℕ → Type 0
-HoldsMark t = Contains t backslash ⊎ (Contains t percent_sign ⊎ Contains t colon)
+HoldsMark t = Contains t (byte "\\") ⊎ (Contains t (byte "%") ⊎ Contains t (byte ":"))
 
 -- the text contains a byte other than a space
 abbrev pub HasMoreThanSpaces : List ℕ → Type 0
-HasMoreThanSpaces t = (c : ℕ) × Contains t c × ¬ (c ≡ space)
+HasMoreThanSpaces t = (c : ℕ) × Contains t c × ¬ (c ≡ byte " ")
 
 -- the error is out of memory only if the text contains such a byte
 abbrev pub NeedsMark : {E : Type 0} → List ℕ → ParseError E → Type 0

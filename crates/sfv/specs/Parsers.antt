@@ -8,7 +8,7 @@ use Rattle.sfv_spec.specs.declared.field_kind.FieldKind.TheVariants.{Item as ite
 use Rattle.sfv_spec.specs.declared.field_kind.FieldKind.TheVariants.{Dictionary as dictionary_field}
 use Rattle.sfv_spec.specs.declared.version.Version.{Version}
 use Rattle.sfv_spec.specs.Values.{BareValue, RawParameters, RawItem}
-use Rattle.sfv_spec.specs.Ascii.{double_quote, percent_sign, backslash}
+use Rattle.sfv_spec.specs.Ascii.{byte}
 use Rattle.sfv_spec.specs.Texts.{RunOf}
 use Rattle.sfv_spec.specs.Grammar.{IsFieldText, IsAccepted, StandsFirst, BeginsWithBareItem, HasField}
 use Rattle.sfv_spec.specs.Reach.{IsReach}
@@ -64,10 +64,10 @@ IsAnswerOf takes finishes version kind t from out =
 
 -- a string without an escape begins here; a display string without an escape does
 abbrev pub IsPlainString : List ℕ → Type 0
-IsPlainString t = (s : List ℕ) × (t ≡ double_quote ∷ s) × RunOf (λ c. not (c == backslash)) s
+IsPlainString t = (s : List ℕ) × (t ≡ byte "\"" ∷ s) × RunOf (λ c. not (c == byte "\\")) s
 
 abbrev pub IsPlainDisplay : List ℕ → Type 0
-IsPlainDisplay t = (s : List ℕ) × (t ≡ percent_sign ∷ double_quote ∷ s) × RunOf (λ c. not (c == percent_sign)) s
+IsPlainDisplay t = (s : List ℕ) × (t ≡ byte "%" ∷ byte "\"" ∷ s) × RunOf (λ c. not (c == byte "%")) s
 
 -- A parsed string or display string is borrowed from the text if and only if it has no escape there.
 abbrev pub IsBorrowedIfPlain : ReadBareItem → List ℕ → Type 0

@@ -20,15 +20,13 @@ ghost use Rattle.sfv.specs.Memory.{NeedsMoreThanSpaces};
 
 use crate::parser::{
     Parser, expect_dictionary_start, expect_item_start, expect_list_start, parse_dictionary,
-    parse_list,
+    parse_item, parse_list,
 };
-use sfv_base::error::{Error, OutOfMemory, ParseError};
+use sfv_base::error::{Error, OutOfMemory};
 use sfv_spec::version::Version;
 use sfv_tree::parsed::{Dictionary, Item, List};
-use sfv_visitor::visitor::ItemBuilder;
 use sfv_writer::{
-    SerializeError, check_dictionary, check_item, check_list, dictionary_text, list_text,
-    serialize_item,
+    SerializeError, check_dictionary, check_item, check_list, dictionary_text, item_text, list_text,
 };
 use std::alloc::Global;
 use std::string::String as StdString;
@@ -120,21 +118,11 @@ impl FieldType for Item {
 
     fn parse(alloc: Global, parser: Parser<'_>) -> Result<Item, Error> {
         expect_item_start(parser, alloc)?;
-        let builder = ItemBuilder::new(alloc, parser.hash_seed());
-        match parser.parse_item_with_visitor(alloc, builder) {
-            Ok(item) => Ok(item),
-            Err(ParseError::Syntax(error)) => Err(error),
-            // The item is complete, so the builder fails only if memory runs out.
-            Err(ParseError::Visitor(_)) => Err(Error::from(OutOfMemory)),
-        }
+        parse_item(parser, alloc)
     }
 
     fn serialize(&self, alloc: Global) -> Result<StdString, OutOfMemory> {
-        // An estimate: most short items need no second allocation.
-        let capacity = 32 + 24 * self.params.len().min(100);
-        let mut text = StdString::with_capacity(alloc, capacity)?;
-        serialize_item(self, &mut text)?;
-        Ok(text)
+        item_text(self, alloc)
     }
 
     fn serialize_for(&self, alloc: Global, version: Version) -> Result<StdString, SerializeError> {

@@ -37,7 +37,7 @@ mod visit;
 use field::{parse_item_field, parse_members_field};
 pub(crate) use first_byte::{expect_dictionary_start, expect_item_start, expect_list_start};
 use member::{Entry, KeyedEntry};
-pub(crate) use tree::{parse_dictionary, parse_list};
+pub(crate) use tree::{parse_dictionary, parse_item, parse_list};
 
 /// A parser for one input, under one version of the standard.
 ///

@@ -1,5 +1,5 @@
 -- A copy of a bare item that owns its text has the same value.
-use Rattle.std.proofs.Common.{◌≡◌, ℕ, List, ap, ◌∙◌}
+use Rattle.std.proofs.Common.{◌≡◌, ℕ, List, ap}
 use Rattle.std.specs.Prelude.{string_bytes}
 use Rattle.std.specs.List.{AllZip, each_same}
 use Rattle.std.specs.declared.alloc.Global.{Global}
@@ -20,15 +20,10 @@ pub copied_value :
     → ((x y : std_string.String Global) → d x y → string_bytes y ≡ string_bytes x)
     → (x y : GenericBareItem (List ℕ) (Vec ℕ Global) (List ℕ) (std_string.String Global))
     → IsCopyBy s b t d x y → bare_value y ≡ bare_value x
-copied_value s b t d on_s on_b on_t on_d (bare.Decimal z) y h = ap bare_value h
-copied_value s b t d on_s on_b on_t on_d (bare.Integer z) y h = ap bare_value h
-copied_value s b t d on_s on_b on_t on_d (bare.String x) y h =
-    ap bare_value h.2 ∙ ap values.string (on_s x h.0 h.1)
-copied_value s b t d on_s on_b on_t on_d (bare.ByteSequence x) y h =
-    ap bare_value h.2 ∙ ap values.byte_sequence (each_same x.items h.0.items (on_b x h.0 h.1))
-copied_value s b t d on_s on_b on_t on_d (bare.Boolean x) y h = ap bare_value h
-copied_value s b t d on_s on_b on_t on_d (bare.Token x) y h =
-    ap bare_value h.2 ∙ ap values.token (on_t x h.0 h.1)
-copied_value s b t d on_s on_b on_t on_d (bare.Date z) y h = ap bare_value h
-copied_value s b t d on_s on_b on_t on_d (bare.DisplayString x) y h =
-    ap bare_value h.2 ∙ ap values.display_string (on_d x h.0 h.1)
+copied_value s b t d on_s on_b on_t on_d (bare.String x) (bare.String y) h = ap values.string (on_s x y h)
+copied_value s b t d on_s on_b on_t on_d (bare.ByteSequence x) (bare.ByteSequence y) h =
+    ap values.byte_sequence (each_same x.items y.items (on_b x y h))
+copied_value s b t d on_s on_b on_t on_d (bare.Token x) (bare.Token y) h = ap values.token (on_t x y h)
+copied_value s b t d on_s on_b on_t on_d (bare.DisplayString x) (bare.DisplayString y) h =
+    ap values.display_string (on_d x y h)
+copied_value s b t d on_s on_b on_t on_d x y h = ap bare_value h

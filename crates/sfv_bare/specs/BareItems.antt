@@ -5,21 +5,22 @@ use Rattle.std.specs.declared.alloc.Global.{Global}
 use Rattle.std.specs.declared.vec.Vec.{Vec}
 use Rattle.std.specs.declared.string.String as std_string
 use Rattle.std.specs.declared.borrow.CowStr.{CowStr}
+use Rattle.std.specs.Cow.{cow_str_bytes}
 use Rattle.std.specs.declared.borrow.CowStr.TheVariants as cow
 use Rattle.sfv_spec.specs.Values.{BareValue}
 use Rattle.sfv_spec.specs.Values as values
 use Rattle.sfv_base.specs.Numbers.{integer_of, thousandths_of, seconds_of}
 use Rattle.sfv_base.specs.declared.integer.Integer.{Integer}
-use Rattle.sfv_text.specs.TokenText.{TokenRef, token_text}
-use Rattle.sfv_text.specs.StringText.{StringRef, string_text}
+use Rattle.sfv_text.specs.TokenText.{TokenRef}
+use Rattle.sfv_text.specs.CheckedTexts.{text_of}
+use Rattle.sfv_text.specs.StringText.{StringRef}
 use Rattle.sfv_bare.specs.declared.bare.GenericBareItem.{GenericBareItem}
 use Rattle.sfv_bare.specs.declared.bare.GenericBareItem.TheVariants as bare
 use Rattle.sfv_bare.specs.declared.bare.StringFromInput.{StringFromInput}
 use Rattle.sfv_bare.specs.declared.bare.StringFromInput.TheVariants as input
 
 -- the value of a bare item, where the first arguments give the bytes of its texts
-abbrev pub value_by :
-    {S B T D : Type 0} → (S → List ℕ) → (B → List ℕ) → (T → List ℕ) → (D → List ℕ)
+abbrev pub value_by : {S B T D : Type 0} → (S → List ℕ) → (B → List ℕ) → (T → List ℕ) → (D → List ℕ)
     → GenericBareItem S B T D → BareValue
 value_by s b t d (bare.Decimal z) = values.decimal (thousandths_of z)
 value_by s b t d (bare.Integer z) = values.integer (integer_of z)
@@ -40,20 +41,16 @@ bare_value item = value_by (λ s. s) (λ b. b.items) (λ t. t) string_bytes item
 
 -- the value of a bare item with borrowed text
 abbrev pub ref_value : GenericBareItem StringRef (Bor (List ℕ)) TokenRef (Bor (List ℕ)) → BareValue
-ref_value item = value_by string_text (λ b. b.now) token_text (λ d. d.now) item
+ref_value item = value_by text_of (λ b. b.now) text_of (λ d. d.now) item
 
 -- the bytes of a parsed string
 abbrev pub read_text : StringFromInput → List ℕ
-read_text (input.Borrowed s) = string_text s
+read_text (input.Borrowed s) = text_of s
 read_text (input.Owned s) = s
-
-abbrev pub cow_text : CowStr Global → List ℕ
-cow_text (cow.Borrowed s) = s.now
-cow_text (cow.Owned s) = string_bytes s
 
 -- the value of a parsed bare item
 abbrev pub input_value : GenericBareItem StringFromInput (Vec ℕ Global) TokenRef (CowStr Global) → BareValue
-input_value item = value_by read_text (λ b. b.items) token_text cow_text item
+input_value item = value_by read_text (λ b. b.items) text_of cow_str_bytes item
 
 -- the value is a text
 abbrev pub is_text : BareValue → Bool
@@ -85,21 +82,16 @@ is_borrowed (bare.DisplayString d) = is_borrowed_text d
 is_borrowed item = false
 
 -- The copy has the same kind, and its content is a copy as the content's type defines it.
-abbrev pub IsCopyBy :
-    {S B T D : Type 0} → (S → S → Type 0) → (B → B → Type 0) → (T → T → Type 0) → (D → D → Type 0)
-    → GenericBareItem S B T D → GenericBareItem S B T D → Type 0
-IsCopyBy s b t d (bare.Decimal z) copy = copy ≡ bare.Decimal z
-IsCopyBy s b t d (bare.Integer z) copy = copy ≡ bare.Integer z
-IsCopyBy {S} s b t d (bare.String x) copy = (y : S) × s x y × (copy ≡ bare.String y)
-IsCopyBy {S} {B} s b t d (bare.ByteSequence x) copy = (y : B) × b x y × (copy ≡ bare.ByteSequence y)
-IsCopyBy s b t d (bare.Boolean x) copy = copy ≡ bare.Boolean x
-IsCopyBy {S} {B} {T} s b t d (bare.Token x) copy = (y : T) × t x y × (copy ≡ bare.Token y)
-IsCopyBy s b t d (bare.Date z) copy = copy ≡ bare.Date z
-IsCopyBy {S} {B} {T} {D} s b t d (bare.DisplayString x) copy = (y : D) × d x y × (copy ≡ bare.DisplayString y)
+abbrev pub IsCopyBy : {S B T D : Type 0} → (S → S → Type 0) → (B → B → Type 0) → (T → T → Type 0)
+    → (D → D → Type 0) → GenericBareItem S B T D → GenericBareItem S B T D → Type 0
+IsCopyBy s b t d (bare.String x) (bare.String y) = s x y
+IsCopyBy s b t d (bare.ByteSequence x) (bare.ByteSequence y) = b x y
+IsCopyBy s b t d (bare.Token x) (bare.Token y) = t x y
+IsCopyBy s b t d (bare.DisplayString x) (bare.DisplayString y) = d x y
+IsCopyBy s b t d item copy = copy ≡ item
 
 -- Copying does not allocate: for numbers and booleans, and for texts or bytes whose copy does not allocate.
-abbrev pub TakesNoMemoryBy :
-    {S B T D : Type 0} → (S → Type 0) → (B → Type 0) → (T → Type 0) → (D → Type 0)
+abbrev pub TakesNoMemoryBy : {S B T D : Type 0} → (S → Type 0) → (B → Type 0) → (T → Type 0) → (D → Type 0)
     → GenericBareItem S B T D → Type 0
 TakesNoMemoryBy s b t d (bare.String x) = s x
 TakesNoMemoryBy s b t d (bare.ByteSequence x) = b x
@@ -110,9 +102,3 @@ TakesNoMemoryBy s b t d item = ⊤
 -- `Some` content for a value of this kind, and `None` for every other value
 abbrev pub GivesPart : {A V P : Type 0} → (A → V) → (P → A) → V → Option P → Type 0
 GivesPart {A} kind content value r = MatchOption r ((x : A) → ¬ (value ≡ kind x)) (λ p. value ≡ kind (content p))
-
--- the same for a bare item's value, whatever type owns its texts
-abbrev pub GivesPartBy : {S B T D A P : Type 0} → (A → BareValue) → (P → A) → GenericBareItem S B T D → Option P → Type 0
-GivesPartBy {S} {B} {T} {D} kind content item r =
-    (s : S → List ℕ) (b : B → List ℕ) (t : T → List ℕ) (d : D → List ℕ)
-    → GivesPart kind content (value_by s b t d item) r

@@ -3,8 +3,9 @@ use Rattle.std.proofs.Common.{◌≡◌, ℕ, ◌+◌, ◌/◌, ◌%◌, ◌<◌
 use Rattle.std.specs.Prelude.{nat_abs, decimal}
 use Rattle.std.proofs.lemmas.Fmt.{decimal_digit}
 use Rattle.std.proofs.lemmas.Grind.{common_steps}
-use Rattle.sfv_spec.specs.Ascii.{digit_zero}
-use Rattle.sfv_spec.specs.Numbers.{minus_text, is_negative}
+use Rattle.sfv_spec.proofs.Marks.{digit_zero}
+use Rattle.sfv_spec.specs.Numbers.{is_negative}
+use Rattle.sfv_spec.proofs.Marks.{minus_text}
 use Rattle.sfv_spec.specs.Canonical.{decimal_text, fraction_digits}
 
 tenth : (f : ℕ) → f < 1000 → decimal (f / 100) ≡ (digit_zero + f / 100) ∷ []

@@ -3,7 +3,8 @@ use Rattle.std.specs.Prelude.{ℕ, ◌+◌, Bool, if◌then◌else◌}
 use Rattle.std.specs.List.{count_by, range_with_len}
 use Rattle.sfv_spec.specs.Classes.{is_string_byte, is_token_start, is_token_inner, is_key_start, is_key_inner}
 use Rattle.sfv_spec.specs.Classes.{is_lower_hexadecimal}
-use Rattle.sfv_spec.specs.Strings.{is_plain_in_string, is_plain_in_display}
+use Rattle.sfv_spec.specs.Strings.{is_plain_in_display}
+use Rattle.sfv_spec.proofs.Marks.{is_plain_in_string}
 use Rattle.sfv_spec.proofs.Marks.{is_symbol}
 
 -- `n` for a byte of the class, and 0 for any other byte

@@ -57,9 +57,9 @@ impl Field {
         Ok(())
     }
 
-    /// Returns the index of the first of the eight digits.
-    pub fn stamp(&self) -> usize {
-        self.stamp
+    /// Returns the index after the eight digits.
+    pub fn after_stamp(&self) -> usize {
+        self.stamp.saturating_add(8).min(self.text.len())
     }
 
     /// Changes the text: adds one to the number of the eight digits.

@@ -131,7 +131,7 @@ fn reject_all(alloc: Global, seed: u64, rounds: u64) -> Result<u64, Error> {
     let mut random = Random::new(seed);
     let mut fields = small_fields(alloc, &mut random, false)?;
     for (_, field) in fields.iter_mut() {
-        reject::spoil(&mut random, field);
+        reject::spoil(alloc, &mut random, field)?;
     }
     for round in 0..rounds {
         for (_, field) in fields.iter_mut() {

@@ -182,10 +182,21 @@ fn dict_script(
     Ok(())
 }
 
-// Appends a Priority field.
-fn priority(text: &mut String, random: &mut Random) -> Result<(), OutOfMemory> {
+// Appends a separator, unless the text is empty.
+fn separate(text: &mut String) -> Result<(), OutOfMemory> {
+    if !text.is_empty() {
+        text.push_str(", ")?;
+    }
+    Ok(())
+}
+
+// Appends a Priority field with an extension.
+fn priority(text: &mut String, random: &mut Random) -> Result<(), SerializeError> {
     let urgency = (random.next() % 8) as u8;
     write_priority(text, Priority::new(urgency, random.next() % 2 == 0))?;
+    separate(text)?;
+    let mut dictionary = DictSerializer::with_buffer(text);
+    dictionary.bare_item(key_ref("n"), number(random))?.finish();
     Ok(())
 }
 
@@ -206,7 +217,7 @@ pub fn write(
         4 => hints(&mut text, parts, random),
         5 => Ok(list_script(alloc, &mut text, parts, random)?),
         6 => Ok(dict_script(alloc, &mut text, parts, random)?),
-        _ => Ok(priority(&mut text, random)?),
+        _ => priority(&mut text, random),
     };
     match written {
         Ok(()) => digest.text(Some(text.as_str())),

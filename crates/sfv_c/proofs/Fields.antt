@@ -1,15 +1,17 @@
 -- Fields, their events and their rows.
-use Rattle.std.proofs.Common.{◌≡◌, ℕ, ◌<◌, List, [], ◌∷◌, length, refl, sym, subst}
+use Rattle.std.proofs.Common.{◌≡◌, ℕ, ◌<◌, List, [], ◌∷◌, ◌++◌, length, map, flat_map, refl, sym, subst}
 use Rattle.std.proofs.Common.{arith, Option, Result, Ok, Err}
 use Rattle.std.specs.Result.{IsErrAnd}
+use Rattle.std.proofs.lemmas.List.{length-append}
 use Rattle.std.specs.declared.alloc.Global.{Global}
 use Rattle.std.specs.declared.string.String as std_string
-use Rattle.sfv.specs.Values.{RawField}
-use Rattle.sfv.specs.Types.{FieldKind, list_field, dictionary_field}
+use Rattle.sfv.specs.Values.{RawField, RawItem, RawMember, item, inner_list}
+use Rattle.sfv.specs.Types.{FieldKind, item_field, list_field, dictionary_field}
 use Rattle.sfv.specs.Types.{Version}
-use Rattle.sfv.specs.Events.{events}
+use Rattle.sfv.specs.Calls.{supplied_member}
+use Rattle.sfv.specs.Events.{TreeEvent, parameter, parameters_end, member_events, entry_events, keyed_events, events}
 use Rattle.sfv.specs.Values.{bare_values}
-use Rattle.sfv.specs.Scripts.{supplied_list, supplied_dictionary}
+use Rattle.sfv.specs.Scripts.{member_calls, supplied_list, supplied_dictionary}
 use Rattle.sfv.specs.KeyText.{KeyRef}
 use Rattle.sfv.specs.Types.{MemberCalls, SerializeError}
 use Rattle.sfv.specs.Types.serialize_errors as errors
@@ -21,7 +23,8 @@ use Rattle.sfv_c.specs.declared.answer.CallFault.TheVariants as faults
 use Rattle.sfv_c.specs.Writing.{AreRowsOfField, IsWriteFault, IsWriteOutcome}
 use Rattle.sfv_c.specs.RowEvents.{Reads, IsTextMade}
 use Rattle.sfv_c.proofs.Valid.{valid_field}
-use Rattle.sfv_c.proofs.RowEvents.{reads_valid, reads_rows, rows_length}
+use Rattle.sfv_c.proofs.RowEvents.{reads_valid, reads_rows}
+use Rattle.sfv_c.proofs.Memory.{field_after_two}
 
 pub field_of : (kind : FieldKind) (rows : List Row) (bytes : List ℕ) (raw : RawField kind)
     → Reads bytes rows (events kind raw) [] → AreRowsOfField kind rows bytes raw
@@ -44,18 +47,26 @@ text_err version kind rows bytes (Ok t) e h q = absurd h
 text_err version kind rows bytes (Err x) e h q = subst (IsWriteFault version kind rows bytes) (sym h) q
 
 pub script_fault : (version : Version) (kind : FieldKind) (rows : List Row) (bytes : List ℕ) (raw : RawField kind)
-    → AreRowsOfField kind rows bytes raw → 0 < length (events kind raw) → (e : SerializeError)
+    → AreRowsOfField kind rows bytes raw → 1 < length (events kind raw) → (e : SerializeError)
     → IsSerializeError version (bare_values kind raw) e → IsWriteFault version kind rows bytes (faults.Write e)
-script_fault version kind rows bytes raw h some errors.OutOfMemory s =
-    omega (arith, some, rows_length bytes rows (events kind raw) h.in_rows)
+script_fault version kind rows bytes raw h some errors.OutOfMemory s = field_after_two bytes kind rows raw h some
 script_fault version kind rows bytes raw h some (errors.Unsupported unfit) s =
     record { raw = raw; rows_of = h; error = s }
 
-pub some_list : (ms : List MemberCalls) → 0 < length ms → 0 < length (events list_field (supplied_list ms))
+pub some_item : (i : RawItem) → 1 < length (events item_field i)
+some_item i = omega (arith, length-append (map (λ p. parameter p.0 p.1) i.parameters) (parameters_end ∷ []))
+
+some_member : (m : RawMember) (es : List TreeEvent) → 0 < length (member_events m ++ es)
+some_member (item i) es = omega arith
+some_member (inner_list l) es = omega arith
+
+pub some_list : (ms : List MemberCalls) → 0 < length ms → 1 < length (events list_field (supplied_list ms))
 some_list [] h = absurd (omega (arith, h))
-some_list (m ∷ ms) h = omega arith
+some_list (m ∷ ms) h =
+    omega (arith, some_member (supplied_member (member_calls m)) (flat_map entry_events (supplied_list ms)))
 
 pub some_dictionary : (ms : List (KeyRef × MemberCalls)) → 0 < length ms
-    → 0 < length (events dictionary_field (supplied_dictionary ms))
+    → 1 < length (events dictionary_field (supplied_dictionary ms))
 some_dictionary [] h = absurd (omega (arith, h))
-some_dictionary (m ∷ ms) h = omega arith
+some_dictionary (m ∷ ms) h =
+    omega (arith, some_member (supplied_member (member_calls m.1)) (flat_map keyed_events (supplied_dictionary ms)))

@@ -7,4 +7,5 @@ pub mod Valid
 pub mod Accepted
 pub mod RowEvents
 pub mod WrongRows
+pub mod Memory
 pub mod Fields

@@ -1,5 +1,5 @@
 -- Rows and the events that they are.
-use Rattle.std.proofs.Common.{◌≡◌, ℕ, ℤ, zero, suc, ◌+◌, ◌<◌, List, [], ◌∷◌, ◌++◌, length, take, refl, sym, ◌∙◌, ap, subst, arith, Option, Some, None}
+use Rattle.std.proofs.Common.{◌≡◌, ℕ, ℤ, zero, suc, ◌+◌, ◌<◌, ◌≤◌, List, [], ◌∷◌, ◌++◌, length, take, refl, sym, ◌∙◌, ap, subst, arith, Option, Some, None}
 use Rattle.sfv.specs.Events.{TreeEvent, keyed_entry, bare_item, parameter}
 use Rattle.sfv.specs.KeyText.{KeyRef}
 use Rattle.sfv.specs.Types.{ParamCall}
@@ -112,3 +112,19 @@ module _ (bytes : List ℕ) where
       let x : o ≡ e = only_event bytes r o e h.0 d.1 in
       let y = i.1 in
       (i.0, cc, i.2, i.3)
+
+  -- the first rows are those of the first events
+  pub reads_first : (rows : List Row) (es : List TreeEvent) (rest : List Row) (n : ℕ) → n ≤ length es
+      → Reads bytes rows es rest → AreRowsOf bytes (take n rows) (take n es)
+  reads_first rows es rest zero l h = tt
+  reads_first rows [] rest (suc n) l h = absurd (omega (arith, l))
+  reads_first [] (e ∷ es) rest (suc n) l h = absurd h
+  reads_first (r ∷ rs) (e ∷ es) rest (suc n) l h = (h.1, reads_first rs es rest n (omega (arith, l)) h.2)
+
+  pub rows_first : (n : ℕ) (rows : List Row) (es : List TreeEvent) → AreRowsOf bytes rows es
+      → AreRowsOf bytes (take n rows) (take n es)
+  rows_first zero rows es h = tt
+  rows_first (suc n) [] [] h = tt
+  rows_first (suc n) [] (e ∷ es) h = absurd h
+  rows_first (suc n) (r ∷ rs) [] h = absurd h
+  rows_first (suc n) (r ∷ rs) (e ∷ es) h = (h.0, rows_first n rs es h.1)

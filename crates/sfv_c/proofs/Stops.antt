@@ -1,5 +1,5 @@
 -- Where the reading of rows stops.
-use Rattle.std.proofs.Common.{◌≡◌, ℕ, ◌<◌, List, [], ◌∷◌, ◌++◌, length, map, flat_map, refl, sym, ◌∙◌, ap, subst}
+use Rattle.std.proofs.Common.{◌≡◌, ℕ, List, [], ◌∷◌, ◌++◌, length, map, flat_map, refl, sym, ◌∙◌, ap, subst}
 use Rattle.std.proofs.Common.{arith, append_assoc, Bool, true, false, IsTrue, ◌==◌, Option, Some, None}
 use Rattle.std.proofs.Common.{Result, Ok, Err}
 use Rattle.std.specs.Result.{IsErrAnd, IfErr}
@@ -10,18 +10,20 @@ use Rattle.std.proofs.lemmas.List.Elements.{filter_map-append}
 use Rattle.sfv.specs.Events.{TreeEvent, entry, keyed_entry, begins_item, item_events, inner_item_events, member_events}
 use Rattle.sfv.specs.Events.{entry_events, keyed_events, begins_inner_list, bare_item, parameter, parameters_end, inner_list_end}
 use Rattle.sfv.specs.Classes.{is_key}
-use Rattle.sfv.specs.Values.{BareValue, IsBareValue}
+use Rattle.sfv.specs.Values.{BareValue, IsBareValue, RawParameters, RawItem, RawMember, item, inner_list}
 use Rattle.sfv.specs.Calls.{written, supplied_member}
-use Rattle.sfv.specs.KeyText.{KeyRef, key_text}
+use Rattle.sfv.specs.KeyText.{KeyRef}
+use Rattle.sfv.specs.CheckedTexts.{text_of as key_text}
 use Rattle.sfv.specs.Scripts.{item_of_calls, member_calls, supplied_list, described_list, supplied_dictionary, described_dictionary}
 use Rattle.sfv.specs.Types.{ItemCalls, MemberCalls}
 use Rattle.sfv_c.specs.declared.rows.Row.{Row}
 use Rattle.sfv_c.specs.declared.rows_to_calls.ParseStop.{ParseStop}
 use Rattle.sfv_c.specs.declared.rows_to_calls.ParseStop.TheVariants as stop
 use Rattle.sfv_c.specs.RowEvents.{ParseState, ended, list_members, dictionary_members, member, value, parameters, items}
-use Rattle.sfv_c.specs.RowEvents.{IsValidEvent, stops, after, may_end, Reads, IsStuck, StopsAt, IsStop}
+use Rattle.sfv_c.specs.RowEvents.{IsValidEvent, stops, after, may_end, Reads, IsStuck, StopsAt, IsStop, takes_memory}
 use Rattle.sfv_c.specs.Writing.{IsRowOf}
-use Rattle.sfv_c.proofs.RowEvents.{reads_on, reads_length}
+use Rattle.sfv_c.proofs.Places.{stops_parameters, stops_items}
+use Rattle.sfv_c.proofs.RowEvents.{reads_on}
 
 -- an error that a call hands on
 pub err_and : {T E : Type 0} (r : Result T E) (e : E) (Q : E → Type 0) → IsErrAnd r (λ x. x ≡ e) → Q e → IfErr r Q
@@ -65,7 +67,16 @@ module _ (bytes : List ℕ) where
     stuck = h.stuck;
     count = h.count;
   }
-  stop_after p q rows es mid r l stop.Memory h = omega (arith, reads_length bytes rows es mid r, h)
+  stop_after p q rows es mid r l stop.Memory h = record {
+    es = es ++ h.es;
+    last = h.last;
+    rest = h.rest;
+    place = h.place;
+    read = subst (λ (x : List TreeEvent). Reads bytes rows x h.rest) (sym (append_assoc es h.es (h.last ∷ [])))
+        (reads_on bytes rows es mid (h.es ++ h.last ∷ []) h.rest r h.read);
+    leads = λ more. ap (stops p) (append_assoc es h.es more) ∙ (l (h.es ++ more) ∙ h.leads more);
+    allocates = h.allocates;
+  }
 
   -- the same after one event more
   pub after_event : (p q next : ParseState) (rows : List Row) (es : List TreeEvent) (left : List Row) (e : TreeEvent)
@@ -90,9 +101,58 @@ module _ (bytes : List ℕ) where
   stopped_at p q rows es left r l k =
       stop_after p q rows es left r l (stop.At (length left)) (stop_here q left (length left) k refl)
 
-  pub some_row : (rows : List Row) (es : List TreeEvent) (left : List Row) (row : Row) (rest : List Row)
-      → Reads bytes rows es left → left ≡ row ∷ rest → 0 < length rows
-  some_row rows es left row rest r h = omega (arith, reads_length bytes rows es left r, ap length h)
+  -- memory runs out at the last parameter, at the end of an item, and at that of a member
+  pub out_at_parameter : (p : ParseState) (rows : List Row) (ps : RawParameters) (left : List Row) (key : List ℕ)
+      (v : BareValue) (rest : List Row) → Reads bytes rows (map (λ q. parameter q.0 q.1) ps) left
+      → Reads bytes left (parameter key v ∷ []) rest → IsStop bytes (parameters p) rows stop.Memory
+  out_at_parameter p rows ps left key v rest h k = record {
+    es = map (λ q. parameter q.0 q.1) ps;
+    last = parameter key v;
+    rest = rest;
+    place = p;
+    read = reads_on bytes rows (map (λ q. parameter q.0 q.1) ps) left (parameter key v ∷ []) rest h k;
+    leads = stops_parameters p ps;
+    allocates = refl;
+  }
+
+  pub out_at_item : (p : ParseState) (rows : List Row) (i : RawItem) (rest : List Row) → Reads bytes rows (item_events i) rest
+      → IsTrue (takes_memory parameters_end p) → IsStop bytes (value p) rows stop.Memory
+  out_at_item p rows i rest h t = record {
+    es = bare_item i.bare ∷ map (λ q. parameter q.0 q.1) i.parameters;
+    last = parameters_end;
+    rest = rest;
+    place = p;
+    read = h;
+    leads = stops_parameters p i.parameters;
+    allocates = t;
+  }
+
+  pub out_at_member : (p : ParseState) (rows : List Row) (m : RawMember) (rest : List Row)
+      → Reads bytes rows (member_events m) rest → IsTrue (takes_memory parameters_end p)
+      → IsStop bytes (member p) rows stop.Memory
+  out_at_member p rows (item i) rest h t = record {
+    es = begins_item ∷ bare_item i.bare ∷ map (λ q. parameter q.0 q.1) i.parameters;
+    last = parameters_end;
+    rest = rest;
+    place = p;
+    read = h;
+    leads = stops_parameters p i.parameters;
+    allocates = t;
+  }
+  out_at_member p rows (inner_list l) rest h t =
+      let is = flat_map inner_item_events l.items in
+      let ps = map (λ q. parameter q.0 q.1) l.parameters in
+      record {
+        es = begins_inner_list ∷ (is ++ inner_list_end ∷ ps);
+        last = parameters_end;
+        rest = rest;
+        place = p;
+        read = subst (λ (x : List TreeEvent). Reads bytes rows (begins_inner_list ∷ x) rest)
+            (sym (append_assoc is (inner_list_end ∷ ps) (parameters_end ∷ []))) h;
+        leads = λ more. ap (stops (items p)) (append_assoc is (inner_list_end ∷ ps) more)
+            ∙ (stops_items p l.items (inner_list_end ∷ (ps ++ more)) ∙ stops_parameters p l.parameters more);
+        allocates = t;
+      }
 
   -- nothing may follow an item
   pub over : (rows : List Row) → (rows ≡ [] → ⊥) → IsStuck bytes ended rows

@@ -1,5 +1,5 @@
 -- The events of rows, and their order.
-use Rattle.std.specs.Prelude.{◌≡◌, MatchOption, ⊤, ℕ, ◌<◌, List, [], ◌∷◌, ◌++◌, length, Bool, true, false, IsTrue, Option, Some, None}
+use Rattle.std.specs.Prelude.{◌≡◌, MatchOption, ⊤, ℕ, List, [], ◌∷◌, ◌++◌, length, Bool, true, false, IsTrue, Option, Some, None}
 use Rattle.std.specs.Prelude.{if◌then◌else◌, Result, Ok, Err, option_map, string_bytes}
 use Rattle.std.specs.Borrow.{Bor}
 use Rattle.sfv.specs.Values.{RawField, BareValue, IsBareValue}
@@ -12,7 +12,8 @@ use Rattle.sfv.specs.BareItems.{ref_value}
 use Rattle.sfv.specs.StringText.{StringRef}
 use Rattle.sfv.specs.TokenText.{TokenRef}
 use Rattle.sfv.specs.Types.{GenericBareItem, ParamCall}
-use Rattle.sfv.specs.KeyText.{KeyRef, key_text}
+use Rattle.sfv.specs.KeyText.{KeyRef}
+use Rattle.sfv.specs.CheckedTexts.{text_of}
 use Rattle.sfv_c.specs.Rows.{ValueNumbers, EventNumbers, value_numbers}
 use Rattle.sfv_c.specs.Writing.{IsRowOf, IsScriptText, AreRowsOfField, IsWriteFault}
 use Rattle.sfv_c.specs.declared.answer.CallFault.{CallFault}
@@ -45,7 +46,7 @@ plain_numbers tag = record { tag = tag; key = []; value = value_numbers None }
 -- `Some` key whose `keyed_entry` satisfies `Is`, or no valid one does
 abbrev pub GivesKey : (TreeEvent → Type 0) → Option KeyRef → Type 0
 GivesKey Is r = MatchOption r ((key : List ℕ) → IsTrue (is_key key) → ¬ Is (keyed_entry key))
-    (λ key. IsTrue (is_key (key_text key)) × Is (keyed_entry (key_text key)))
+    (λ key. IsTrue (is_key (text_of key)) × Is (keyed_entry (text_of key)))
 
 -- `Some` value whose `bare_item` satisfies `Is`, or no valid one does
 abbrev pub GivesValue : (TreeEvent → Type 0) → Option RefItem → Type 0
@@ -56,8 +57,8 @@ GivesValue Is r = MatchOption r ((v : BareValue) → IsBareValue v → ¬ Is (ba
 abbrev pub GivesParameter : (TreeEvent → Type 0) → Option ParamCall → Type 0
 GivesParameter Is r =
     MatchOption r ((key : List ℕ) (v : BareValue) → IsTrue (is_key key) → IsBareValue v → ¬ Is (parameter key v))
-    (λ call. IsTrue (is_key (key_text call.key)) × IsBareValue (ref_value call.value)
-    × Is (parameter (key_text call.key) (ref_value call.value)))
+    (λ call. IsTrue (is_key (text_of call.key)) × IsBareValue (ref_value call.value)
+    × Is (parameter (text_of call.key) (ref_value call.value)))
 
 -- the rows are those of these valid events, followed by these rows
 abbrev pub Reads : List ℕ → List Row → List TreeEvent → List Row → Type 0
@@ -117,10 +118,29 @@ pub record StopsAt (bytes : List ℕ) (p : ParseState) (rows : List Row) (left :
   pub stuck : IsStuck bytes place rest
   pub count : left ≡ length rest
 
--- the reason to stop: so many rows are left, or memory ran out, which requires a row
+-- The event allocates in parameters that this place follows: a parameter does, and so does the end of parameters, which
+-- completes an item of an inner list or a member.
+abbrev pub takes_memory : TreeEvent → ParseState → Bool
+takes_memory (parameter key v) p = true
+takes_memory parameters_end ended = false
+takes_memory parameters_end p = true
+takes_memory e p = false
+
+-- Memory may run out: there are rows with events that lead from this place into parameters, and then a row with an
+-- event that allocates there.
+pub record RunsOut (bytes : List ℕ) (p : ParseState) (rows : List Row) : Type 0 where
+  pub es : List TreeEvent
+  pub last : TreeEvent
+  pub rest : List Row
+  pub place : ParseState
+  pub read : Reads bytes rows (es ++ last ∷ []) rest
+  pub leads : (more : List TreeEvent) → stops p (es ++ more) ≡ stops (parameters place) more
+  pub allocates : IsTrue (takes_memory last place)
+
+-- the reason to stop: so many rows are left, or memory ran out
 abbrev pub IsStop : List ℕ → ParseState → List Row → ParseStop → Type 0
 IsStop bytes p rows (stop.At left) = StopsAt bytes p rows left
-IsStop bytes p rows stop.Memory = 0 < length rows
+IsStop bytes p rows stop.Memory = RunsOut bytes p rows
 
 -- the rows are those of a field that the version has, and this is its text
 pub record IsTextOf (version : Version) (kind : FieldKind) (rows : List Row) (bytes : List ℕ) (text : Option (List ℕ))

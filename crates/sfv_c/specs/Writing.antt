@@ -83,11 +83,12 @@ pub record HoldsUnfit (version : Version) (kind : FieldKind) (rows : List Row) (
   pub rows_of : AreRowsOfField kind rows bytes raw
   pub error : IsSerializeError version (bare_values kind raw) (errors.Unsupported unfit)
 
--- The reason why rows are not written. Writing allocates only if there is a row. Rows are invalid only if no field
--- has them; the index is then the first wrong row, or their number.
+-- The reason why rows are not written. Writing allocates only if the first two rows begin a field. Rows are invalid
+-- only if no field has them; the index is then the first wrong row, or their number.
 abbrev pub IsWriteFault : Version → FieldKind → List Row → List ℕ → CallFault → Type 0
 IsWriteFault version kind rows bytes (faults.Read e) = ⊥
-IsWriteFault version kind rows bytes (faults.Write errors.OutOfMemory) = 0 < length rows
+IsWriteFault version kind rows bytes (faults.Write errors.OutOfMemory) =
+    (1 < length rows) × BeginRowsOfField kind (take 2 rows) bytes
 IsWriteFault version kind rows bytes (faults.Write (errors.Unsupported unfit)) = HoldsUnfit version kind rows bytes unfit
 IsWriteFault version kind rows bytes (faults.Rows n) = AreWrongAt kind rows bytes n
 

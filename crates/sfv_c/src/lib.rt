@@ -59,15 +59,19 @@ pub extern "C" fn sfv_c_canonical(
     ensures no_reading { named_version reading ≡ None → (result ≡ bad_argument) × (out.new ≡ out.old) }
     ensures no_writing { named_version writing ≡ None → (result ≡ bad_argument) × (out.new ≡ out.old) }
 {
-    match (field_of(field), version_of(reading), version_of(writing)) {
-        (Some(field), Some(reading), Some(writing)) => {
-            let parser = Parser::new(input)
-                .with_version(reading)
-                .with_hash_seed(HashSeed::new(seed));
-            canonical(alloc, field, parser, writing, out)
-        }
-        _ => BAD_ARGUMENT,
-    }
+    let Some(field) = field_of(field) else {
+        return BAD_ARGUMENT;
+    };
+    let Some(reading) = version_of(reading) else {
+        return BAD_ARGUMENT;
+    };
+    let Some(writing) = version_of(writing) else {
+        return BAD_ARGUMENT;
+    };
+    let parser = Parser::new(input)
+        .with_version(reading)
+        .with_hash_seed(HashSeed::new(seed));
+    canonical(alloc, field, parser, writing, out)
 }
 
 /// Tells whether the input is a field of this type under the version. Memory is asked for only where a backslash, a
@@ -82,12 +86,13 @@ pub extern "C" fn sfv_c_check(alloc: Global, field: u32, version: u32, input: &[
     ensures no_field { named_field field ≡ None → result ≡ bad_argument }
     ensures no_version { named_version version ≡ None → result ≡ bad_argument }
 {
-    match (field_of(field), version_of(version)) {
-        (Some(field), Some(version)) => {
-            check(alloc, field, Parser::new(input).with_version(version))
-        }
-        _ => BAD_ARGUMENT,
-    }
+    let Some(field) = field_of(field) else {
+        return BAD_ARGUMENT;
+    };
+    let Some(version) = version_of(version) else {
+        return BAD_ARGUMENT;
+    };
+    check(alloc, field, Parser::new(input).with_version(version))
 }
 
 /// Reads the input as a field of this type under the version, and writes its events into the buffers: as far as there is
@@ -110,13 +115,14 @@ pub extern "C" fn sfv_c_events(
     ensures no_field { named_field field ≡ None → result ≡ bad_argument }
     ensures no_version { named_version version ≡ None → result ≡ bad_argument }
 {
-    match (field_of(field), version_of(version)) {
-        (Some(field), Some(version)) => {
-            let parser = Parser::new(input).with_version(version);
-            keep_events(alloc, field, parser, rows, bytes)
-        }
-        _ => BAD_ARGUMENT,
-    }
+    let Some(field) = field_of(field) else {
+        return BAD_ARGUMENT;
+    };
+    let Some(version) = version_of(version) else {
+        return BAD_ARGUMENT;
+    };
+    let parser = Parser::new(input).with_version(version);
+    keep_events(alloc, field, parser, rows, bytes)
 }
 
 /// Reads the input as a field of this type under the version, and puts its events into the buffers, whole or not at all.
@@ -139,13 +145,14 @@ pub extern "C" fn sfv_c_events_whole(
     ensures no_field { named_field field ≡ None → (rows.new, bytes.new, result) ≡ left_alone rows.old bytes.old }
     ensures no_version { named_version version ≡ None → (rows.new, bytes.new, result) ≡ left_alone rows.old bytes.old }
 {
-    match (field_of(field), version_of(version)) {
-        (Some(field), Some(version)) => {
-            let parser = Parser::new(input).with_version(version);
-            put_events(alloc, field, parser, rows, bytes)
-        }
-        _ => BAD_ARGUMENT,
-    }
+    let Some(field) = field_of(field) else {
+        return BAD_ARGUMENT;
+    };
+    let Some(version) = version_of(version) else {
+        return BAD_ARGUMENT;
+    };
+    let parser = Parser::new(input).with_version(version);
+    put_events(alloc, field, parser, rows, bytes)
 }
 
 /// Puts the canonical text for the version of the field of these rows, as `sfv_c_events_whole` writes them, at the
@@ -155,8 +162,8 @@ pub extern "C" fn sfv_c_events_whole(
 ///
 /// No field, if the rows are those of no field of this type, with the index of the first that no field has there, or with
 /// their number, if more are wanted; unsupported, with the kind of the first value that the version doesn't have; out of
-/// memory, and only where there is a row; too small, with the length that is wanted; and nothing, of a list or a dictionary
-/// without members. The buffer is then as it was.
+/// memory, and only where the first two rows begin a field; too small, with the length that is wanted; and nothing, of a
+/// list or a dictionary without members. The buffer is then as it was.
 #[unsafe(no_mangle)]
 pub extern "C" fn sfv_c_write(
     alloc: Global,
@@ -170,10 +177,13 @@ pub extern "C" fn sfv_c_write(
     ensures no_field { named_field field ≡ None → (result ≡ bad_argument) × (out.new ≡ out.old) }
     ensures no_version { named_version version ≡ None → (result ≡ bad_argument) × (out.new ≡ out.old) }
 {
-    match (field_of(field), version_of(version)) {
-        (Some(field), Some(version)) => write(alloc, field, version, rows, bytes, out),
-        _ => BAD_ARGUMENT,
-    }
+    let Some(field) = field_of(field) else {
+        return BAD_ARGUMENT;
+    };
+    let Some(version) = version_of(version) else {
+        return BAD_ARGUMENT;
+    };
+    write(alloc, field, version, rows, bytes, out)
 }
 
 /// Puts the text of the kind of error of this number at the beginning of the buffer.

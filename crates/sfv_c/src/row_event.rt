@@ -3,9 +3,7 @@
 ghost use Rattle.std.specs.Prelude.{◌≡◌, ◌↔◌, [], pos, Bool, ◌+◌, ◌≤◌, length, None, MatchOption, IsTrue};
 ghost use Rattle.std.specs.List.{list_all};
 ghost use Rattle.sfv.specs.Classes.{is_key, is_token, is_string_byte};
-ghost use Rattle.sfv.specs.KeyText.{key_text};
-ghost use Rattle.sfv.specs.TokenText.{token_text};
-ghost use Rattle.sfv.specs.StringText.{string_text};
+ghost use Rattle.sfv.specs.CheckedTexts.{text_of};
 ghost use Rattle.sfv.specs.Values.{IsInRange, is_byte};
 ghost use Rattle.sfv.specs.Texts.{RunOf};
 ghost use Rattle.sfv.specs.NumberValues.{integer_of};
@@ -67,7 +65,7 @@ fn text_in(value: Value<'_>) -> Option<&[u8]>
 /// The key of these bytes.
 fn key_in(bytes: &[u8]) -> Option<KeyRef<'_>>
     ensures { MatchOption result (¬ IsTrue (is_key bytes.now))
-        (λ key. (key_text key ≡ bytes.now) × IsTrue (is_key bytes.now)) }
+        (λ key. (text_of key ≡ bytes.now) × IsTrue (is_key bytes.now)) }
 {
     KeyRef::from_bytes(bytes).ok()
 }
@@ -75,7 +73,7 @@ fn key_in(bytes: &[u8]) -> Option<KeyRef<'_>>
 /// The token of these bytes.
 fn token_in(bytes: &[u8]) -> Option<TokenRef<'_>>
     ensures { MatchOption result (¬ IsTrue (is_token bytes.now))
-        (λ token. (token_text token ≡ bytes.now) × IsTrue (is_token bytes.now)) }
+        (λ token. (text_of token ≡ bytes.now) × IsTrue (is_token bytes.now)) }
 {
     TokenRef::from_bytes(bytes).ok()
 }
@@ -83,7 +81,7 @@ fn token_in(bytes: &[u8]) -> Option<TokenRef<'_>>
 /// The string of these bytes.
 fn string_in(bytes: &[u8]) -> Option<StringRef<'_>>
     ensures { MatchOption result (¬ IsTrue (list_all is_string_byte bytes.now))
-        (λ text. (string_text text ≡ bytes.now) × IsTrue (list_all is_string_byte bytes.now)) }
+        (λ text. (text_of text ≡ bytes.now) × IsTrue (list_all is_string_byte bytes.now)) }
 {
     StringRef::from_bytes(bytes).ok()
 }

@@ -9,7 +9,7 @@ pub use Rattle.sfv.specs.Field.{ErrorKind, IsFaultAt}
 pub use Rattle.sfv.specs.Field.{TreeEvent, entry, keyed_entry, begins_item, begins_inner_list, bare_item, parameter}
 pub use Rattle.sfv.specs.Field.{parameters_end, inner_list_end, parameters_events, member_events, entry_events}
 pub use Rattle.sfv.specs.Field.{keyed_events, events, integer_of, thousandths_of, seconds_of}
-pub use Rattle.sfv.specs.Field.{index_of, kind_of, out_of_memory, key_text, string_text, token_text}
+pub use Rattle.sfv.specs.Field.{index_of, kind_of, out_of_memory, text_of}
 pub use Rattle.sfv.specs.Field.{bare_value, ref_value, input_value, read_text, plain_item}
 pub use Rattle.sfv.specs.Field.{item_tree, member_tree, list_tree, dictionary_tree, pairs_tree}
 pub use Rattle.sfv.specs.Field.{IsParseError, IsAnswerOf, IsSyntaxOf, IsVisitorErrorOf}

@@ -2,7 +2,7 @@
 
 ghost use Rattle.std.specs.Prelude.{◌≡◌, ⊤, ℕ, List, [], MatchOption};
 ghost use Rattle.sfv_spec.specs.Values.{RawItem, RawParameters, RawMember};
-ghost use Rattle.sfv_text.specs.KeyText.{key_text};
+ghost use Rattle.sfv_text.specs.CheckedTexts.{text_of};
 ghost use Rattle.sfv_bare.specs.BareItems.{input_value};
 ghost use Rattle.sfv_field.specs.Words.{Members, IsIgnored, PutsItem, PutsInnerList, PutsParameter};
 
@@ -32,7 +32,7 @@ pub trait DictionaryReader<'de>: Drop {
 
     /// Returns the `Key` of a key, or `None` if its member changes nothing.
     fn key(key: KeyRef<'de>) -> Option<Self::Key>
-        ensures { MatchOption result (IsIgnored reads (key_text key.entry)) (λ found. text found ≡ key_text key.entry) };
+        ensures { MatchOption result (IsIgnored reads (text_of key.entry)) (λ found. text found ≡ text_of key.entry) };
 
     /// Receives the bare item of a member that is an item. The member replaces an earlier one with the same key.
     fn item(&mut self, key: Self::Key, item: BareItemFromInput<'de>)
@@ -44,7 +44,7 @@ pub trait DictionaryReader<'de>: Drop {
 
     /// Receives a parameter of the member. It replaces an earlier one with the same name.
     fn parameter(&mut self, key: Self::Key, name: KeyRef<'de>, value: BareItemFromInput<'de>)
-        ensures { PutsParameter reads self.old self.new (text key) (key_text name.entry) (input_value value.entry) };
+        ensures { PutsParameter reads self.old self.new (text key) (text_of name.entry) (input_value value.entry) };
 }
 
 /// A visitor that passes the parts of a dictionary to a reader.

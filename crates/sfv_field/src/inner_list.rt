@@ -2,7 +2,7 @@
 
 ghost use Rattle.std.specs.Prelude.{⊤, List, [], OnOk};
 ghost use Rattle.sfv_spec.specs.Values.{RawItem};
-ghost use Rattle.sfv_text.specs.KeyText.{key_text};
+ghost use Rattle.sfv_text.specs.CheckedTexts.{text_of};
 ghost use Rattle.sfv_bare.specs.BareItems.{input_value};
 ghost use Rattle.sfv_field.specs.Words.{AddsItem, AddsItemParameter};
 
@@ -39,7 +39,7 @@ pub trait InnerListReader<'de>: Drop {
         value: BareItemFromInput<'de>,
     ) -> Result<(), OutOfMemory>
         ensures { OnOk result
-            (AddsItemParameter reads self.old self.new (key_text key.entry) (input_value value.entry)) };
+            (AddsItemParameter reads self.old self.new (text_of key.entry) (input_value value.entry)) };
 }
 
 /// A reader that ignores the items of an inner list.

@@ -2,7 +2,7 @@
 
 ghost use Rattle.std.specs.Prelude.{◌≡◌, ⊤, None, List, [], OnOk};
 ghost use Rattle.sfv_spec.specs.Values.{RawItem, RawParameters, RawMember};
-ghost use Rattle.sfv_text.specs.KeyText.{key_text};
+ghost use Rattle.sfv_text.specs.CheckedTexts.{text_of};
 ghost use Rattle.sfv_bare.specs.BareItems.{input_value};
 ghost use Rattle.sfv_field.specs.Words.{Head, of_item, of_inner_list, AddsParameter, AddsMember};
 
@@ -41,7 +41,7 @@ pub trait ListReader<'de>: Drop {
 
     /// Receives a parameter of the member. It replaces an earlier one with the same key.
     fn parameter(member: &mut Self::Member, key: KeyRef<'de>, value: BareItemFromInput<'de>)
-        ensures { AddsParameter keeps member.old member.new (key_text key.entry) (input_value value.entry) };
+        ensures { AddsParameter keeps member.old member.new (text_of key.entry) (input_value value.entry) };
 
     /// Receives the member after its last parameter.
     ///

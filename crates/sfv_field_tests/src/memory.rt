@@ -1,7 +1,7 @@
 //! Failed allocations during serialization, and the text after them.
 
 use linked_list_allocator::LocalHeap;
-use sfv::{Item, OutOfMemory, Parser};
+use sfv::{Dictionary, FieldType, Item, ItemSerializer, List, OutOfMemory, Parser, RefBareItem};
 use sfv_writer::output::serialize_separator;
 use sfv_writer::serialize_item;
 use std::alloc::Global;
@@ -87,4 +87,29 @@ fn a_short_text_is_written_without_its_first_memory(rt: HostRuntime) {
         }
     }
     assert!(rt; was_refused && was_granted);
+}
+
+/// Returns the capacity of the text of the field that the input parses to.
+fn capacity_of<T: FieldType>(alloc: Global, input: &str) -> Option<usize> {
+    let field = Parser::new(input.as_bytes()).parse::<T>(alloc).ok()?;
+    let text: Option<String> = field.serialize(alloc).ok()?.into();
+    Some(text?.capacity())
+}
+
+#[test]
+fn short_texts_keep_their_first_capacity(rt: HostRuntime) {
+    let alloc = rt.alloc();
+    assert!(rt; capacity_of::<Item>(alloc, "1") == Some(32));
+    assert!(rt; capacity_of::<Item>(alloc, "1;a;b=c") == Some(32 + 2 * 8));
+    assert!(rt; capacity_of::<List>(alloc, "a;b, (c d)") == Some(64 + 2 * 8));
+    assert!(rt; capacity_of::<Dictionary>(alloc, "a, b=1, c") == Some(64 + 3 * 8));
+}
+
+#[test]
+fn a_serializer_requests_memory_for_a_text_without_it(rt: HostRuntime) {
+    let mut text = String::new(rt.alloc());
+    let is_written = ItemSerializer::with_buffer(&mut text)
+        .bare_item(RefBareItem::from(1u8))
+        .is_ok();
+    assert!(rt; is_written && text.capacity() == 128);
 }

@@ -3,7 +3,7 @@ use Rattle.std.proofs.Common.{◌≡◌, ℕ, ◌+◌, ◌≤◌, ◌<◌, List,
 use Rattle.std.proofs.Common.{arith}
 use Rattle.std.specs.Prelude.{nat_le, ◌==◌, ◌^◌, codes, if◌then◌else◌}
 use Rattle.std.proofs.lemmas.Fmt.{decimal_digit}
-use Rattle.sfv.specs.Ascii.{digit_zero}
+use Rattle.sfv.specs.Ascii.{byte}
 use Rattle.sfv.specs.Texts.{joined}
 use Rattle.sfv.specs.Types.{dictionary_field}
 use Rattle.sfv.specs.Types.{Version, Rfc8941}
@@ -17,7 +17,7 @@ use Rattle.sfv_fields.specs.PrioritySteps.{members_by, members_of}
 
 abbrev text_by : Bool → Bool → ℕ → List ℕ
 text_by d i n = joined (codes ", ")
-    ((if d then [] else (codes "u=" ++ (digit_zero + n) ∷ []) ∷ []) ++ (if i then codes "i" ∷ [] else []))
+    ((if d then [] else (codes "u=" ++ (byte "0" + n) ∷ []) ∷ []) ++ (if i then codes "i" ∷ [] else []))
 
 same_text : (d i : Bool) (n : ℕ) → n ≤ 7 → canonical dictionary_field (members_by d i n) ≡ text_by d i n
 same_text true true n h = refl

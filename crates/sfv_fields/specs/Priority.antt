@@ -1,7 +1,7 @@
 -- The Priority field (RFC 9218, section 4), a dictionary.
 use Rattle.std.specs.Prelude.{◌≡◌, ℕ, List, [], ◌∷◌, ◌++◌, ◌+◌, ◌==◌, Bool, false, nat_le, if◌then◌else◌, Option, Some}
 use Rattle.std.specs.Prelude.{pos, codes}
-use Rattle.sfv.specs.Ascii.{digit_zero}
+use Rattle.sfv.specs.Ascii.{byte}
 use Rattle.sfv.specs.Texts.{joined}
 use Rattle.sfv.specs.Values.{BareValue, integer, boolean, RawMember, item}
 use Rattle.sfv.specs.Types.{dictionary_field}
@@ -43,7 +43,7 @@ priority members = record {
 -- the text for an urgency from 0 to 7, without defaults
 abbrev pub priority_text : PriorityValue → List ℕ
 priority_text p = joined (codes ", ")
-    ((if p.urgency == 3 then [] else (codes "u=" ++ (digit_zero + p.urgency) ∷ []) ∷ [])
+    ((if p.urgency == 3 then [] else (codes "u=" ++ (byte "0" + p.urgency) ∷ []) ∷ [])
     ++ (if p.incremental then codes "i" ∷ [] else []))
 
 abbrev pub value_of : Priority → PriorityValue

@@ -1,5 +1,5 @@
 -- The members of the field, as the reader takes and the writer appends them.
-use Rattle.sfv.specs.Ascii.{digit_zero}
+use Rattle.sfv.specs.Ascii.{byte}
 use Rattle.std.specs.Prelude.{ℕ, List, [], ◌∷◌, ◌++◌, ◌+◌, ◌==◌, Bool, true, if◌then◌else◌, pos, codes}
 use Rattle.sfv_field.specs.Field.{integer, boolean, RawMember, item, plain_item}
 use Rattle.sfv_fields.specs.declared.priority.visiting.Member.{Member}
@@ -21,7 +21,7 @@ members_of p = members_by (p.urgency == 3) p.incremental p.urgency
 
 -- the text of each member, unless it is the default
 abbrev pub urgency_texts : ℕ → List (List ℕ)
-urgency_texts urgency = if urgency == 3 then [] else (codes "u=" ++ (digit_zero + urgency) ∷ []) ∷ []
+urgency_texts urgency = if urgency == 3 then [] else (codes "u=" ++ (byte "0" + urgency) ∷ []) ∷ []
 
 abbrev pub incremental_texts : Bool → List (List ℕ)
 incremental_texts incremental = if incremental then codes "i" ∷ [] else []

@@ -5,7 +5,7 @@ ghost use Rattle.std.specs.Prelude.{option_copied, string_bytes};
 ghost use Rattle.sfv.specs.Types.{dictionary_field};
 ghost use Rattle.sfv.specs.Written.{IsSerialized};
 ghost use Rattle.sfv.specs.Errors.{out_of_memory};
-ghost use Rattle.sfv.specs.KeyText.{key_text};
+ghost use Rattle.sfv.specs.CheckedTexts.{text_of};
 ghost use Rattle.sfv.specs.Trees.{member_tree, dictionary_tree};
 ghost use Rattle.sfv_fields.specs.ContentDigests.{bytes_in, last_bytes, digest_bytes, digests_in, no_digests};
 ghost use Rattle.sfv_fields.specs.ContentDigests.{HasDigests, IsDigestError, ReturnsDigests, AreSameDigests};
@@ -77,7 +77,7 @@ fn digest_of(
     dictionary: &Dictionary,
     algorithm: KeyRef<'_>,
 ) -> Result<Option<Vec<u8>>, DigestError>
-    ensures { GivesDigest (last_bytes (key_text algorithm.entry) (dictionary_tree dictionary.now.entries)) result }
+    ensures { GivesDigest (last_bytes (text_of algorithm.entry) (dictionary_tree dictionary.now.entries)) result }
 {
     let Some(member) = find_entry(dictionary, algorithm) else {
         return Ok(None);
@@ -131,7 +131,7 @@ fn put(
     digest: &Option<Vec<u8>>,
 ) -> Result<(), OutOfMemory>
     ensures members { OnOk result (dictionary_tree dictionary.new.entries
-        ≡ entered (dictionary_tree dictionary.old.entries) (key_text algorithm.entry) (digest_bytes digest.now)) }
+        ≡ entered (dictionary_tree dictionary.old.entries) (text_of algorithm.entry) (digest_bytes digest.now)) }
     ensures out_of_memory { OnErr result (digest.now ≢ None) }
 {
     if let Some(bytes) = digest {

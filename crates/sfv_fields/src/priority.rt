@@ -7,7 +7,7 @@ ghost use Rattle.std.specs.Prelude.{◌≡◌, ◌≢◌, ◌≤◌, ◌↔◌, 
 ghost use Rattle.std.specs.Prelude.{option_copied, option_map};
 ghost use Rattle.sfv.specs.Types.{Version, Rfc9651};
 ghost use Rattle.sfv.specs.BareItems.{ref_value};
-ghost use Rattle.sfv.specs.KeyText.{key_text};
+ghost use Rattle.sfv.specs.CheckedTexts.{text_of};
 ghost use Rattle.sfv.specs.Trees.{member_tree, dictionary_tree};
 ghost use Rattle.sfv.specs.Serializers.{HasAppended, HasAppendedNext, is_empty_so_far, sequence_version, sequence_sink};
 ghost use Rattle.sfv.specs.Written.{AppendsOrKeeps, AsksForRoom, LacksRoom, keyed_text, separator_before, with_separators, is_first_after};
@@ -84,9 +84,9 @@ fn write_member<W: Sink>(
 ) -> Result<(), OutOfMemory>
     requires { sequence_version members.old ≡ Rfc9651 }
     ensures text { OnOk result (HasAppendedNext W.Sink (codes ", ") members.old members.new
-        (keyed_text (key_text name.entry) (ref_value value.entry)) false) }
+        (keyed_text (text_of name.entry) (ref_value value.entry)) false) }
     ensures room { OnErr result (LacksRoom (W.text (sequence_sink members.old))
-        (separator_before (is_empty_so_far members.old) (codes ", ") ++ keyed_text (key_text name.entry) (ref_value value.entry))) }
+        (separator_before (is_empty_so_far members.old) (codes ", ") ++ keyed_text (text_of name.entry) (ref_value value.entry))) }
 {
     match members.bare_item(name, value) {
         Ok(params) => {

@@ -56,13 +56,17 @@ pub enum Call {
     Items,
     /// Writes an item with its parameters, in a buffer with room for this text.
     Item(&'static str),
-    /// Performs the calls of an item, for a version or not.
-    RunItem(bool),
-    /// Performs the calls of a list, for a version or not.
-    RunList(bool),
-    /// Performs the calls of a dictionary, for a version or not.
-    RunDict(bool),
+    /// Writes a value after this text, in a buffer without more room, so that this text results.
+    Value(FieldKind, usize, &'static str, &'static str),
+    /// Writes an inner list in a buffer without memory.
+    FirstInnerList,
+    /// Performs the calls of a field, for a version or not.
+    Run(FieldKind, bool),
 }
+
+/// The text of a byte sequence that is longer than what a serializer requests first.
+const LONG_BYTES: &str =
+    ":YWJjZGVmZ2hpamtsbW5vcHFyc3R1dnd4eXphYmNkZWZnaGlqa2xtbm9wcXJzdHV2d3h5emFiY2RlZmdoaWprbG1ub3BxcnN0dXZ3eHl6:";
 
 /// All calls, with their results.
 pub const CALLS: &[Call] = &[
@@ -116,8 +120,15 @@ pub const CALLS: &[Call] = &[
         b"b=\"q\\\"\";y, c=",
         Answer::Fault(ErrorKind::ExpectedStartOfBareItem, 13),
     ),
+    Call::Read(
+        FieldKind::Item,
+        b":Ynl0ZXM=:;k=:aGk=:",
+        Answer::Text(":Ynl0ZXM=:;k=:aGk=:"),
+    ),
     Call::WriteFor(FieldKind::Item, "\"a\\\"b\";k"),
+    Call::WriteFor(FieldKind::Item, ":Ynl0ZXM=:;k=:aGk=:"),
     Call::WriteFor(FieldKind::List, "\"a\\\"b\", (k)"),
+    Call::WriteFor(FieldKind::List, LONG_BYTES),
     Call::WriteFor(FieldKind::Dictionary, "a=\"a\\\"b\", b=(k)"),
     Call::CopyKey,
     Call::CopyToken,
@@ -156,12 +167,21 @@ pub const CALLS: &[Call] = &[
     Call::Items,
     Call::Item("X: "),
     Call::Item("X: 1"),
-    Call::RunItem(false),
-    Call::RunList(false),
-    Call::RunDict(false),
-    Call::RunItem(true),
-    Call::RunList(true),
-    Call::RunDict(true),
+    Call::Value(FieldKind::Item, 0, "", "\"a b\""),
+    Call::Value(FieldKind::Item, 2, "X: ", "X: :Ynl0ZXM=:"),
+    Call::Value(FieldKind::Item, 4, "", LONG_BYTES),
+    Call::Value(FieldKind::List, 1, "", "a/b"),
+    Call::Value(FieldKind::List, 2, "X: ", "X: :Ynl0ZXM=:"),
+    Call::Value(FieldKind::List, 3, "", "%\"%c3%bc\""),
+    Call::Value(FieldKind::Dictionary, 2, "", "k=:Ynl0ZXM=:"),
+    Call::Value(FieldKind::Dictionary, 3, "X: ", "X: k=%\"%c3%bc\""),
+    Call::FirstInnerList,
+    Call::Run(FieldKind::Item, false),
+    Call::Run(FieldKind::List, false),
+    Call::Run(FieldKind::Dictionary, false),
+    Call::Run(FieldKind::Item, true),
+    Call::Run(FieldKind::List, true),
+    Call::Run(FieldKind::Dictionary, true),
 ];
 
 /// Parses a field of this type, and serializes it.
@@ -209,8 +229,8 @@ pub fn perform(alloc: Global, call: Call) -> Result<bool, Error> {
         Call::NamedInnerList => writing::named_inner_list(alloc),
         Call::Items => writing::items(alloc),
         Call::Item(room) => writing::item(alloc, room),
-        Call::RunItem(bound) => scripts::item(alloc, bound),
-        Call::RunList(bound) => scripts::list(alloc, bound),
-        Call::RunDict(bound) => scripts::dictionary(alloc, bound),
+        Call::Value(field, row, old, new) => writing::value(alloc, field, row, old, new),
+        Call::FirstInnerList => writing::first_inner_list(alloc),
+        Call::Run(field, bound) => scripts::run(alloc, field, bound),
     }
 }

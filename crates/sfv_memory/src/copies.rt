@@ -38,12 +38,15 @@ pub fn string(alloc: Global) -> Result<bool, Error> {
 }
 
 /// Returns the value of a row.
-fn value_of<'a>(row: usize) -> RefBareItem<'a> {
+pub fn value_of<'a>(row: usize) -> RefBareItem<'a> {
     match row {
         0 => GenericBareItem::String(string_ref("a b")),
         1 => GenericBareItem::Token(token_ref("a/b")),
         2 => GenericBareItem::ByteSequence(b"bytes"),
-        _ => GenericBareItem::DisplayString("\u{fc}"),
+        3 => GenericBareItem::DisplayString("\u{fc}"),
+        _ => GenericBareItem::ByteSequence(
+            b"abcdefghijklmnopqrstuvwxyzabcdefghijklmnopqrstuvwxyzabcdefghijklmnopqrstuvwxyz",
+        ),
     }
 }
 

@@ -1,9 +1,13 @@
 //! Calls that allocate, each with its result if there is enough memory.
 //!
-//! Standard input may contain the number of one call, from 0 to 99; otherwise each call is made. If an allocation fails
-//! (`rt try --fail-alloc N`), the call returns that memory ran out, and its arguments are as its contract states. The
-//! status is then 1. Any other result is printed as a line, and the status is 0. `docs/check-memory.sh` fails the first
-//! allocation of each call, the second, and so on.
+//! Without standard input, the program makes each call, and prints how many. Standard input may contain a number from 1
+//! to 999. Then the program's 1000th allocation has to fail (`rt try --fail-alloc 1000`). The program allocates before
+//! the calls, so the calls' allocation with this number fails.
+//!
+//! The call that meets the failure returns that memory ran out, with its arguments as its contract states, or it can do
+//! without the allocation and returns its usual result. Each other call returns its usual result. The program prints
+//! which of these happened, or that the calls make fewer allocations. The status is 1 if a call returns another result.
+//! `docs/check-memory.sh` fails each allocation in turn.
 #![tactic(auto)]
 
 mod calls;
@@ -14,6 +18,7 @@ mod writing;
 
 use crate::calls::{CALLS, perform};
 use sfv::{Error, OutOfMemory};
+use std::alloc::Global;
 use std::io;
 use std::io::Read;
 use std::process::ExitCode;
@@ -41,30 +46,68 @@ fn is_left(
     }
 }
 
+/// The number of the allocation that fails.
+const FAILING: usize = 1000;
+
 /// Parses a decimal number.
 fn number_of(bytes: &[u8]) -> Option<usize> {
     str::from_utf8(bytes).ok()?.parse().ok()
 }
 
-fn main(rt: HostRuntime) -> io::Result<ExitCode> {
-    let alloc = rt.alloc();
-    let mut bytes = [0; 2];
-    let len = rt.stdin().read(&mut bytes)?;
-    let named = number_of(bytes.get(..len).unwrap_or(&[]));
-    let (mut made, mut refused) = (0u8, 0u8);
+/// Allocates so many times, or until an allocation fails. Returns `true` if one fails.
+fn is_refused(alloc: Global, count: usize) -> bool {
+    let mut refused = false;
+    for _ in 0..count {
+        refused = refused || Vec::<u8>::with_capacity(alloc, 1).is_err();
+    }
+    refused
+}
+
+/// The answers of the calls.
+#[derive(Clone, Copy, Drop)]
+enum Answers {
+    /// This call returned that memory ran out, and each other call its usual result.
+    OutOfMemory(usize),
+    /// Each call returned its usual result.
+    Usual,
+    /// This call returned another result, or is the second one that returned that memory ran out.
+    Other(usize),
+}
+
+/// Makes each call.
+fn make_calls(alloc: Global) -> Answers {
+    let mut answers = Answers::Usual;
     for (number, &call) in CALLS.iter().enumerate() {
-        if named.is_none_or(|named| named == number) {
-            made = made.saturating_add(1);
-            match perform(alloc, call) {
-                Ok(true) => {}
-                Err(error) if error.is_out_of_memory() => refused = 1,
-                _ => {
-                    println!(rt; "call {number} answers otherwise")?;
-                    return Ok(ExitCode::SUCCESS);
-                }
+        match perform(alloc, call) {
+            Ok(true) => {}
+            Err(error) if error.is_out_of_memory() && matches!(answers, Answers::Usual) => {
+                answers = Answers::OutOfMemory(number);
             }
+            _ => return Answers::Other(number),
         }
     }
-    println!(rt; "{made} made")?;
-    Ok(ExitCode::from(refused))
+    answers
+}
+
+fn main(rt: HostRuntime) -> io::Result<ExitCode> {
+    let alloc = rt.alloc();
+    let mut bytes = [0; 3];
+    let len = rt.stdin().read(&mut bytes)?;
+    let request = number_of(bytes.get(..len).unwrap_or(&[]));
+    let early = is_refused(alloc, FAILING.saturating_sub(request.unwrap_or(FAILING)));
+    let answers = make_calls(alloc);
+    let has_failed = request.is_some() && !is_refused(alloc, FAILING);
+    match answers {
+        Answers::OutOfMemory(number) if has_failed && !early => {
+            println!(rt; "call {number} is out of memory")?;
+        }
+        Answers::Usual if has_failed && !early => println!(rt; "each call is made nevertheless")?,
+        Answers::Usual if !early => println!(rt; "{} made", CALLS.len())?,
+        Answers::Usual => println!(rt; "an allocation failed before the calls")?,
+        Answers::OutOfMemory(number) | Answers::Other(number) => {
+            println!(rt; "call {number} answers otherwise")?;
+            return Ok(ExitCode::FAILURE);
+        }
+    }
+    Ok(ExitCode::SUCCESS)
 }

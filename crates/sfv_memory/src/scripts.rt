@@ -5,7 +5,7 @@ use sfv::script::{
     ItemCalls, MemberCalls, ParamCall, run_dict, run_dict_for, run_item, run_item_for, run_list,
     run_list_for,
 };
-use sfv::{Error, GenericBareItem, KeyRef, Version, key_ref, string_ref};
+use sfv::{Error, FieldKind, GenericBareItem, KeyRef, Version, key_ref, string_ref};
 use std::alloc::Global;
 
 /// Returns the call that writes the parameter with this key.
@@ -56,7 +56,7 @@ fn is_item_refused(text: &mut String, calls: &ItemCalls<'_>, bound: bool) -> boo
 }
 
 /// Writes an item by its calls.
-pub fn item(alloc: Global, bound: bool) -> Result<bool, Error> {
+fn item(alloc: Global, bound: bool) -> Result<bool, Error> {
     let calls = item_calls(alloc)?;
     let mut text = String::from_str(alloc, "P=")?;
     let refused = is_item_refused(&mut text, &calls, bound);
@@ -78,7 +78,7 @@ fn is_list_refused(text: &mut String, calls: &[MemberCalls<'_>], bound: bool) ->
 }
 
 /// Writes a list by its calls.
-pub fn list(alloc: Global, bound: bool) -> Result<bool, Error> {
+fn list(alloc: Global, bound: bool) -> Result<bool, Error> {
     let calls = member_calls(alloc)?;
     let mut text = String::from_str(alloc, "P=")?;
     let refused = is_list_refused(&mut text, calls.as_slice(), bound);
@@ -100,10 +100,19 @@ fn is_dictionary_refused(
 }
 
 /// Writes a dictionary by its calls.
-pub fn dictionary(alloc: Global, bound: bool) -> Result<bool, Error> {
+fn dictionary(alloc: Global, bound: bool) -> Result<bool, Error> {
     let calls = named_calls(alloc)?;
     let mut text = String::from_str(alloc, "P=")?;
     let refused = is_dictionary_refused(&mut text, calls.as_slice(), bound);
     let written = "P=x=\"a \\\"b\\\"\";a=?0, y=(\"a \\\"b\\\"\";a=?0);b=?0";
     is_left(refused, Some(text.as_str()), Some("P="), written)
+}
+
+/// Performs the calls of a field, for a version if `bound` is true.
+pub fn run(alloc: Global, field: FieldKind, bound: bool) -> Result<bool, Error> {
+    match field {
+        FieldKind::Item => item(alloc, bound),
+        FieldKind::List => list(alloc, bound),
+        FieldKind::Dictionary => dictionary(alloc, bound),
+    }
 }

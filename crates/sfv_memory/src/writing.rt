@@ -2,11 +2,12 @@
 
 ghost use Rattle.std.specs.Prelude.{neg_ℤ, pos, ◌≤ℤ◌};
 
+use crate::copies::value_of;
 use crate::{is_left, refused_if};
 use sfv::{
-    DictSerializer, Dictionary, Error, GenericBareItem, InnerListSerializer, Item, ItemSerializer,
-    List, ListEntry, ListSerializer, OutOfMemory, Parser, RefBareItem, SerializeError, Sink,
-    integer, key_ref,
+    DictSerializer, Dictionary, Error, FieldKind, GenericBareItem, InnerListSerializer, Item,
+    ItemSerializer, List, ListEntry, ListSerializer, OutOfMemory, Parser, RefBareItem,
+    SerializeError, Sink, integer, key_ref,
 };
 use std::alloc::Global;
 
@@ -82,6 +83,15 @@ fn is_inner_list_made<W: Sink>(list: &mut ListSerializer<W>) -> bool {
         }
         Err(_) => false,
     }
+}
+
+/// Writes the first inner list in a text without memory.
+pub fn first_inner_list(alloc: Global) -> Result<bool, Error> {
+    let mut text = String::new(alloc);
+    let mut list = ListSerializer::with_buffer(&mut text);
+    let made = is_inner_list_made(&mut list);
+    list.finish();
+    is_left(!made, Some(text.as_str()), Some(""), "(5)")
 }
 
 /// Writes an inner list after 1, and before 2 if `goes_on` is true, in a buffer with this room.
@@ -225,4 +235,35 @@ pub fn item(alloc: Global, room: &str) -> Result<bool, Error> {
     let made = write_item(&mut text, &value, &mut is_begun).is_ok();
     let left = if is_begun { "X: 1" } else { "X: " };
     is_left(!made, Some(text.as_str()), Some(left), "X: 1;a=2;b")
+}
+
+/// Writes a value as an item, or as a member.
+fn put_value(
+    text: &mut String,
+    field: FieldKind,
+    value: RefBareItem<'_>,
+) -> Result<(), SerializeError> {
+    match field {
+        FieldKind::Item => ItemSerializer::with_buffer(text).bare_item(value)?.finish(),
+        FieldKind::List => put(&mut ListSerializer::with_buffer(text), value)?,
+        FieldKind::Dictionary => {
+            let mut dict = DictSerializer::with_buffer(text);
+            dict.bare_item(key_ref("k"), value)?.finish();
+        }
+    }
+    Ok(())
+}
+
+/// Writes a value after a text that has no more room, and no memory if it is empty.
+pub fn value(
+    alloc: Global,
+    field: FieldKind,
+    row: usize,
+    before: &str,
+    written: &str,
+) -> Result<bool, Error> {
+    let mut text = String::with_capacity(alloc, before.len())?;
+    text.push_str(before)?;
+    let made = put_value(&mut text, field, value_of(row)).is_ok();
+    is_left(!made, Some(text.as_str()), Some(before), written)
 }

@@ -1,6 +1,6 @@
 -- The state of one member.
 use Rattle.std.specs.Prelude.{ℕ, List, Option, option_map, codes, None}
-use Rattle.sfv_field.specs.Field.{BareValue, token_text, RawParameters, last_of, Head, of_item, of_inner_list}
+use Rattle.sfv_field.specs.Field.{BareValue, RawParameters, last_of, Head, of_item, of_inner_list, text_of}
 use Rattle.sfv_proxy_status.specs.declared.reading.Member.{Member}
 use Rattle.sfv_proxy_status.specs.ProxyStatus.{name_in, error_of, status_of, name_value}
 
@@ -24,6 +24,6 @@ kept_of head ps = record {
 abbrev pub kept_value : Member → Kept
 kept_value m = record {
   name = option_map name_value m.name;
-  error = option_map token_text m.error;
+  error = option_map text_of m.error;
   received_status = m.received_status;
 }

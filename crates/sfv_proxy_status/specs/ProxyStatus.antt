@@ -2,7 +2,7 @@
 use Rattle.std.specs.Prelude.{◌≡◌, ℕ, List, Option, Some, None, option_map, codes, pos, nat_le, if◌then◌else◌, ◌&&◌}
 use Rattle.std.specs.Prelude.{fold}
 use Rattle.sfv_field.specs.Field.{Version, list_field, BareValue, integer, string, token, RawMember, item, inner_list}
-use Rattle.sfv_field.specs.Field.{last_of, read_text, token_text, IsParsedAs}
+use Rattle.sfv_field.specs.Field.{last_of, read_text, IsParsedAs, text_of}
 use Rattle.sfv_proxy_status.specs.declared.reading.Name.{Name}
 use Rattle.sfv_proxy_status.specs.declared.reading.Name.TheVariants as names
 use Rattle.sfv_proxy_status.specs.declared.reading.Proxy.{Proxy}
@@ -52,12 +52,12 @@ last_proxy_of members = fold (λ before m. proxy_of m) None members
 
 abbrev pub name_value : Name → BareValue
 name_value (names.String s) = string (read_text s)
-name_value (names.Token t) = token (token_text t)
+name_value (names.Token t) = token (text_of t)
 
 abbrev pub proxy_value : Proxy → ProxyValue
 proxy_value p = record {
   name = name_value p.name;
-  error = option_map token_text p.error;
+  error = option_map text_of p.error;
   received_status = p.received_status;
 }
 

@@ -1,7 +1,7 @@
 -- The text of an intermediary.
 use Rattle.std.specs.Prelude.{ℕ, List, [], ◌∷◌, Some, codes, pos}
 use Rattle.sfv_field.specs.Field.{Version, list_field, BareValue, integer, token, RawMember, item, canonical}
-use Rattle.sfv_field.specs.Field.{token_text}
+use Rattle.sfv_field.specs.Field.{text_of as token_text}
 use Rattle.sfv.specs.TokenText.{TokenRef}
 use Rattle.sfv_proxy_status.specs.ProxyStatus.{ProxyValue, IsLastProxyOf, name_value}
 use Rattle.sfv_proxy_status.specs.declared.reading.Name.{Name}

@@ -1,7 +1,7 @@
 //! Parsing of the last member, without a list.
 
 ghost use Rattle.std.specs.Prelude.{◌≡◌, IfOk, IfErr, option_map, bytes_eq, codes, if◌then◌else◌};
-ghost use Rattle.sfv_field.specs.Field.{list_field, input_value, token_text, IsParseError};
+ghost use Rattle.sfv_field.specs.Field.{list_field, input_value, IsParseError, text_of};
 ghost use Rattle.sfv_proxy_status.specs.ProxyStatus.{name_in, error_in, status_in, name_value, proxy_value};
 ghost use Rattle.sfv_proxy_status.specs.ProxyStatus.{last_proxy_of, IsLastProxyOf};
 
@@ -45,7 +45,7 @@ fn name_of(item: BareItemFromInput<'_>) -> Option<Name<'_>>
 
 // Returns the token of a bare item, or `None` for another kind.
 fn error_of<'a>(item: &BareItemFromInput<'a>) -> Option<TokenRef<'a>>
-    ensures { option_map token_text result ≡ error_in (input_value item.now) }
+    ensures { option_map text_of result ≡ error_in (input_value item.now) }
 {
     item.as_token()
 }
@@ -67,8 +67,8 @@ fn error_after<'a>(
     key: &str,
     value: &BareItemFromInput<'a>,
 ) -> Option<TokenRef<'a>>
-    ensures { option_map token_text result ≡ if bytes_eq key.now (codes "error") then error_in (input_value value.now)
-        else option_map token_text before.entry }
+    ensures { option_map text_of result ≡ if bytes_eq key.now (codes "error") then error_in (input_value value.now)
+        else option_map text_of before.entry }
 {
     if key == "error" {
         error_of(value)

@@ -1,7 +1,7 @@
 //! Serialization of one member.
 
 ghost use Rattle.std.specs.Prelude.{◌≡◌, ◌≤◌, IfOk, OnOk};
-ghost use Rattle.sfv_field.specs.Field.{ref_value, token_text, described_list, AppendsOrKeeps};
+ghost use Rattle.sfv_field.specs.Field.{ref_value, described_list, AppendsOrKeeps, text_of as token_text};
 ghost use Rattle.sfv_proxy_status.specs.ProxyStatus.{name_value};
 ghost use Rattle.sfv_proxy_status.specs.Writing.{written_members, text_of, IsReadAs};
 

@@ -1,7 +1,7 @@
 -- Worked texts, computed.
 use Rattle.std.proofs.Common.{◌≡◌, ℕ, List, [], ◌∷◌, Ok, Err, refl, pos, true, false}
 use Rattle.std.specs.Prelude.{codes}
-use Rattle.sfv_spec.specs.Ascii.{lower_f}
+use Rattle.sfv_spec.proofs.Marks.{lower_f}
 use Rattle.sfv_spec.specs.declared.field_kind.FieldKind.{FieldKind}
 use Rattle.sfv_spec.specs.declared.field_kind.FieldKind.TheVariants.{Item as item_field, List as list_field}
 use Rattle.sfv_spec.specs.declared.field_kind.FieldKind.TheVariants.{Dictionary as dictionary_field}

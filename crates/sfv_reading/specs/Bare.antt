@@ -1,10 +1,11 @@
 -- Readers of bare items.
 use Rattle.std.specs.Prelude.{ℕ, ◌+◌, ◌-◌, ◌*◌, ◌^◌, Bool, true, false, ◌||◌, List, ◌∷◌, length, Option, Some, None}
 use Rattle.std.specs.Prelude.{nat_lt, ◌==◌, if◌then◌else◌}
-use Rattle.sfv_spec.specs.Ascii.{double_quote, percent_sign, digit_zero, colon}
+use Rattle.sfv_spec.proofs.Marks.{double_quote, percent_sign, digit_zero, colon}
 use Rattle.sfv_spec.proofs.Marks.{minus_sign, dot, digit_one}
 use Rattle.sfv_spec.proofs.Marks.{question_mark, at_sign}
-use Rattle.sfv_spec.specs.Classes.{is_digit, is_token_start, is_token_inner}
+use Rattle.sfv_spec.specs.Classes.{is_token_start, is_token_inner}
+use Rattle.sfv_spec.proofs.Marks.{is_digit}
 use Rattle.sfv_spec.specs.Numbers.{place_value, signed}
 use Rattle.sfv_spec.specs.Values.{BareValue, integer, decimal, string, token, byte_sequence}
 use Rattle.sfv_spec.specs.declared.version.Version.{Version}

@@ -1,7 +1,7 @@
 -- The theorems on readers and the grammar.
 use Rattle.std.specs.Prelude.{◌≡◌, ◌↔◌, ℕ, ◌≤◌, ◌%◌, List, [], ◌∷◌, ◌++◌, length, take, drop, true, false}
 use Rattle.std.specs.Prelude.{Some, None, Ok, Err, ◌⊎◌}
-use Rattle.sfv_spec.specs.Ascii.{colon}
+use Rattle.sfv_spec.proofs.Marks.{colon}
 use Rattle.sfv_spec.specs.Texts.{RunOf}
 use Rattle.sfv_spec.specs.Classes.{is_one_of}
 use Rattle.sfv_spec.specs.Values.{RawField, BareValue}

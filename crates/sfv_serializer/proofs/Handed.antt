@@ -10,7 +10,8 @@ use Rattle.sfv_spec.specs.Calls.{supplied_member}
 use Rattle.sfv_spec.specs.Values.{AllFit}
 use Rattle.sfv_text.specs.KeyText.{KeyRef}
 use Rattle.sfv_writer.specs.Versions.{NamesFirstUnfit, ChecksVersion}
-use Rattle.sfv_spec.specs.Values.{parameter_values, item_values, member_values}
+use Rattle.sfv_spec.specs.Values.{item_values, member_values}
+use Rattle.sfv_spec.proofs.Marks.{parameter_values}
 use Rattle.sfv_spec.proofs.Fields.{fit_append}
 use Rattle.sfv_writer.specs.declared.serialize_error.SerializeError.{SerializeError}
 use Rattle.sfv_writer.proofs.Looks.{names_front, looks_after, not_of_none, singles}

@@ -10,7 +10,8 @@ use Rattle.sfv_spec.specs.declared.version.Version.{Version}
 use Rattle.sfv_spec.specs.Calls.{Calls, described, supplied, written, abandoned}
 use Rattle.sfv_spec.specs.Values.{Fits}
 use Rattle.sfv_spec.specs.Calls as spec
-use Rattle.sfv_text.specs.KeyText.{KeyRef, key_text}
+use Rattle.sfv_text.specs.KeyText.{KeyRef}
+use Rattle.sfv_text.specs.CheckedTexts.{text_of}
 use Rattle.sfv_bare.specs.BareItems.{ref_value}
 use Rattle.sfv_writer.specs.Written.{IsReadBack, LacksRoom, with_separators, is_first_after}
 use Rattle.sfv_serializer.specs.declared.sequence.SequenceSerializer.{SequenceSerializer}
@@ -23,7 +24,7 @@ use Rattle.sfv_serializer.specs.declared.script.MemberCalls.TheVariants as calls
 
 -- the key and the value of a call
 abbrev pub param_of_call : ParamCall → List ℕ × BareValue
-param_of_call c = (key_text c.key, ref_value c.value)
+param_of_call c = (text_of c.key, ref_value c.value)
 
 -- the item that these calls write
 abbrev pub item_of_calls : ItemCalls → RawItem
@@ -51,7 +52,7 @@ list_calls members = map member_calls members
 
 -- the calls of the members of a dictionary, each with its key
 abbrev pub dictionary_calls : List (KeyRef × MemberCalls) → Calls dictionary_field
-dictionary_calls members = map (λ m. (key_text m.0, member_calls m.1)) members
+dictionary_calls members = map (λ m. (text_of m.0, member_calls m.1)) members
 
 -- the field that the calls describe
 abbrev pub described_list : List MemberCalls → RawField list_field

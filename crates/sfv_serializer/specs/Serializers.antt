@@ -6,7 +6,8 @@ use Rattle.sfv_spec.specs.Canonical.{value_text, parameters_text}
 use Rattle.sfv_spec.specs.declared.version.Version.{Version}
 use Rattle.sfv_bare.specs.BareItems.{ref_value}
 use Rattle.sfv_bare.specs.declared.bare.GenericBareItem.{GenericBareItem}
-use Rattle.sfv_text.specs.KeyText.{KeyRef, key_text}
+use Rattle.sfv_text.specs.KeyText.{KeyRef}
+use Rattle.sfv_text.specs.CheckedTexts.{text_of}
 use Rattle.sfv_text.specs.StringText.{StringRef}
 use Rattle.sfv_text.specs.TokenText.{TokenRef}
 use Rattle.sfv_tree.specs.Trees.{OwnedBareItem}
@@ -52,7 +53,7 @@ ContinuesText lent more p = string_bytes (params_sink p).now ≡ string_bytes le
 
 -- the text of a key with its value
 abbrev pub keyed : KeyRef → GenericBareItem StringRef (Bor (List ℕ)) TokenRef (Bor (List ℕ)) → List ℕ
-keyed key value = key_text key ++ value_text (ref_value value)
+keyed key value = text_of key ++ value_text (ref_value value)
 
 -- the text of a parameter
 abbrev pub param : KeyRef → GenericBareItem StringRef (Bor (List ℕ)) TokenRef (Bor (List ℕ)) → List ℕ

@@ -6,7 +6,7 @@ ghost use Rattle.std.specs.Iterator.{IsFinite};
 ghost use Rattle.sfv_spec.specs.Classes.{is_key};
 ghost use Rattle.sfv_spec.specs.Values.{IsBareValue};
 ghost use Rattle.sfv_bare.specs.BareItems.{ref_value};
-ghost use Rattle.sfv_text.specs.KeyText.{key_text};
+ghost use Rattle.sfv_text.specs.CheckedTexts.{text_of};
 ghost use Rattle.sfv_writer.specs.Versions.{OnOutOfMemory, ChecksVersionFirst, dictionary_members};
 ghost use Rattle.sfv_serializer.specs.Serializers.{KeepsSequence};
 ghost use Rattle.sfv_serializer.specs.Serializers.{sequence_version, params_name, params_version};
@@ -56,7 +56,7 @@ impl<W: Sink> SequenceSerializer<W, DictMembers> {
         ensures unsupported { ChecksVersionFirst (sequence_version self.old) (ref_value value.entry ∷ []) result }
         ensures text { IfOk result (HasAppendedItem W.Sink (codes ", ") self.old (keyed name.entry value.entry)) }
         ensures room { OnOutOfMemory result (LacksNext W.Sink (codes ", ") self.old (keyed name.entry value.entry)) }
-        ensures is_key { IsTrue (is_key (key_text name.entry)) }
+        ensures is_key { IsTrue (is_key (text_of name.entry)) }
         ensures is_value { IsBareValue (ref_value value.entry) }
     {
         key_invariant(name);
@@ -83,10 +83,10 @@ impl<W: Sink> SequenceSerializer<W, DictMembers> {
         ensures* out_of_memory { sem 𝓛 (InnerListRests W.row dict_row (KeepsSequence W.Sink) self.entry result) }
         ensures lent { IfOk result (λ s. inner_list_name s ≡ self.entry.ghost_name) }
         ensures version { IfOk result (λ s. sequence_version s ≡ sequence_version self.old) }
-        ensures text { IfOk result (HasAppendedOpening W.Sink (codes ", ") self.old (key_text name.entry ++ codes "=(")) }
+        ensures text { IfOk result (HasAppendedOpening W.Sink (codes ", ") self.old (text_of name.entry ++ codes "=(")) }
         ensures begins { IfOk result (BeginsAfter W.Sink self.old) }
-        ensures room { OnErr result (LacksNext W.Sink (codes ", ") self.old (key_text name.entry ++ codes "=(")) }
-        ensures is_key { IsTrue (is_key (key_text name.entry)) }
+        ensures room { OnErr result (LacksNext W.Sink (codes ", ") self.old (text_of name.entry ++ codes "=(")) }
+        ensures is_key { IsTrue (is_key (text_of name.entry)) }
     {
         key_invariant(name);
         self.begin(KeyedInnerListStart { name })

@@ -6,8 +6,7 @@ ghost use Rattle.sfv_spec.specs.Classes.{is_key, is_token};
 ghost use Rattle.sfv_spec.specs.Values.{IsBareValue};
 ghost use Rattle.sfv_spec.specs.Canonical.{bare_text};
 ghost use Rattle.sfv_bare.specs.BareItems.{ref_value};
-ghost use Rattle.sfv_text.specs.KeyText.{key_text};
-ghost use Rattle.sfv_text.specs.TokenText.{token_text};
+ghost use Rattle.sfv_text.specs.CheckedTexts.{text_of};
 ghost use Rattle.sfv_writer.specs.Written.{AsksForRoom, Appends, AppendsOrKeeps, separator_before};
 ghost use Rattle.sfv_serializer.specs.Serializers.{keyed, param};
 
@@ -98,9 +97,9 @@ pub(crate) struct TokenFragment<'a> {
 }
 
 impl<'a> Fragment for TokenFragment<'a> {
-    ghost text = { λ p. token_text p.token };
+    ghost text = { λ p. text_of p.token };
 
-    ghost is_valid = { λ p. IsTrue (is_token (token_text p.token)) };
+    ghost is_valid = { λ p. IsTrue (is_token (text_of p.token)) };
 
     #[inline(always)]
     fn serialize<A: Allocator>(self, output: &mut StdString<A>) -> Result<(), OutOfMemory> {
@@ -118,7 +117,7 @@ pub(crate) struct KeyValue<'a> {
 impl<'a> Fragment for KeyValue<'a> {
     ghost text = { λ p. keyed p.name p.value };
 
-    ghost is_valid = { λ p. IsTrue (is_key (key_text p.name)) × IsBareValue (ref_value p.value) };
+    ghost is_valid = { λ p. IsTrue (is_key (text_of p.name)) × IsBareValue (ref_value p.value) };
 
     #[inline(always)]
     fn serialize<A: Allocator>(self, output: &mut StdString<A>) -> Result<(), OutOfMemory> {
@@ -136,7 +135,7 @@ pub(crate) struct Parameter<'a> {
 impl<'a> Fragment for Parameter<'a> {
     ghost text = { λ p. param p.named.name p.named.value };
 
-    ghost is_valid = { λ p. IsTrue (is_key (key_text p.named.name)) × IsBareValue (ref_value p.named.value) };
+    ghost is_valid = { λ p. IsTrue (is_key (text_of p.named.name)) × IsBareValue (ref_value p.named.value) };
 
     #[inline(always)]
     fn serialize<A: Allocator>(self, output: &mut StdString<A>) -> Result<(), OutOfMemory> {
@@ -168,9 +167,9 @@ pub(crate) struct KeyedInnerListStart<'a> {
 }
 
 impl<'a> Fragment for KeyedInnerListStart<'a> {
-    ghost text = { λ p. key_text p.name ++ codes "=(" };
+    ghost text = { λ p. text_of p.name ++ codes "=(" };
 
-    ghost is_valid = { λ p. IsTrue (is_key (key_text p.name)) };
+    ghost is_valid = { λ p. IsTrue (is_key (text_of p.name)) };
 
     #[inline(always)]
     fn serialize<A: Allocator>(self, output: &mut StdString<A>) -> Result<(), OutOfMemory> {

@@ -6,7 +6,7 @@ ghost use Rattle.std.specs.Iterator.{IsFinite};
 ghost use Rattle.sfv_spec.specs.Classes.{is_key};
 ghost use Rattle.sfv_spec.specs.Values.{IsBareValue};
 ghost use Rattle.sfv_bare.specs.BareItems.{ref_value};
-ghost use Rattle.sfv_text.specs.KeyText.{key_text};
+ghost use Rattle.sfv_text.specs.CheckedTexts.{text_of};
 ghost use Rattle.sfv_writer.specs.Written.{LacksRoom};
 ghost use Rattle.sfv_writer.specs.Versions.{OnOutOfMemory, ChecksVersionFirst};
 ghost use Rattle.sfv_serializer.specs.Serializers.{TextRests, ContinuesText, params_sink, params_name, params_version};
@@ -79,7 +79,7 @@ impl<'s> ParameterSerializer<'s, StdString> {
         ensures unsupported { ChecksVersionFirst (params_version self.entry) (ref_value value.entry ∷ []) result }
         ensures room { OnOutOfMemory result (LacksRoom (params_sink self.entry).now (param name.entry value.entry)) }
         ensures stays { IfOk result (λ p. string_capacity (params_sink self.entry).now ≤ string_capacity (params_sink p).now) }
-        ensures is_key { IsTrue (is_key (key_text name.entry)) }
+        ensures is_key { IsTrue (is_key (text_of name.entry)) }
         ensures is_value { IsBareValue (ref_value value.entry) }
     {
         let ParameterSerializer { sink, version } = self;
@@ -136,7 +136,7 @@ impl<'s, W: Sink, K> ParameterSerializer<'s, SequenceSerializer<W, K>> {
         ensures text { IfOk result (Continues W.Sink (params_sink self.entry) (param name.entry value.entry)) }
         ensures unsupported { ChecksVersionFirst (params_version self.entry) (ref_value value.entry ∷ []) result }
         ensures room { OnOutOfMemory result (LacksRoom (params_text W.Sink self.entry) (param name.entry value.entry)) }
-        ensures is_key { IsTrue (is_key (key_text name.entry)) }
+        ensures is_key { IsTrue (is_key (text_of name.entry)) }
         ensures is_value { IsBareValue (ref_value value.entry) }
     {
         let ParameterSerializer { sink, version } = self;

@@ -13,7 +13,7 @@ ghost use Rattle.sfv_spec.specs.declared.version.Version.TheVariants.{Rfc9651};
 ghost use Rattle.sfv_spec.specs.Values.{bare_values};
 ghost use Rattle.sfv_spec.specs.Calls.{described};
 ghost use Rattle.sfv_spec.specs.Canonical.{canonical, item_text, dictionary_member_text};
-ghost use Rattle.sfv_text.specs.KeyText.{key_text};
+ghost use Rattle.sfv_text.specs.CheckedTexts.{text_of};
 ghost use Rattle.sfv_writer.specs.Written.{Appends, AppendsOrKeeps, AsksForRoom, LacksRoom, IsReadBack, separator_before, with_separators, is_first_after};
 ghost use Rattle.sfv_writer.specs.Versions.{OnOutOfMemory, ChecksVersionFirst};
 ghost use Rattle.sfv_writer.specs.declared.serialize_error.SerializeError.TheVariants as errors;
@@ -130,10 +130,10 @@ fn write_dictionary_item<W: Sink>(
 ) -> Result<(), OutOfMemory>
     requires { sequence_version dictionary.old ≡ Rfc9651 }
     ensures text { OnOk result (HasAppendedNext W.Sink (codes ", ") dictionary.old dictionary.new
-        (dictionary_member_text (key_text name.entry, item (item_of_calls calls.now))) false) }
+        (dictionary_member_text (text_of name.entry, item (item_of_calls calls.now))) false) }
     ensures room { OnErr result (LacksRoom (W.text (sequence_sink dictionary.old)) (separator_before (is_empty_so_far dictionary.old) (codes ", ")
-        ++ dictionary_member_text (key_text name.entry, item (item_of_calls calls.now)))) }
-    ensures key { OnOk result (IsTrue (is_key (key_text name.entry))) }
+        ++ dictionary_member_text (text_of name.entry, item (item_of_calls calls.now)))) }
+    ensures key { OnOk result (IsTrue (is_key (text_of name.entry))) }
     ensures value { OnOk result (IsItem (item_of_calls calls.now)) }
     ensures out_of_memory { OnErr result (GrowsSequence W.Sink dictionary.old dictionary.new) }
 {
@@ -241,12 +241,12 @@ fn write_dictionary_member<W: Sink>(
 ) -> Result<(), OutOfMemory>
     requires { sequence_version dictionary.old ≡ Rfc9651 }
     ensures text { OnOk result (WritesDictionary W.Sink dictionary.old dictionary.new
-        ((key_text name.entry, member_calls member.now) ∷ [])) }
+        ((text_of name.entry, member_calls member.now) ∷ [])) }
     ensures room { OnErr result (LacksRoom (W.text (sequence_sink dictionary.old))
         (with_separators (is_empty_so_far dictionary.old) (codes ", ")
-        (added_text_of_pair (key_text name.entry, member_calls member.now) ∷ []))) }
+        (added_text_of_pair (text_of name.entry, member_calls member.now) ∷ []))) }
     ensures value { OnOk result (IsFieldValue dictionary_field
-        (described dictionary_field ((key_text name.entry, member_calls member.now) ∷ []))) }
+        (described dictionary_field ((text_of name.entry, member_calls member.now) ∷ []))) }
     ensures out_of_memory { OnErr result (GrowsSequence W.Sink dictionary.old dictionary.new) }
 {
     match member {

@@ -6,7 +6,8 @@ ghost use Rattle.sfv_spec.specs.declared.field_kind.FieldKind.TheVariants.{Dicti
 ghost use Rattle.sfv_spec.specs.Values.{bare_values};
 ghost use Rattle.sfv_spec.specs.Calls.{supplied_member};
 ghost use Rattle.sfv_writer.specs.Versions.{ChecksVersion};
-ghost use Rattle.sfv_spec.specs.Values.{parameter_values, item_values, member_values};
+ghost use Rattle.sfv_spec.specs.Values.{item_values, member_values};
+ghost use Rattle.sfv_spec.proofs.Marks.{parameter_values};
 ghost use Rattle.sfv_serializer.specs.Scripts.{param_of_call, item_of_calls, inner_list_calls, member_calls, supplied_list};
 ghost use Rattle.sfv_serializer.specs.Scripts.{supplied_dictionary};
 

@@ -8,7 +8,7 @@ use Rattle.sfv_spec.specs.declared.field_kind.FieldKind.TheVariants.{List as lis
 use Rattle.sfv_spec.specs.Events.{TreeEvent, entry, keyed_entry, begins_item, begins_inner_list, bare_item}
 use Rattle.sfv_spec.specs.Events.{parameter, parameters_end, inner_list_end, parameters_events, inner_item_events}
 use Rattle.sfv_spec.specs.Events.{member_events, events}
-use Rattle.sfv_spec.specs.Ordered.{keys}
+use Rattle.sfv_spec.proofs.Marks.{keys}
 use Rattle.sfv_spec.specs.Visiting.{RunsTo, IsVisitorError}
 
 -- where each event is a step of the place, a run is all steps

@@ -1,12 +1,14 @@
 //! The proved callers of the library, including the examples of `CALLING.md`.
 
-use crate::common::{is_refused, is_text};
+use crate::common::{has_text, is_refused, is_text};
 use sfv::script::{ItemCalls, MemberCalls};
 use sfv::visitor::BareItemType;
 use sfv::{
-    Date, FieldType, GenericBareItem, Integer, Item, KeyRef, List, ParseError, Parser, RefBareItem,
-    SerializeError, Version, integer, key_ref, token_ref,
+    BareItem, Date, Dictionary, FieldType, GenericBareItem, Integer, Item, KeyRef, List, ListEntry,
+    ParseError, Parser, RefBareItem, SerializeError, Version, find_entry, find_param, integer,
+    key_ref, token_ref,
 };
+use sfv_uses::lookups::{has_member, member, param, remove_member, replace_member};
 use sfv_uses::reading::{explain, integer_with_default, param_of_member, read_older_list};
 use sfv_uses::serializing::{
     performed_and_read, write_dictionary, write_item_of_no_bytes, write_list, write_nothing,
@@ -15,6 +17,8 @@ use sfv_uses::visiting::{TooMany, count_members, each_key};
 use sfv_uses::writing::{write_item, write_parts, written_and_read};
 use sfv_versions::{performed_and_read_for, write_both_for};
 use std::alloc::Global;
+use std::fmt::Write;
+use std::test::Fail;
 
 /// Returns `true` if the list has this line that explains its error, or no line without an error.
 fn is_explained(alloc: Global, input: &str, wanted: &str) -> bool {
@@ -67,6 +71,111 @@ fn parameters_are_looked_up(rt: HostRuntime) {
     let missed = number_of(alloc, key_ref("c"), key_ref("x")).is_none()
         & number_of(alloc, key_ref("a"), key_ref("z")).is_none();
     assert!(rt; found & missed);
+}
+
+/// Returns a dictionary with the members 0, 1, .. under keys that begin with `name`. Each has a parameter of its key.
+fn numbered(alloc: Global, name: &str, count: usize) -> Result<Option<Dictionary>, Fail> {
+    let mut text = String::new(alloc);
+    for number in 0..count {
+        let comma = if number > 0 { ", " } else { "" };
+        write!(
+            text,
+            "{comma}{name}{number}={number};{name}{number}={number}"
+        )?;
+    }
+    Ok(
+        Parser::new(text.as_str().as_bytes())
+            .parse::<Dictionary>(alloc)
+            .ok(),
+    )
+}
+
+fn has_number(item: &BareItem, number: usize) -> bool {
+    item.as_integer() == Integer::try_from(number).ok()
+}
+
+/// Returns `true` if a member and its parameter have this number, by the map's methods and by `find_entry`.
+fn is_found(members: &Dictionary, key: KeyRef<'_>, number: usize) -> bool {
+    let (Some(ListEntry::Item(by_map)), Some(ListEntry::Item(item))) = (
+        member(members, key),
+        find_entry(members, key),
+    ) else {
+        return false;
+    };
+    let (Some(by_map_param), Some(param)) = (
+        param(&by_map.params, key),
+        find_param(&item.params, key),
+    ) else {
+        return false;
+    };
+    has_member(members, key)
+        & has_number(&by_map.bare_item, number)
+        & has_number(&item.bare_item, number)
+        & has_number(by_map_param, number)
+        & has_number(param, number)
+}
+
+/// Returns `true` if there is no member of a key.
+fn is_missed(members: &Dictionary, key: KeyRef<'_>) -> bool {
+    !has_member(members, key) & member(members, key).is_none() & find_entry(members, key).is_none()
+}
+
+/// Returns `true` if each of `count` members is found, and no other one.
+fn are_found(alloc: Global, name: &str, count: usize) -> Result<bool, Fail> {
+    let Some(members) = numbered(alloc, name, count)? else {
+        return Ok(false);
+    };
+    let mut found = members.len() == count;
+    for number in 0..count {
+        let text = format!(in alloc; "{name}{number}")?;
+        found &= match KeyRef::from_str(text.as_str()) {
+            Ok(key) => is_found(&members, key, number),
+            Err(_) => false,
+        };
+    }
+    let text = format!(in alloc; "{name}{count}")?;
+    let Ok(key) = KeyRef::from_str(text.as_str()) else {
+        return Ok(false);
+    };
+    Ok(found & is_missed(&members, key) & is_missed(&members, key_ref("k")))
+}
+
+// Up to 6 short keys and up to 16 long ones are compared one by one, more are hashed.
+#[test]
+fn members_are_found_by_borrowed_keys(rt: HostRuntime) -> Result<(), Fail> {
+    let alloc = rt.alloc();
+    let mut found = true;
+    for count in [1usize, 5, 6, 7, 8, 15, 16, 17, 18, 1_000] {
+        found &= are_found(alloc, "k", count)?;
+        found &= are_found(alloc, "key-of-a-member-", count)?;
+    }
+    assert!(rt; found);
+    Ok(())
+}
+
+/// Returns the member `b=2`.
+fn two(alloc: Global) -> ListEntry {
+    ListEntry::from(Item::new(alloc, GenericBareItem::Integer(integer(2))))
+}
+
+/// Returns `true` if members are replaced and removed, and absent ones are not.
+fn are_changed(alloc: Global) -> bool {
+    let Ok(mut members) = Parser::new(b"a=1, b=1, c").parse::<Dictionary>(alloc) else {
+        return false;
+    };
+    let replaced = replace_member(&mut members, key_ref("b"), two(alloc))
+        & !replace_member(&mut members, key_ref("d"), two(alloc));
+    let removed = remove_member(&mut members, key_ref("a")).is_some()
+        & remove_member(&mut members, key_ref("d")).is_none();
+    match members.serialize(alloc) {
+        Ok(text) => replaced & removed & has_text(text, "b=2, c"),
+        Err(_) => false,
+    }
+}
+
+#[test]
+fn members_are_changed_by_borrowed_keys(rt: HostRuntime) {
+    assert!(rt; are_changed(rt.alloc()));
 }
 
 #[test]

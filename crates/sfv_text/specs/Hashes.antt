@@ -7,5 +7,4 @@ use Rattle.std.specs.List.{fold}
 -- a text of at most eight bytes itself, and of any other text its hash by SipHash-1-3
 abbrev pub hash_input_of : List ℕ → List (List ℕ)
 hash_input_of text = if nat_lt 8 (length text)
-    then fed.u64 (sip.finish (fold sip.write sip.initial (fed.str text)))
-    else fed.str text
+    then fed.u64 (sip.finish (fold sip.write sip.initial (fed.str text))) else fed.str text

@@ -8,8 +8,7 @@ use Rattle.sfv_base.specs.Errors.{error_of}
 
 -- the error is at the first byte outside its class
 abbrev pub IsOutside : (ℕ → Bool) → (ℕ → Bool) → List ℕ → Error → Type 0
-IsOutside start inner t e =
-    (i : ℕ) × (first_outside start inner t ≡ Some i) × (e ≡ error_of InvalidCharacter (Some i))
+IsOutside start inner t e = (i : ℕ) × (first_outside start inner t ≡ Some i) × (e ≡ error_of InvalidCharacter (Some i))
 
 -- the text is empty, and the error says this
 abbrev pub IsEmpty : List ℕ → Error → Type 0

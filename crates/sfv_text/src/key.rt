@@ -39,11 +39,11 @@ pub type Key = CheckedText<KeyClass>;
 
 impl Key {
     ghost use Rattle.std.specs.Prelude.{◌≡◌};
-    ghost use Rattle.sfv_text.specs.KeyText.{key_text};
+    ghost use Rattle.sfv_text.specs.CheckedTexts.{text_of};
 
     /// Borrows the key.
     pub fn as_key_ref(&self) -> KeyRef<'_>
-        ensures { key_text result ≡ self.now }
+        ensures { text_of result ≡ self.now }
     {
         self.lend()
     }

@@ -3,6 +3,7 @@
 
 pub mod checked_text;
 pub mod checked_text_ref;
+mod equivalent;
 pub mod key;
 pub mod key_ref;
 pub mod shorthand;

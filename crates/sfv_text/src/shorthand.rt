@@ -3,9 +3,7 @@
 ghost use Rattle.std.specs.Prelude.{◌≡◌, IsTrue};
 ghost use Rattle.std.specs.List.{list_all};
 ghost use Rattle.sfv_spec.specs.Classes.{is_key, is_token, is_string_byte};
-ghost use Rattle.sfv_text.specs.KeyText.{key_text};
-ghost use Rattle.sfv_text.specs.TokenText.{token_text};
-ghost use Rattle.sfv_text.specs.StringText.{string_text};
+ghost use Rattle.sfv_text.specs.CheckedTexts.{text_of};
 
 use crate::key_ref::KeyRef;
 use crate::string_ref::StringRef;
@@ -14,7 +12,7 @@ use crate::token_ref::TokenRef;
 /// Returns the key with this text: short for `KeyRef::constant`. The caller proves that the text is a key.
 pub fn key_ref(v: &str) -> KeyRef<'_>
     requires { IsTrue (is_key v.now) }
-    ensures { key_text result ≡ v.now }
+    ensures { text_of result ≡ v.now }
 {
     KeyRef::constant(v)
 }
@@ -22,7 +20,7 @@ pub fn key_ref(v: &str) -> KeyRef<'_>
 /// Returns the token with this text: short for `TokenRef::constant`. The caller proves that the text is a token.
 pub fn token_ref(v: &str) -> TokenRef<'_>
     requires { IsTrue (is_token v.now) }
-    ensures { token_text result ≡ v.now }
+    ensures { text_of result ≡ v.now }
 {
     TokenRef::constant(v)
 }
@@ -31,7 +29,7 @@ pub fn token_ref(v: &str) -> TokenRef<'_>
 /// ASCII.
 pub fn string_ref(v: &str) -> StringRef<'_>
     requires { IsTrue (list_all is_string_byte v.now) }
-    ensures { string_text result ≡ v.now }
+    ensures { text_of result ≡ v.now }
 {
     StringRef::constant(v)
 }

@@ -43,7 +43,7 @@ impl String {
     ghost use Rattle.std.specs.Prelude.{◌≡◌, [], string_bytes, IsTrue};
     ghost use Rattle.std.specs.List.{list_all};
     ghost use Rattle.sfv_spec.specs.Classes.{is_string_byte};
-    ghost use Rattle.sfv_text.specs.StringText.{string_text};
+    ghost use Rattle.sfv_text.specs.CheckedTexts.{text_of};
 
     /// Wraps a text without a check: the caller proves that it is printable ASCII.
     pub fn constant(text: StdString) -> String
@@ -62,7 +62,7 @@ impl String {
 
     /// Borrows the string.
     pub fn as_string_ref(&self) -> StringRef<'_>
-        ensures { string_text result ≡ self.now }
+        ensures { text_of result ≡ self.now }
     {
         self.lend()
     }

@@ -20,9 +20,9 @@ impl StringRef<'_> {
 
 impl Default for StringRef<'_> {
     ghost use Rattle.std.specs.Prelude.{◌≡◌, []};
-    ghost use Rattle.sfv_text.specs.StringText.{string_text};
+    ghost use Rattle.sfv_text.specs.CheckedTexts.{text_of};
 
-    ghost is_default = { λ t. string_text t ≡ [] };
+    ghost is_default = { λ t. text_of t ≡ [] };
 
     fn default() -> Self {
         StringRef::EMPTY

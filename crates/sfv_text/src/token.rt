@@ -39,11 +39,11 @@ pub type Token = CheckedText<TokenClass>;
 
 impl Token {
     ghost use Rattle.std.specs.Prelude.{◌≡◌};
-    ghost use Rattle.sfv_text.specs.TokenText.{token_text};
+    ghost use Rattle.sfv_text.specs.CheckedTexts.{text_of};
 
     /// Borrows the token.
     pub fn as_token_ref(&self) -> TokenRef<'_>
-        ensures { token_text result ≡ self.now }
+        ensures { text_of result ≡ self.now }
     {
         self.lend()
     }

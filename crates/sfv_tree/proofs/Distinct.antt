@@ -4,7 +4,8 @@ use Rattle.std.specs.Prelude.{IsTrue, bytes_eq, option_map}
 use Rattle.std.specs.List.{list_any, AllByRecursion, IsDistinct}
 use Rattle.std.specs.Map.{keys_of, lookup}
 use Rattle.std.proofs.lemmas.Map.Made.{lookup-map_values, keys_of-map_values}
-use Rattle.sfv_spec.specs.Ordered.{keys, last_of, no_repeats}
+use Rattle.sfv_spec.specs.Ordered.{last_of, no_repeats}
+use Rattle.sfv_spec.proofs.Marks.{keys}
 use Rattle.sfv_spec.proofs.Last.{over, lookup-last_of}
 use Rattle.sfv_bare.specs.BareItems.{bare_value}
 use Rattle.sfv_tree.specs.Trees.{OwnedBareItem, pairs_tree, member_tree, dictionary_tree}

@@ -1,3 +1,4 @@
 pub mod Clones
 pub mod Entered
 pub mod Distinct
+pub mod Words

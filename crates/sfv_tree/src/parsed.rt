@@ -2,13 +2,14 @@
 
 ghost use Rattle.std.specs.Prelude.{◌≡◌, ◌+◌, ◌<◌, ◌≤◌, [], IsOk, IfOk, OnOk, OnErr, IsTrue, None, map, bytes_eq};
 ghost use Rattle.std.specs.Prelude.{option_copied, option_map};
-ghost use Rattle.indexmap.specs.IndexMap.{get, hasher_of, insert_entry, spare};
-ghost use Rattle.sfv_spec.specs.Ordered.{keys, last_of, no_repeats};
+ghost use Rattle.indexmap.specs.IndexMap.{get, hasher_of, insert_entry, spare, IsUnique};
+ghost use Rattle.sfv_spec.specs.Ordered.{last_of, no_repeats};
+ghost use Rattle.sfv_spec.proofs.Marks.{keys};
 ghost use Rattle.sfv_bare.specs.BareItems.{bare_value};
-ghost use Rattle.sfv_text.specs.KeyText.{key_text};
+ghost use Rattle.sfv_text.specs.CheckedTexts.{text_of};
 ghost use Rattle.sfv_tree.specs.HashSeeds.{library_seed};
-ghost use Rattle.sfv_tree.specs.Trees.{item_with, item_tree, pairs_tree, inner_list_with, inner_list_tree};
-ghost use Rattle.sfv_tree.specs.Trees.{member_tree, dictionary_tree, found_member, found_value, with_member, with_value};
+ghost use Rattle.sfv_tree.specs.Trees.{item_tree, pairs_tree, inner_list_tree};
+ghost use Rattle.sfv_tree.specs.Trees.{member_tree, dictionary_tree, found_member, found_value};
 ghost use Rattle.sfv_tree.specs.declared.parsed.ListEntry.TheVariants as entries;
 
 use crate::hash_seed::HashSeed;
@@ -40,7 +41,7 @@ impl Item {
         ensures value { result.bare_item ≡ bare_item }
         ensures params { result.params.entries ≡ [] }
         ensures seed { hasher_of result.params ≡ library_seed }
-        ensures tree { item_tree result ≡ item_with bare_item [] }
+        ensures tree { item_tree result ≡ record { bare = bare_value bare_item; parameters = [] } }
     {
         Item {
             bare_item,
@@ -52,7 +53,7 @@ impl Item {
     pub fn with_params(bare_item: BareItem, params: Parameters) -> Item
         ensures value { result.bare_item ≡ bare_item }
         ensures params { result.params ≡ params }
-        ensures tree { item_tree result ≡ item_with bare_item params.entries }
+        ensures tree { item_tree result ≡ record { bare = bare_value bare_item; parameters = pairs_tree params.entries } }
     {
         Item { bare_item, params }
     }
@@ -92,7 +93,7 @@ impl InnerList {
         ensures items { result.items ≡ items }
         ensures params { result.params.entries ≡ [] }
         ensures seed { hasher_of result.params ≡ library_seed }
-        ensures tree { inner_list_tree result ≡ inner_list_with items.items [] }
+        ensures tree { inner_list_tree result ≡ record { items = map item_tree items.items; parameters = [] } }
     {
         InnerList::with_params(items, parameters(alloc))
     }
@@ -101,7 +102,7 @@ impl InnerList {
     pub fn with_params(items: Vec<Item>, params: Parameters) -> InnerList
         ensures items { result.items ≡ items }
         ensures params { result.params ≡ params }
-        ensures tree { inner_list_tree result ≡ inner_list_with items.items params.entries }
+        ensures tree { inner_list_tree result ≡ record { items = map item_tree items.items; parameters = pairs_tree params.entries } }
     {
         InnerList { items, params }
     }
@@ -111,7 +112,7 @@ impl InnerList {
         ensures items { result.items.items ≡ [] }
         ensures params { result.params.entries ≡ [] }
         ensures seed { hasher_of result.params ≡ library_seed }
-        ensures tree { inner_list_tree result ≡ inner_list_with [] [] }
+        ensures tree { inner_list_tree result ≡ record { items = []; parameters = [] } }
     {
         InnerList::new(alloc, Vec::new(alloc))
     }
@@ -182,34 +183,56 @@ impl Clone for ListEntry {
     }
 }
 
-/// Returns the member of a key in a dictionary (RFC 9651, section 3.2), or `None`. Does not allocate.
-///
-/// Compares the keys in order: the time is linear in the number of members.
-pub fn find_entry<'a>(dictionary: &'a Dictionary, key: KeyRef<'_>) -> Option<&'a ListEntry>
-    ensures value { option_copied result ≡ get bytes_eq dictionary.now (key_text key.entry) }
-    ensures last { found_member result ≡ last_of (key_text key.entry) (dictionary_tree dictionary.now.entries) }
-{
-    for (name, member) in dictionary.iter() {
-        if name.as_str() == key.as_str() {
-            return Some(member);
-        }
-    }
-    None
+// Returns the number of entries up to which comparing them one by one costs no more than a hash of the key. Keys of
+// more than eight bytes are hashed by SipHash, which takes longer.
+#[inline(always)]
+fn few(key: KeyRef<'_>) -> usize {
+    if key.as_str().len() > 8 { 16 } else { 6 }
 }
 
-/// Returns the value of a parameter (RFC 9651, section 3.1.2), or `None`. Does not allocate.
-///
-/// Compares the keys in order: the time is linear in the number of parameters.
-pub fn find_param<'a>(params: &'a Parameters, key: KeyRef<'_>) -> Option<&'a BareItem>
-    ensures value { option_copied result ≡ get bytes_eq params.now (key_text key.entry) }
-    ensures last { found_value result ≡ last_of (key_text key.entry) (pairs_tree params.now.entries) }
+// Returns the value of a key, or `None`, by the hash of the key.
+#[inline(never)]
+fn find_hashed<'a, V>(map: &'a IndexMap<Key, V, HashSeed>, key: KeyRef<'_>) -> Option<&'a V>
+    ensures { option_copied result ≡ get bytes_eq map.now (text_of key.entry) }
 {
-    for (name, value) in params.iter() {
+    map.get(key)
+}
+
+// Returns the value of a key, or `None`.
+#[inline(always)]
+fn find<'a, V>(map: &'a IndexMap<Key, V, HashSeed>, key: KeyRef<'_>) -> Option<&'a V>
+    ensures value { option_copied result ≡ get bytes_eq map.now (text_of key.entry) }
+    ensures unique { IsUnique bytes_eq map.now }
+{
+    if map.len() > few(key) {
+        return find_hashed(map, key);
+    }
+    for (name, value) in map.iter() {
         if name.as_str() == key.as_str() {
             return Some(value);
         }
     }
     None
+}
+
+/// Returns the member of a key in a dictionary (RFC 9651, section 3.2), or `None`. Does not allocate.
+///
+/// The same as `dictionary.get(key)`, but compares the keys of a small dictionary one by one, without a hash.
+pub fn find_entry<'a>(dictionary: &'a Dictionary, key: KeyRef<'_>) -> Option<&'a ListEntry>
+    ensures value { option_copied result ≡ get bytes_eq dictionary.now (text_of key.entry) }
+    ensures last { found_member result ≡ last_of (text_of key.entry) (dictionary_tree dictionary.now.entries) }
+{
+    find(dictionary, key)
+}
+
+/// Returns the value of a parameter (RFC 9651, section 3.1.2), or `None`. Does not allocate.
+///
+/// The same as `params.get(key)`, but compares the keys of few parameters one by one, without a hash.
+pub fn find_param<'a>(params: &'a Parameters, key: KeyRef<'_>) -> Option<&'a BareItem>
+    ensures value { option_copied result ≡ get bytes_eq params.now (text_of key.entry) }
+    ensures last { found_value result ≡ last_of (text_of key.entry) (pairs_tree params.now.entries) }
+{
+    find(params, key)
 }
 
 /// Inserts a member into a dictionary (RFC 9651, section 3.2), and returns the old member of the key, or `None`.
@@ -228,7 +251,6 @@ pub fn insert_entry(
     ensures last { IfOk result (λ old. option_map member_tree old
         ≡ last_of key (dictionary_tree dictionary.old.entries)) }
     ensures entries { OnOk result (dictionary.new.entries ≡ insert_entry bytes_eq dictionary.old.entries key member) }
-    ensures tree { OnOk result (dictionary_tree dictionary.new.entries ≡ with_member dictionary.old.entries key member) }
     ensures seed { hasher_of dictionary.new ≡ hasher_of dictionary.old }
     ensures unchanged { OnErr result (dictionary.new.entries ≡ dictionary.old.entries) }
     ensures absent { OnErr result (last_of key (dictionary_tree dictionary.old.entries) ≡ None) }
@@ -256,7 +278,6 @@ pub fn insert_param(
     ensures old { IfOk result (λ old. old ≡ get bytes_eq params.old key) }
     ensures last { IfOk result (λ old. option_map bare_value old ≡ last_of key (pairs_tree params.old.entries)) }
     ensures entries { OnOk result (params.new.entries ≡ insert_entry bytes_eq params.old.entries key value) }
-    ensures tree { OnOk result (pairs_tree params.new.entries ≡ with_value params.old.entries key value) }
     ensures seed { hasher_of params.new ≡ hasher_of params.old }
     ensures unchanged { OnErr result (params.new.entries ≡ params.old.entries) }
     ensures absent { OnErr result (last_of key (pairs_tree params.old.entries) ≡ None) }

@@ -14,8 +14,9 @@ use Rattle.sfv.specs.Values.{item, inner_list}
 use Rattle.sfv.specs.Grammar.{IsFieldText, IsAccepted, StandsFirst}
 use Rattle.sfv.specs.Ordered.{ordered, last_of}
 use Rattle.sfv.specs.Statements.{IsParsedAs, IsSerializedAs}
-use Rattle.sfv.specs.KeyText.{KeyRef, key_text}
-use Rattle.sfv.specs.TokenText.{TokenRef, token_text}
+use Rattle.sfv.specs.KeyText.{KeyRef}
+use Rattle.sfv.specs.CheckedTexts.{text_of}
+use Rattle.sfv.specs.TokenText.{TokenRef}
 use Rattle.sfv.specs.StringText.{StringRef}
 use Rattle.sfv.specs.Canonical.{item_text}
 use Rattle.sfv.specs.BareItems.{bare_value, ref_value, read_text, is_borrowed_string}
@@ -94,7 +95,7 @@ LentBareItem = GenericBareItem StringRef (Bor (List ℕ)) TokenRef (Bor (List �
 
 -- the item with this value and this parameter
 abbrev pub one_item : LentBareItem → KeyRef → LentBareItem → RawItem
-one_item value key param = item_of_one (ref_value value) (key_text key) (ref_value param)
+one_item value key param = item_of_one (ref_value value) (text_of key) (ref_value param)
 
 -- the text of the example dictionary
 abbrev pub example_dictionary : List ℕ
@@ -144,7 +145,7 @@ IsTokenError = IsExpectError (IsWrongType kinds.Token)
 
 -- the token with this value, or such an error
 abbrev pub GivesToken : BareValue → Result TokenRef (ParseError ItemFault) → Type 0
-GivesToken value result = MatchResult result (λ name. token (token_text name) ≡ value) (IsTokenError value)
+GivesToken value result = MatchResult result (λ name. token (text_of name) ≡ value) (IsTokenError value)
 
 -- such an error, if the value is not a token
 abbrev pub RefusesOther : BareValue → Result TokenRef (ParseError ItemFault) → Type 0
@@ -164,7 +165,7 @@ HasIntegerOr default t z =
 -- the text is a dictionary; the last member with the key `member` has this last value of the parameter `param`
 abbrev pub HasParam : List ℕ → KeyRef → KeyRef → Option OwnedBareItem → Type 0
 HasParam t member param found = (raw : List (List ℕ × RawMember)) × IsFieldText Rfc9651 dictionary_field raw t
-    × (option_map bare_value found ≡ param_in (key_text param) (last_of (key_text member) raw))
+    × (option_map bare_value found ≡ param_in (text_of param) (last_of (text_of member) raw))
 
 -- both texts are lists, and `list` has the members of both
 abbrev pub IsListOfBoth : List ℕ → List ℕ → List RawMember → Type 0

@@ -2,6 +2,7 @@
 #![tactic(auto)]
 
 pub mod expecting;
+pub mod lookups;
 pub mod reading;
 pub mod rows;
 pub mod serializing;

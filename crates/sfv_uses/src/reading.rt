@@ -8,7 +8,7 @@ ghost use Rattle.sfv.specs.Ordered.{last_of};
 ghost use Rattle.sfv.specs.Statements.{IsParsedAs};
 ghost use Rattle.sfv.specs.Trees.{list_tree, dictionary_tree, member_tree, pairs_tree};
 ghost use Rattle.sfv.specs.BareItems.{bare_value};
-ghost use Rattle.sfv.specs.KeyText.{key_text};
+ghost use Rattle.sfv.specs.CheckedTexts.{text_of};
 ghost use Rattle.sfv.specs.Parsers.{IsParseError};
 ghost use Rattle.sfv.specs.NumberValues.{integer_of};
 ghost use Rattle.sfv.specs.Seeds.{ListHasSeed, DictionaryHasSeed};
@@ -91,7 +91,7 @@ fn param_of<'a>(
     param: KeyRef<'_>,
 ) -> Option<&'a BareItem>
     ensures { option_map bare_value (option_copied result)
-        ≡ param_in (key_text param.entry) (last_of (key_text member.entry) (dictionary_tree dictionary.now.entries)) }
+        ≡ param_in (text_of param.entry) (last_of (text_of member.entry) (dictionary_tree dictionary.now.entries)) }
 {
     let entry = find_entry(dictionary, member)?;
     find_param(params_of(entry), param)

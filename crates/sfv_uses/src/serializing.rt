@@ -9,7 +9,7 @@ ghost use Rattle.sfv.specs.Trees.{list_tree};
 ghost use Rattle.sfv.specs.Scripts.{described_list};
 ghost use Rattle.sfv.specs.Errors.{out_of_memory};
 ghost use Rattle.sfv.specs.BareItems.{ref_value};
-ghost use Rattle.sfv.specs.KeyText.{key_text};
+ghost use Rattle.sfv.specs.CheckedTexts.{text_of};
 ghost use Rattle.sfv.specs.Written.{keyed_text, with_separators};
 ghost use Rattle.sfv.specs.Serializers.{lent_sequence, HasAppended, HasAppendedNext, GrowsSequence, KeepsSequence};
 ghost use Rattle.sfv.specs.Serializers.{inner_list_name, is_empty_so_far};
@@ -37,7 +37,7 @@ pub fn write_member<W: Sink>(
     second: RefBareItem<'_>,
 ) -> Result<(), SerializeError>
     ensures { OnOk result (HasAppendedNext W.Sink (codes ", ") list.old list.new
-        (item_text (item_of_two (ref_value value.entry) (key_text key.entry)
+        (item_text (item_of_two (ref_value value.entry) (text_of key.entry)
         (ref_value first.entry) (ref_value second.entry))) false) }
 {
     let params = list.bare_item(value)?;
@@ -69,7 +69,7 @@ fn put_with<X: Sink>(
 ) -> Result<(), SerializeError>
     ensures text { OnOk result (HasAppendedNext X.Sink (codes " ") inner.old inner.new
         (item_text (item_of_one (ref_value value.entry)
-        (key_text param.entry.0) (ref_value param.entry.1))) false) }
+        (text_of param.entry.0) (ref_value param.entry.1))) false) }
     ensures grows { GrowsSequence X.Sink inner.old inner.new }
 {
     let (key, param) = param;
@@ -123,7 +123,7 @@ pub fn write_empty<W: Sink>(
     param: RefBareItem<'_>,
 ) -> Result<(), SerializeError>
     ensures { OnOk result (HasAppendedNext W.Sink (codes ", ") list.old list.new
-        (inner_list_text (record { items = []; parameters = (key_text key.entry, ref_value param.entry) ∷ [] }))
+        (inner_list_text (record { items = []; parameters = (text_of key.entry, ref_value param.entry) ∷ [] }))
         false) }
 {
     list.inner_list()?.finish()?.parameter(key, param)?.finish();
@@ -232,8 +232,8 @@ pub fn write_named<W: Sink>(
 ) -> Result<(), SerializeError>
     ensures { OnOk result (HasAppendedNext W.Sink (codes ", ") dictionary.old dictionary.new
         (dictionary_member_text (
-          key_text name.entry,
-          item (item_of_one (ref_value value.entry) (key_text key.entry) (ref_value param.entry)),
+          text_of name.entry,
+          item (item_of_one (ref_value value.entry) (text_of key.entry) (ref_value param.entry)),
         )) false) }
 {
     let params = dictionary.bare_item(name, value)?;
@@ -252,7 +252,7 @@ pub fn write_bare<W: Sink>(
     value: RefBareItem<'_>,
 ) -> Result<(), SerializeError>
     ensures { OnOk result (HasAppendedNext W.Sink (codes ", ") dictionary.old dictionary.new
-        (keyed_text (key_text name.entry) (ref_value value.entry))
+        (keyed_text (text_of name.entry) (ref_value value.entry))
         false) }
 {
     dictionary.bare_item(name, value)?.finish();
@@ -269,7 +269,7 @@ fn write_pair<W: Sink, K>(
     ensures lent { inner_list_name inner.new ≡ inner_list_name inner.old }
     ensures text { OnOk result (HasAppended (lent_sequence W.Sink) inner.old inner.new
         (with_separators (is_empty_so_far inner.old) (codes " ") (map item_text (pair_of (ref_value first.entry)
-        (key_text param.entry.0) (ref_value param.entry.1) (ref_value second.entry)))) false) }
+        (text_of param.entry.0) (ref_value param.entry.1) (ref_value second.entry)))) false) }
 {
     put_with(inner, first, param)?;
     write_inner(inner, second)
@@ -286,11 +286,11 @@ fn write_named_pair<W: Sink>(
 ) -> Result<(), SerializeError>
     ensures { OnOk result (HasAppendedNext W.Sink (codes ", ") dictionary.old dictionary.new
         (dictionary_member_text (
-          key_text name.entry,
+          text_of name.entry,
           inner_list (record {
-            items = pair_of (ref_value first.entry) (key_text param.entry.0) (ref_value param.entry.1)
+            items = pair_of (ref_value first.entry) (text_of param.entry.0) (ref_value param.entry.1)
                 (ref_value second.entry);
-            parameters = (key_text ending.entry.0, ref_value ending.entry.1) ∷ [];
+            parameters = (text_of ending.entry.0, ref_value ending.entry.1) ∷ [];
           }),
         )) false) }
 {

@@ -5,8 +5,7 @@ ghost use Rattle.std.specs.Cmp.Lexicographic.{slice_cmp};
 ghost use Rattle.std.specs.Ordering.{nat_cmp, int_cmp};
 ghost use Rattle.sfv.specs.NumberValues.{integer_of, thousandths_of, seconds_of};
 ghost use Rattle.sfv.specs.BareItems.{bare_value, ref_value, input_value, read_text};
-ghost use Rattle.sfv.specs.KeyText.{key_text};
-ghost use Rattle.sfv.specs.StringText.{string_text};
+ghost use Rattle.sfv.specs.CheckedTexts.{text_of};
 ghost use Rattle.sfv.specs.Trees.{item_tree};
 ghost use Rattle.sfv.specs.Values.{integer};
 
@@ -46,7 +45,7 @@ pub fn dates() -> (Date, Date, Date)
 
 /// The empty string has an empty text.
 pub fn empty_string() -> StringRef<'static>
-    ensures { string_text result ≡ [] }
+    ensures { text_of result ≡ [] }
 {
     StringRef::EMPTY
 }
@@ -143,14 +142,14 @@ pub fn same_string(a: &StringFromInput<'_>, b: &StringFromInput<'_>) -> bool
 
 /// Borrowed keys compare by their bytes.
 pub fn same_key(a: KeyRef<'_>, b: KeyRef<'_>) -> bool
-    ensures { IsTrue result ↔ (key_text a.entry ≡ key_text b.entry) }
+    ensures { IsTrue result ↔ (text_of a.entry ≡ text_of b.entry) }
 {
     a == b
 }
 
 /// Borrowed keys are ordered by their bytes.
 pub fn order_of_keys(a: KeyRef<'_>, b: KeyRef<'_>) -> Ordering
-    ensures { result ≡ slice_cmp nat_cmp (key_text a.entry) (key_text b.entry) }
+    ensures { result ≡ slice_cmp nat_cmp (text_of a.entry) (text_of b.entry) }
 {
     a.cmp(&b)
 }

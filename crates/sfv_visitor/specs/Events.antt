@@ -2,7 +2,7 @@
 use Rattle.std.specs.Prelude.{Bool, false, not}
 use Rattle.sfv_spec.specs.Events.{TreeEvent}
 use Rattle.sfv_spec.specs.Events as tree
-use Rattle.sfv_text.specs.KeyText.{key_text}
+use Rattle.sfv_text.specs.CheckedTexts.{text_of}
 use Rattle.sfv_bare.specs.BareItems.{input_value, is_borrowed}
 use Rattle.sfv_visitor.specs.declared.visitor.Event.{Event}
 use Rattle.sfv_visitor.specs.declared.visitor.Event.TheVariants as event
@@ -10,11 +10,11 @@ use Rattle.sfv_visitor.specs.declared.visitor.Event.TheVariants as event
 -- the event in the definitions, whether its text is borrowed or owned
 abbrev pub event_of : Event → TreeEvent
 event_of event.Entry = tree.entry
-event_of (event.KeyedEntry key) = tree.keyed_entry (key_text key)
+event_of (event.KeyedEntry key) = tree.keyed_entry (text_of key)
 event_of event.Item = tree.begins_item
 event_of event.InnerList = tree.begins_inner_list
 event_of (event.BareItem value) = tree.bare_item (input_value value)
-event_of (event.Parameter key value) = tree.parameter (key_text key) (input_value value)
+event_of (event.Parameter key value) = tree.parameter (text_of key) (input_value value)
 event_of event.ParametersEnd = tree.parameters_end
 event_of event.InnerListEnd = tree.inner_list_end
 

@@ -4,7 +4,7 @@ ghost use Rattle.std.specs.Prelude.{◌≡◌, ⊤, Some, None, IfOk, IfErr, IsT
 ghost use Rattle.sfv_spec.specs.Values as values;
 ghost use Rattle.sfv_spec.specs.Values.{BareValue};
 ghost use Rattle.sfv_base.specs.Numbers.{integer_of, thousandths_of, seconds_of};
-ghost use Rattle.sfv_text.specs.TokenText.{token_text};
+ghost use Rattle.sfv_text.specs.CheckedTexts.{text_of};
 ghost use Rattle.sfv_bare.specs.BareItems.{read_text, bare_value, input_value, is_borrowed};
 ghost use Rattle.sfv_bare.specs.declared.bare.GenericBareItem.TheVariants as bare;
 ghost use Rattle.sfv_bare.specs.declared.bare.BareItemType.TheVariants as kinds;
@@ -153,7 +153,7 @@ impl<'de> ExpectedItem<'de> for bool {
 }
 
 impl<'de> ExpectedItem<'de> for TokenRef<'de> {
-    ghost holds = { λ token. values.token (token_text token) };
+    ghost holds = { λ token. values.token (text_of token) };
 
     ghost fails = { IsWrongType kinds.Token };
 

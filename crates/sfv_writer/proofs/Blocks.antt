@@ -1,16 +1,18 @@
 -- Vectors of bytes, of values and of symbols, lane by lane.
 use Rattle.std.proofs.Common.{◌≡◌, ℕ, zero, suc, ◌+◌, ◌-◌, ◌*◌, ◌/◌, ◌%◌, ◌^◌, ◌<◌, Bool, true, cond, eqb, ltb}
-use Rattle.std.proofs.Common.{List, [], ◌∷◌, ◌++◌, map, take, length, get_or, replicate, bit_and, refl, sym, ap, ap₂, subst, ◌∙◌, arith}
+use Rattle.std.proofs.Common.{List, [], ◌∷◌, ◌++◌, map, take, length, get_or, replicate, bit_and, refl, sym, ap, ap₂, subst, ◌∙◌, arith, inl, inr}
 use Rattle.std.proofs.Common.{w8, w16, Fits}
-use Rattle.std.specs.Prelude.{nat_lt}
-use Rattle.std.specs.List.{list_all}
-use Rattle.std.proofs.lemmas.Bool.{agree_below, agree_below_at, eqb-true, and_parts, and_from, ltb-true, lt-ltb}
+use Rattle.std.specs.Prelude.{◌==◌, nat_lt}
+use Rattle.std.specs.List.{list_all, range_with_len}
+use Rattle.std.proofs.lemmas.Bool.{agree_below_at, eqb-true, and_parts, and_from, both_ways, cases_Bool, ltb-true, lt-ltb}
 use Rattle.std.proofs.lemmas.Nat.{and_mask}
 use Rattle.std.proofs.lemmas.List.{get_or-map, length-map, length-take-le, ext_get_or}
+use Rattle.std.proofs.lemmas.List.Folds.{list_all_at}
+use Rattle.std.proofs.lemmas.List.FromFn.{get_or-range_with_len}
 use Rattle.std.proofs.lemmas.Simd.{swz_l, SwzOk, SwzOk-from_below, Each1-get_or, length-swz_l, get_or-swz_l_below, pick_l_whole}
 use lib.Lanes.{zip2, sel_l, top, Each1, number_l, digits_l, pick_l}
 use Rattle.sfv_spec.specs.Base64.{symbol, base64_text}
-use Rattle.sfv_writer.specs.Base64.{six_bits, byte_pairs, value_pairs}
+use Rattle.sfv_writer.specs.Base64.{six_bits, byte_pairs, value_pairs, offset_index, AreOffsets}
 
 -- two lists with the same first element
 cons : {x y : ℕ} {xs ys : List ℕ} → x ≡ y → xs ≡ ys → x ∷ xs ≡ y ∷ ys
@@ -198,20 +200,31 @@ looked_up table js long small =
     ∙ ap (λ j. get_or table j 0) same
     ∙ sym (get_or-map (λ j. get_or table j 0) js i 0 0 lt))
 
--- the offsets lead from each value to its symbol
-abbrev pub are_offsets : List ℕ → Bool
-are_offsets offsets = agree_below (λ x. eqb (add8 x (get_or offsets (row x) 0)) (symbol x)) (λ _. true) 64
+-- the row of a value is the index of its offset
+row_is : (x : ℕ) → x < 64 → row x ≡ offset_index x
+row_is x lt = eqb-true _ _ (agree_below_at (λ x. eqb (row x) (offset_index x)) (λ _. true) 64 x refl lt)
 
-moved : (offsets v : List ℕ) → list_all is_value v ≡ true → are_offsets offsets ≡ true
+offset_at : (offsets : List ℕ) (x : ℕ) → x < 64 → AreOffsets offsets
+    → add8 x (get_or offsets (row x) 0) ≡ symbol x
+offset_at offsets x lt all =
+    let test : ℕ → Bool = λ v. (v + get_or offsets (offset_index v) 0) % 256 == symbol v in
+    let from_zero : 0 + x ≡ x = omega arith in
+    let here : get_or (range_with_len 0 64) x 0 ≡ x = get_or-range_with_len 0 64 x 0 lt ∙ from_zero in
+    elim (cases_Bool (test x)) [
+      | inl y ↦ rw (row_is x lt) (eqb-true _ _ y)
+      | inr n ↦
+          let no = list_all_at test (range_with_len 0 64) x 0 lt (rw here n) in
+          absurd (both_ways _ no all)
+    ]
+
+moved : (offsets v : List ℕ) → list_all is_value v ≡ true → AreOffsets offsets
     → zip2 add8 v (map (λ j. get_or offsets j 0) (map row v)) ≡ map symbol v
 moved offsets [] each all = refl
 moved offsets (x ∷ v) each all =
     let parts = and_parts (is_value x) (list_all is_value v) each in
-    let here = agree_below_at (λ x. eqb (add8 x (get_or offsets (row x) 0)) (symbol x)) (λ _. true) 64 x all
-    (ltb-true x 64 parts.0) in
-    cons (eqb-true _ _ here) (moved offsets v parts.1 all)
+    cons (offset_at offsets x (ltb-true x 64 parts.0) all) (moved offsets v parts.1 all)
 
-pub symbols_are : (offsets v : List ℕ) → length v ≡ 16 → list_all is_value v ≡ true → are_offsets offsets ≡ true
+pub symbols_are : (offsets v : List ℕ) → length v ≡ 16 → list_all is_value v ≡ true → AreOffsets offsets
     → zip2 add8 v (swz_l w8 16 offsets 0 (rows 16 v)) ≡ map symbol v
 symbols_are offsets v long each all =
     ap (λ (js : List ℕ). zip2 add8 v (swz_l w8 16 offsets 0 js)) (rows_are 16 v long)

@@ -6,8 +6,9 @@ use Rattle.std.proofs.lemmas.Bool.{ltb-true}
 use Rattle.std.proofs.lemmas.Fmt.{decimal_digit, decimal_step}
 use Rattle.std.proofs.lemmas.Int.{to_z-of_z}
 use Rattle.std.specs.Fmt.{signed_decimal}
-use Rattle.sfv_spec.specs.Ascii.{digit_zero}
-use Rattle.sfv_spec.specs.Numbers.{minus_text, is_negative}
+use Rattle.sfv_spec.proofs.Marks.{digit_zero}
+use Rattle.sfv_spec.specs.Numbers.{is_negative}
+use Rattle.sfv_spec.proofs.Marks.{minus_text}
 use Rattle.sfv_spec.specs.Canonical.{fraction_digits, decimal_text}
 use Rattle.sfv_writer.specs.Written.{Extends}
 use Rattle.sfv_writer.proofs.Appended.{put, next, after}

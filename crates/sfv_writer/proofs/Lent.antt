@@ -9,7 +9,8 @@ use Rattle.std.proofs.lemmas.Iterator.{YieldsList-from_slice, items_from_drains}
 use Rattle.std.proofs.lemmas.List.{map-append}
 use Rattle.std.proofs.lemmas.Map.Iter.{rest_so_far}
 use Rattle.std.proofs.lemmas.Simd.{map-map}
-use Rattle.sfv_tree.specs.Trees.{OwnedBareItem, pair_tree, pairs_tree, member_tree, list_tree, entry_tree, dictionary_tree}
+use Rattle.sfv_tree.specs.Trees.{OwnedBareItem, pairs_tree, member_tree, list_tree, dictionary_tree}
+use Rattle.sfv_tree.proofs.Words.{pair_tree, entry_tree}
 use Rattle.sfv_tree.specs.declared.parsed.ListEntry.{ListEntry}
 use Rattle.sfv_writer.specs.Written.{lent_pairs, lent_list_member, lent_dictionary_member}
 

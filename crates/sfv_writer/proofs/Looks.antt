@@ -28,7 +28,8 @@ use Rattle.std.specs.Map.{values_of}
 use Rattle.sfv_spec.proofs.Given.{newer_has_all}
 use Rattle.sfv_writer.proofs.Rows.{mapped_more}
 use Rattle.sfv_writer.specs.Versions.{NamesFirstUnfit, ChecksVersion, ChecksVersionFirst, IsSerializeError, FailsAmong, FailsFrom}
-use Rattle.sfv_spec.specs.Values.{parameter_values, member_values}
+use Rattle.sfv_spec.specs.Values.{member_values}
+use Rattle.sfv_spec.proofs.Marks.{parameter_values}
 use Rattle.sfv_spec.proofs.Fields.{fit_append}
 use Rattle.sfv_writer.specs.declared.serialize_error.SerializeError.{SerializeError}
 use Rattle.sfv_writer.specs.declared.serialize_error.SerializeError.TheVariants as errors

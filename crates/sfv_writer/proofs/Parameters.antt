@@ -6,7 +6,8 @@ use Rattle.std.proofs.lemmas.List.{append-nil}
 use Rattle.sfv_spec.specs.Classes.{is_key}
 use Rattle.sfv_spec.specs.Values.{BareValue, RawParameters, IsBareValue, AreParameters}
 use Rattle.sfv_spec.specs.declared.version.Version.{Version}
-use Rattle.sfv_spec.specs.Ordered.{keys, no_repeats}
+use Rattle.sfv_spec.specs.Ordered.{no_repeats}
+use Rattle.sfv_spec.proofs.Marks.{keys}
 use Rattle.sfv_spec.specs.Canonical.{parameters_text}
 use Rattle.sfv_spec.specs.Values.{AllFit}
 use Rattle.sfv_bare.specs.BareItems.{bare_value}

@@ -3,7 +3,7 @@
 ghost use Rattle.std.specs.Prelude.{◌≡◌, map, nat_lt, take};
 ghost use Rattle.sfv_spec.specs.Texts.{RunOf};
 ghost use Rattle.sfv_spec.specs.Base64.{symbol, base64_text};
-ghost use Rattle.sfv_writer.specs.Base64.{six_bits, byte_pairs, value_pairs};
+ghost use Rattle.sfv_writer.specs.Base64.{AreOffsets, six_bits, byte_pairs, value_pairs};
 
 use std::simd::prelude::*;
 
@@ -40,6 +40,14 @@ fn values_of(bytes: u8x16) -> u8x16
     values_in(pairs_of(bytes)).to_le_bytes()
 }
 
+// Returns the offsets as a vector.
+#[inline(always)]
+fn offsets() -> u8x16
+    ensures { AreOffsets result }
+{
+    u8x16::from_array(OFFSETS)
+}
+
 // Returns the symbols of six-bit values.
 #[inline(always)]
 fn symbols_of(values: u8x16) -> u8x16
@@ -49,7 +57,7 @@ fn symbols_of(values: u8x16) -> u8x16
     let is_upper = values.simd_lt(u8x16::splat(26));
     let upper = is_upper.select(u8x16::splat(13), u8x16::splat(0));
     let row = values.saturating_sub(u8x16::splat(51)) + upper;
-    values + u8x16::from_array(OFFSETS).swizzle_dyn(row)
+    values + offsets().swizzle_dyn(row)
 }
 
 /// Returns the Base64 text of the first twelve bytes of a block.

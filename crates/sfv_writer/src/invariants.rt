@@ -5,7 +5,7 @@ ghost use Rattle.sfv_spec.specs.Classes.{is_key};
 ghost use Rattle.sfv_spec.specs.Texts.{RunOf};
 ghost use Rattle.sfv_spec.specs.Values.{is_byte, IsBareValue};
 ghost use Rattle.sfv_bare.specs.BareItems.{ref_value};
-ghost use Rattle.sfv_text.specs.KeyText.{key_text};
+ghost use Rattle.sfv_text.specs.CheckedTexts.{text_of};
 
 use sfv_bare::bare::{GenericBareItem, RefBareItem};
 use sfv_text::key_ref::KeyRef;
@@ -39,7 +39,7 @@ pub fn bare_item_invariant(value: RefBareItem<'_>)
 /// Makes the type invariant of a key known to the prover.
 #[inline(always)]
 pub fn key_invariant(key: KeyRef<'_>)
-    ensures { IsTrue (is_key (key_text key.entry)) }
+    ensures { IsTrue (is_key (text_of key.entry)) }
 {
     let _text = key.as_str();
 }

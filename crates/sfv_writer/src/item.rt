@@ -1,24 +1,26 @@
 //! Serialization of bare items, parameters and items (RFC 9651, sections 4.1.1.2, 4.1.3 and 4.1.3.1).
 
 ghost use Rattle.std.specs.Prelude.{◌≡◌, ◌∷◌, ◌++◌, List, true, IfErr, OnOk, OnErr, MatchBool, IsTrue, codes, string_bytes};
-ghost use Rattle.std.specs.Prelude.{◌≤◌, string_capacity};
+ghost use Rattle.std.specs.Prelude.{◌≤◌, Some, IfOk, string_capacity};
 ghost use Rattle.std.specs.Iterator.{IsFinite, Drains};
 ghost use Rattle.sfv_spec.specs.Classes.{is_key, is_token};
 ghost use Rattle.sfv_spec.specs.Values.{IsBareValue, AreParameters, boolean};
 ghost use Rattle.sfv_spec.specs.declared.field_kind.FieldKind.TheVariants.{Item as item_field};
-ghost use Rattle.sfv_spec.specs.Ordered.{keys, no_repeats};
+ghost use Rattle.sfv_spec.specs.Ordered.{no_repeats};
+ghost use Rattle.sfv_spec.proofs.Marks.{keys};
 ghost use Rattle.sfv_spec.specs.Grammar.{boolean_text};
 ghost use Rattle.sfv_spec.specs.Canonical.{bare_text, value_text, parameters_text, item_text};
-ghost use Rattle.sfv_spec.specs.Statements.{IsValue};
+ghost use Rattle.sfv_spec.specs.declared.version.Version.TheVariants.{Rfc9651};
+ghost use Rattle.sfv_spec.specs.Statements.{IsValue, IsSerializedAs};
 ghost use Rattle.sfv_spec.specs.Values.{AllFit};
 ghost use Rattle.sfv_bare.specs.BareItems.{ref_value, bare_value};
-ghost use Rattle.sfv_text.specs.KeyText.{key_text};
-ghost use Rattle.sfv_text.specs.TokenText.{token_text};
+ghost use Rattle.sfv_text.specs.CheckedTexts.{text_of};
 ghost use Rattle.sfv_tree.specs.Trees.{pairs_tree, item_tree};
 ghost use Rattle.sfv_writer.specs.Written.{AsksForRoom, Appends, Extends, param_text, lent_pairs};
 ghost use Rattle.sfv_writer.specs.Versions.{FailsAmong, FailsFrom, LacksAmong, StopsEarly, parameter_pairs};
 
 use crate::byte_sequence::serialize_byte_sequence;
+use crate::capacity::text_for_item;
 use crate::display_string::serialize_display_string;
 use crate::number::{serialize_date, serialize_decimal, serialize_integer};
 use crate::output::truncate_to;
@@ -32,7 +34,7 @@ use sfv_text::key::Key;
 use sfv_text::key_ref::KeyRef;
 use sfv_text::token_ref::TokenRef;
 use sfv_tree::parsed::{Item, Parameters};
-use std::alloc::Allocator;
+use std::alloc::{Allocator, Global};
 use std::string::String as StdString;
 
 /// Appends a key.
@@ -44,9 +46,9 @@ pub fn serialize_key<A: Allocator>(
     key: KeyRef<'_>,
     output: &mut StdString<A>,
 ) -> Result<(), OutOfMemory>
-    ensures text { Appends output.old output.new (key_text key.entry) result }
-    ensures room { AsksForRoom output.old output.new (key_text key.entry) result }
-    ensures key { IsTrue (is_key (key_text key.entry)) }
+    ensures text { Appends output.old output.new (text_of key.entry) result }
+    ensures room { AsksForRoom output.old output.new (text_of key.entry) result }
+    ensures key { IsTrue (is_key (text_of key.entry)) }
 {
     output.push_str(key.as_str())?;
     Ok(())
@@ -62,9 +64,9 @@ pub fn serialize_token<A: Allocator>(
     value: TokenRef<'_>,
     output: &mut StdString<A>,
 ) -> Result<(), OutOfMemory>
-    ensures text { Appends output.old output.new (token_text value.entry) result }
-    ensures room { AsksForRoom output.old output.new (token_text value.entry) result }
-    ensures token { IsTrue (is_token (token_text value.entry)) }
+    ensures text { Appends output.old output.new (text_of value.entry) result }
+    ensures room { AsksForRoom output.old output.new (text_of value.entry) result }
+    ensures token { IsTrue (is_token (text_of value.entry)) }
 {
     output.push_str(value.as_str())?;
     Ok(())
@@ -299,4 +301,18 @@ pub fn serialize_item<A: Allocator>(
 {
     serialize_bare_item(item.bare_item.as_ref_item(), output)?;
     serialize_all_parameters(&item.params, output)
+}
+
+/// Returns the text of an item, allocated from `alloc` (RFC 9651, section 4.1).
+///
+/// # Errors
+///
+/// Returns `OutOfMemory` if memory runs out.
+pub fn item_text(item: &Item, alloc: Global) -> Result<StdString, OutOfMemory>
+    ensures text { IfOk result (λ text.
+        IsSerializedAs Rfc9651 item_field (item_tree item.now) (Some (string_bytes text))) }
+{
+    let mut text = text_for_item(item.params.len(), alloc);
+    serialize_item(item, &mut text)?;
+    Ok(text)
 }

@@ -3,6 +3,7 @@
 
 mod base64_blocks;
 mod byte_sequence;
+pub mod capacity;
 mod dictionary;
 mod display_string;
 pub mod element;
@@ -18,7 +19,7 @@ mod string;
 pub mod version_check;
 
 pub use dictionary::dictionary_text;
-pub use item::serialize_item;
+pub use item::{item_text, serialize_item};
 pub use list::list_text;
 pub use serialize_error::SerializeError;
 pub use version_check::{check_dictionary, check_item, check_list};

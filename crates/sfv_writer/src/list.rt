@@ -8,8 +8,8 @@ ghost use Rattle.sfv_spec.specs.Statements.{IsValue};
 ghost use Rattle.sfv_tree.specs.Trees.{list_tree};
 ghost use Rattle.sfv_writer.specs.Written.{AsksForRoom, Appends, IsSerialized};
 
+use crate::capacity::text_for_members;
 use crate::element::serialize_each;
-use crate::output::text_for_members;
 use crate::serialize_error::expect_out_of_memory;
 use sfv_base::error::OutOfMemory;
 use sfv_spec::version::Version;
@@ -44,7 +44,7 @@ pub fn list_text(list: &List, alloc: Global) -> Result<Option<StdString>, OutOfM
     if list.is_empty() {
         return Ok(None);
     }
-    let mut text = text_for_members(list.len(), alloc)?;
+    let mut text = text_for_members(list.len(), alloc);
     serialize_list(list, &mut text)?;
     Ok(Some(text))
 }

@@ -1,23 +1,12 @@
-//! New texts, separators, and truncation of text that was just appended.
+//! Separators, and truncation of text that was just appended.
 
-ghost use Rattle.std.specs.Prelude.{◌≡◌, ◌<◌, ◌≤◌, [], IfOk, string_bytes, string_capacity};
+ghost use Rattle.std.specs.Prelude.{◌≡◌, ◌≤◌, IsTrue, max, string_bytes, string_capacity};
 ghost use Rattle.sfv_writer.specs.Written.{AsksForRoom, Appends, IsTruncatedTo, separator_before};
 
+use crate::capacity::prepare;
 use sfv_base::error::OutOfMemory;
-use std::alloc::{Allocator, Global};
+use std::alloc::Allocator;
 use std::string::String as StdString;
-
-/// Creates an empty text for a list or a dictionary with this number of members, allocated from `alloc`.
-///
-/// The capacity is an estimate from the number of members, of which it counts at most 1000. Most short texts need no
-/// second allocation.
-pub(crate) fn text_for_members(members: usize, alloc: Global) -> Result<StdString, OutOfMemory>
-    ensures bytes { IfOk result (λ text. string_bytes text ≡ []) }
-    ensures room { IfOk result (λ text. 64 ≤ string_capacity text) }
-{
-    let text = StdString::with_capacity(alloc, 64 + 8 * members.min(1000))?;
-    Ok(text)
-}
 
 /// Truncates `output` to `len` bytes, an earlier length of the same text.
 pub fn truncate_to<A: Allocator>(len: usize, output: &mut StdString<A>)
@@ -27,29 +16,6 @@ pub fn truncate_to<A: Allocator>(len: usize, output: &mut StdString<A>)
     // `len` is always a character boundary. A check here is cheaper than a proof in every caller.
     if output.as_str().is_char_boundary(len) {
         output.truncate(len);
-    }
-}
-
-/// Requests memory for 128 bytes. A failure is no error: the text may need fewer bytes.
-#[cold]
-#[inline(never)]
-fn request_first_memory<A: Allocator>(output: &mut StdString<A>)
-    ensures text { string_bytes output.new ≡ string_bytes output.old }
-    ensures room { string_capacity output.old ≤ string_capacity output.new }
-{
-    let _ = output.reserve(128);
-}
-
-/// Requests memory for 128 bytes if `output` has none yet, so a short text needs one allocation. Otherwise changes
-/// nothing.
-#[inline(always)]
-pub fn prepare<A: Allocator>(output: &mut StdString<A>)
-    ensures text { string_bytes output.new ≡ string_bytes output.old }
-    ensures room { string_capacity output.old ≤ string_capacity output.new }
-    ensures idle { 0 < string_capacity output.old → string_capacity output.new ≡ string_capacity output.old }
-{
-    if output.capacity() == 0 {
-        request_first_memory(output);
     }
 }
 
@@ -66,6 +32,7 @@ pub fn serialize_separator<A: Allocator>(
 ) -> Result<(), OutOfMemory>
     ensures text { Appends output.old output.new (separator_before is_first separator.now) result }
     ensures room { AsksForRoom output.old output.new (separator_before is_first separator.now) result }
+    ensures first { IsTrue is_first → string_capacity output.new ≤ max 128 (string_capacity output.old) }
 {
     if is_first {
         prepare(output);

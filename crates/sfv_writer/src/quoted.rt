@@ -51,11 +51,15 @@ pub(super) fn serialize_inside<Q: Escaping, A: Allocator>(
     let (run, rest) = Q::split_whole(bytes);
     // SAFETY: plain bytes are ASCII.
     output.push_str(unsafe { std::str::from_utf8_unchecked(run) })?;
+    if rest.is_empty() {
+        return Ok(());
+    }
     serialize_pieces::<Q, A>(rest, output)
 }
 
 /// Appends these bytes, run by run and escape by escape.
-#[inline(always)]
+// Not inlined: few texts have an escape, and the loop needs the registers.
+#[inline(never)]
 fn serialize_pieces<Q: Escaping, A: Allocator>(
     bytes: &[u8],
     output: &mut String<A>,

@@ -3,7 +3,7 @@
 ghost use Rattle.std.specs.Prelude.{false};
 ghost use Rattle.sfv_spec.specs.Values.{string};
 ghost use Rattle.sfv_spec.specs.Canonical.{bare_text};
-ghost use Rattle.sfv_text.specs.StringText.{string_text};
+ghost use Rattle.sfv_text.specs.CheckedTexts.{text_of};
 ghost use Rattle.sfv_writer.specs.Written.{AsksForRoom, Appends};
 
 use crate::quoted::{Escaping, serialize_inside};
@@ -46,8 +46,8 @@ pub(crate) fn serialize_string<A: Allocator>(
     value: StringRef<'_>,
     output: &mut String<A>,
 ) -> Result<(), OutOfMemory>
-    ensures text { Appends output.old output.new (bare_text (string (string_text value.entry))) result }
-    ensures room { AsksForRoom output.old output.new (bare_text (string (string_text value.entry))) result }
+    ensures text { Appends output.old output.new (bare_text (string (text_of value.entry))) result }
+    ensures room { AsksForRoom output.old output.new (bare_text (string (text_of value.entry))) result }
 {
     output.push('"')?;
     serialize_inside::<StringEscaping, A>(value.as_str().as_bytes(), output)?;

@@ -9,7 +9,8 @@ ghost use Rattle.sfv_spec.specs.Values.{bare_values};
 ghost use Rattle.sfv_bare.specs.BareItems.{ref_value};
 ghost use Rattle.sfv_tree.specs.Trees.{pairs_tree, item_tree, inner_list_tree, member_tree, list_tree, dictionary_tree};
 ghost use Rattle.sfv_writer.specs.Versions.{ChecksVersion};
-ghost use Rattle.sfv_spec.specs.Values.{parameter_values, item_values, member_values};
+ghost use Rattle.sfv_spec.specs.Values.{item_values, member_values};
+ghost use Rattle.sfv_spec.proofs.Marks.{parameter_values};
 
 use crate::serialize_error::SerializeError;
 use sfv_bare::bare::{BareItemType, GenericBareItem, RefBareItem};

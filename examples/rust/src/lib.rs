@@ -5,7 +5,7 @@
 
 /// What a call answers: `sfv_answer`.
 #[repr(C)]
-#[derive(Clone, Copy, Debug, PartialEq, Eq)]
+#[derive(Clone, Copy, Debug, Default, PartialEq, Eq)]
 pub struct Answer {
     pub status: u32,
     pub kind: u32,

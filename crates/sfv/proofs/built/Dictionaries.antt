@@ -11,7 +11,8 @@ use Rattle.sfv_spec.specs.declared.field_kind.FieldKind.TheVariants.{Dictionary 
 use Rattle.sfv_spec.specs.declared.version.Version.{Version}
 use Rattle.sfv_spec.specs.Grammar.{IsFieldText}
 use Rattle.sfv_spec.specs.Events.{TreeEvent, member_events, events}
-use Rattle.sfv_spec.specs.Ordered.{keys, last_of, without, collapse, ordered, ordered_member, no_repeats, IsOrdered}
+use Rattle.sfv_spec.specs.Ordered.{last_of, without, collapse, ordered, ordered_member, no_repeats, IsOrdered}
+use Rattle.sfv_spec.proofs.Marks.{keys}
 use Rattle.sfv_spec.specs.Statements.{IsParsedAs}
 use Rattle.sfv_spec.specs.Visiting.{RunsTo}
 use Rattle.sfv_spec.proofs.Collapse.{collapse-push, collapse-distinct}

@@ -1,16 +1,20 @@
 -- Vectors of symbols, of values and of groups, lane by lane.
-use Rattle.std.proofs.Common.{◌≡◌, ℕ, zero, suc, ◌+◌, ◌-◌, ◌*◌, ◌/◌, ◌%◌, ◌^◌, ◌<◌, Bool, true, not, cond, eqb, ltb}
+use Rattle.std.proofs.Common.{◌≡◌, ℕ, zero, suc, ◌+◌, ◌-◌, ◌*◌, ◌/◌, ◌%◌, ◌^◌, ◌<◌, Bool, true, cond, eqb, ltb}
 use Rattle.std.proofs.Common.{List, [], ◌∷◌, ◌++◌, map, take, length, get_or, replicate, refl, sym, ap, ap₂, ◌∙◌, arith, w8, Fits}
-use Rattle.std.proofs.Common.{◌||◌, T}
+use Rattle.std.proofs.Common.{T, inl, inr}
+use Rattle.std.specs.Prelude.{◌==◌}
 use Rattle.std.specs.List.{list_all}
-use Rattle.std.proofs.lemmas.Bool.{agree_below, agree_below_at, eqb-true, and_parts, and_from, ltb-true, lt-ltb}
+use Rattle.std.proofs.lemmas.Bool.{agree_below_at, eqb-true, and_parts, and_from, both_ways, cases_Bool, ltb-true, lt-ltb}
 use Rattle.std.proofs.lemmas.List.{get_or-map, length-map, ext_get_or}
+use Rattle.std.proofs.lemmas.List.Folds.{list_all_at}
 use Rattle.std.proofs.lemmas.Simd.{swz_l, SwzOk, SwzOk-from_below, Each1-get_or, length-swz_l, get_or-swz_l_below, get_or_narrower}
 use lib.Lanes.{zip2, sel_l, top, Each1, dots, products, pair_sums, all_below, number_l, digits_l, pick_l}
 use Rattle.sfv_spec.proofs.Marks.{is_symbol}
 use Rattle.sfv_reading.specs.Content.{symbol_value, bytes_from}
 use Rattle.sfv_reading.proofs.base64.Bits.{is_value, head_value}
-use Rattle.sfv.specs.parser.Base64.{group_numbers, bytes_of_groups}
+use Rattle.sfv_reading.proofs.base64.Shape.{symbol-value, value_within}
+use Rattle.sfv_spec.specs.Base64.{symbols}
+use Rattle.sfv.specs.parser.Base64.{group_numbers, bytes_of_groups, offset_index, AreOffsets}
 
 -- ---- values
 
@@ -63,23 +67,31 @@ looked_up table js long small =
     ∙ ap (λ j. get_or table j 0) same
     ∙ sym (get_or-map (λ j. get_or table j 0) js i 0 0 lt))
 
--- the offsets lead from each symbol to its value
-abbrev pub are_offsets : List ℕ → Bool
-are_offsets offsets = agree_below (λ x. not (is_symbol x) || eqb (add8 x (get_or offsets (row x) 0)) (symbol_value x))
-    (λ _. true) 256
+-- the row of a symbol is the index of its offset
+row_is : (x : ℕ) → x < 256 → row x ≡ offset_index x
+row_is x lt = eqb-true _ _ (agree_below_at (λ x. eqb (row x) (offset_index x)) (λ _. true) 256 x refl lt)
 
-moved : (offsets v : List ℕ) → Each1 (Fits w8) v → list_all is_symbol v ≡ true → are_offsets offsets ≡ true
+offset_at : (offsets : List ℕ) (x : ℕ) → x < 256 → is_symbol x ≡ true → AreOffsets offsets
+    → add8 x (get_or offsets (row x) 0) ≡ symbol_value x
+offset_at offsets x lt is all =
+    let test : ℕ → Bool = λ c. (c + get_or offsets (offset_index c) 0) % 256 == symbol_value c in
+    let small : symbol_value x < 64 = ltb-true (symbol_value x) 64 (value_within x is) in
+    elim (cases_Bool (test x)) [
+      | inl y ↦ rw (row_is x lt) (eqb-true _ _ y)
+      | inr n ↦
+          let no = list_all_at test symbols (symbol_value x) 0 small (rw (symbol-value x is) n) in
+          absurd (both_ways _ no all)
+    ]
+
+moved : (offsets v : List ℕ) → Each1 (Fits w8) v → list_all is_symbol v ≡ true → AreOffsets offsets
     → zip2 add8 v (map (λ j. get_or offsets j 0) (map row v)) ≡ map symbol_value v
 moved offsets [] fits each all = refl
 moved offsets (x ∷ v) fits each all =
     let parts = and_parts (is_symbol x) (list_all is_symbol v) each in
-    let at = agree_below_at (λ x. not (is_symbol x) || eqb (add8 x (get_or offsets (row x) 0)) (symbol_value x))
-    (λ _. true) 256 x all fits.0.fits in
-    let here : eqb (add8 x (get_or offsets (row x) 0)) (symbol_value x) ≡ true = rw parts.0 at at in
-    ap₂ (λ a (l : List ℕ). a ∷ l) (eqb-true _ _ here) (moved offsets v fits.1 parts.1 all)
+    ap₂ (λ a (l : List ℕ). a ∷ l) (offset_at offsets x fits.0.fits parts.0 all) (moved offsets v fits.1 parts.1 all)
 
 pub values_are : (offsets v : List ℕ) → length v ≡ 16 → Each1 (Fits w8) v → list_all is_symbol v ≡ true
-    → are_offsets offsets ≡ true
+    → AreOffsets offsets
     → zip2 add8 v (swz_l w8 16 offsets 0 (rows 16 v)) ≡ map symbol_value v
 values_are offsets v long fits each all =
     ap (λ (js : List ℕ). zip2 add8 v (swz_l w8 16 offsets 0 js)) (rows_are 16 v long)

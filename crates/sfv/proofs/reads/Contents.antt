@@ -8,7 +8,7 @@ use Rattle.std.proofs.lemmas.Bool.{eqb-true, cases_Bool, true≢false}
 use Rattle.std.proofs.lemmas.List.{append-nil, length-take-le, length-drop, take-append-drop, drop-drop, drop_more}
 use Rattle.std.proofs.lemmas.List.{drop_all, get_or-drop, take_rest}
 use Rattle.std.proofs.Math.Seq.{take-add}
-use Rattle.sfv_spec.specs.Ascii.{colon, equals_sign}
+use Rattle.sfv_spec.proofs.Marks.{colon, equals_sign}
 use Rattle.sfv_spec.proofs.Settled.{NotBegun}
 use Rattle.sfv_spec.specs.declared.error_kind.ErrorKind.TheVariants.{InvalidByteSequence, UnterminatedByteSequence}
 use Rattle.sfv_reading.specs.Reader.{Apart}

@@ -3,12 +3,13 @@ use Rattle.std.proofs.Common.{◌≡◌, ℕ, ◌+◌, ◌-◌, ◌*◌, ◌^◌
 use Rattle.std.proofs.Common.{Option, Some, None, Ok, Err, refl, sym, ap, subst, ◌∙◌, arith, drop}
 use Rattle.std.specs.Prelude.{IsTrue, ℤ, MatchOption}
 use Rattle.std.proofs.lemmas.Bool.{and_from, both_ways, eqb-true, ne_eqb}
-use Rattle.sfv_spec.specs.Ascii.{double_quote, percent_sign, digit_zero, colon}
+use Rattle.sfv_spec.proofs.Marks.{double_quote, percent_sign, digit_zero, colon}
 use Rattle.sfv_spec.proofs.Marks.{minus_sign, dot, digit_one, semicolon}
-use Rattle.sfv_spec.specs.Ascii.{equals_sign}
+use Rattle.sfv_spec.proofs.Marks.{equals_sign}
 use Rattle.sfv_spec.proofs.Marks.{question_mark, at_sign}
 use Rattle.sfv_spec.specs.Texts.{RunOf}
-use Rattle.sfv_spec.specs.Classes.{is_digit, is_space, is_key_start, is_key_inner, is_key, is_token_start}
+use Rattle.sfv_spec.specs.Classes.{is_key_start, is_key_inner, is_key, is_token_start}
+use Rattle.sfv_spec.proofs.Marks.{is_digit, is_space}
 use Rattle.sfv_spec.specs.Classes.{is_token_inner, is_token}
 use Rattle.sfv_spec.specs.Values.{RawParameters, RawItem, BareValue, integer, decimal, token}
 use Rattle.sfv_spec.specs.declared.version.Version.{Version}

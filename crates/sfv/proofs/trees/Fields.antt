@@ -8,7 +8,7 @@ use Rattle.std.proofs.lemmas.List.Elements.{Contains-append_right}
 use Rattle.std.specs.declared.vec.Vec.{Vec}
 use Rattle.indexmap.specs.IndexMap.{IndexMap, insert_entry}
 use Rattle.sfv_spec.specs.Values.{RawMember}
-use Rattle.sfv_spec.specs.Classes.{is_space}
+use Rattle.sfv_spec.proofs.Marks.{is_space}
 use Rattle.sfv_spec.specs.declared.field_kind.FieldKind.TheVariants.{List as list_field, Dictionary as dictionary_field}
 use Rattle.sfv_spec.specs.declared.version.Version.{Version}
 use Rattle.sfv_spec.specs.Events.{TreeEvent, entry, member_events, entry_events, keyed_events}
@@ -28,7 +28,8 @@ use Rattle.sfv_tree.specs.Trees.{list_tree, dictionary_tree}
 use Rattle.sfv_tree.specs.declared.hash_seed.HashSeed.{HashSeed}
 use Rattle.sfv_tree.specs.declared.parsed.ListEntry.{ListEntry}
 use Rattle.sfv.specs.parser.Cursor.{kept, kept_input, kept_version, version, rest}
-use Rattle.sfv.specs.parser.Trees.{Any, AnyFails, Builds, ordered_pairs}
+use Rattle.sfv.specs.parser.Trees.{Builds, FailsAs, ordered_pairs}
+use Rattle.sfv.proofs.trees.Errors.{Any, NoMemory, as_answer}
 use Rattle.sfv.specs.parser.Visits.{VisitsAnswer}
 use Rattle.sfv.specs.Memory.{HasMoreThanSpaces}
 use Rattle.sfv.specs.Parsers.{IsParseError}
@@ -99,17 +100,17 @@ abbrev Ends : Unit {0} → OutOfMemory → Type 0
 Ends s fault = ⊤
 
 pub list_rejected : (version : Version) (k : Parser × Global) (after : Cursor) (e : Error)
-    → VisitsAnswer Any AnyFails (λ ms. flat_map entry_events ms) k after tt tt (Err (Syntax e))
+    → VisitsAnswer Any NoMemory (λ ms. flat_map entry_events ms) k after tt tt (Err (Syntax e))
     (members_at entry_events (entry_at version) (kept_input k)) → IsParseError version list_field (kept_input k) e
 list_rejected version k after e h = parse_error version list_field (kept_input k) e
-    (members_fail Any AnyFails Answers Ends false version k tt tt after (Syntax e) h).0
+    (members_fail Any NoMemory Answers Ends false version k tt tt after (Syntax e) h).0
 
 pub dictionary_rejected : (version : Version) (k : Parser × Global) (after : Cursor) (e : Error)
-    → VisitsAnswer Any AnyFails (λ ms. flat_map keyed_events ms) k after tt tt (Err (Syntax e))
+    → VisitsAnswer Any NoMemory (λ ms. flat_map keyed_events ms) k after tt tt (Err (Syntax e))
     (members_at keyed_events (keyed_at version) (kept_input k))
     → IsParseError version dictionary_field (kept_input k) e
 dictionary_rejected version k after e h = parse_error version dictionary_field (kept_input k) e
-    (members_fail Any AnyFails Answers Ends true version k tt tt after (Syntax e) h).0
+    (members_fail Any NoMemory Answers Ends true version k tt tt after (Syntax e) h).0
 
 -- a byte after the spaces is another one
 pub more_after : (t s q : List ℕ) → span is_space t ≡ Ok (s, q) → is_some (first q) ≡ true → HasMoreThanSpaces t
@@ -173,13 +174,14 @@ module _ (start after : Cursor) (k : Parser × Global) (same : kept start ≡ k)
       (dictionary_tree d.entries) (ap (dictionary_reader (kept_version k)) (sym whole)
       ∙ kept_reads dictionary_reader (rest start) (kept start) k same ∙ h.1) end h.2
 
-  pub list_fault : (e : Error) → VisitsAnswer Any AnyFails list_events (kept start) after tt tt (Err (Syntax e))
-      (list_reader (version start) (rest start)) → IsParseError (kept_version k) list_field (kept_input k) e
+  pub list_fault : (e : Error) → FailsAs list_events start (Syntax e) list_reader
+      → IsParseError (kept_version k) list_field (kept_input k) e
   list_fault e h = list_rejected (kept_version k) k after e
-      (start_visits Any AnyFails list_events list_reader start after tt tt k (Err (Syntax e)) same whole h)
+      (start_visits Any NoMemory list_events list_reader start after tt tt k (Err (Syntax e)) same whole
+      (as_answer h))
 
-  pub dictionary_fault : (e : Error) → VisitsAnswer Any AnyFails dictionary_events (kept start) after tt tt
-      (Err (Syntax e)) (dictionary_reader (version start) (rest start))
+  pub dictionary_fault : (e : Error) → FailsAs dictionary_events start (Syntax e) dictionary_reader
       → IsParseError (kept_version k) dictionary_field (kept_input k) e
   dictionary_fault e h = dictionary_rejected (kept_version k) k after e
-      (start_visits Any AnyFails dictionary_events dictionary_reader start after tt tt k (Err (Syntax e)) same whole h)
+      (start_visits Any NoMemory dictionary_events dictionary_reader start after tt tt k (Err (Syntax e)) same whole
+      (as_answer h))

@@ -10,12 +10,11 @@ use Rattle.sfv_reading.proofs.sound.Many.{put, in_front, starts, regroup, goes_o
 use Rattle.sfv.specs.declared.parser.Parser.{Parser}
 use Rattle.sfv.specs.declared.parser.cursor.Cursor.{Cursor}
 use Rattle.sfv.specs.parser.Cursor.{kept, version, rest}
-use Rattle.sfv.specs.parser.Trees.{Any, AnyFails}
+use Rattle.sfv.proofs.trees.Errors.{Any, NoMemory, any_run}
 use Rattle.sfv.specs.parser.Visits.{Visits}
 use Rattle.sfv.proofs.reads.Delimiters.{first_of}
 use Rattle.sfv.proofs.reads.Errors.{kept_reads}
 use Rattle.sfv.proofs.visits.Loops.{Loop, VisitedSoFar, Wants, all_events, next_none, next_some}
-use Rattle.sfv.proofs.trees.Parameters.{any_run}
 
 -- What was read of a whole since the start, and what was built from it: `all front`.
 pub record BuiltSoFar {A W : Type 0} (l : Loop A) (all : List A → W) (start : Cursor) (total : Answer (List A))
@@ -51,7 +50,7 @@ keeps_seed P middle start before after same h =
 -- the same, visited
 pub as_one : {A : Type 0} (l : Loop A) (middle after : Cursor) (v : A)
     → l.one (version middle) (rest middle) ≡ Ok (v, rest after) → kept after ≡ kept middle
-    → Visits Any AnyFails l.parts middle after tt tt (Ok tt) l.one
+    → Visits Any NoMemory l.parts middle after tt tt (Ok tt) l.one
 as_one l middle after v read same = (v, read, any_run (l.parts v), same)
 
 module _ {A W : Type 0} (l : Loop A) (all : List A → W) (more : W → A → W)

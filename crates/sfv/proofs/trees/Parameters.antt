@@ -1,25 +1,18 @@
 -- The loop over parameters that are inserted into a map.
-use Rattle.std.proofs.Common.{◌≡◌, ℕ, List, [], ◌∷◌, ◌++◌, Some, None, Ok, refl, sym, ap, ◌∙◌}
+use Rattle.std.proofs.Common.{◌≡◌, ℕ, List, [], ◌∷◌, ◌++◌, Some, None, Ok, sym, ap, ◌∙◌}
 use Rattle.std.specs.Prelude.{bytes_eq}
 use Rattle.indexmap.specs.IndexMap.{insert_entry}
 use Rattle.sfv_spec.specs.Values.{BareValue, RawParameters}
 use Rattle.sfv_spec.specs.declared.version.Version.{Version}
-use Rattle.sfv_spec.specs.Events.{TreeEvent}
-use Rattle.sfv_spec.specs.Visiting.{RunsTo}
 use Rattle.sfv_spec.specs.Ordered.{collapse}
 use Rattle.sfv_spec.proofs.Collapse.{collapse-push}
 use Rattle.sfv_tree.specs.Trees.{OwnedBareItem, pairs_tree}
 use Rattle.sfv_reading.specs.Items.{parameter_event, parameter_at, parameters_at}
 use Rattle.sfv_reading.proofs.sound.Many.{in_front, starts, goes_on, is_done}
 use Rattle.sfv_reading.proofs.sound.Items.{Consumes-parameter}
-use Rattle.sfv.specs.parser.Trees.{Any}
+use Rattle.sfv.proofs.trees.Errors.{Any, any_run}
 use Rattle.sfv.proofs.built.Items.{insert_entry-entered}
 use Rattle.sfv.proofs.visits.Parameters.{VisitedParameters, pair_events}
-
--- every run of events is taken
-pub any_run : (es : List TreeEvent) → RunsTo Any tt es tt
-any_run [] = refl
-any_run (e ∷ es) = (tt, tt, any_run es)
 
 -- these parameters were read between start and now, and the map has each key once
 pub record CollectedParameters (version : Version) (start now : List ℕ) (entries : List (List ℕ × OwnedBareItem))

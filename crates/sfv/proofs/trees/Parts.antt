@@ -1,33 +1,36 @@
 -- Items, inner lists and members that are built, by their parts.
 use Rattle.std.proofs.Common.{◌≡◌, ℕ, true, false, List, [], ◌∷◌, ◌++◌, map, None, Ok, Err, refl, sym, ap, ap₂, subst}
 use Rattle.std.proofs.Common.{◌∙◌}
-use Rattle.std.specs.Prelude.{⊤, All, Result, bytes_eq}
+use Rattle.std.specs.Prelude.{All, Result, IfOk, IfErr, IsTrue, bytes_eq}
 use Rattle.std.proofs.lemmas.List.{map-append}
 use Rattle.indexmap.specs.IndexMap.{insert_entry}
-use Rattle.std.specs.declared.alloc.Global.{Global}
-use Rattle.sfv_spec.specs.Ascii.{equals_sign}
+use Rattle.sfv_spec.proofs.Marks.{equals_sign}
 use Rattle.sfv_spec.proofs.Marks.{left_parenthesis}
 use Rattle.sfv_spec.specs.Values.{BareValue, boolean, RawParameters, RawItem, RawMember, item, inner_list}
 use Rattle.sfv_spec.specs.declared.version.Version.{Version}
-use Rattle.sfv_spec.specs.Grammar.{true_with}
+use Rattle.sfv_spec.proofs.Marks.{true_with}
 use Rattle.sfv_spec.specs.Events.{TreeEvent, begins_item, begins_inner_list, bare_item, member_events, keyed_entry}
+use Rattle.sfv_spec.specs.Events.{parameters_events, item_events}
 use Rattle.sfv_spec.specs.Ordered.{collapse, ordered_item, ordered_member}
 use Rattle.sfv_base.specs.declared.error.ParseError.{ParseError}
 use Rattle.sfv_base.specs.declared.error.OutOfMemory.{OutOfMemory}
-use Rattle.sfv_reading.specs.Reader.{Answer, Reader, led, give, visited, ◌>>=◌, byte}
+use Rattle.sfv_reading.specs.Reader.{Reader, led, give, ◌>>=◌, byte}
 use Rattle.sfv_reading.specs.Items.{key_at, parameter_event, parameter_at, parameters_at, item_at, item_of}
+use Rattle.sfv_reading.specs.Bare.{bare_at}
 use Rattle.sfv_reading.specs.Members.{inner_items_at, inner_at, inner_of, closed_events, member_at, member_value_at, keyed_at}
 use Rattle.sfv_reading.proofs.complete.Combinators.{bind_complete, led_complete}
 use Rattle.sfv_reading.proofs.sound.Many.{starts, is_done}
 use Rattle.sfv_reading.proofs.sound.Items.{Consumes-parameter}
-use Rattle.sfv.specs.declared.parser.Parser.{Parser}
 use Rattle.sfv.specs.declared.parser.cursor.Cursor.{Cursor}
-use Rattle.sfv.specs.parser.Cursor.{kept, version, rest, TakesIf}
-use Rattle.sfv.specs.parser.Trees.{Any, AnyFails, Builds}
-use Rattle.sfv.specs.parser.Visits.{VisitsAnswer, IsOfVisitor}
-use Rattle.sfv.proofs.reads.Steps.{branch_true}
+use Rattle.sfv.specs.parser.Cursor.{kept, version, rest, Reads, TakesIf}
+use Rattle.sfv.specs.parser.Trees.{Builds, FailsAs}
+use Rattle.sfv.specs.parser.Visits.{IsOfVisitor}
+use Rattle.sfv.proofs.trees.Errors.{Any, NoMemory, as_answer, as_fault, borrowed_text}
+use Rattle.sfv.proofs.reads.Steps.{branch_true, item_some}
 use Rattle.sfv.proofs.visits.InnerLists.{member_list, member_item}
-use Rattle.sfv_tree.specs.Trees.{item_tree, member_tree, list_tree, dictionary_tree}
+use Rattle.sfv_bare.specs.BareItems.{bare_value, input_value, is_borrowed}
+use Rattle.sfv_visitor.specs.ProvidedVisitors.{ReadBareItem}
+use Rattle.sfv_tree.specs.Trees.{OwnedBareItem, pairs_tree, item_tree, member_tree, list_tree, dictionary_tree}
 use Rattle.sfv_tree.specs.Seeds.{ItemHasSeed, MemberHasSeed, ListHasSeed, EntriesHaveSeed}
 use Rattle.sfv_tree.specs.declared.hash_seed.HashSeed.{HashSeed}
 use Rattle.sfv_tree.proofs.Entered.{dictionary_tree-insert}
@@ -36,7 +39,7 @@ use Rattle.sfv_tree.specs.declared.parsed.Item.{Item}
 use Rattle.sfv_tree.specs.declared.parsed.ListEntry.{ListEntry}
 use Rattle.sfv.proofs.reads.Errors.{kept_reads}
 use Rattle.sfv.proofs.visits.Keyed.{true_is, value_visits}
-use Rattle.sfv.proofs.visits.Parameters.{of_visitor}
+use Rattle.sfv.proofs.visits.Parameters.{of_visitor, bare_failed, item_visits}
 use Rattle.sfv.proofs.visits.Parts.{led_visits, kept_visits}
 
 -- no parameters
@@ -54,23 +57,8 @@ pub led_builds : {X Y Z : Type 0} (view : X → Z) (collapsed : Y → Z) (e : Tr
 led_builds view collapsed e parts f before after (Ok x) h =
     (h.0, led_complete (e ∷ []) (f (version before)) (rest before) (rest after) h.0 h.1, h.2, h.3)
 led_builds view collapsed e parts f before after (Err error) h =
-    led_visits Any AnyFails e parts (f (version before)) (rest before) tt tt tt (kept before) after (Err error) tt h
-
--- memory ran out after a value was read that has an event
-pub fails_after : {A : Type 0} (parts : A → List TreeEvent) (k : Parser × Global) (after : Cursor)
-    (error : ParseError OutOfMemory) (answer : Answer A) (raw : A) (q : List ℕ) (e : TreeEvent) (es : List TreeEvent)
-    → answer ≡ Ok (raw, q) → parts raw ≡ e ∷ es → IsOfVisitor (λ _. ⊤) error
-    → VisitsAnswer Any AnyFails parts k after tt tt (Err error) answer
-fails_after parts k after error answer raw q e es read all failed =
-    of_visitor Any AnyFails parts k after tt tt (λ _. ⊤) error answer failed (λ fault f. record {
-      before = [];
-      e = e;
-      after = es;
-      s = tt;
-      all = ap (visited parts) read ∙ all;
-      taken = refl;
-      failed = tt;
-    })
+    as_fault (led_visits Any NoMemory e parts
+    (f (version before)) (rest before) tt tt tt (kept before) after (Err error) tt (as_answer h))
 
 abbrev pub with_parts : BareValue → RawParameters → RawItem
 with_parts b ps = record { bare = b; parameters = ps }
@@ -102,13 +90,13 @@ inner_some version t q r is ps e k =
 pub member_list_some : (version : Version) (t q r : List ℕ) (m : RawMember)
     → TakesIf (byte left_parenthesis) true t q → inner_at version q ≡ Ok (m, r) → member_at version t ≡ Ok (m, r)
 member_list_some version t q r m takes e =
-    member_list Any AnyFails version t q takes ∙ led_complete (begins_inner_list ∷ []) (inner_at version) q r m e
+    member_list Any NoMemory version t q takes ∙ led_complete (begins_inner_list ∷ []) (inner_at version) q r m e
 
 pub member_item_some : (version : Version) (t q r : List ℕ) (i : RawItem)
     → TakesIf (byte left_parenthesis) false t q → item_at version q ≡ Ok (i, r) → member_at version t ≡ Ok (item i, r)
 unfolding give
 member_item_some version t q r i takes e =
-    member_item Any AnyFails version t q takes
+    member_item Any NoMemory version t q takes
     ∙ led_complete (begins_item ∷ []) (item_at version >>= λ i. give (item i)) q r (item i)
     (bind_complete (item_at version) _ q r i e)
 
@@ -121,7 +109,7 @@ pub true_some : (version : Version) (t q r : List ℕ) (ps : RawParameters) → 
     → parameters_at version q ≡ Ok (ps, r) → member_value_at version t ≡ Ok (true_with ps, r)
 unfolding give
 true_some version t q r ps takes e =
-    true_is Any AnyFails version t q takes
+    true_is Any NoMemory version t q takes
     ∙ bind_complete _ _ q r ps (led_complete (begins_item ∷ []) _ q r ps
     (led_complete (bare_item (boolean true) ∷ []) (parameters_at version) q r ps e))
 
@@ -146,8 +134,52 @@ value_builds view before middle after (Ok m) takes same h = (
   h.3 ∙ same,
 )
 value_builds view before middle after (Err e) takes same h =
-    value_visits Any AnyFails (version before) (rest before) (rest middle) tt tt (kept before) after (Err e) takes
-    (kept_visits Any AnyFails member_events member_at middle after tt tt (kept before) (Err e) same h)
+    as_fault (value_visits Any NoMemory (version before) (rest before)
+    (rest middle) tt tt (kept before) after (Err e) takes
+    (kept_visits Any NoMemory member_events member_at middle after tt tt (kept before) (Err e) same
+    (as_answer h)))
+
+-- ---- items, by their bare items and parameters
+
+-- the copy of a bare item that was read
+module _ (before after : Cursor) (item : ReadBareItem)
+    (read : Reads input_value before after (Ok item) (bare_at (version before))) where
+  pub owned_read : (r : Result OwnedBareItem (ParseError OutOfMemory))
+      → IfOk r (λ owned. bare_value owned ≡ input_value item)
+      → IfOk r (λ value. Reads bare_value before after (Ok value) (bare_at (version before)))
+  owned_read (Ok value) same =
+      (read.0 ∙ ap (λ (v : BareValue). Ok (v, rest after)) (sym same), read.1)
+  owned_read (Err error) same = tt
+
+  pub owned_fails : (r : Result OwnedBareItem (ParseError OutOfMemory))
+      → IfErr r (IsOfVisitor (λ _. IsTrue (is_borrowed item)))
+      → IfErr r (λ error. FailsAs item_events before error item_at)
+  owned_fails (Ok value) failed = tt
+  owned_fails (Err error) failed = as_fault (of_visitor Any NoMemory item_events (kept before) after tt tt
+      (λ _. IsTrue (is_borrowed item)) error (item_at (version before) (rest before)) failed
+      (λ fault f. bare_failed Any NoMemory _ _ _ _ _ fault read.0 (borrowed_text item f)))
+
+-- an error after the bare item
+pub later_fails : (before between : Cursor) (value : BareValue) (error : ParseError OutOfMemory)
+    → bare_at (version before) (rest before) ≡ Ok (value, rest between) → kept between ≡ kept before
+    → FailsAs parameters_events between error parameters_at → FailsAs item_events before error item_at
+later_fails before between value error read same h =
+    as_fault (item_visits Any NoMemory (version before) (rest before) (rest between) value tt tt tt (kept before) before
+    (Err error) read tt (kept_visits Any NoMemory parameters_events parameters_at between before tt tt (kept before)
+    (Err error) same (as_answer h)))
+
+pub item_builds : (before between after : Cursor) (value : BareValue) (entries : List (List ℕ × OwnedBareItem))
+    → bare_at (version before) (rest before) ≡ Ok (value, rest between) → kept between ≡ kept before
+    → Builds (λ (u : Unit {0}). pairs_tree entries) collapse parameters_events between after (Ok tt) parameters_at
+    → Builds (λ (u : Unit {0}). with_parts value (pairs_tree entries)) ordered_item item_events before after (Ok tt)
+    item_at
+item_builds before between after value entries read same h = (
+  item_of value h.0,
+  item_some (version before) (rest before) (rest between) (rest after) value h.0 read
+      (kept_reads parameters_at (rest between) (kept between) (kept before) same ∙ h.1),
+  item_parts value value (pairs_tree entries) h.0 refl h.2,
+  h.3 ∙ same,
+)
 
 -- ---- items of an inner list
 

@@ -4,7 +4,7 @@ use Rattle.std.proofs.Common.{refl, sym, ap, subst, ◌∙◌, append_assoc, inl
 use Rattle.std.proofs.lemmas.List.{append_cancel_right, take-append-drop}
 use Rattle.std.specs.Prelude.{⊤, codes, Bool, true, false, MatchOption, IfOk, IfErr, flat_map, ◌⊎◌}
 use Rattle.std.specs.declared.alloc.Global.{Global}
-use Rattle.sfv_spec.specs.Classes.{is_space}
+use Rattle.sfv_spec.proofs.Marks.{is_space}
 use Rattle.sfv_spec.proofs.Marks.{comma}
 use Rattle.sfv_spec.specs.Values.{RawField, RawItem}
 use Rattle.sfv_spec.specs.declared.field_kind.FieldKind.{FieldKind}

@@ -4,7 +4,7 @@ use Rattle.std.proofs.Common.{inl, inr, append_assoc}
 use Rattle.std.specs.Prelude.{IfErr}
 use Rattle.std.proofs.lemmas.Bool.{cases_Bool}
 use Rattle.std.proofs.lemmas.List.{append-nil}
-use Rattle.sfv_spec.specs.Classes.{is_space}
+use Rattle.sfv_spec.proofs.Marks.{is_space}
 use Rattle.sfv_spec.specs.Values.{BareValue, RawItem, RawParameters}
 use Rattle.sfv_spec.specs.declared.field_kind.FieldKind.TheVariants.{Item as item_field}
 use Rattle.sfv_spec.specs.declared.version.Version.{Version}

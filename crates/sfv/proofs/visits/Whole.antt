@@ -3,7 +3,7 @@ use Rattle.std.proofs.Common.{◌≡◌, ℕ, ◌≤◌, true, false, List, [], 
 use Rattle.std.proofs.Common.{ap, subst, ◌∙◌}
 use Rattle.std.specs.Prelude.{MatchOption, is_some}
 use Rattle.std.specs.declared.alloc.Global.{Global}
-use Rattle.sfv_spec.specs.Classes.{is_space}
+use Rattle.sfv_spec.proofs.Marks.{is_space}
 use Rattle.sfv_spec.specs.Values.{RawItem}
 use Rattle.sfv_spec.specs.declared.field_kind.FieldKind.TheVariants.{Item as item_field}
 use Rattle.sfv_spec.specs.declared.version.Version.{Version}

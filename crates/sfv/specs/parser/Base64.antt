@@ -1,8 +1,11 @@
--- Runs of Base64 symbols and of padding, and the bytes of symbols.
+-- Runs of Base64 symbols and of padding, the bytes of symbols, and the offsets that lead from symbols to values.
 use Rattle.std.specs.Prelude.{◌≡◌, ℕ, ◌+◌, ◌*◌, ◌/◌, ◌%◌, ◌≤◌, ◌⊎◌, List, [], ◌∷◌, length, take, drop, replicate, map}
-use Rattle.sfv_spec.specs.Ascii.{equals_sign}
+use Rattle.std.specs.Prelude.{◌==◌, slice_index, if◌then◌else◌, IsTrue}
+use Rattle.std.specs.List.{list_all}
+use Rattle.sfv_spec.proofs.Marks.{equals_sign}
+use Rattle.sfv_spec.specs.Base64.{symbols}
 use Rattle.sfv_spec.specs.Texts.{RunOf}
-use Rattle.sfv_spec.proofs.Marks.{is_symbol}
+use Rattle.sfv_spec.proofs.Marks.{is_symbol, slash}
 use Rattle.sfv_reading.specs.Reader.{Apart, byte}
 use Rattle.sfv_reading.specs.Content.{bytes_from, symbol_value}
 
@@ -35,3 +38,11 @@ group_numbers (a ∷ b ∷ c ∷ d ∷ rest) = ((a * 64 + b) * 4096 + (c * 64 + 
 unfoldable pub bytes_of_groups : List ℕ → List ℕ
 bytes_of_groups [] = []
 bytes_of_groups (n ∷ rest) = (n / 65536 % 256) ∷ (n / 256 % 256) ∷ (n % 256) ∷ bytes_of_groups rest
+
+-- the index of the offset of a symbol
+abbrev pub offset_index : ℕ → ℕ
+offset_index c = if c == slash then 1 else c / 16
+
+-- each symbol and its offset make its value, modulo 256
+abbrev pub AreOffsets : List ℕ → Type 0
+AreOffsets offsets = IsTrue (list_all (λ c. (c + slice_index offsets (offset_index c)) % 256 == symbol_value c) symbols)

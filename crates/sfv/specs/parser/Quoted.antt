@@ -5,7 +5,7 @@ use Rattle.std.specs.declared.alloc.Global.{Global}
 use Rattle.std.specs.declared.vec.Vec.{Vec}
 use Rattle.std.specs.declared.string.String as std_string
 use Rattle.std.specs.declared.borrow.CowStr.{CowStr}
-use Rattle.sfv_spec.specs.Ascii.{percent_sign, backslash, double_quote, equals_sign}
+use Rattle.sfv_spec.proofs.Marks.{percent_sign, backslash, double_quote, equals_sign}
 use Rattle.sfv_spec.proofs.Marks.{semicolon}
 use Rattle.sfv_spec.specs.Texts.{RunOf}
 use Rattle.sfv_spec.specs.Grammar.{Spaces}
@@ -16,7 +16,7 @@ use Rattle.sfv_spec.specs.declared.error_kind.ErrorKind.{ErrorKind}
 use Rattle.sfv_spec.specs.declared.error_kind.ErrorKind.TheVariants.{UnterminatedString, InvalidStringCharacter}
 use Rattle.sfv_spec.specs.declared.error_kind.ErrorKind.TheVariants.{UnterminatedDisplayString}
 use Rattle.sfv_spec.specs.declared.error_kind.ErrorKind.TheVariants.{InvalidDisplayStringCharacter}
-use Rattle.sfv_text.specs.KeyText.{key_text}
+use Rattle.sfv_text.specs.CheckedTexts.{text_of}
 use Rattle.sfv_text.specs.TokenText.{TokenRef}
 use Rattle.sfv_bare.specs.declared.bare.GenericBareItem.{GenericBareItem}
 use Rattle.sfv_bare.specs.declared.bare.GenericBareItem.TheVariants as bare
@@ -99,7 +99,7 @@ IsBorrowedValue item t left = (q : List ℕ) → t ≡ equals_sign ∷ q → IsB
 -- The value of a parameter, after the semicolon, spaces and its key. A string or display string is borrowed from the
 -- input if and only if it has no escape there.
 abbrev pub IsBorrowedParameter : ReadParameter → List ℕ → List ℕ → Type 0
-IsBorrowedParameter p t left = (s r : List ℕ) × (t ≡ semicolon ∷ (s ++ (key_text p.key ++ r))) × Spaces s
+IsBorrowedParameter p t left = (s r : List ℕ) × (t ≡ semicolon ∷ (s ++ (text_of p.key ++ r))) × Spaces s
     × IsBorrowedValue p.value r left
 
 -- the rest of an escape after its mark was consumed, and it denotes this byte; or the error is the reader's fault

@@ -1,38 +1,49 @@
 -- Results of parsing to a tree.
-use Rattle.std.specs.Prelude.{◌≡◌, ⊤, ℕ, List, All, map, Result, Ok, Err}
+use Rattle.std.specs.Prelude.{◌≡◌, ⊤, IsTrue, ℕ, List, All, map, Result, Ok, Err}
+use Rattle.std.specs.List.{Contains}
 use Rattle.sfv_spec.specs.Values.{RawMember, item, inner_list}
 use Rattle.sfv_spec.specs.Ordered.{ordered_member}
 use Rattle.sfv_spec.specs.declared.version.Version.{Version}
-use Rattle.sfv_spec.specs.Events.{TreeEvent}
+use Rattle.sfv_spec.specs.Events.{TreeEvent, keyed_entry, bare_item, parameter, parameters_end}
+use Rattle.sfv_base.specs.declared.error.Error.{Error}
 use Rattle.sfv_base.specs.declared.error.ParseError.{ParseError}
+use Rattle.sfv_base.specs.declared.error.ParseError.TheVariants.{Syntax, Visitor}
 use Rattle.sfv_base.specs.declared.error.OutOfMemory.{OutOfMemory}
-use Rattle.sfv_tree.specs.Trees.{OwnedBareItem, item_with, inner_list_with}
+use Rattle.sfv_bare.specs.BareItems.{is_text}
+use Rattle.sfv_tree.specs.Trees.{OwnedBareItem}
+use Rattle.sfv_tree.proofs.Words.{item_with, inner_list_with}
 use Rattle.sfv_tree.specs.Seeds.{ItemHasSeed}
 use Rattle.sfv_tree.specs.declared.hash_seed.HashSeed.{HashSeed}
-use Rattle.sfv_reading.specs.Reader.{Reader}
+use Rattle.sfv_reading.specs.Reader.{Reader, visited}
 use Rattle.sfv.specs.declared.parser.cursor.Cursor.{Cursor}
 use Rattle.sfv.specs.declared.parser.tree.Head.{Head}
 use Rattle.sfv.specs.declared.parser.tree.Head.TheVariants as heads
-use Rattle.sfv.specs.parser.Cursor.{kept, version, rest}
-use Rattle.sfv.specs.parser.Visits.{VisitsAnswer}
+use Rattle.sfv.specs.parser.Cursor.{kept, input, version, rest, IsErrorOf}
 
--- a visitor that takes every event, and that may fail at each
-abbrev pub Any : Unit {0} → TreeEvent → Unit {0} → Type 0
-Any s e t = ⊤
+-- At these events memory may run out: a key or a text is copied, or a map or a list grows.
+abbrev pub TakesMemory : TreeEvent → Type 0
+TakesMemory (keyed_entry key) = ⊤
+TakesMemory (bare_item value) = IsTrue (is_text value)
+TakesMemory (parameter key value) = ⊤
+TakesMemory parameters_end = ⊤
+TakesMemory event = ⊥
 
-abbrev pub AnyFails : Unit {0} → TreeEvent → OutOfMemory → Type 0
-AnyFails s e fault = ⊤
+-- The error of a parsing function that returns a tree. A syntax error is the reader's fault, or out of memory in a bare
+-- item. The other error is out of memory at an event of the reader's result.
+pub record FailsAs {Y : Type 0} (parts : Y → List TreeEvent) (before : Cursor) (error : ParseError OutOfMemory)
+    (reader : Version → Reader Y) : Type 0 where
+  pub syntax : (e : Error) → error ≡ Syntax e → IsErrorOf (input before) e (reader (version before) (rest before))
+  pub memory : (m : OutOfMemory) → error ≡ Visitor m
+      → (e : TreeEvent) × Contains (visited parts (reader (version before) (rest before))) e × TakesMemory e
 
 -- The result of a parsing function that returns a tree. `Ok`: the reader returns a value and this rest, and the result,
--- seen through `view`, is that value with each key once. A syntax error is the reader's fault, or out of memory; the
--- other error is out of memory at an event of the reader's result.
+-- seen through `view`, is that value with each key once.
 abbrev pub Builds : {X Y Z : Type 0} → (X → Z) → (Y → Z) → (Y → List TreeEvent) → Cursor → Cursor
     → Result X (ParseError OutOfMemory) → (Version → Reader Y) → Type 0
 Builds {Y = Y} view collapsed parts before after (Ok x) reader = (raw : Y)
     × (reader (version before) (rest before) ≡ Ok (raw, rest after)) × (view x ≡ collapsed raw)
     × (kept after ≡ kept before)
-Builds view collapsed parts before after (Err e) reader =
-    VisitsAnswer Any AnyFails parts (kept before) after tt tt (Err e) (reader (version before) (rest before))
+Builds view collapsed parts before after (Err e) reader = FailsAs parts before e reader
 
 -- each key with its member, whose keys are collapsed
 abbrev pub ordered_pairs : List (List ℕ × RawMember) → List (List ℕ × RawMember)

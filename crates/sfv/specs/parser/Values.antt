@@ -4,12 +4,13 @@ use Rattle.std.specs.declared.alloc.Global.{Global}
 use Rattle.std.specs.declared.vec.Vec.{Vec}
 use Rattle.std.specs.declared.borrow.CowStr.{CowStr}
 use Rattle.sfv_spec.specs.Texts.{RunOf}
-use Rattle.sfv_spec.specs.Classes.{is_digit}
+use Rattle.sfv_spec.proofs.Marks.{is_digit}
 use Rattle.sfv_spec.specs.Numbers.{place_value}
 use Rattle.sfv_spec.specs.Values.{BareValue, integer, decimal, display_string}
 use Rattle.sfv_base.specs.Numbers.{integer_of, thousandths_of}
-use Rattle.sfv_text.specs.KeyText.{key_text}
-use Rattle.sfv_bare.specs.BareItems.{cow_text, input_value}
+use Rattle.sfv_text.specs.CheckedTexts.{text_of}
+use Rattle.std.specs.Cow.{cow_str_bytes}
+use Rattle.sfv_bare.specs.BareItems.{input_value}
 pub use Rattle.sfv_bare.specs.BareItems.{is_borrowed_string, is_borrowed_text}
 use Rattle.sfv.specs.declared.parser.digits.Digits.{Digits}
 use Rattle.sfv.specs.declared.parser.number.Number.{Number}
@@ -32,8 +33,8 @@ vec_bytes v = v.items
 
 -- the value of a parsed display string
 abbrev pub display_value_of : CowStr Global → BareValue
-display_value_of text = display_string (cow_text text)
+display_value_of text = display_string (cow_str_bytes text)
 
 -- the key and the value of a parsed parameter
 abbrev pub read_pair : ReadParameter → List ℕ × BareValue
-read_pair p = (key_text p.key, input_value p.value)
+read_pair p = (text_of p.key, input_value p.value)

@@ -1,7 +1,7 @@
 //! Parsing of bare items (RFC 9651, sections 4.2.3.1 and 4.2.5 to 4.2.10).
 
 ghost use Rattle.std.specs.Prelude.{◌≡◌, true, IfOk};
-ghost use Rattle.sfv_spec.specs.Ascii.{double_quote, percent_sign, colon};
+ghost use Rattle.sfv_spec.proofs.Marks.{double_quote, percent_sign, colon};
 ghost use Rattle.sfv_spec.proofs.Marks.{question_mark, at_sign};
 ghost use Rattle.sfv_spec.specs.Values.{boolean, date};
 ghost use Rattle.sfv_spec.specs.declared.version.Version.TheVariants.{Rfc9651};

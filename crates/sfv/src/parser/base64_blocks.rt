@@ -4,13 +4,22 @@ ghost use Rattle.std.specs.Prelude.{◌≡◌, map, nat_lt, take};
 ghost use Rattle.sfv_spec.specs.Texts.{RunOf};
 ghost use Rattle.sfv_spec.proofs.Marks.{is_symbol};
 ghost use Rattle.sfv_reading.specs.Content.{symbol_value};
-ghost use Rattle.sfv.specs.parser.Base64.{decoded_symbols, group_numbers, bytes_of_groups};
+ghost use Rattle.sfv.specs.parser.Base64.{AreOffsets, decoded_symbols, group_numbers, bytes_of_groups};
 
 use std::simd::prelude::*;
 
 // For each high half of a symbol: the value minus the symbol, modulo 256. The plus sign and the slash have the same high
 // half, so the slash uses index 1.
 const OFFSETS: [u8; 16] = [0, 16, 19, 4, 191, 191, 185, 185, 0, 0, 0, 0, 0, 0, 0, 0];
+
+// Returns the offsets as a vector.
+#[inline(always)]
+#[tactic(auto, unfolding(sfv_reading::specs::Content::symbol_value))]
+fn offsets() -> u8x16
+    ensures { AreOffsets result }
+{
+    u8x16::from_array(OFFSETS)
+}
 
 // Returns the values of symbols.
 #[inline(always)]
@@ -20,7 +29,7 @@ fn values_of(symbols: u8x16) -> u8x16
 {
     let is_slash = symbols.simd_eq(u8x16::splat(b'/'));
     let row = (symbols >> u8x16::splat(4)) - is_slash.select(u8x16::splat(1), u8x16::splat(0));
-    symbols + u8x16::from_array(OFFSETS).swizzle_dyn(row)
+    symbols + offsets().swizzle_dyn(row)
 }
 
 // Returns the number of each group of four values, with the first value highest.

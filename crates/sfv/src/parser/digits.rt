@@ -2,8 +2,8 @@
 
 ghost use Rattle.std.specs.Prelude.{◌≡◌, ◌≤◌, ◌<◌, ◌^◌, ◌*◌, ◌-◌, ℕ, true, false, List, length, take, drop, Ok};
 ghost use Rattle.std.specs.Prelude.{MatchOption};
-ghost use Rattle.sfv_spec.specs.Ascii.{digit_zero};
-ghost use Rattle.sfv_spec.specs.Classes.{is_digit};
+ghost use Rattle.sfv_spec.proofs.Marks.{digit_zero};
+ghost use Rattle.sfv_spec.proofs.Marks.{is_digit};
 ghost use Rattle.sfv_reading.specs.Reader.{up_to};
 ghost use Rattle.sfv.specs.parser.Values.{Spells};
 

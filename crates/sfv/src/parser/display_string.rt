@@ -1,7 +1,7 @@
 //! Parsing of display strings (RFC 9651, section 4.2.10).
 
 ghost use Rattle.std.specs.Prelude.{◌≡◌, ◌≤◌, ◌↔◌, ℕ, List, true, length, drop, IfOk, IsTrue, Ok};
-ghost use Rattle.sfv_spec.specs.Ascii.{percent_sign};
+ghost use Rattle.sfv_spec.proofs.Marks.{percent_sign};
 ghost use Rattle.sfv_spec.specs.declared.version.Version.TheVariants.{Rfc9651};
 ghost use Rattle.sfv_reading.specs.Reader.{byte};
 ghost use Rattle.sfv_reading.specs.Bare.{quoted_at};

@@ -2,7 +2,7 @@
 
 ghost use Rattle.std.specs.Prelude.{◌≡◌, ◌++◌, IfOk};
 ghost use Rattle.sfv_spec.specs.Classes.{is_key_start};
-ghost use Rattle.sfv_text.specs.KeyText.{key_text};
+ghost use Rattle.sfv_text.specs.CheckedTexts.{text_of};
 ghost use Rattle.sfv_reading.specs.Items.{key_at};
 ghost use Rattle.sfv.specs.parser.Cursor.{rest, Reads, NextIs};
 
@@ -24,8 +24,8 @@ impl<'de> Cursor<'de> {
     #[inline(always)]
     #[tactic(auto, using(crate::proofs::reads::Steps::key_steps))]
     pub(crate) fn key(&mut self) -> Result<KeyRef<'de>, Error>
-        ensures read { Reads key_text self.old self.new result key_at }
-        ensures taken { IfOk result (λ key. rest self.old ≡ key_text key ++ rest self.new) }
+        ensures read { Reads text_of self.old self.new result key_at }
+        ensures taken { IfOk result (λ key. rest self.old ≡ text_of key ++ rest self.new) }
     {
         if !self.next_is_key_start() {
             return Err(self.error(ErrorKind::ExpectedStartOfKey));

@@ -1,7 +1,7 @@
 //! Parsing between two quotes: the inside of a string or a display string.
 
 ghost use Rattle.std.specs.Prelude.{◌≡◌, ◌++◌, ◌↔◌, Bool, true, false, IfOk, IfSome, IsTrue};
-ghost use Rattle.sfv_spec.specs.Ascii.{double_quote};
+ghost use Rattle.sfv_spec.proofs.Marks.{double_quote};
 ghost use Rattle.sfv_spec.specs.Texts.{RunOf};
 ghost use Rattle.sfv_spec.proofs.Marks.{plain_of};
 ghost use Rattle.sfv_reading.specs.Reader.{Apart, byte};

@@ -2,7 +2,7 @@
 
 ghost use Rattle.sfv_spec.specs.Classes.{is_token_start};
 ghost use Rattle.sfv_spec.specs.Values.{token};
-ghost use Rattle.sfv_text.specs.TokenText.{token_text};
+ghost use Rattle.sfv_text.specs.CheckedTexts.{text_of};
 ghost use Rattle.sfv_reading.specs.Bare.{token_at};
 ghost use Rattle.sfv.specs.parser.Cursor.{rest, Reads, NextIs};
 
@@ -23,7 +23,7 @@ impl<'de> Cursor<'de> {
 
     #[tactic(auto, using(crate::proofs::reads::Steps::token_steps))]
     pub(crate) fn token(&mut self) -> Result<TokenRef<'de>, Error>
-        ensures { Reads (λ t. token (token_text t)) self.old self.new result token_at }
+        ensures { Reads (λ t. token (text_of t)) self.old self.new result token_at }
     {
         if !self.next_is_token_start() {
             return Err(self.error(ErrorKind::ExpectedStartOfBareItem));

@@ -1,33 +1,35 @@
-//! Parsing of lists and dictionaries to trees (RFC 9651, sections 4.2.1 and 4.2.2).
+//! Parsing to trees (RFC 9651, sections 4.2.1 to 4.2.3).
 //!
-//! These functions build what `ListBuilder` and `DictionaryBuilder` build from events, and request memory in the same
-//! order. They need no list for the member of a dictionary.
+//! These functions build what `ItemBuilder`, `ListBuilder` and `DictionaryBuilder` build from events. They need no list
+//! for the member of a dictionary. A list requests room for an element when the element is complete.
 
-ghost use Rattle.std.specs.Prelude.{◌≡◌, ◌<◌, ◌++◌, ◌∷◌, [], ⊤, OnOk, OnErr, IfOk, IfErr, IsTrue, IsFalse, All, map, flat_map, length, vec_capacity};
+ghost use Rattle.std.specs.Prelude.{◌≡◌, ◌<◌, ◌≤◌, ◌++◌, ◌∷◌, [], ⊤, None, Ok, OnOk, OnErr, IfOk, IfErr, IsTrue, All, map, flat_map, length, vec_capacity};
 ghost use Rattle.std.specs.Prelude.{bytes_eq};
-ghost use Rattle.indexmap.specs.IndexMap.{hasher_of, insert_entry};
+ghost use Rattle.indexmap.specs.IndexMap.{get, hasher_of, insert_entry, spare};
 ghost use Rattle.sfv_spec.specs.Values.{inner_list};
 ghost use Rattle.sfv_spec.specs.Statements.{IsParsedAs};
-ghost use Rattle.sfv_spec.specs.declared.field_kind.FieldKind.TheVariants.{List as list_field};
+ghost use Rattle.sfv_spec.specs.declared.field_kind.FieldKind.TheVariants.{Item as item_field, List as list_field};
 ghost use Rattle.sfv_spec.specs.declared.field_kind.FieldKind.TheVariants.{Dictionary as dictionary_field};
 ghost use Rattle.sfv_spec.specs.Ordered.{collapse, ordered_item, ordered_member};
 ghost use Rattle.sfv_spec.specs.Events.{parameters_events, item_events, inner_item_events, member_events};
 ghost use Rattle.sfv_spec.specs.Events.{entry_events, keyed_events};
-ghost use Rattle.sfv_bare.specs.BareItems.{bare_value, input_value};
-ghost use Rattle.sfv_text.specs.KeyText.{key_text};
-ghost use Rattle.sfv_tree.specs.Trees.{pairs_tree, item_with, item_tree, inner_list_with, member_tree, list_tree};
+ghost use Rattle.sfv_bare.specs.BareItems.{bare_value, input_value, is_borrowed};
+ghost use Rattle.sfv_text.specs.CheckedTexts.{text_of};
+ghost use Rattle.sfv_tree.specs.Trees.{pairs_tree, item_tree, member_tree, list_tree};
+ghost use Rattle.sfv_tree.proofs.Words.{item_with, inner_list_with};
 ghost use Rattle.sfv_tree.specs.Trees.{dictionary_tree};
 ghost use Rattle.sfv_tree.specs.Seeds.{ItemHasSeed, MemberHasSeed, ListHasSeed, EntriesHaveSeed};
 ghost use Rattle.sfv_tree.specs.Seeds.{DictionaryHasSeed};
 ghost use Rattle.sfv_tree.specs.declared.hash_seed.HashSeed.{HashSeed};
+ghost use Rattle.sfv_reading.specs.Bare.{bare_at};
 ghost use Rattle.sfv_reading.specs.Items.{parameters_at, item_at};
 ghost use Rattle.sfv_reading.specs.Members.{inner_item_at, inner_items_at, inner_at, member_at, member_value_at, entry_at, keyed_at};
 ghost use Rattle.sfv_reading.specs.Fields.{members_at};
 ghost use Rattle.sfv.specs.Memory.{HasMoreThanSpaces, NeedsMoreThanSpaces};
 ghost use Rattle.sfv.specs.Parsers.{input_of, version_of, IsParseError};
-ghost use Rattle.sfv.specs.parser.Cursor.{rest};
+ghost use Rattle.sfv.specs.parser.Cursor.{version, rest, Reads};
 ghost use Rattle.sfv.specs.parser.Members.{after_begin};
-ghost use Rattle.sfv.specs.parser.Trees.{Builds, HeadHasSeed, head_tree, ordered_pairs};
+ghost use Rattle.sfv.specs.parser.Trees.{Builds, FailsAs, HeadHasSeed, head_tree, ordered_pairs};
 ghost use Rattle.sfv.specs.parser.Visits.{IsOfVisitor};
 
 use crate::parser::Parser;
@@ -38,7 +40,7 @@ use sfv_base::error::{Error, ErrorKind, OutOfMemory, ParseError};
 use sfv_text::key::Key;
 use sfv_text::key_ref::KeyRef;
 use sfv_tree::parsed::{Dictionary, InnerList, Item, List, ListEntry, Parameters};
-use sfv_visitor::visitor::parameters::{MANY, fit};
+use sfv_visitor::visitor::parameters::fit_after;
 use std::alloc::Global;
 
 /// A member without its parameters.
@@ -65,16 +67,14 @@ impl Head {
     }
 }
 
-/// Makes room for one more element, if `is_needed` is true.
+/// Makes room for one more element.
 #[inline(always)]
-fn make_room<T>(items: &mut Vec<T>, is_needed: bool) -> Result<(), ParseError<OutOfMemory>>
+fn make_room<T>(items: &mut Vec<T>) -> Result<(), ParseError<OutOfMemory>>
     ensures items { items.new.items ≡ items.old.items }
-    ensures room { OnOk result (IsTrue is_needed → length items.new.items < vec_capacity items.new) }
+    ensures room { OnOk result (length items.new.items < vec_capacity items.new) }
+    ensures full { OnErr result (vec_capacity items.old ≤ length items.old.items) }
     ensures failed { IfErr result (IsOfVisitor (λ _. ⊤)) }
 {
-    if !is_needed {
-        return Ok(());
-    }
     match items.reserve(1) {
         Ok(()) => Ok(()),
         Err(_) => Err(ParseError::Visitor(OutOfMemory)),
@@ -85,50 +85,54 @@ fn make_room<T>(items: &mut Vec<T>, is_needed: bool) -> Result<(), ParseError<Ou
 #[inline(always)]
 fn own(item: BareItemFromInput<'_>, alloc: Global) -> Result<BareItem, ParseError<OutOfMemory>>
     ensures value { IfOk result (λ owned. bare_value owned ≡ input_value item.entry) }
-    ensures failed { IfErr result (IsOfVisitor (λ _. ⊤)) }
+    ensures failed { IfErr result (IsOfVisitor (λ _. IsTrue (is_borrowed item.entry))) }
 {
     item.try_into_owned(alloc).map_err(ParseError::Visitor)
 }
 
-/// Returns the same key with owned text.
+/// Returns the same key with owned text. A key has at least one byte, so each copy requests memory.
 #[inline(always)]
 fn own_key(key: KeyRef<'_>, alloc: Global) -> Result<Key, ParseError<OutOfMemory>>
-    ensures value { IfOk result (λ owned. owned ≡ key_text key.entry) }
+    ensures value { IfOk result (λ owned. owned ≡ text_of key.entry) }
     ensures failed { IfErr result (IsOfVisitor (λ _. ⊤)) }
 {
     key.to_owned(alloc).map_err(ParseError::Visitor)
 }
 
-/// Inserts a parsed parameter.
+/// Inserts an owned parameter. An existing key keeps its place and takes the new value; a new key goes last.
+// This and `enter_member` are one function for each type of values: with a type parameter, an old value is dropped by a
+// call, or moved to the caller.
 #[inline(always)]
-fn insert(
-    alloc: Global,
+fn enter_parameter(
     params: &mut Parameters,
-    parameter: ReadParameter<'_>,
+    key: Key,
+    value: BareItem,
 ) -> Result<(), ParseError<OutOfMemory>>
-    ensures seed { hasher_of params.new ≡ hasher_of params.old }
-    ensures entries { OnOk result (pairs_tree params.new.entries ≡ insert_entry bytes_eq
-        (pairs_tree params.old.entries) (key_text parameter.entry.key) (input_value parameter.entry.value)) }
+    ensures entries { OnOk result (params.new.entries ≡ insert_entry bytes_eq params.old.entries key value) }
+    ensures hasher { hasher_of params.new ≡ hasher_of params.old }
+    ensures unchanged { OnErr result (params.new.entries ≡ params.old.entries) }
+    ensures absent { OnErr result (get bytes_eq params.old key ≡ None) }
+    ensures full { OnErr result (spare params.old ≡ 0) }
     ensures failed { IfErr result (IsOfVisitor (λ _. ⊤)) }
 {
-    let ReadParameter { key, value } = parameter;
-    let key = own_key(key, alloc)?;
-    let value = own(value, alloc)?;
     match params.insert(key, value) {
         Ok(_) => Ok(()),
         Err(_) => Err(ParseError::Visitor(OutOfMemory)),
     }
 }
 
-/// Inserts a member.
+/// Inserts a member, as `enter_parameter` inserts a parameter.
 #[inline(always)]
-fn enter(
+fn enter_member(
     dictionary: &mut Dictionary,
     key: Key,
     member: ListEntry,
 ) -> Result<(), ParseError<OutOfMemory>>
-    ensures hasher { hasher_of dictionary.new ≡ hasher_of dictionary.old }
     ensures entries { OnOk result (dictionary.new.entries ≡ insert_entry bytes_eq dictionary.old.entries key member) }
+    ensures hasher { hasher_of dictionary.new ≡ hasher_of dictionary.old }
+    ensures unchanged { OnErr result (dictionary.new.entries ≡ dictionary.old.entries) }
+    ensures absent { OnErr result (get bytes_eq dictionary.old key ≡ None) }
+    ensures full { OnErr result (spare dictionary.old ≡ 0) }
     ensures failed { IfErr result (IsOfVisitor (λ _. ⊤)) }
 {
     match dictionary.insert(key, member) {
@@ -137,100 +141,120 @@ fn enter(
     }
 }
 
-/// Releases the unused memory of parameters, if there are any, after at least `MANY` other members or items.
+/// Inserts a parsed parameter.
 #[inline(always)]
-fn fit_after(count: usize, params: &mut Parameters)
-    ensures entries { params.new.entries ≡ params.old.entries }
+fn insert_parameter(
+    alloc: Global,
+    params: &mut Parameters,
+    parameter: ReadParameter<'_>,
+) -> Result<(), ParseError<OutOfMemory>>
     ensures seed { hasher_of params.new ≡ hasher_of params.old }
+    ensures entries { OnOk result (pairs_tree params.new.entries ≡ insert_entry bytes_eq
+        (pairs_tree params.old.entries) (text_of parameter.entry.key) (input_value parameter.entry.value)) }
+    ensures failed { IfErr result (IsOfVisitor (λ _. ⊤)) }
 {
-    if count >= MANY && !params.is_empty() {
-        fit(params);
-    }
-}
-
-/// Returns the number of elements, or 0 if they need no room.
-#[inline(always)]
-fn count_if<T>(needs_room: bool, items: &Vec<T>) -> usize
-    ensures count { IsTrue needs_room → result ≡ length items.now.items }
-    ensures none { IsFalse needs_room → result ≡ 0 }
-{
-    if needs_room { items.len() } else { 0 }
+    let ReadParameter { key, value } = parameter;
+    let key = own_key(key, alloc)?;
+    let value = own(value, alloc)?;
+    enter_parameter(params, key, value)?;
+    Ok(())
 }
 
 impl<'de> Cursor<'de> {
-    /// Parses parameters into `params`. Before each insertion, and at their end, there is room for one more element of
-    /// `items`, if `needs_room` is true. Then the unused memory of parameters is released after many items.
+    /// Parses parameters into `params`. `count` other members or items come before.
     // The parameters are filled in place: a result that contains them is copied at each return.
     #[inline(never)]
-    fn collect_parameters<T>(
+    fn collect_parameters(
         &mut self,
         params: &mut Parameters,
-        items: &mut Vec<T>,
-        needs_room: bool,
+        count: usize,
     ) -> Result<(), ParseError<OutOfMemory>>
         requires { params.old.entries ≡ [] }
         ensures tree { Builds (λ _. pairs_tree params.new.entries) collapse parameters_events
             self.old self.new result parameters_at }
         ensures seed { hasher_of params.new ≡ hasher_of params.old }
-        ensures items { items.new.items ≡ items.old.items }
-        ensures room { OnOk result (IsTrue needs_room → length items.new.items < vec_capacity items.new) }
     {
         while let Some(parameter) = self.parameter()? {
-            make_room(items, needs_room)?;
-            insert(self.alloc, params, parameter)?;
+            insert_parameter(self.alloc, params, parameter)?;
         }
-        make_room(items, needs_room)?;
-        fit_after(count_if(needs_room, items), params);
+        fit_after(count, params);
         Ok(())
     }
 
     /// Parses any number of parameters, as `collect_parameters` does.
+    // Most items have no parameters, so the choice is inlined.
     #[inline(always)]
-    fn tree_parameters<T>(
+    fn tree_parameters(
         &mut self,
         params: &mut Parameters,
-        items: &mut Vec<T>,
-        needs_room: bool,
+        count: usize,
     ) -> Result<(), ParseError<OutOfMemory>>
         requires { params.old.entries ≡ [] }
         ensures tree { Builds (λ _. pairs_tree params.new.entries) collapse parameters_events
             self.old self.new result parameters_at }
         ensures seed { hasher_of params.new ≡ hasher_of params.old }
-        ensures items { items.new.items ≡ items.old.items }
-        ensures room { OnOk result (IsTrue needs_room → length items.new.items < vec_capacity items.new) }
     {
         if self.next_is(b';') {
-            return self.collect_parameters(params, items, needs_room);
+            return self.collect_parameters(params, count);
         }
-        make_room(items, needs_room)?;
         Ok(())
     }
 
-    /// Parses an item: returns its bare item, and fills `params`. Makes room for one more element of `items` as
-    /// `collect_parameters` does.
+    /// Parses the bare item of an item, and returns it with owned text.
     #[inline(always)]
-    fn tree_item<T>(
+    fn owned_bare_item(&mut self) -> Result<BareItem, ParseError<OutOfMemory>>
+        ensures read { IfOk result (λ value. Reads bare_value self.old self.new (Ok value) (bare_at (version self.old))) }
+        ensures failed { IfErr result (λ error. FailsAs item_events self.old error item_at) }
+    {
+        let bare_item = self.bare_item()?;
+        own(bare_item, self.alloc)
+    }
+
+    /// Parses an item: returns its bare item, and fills `params`. `count` other members come before.
+    #[inline(always)]
+    fn tree_item(
+        &mut self,
+        params: &mut Parameters,
+        count: usize,
+    ) -> Result<BareItem, ParseError<OutOfMemory>>
+        requires { params.old.entries ≡ [] }
+        ensures tree { Builds (λ bare_item. item_with bare_item params.new.entries) ordered_item item_events
+            self.old self.new result item_at }
+        ensures seed { hasher_of params.new ≡ hasher_of params.old }
+    {
+        let bare_item = self.owned_bare_item()?;
+        self.tree_parameters(params, count)?;
+        Ok(bare_item)
+    }
+
+    /// Parses an item, as `tree_item` does, and makes room for it in `items`.
+    #[inline(always)]
+    fn element_item<T>(
         &mut self,
         params: &mut Parameters,
         items: &mut Vec<T>,
-        needs_room: bool,
+        count: usize,
     ) -> Result<BareItem, ParseError<OutOfMemory>>
         requires { params.old.entries ≡ [] }
         ensures tree { Builds (λ bare_item. item_with bare_item params.new.entries) ordered_item item_events
             self.old self.new result item_at }
         ensures seed { hasher_of params.new ≡ hasher_of params.old }
         ensures items { items.new.items ≡ items.old.items }
-        ensures room { OnOk result (IsTrue needs_room → length items.new.items < vec_capacity items.new) }
+        ensures room { OnOk result (length items.new.items < vec_capacity items.new) }
     {
-        let bare_item = self.bare_item()?;
-        let bare_item = own(bare_item, self.alloc)?;
-        self.tree_parameters(params, items, needs_room)?;
+        let bare_item = self.owned_bare_item()?;
+        self.tree_parameters(params, count)?;
+        make_room(items)?;
         Ok(bare_item)
     }
 
-    /// Parses an item of an inner list, and appends it to `items`.
+    /// Parses an item of an inner list, and appends it to `items`. `count` members come before the inner list.
     #[inline(always)]
-    fn push_inner_item(&mut self, items: &mut Vec<Item>) -> Result<(), ParseError<OutOfMemory>>
+    fn push_inner_item(
+        &mut self,
+        items: &mut Vec<Item>,
+        count: usize,
+    ) -> Result<(), ParseError<OutOfMemory>>
         ensures tree { Builds (λ _. map item_tree items.new.items)
             (λ raw. map item_tree items.old.items ++ ordered_item raw ∷ []) inner_item_events
             self.old self.new result inner_item_at }
@@ -238,13 +262,14 @@ impl<'de> Cursor<'de> {
             → All (ItemHasSeed self.old.parser.seed) items.new.items) }
     {
         let mut params = Parameters::with_hasher(self.alloc, self.parser.seed);
-        let bare_item = self.tree_item(&mut params, items, true)?;
+        let count = count.saturating_add(items.len());
+        let bare_item = self.element_item(&mut params, items, count)?;
         items.push_reserved(Item::with_params(bare_item, params));
         Ok(())
     }
 
-    /// Parses the items of an inner list after its opening parenthesis, with the closing one.
-    fn tree_inner_items(&mut self) -> Result<Vec<Item>, ParseError<OutOfMemory>>
+    /// Parses the items of an inner list after its opening parenthesis, with the closing one. `count` members come before.
+    fn tree_inner_items(&mut self, count: usize) -> Result<Vec<Item>, ParseError<OutOfMemory>>
         ensures tree { Builds (λ items. map item_tree items.items) (λ raw. map ordered_item raw)
             (λ raw. flat_map inner_item_events raw) self.old self.new result inner_items_at }
         ensures seed { IfOk result (λ items. All (ItemHasSeed self.old.parser.seed) items.items) }
@@ -258,9 +283,9 @@ impl<'de> Cursor<'de> {
         if self.take_if(b')') {
             return Ok(items);
         }
-        self.push_inner_item(&mut items)?;
+        self.push_inner_item(&mut items, count)?;
         while self.consume_item_delimiter()? {
-            self.push_inner_item(&mut items)?;
+            self.push_inner_item(&mut items, count)?;
         }
         Ok(items)
     }
@@ -279,15 +304,19 @@ impl<'de> Cursor<'de> {
         ensures seed { hasher_of params.new ≡ hasher_of params.old }
         ensures item_seeds { IfOk result (λ items. All (ItemHasSeed self.old.parser.seed) items.items) }
     {
-        let mut items = self.tree_inner_items()?;
-        self.tree_parameters(params, &mut items, false)?;
-        fit_after(count, params);
+        let items = self.tree_inner_items(count)?;
+        self.tree_parameters(params, count)?;
         Ok(items)
     }
 
-    /// Parses an item or an inner list: returns it without its parameters, and fills `params`.
+    /// Parses an item or an inner list: returns it without its parameters, and fills `params`. `count` other members come
+    /// before.
     #[inline(always)]
-    fn tree_member(&mut self, params: &mut Parameters) -> Result<Head, ParseError<OutOfMemory>>
+    fn tree_member(
+        &mut self,
+        params: &mut Parameters,
+        count: usize,
+    ) -> Result<Head, ParseError<OutOfMemory>>
         requires { params.old.entries ≡ [] }
         ensures tree { Builds (λ head. head_tree head params.new.entries) ordered_member member_events
             self.old self.new result member_at }
@@ -295,11 +324,10 @@ impl<'de> Cursor<'de> {
         ensures item_seeds { IfOk result (HeadHasSeed self.old.parser.seed) }
     {
         if self.take_if(b'(') {
-            let items = self.tree_inner_list(params, 0)?;
+            let items = self.tree_inner_list(params, count)?;
             return Ok(Head::InnerList(items));
         }
-        let mut none: Vec<Item> = Vec::new(self.alloc);
-        let bare_item = self.tree_item(params, &mut none, false)?;
+        let bare_item = self.tree_item(params, count)?;
         Ok(Head::Item(bare_item))
     }
 
@@ -309,6 +337,7 @@ impl<'de> Cursor<'de> {
     fn tree_member_value(
         &mut self,
         params: &mut Parameters,
+        count: usize,
     ) -> Result<Head, ParseError<OutOfMemory>>
         requires { params.old.entries ≡ [] }
         ensures tree { Builds (λ head. head_tree head params.new.entries) ordered_member member_events
@@ -317,10 +346,9 @@ impl<'de> Cursor<'de> {
         ensures item_seeds { IfOk result (HeadHasSeed self.old.parser.seed) }
     {
         if self.take_if(b'=') {
-            return self.tree_member(params);
+            return self.tree_member(params, count);
         }
-        let mut none: Vec<Item> = Vec::new(self.alloc);
-        self.tree_parameters(params, &mut none, false)?;
+        self.tree_parameters(params, count)?;
         Ok(Head::Item(GenericBareItem::Boolean(true)))
     }
 
@@ -335,12 +363,13 @@ impl<'de> Cursor<'de> {
     {
         let mut params = Parameters::with_hasher(self.alloc, self.parser.seed);
         if self.take_if(b'(') {
-            make_room(list, true)?;
             let items = self.tree_inner_list(&mut params, list.len())?;
+            make_room(list)?;
             list.push_reserved(ListEntry::InnerList(InnerList::with_params(items, params)));
             return Ok(());
         }
-        let bare_item = self.tree_item(&mut params, list, true)?;
+        let count = list.len();
+        let bare_item = self.element_item(&mut params, list, count)?;
         list.push_reserved(ListEntry::Item(Item::with_params(bare_item, params)));
         Ok(())
     }
@@ -356,10 +385,11 @@ impl<'de> Cursor<'de> {
             → EntriesHaveSeed self.old.parser.seed dictionary.new.entries) }
     {
         let key = self.key()?;
-        let key = own_key(key, self.alloc)?;
         let mut params = Parameters::with_hasher(self.alloc, self.parser.seed);
-        let head = self.tree_member_value(&mut params)?;
-        enter(dictionary, key, head.with_params(params))?;
+        let head = self.tree_member_value(&mut params, dictionary.len())?;
+        // After the value: if that is wrong, there is no copy.
+        let key = own_key(key, self.alloc)?;
+        enter_member(dictionary, key, head.with_params(params))?;
         Ok(())
     }
 
@@ -403,6 +433,35 @@ impl<'de> Cursor<'de> {
             self.insert_member(&mut dictionary)?;
         }
         Ok(dictionary)
+    }
+}
+
+/// Parses the input as an item.
+///
+/// # Errors
+///
+/// Returns the errors of `Parser::parse`.
+#[inline(never)]
+pub(crate) fn parse_item(parser: Parser<'_>, alloc: Global) -> Result<Item, Error>
+    ensures read { IfOk result (λ item.
+        IsParsedAs (version_of parser.entry) item_field (input_of parser.entry) (item_tree item)) }
+    ensures seed { IfOk result (ItemHasSeed parser.entry.seed) }
+    ensures rejected { IfErr result (IsParseError (version_of parser.entry) item_field (input_of parser.entry)) }
+    ensures memory { IfErr result (NeedsMoreThanSpaces (input_of parser.entry)) }
+{
+    let mut cursor = Cursor::new(parser, alloc);
+    cursor.skip_sp();
+    let mut params = Parameters::with_hasher(alloc, parser.seed);
+    match cursor.tree_item(&mut params, 0) {
+        Ok(bare_item) => {
+            cursor.skip_sp();
+            if cursor.peek().is_some() {
+                return Err(cursor.error(ErrorKind::TrailingCharactersAfterParsedValue));
+            }
+            Ok(Item::with_params(bare_item, params))
+        }
+        Err(ParseError::Syntax(error)) => Err(error),
+        Err(ParseError::Visitor(error)) => Err(Error::from(error)),
     }
 }
 

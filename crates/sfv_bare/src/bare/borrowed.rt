@@ -4,8 +4,7 @@ ghost use Rattle.std.specs.Prelude.{◌≡◌, IfOk, IfErr, IsTrue};
 ghost use Rattle.sfv_spec.specs.Values as values;
 ghost use Rattle.sfv_spec.specs.Values.{IsBareValue};
 ghost use Rattle.sfv_bare.specs.BareItems.{GivesPart, bare_value, ref_value, holds_bytes};
-ghost use Rattle.sfv_text.specs.StringText.{string_text};
-ghost use Rattle.sfv_text.specs.TokenText.{token_text};
+ghost use Rattle.sfv_text.specs.CheckedTexts.{text_of};
 
 use crate::bare::{BareItem, GenericBareItem, RefBareItem, with_bytes_invariant};
 use sfv_base::error::OutOfMemory;
@@ -19,7 +18,7 @@ use std::string::String as StdString;
 impl<'a> RefBareItem<'a> {
     /// Returns the string (RFC 9651, section 3.3.3), or `None` for another kind.
     pub fn as_string(&self) -> Option<StringRef<'a>>
-        ensures { GivesPart values.string string_text (ref_value self.now) result }
+        ensures { GivesPart values.string text_of (ref_value self.now) result }
     {
         match self {
             GenericBareItem::String(text) => Some(*text),
@@ -39,7 +38,7 @@ impl<'a> RefBareItem<'a> {
 
     /// Returns the token (RFC 9651, section 3.3.4), or `None` for another kind.
     pub fn as_token(&self) -> Option<TokenRef<'a>>
-        ensures { GivesPart values.token token_text (ref_value self.now) result }
+        ensures { GivesPart values.token text_of (ref_value self.now) result }
     {
         match self {
             GenericBareItem::Token(token) => Some(*token),
@@ -94,7 +93,7 @@ impl<'a> RefBareItem<'a> {
 }
 
 impl<'a> From<StringRef<'a>> for RefBareItem<'a> {
-    ghost from_gives = { λ v item. ref_value item ≡ values.string (string_text v) };
+    ghost from_gives = { λ v item. ref_value item ≡ values.string (text_of v) };
 
     fn from(v: StringRef<'a>) -> RefBareItem<'a> {
         GenericBareItem::String(v)
@@ -102,7 +101,7 @@ impl<'a> From<StringRef<'a>> for RefBareItem<'a> {
 }
 
 impl<'a> From<TokenRef<'a>> for RefBareItem<'a> {
-    ghost from_gives = { λ v item. ref_value item ≡ values.token (token_text v) };
+    ghost from_gives = { λ v item. ref_value item ≡ values.token (text_of v) };
 
     fn from(v: TokenRef<'a>) -> RefBareItem<'a> {
         GenericBareItem::Token(v)

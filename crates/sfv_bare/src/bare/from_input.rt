@@ -8,8 +8,7 @@ ghost use Rattle.sfv_spec.specs.Values as values;
 ghost use Rattle.sfv_spec.specs.Values.{IsBareValue};
 ghost use Rattle.sfv_bare.specs.BareItems.{GivesPart, read_text, bare_value, ref_value, input_value};
 ghost use Rattle.sfv_bare.specs.BareItems.{is_borrowed, is_borrowed_string};
-ghost use Rattle.sfv_text.specs.StringText.{string_text};
-ghost use Rattle.sfv_text.specs.TokenText.{token_text};
+ghost use Rattle.sfv_text.specs.CheckedTexts.{text_of};
 
 use crate::bare::{
     BareItem, BareItemFromInput, GenericBareItem, RefBareItem, StringFromInput,
@@ -25,7 +24,7 @@ use std::alloc::{AllocError, Global};
 impl<'a> StringFromInput<'a> {
     /// Borrows the string.
     pub fn as_string_ref(&self) -> StringRef<'_>
-        ensures { string_text result ≡ read_text self.now }
+        ensures { text_of result ≡ read_text self.now }
     {
         match self {
             StringFromInput::Borrowed(text) => *text,
@@ -80,7 +79,7 @@ impl<'a> Clone for StringFromInput<'a> {
 impl<'a> BareItemFromInput<'a> {
     /// Returns the string (RFC 9651, section 3.3.3), or `None` for another kind.
     pub fn as_string(&self) -> Option<StringRef<'_>>
-        ensures { GivesPart values.string string_text (input_value self.now) result }
+        ensures { GivesPart values.string text_of (input_value self.now) result }
     {
         match self {
             GenericBareItem::String(text) => Some(text.as_string_ref()),
@@ -100,7 +99,7 @@ impl<'a> BareItemFromInput<'a> {
 
     /// Returns the token (RFC 9651, section 3.3.4), or `None` for another kind.
     pub fn as_token(&self) -> Option<TokenRef<'a>>
-        ensures { GivesPart values.token token_text (input_value self.now) result }
+        ensures { GivesPart values.token text_of (input_value self.now) result }
     {
         match self {
             GenericBareItem::Token(token) => Some(*token),
@@ -156,7 +155,7 @@ impl<'a> BareItemFromInput<'a> {
 }
 
 impl<'a> From<TokenRef<'a>> for BareItemFromInput<'a> {
-    ghost from_gives = { λ v item. input_value item ≡ values.token (token_text v) };
+    ghost from_gives = { λ v item. input_value item ≡ values.token (text_of v) };
 
     fn from(v: TokenRef<'a>) -> BareItemFromInput<'a> {
         GenericBareItem::Token(v)

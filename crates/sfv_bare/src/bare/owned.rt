@@ -4,8 +4,7 @@ ghost use Rattle.std.specs.Prelude.{◌≡◌};
 ghost use Rattle.sfv_spec.specs.Values as values;
 ghost use Rattle.sfv_spec.specs.Values.{IsBareValue};
 ghost use Rattle.sfv_bare.specs.BareItems.{GivesPart, bare_value, ref_value};
-ghost use Rattle.sfv_text.specs.StringText.{string_text};
-ghost use Rattle.sfv_text.specs.TokenText.{token_text};
+ghost use Rattle.sfv_text.specs.CheckedTexts.{text_of};
 
 use crate::bare::{BareItem, GenericBareItem, RefBareItem, with_bytes_invariant};
 use sfv_text::string::String;
@@ -16,7 +15,7 @@ use sfv_text::token_ref::TokenRef;
 impl BareItem {
     /// Returns the string (RFC 9651, section 3.3.3), or `None` for another kind.
     pub fn as_string(&self) -> Option<StringRef<'_>>
-        ensures { GivesPart values.string string_text (bare_value self.now) result }
+        ensures { GivesPart values.string text_of (bare_value self.now) result }
     {
         match self {
             GenericBareItem::String(text) => Some(text.as_string_ref()),
@@ -36,7 +35,7 @@ impl BareItem {
 
     /// Returns the token (RFC 9651, section 3.3.4), or `None` for another kind.
     pub fn as_token(&self) -> Option<TokenRef<'_>>
-        ensures { GivesPart values.token token_text (bare_value self.now) result }
+        ensures { GivesPart values.token text_of (bare_value self.now) result }
     {
         match self {
             GenericBareItem::Token(token) => Some(token.as_token_ref()),

@@ -8,7 +8,7 @@ use Rattle.std.proofs.lemmas.Bool.{and_parts, eqb-true, eqb-false, not-true, bot
 use Rattle.std.proofs.lemmas.List.{length-append, length-map, length-replicate, append-nil, nil_from_length, take_at}
 use Rattle.std.proofs.lemmas.List.{length-take-le}
 use Rattle.std.proofs.lemmas.List.Folds.{list_all-append}
-use Rattle.sfv_spec.specs.Ascii.{colon, equals_sign, upper_a}
+use Rattle.sfv_spec.proofs.Marks.{colon, equals_sign, upper_a}
 use Rattle.sfv_spec.specs.Texts.{IsLongestBeginning}
 use Rattle.sfv_spec.specs.Base64.{symbol, bits, IsBase64Text}
 use Rattle.sfv_spec.proofs.Marks.{is_symbol}

@@ -2,10 +2,10 @@
 use Rattle.std.proofs.Common.{◌≡◌, ℕ, zero, suc, ◌<◌, ◌≤◌, ◌+◌, List, [], ◌∷◌, ◌++◌, length, map, take, replicate, refl}
 use Rattle.std.proofs.Common.{sym, ◌∙◌, ap, Bool, true, arith, ◌⊎◌, inl, inr}
 use Rattle.std.specs.Prelude.{◌==◌, ◌||◌}
-use Rattle.sfv_spec.specs.Ascii.{digit_zero, digit_nine, equals_sign, upper_a, upper_z, lower_a}
+use Rattle.sfv_spec.proofs.Marks.{digit_zero, digit_nine, equals_sign, upper_a, upper_z, lower_a}
 use Rattle.sfv_spec.proofs.Marks.{plus_sign, slash}
-use Rattle.sfv_spec.specs.Ascii.{lower_z}
-use Rattle.sfv_spec.specs.Classes.{is_between}
+use Rattle.sfv_spec.proofs.Marks.{lower_z}
+use Rattle.sfv_spec.proofs.Marks.{is_between}
 use Rattle.std.specs.List.{list_all}
 use Rattle.std.proofs.lemmas.Bool.{and_parts, eqb-true, ltb-true, cases_Bool, or_cases}
 use Rattle.sfv_spec.specs.Base64.{symbol}

@@ -5,16 +5,18 @@ use Rattle.std.specs.Prelude.{◌⊎◌, IsTrue}
 use Rattle.std.specs.List.{list_all}
 use Rattle.std.proofs.lemmas.Bool.{eqb-true, or_left, or_from, ne_eqb, and_parts, true≢false, both_ways, cases_Bool}
 use Rattle.std.proofs.lemmas.Bool.{or_cases, not-true}
-use Rattle.sfv_spec.specs.Ascii.{double_quote, percent_sign, digit_zero, digit_nine, colon}
+use Rattle.sfv_spec.proofs.Marks.{double_quote, percent_sign, digit_zero, digit_nine, colon}
 use Rattle.sfv_spec.proofs.Marks.{minus_sign, dot, digit_one}
 use Rattle.sfv_spec.proofs.Marks.{question_mark, at_sign}
 use Rattle.sfv_spec.specs.Texts.{begins_with, RunOf}
-use Rattle.sfv_spec.specs.Classes.{is_digit, is_token, is_token_start, is_token_inner}
+use Rattle.sfv_spec.specs.Classes.{is_token, is_token_start, is_token_inner}
+use Rattle.sfv_spec.proofs.Marks.{is_digit}
 use Rattle.sfv_spec.specs.Values.{BareValue, integer, decimal, string, token, byte_sequence, boolean}
 use Rattle.sfv_spec.specs.declared.version.Version.{Version}
 use Rattle.sfv_spec.specs.declared.version.Version.TheVariants.{Rfc9651}
 use Rattle.sfv_spec.specs.Values.{date, display_string}
-use Rattle.sfv_spec.specs.Numbers.{minus_text, IsIntegerText, IsDecimalText}
+use Rattle.sfv_spec.specs.Numbers.{IsIntegerText, IsDecimalText}
+use Rattle.sfv_spec.proofs.Marks.{minus_text}
 use Rattle.sfv_spec.specs.Grammar.{IsBareText, boolean_text}
 use Rattle.sfv_spec.proofs.Parts.{implied, between_below, no_digit, no_point, integer_text, decimal_text}
 use Rattle.sfv_reading.specs.Reader.{Apart, byte, give, ◌>>=◌, branch, ahead}

@@ -1,6 +1,6 @@
 -- A text of a Byte Sequence is read, as its bytes.
 use Rattle.std.proofs.Common.{◌≡◌, ℕ, List, [], ◌∷◌, ◌++◌, ◌∙◌, ap, append_assoc, Ok}
-use Rattle.sfv_spec.specs.Ascii.{colon}
+use Rattle.sfv_spec.proofs.Marks.{colon}
 use Rattle.sfv_spec.specs.Base64.{IsBase64Text}
 use Rattle.sfv_reading.specs.Content.{IsBytesEnd, bytes_at}
 use Rattle.sfv_reading.proofs.base64.Contents.{gives_the_bytes}

@@ -3,10 +3,11 @@ use Rattle.std.proofs.Common.{◌≡◌, ℕ, ◌≤◌, Bool, true, false, eqb,
 use Rattle.std.proofs.Common.{refl, sym, ap, subst, ◌∙◌, append_assoc, arith, inl, inr}
 use Rattle.std.specs.List.{list_all}
 use Rattle.std.proofs.lemmas.Bool.{eqb-true, or_parts, or_cases, ne_eqb, and_parts, true≢false}
-use Rattle.sfv_spec.specs.Ascii.{tab, space, equals_sign}
+use Rattle.sfv_spec.proofs.Marks.{tab, space, equals_sign}
 use Rattle.sfv_spec.proofs.Marks.{semicolon}
 use Rattle.sfv_spec.specs.Texts.{Exactly, ◌⨾◌}
-use Rattle.sfv_spec.specs.Classes.{is_space, is_space_or_tab, is_key_start, is_key_inner, is_token_inner}
+use Rattle.sfv_spec.specs.Classes.{is_key_start, is_key_inner, is_token_inner}
+use Rattle.sfv_spec.proofs.Marks.{is_space, is_space_or_tab}
 use Rattle.sfv_spec.specs.Values.{BareValue, RawParameters, RawItem}
 use Rattle.sfv_spec.specs.declared.version.Version.{Version}
 use Rattle.sfv_spec.specs.Grammar.{IsKeyText, IsValueText, IsParameterText, IsParametersText, IsItemText}

@@ -3,10 +3,11 @@ use Rattle.std.proofs.Common.{◌≡◌, ℕ, ◌≤◌, eqb, List, [], ◌∷�
 use Rattle.std.proofs.Common.{append_assoc, arith, inl, inr}
 use Rattle.std.proofs.lemmas.List.{length-append}
 use Rattle.std.proofs.lemmas.Bool.{eqb-true, or_from, true≢false}
-use Rattle.sfv_spec.specs.Ascii.{tab, space, equals_sign}
+use Rattle.sfv_spec.proofs.Marks.{tab, space, equals_sign}
 use Rattle.sfv_spec.proofs.Marks.{left_parenthesis, right_parenthesis}
 use Rattle.sfv_spec.specs.Texts.{RunOf}
-use Rattle.sfv_spec.specs.Classes.{is_space, is_space_or_tab, is_key_inner}
+use Rattle.sfv_spec.specs.Classes.{is_key_inner}
+use Rattle.sfv_spec.proofs.Marks.{is_space, is_space_or_tab}
 use Rattle.sfv_spec.specs.Values.{RawParameters, RawItem, RawMember, item, inner_list}
 use Rattle.sfv_spec.specs.declared.version.Version.{Version}
 use Rattle.sfv_spec.specs.Grammar.{IsKeyText, IsParametersText, IsItemText, IsMemberText, IsMemberValueText}

@@ -4,7 +4,7 @@ use Rattle.std.specs.Prelude.{IsUtf8}
 use Rattle.std.specs.List.{concat}
 use Rattle.std.proofs.lemmas.List.{append-nil}
 use Rattle.std.proofs.lemmas.Str.{is_utf8-from_IsUtf8}
-use Rattle.sfv_spec.specs.Ascii.{double_quote}
+use Rattle.sfv_spec.proofs.Marks.{double_quote}
 use Rattle.sfv_reading.specs.Quoted.{after_bytes, IsStringEnd, IsDisplayEnd, string_at, outside, pieces_from, checked}
 use Rattle.sfv_reading.specs.Quoted.{display_at}
 use Rattle.sfv_reading.proofs.quoted.Pieces.{past_string, past_display, quote_string, quote_display}

@@ -7,7 +7,7 @@ use Rattle.std.proofs.lemmas.Bool.{and_parts, cases_Bool, true≢false}
 use Rattle.std.proofs.lemmas.List.{length-append, take_more, drop_more, drop-append-le, length-take-le}
 use Rattle.std.proofs.lemmas.List.{take-append-drop}
 use Rattle.std.proofs.lemmas.List.Folds.{list_all-append}
-use Rattle.sfv_spec.specs.Ascii.{colon}
+use Rattle.sfv_spec.proofs.Marks.{colon}
 use Rattle.sfv_reading.specs.Reader.{first}
 use Rattle.sfv_reading.specs.Judgements.{IsFault, Lasts, Local}
 use Rattle.sfv_reading.specs.Content.{valid_from, bytes_of, fault_place, is_colon, HasNoColon, content_in, closed_by}

@@ -6,10 +6,11 @@ use Rattle.std.specs.List.{list_all}
 use Rattle.std.proofs.lemmas.Bool.{true≢false, and_from, and_parts, or_from, or_cases, or_left, cases_Bool}
 use Rattle.std.proofs.lemmas.Bool.{not-true, eqb-true}
 use Rattle.std.proofs.lemmas.List.{append-nil, append_cancel_right, length-append}
-use Rattle.sfv_spec.specs.Ascii.{space, tab, asterisk}
+use Rattle.sfv_spec.proofs.Marks.{space, tab, asterisk}
 use Rattle.sfv_spec.proofs.Marks.{left_parenthesis, right_parenthesis, question_mark}
 use Rattle.sfv_spec.specs.Texts.{RunOf, begins_with}
-use Rattle.sfv_spec.specs.Classes.{is_space_or_tab, is_key_start, is_key_inner, is_lower_letter, is_digit, is_one_of}
+use Rattle.sfv_spec.specs.Classes.{is_key_start, is_key_inner, is_one_of}
+use Rattle.sfv_spec.proofs.Marks.{is_space_or_tab, is_lower_letter, is_digit}
 use Rattle.sfv_spec.specs.Classes.{is_key}
 use Rattle.sfv_spec.specs.Classes.{is_token_inner}
 use Rattle.sfv_spec.specs.Values.{RawField, BareValue}

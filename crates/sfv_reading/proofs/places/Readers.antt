@@ -3,10 +3,10 @@ use Rattle.std.proofs.Common.{◌≡◌, ℕ, Bool, true, false, eqb, ◌||◌, 
 use Rattle.std.proofs.Common.{refl, inl, inr}
 use Rattle.std.proofs.Common.{sym, ap, subst, ◌∙◌}
 use Rattle.std.proofs.lemmas.Bool.{true≢false, cases_Bool, or_left, or_parts}
-use Rattle.sfv_spec.specs.Ascii.{space, tab}
+use Rattle.sfv_spec.proofs.Marks.{space, tab}
 use Rattle.sfv_spec.proofs.Marks.{comma, left_parenthesis, right_parenthesis}
 use Rattle.sfv_spec.specs.Texts.{RunOf}
-use Rattle.sfv_spec.specs.Classes.{is_space, is_space_or_tab}
+use Rattle.sfv_spec.proofs.Marks.{is_space, is_space_or_tab}
 use Rattle.sfv_spec.specs.Values.{RawParameters}
 use Rattle.sfv_spec.specs.declared.version.Version.{Version}
 use Rattle.sfv_spec.specs.Events.{TreeEvent, inner_item_events}
@@ -25,7 +25,8 @@ use Rattle.sfv_spec.specs.declared.field_kind.FieldKind.{FieldKind}
 use Rattle.sfv_spec.specs.declared.field_kind.FieldKind.TheVariants.{Item as item_field, List as list_field}
 use Rattle.sfv_spec.specs.declared.field_kind.FieldKind.TheVariants.{Dictionary as dictionary_field}
 use Rattle.sfv_spec.specs.Events.{entry_events, keyed_events}
-use Rattle.sfv_spec.specs.Grammar.{IsMemberText, IsDictionaryMemberText, true_with}
+use Rattle.sfv_spec.specs.Grammar.{IsMemberText, IsDictionaryMemberText}
+use Rattle.sfv_spec.proofs.Marks.{true_with}
 use Rattle.sfv_spec.specs.declared.error_kind.ErrorKind.TheVariants.{UnterminatedInnerList}
 use Rattle.sfv_reading.specs.Reader.{at_reach, one_and_more}
 use Rattle.sfv_reading.specs.Members.{inner_of}

@@ -3,7 +3,7 @@ use Rattle.std.proofs.Common.{◌≡◌, ℕ, Bool, true, false, List, [], ◌�
 use Rattle.std.proofs.Common.{subst, ◌∙◌, append_assoc, arith, inl, inr, ◌⊎◌, length-drop}
 use Rattle.std.specs.Prelude.{codes}
 use Rattle.std.proofs.lemmas.List.{append-nil, take_at, drop_at, length-append}
-use Rattle.sfv_spec.specs.Ascii.{space, asterisk}
+use Rattle.sfv_spec.proofs.Marks.{space, asterisk}
 use Rattle.sfv_spec.proofs.Marks.{comma, digit_one, question_mark}
 use Rattle.sfv_spec.specs.Values.{RawField, BareValue}
 use Rattle.sfv_spec.specs.declared.field_kind.FieldKind.{FieldKind}

@@ -7,7 +7,7 @@ use Rattle.std.specs.List.{concat, AllZip}
 use Rattle.std.proofs.lemmas.Bool.{and_parts, and_cases, or_parts, or_from, not-true, not_from_false, both_ways}
 use Rattle.std.proofs.lemmas.Bool.{eqb-true}
 use Rattle.std.proofs.lemmas.List.{append-nil, drop-drop}
-use Rattle.sfv_spec.specs.Ascii.{double_quote, percent_sign}
+use Rattle.sfv_spec.proofs.Marks.{double_quote, percent_sign}
 use Rattle.sfv_spec.specs.Texts.{RunOf}
 use Rattle.sfv_spec.specs.Classes.{is_string_byte}
 use Rattle.sfv_spec.specs.Strings.{is_plain_in_display, IsDisplayPiece}

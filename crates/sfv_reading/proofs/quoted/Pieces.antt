@@ -5,7 +5,7 @@ use Rattle.std.specs.Prelude.{◌==◌}
 use Rattle.std.specs.List.{concat, AllZip}
 use Rattle.std.proofs.lemmas.Bool.{and_parts, and_left, ne_eqb, or_parts, not-true, both_ways}
 use Rattle.std.proofs.lemmas.List.{append-nil}
-use Rattle.sfv_spec.specs.Ascii.{double_quote, percent_sign, backslash}
+use Rattle.sfv_spec.proofs.Marks.{double_quote, percent_sign, backslash}
 use Rattle.sfv_spec.specs.Texts.{RunOf}
 use Rattle.sfv_spec.specs.Classes.{is_string_byte, is_lower_hexadecimal}
 use Rattle.sfv_spec.specs.Strings.{is_escaped_in_string, is_plain_in_display, IsStringPiece, IsDisplayPiece}

@@ -5,10 +5,11 @@ use Rattle.std.specs.Prelude.{◌==◌, IsUtf8}
 use Rattle.std.specs.List.{AllZip, list_all}
 use Rattle.std.proofs.lemmas.Bool.{and_parts, and_from}
 use Rattle.std.proofs.lemmas.Bool.{eqb-true, or_cases}
-use Rattle.sfv_spec.specs.Ascii.{double_quote, backslash}
+use Rattle.sfv_spec.proofs.Marks.{double_quote, backslash}
 use Rattle.sfv_spec.specs.Texts.{RunOf}
 use Rattle.sfv_spec.specs.Classes.{is_string_byte}
-use Rattle.sfv_spec.specs.Strings.{is_escaped_in_string, IsStringPiece, is_plain_in_string}
+use Rattle.sfv_spec.specs.Strings.{is_escaped_in_string, IsStringPiece}
+use Rattle.sfv_spec.proofs.Marks.{is_plain_in_string}
 use Rattle.sfv_reading.specs.Reader.{Answer}
 use Rattle.sfv_reading.specs.Quoted.{string_from, StringStops, Traced}
 use Rattle.sfv_reading.proofs.quoted.Traces.{Ends, trace_of_string}

@@ -7,9 +7,9 @@ use Rattle.std.specs.Str.Lossy.{utf8_valid_len}
 use Rattle.std.proofs.lemmas.Bool.{cases_Bool, eqb-true, true≢false, or_from, or_parts, or_cases, eq-eqb, both_ways}
 use Rattle.std.proofs.lemmas.Bool.{not_from_false}
 use Rattle.std.proofs.lemmas.List.{append-nil, length-append, length-drop}
-use Rattle.sfv_spec.specs.Ascii.{double_quote, percent_sign, digit_zero, colon}
+use Rattle.sfv_spec.proofs.Marks.{double_quote, percent_sign, digit_zero, colon}
 use Rattle.sfv_spec.proofs.Marks.{digit_one}
-use Rattle.sfv_spec.specs.Ascii.{backslash}
+use Rattle.sfv_spec.proofs.Marks.{backslash}
 use Rattle.sfv_spec.proofs.Marks.{question_mark}
 use Rattle.sfv_spec.specs.Texts.{begins_with}
 use Rattle.sfv_spec.specs.Classes.{is_one_of, is_string_byte, is_token_start, is_token_inner}

@@ -5,14 +5,15 @@ use Rattle.std.specs.Prelude.{◌==◌, codes}
 use Rattle.std.specs.List.{concat}
 use Rattle.std.proofs.lemmas.Bool.{true≢false, or_parts, not-true, not_from_false, ne_eqb}
 use Rattle.std.proofs.lemmas.List.{append-nil}
-use Rattle.sfv_spec.specs.Ascii.{double_quote, colon, backslash}
+use Rattle.sfv_spec.proofs.Marks.{double_quote, colon, backslash}
 use Rattle.sfv_spec.proofs.Marks.{minus_sign, dot, at_sign}
 use Rattle.sfv_spec.specs.Texts.{begins_with}
-use Rattle.sfv_spec.specs.Classes.{is_digit, is_one_of, is_string_byte}
+use Rattle.sfv_spec.specs.Classes.{is_one_of, is_string_byte}
+use Rattle.sfv_spec.proofs.Marks.{is_digit}
 use Rattle.sfv_spec.specs.Values.{BareValue, string, byte_sequence}
 use Rattle.sfv_spec.specs.declared.version.Version.{Version}
 use Rattle.sfv_spec.specs.declared.version.Version.TheVariants.{Rfc8941, Rfc9651}
-use Rattle.sfv_spec.specs.Numbers.{minus_text}
+use Rattle.sfv_spec.proofs.Marks.{minus_text}
 use Rattle.sfv_spec.specs.Strings.{is_escaped_in_string}
 use Rattle.sfv_spec.specs.declared.error_kind.ErrorKind.{ErrorKind}
 use Rattle.sfv_spec.specs.declared.error_kind.ErrorKind.TheVariants.{Rfc8941Date, Rfc8941DisplayString, NonIntegerDate}
@@ -23,7 +24,8 @@ use Rattle.sfv_spec.specs.declared.error_kind.ErrorKind.TheVariants.{Unterminate
 use Rattle.sfv_spec.specs.declared.error_kind.ErrorKind.TheVariants.{InvalidEscapeSequence}
 use Rattle.sfv_spec.specs.declared.error_kind.ErrorKind.TheVariants.{InvalidStringCharacter, TooManyDigits}
 use Rattle.sfv_spec.specs.declared.error_kind.ErrorKind.TheVariants.{TooManyDigitsBeforeDecimalPoint}
-use Rattle.sfv_spec.specs.Faults.{at_text, BeginsBase64, BareItemFault, no_boolean, old_date, old_display, no_quote}
+use Rattle.sfv_spec.specs.Faults.{BeginsBase64, BareItemFault, no_boolean, old_date, old_display, no_quote}
+use Rattle.sfv_spec.proofs.Marks.{at_text}
 use Rattle.sfv_spec.specs.Faults.{no_digit, no_number}
 use Rattle.sfv_spec.specs.Faults.{long_integer, late_point, long_decimal, open_string, wrong_string_byte}
 use Rattle.sfv_spec.specs.Faults.{open_string_escape, wrong_string_escape, wrong_bytes}

@@ -5,7 +5,7 @@ use Rattle.std.specs.Prelude.{not}
 use Rattle.std.specs.List.{list_all, list_any}
 use Rattle.std.proofs.lemmas.Bool.{and_parts, cases_Bool, true≢false}
 use Rattle.std.proofs.lemmas.List.{drop-drop}
-use Rattle.sfv_spec.specs.Ascii.{colon}
+use Rattle.sfv_spec.proofs.Marks.{colon}
 use Rattle.sfv_spec.specs.declared.error_kind.ErrorKind.TheVariants.{UnterminatedByteSequence}
 use Rattle.sfv_reading.specs.Reader.{Fault, by_rule}
 use Rattle.sfv_reading.specs.Content.{bytes_of, fault_place, is_colon, HasNoColon}

@@ -5,7 +5,7 @@ use Rattle.std.proofs.lemmas.List.{append-nil, drop_at}
 use Rattle.std.specs.Prelude.{codes}
 use Rattle.sfv_spec.proofs.Marks.{comma, right_parenthesis}
 use Rattle.sfv_spec.specs.Texts.{RunOf}
-use Rattle.sfv_spec.specs.Classes.{is_space, is_space_or_tab}
+use Rattle.sfv_spec.proofs.Marks.{is_space, is_space_or_tab}
 use Rattle.sfv_spec.specs.Values.{RawField, HasMember}
 use Rattle.sfv_spec.specs.declared.field_kind.FieldKind.{FieldKind}
 use Rattle.sfv_spec.specs.declared.field_kind.FieldKind.TheVariants.{Item as item_field, List as list_field}

@@ -3,10 +3,11 @@ use Rattle.std.proofs.Common.{◌≡◌, ℕ, ◌≤◌, Bool, true, eqb, List, 
 use Rattle.std.proofs.Common.{sym, ap, subst, ◌∙◌, append_assoc, arith, inl, inr, ◌⊎◌}
 use Rattle.std.proofs.lemmas.List.{append-nil, append_cancel_right, length-append}
 use Rattle.std.proofs.lemmas.Bool.{true≢false, eqb-true}
-use Rattle.sfv_spec.specs.Ascii.{space, equals_sign}
+use Rattle.sfv_spec.proofs.Marks.{space, equals_sign}
 use Rattle.sfv_spec.proofs.Marks.{left_parenthesis, right_parenthesis, comma}
 use Rattle.sfv_spec.specs.Texts.{RunOf, IsJoining}
-use Rattle.sfv_spec.specs.Classes.{is_space, is_space_or_tab, is_key_inner}
+use Rattle.sfv_spec.specs.Classes.{is_key_inner}
+use Rattle.sfv_spec.proofs.Marks.{is_space, is_space_or_tab}
 use Rattle.sfv_spec.specs.Values.{RawField, RawItem}
 use Rattle.sfv_spec.specs.declared.field_kind.FieldKind.{FieldKind}
 use Rattle.sfv_spec.specs.declared.field_kind.FieldKind.TheVariants.{Item as item_field, List as list_field}
@@ -30,7 +31,7 @@ use Rattle.sfv_reading.proofs.sound.Separated.{IsNext, comma_complete, members_m
 use Rattle.sfv_reading.proofs.complete.Items.{blank_ends as blank_ends_item}
 use Rattle.sfv_reading.proofs.complete.Fields.{comma_ends}
 use Rattle.std.proofs.lemmas.Bool.{or_parts}
-use Rattle.sfv_spec.specs.Ascii.{tab}
+use Rattle.sfv_spec.proofs.Marks.{tab}
 use Rattle.sfv_spec.specs.Grammar.{Comma}
 use Rattle.sfv_reading.proofs.complete.Combinators.{ahead_take}
 use Rattle.sfv_reading.proofs.sound.Members.{IsClosed, IsNextItem, Consumes-next_item, IsItems}

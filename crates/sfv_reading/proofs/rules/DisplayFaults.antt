@@ -7,13 +7,14 @@ use Rattle.std.specs.Str.Lossy.{utf8_valid_len}
 use Rattle.std.proofs.lemmas.Bool.{and_parts, or_parts, not-true, both_ways}
 use Rattle.std.proofs.lemmas.List.{length-append, take_at}
 use Rattle.std.proofs.lemmas.Str.{utf8_valid_len_le}
-use Rattle.sfv_spec.specs.Ascii.{double_quote, percent_sign}
+use Rattle.sfv_spec.proofs.Marks.{double_quote, percent_sign}
 use Rattle.sfv_spec.specs.Texts.{begins_with, IsLongestBeginning}
 use Rattle.sfv_spec.specs.Classes.{is_string_byte, is_lower_hexadecimal}
 use Rattle.sfv_spec.specs.declared.field_kind.FieldKind.{FieldKind}
 use Rattle.sfv_spec.specs.declared.version.Version.{Version}
 use Rattle.sfv_spec.specs.declared.version.Version.TheVariants.{Rfc9651}
-use Rattle.sfv_spec.specs.Strings.{IsDisplayPiece, AreDisplayPieces}
+use Rattle.sfv_spec.specs.Strings.{IsDisplayPiece}
+use Rattle.sfv_spec.proofs.Marks.{AreDisplayPieces}
 use Rattle.sfv_spec.specs.declared.error_kind.ErrorKind.{ErrorKind}
 use Rattle.sfv_spec.specs.declared.error_kind.ErrorKind.TheVariants.{UnterminatedEscapeSequence, InvalidEscapeSequence}
 use Rattle.sfv_spec.specs.declared.error_kind.ErrorKind.TheVariants.{InvalidUtf8InDisplayString}

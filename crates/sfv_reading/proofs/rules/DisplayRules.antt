@@ -7,10 +7,11 @@ use Rattle.std.specs.Str.Lossy.{utf8_valid_len}
 use Rattle.std.proofs.lemmas.Bool.{and_parts, and_from, cases_order, not-true}
 use Rattle.std.proofs.lemmas.List.{length-append, append-nil, take_at}
 use Rattle.std.proofs.lemmas.Str.{utf8_valid_len_le}
-use Rattle.sfv_spec.specs.Ascii.{percent_sign}
+use Rattle.sfv_spec.proofs.Marks.{percent_sign}
 use Rattle.sfv_spec.specs.Texts.{RunOf, IsLongestBeginning}
 use Rattle.sfv_spec.specs.Classes.{is_string_byte, is_lower_hexadecimal}
-use Rattle.sfv_spec.specs.Strings.{hexadecimal_value, IsDisplayPiece, AreDisplayPieces}
+use Rattle.sfv_spec.specs.Strings.{hexadecimal_value, IsDisplayPiece}
+use Rattle.sfv_spec.proofs.Marks.{AreDisplayPieces}
 use Rattle.sfv_spec.specs.Faults.{DisplayFault, open_display, open_escape, wrong_escape, wrong_byte, wrong_utf8}
 use Rattle.sfv_spec.specs.declared.error_kind.ErrorKind.{ErrorKind}
 use Rattle.sfv_reading.specs.Quoted.{IsDisplayFault}

@@ -8,19 +8,22 @@ use Rattle.std.proofs.lemmas.Bool.{and_parts, and_from, true≢false, both_ways,
 use Rattle.std.proofs.lemmas.List.{append-nil, length-append, take_at}
 use Rattle.std.proofs.lemmas.List.Folds.{list_all-append}
 use Rattle.std.proofs.lemmas.Str.{IsUtf8-take, IsUtf8-append, IsCharBoundary-before_ascii}
-use Rattle.sfv_spec.specs.Ascii.{double_quote, percent_sign, asterisk, colon}
+use Rattle.sfv_spec.proofs.Marks.{double_quote, percent_sign, asterisk, colon}
 use Rattle.sfv_spec.proofs.Marks.{minus_sign, dot, question_mark, at_sign}
-use Rattle.sfv_spec.specs.Ascii.{backslash, equals_sign}
+use Rattle.sfv_spec.proofs.Marks.{backslash, equals_sign}
 use Rattle.sfv_spec.specs.Texts.{RunOf, IsJoining}
-use Rattle.sfv_spec.specs.Classes.{is_digit, is_token_start, is_token_inner, is_token, is_string_byte}
+use Rattle.sfv_spec.specs.Classes.{is_token_start, is_token_inner, is_token, is_string_byte}
+use Rattle.sfv_spec.proofs.Marks.{is_digit}
 use Rattle.sfv_spec.specs.Classes.{is_lower_hexadecimal}
 use Rattle.sfv_spec.specs.Values.{BareValue, integer, decimal, string, token, byte_sequence, boolean, date}
 use Rattle.sfv_spec.specs.declared.version.Version.{Version}
 use Rattle.sfv_spec.specs.Values.{display_string}
-use Rattle.sfv_spec.specs.Numbers.{minus_text, signed, place_value, IsIntegerText, IsDecimalText}
+use Rattle.sfv_spec.specs.Numbers.{signed, place_value, IsIntegerText, IsDecimalText}
+use Rattle.sfv_spec.proofs.Marks.{minus_text}
 use Rattle.sfv_spec.specs.Base64.{symbol}
 use Rattle.sfv_spec.proofs.Marks.{is_symbol}
-use Rattle.sfv_spec.specs.Strings.{is_escaped_in_string, is_plain_in_string, IsStringPiece, is_plain_in_display}
+use Rattle.sfv_spec.specs.Strings.{is_escaped_in_string, IsStringPiece, is_plain_in_display}
+use Rattle.sfv_spec.proofs.Marks.{is_plain_in_string}
 use Rattle.sfv_spec.specs.Strings.{IsDisplayPiece}
 use Rattle.sfv_spec.specs.Grammar.{IsBareText, boolean_text}
 use Rattle.sfv_spec.proofs.Settled.{joining-nil, joining-cons}

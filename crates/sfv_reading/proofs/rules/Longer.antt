@@ -4,10 +4,10 @@ use Rattle.std.proofs.Common.{◌∙◌, append_assoc, inl, inr}
 use Rattle.std.specs.Prelude.{codes}
 use Rattle.std.proofs.lemmas.List.{append-nil}
 use Rattle.std.proofs.lemmas.Bool.{or_left}
-use Rattle.sfv_spec.specs.Ascii.{tab}
+use Rattle.sfv_spec.proofs.Marks.{tab}
 use Rattle.sfv_spec.proofs.Marks.{semicolon, left_parenthesis}
 use Rattle.sfv_spec.specs.Texts.{RunOf, IsJoining, ◌⨾◌}
-use Rattle.sfv_spec.specs.Classes.{is_space, is_space_or_tab}
+use Rattle.sfv_spec.proofs.Marks.{is_space, is_space_or_tab}
 use Rattle.sfv_spec.specs.Values.{RawField, RawMember}
 use Rattle.sfv_spec.specs.declared.field_kind.FieldKind.{FieldKind}
 use Rattle.sfv_spec.specs.declared.field_kind.FieldKind.TheVariants.{Item as item_field, List as list_field}
@@ -17,7 +17,8 @@ use Rattle.sfv_spec.specs.Values.{item}
 use Rattle.sfv_spec.specs.Values.{inner_list, boolean, RawParameters, RawItem, HasMember}
 use Rattle.sfv_spec.specs.Grammar.{IsParameterText, IsParametersText, IsMemberText, IsMemberValueText}
 use Rattle.sfv_spec.specs.Grammar.{IsDictionaryMemberText}
-use Rattle.sfv_spec.specs.Grammar.{AreMembersText, IsItemText, Spaces, IsFieldText, IsAccepted, Comma, true_with}
+use Rattle.sfv_spec.specs.Grammar.{AreMembersText, IsItemText, Spaces, IsFieldText, IsAccepted, Comma}
+use Rattle.sfv_spec.proofs.Marks.{true_with}
 use Rattle.sfv_spec.specs.Faults.{HasManyMembers}
 use Rattle.sfv_spec.specs.declared.error_kind.ErrorKind.TheVariants.{TrailingCharactersAfterMember}
 use Rattle.sfv_spec.proofs.Settled.{joining-nil}

@@ -7,18 +7,21 @@ use Rattle.std.proofs.lemmas.List.{length-append}
 use Rattle.sfv_spec.proofs.Marks.{minus_sign, dot}
 use Rattle.sfv_spec.proofs.Marks.{at_sign}
 use Rattle.sfv_spec.specs.Texts.{begins_with}
-use Rattle.sfv_spec.specs.Classes.{is_digit, is_one_of}
+use Rattle.sfv_spec.specs.Classes.{is_one_of}
+use Rattle.sfv_spec.proofs.Marks.{is_digit}
 use Rattle.sfv_spec.specs.Values.{BareValue}
 use Rattle.sfv_spec.specs.declared.field_kind.FieldKind.{FieldKind}
 use Rattle.sfv_spec.specs.declared.version.Version.{Version}
 use Rattle.sfv_spec.specs.declared.version.Version.TheVariants.{Rfc8941, Rfc9651}
-use Rattle.sfv_spec.specs.Numbers.{AreDigits, minus_text}
+use Rattle.sfv_spec.specs.Numbers.{AreDigits}
+use Rattle.sfv_spec.proofs.Marks.{minus_text}
 use Rattle.sfv_spec.specs.declared.error_kind.ErrorKind.TheVariants.{ExpectedDigit, TooManyDigits}
 use Rattle.sfv_spec.specs.declared.error_kind.ErrorKind.TheVariants.{TooManyDigitsBeforeDecimalPoint}
 use Rattle.sfv_spec.specs.declared.error_kind.ErrorKind.TheVariants.{TooManyDigitsAfterDecimalPoint}
 use Rattle.sfv_spec.specs.declared.error_kind.ErrorKind.TheVariants.{TrailingDecimalPoint, NonIntegerDate}
 use Rattle.sfv_spec.specs.declared.error_kind.ErrorKind.TheVariants.{ExpectedStartOfBareItem, Rfc8941Date}
-use Rattle.sfv_spec.specs.Faults.{at_text, WantsBetween, RuledFault, point, decimal_date, long_decimal_date, bare}
+use Rattle.sfv_spec.specs.Faults.{WantsBetween, RuledFault, point, decimal_date, long_decimal_date, bare}
+use Rattle.sfv_spec.proofs.Marks.{at_text}
 use Rattle.sfv_spec.specs.Faults.{IsNumberSign, BareItemFault, old_date}
 use Rattle.sfv_spec.specs.Faults.{no_digit, no_number, long_integer, late_point, long_decimal}
 use Rattle.sfv_reading.specs.Reader.{Fault, Answer, byte, give, fail, and_then, bind, branch, back, at_start}

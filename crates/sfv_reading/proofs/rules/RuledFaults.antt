@@ -5,14 +5,15 @@ use Rattle.std.specs.Prelude.{codes, ◌==◌}
 use Rattle.std.specs.List.{concat}
 use Rattle.std.proofs.lemmas.Bool.{true≢false, eq-eqb}
 use Rattle.std.proofs.lemmas.List.{length-append, length-drop}
-use Rattle.sfv_spec.specs.Ascii.{double_quote, percent_sign, colon}
+use Rattle.sfv_spec.proofs.Marks.{double_quote, percent_sign, colon}
 use Rattle.sfv_spec.proofs.Marks.{dot, at_sign}
 use Rattle.sfv_spec.specs.Values.{display_string, BareValue}
 use Rattle.sfv_spec.specs.declared.field_kind.FieldKind.{FieldKind}
 use Rattle.sfv_spec.specs.declared.version.Version.{Version}
 use Rattle.sfv_spec.specs.declared.version.Version.TheVariants.{Rfc9651}
-use Rattle.sfv_spec.specs.Numbers.{minus_text}
-use Rattle.sfv_spec.specs.Faults.{at_text, WantsBetween, RuledItemFault, bare}
+use Rattle.sfv_spec.proofs.Marks.{minus_text}
+use Rattle.sfv_spec.specs.Faults.{WantsBetween, RuledItemFault, bare}
+use Rattle.sfv_spec.proofs.Marks.{at_text}
 use Rattle.sfv_spec.specs.declared.error_kind.ErrorKind.{ErrorKind}
 use Rattle.sfv_spec.specs.declared.error_kind.ErrorKind.TheVariants.{TrailingDecimalPoint, NonIntegerDate}
 use Rattle.sfv_spec.specs.declared.error_kind.ErrorKind.TheVariants.{TooManyDigitsAfterDecimalPoint}

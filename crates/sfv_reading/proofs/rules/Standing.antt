@@ -4,10 +4,10 @@ use Rattle.std.proofs.Common.{sym, ap, subst, ◌∙◌, append_assoc, arith}
 use Rattle.std.specs.Prelude.{⊤, codes}
 use Rattle.std.proofs.lemmas.List.{append-nil}
 use Rattle.std.proofs.lemmas.Bool.{eqb-true}
-use Rattle.sfv_spec.specs.Ascii.{space, equals_sign}
+use Rattle.sfv_spec.proofs.Marks.{space, equals_sign}
 use Rattle.sfv_spec.proofs.Marks.{left_parenthesis, right_parenthesis, comma}
 use Rattle.sfv_spec.specs.Texts.{RunOf, IsJoining}
-use Rattle.sfv_spec.specs.Classes.{is_space, is_space_or_tab}
+use Rattle.sfv_spec.proofs.Marks.{is_space, is_space_or_tab}
 use Rattle.sfv_spec.specs.Values.{boolean, RawItem}
 use Rattle.sfv_spec.specs.declared.version.Version.{Version}
 use Rattle.sfv_spec.specs.Grammar.{IsItemText, IsMemberText, IsMemberValueText, IsDictionaryMemberText}

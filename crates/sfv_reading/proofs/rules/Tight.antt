@@ -6,14 +6,16 @@ use Rattle.std.specs.Prelude.{codes}
 use Rattle.std.specs.List.{list_all}
 use Rattle.std.proofs.lemmas.List.{append-nil, length-append}
 use Rattle.std.proofs.lemmas.Bool.{and_parts, both_ways, eq-eqb, true≢false}
-use Rattle.sfv_spec.specs.Ascii.{space, double_quote, colon, digit_zero}
+use Rattle.sfv_spec.proofs.Marks.{space, double_quote, colon, digit_zero}
 use Rattle.sfv_spec.proofs.Marks.{right_parenthesis, digit_one}
 use Rattle.sfv_spec.specs.Texts.{RunOf, ◌⨾◌, Exactly}
-use Rattle.sfv_spec.specs.Classes.{is_digit, is_token_start, is_token_inner, is_key_start, is_key_inner}
+use Rattle.sfv_spec.specs.Classes.{is_token_start, is_token_inner, is_key_start, is_key_inner}
+use Rattle.sfv_spec.proofs.Marks.{is_digit}
 use Rattle.sfv_spec.specs.Values.{BareValue, integer, decimal, string, token, byte_sequence, boolean, date}
 use Rattle.sfv_spec.specs.declared.version.Version.{Version}
 use Rattle.sfv_spec.specs.Values.{display_string, RawParameters, RawItem}
-use Rattle.sfv_spec.specs.Numbers.{minus_text, IsIntegerText, AreDigits}
+use Rattle.sfv_spec.specs.Numbers.{IsIntegerText, AreDigits}
+use Rattle.sfv_spec.proofs.Marks.{minus_text}
 use Rattle.sfv_spec.specs.Grammar.{IsBareText, IsKeyText, IsValueText, IsParameterText, IsParametersText, IsItemText}
 use Rattle.sfv_spec.proofs.Settled.{joining-nil, joining-cons}
 use Rattle.sfv_reading.proofs.sound.Combinators.{run_head, run_tail}

@@ -2,7 +2,7 @@
 use Rattle.std.proofs.Common.{ℕ, true, false, List, [], ◌∷◌, refl, sym, ap, subst, ℤ}
 use Rattle.std.proofs.lemmas.List.{append-nil}
 use Rattle.std.proofs.lemmas.Bool.{true≢false, and_from}
-use Rattle.sfv_spec.specs.Ascii.{double_quote, percent_sign, colon}
+use Rattle.sfv_spec.proofs.Marks.{double_quote, percent_sign, colon}
 use Rattle.sfv_spec.proofs.Marks.{digit_one, question_mark, at_sign}
 use Rattle.sfv_spec.specs.Classes.{is_token_start}
 use Rattle.sfv_spec.specs.Strings.{IsDisplayPiece}

@@ -7,7 +7,7 @@ use Rattle.std.specs.List.{list_all, list_any}
 use Rattle.std.proofs.lemmas.Bool.{and_parts, eqb-true, eqb-false, cases_Bool, cases_lt, true≢false}
 use Rattle.std.proofs.lemmas.List.{take-append-le, drop_at, take-append-drop, drop-drop}
 use Rattle.std.proofs.lemmas.List.Folds.{list_all-append}
-use Rattle.sfv_spec.specs.Ascii.{colon, equals_sign}
+use Rattle.sfv_spec.proofs.Marks.{colon, equals_sign}
 use Rattle.sfv_spec.specs.Base64.{IsBase64Text, symbol}
 use Rattle.sfv_spec.proofs.Marks.{is_symbol}
 use Rattle.sfv_spec.specs.declared.error_kind.ErrorKind.TheVariants.{UnterminatedByteSequence}

@@ -4,10 +4,11 @@ use Rattle.std.proofs.Common.{inr}
 use Rattle.std.specs.Prelude.{flat_map, map}
 use Rattle.std.proofs.lemmas.List.{append-nil, length-append}
 use Rattle.std.proofs.lemmas.Bool.{and_from}
-use Rattle.sfv_spec.specs.Ascii.{equals_sign, lower_a}
+use Rattle.sfv_spec.proofs.Marks.{equals_sign, lower_a}
 use Rattle.sfv_spec.proofs.Marks.{semicolon}
 use Rattle.sfv_spec.specs.Texts.{Exactly, RunOf}
-use Rattle.sfv_spec.specs.Classes.{is_space, is_key, is_key_start}
+use Rattle.sfv_spec.specs.Classes.{is_key, is_key_start}
+use Rattle.sfv_spec.proofs.Marks.{is_space}
 use Rattle.sfv_spec.specs.Values.{BareValue, boolean, RawParameters}
 use Rattle.sfv_spec.specs.declared.version.Version.{Version}
 use Rattle.sfv_spec.specs.Grammar.{IsBareText, IsKeyText, IsValueText, IsParameterText, IsParametersText, IsItemText}

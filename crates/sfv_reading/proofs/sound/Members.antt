@@ -2,14 +2,15 @@
 use Rattle.std.proofs.Common.{◌≡◌, ℕ, ◌≤◌, true, List, [], ◌∷◌, ◌++◌, length, Some, None, refl, sym, ap, subst, ◌∙◌}
 use Rattle.std.proofs.Common.{append_assoc, arith, inl, inr}
 use Rattle.std.specs.Prelude.{codes, flat_map}
-use Rattle.sfv_spec.specs.Ascii.{space, equals_sign}
+use Rattle.sfv_spec.proofs.Marks.{space, equals_sign}
 use Rattle.sfv_spec.proofs.Marks.{left_parenthesis, right_parenthesis}
 use Rattle.sfv_spec.specs.Texts.{Exactly, RunOf, ◌⨾◌}
-use Rattle.sfv_spec.specs.Classes.{is_space}
+use Rattle.sfv_spec.proofs.Marks.{is_space}
 use Rattle.sfv_spec.specs.Values.{boolean, RawParameters, RawItem, RawMember, item}
 use Rattle.sfv_spec.specs.declared.version.Version.{Version}
 use Rattle.sfv_spec.specs.Grammar.{Spaces, SomeSpaces, IsKeyText, IsParameterText, IsParametersText, IsItemText}
-use Rattle.sfv_spec.specs.Grammar.{IsMemberText, true_with, IsMemberValueText, IsDictionaryMemberText}
+use Rattle.sfv_spec.specs.Grammar.{IsMemberText, IsMemberValueText, IsDictionaryMemberText}
+use Rattle.sfv_spec.proofs.Marks.{true_with}
 use Rattle.sfv_spec.specs.Events.{TreeEvent, entry, keyed_entry, begins_item, begins_inner_list, bare_item}
 use Rattle.sfv_spec.specs.Events.{inner_list_end, parameters_events, item_events, member_events, inner_item_events}
 use Rattle.sfv_spec.specs.Events.{entry_events, keyed_events}

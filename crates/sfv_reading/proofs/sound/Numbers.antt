@@ -3,12 +3,13 @@ use Rattle.std.proofs.Common.{◌≡◌, ℕ, ◌+◌, ◌*◌, ◌-◌, ◌^◌
 use Rattle.std.proofs.Common.{refl, sym, ap, subst, ◌∙◌, append_assoc, arith}
 use Rattle.std.proofs.lemmas.List.{append-nil, nil_from_length}
 use Rattle.std.proofs.lemmas.Bool.{eqb-true, eqb-false, ltb-false}
-use Rattle.sfv_spec.specs.Ascii.{digit_zero}
+use Rattle.sfv_spec.proofs.Marks.{digit_zero}
 use Rattle.sfv_spec.proofs.Marks.{minus_sign, dot}
 use Rattle.sfv_spec.specs.Texts.{RunOf}
-use Rattle.sfv_spec.specs.Classes.{is_digit}
+use Rattle.sfv_spec.proofs.Marks.{is_digit}
 use Rattle.sfv_spec.specs.Values.{BareValue, integer, decimal}
-use Rattle.sfv_spec.specs.Numbers.{AreDigits, place_value, minus_text, signed, IsIntegerText, IsDecimalText}
+use Rattle.sfv_spec.specs.Numbers.{AreDigits, place_value, signed, IsIntegerText, IsDecimalText}
+use Rattle.sfv_spec.proofs.Marks.{minus_text}
 use Rattle.sfv_spec.specs.Events.{TreeEvent}
 use Rattle.sfv_reading.specs.Judgements.{Sound}
 use Rattle.sfv_reading.specs.Reader.{◌>>=◌, up_to}

@@ -1,9 +1,10 @@
 -- A bare item that is at fault elsewhere than at the reach: its first byte begins some bare item.
 use Rattle.std.proofs.Common.{◌≡◌, ℕ, true, false, List, [], ◌∷◌, ◌++◌, Err, refl, sym, ap, subst, ◌∙◌, inl, inr}
 use Rattle.std.proofs.lemmas.Bool.{true≢false, cases_Bool, eqb-true}
-use Rattle.sfv_spec.specs.Ascii.{double_quote, colon, percent_sign}
+use Rattle.sfv_spec.proofs.Marks.{double_quote, colon, percent_sign}
 use Rattle.sfv_spec.proofs.Marks.{question_mark, at_sign, minus_sign}
-use Rattle.sfv_spec.specs.Classes.{is_digit, is_token_start}
+use Rattle.sfv_spec.specs.Classes.{is_token_start}
+use Rattle.sfv_spec.proofs.Marks.{is_digit}
 use Rattle.sfv_spec.specs.Values.{BareValue}
 use Rattle.sfv_spec.specs.declared.version.Version.{Version}
 use Rattle.sfv_spec.specs.declared.version.Version.TheVariants.{Rfc8941, Rfc9651}

@@ -4,14 +4,15 @@ use Rattle.std.proofs.Common.{ap, subst, ◌∙◌, append_assoc, flat_map, inl,
 use Rattle.std.proofs.lemmas.List.{append-nil}
 use Rattle.std.proofs.lemmas.Bool.{true≢false, cases_Bool, eqb-true}
 use Rattle.sfv_spec.proofs.Marks.{comma}
-use Rattle.sfv_spec.specs.Classes.{is_space}
+use Rattle.sfv_spec.proofs.Marks.{is_space}
 use Rattle.sfv_spec.specs.Values.{boolean, RawParameters}
 use Rattle.sfv_spec.specs.declared.field_kind.FieldKind.{FieldKind}
 use Rattle.sfv_spec.specs.declared.field_kind.FieldKind.TheVariants.{Item as item_field, List as list_field}
 use Rattle.sfv_spec.specs.declared.field_kind.FieldKind.TheVariants.{Dictionary as dictionary_field}
 use Rattle.sfv_spec.specs.declared.version.Version.{Version}
 use Rattle.sfv_spec.specs.Values.{RawItem, RawMember, item, inner_list}
-use Rattle.sfv_spec.specs.Grammar.{true_with, IsMemberText, IsDictionaryMemberText}
+use Rattle.sfv_spec.specs.Grammar.{IsMemberText, IsDictionaryMemberText}
+use Rattle.sfv_spec.proofs.Marks.{true_with}
 use Rattle.sfv_spec.specs.Events.{TreeEvent, events, entry, keyed_entry, begins_item, begins_inner_list, bare_item}
 use Rattle.sfv_spec.specs.Events.{inner_list_end, inner_item_events, parameters_events, item_events, member_events}
 use Rattle.sfv_spec.specs.Events.{entry_events, keyed_events}

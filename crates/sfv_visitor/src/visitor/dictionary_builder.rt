@@ -59,7 +59,12 @@ impl DictionaryBuilder {
                 Ok(())
             }
             (None, _) => Ok(()),
-            (Some((key, member)), event) => match member.step(alloc, seed, event)? {
+            (Some((key, member)), event) => match member.step(
+                alloc,
+                seed,
+                self.dictionary.len(),
+                event,
+            )? {
                 Step::Within(member) => {
                     self.member = Some((key, member));
                     Ok(())

@@ -50,7 +50,7 @@ impl ItemBuilder {
         ensures seed { OnOk result (KeepsItemSeed self.old self.new) }
     {
         match mem::replace(&mut self.item, Step::Within(Member::ItemHead)) {
-            Step::Within(item) => self.item = item.step(self.alloc, self.seed, event)?,
+            Step::Within(item) => self.item = item.step(self.alloc, self.seed, 0, event)?,
             whole => self.item = whole,
         }
         Ok(())

@@ -58,7 +58,7 @@ impl ListBuilder {
             }
             (None, _) => Ok(()),
             (Some(member), event) => {
-                match member.step(*self.list.allocator(), self.seed, event)? {
+                match member.step(*self.list.allocator(), self.seed, self.list.len(), event)? {
                     Step::Within(member) => {
                         self.member = Some(member);
                         Ok(())

@@ -1,16 +1,21 @@
 //! The state within a member of a list or a dictionary, with its parsed part.
 
-ghost use Rattle.std.specs.Prelude.{◌≡◌, false, IfOk, OnOk, OnErr, IsTrue};
+ghost use Rattle.std.specs.Prelude.{◌≡◌, false, IfOk, OnErr, IsTrue};
+ghost use Rattle.sfv_spec.specs.Events as tree;
 ghost use Rattle.sfv_bare.specs.BareItems.{input_value, is_borrowed};
+ghost use Rattle.sfv_text.specs.CheckedTexts.{text_of};
 ghost use Rattle.sfv_tree.specs.Trees.{item_tree};
 ghost use Rattle.sfv_tree.specs.Seeds.{ItemHasSeed};
+ghost use Rattle.sfv_tree.specs.declared.hash_seed.HashSeed.{HashSeed};
 ghost use Rattle.sfv_visitor.specs.Events.{event_of, is_moved};
-ghost use Rattle.sfv_visitor.specs.Builders.{member_step, member_state, step_state, plain_item, takes_memory, MemberSoFarHasSeed, StepHasSeed};
+ghost use Rattle.sfv_visitor.specs.Builders.{member_step, member_state, step_state, plain_item, takes_memory};
+ghost use Rattle.sfv_visitor.specs.Builders.{MemberSoFarHasSeed, StepHasSeed};
 
 use crate::visitor::Event;
-use crate::visitor::parameters::insert_parameter;
+use crate::visitor::parameters::{fit_after, insert_parameter};
 use sfv_bare::bare::BareItemFromInput;
 use sfv_base::error::OutOfMemory;
+use sfv_text::key_ref::KeyRef;
 use sfv_tree::hash_seed::HashSeed;
 use sfv_tree::parsed::{InnerList, Item, ListEntry, Parameters};
 use std::alloc::Global;
@@ -53,11 +58,68 @@ fn plain_item(
 }
 
 impl Member {
-    /// Returns the member after an event. An event out of sequence changes nothing.
+    // Inserts a parameter of the current item, or of the inner list.
+    fn parameter(
+        self,
+        alloc: Global,
+        key: KeyRef<'_>,
+        value: BareItemFromInput<'_>,
+    ) -> Result<Member, OutOfMemory>
+        ensures state { IfOk result (λ after. member_state after
+            ≡ member_step (member_state self) (tree.parameter (text_of key.entry) (input_value value.entry))) }
+        ensures seed { IfOk result (λ after. (seed : HashSeed) → MemberSoFarHasSeed seed self
+            → MemberSoFarHasSeed seed after) }
+        ensures out_of_memory { OnErr result (IsTrue (takes_memory (member_state self)
+            (tree.parameter (text_of key.entry) (input_value value.entry)))) }
+    {
+        match self {
+            Member::ItemParams(mut item) => {
+                insert_parameter(alloc, &mut item.params, key, value)?;
+                Ok(Member::ItemParams(item))
+            }
+            Member::InnerParams(list, mut item) => {
+                insert_parameter(alloc, &mut item.params, key, value)?;
+                Ok(Member::InnerParams(list, item))
+            }
+            Member::ListParams(mut list) => {
+                insert_parameter(alloc, &mut list.params, key, value)?;
+                Ok(Member::ListParams(list))
+            }
+            member => Ok(member),
+        }
+    }
+
+    // Ends the parameters of the current item, or of the inner list. `count` members come before this one.
+    fn end_parameters(self, count: usize) -> Result<Step, OutOfMemory>
+        ensures state { IfOk result (λ after. step_state after
+            ≡ member_step (member_state self) tree.parameters_end) }
+        ensures seed { IfOk result (λ after. (seed : HashSeed) → MemberSoFarHasSeed seed self → StepHasSeed seed after) }
+        ensures out_of_memory { OnErr result (IsTrue (takes_memory (member_state self) tree.parameters_end)) }
+    {
+        match self {
+            Member::ItemParams(mut item) => {
+                fit_after(count, &mut item.params);
+                Ok(Step::Ended(ListEntry::Item(item)))
+            }
+            Member::InnerParams(mut list, mut item) => {
+                fit_after(count.saturating_add(list.items.len()), &mut item.params);
+                list.items.push(item)?;
+                Ok(Step::Within(Member::Items(list)))
+            }
+            Member::ListParams(mut list) => {
+                fit_after(count, &mut list.params);
+                Ok(Step::Ended(ListEntry::InnerList(list)))
+            }
+            member => Ok(Step::Within(member)),
+        }
+    }
+
+    /// Returns the member after an event. An event out of sequence changes nothing. `count` members come before this one.
     pub(crate) fn step(
         self,
         alloc: Global,
         seed: HashSeed,
+        count: usize,
         event: Event<'_>,
     ) -> Result<Step, OutOfMemory>
         ensures state { IfOk result (λ after. step_state after ≡ member_step (member_state self) (event_of event.entry)) }
@@ -66,6 +128,10 @@ impl Member {
         ensures copied { OnErr result (is_moved event.entry ≡ false) }
     {
         match (self, event) {
+            (member, Event::Parameter(key, value)) => {
+                Ok(Step::Within(member.parameter(alloc, key, value)?))
+            }
+            (member, Event::ParametersEnd) => member.end_parameters(count),
             (Member::Begun, Event::Item) => Ok(Step::Within(Member::ItemHead)),
             (Member::Begun, Event::InnerList) => {
                 let params = Parameters::with_hasher(alloc, seed);
@@ -76,13 +142,6 @@ impl Member {
                 let item = plain_item(alloc, seed, bare_item)?;
                 Ok(Step::Within(Member::ItemParams(item)))
             }
-            (Member::ItemParams(mut item), Event::Parameter(key, value)) => {
-                insert_parameter(alloc, &mut item.params, key, value)?;
-                Ok(Step::Within(Member::ItemParams(item)))
-            }
-            (Member::ItemParams(item), Event::ParametersEnd) => {
-                Ok(Step::Ended(ListEntry::Item(item)))
-            }
             (Member::Items(list), Event::Item) => Ok(Step::Within(Member::InnerHead(list))),
             (Member::Items(list), Event::InnerListEnd) => {
                 Ok(Step::Within(Member::ListParams(list)))
@@ -90,21 +149,6 @@ impl Member {
             (Member::InnerHead(list), Event::BareItem(bare_item)) => {
                 let item = plain_item(alloc, seed, bare_item)?;
                 Ok(Step::Within(Member::InnerParams(list, item)))
-            }
-            (Member::InnerParams(list, mut item), Event::Parameter(key, value)) => {
-                insert_parameter(alloc, &mut item.params, key, value)?;
-                Ok(Step::Within(Member::InnerParams(list, item)))
-            }
-            (Member::InnerParams(mut list, item), Event::ParametersEnd) => {
-                list.items.push(item)?;
-                Ok(Step::Within(Member::Items(list)))
-            }
-            (Member::ListParams(mut list), Event::Parameter(key, value)) => {
-                insert_parameter(alloc, &mut list.params, key, value)?;
-                Ok(Step::Within(Member::ListParams(list)))
-            }
-            (Member::ListParams(list), Event::ParametersEnd) => {
-                Ok(Step::Ended(ListEntry::InnerList(list)))
             }
             (member, _) => Ok(Step::Within(member)),
         }

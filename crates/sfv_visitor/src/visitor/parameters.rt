@@ -3,7 +3,7 @@
 ghost use Rattle.std.specs.Prelude.{◌≡◌, OnOk, bytes_eq};
 ghost use Rattle.indexmap.specs.IndexMap.{hasher_of, insert_entry};
 ghost use Rattle.sfv_bare.specs.BareItems.{input_value};
-ghost use Rattle.sfv_text.specs.KeyText.{key_text};
+ghost use Rattle.sfv_text.specs.CheckedTexts.{text_of};
 ghost use Rattle.sfv_tree.specs.Trees.{pairs_tree};
 
 use sfv_bare::bare::BareItemFromInput;
@@ -22,7 +22,7 @@ pub(crate) fn insert_parameter(
 ) -> Result<(), OutOfMemory>
     ensures seed { hasher_of params.new ≡ hasher_of params.old }
     ensures entries { OnOk result (pairs_tree params.new.entries
-        ≡ insert_entry bytes_eq (pairs_tree params.old.entries) (key_text key.entry) (input_value value.entry)) }
+        ≡ insert_entry bytes_eq (pairs_tree params.old.entries) (text_of key.entry) (input_value value.entry)) }
 {
     let key = key.to_owned(alloc)?;
     let value = value.try_into_owned(alloc)?;
@@ -30,15 +30,26 @@ pub(crate) fn insert_parameter(
     Ok(())
 }
 
-/// The number of members, or of items of an inner list, above which unused memory of parameters is released. In a shorter
-/// list that memory is small, and the release takes longer than it saves.
-pub const MANY: usize = 4000;
+// The number of members, or of members and items of an inner list, after which unused memory of parameters is released.
+// Before, that memory is small, and the release takes longer than it saves.
+const MANY: usize = 4000;
 
-/// Releases the unused memory of complete parameters. At its first entry, a map allocates room for nine.
+// Releases the unused memory of complete parameters. At its first entry, a map allocates room for nine.
 #[inline(never)]
-pub fn fit(params: &mut Parameters)
+fn fit(params: &mut Parameters)
     ensures entries { params.new.entries ≡ params.old.entries }
     ensures seed { hasher_of params.new ≡ hasher_of params.old }
 {
     params.shrink_to_fit();
+}
+
+/// Releases the unused memory of complete parameters after at least `MANY` other members or items.
+#[inline(always)]
+pub fn fit_after(count: usize, params: &mut Parameters)
+    ensures entries { params.new.entries ≡ params.old.entries }
+    ensures seed { hasher_of params.new ≡ hasher_of params.old }
+{
+    if count >= MANY && !params.is_empty() {
+        fit(params);
+    }
 }

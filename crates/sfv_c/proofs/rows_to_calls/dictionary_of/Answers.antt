@@ -1,15 +1,17 @@
 use Rattle.std.proofs.Common.{◌≡◌, List, flat_map, refl, sym, subst}
 use Rattle.sfv.specs.Calls.{supplied_member}
 use Rattle.sfv.specs.Events.{TreeEvent, keyed_entry, keyed_events, member_events}
-use Rattle.sfv.specs.KeyText.{KeyRef, key_text}
+use Rattle.sfv.specs.KeyText.{KeyRef}
+use Rattle.sfv.specs.CheckedTexts.{text_of as key_text}
 use Rattle.sfv.specs.Scripts.{supplied_dictionary, described_dictionary, member_calls}
 use Rattle.sfv.specs.Types.{MemberCalls, dictionary_field}
 use Rattle.sfv_c.specs.declared.rows.Row.{Row}
+use Rattle.sfv_c.specs.declared.rows_to_calls.ParseStop.TheVariants as stop
 use Rattle.sfv_c.specs.RowEvents.{dictionary_members, member, Reads}
 use Rattle.sfv_c.proofs.Fields.{field_of}
 use Rattle.sfv_c.proofs.Places.{stops_dictionary}
 use Rattle.sfv_c.proofs.RowEvents.{reads_one, reads_shrinks}
-use Rattle.sfv_c.proofs.Stops.{err_and, after_event, stopped_at, stuck_at, no_row, some_row, not_keyed}
+use Rattle.sfv_c.proofs.Stops.{err_and, after_event, stopped_at, stuck_at, no_row, out_at_member, not_keyed}
 use Rattle.sfv_c.proofs.Stops.{dictionary_more, dictionary_whole}
 use Rattle.sfv_c.proofs.rows_to_calls.dictionary_of.Goals as goal
 
@@ -38,8 +40,16 @@ returns-in_err-read-clause-stopped c = err_and c.from_residual.result _ _ c.from
 pub returns-in_err-push-clause-stopped : goal.returns-in_err-push-clause-stopped
 returns-in_err-push-clause-stopped c =
     err_and c.from_residual-in_err-push.result _ _ c.from_residual-in_err-push.ensures.1
-    (some_row c.args.bytes.now c.args.rows.now (read_so_far c.loop-row.members.items) c.loop-row.left.now
-    c.in-Some.row.now c.in-Some.rest.now c.loop-row.invariant.read c.in-Some.ensures.cases.0)
+    (after_event c.args.bytes.now dictionary_members dictionary_members (member dictionary_members) c.args.rows.now
+    (read_so_far c.loop-row.members.items) c.loop-row.left.now (keyed_entry (key_text c.in-Some-keyed_entry_at.key))
+    c.in-Some.rest.now c.loop-row.invariant.read
+    (stops_dictionary (supplied_dictionary c.loop-row.members.items))
+    (reads_one c.args.bytes.now c.loop-row.left.now c.in-Some.row.now c.in-Some.rest.now
+    (keyed_entry (key_text c.in-Some-keyed_entry_at.key)) c.in-Some.ensures.cases.0 c.in-Some-keyed_entry_at.ensures.0
+    c.in-Some-keyed_entry_at.ensures.1)
+    refl stop.Memory
+    (out_at_member c.args.bytes.now dictionary_members c.in-Some.rest.now
+    (supplied_member (member_calls c.in_ok-read.read)) c.in_ok-read.after.now c.in_ok-read.ensures.read refl))
 
 pub loop-row-smaller : goal.loop-row-smaller
 loop-row-smaller c = reads_shrinks c.args.bytes.now c.loop-row.left.now c.in-Some.row.now c.in-Some.rest.now

@@ -2,11 +2,12 @@ use Rattle.std.proofs.Common.{◌∷◌, [], List, map, flat_map, refl, sym, sub
 use Rattle.sfv.specs.Events.{TreeEvent, begins_item, inner_item_events, inner_list_end, item_events}
 use Rattle.sfv.specs.Scripts.{item_of_calls}
 use Rattle.sfv.specs.Types.{ItemCalls}
+use Rattle.sfv_c.specs.declared.rows_to_calls.ParseStop.TheVariants as stop
 use Rattle.sfv_c.specs.RowEvents.{items, value, Reads}
 use Rattle.sfv_c.specs.Writing.{IsRowOf}
 use Rattle.sfv_c.proofs.Places.{stops_items}
 use Rattle.sfv_c.proofs.RowEvents.{reads_on, reads_one, reads_shrinks}
-use Rattle.sfv_c.proofs.Stops.{err_and, after_event, stopped_at, stuck_at, stuck_end, some_row, holds, fails, not_item, items_more}
+use Rattle.sfv_c.proofs.Stops.{err_and, after_event, stopped_at, stuck_at, stuck_end, out_at_item, holds, fails, not_item, items_more}
 use Rattle.sfv_c.proofs.rows_to_calls.items.Goals as goal
 
 -- the events of these calls
@@ -44,8 +45,16 @@ returns-in_err-read-clause-stopped c = err_and c.from_residual.result _ _ c.from
 pub returns-in_err-push-clause-stopped : goal.returns-in_err-push-clause-stopped
 returns-in_err-push-clause-stopped c =
     err_and c.from_residual-in_err-push.result _ _ c.from_residual-in_err-push.ensures.1
-    (λ p. some_row c.args.bytes.now c.args.rows.now (read_so_far c.loop-row.items.items) c.loop-row.left.now
-    c.in-Some.row.now c.in-Some.rest.now c.loop-row.invariant c.in-Some.ensures.cases.0)
+    (λ p. after_event c.args.bytes.now (items p) (items p) (value (items p)) c.args.rows.now
+    (read_so_far c.loop-row.items.items) c.loop-row.left.now begins_item c.in-Some.rest.now c.loop-row.invariant
+    (stops_items p (map item_of_calls c.loop-row.items.items))
+    (reads_one c.args.bytes.now c.loop-row.left.now c.in-Some.row.now c.in-Some.rest.now begins_item
+    c.in-Some.ensures.cases.0 tt
+    (holds (IsRowOf c.args.bytes.now c.in-Some.row.now begins_item) c.is_plain-in-Some.result c.is_plain-in-Some.ensures
+    c.if-not-is_plain.false))
+    refl stop.Memory
+    (out_at_item c.args.bytes.now (items p) c.in-Some.rest.now (item_of_calls c.in_ok-read.read) c.in_ok-read.after.now
+    c.in_ok-read.ensures.read refl))
 
 pub loop-row-smaller : goal.loop-row-smaller
 loop-row-smaller c = reads_shrinks c.args.bytes.now c.loop-row.left.now c.in-Some.row.now c.in-Some.rest.now

@@ -4,12 +4,13 @@ use Rattle.sfv.specs.Events.{TreeEvent, entry, entry_events, member_events}
 use Rattle.sfv.specs.Scripts.{supplied_list, described_list, member_calls}
 use Rattle.sfv.specs.Types.{MemberCalls, list_field}
 use Rattle.sfv_c.specs.declared.rows.Row.{Row}
+use Rattle.sfv_c.specs.declared.rows_to_calls.ParseStop.TheVariants as stop
 use Rattle.sfv_c.specs.RowEvents.{list_members, member, Reads}
 use Rattle.sfv_c.specs.Writing.{IsRowOf}
 use Rattle.sfv_c.proofs.Fields.{field_of}
 use Rattle.sfv_c.proofs.Places.{stops_list}
 use Rattle.sfv_c.proofs.RowEvents.{reads_one, reads_shrinks}
-use Rattle.sfv_c.proofs.Stops.{err_and, after_event, stopped_at, stuck_at, no_row, some_row, holds, fails, not_entry}
+use Rattle.sfv_c.proofs.Stops.{err_and, after_event, stopped_at, stuck_at, no_row, out_at_member, holds, fails, not_entry}
 use Rattle.sfv_c.proofs.Stops.{list_more, list_whole}
 use Rattle.sfv_c.proofs.rows_to_calls.list_of.Goals as goal
 
@@ -39,8 +40,15 @@ returns-in_err-read-clause-stopped c = err_and c.from_residual.result _ _ c.from
 pub returns-in_err-push-clause-stopped : goal.returns-in_err-push-clause-stopped
 returns-in_err-push-clause-stopped c =
     err_and c.from_residual-in_err-push.result _ _ c.from_residual-in_err-push.ensures.1
-    (some_row c.args.bytes.now c.args.rows.now (read_so_far c.loop-row.members.items) c.loop-row.left.now
-    c.in-Some.row.now c.in-Some.rest.now c.loop-row.invariant.read c.in-Some.ensures.cases.0)
+    (after_event c.args.bytes.now list_members list_members (member list_members) c.args.rows.now
+    (read_so_far c.loop-row.members.items) c.loop-row.left.now entry c.in-Some.rest.now c.loop-row.invariant.read
+    (stops_list (supplied_list c.loop-row.members.items))
+    (reads_one c.args.bytes.now c.loop-row.left.now c.in-Some.row.now c.in-Some.rest.now entry
+    c.in-Some.ensures.cases.0 tt
+    (holds (IsRowOf c.args.bytes.now c.in-Some.row.now entry) c.is_plain.result c.is_plain.ensures c.if-not-is_plain.false))
+    refl stop.Memory
+    (out_at_member c.args.bytes.now list_members c.in-Some.rest.now (supplied_member (member_calls c.in_ok-read.read))
+    c.in_ok-read.after.now c.in_ok-read.ensures.read refl))
 
 pub loop-row-smaller : goal.loop-row-smaller
 loop-row-smaller c = reads_shrinks c.args.bytes.now c.loop-row.left.now c.in-Some.row.now c.in-Some.rest.now

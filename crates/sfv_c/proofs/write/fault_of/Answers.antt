@@ -1,6 +1,7 @@
 use Rattle.std.proofs.Common.{◌∙◌, ◌-◌, sym, ap, subst}
 use Rattle.sfv_c.specs.Writing.{AreWrongAt}
 use Rattle.sfv_c.specs.RowEvents.{beginning, IsStop}
+use Rattle.sfv_c.proofs.Memory.{out_after_two}
 use Rattle.sfv_c.proofs.WrongRows.{wrong_rows}
 use Rattle.sfv_c.proofs.write.fault_of.Goals as goal
 
@@ -8,3 +9,7 @@ pub returns-in-At : goal.returns-in-At
 returns-in-At c version kind rows bytes h s = subst (AreWrongAt kind rows bytes)
     (sym (c.saturating_sub.ensures ∙ ap (λ n. n - c.in-At.left) h))
     (wrong_rows bytes kind rows c.in-At.left (subst (IsStop bytes (beginning kind) rows) c.in-At.is s))
+
+pub returns-in-Memory : goal.returns-in-Memory
+returns-in-Memory c version kind rows bytes h s =
+    out_after_two bytes kind rows (subst (IsStop bytes (beginning kind) rows) c.in-Memory.is s)

@@ -1,10 +1,10 @@
-use Rattle.std.proofs.Common.{◌≡◌, ◌++◌, ◌∙◌, ℕ, List, ap, refl, sym, subst, string_bytes, arith}
+use Rattle.std.proofs.Common.{◌≡◌, ◌++◌, ◌∙◌, ℕ, List, ap, refl, sym, subst, string_bytes}
 use Rattle.sfv.specs.Canonical.{canonical}
 use Rattle.sfv.specs.Ordered.{ordered}
 use Rattle.sfv.specs.Scripts.{item_of_calls}
 use Rattle.sfv.specs.Statements.{IsParsedAs}
 use Rattle.sfv.specs.Types.{item_field}
-use Rattle.sfv_c.proofs.Fields.{text_err, script_fault}
+use Rattle.sfv_c.proofs.Fields.{text_err, script_fault, some_item}
 use Rattle.sfv_c.proofs.write.item_text.Goals as goal
 
 pub returns-in-Err : goal.returns-in-Err
@@ -15,7 +15,7 @@ returns-in_err-run_item_for c =
     text_err c.args.writing item_field c.args.rows.now c.args.bytes.now c.from_residual.result
     c.in_err-run_item_for.field-0.0 c.from_residual.ensures.1
     (script_fault c.args.writing item_field c.args.rows.now c.args.bytes.now (item_of_calls c.in-Ok.calls)
-    c.in-Ok.ensures.read (omega arith) c.in_err-run_item_for.field-0.0 c.in_err-run_item_for.ensures.unsupported)
+    c.in-Ok.ensures.read (some_item (item_of_calls c.in-Ok.calls)) c.in_err-run_item_for.field-0.0 c.in_err-run_item_for.ensures.unsupported)
 
 pub returns : goal.returns
 returns c =

@@ -1,4 +1,4 @@
-use Rattle.sfv_field.specs.Field.{list_field, described_list, token_text}
+use Rattle.sfv_field.specs.Field.{list_field, described_list, text_of as token_text}
 use Rattle.std.proofs.Common.{refl}
 use Rattle.std.proofs.lemmas.Result.{on_ok_weaker}
 use Rattle.sfv.proofs.Callers.{written_is_read}

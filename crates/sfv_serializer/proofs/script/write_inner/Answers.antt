@@ -1,7 +1,7 @@
 use Rattle.std.proofs.Common.{[], map, ◌∙◌, subst, rules}
 use Rattle.std.proofs.lemmas.List.{take_all}
 use Rattle.sfv_writer.specs.Written.{separator_before, param_text}
-use Rattle.sfv_text.specs.KeyText.{key_text}
+use Rattle.sfv_text.specs.CheckedTexts.{text_of as key_text}
 use Rattle.sfv_bare.specs.BareItems.{ref_value}
 use Rattle.sfv_writer.proofs.Rows.{anyway}
 use Rattle.sfv_serializer.specs.Serializers.{is_empty_so_far, KeepsSequence}

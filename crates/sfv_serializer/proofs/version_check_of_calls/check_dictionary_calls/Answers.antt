@@ -3,7 +3,7 @@ use Rattle.std.specs.Prelude.{flat_map}
 use Rattle.std.proofs.lemmas.List.{take_all}
 use Rattle.sfv_spec.specs.Calls.{supplied_member}
 use Rattle.sfv_spec.specs.Values.{AllFit}
-use Rattle.sfv_text.specs.KeyText.{key_text}
+use Rattle.sfv_text.specs.CheckedTexts.{text_of as key_text}
 use Rattle.sfv_writer.specs.Versions.{NamesFirstUnfit}
 use Rattle.sfv_spec.specs.Values.{member_values}
 use Rattle.sfv_writer.proofs.Looks.{at_exit, slice_more, slice_stops}

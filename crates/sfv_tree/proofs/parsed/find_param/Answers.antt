@@ -1,18 +1,7 @@
-use Rattle.std.proofs.Common.{rules, ◌≡◌, ◌∙◌, sym, ap, Some, None, option_map}
-use Rattle.std.specs.Prelude.{bytes_eq}
-use Rattle.std.specs.Map.{lookup}
-use Rattle.sfv_text.specs.KeyText.{key_text}
+use Rattle.std.proofs.Common.{◌∙◌, ap, option_map}
 use Rattle.sfv_bare.specs.BareItems.{bare_value}
 use Rattle.sfv_tree.proofs.Distinct.{param_found}
 use Rattle.sfv_tree.proofs.parsed.find_param.Goals as goal
 
-pub returns-then-eq-clause-last : goal.returns-then-eq-clause-last
-returns-then-eq-clause-last c =
-    let found : lookup (bytes_eq (key_text c.args.key)) c.args.params.now.entries
-    ≡ Some c.in-Some.value.now = search rules in
-    ap (option_map bare_value) (sym found) ∙ param_found _ _ c.iter-name-items.ensures.unique
-
 pub returns-clause-last : goal.returns-clause-last
-returns-clause-last c =
-    let found : lookup (bytes_eq (key_text c.args.key)) c.args.params.now.entries ≡ None = search rules in
-    ap (option_map bare_value) (sym found) ∙ param_found _ _ c.iter-name-items.ensures.unique
+returns-clause-last c = ap (option_map bare_value) c.find.ensures.value ∙ param_found _ _ c.find.ensures.unique

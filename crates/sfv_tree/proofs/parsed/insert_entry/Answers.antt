@@ -1,8 +1,7 @@
-use Rattle.std.proofs.Common.{rules, ◌≡◌, ◌∙◌, sym, ap, None, option_map, refl}
+use Rattle.std.proofs.Common.{rules, ◌≡◌, ◌∙◌, sym, ap, None, option_map}
 use Rattle.sfv_spec.specs.Ordered.{last_of}
 use Rattle.sfv_tree.specs.Trees.{member_tree, dictionary_tree}
 use Rattle.sfv_tree.proofs.Distinct.{member_found, members_distinct}
-use Rattle.sfv_tree.proofs.Entered.{dictionary_tree-insert}
 use Rattle.sfv_tree.proofs.parsed.insert_entry.Goals as goal
 
 pub returns-in_err-insert-clause-absent : goal.returns-in_err-insert-clause-absent
@@ -17,9 +16,6 @@ returns-in_err-insert-clause-distinct c = members_distinct _ c.insert.ensures.un
 pub returns-clause-last : goal.returns-clause-last
 returns-clause-last c =
     ap (option_map member_tree) c.in_ok-insert.ensures.old ∙ member_found _ _ c.len-len.ensures.unique
-
-pub returns-clause-tree : goal.returns-clause-tree
-returns-clause-tree c = rw (c.in_ok-insert.ensures.entries, dictionary_tree-insert) refl
 
 pub returns-clause-distinct : goal.returns-clause-distinct
 returns-clause-distinct c = members_distinct _ c.insert.ensures.unique

@@ -1,4 +1,4 @@
-use Rattle.sfv.specs.TokenText.{token_text}
+use Rattle.sfv.specs.CheckedTexts.{text_of as token_text}
 use Rattle.sfv_uses.proofs.expecting.token.Goals as goal
 
 pub returns-clause-of_another_kind : goal.returns-clause-of_another_kind

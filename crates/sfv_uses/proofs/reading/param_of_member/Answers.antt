@@ -6,7 +6,7 @@ use Rattle.sfv.specs.Types.{Rfc9651}
 use Rattle.sfv.specs.Statements.{IsParsedAs}
 use Rattle.sfv.specs.Trees.{dictionary_tree}
 use Rattle.sfv.specs.BareItems.{bare_value}
-use Rattle.sfv.specs.KeyText.{key_text}
+use Rattle.sfv.specs.CheckedTexts.{text_of as key_text}
 use Rattle.sfv_uses.proofs.Uses.{param_read}
 use Rattle.sfv_uses.proofs.reading.param_of_member.Goals as goal
 

@@ -1,7 +1,7 @@
 use Rattle.std.proofs.Common.{refl, rules, codes}
 use Rattle.sfv.specs.Canonical.{bare_text}
 use Rattle.sfv.specs.BareItems.{ref_value}
-use Rattle.sfv.specs.KeyText.{key_text}
+use Rattle.sfv.specs.CheckedTexts.{text_of as key_text}
 use Rattle.sfv.specs.Written.{separator_before, param_text}
 use Rattle.sfv.specs.Serializers.{is_empty_so_far, params_sink}
 use Rattle.sfv.proofs.Callers.{more_as, more_after}

@@ -1,7 +1,7 @@
 use Rattle.std.proofs.Common.{[], ◌∷◌, ◌++◌, ◌∙◌, sym, ap, codes, string_bytes, rules}
 use Rattle.std.proofs.lemmas.List.{append-nil}
 use Rattle.sfv.specs.BareItems.{ref_value}
-use Rattle.sfv.specs.KeyText.{key_text}
+use Rattle.sfv.specs.CheckedTexts.{text_of as key_text}
 use Rattle.sfv.specs.Written.{separator_before}
 use Rattle.sfv.specs.Serializers.{is_empty_so_far}
 use Rattle.sfv.proofs.Callers.{named_list_ended, more_as, no_less}

@@ -3,7 +3,7 @@ use Rattle.sfv.specs.Types.{item_field}
 use Rattle.sfv.specs.Types.{Rfc9651}
 use Rattle.sfv.specs.Values.{bare_values}
 use Rattle.sfv.specs.BareItems.{ref_value}
-use Rattle.sfv.specs.KeyText.{key_text}
+use Rattle.sfv.specs.CheckedTexts.{text_of as key_text}
 use Rattle.sfv.proofs.Callers.{value_read_back, all_fit_newer}
 use Rattle.sfv_uses.specs.Uses.{item_of_one}
 use Rattle.sfv_uses.proofs.writing.write_item.Goals as goal

@@ -5,7 +5,7 @@ use Rattle.sfv.specs.Types.{item_field}
 use Rattle.sfv.specs.Types.{Rfc9651}
 use Rattle.sfv.specs.Canonical.{item_text}
 use Rattle.sfv.specs.BareItems.{ref_value}
-use Rattle.sfv.specs.KeyText.{key_text}
+use Rattle.sfv.specs.CheckedTexts.{text_of as key_text}
 use Rattle.sfv.specs.Trees.{item_tree}
 use Rattle.sfv.proofs.Callers.{one_value, accepted_error}
 use Rattle.sfv_uses.specs.Uses.{item_of_one}

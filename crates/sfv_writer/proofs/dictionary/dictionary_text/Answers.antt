@@ -2,7 +2,8 @@ use Rattle.std.proofs.Common.{◌≡◌, ◌++◌, ◌<◌, ◌∙◌, List, ℕ
 use Rattle.sfv_spec.specs.Values.{HasMember}
 use Rattle.sfv_spec.specs.declared.field_kind.FieldKind.TheVariants.{Dictionary as dictionary_field}
 use Rattle.sfv_spec.specs.Canonical.{canonical}
-use Rattle.sfv_tree.specs.Trees.{entry_tree, dictionary_tree}
+use Rattle.sfv_tree.specs.Trees.{dictionary_tree}
+use Rattle.sfv_tree.proofs.Words.{entry_tree}
 use Rattle.sfv_writer.proofs.ReadBack.{written}
 use Rattle.sfv_writer.proofs.Rows.{first_of_some, first_of_none, anyway}
 use Rattle.sfv_writer.proofs.dictionary.dictionary_text.Goals as goal
@@ -15,12 +16,6 @@ returns-then-is_empty-clause-text c =
 pub returns-in_err-serialize_dictionary-clause-out_of_memory : goal.returns-in_err-serialize_dictionary-clause-out_of_memory
 returns-in_err-serialize_dictionary-clause-out_of_memory c =
     let some : 0 < length c.args.dictionary.now.entries = search rules in
-    anyway (HasMember dictionary_field (dictionary_tree c.args.dictionary.now.entries)) c.from_residual-in_err-serialize_dictionary.result
-    (first_of_some entry_tree c.args.dictionary.now.entries some)
-
-pub returns-in_err-text-clause-out_of_memory : goal.returns-in_err-text-clause-out_of_memory
-returns-in_err-text-clause-out_of_memory c =
-    let some : 0 < length c.args.dictionary.now.entries = search rules in
     anyway (HasMember dictionary_field (dictionary_tree c.args.dictionary.now.entries)) c.from_residual.result
     (first_of_some entry_tree c.args.dictionary.now.entries some)
 
@@ -31,5 +26,5 @@ returns-clause-text c =
       first_of_some entry_tree c.args.dictionary.now.entries some,
       written dictionary_field members _ c.in_ok-serialize_dictionary.ensures.value
           (c.in_ok-serialize_dictionary.ensures.text
-          ∙ ap (λ (s : List ℕ). s ++ canonical dictionary_field members) c.in_ok-text.ensures.bytes),
+          ∙ ap (λ (s : List ℕ). s ++ canonical dictionary_field members) c.text_for_members-text.ensures.bytes),
     )

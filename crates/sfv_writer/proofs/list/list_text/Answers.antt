@@ -15,12 +15,6 @@ returns-then-is_empty-clause-text c =
 pub returns-in_err-serialize_list-clause-out_of_memory : goal.returns-in_err-serialize_list-clause-out_of_memory
 returns-in_err-serialize_list-clause-out_of_memory c =
     let some : 0 < length c.args.list.now.items = search rules in
-    anyway (HasMember list_field (list_tree c.args.list.now.items)) c.from_residual-in_err-serialize_list.result
-    (first_of_some member_tree c.args.list.now.items some)
-
-pub returns-in_err-text-clause-out_of_memory : goal.returns-in_err-text-clause-out_of_memory
-returns-in_err-text-clause-out_of_memory c =
-    let some : 0 < length c.args.list.now.items = search rules in
     anyway (HasMember list_field (list_tree c.args.list.now.items)) c.from_residual.result
     (first_of_some member_tree c.args.list.now.items some)
 
@@ -30,5 +24,5 @@ returns-clause-text c =
     let some : 0 < length c.args.list.now.items = search rules in (
       first_of_some member_tree c.args.list.now.items some,
       written list_field members _ c.in_ok-serialize_list.ensures.value (c.in_ok-serialize_list.ensures.text
-          ∙ ap (λ (s : List ℕ). s ++ canonical list_field members) c.in_ok-text.ensures.bytes),
+          ∙ ap (λ (s : List ℕ). s ++ canonical list_field members) c.text_for_members-text.ensures.bytes),
     )

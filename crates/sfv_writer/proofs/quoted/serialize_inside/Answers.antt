@@ -1,9 +1,9 @@
-use Rattle.std.proofs.Common.{◌++◌, ◌∙◌, List, ℕ, string_bytes, sym, ap, subst, arith}
+use Rattle.std.proofs.Common.{◌++◌, ◌∙◌, List, ℕ, string_bytes, sym, ap, subst, eqb-true, arith}
 use Rattle.sfv_spec.proofs.Marks.{plain_of}
 use Rattle.sfv_writer.specs.Quoted.{piece_of}
 use Rattle.sfv_writer.specs.Written.{LacksRoom}
 use Rattle.sfv_writer.proofs.Room.{refused, rest_room, room_inside, run_itself}
-use Rattle.sfv_writer.proofs.Written.{none_written, run_written, rest_written, plain_utf8, plain_itself}
+use Rattle.sfv_writer.proofs.Written.{none_written, run_written, rest_written, whole_written, plain_utf8, plain_itself}
 use Rattle.sfv_writer.proofs.quoted.serialize_inside.Goals as goal
 
 pub from_utf8_unchecked-requires : goal.from_utf8_unchecked-requires
@@ -20,6 +20,17 @@ returns-in_err-push_str-clause-room g c =
     (room_inside (piece_of display) c.args.output.now c.args.output.now bytes bytes _ _
     (none_written (piece_of display) (string_bytes c.args.output.now) bytes) c.split_whole.ensures.whole (omega arith)
     none)
+
+pub returns-then-is_empty-clause-text : goal.returns-then-is_empty-clause-text
+returns-then-is_empty-clause-text g c =
+    let piece = piece_of g.Q.Escaping.display in
+    let old = string_bytes c.args.output.now in
+    let bytes = c.args.bytes.now in
+    whole_written piece old bytes _ _ (run_written piece old bytes (plain_of g.Q.Escaping.display)
+    (plain_itself g.Q.Escaping.display) _ _ c.split_whole.result.0.now _ _ (none_written piece old bytes)
+    c.split_whole.ensures.whole c.split_whole.ensures.each
+    (c.in_ok-push_str.ensures.bytes ∙ ap (λ (l : List ℕ). old ++ l) c.from_utf8_unchecked.ensures))
+    (eqb-true _ _ (sym c.is_empty.ensures ∙ c.if-is_empty.true))
 
 pub returns-clause-text : goal.returns-clause-text
 returns-clause-text g c =

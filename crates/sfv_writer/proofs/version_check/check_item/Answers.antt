@@ -3,7 +3,7 @@ use Rattle.sfv_spec.specs.Values.{AllFit}
 use Rattle.sfv_bare.specs.BareItems.{bare_value}
 use Rattle.sfv_tree.specs.Trees.{pairs_tree}
 use Rattle.sfv_writer.specs.Versions.{NamesFirstUnfit}
-use Rattle.sfv_spec.specs.Values.{parameter_values}
+use Rattle.sfv_spec.proofs.Marks.{parameter_values}
 use Rattle.sfv_writer.proofs.Looks.{at_exit, names_front, looks_after}
 use Rattle.sfv_writer.proofs.version_check.check_item.Goals as goal
 

@@ -1,5 +1,5 @@
 use Rattle.std.proofs.Common.{arith}
-use Rattle.sfv_spec.specs.Classes.{is_digit}
+use Rattle.sfv_spec.proofs.Marks.{is_digit}
 use Rattle.sfv.proofs.reads.Runs.{up_to_run, spells_none, spells_more, spelt_below}
 use Rattle.sfv.proofs.parser.digits.digit_run.Goals as goal
 

@@ -1,7 +1,7 @@
 use Rattle.std.proofs.Common.{◌≡◌, ℕ, suc, ◌+◌, ◌-◌, cond, sym, subst, arith, drop}
 use Rattle.std.specs.Prelude.{slice_index, ◌==◌}
 use Rattle.std.proofs.lemmas.Bool.{eq-eqb, ne_eqb}
-use Rattle.sfv_spec.specs.Ascii.{percent_sign}
+use Rattle.sfv_spec.proofs.Marks.{percent_sign}
 use Rattle.sfv_reading.specs.Quoted.{after_pieces}
 use Rattle.sfv_reading.proofs.quoted.DisplaySteps.{LeadsTo, leads_on}
 use Rattle.sfv.proofs.parser.display_string.piece_index.Goals as goal

@@ -1,5 +1,5 @@
 use Rattle.std.proofs.Common.{◌≡◌, ◌∙◌, Ok, Err, sym, ap, subst}
-use Rattle.sfv_spec.specs.Classes.{is_space}
+use Rattle.sfv_spec.proofs.Marks.{is_space}
 use Rattle.sfv_spec.specs.Events.{item_events}
 use Rattle.sfv_reading.specs.Reader.{span}
 use Rattle.sfv_bare.specs.BareItems.{input_value}

@@ -1,5 +1,5 @@
 use Rattle.std.proofs.Common.{◌≡◌, ◌∙◌, Ok, ap, not}
-use Rattle.sfv_spec.specs.Classes.{is_space}
+use Rattle.sfv_spec.proofs.Marks.{is_space}
 use Rattle.sfv_reading.specs.Reader.{span}
 use Rattle.sfv.specs.Parsers.{input_of}
 use Rattle.sfv.specs.parser.Cursor.{rest}

@@ -6,7 +6,7 @@ use Rattle.sfv.proofs.parser.cursor.Cursor.byte_sequence.Goals as goal
 use Rattle.sfv.proofs.parser.cursor.Cursor.byte_sequence.Goals.{then-end-content-via-then-end-content}
 use Rattle.sfv.proofs.parser.cursor.Cursor.byte_sequence.Goals.{then-end-content-via-else-end-content+then-content-end-ne58}
 use Rattle.sfv.proofs.parser.cursor.Cursor.byte_sequence.Goals.{then-contains, else-contains}
-use Rattle.sfv_spec.specs.Ascii.{colon}
+use Rattle.sfv_spec.proofs.Marks.{colon}
 
 pub returns-then-end-content-clause-read : goal.returns-then-end-content-clause-read
 returns-then-end-content-clause-read c =

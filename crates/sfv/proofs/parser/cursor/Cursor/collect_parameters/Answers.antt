@@ -5,71 +5,51 @@ use Rattle.sfv_tree.specs.Trees.{pairs_tree}
 use Rattle.sfv_reading.specs.Items.{parameter_at}
 use Rattle.sfv_reading.proofs.sound.Items.{Consumes-parameter}
 use Rattle.sfv.specs.parser.Cursor.{version, kept, rest}
-use Rattle.sfv.specs.parser.Trees.{Any, AnyFails}
+use Rattle.sfv.proofs.trees.Errors.{Any, NoMemory, as_fault}
 use Rattle.sfv.proofs.reads.Errors.{left_with, kept_reads}
-use Rattle.sfv.proofs.visits.Parameters.{of_visitor, visited_error, parameter_failed, end_failed}
+use Rattle.sfv.proofs.visits.Parameters.{of_visitor, visited_error, parameter_failed}
 use Rattle.sfv.proofs.trees.Parameters.{collected_none, collected_more, collected_all, as_visited}
 use Rattle.sfv.proofs.parser.cursor.Cursor.collect_parameters.Goals as goal
 
 pub loop-parameter-init : goal.loop-parameter-init
-loop-parameter-init g c = record {
+loop-parameter-init c = record {
   collected = collected_none (version c.args.self.now) (rest c.args.self.now) c.args.params.now.entries
       c.requires;
   kept = refl;
   seed = refl;
-  items = refl;
 }
 
 pub returns-in_err-parameter-clause-tree : goal.returns-in_err-parameter-clause-tree
-returns-in_err-parameter-clause-tree g c =
-    rw (left_with c.from_residual.ensures.1) (visited_error Any _ _ _ _ _ _ _ c.loop-parameter.invariant.kept
-    (as_visited _ _ _ _ c.loop-parameter.invariant.collected) c.in_err-parameter.ensures.read)
-
-pub returns-in_err-make_room-clause-tree : goal.returns-in_err-make_room-clause-tree
-returns-in_err-make_room-clause-tree g c =
-    let e = rw c.in-Some.is at c.in_ok-parameter.ensures.read in
-    let read = kept_reads parameter_at _ _ _ c.loop-parameter.invariant.kept ∙ e.0 in
-    rw (left_with c.from_residual-in_err-make_room.ensures.1) (of_visitor Any AnyFails parameters_events
-    (kept c.args.self.now) c.parameter.new.self tt tt (λ _. ⊤) _ _ c.in_err-make_room.ensures.failed
-    (λ fault failed. parameter_failed Any AnyFails _ _ _ _ _ _ _ _ fault
-    (as_visited _ _ _ _ c.loop-parameter.invariant.collected) read tt))
+returns-in_err-parameter-clause-tree c =
+    rw (left_with c.from_residual.ensures.1) (as_fault (visited_error Any _ _ _ _ _ _ _ c.loop-parameter.invariant.kept
+    (as_visited _ _ _ _ c.loop-parameter.invariant.collected) c.in_err-parameter.ensures.read))
 
 pub loop-parameter-smaller : goal.loop-parameter-smaller
-loop-parameter-smaller g c =
+loop-parameter-smaller c =
     let e = rw c.in-Some.is at c.in_ok-parameter.ensures.read in
     (Consumes-parameter (version c.loop-parameter.self)).consumes _ _ _ e.0
 
 pub loop-parameter-preserved : goal.loop-parameter-preserved
-loop-parameter-preserved g c =
+loop-parameter-preserved c =
     let e = rw c.in-Some.is at c.in_ok-parameter.ensures.read in
     let read = kept_reads parameter_at _ _ _ c.loop-parameter.invariant.kept ∙ e.0 in
     record {
-      collected = collected_more _ _ _ _ _ _ _ _ c.loop-parameter.invariant.collected read c.in_ok-insert.ensures.entries;
+      collected = collected_more _ _ _ _ _ _ _ _ c.loop-parameter.invariant.collected read c.in_ok-insert_parameter.ensures.entries;
       kept = e.1 ∙ c.loop-parameter.invariant.kept;
-      seed = c.in_ok-insert.ensures.seed ∙ c.loop-parameter.invariant.seed;
-      items = c.in_ok-make_room.ensures.items ∙ c.loop-parameter.invariant.items;
+      seed = c.in_ok-insert_parameter.ensures.seed ∙ c.loop-parameter.invariant.seed;
     }
 
-pub returns-in_err-insert-clause-tree : goal.returns-in_err-insert-clause-tree
-returns-in_err-insert-clause-tree g c =
+pub returns-in_err-insert_parameter-clause-tree : goal.returns-in_err-insert_parameter-clause-tree
+returns-in_err-insert_parameter-clause-tree c =
     let e = rw c.in-Some.is at c.in_ok-parameter.ensures.read in
     let read = kept_reads parameter_at _ _ _ c.loop-parameter.invariant.kept ∙ e.0 in
-    rw (left_with c.from_residual-in_err-insert.ensures.1) (of_visitor Any AnyFails parameters_events
-    (kept c.args.self.now) c.parameter.new.self tt tt (λ _. ⊤) _ _ c.in_err-insert.ensures.failed
-    (λ fault failed. parameter_failed Any AnyFails _ _ _ _ _ _ _ _ fault
-    (as_visited _ _ _ _ c.loop-parameter.invariant.collected) read tt))
-
-pub returns-in_err-make_room-2-clause-tree : goal.returns-in_err-make_room-2-clause-tree
-returns-in_err-make_room-2-clause-tree g c =
-    let e = rw c.in_default.is at c.in_ok-parameter.ensures.read in
-    let read = kept_reads parameter_at _ _ _ c.loop-parameter.invariant.kept ∙ e.0 in
-    rw (left_with c.from_residual-in_err-make_room-2.ensures.1) (of_visitor Any AnyFails parameters_events
-    (kept c.args.self.now) c.parameter.new.self tt tt (λ _. ⊤) _ _ c.in_err-make_room-2.ensures.failed
-    (λ fault failed. end_failed Any AnyFails _ _ _ _ _ _ fault
-    (as_visited _ _ _ _ c.loop-parameter.invariant.collected) read tt))
+    rw (left_with c.from_residual-in_err-insert_parameter.ensures.1) (as_fault (of_visitor Any NoMemory parameters_events
+    (kept c.args.self.now) c.parameter.new.self tt tt (λ _. ⊤) _ _ c.in_err-insert_parameter.ensures.failed
+    (λ fault failed. parameter_failed Any NoMemory _ _ _ _ _ _ _ _ fault
+    (as_visited _ _ _ _ c.loop-parameter.invariant.collected) read tt)))
 
 pub returns-clause-tree : goal.returns-clause-tree
-returns-clause-tree g c =
+returns-clause-tree c =
     let e = rw c.in_default.is at c.in_ok-parameter.ensures.read in
     let read = kept_reads parameter_at _ _ _ c.loop-parameter.invariant.kept ∙ e.0 in
     let h = c.loop-parameter.invariant.collected in (

@@ -4,7 +4,7 @@ use Rattle.sfv_spec.specs.Ordered.{ordered_item}
 use Rattle.sfv_reading.specs.Items.{item_at}
 use Rattle.sfv_reading.specs.Members.{inner_item_at}
 use Rattle.indexmap.specs.IndexMap.{hasher_of}
-use Rattle.sfv_tree.specs.Trees.{item_with}
+use Rattle.sfv_tree.proofs.Words.{item_with}
 use Rattle.sfv.proofs.reads.Errors.{left_with}
 use Rattle.sfv.proofs.trees.Parts.{led_builds, pushed_item, pushed_item_seed}
 use Rattle.sfv.proofs.parser.cursor.Cursor.push_inner_item.Goals as goal
@@ -12,15 +12,15 @@ use Rattle.sfv.proofs.parser.cursor.Cursor.push_inner_item.Goals as goal
 pub returns-in_err-bare_item-clause-tree : goal.returns-in_err-bare_item-clause-tree
 unfolding inner_item_at
 returns-in_err-bare_item-clause-tree c =
-    rw (left_with c.from_residual.ensures.1) (led_builds (λ b. item_with b c.tree_item.new.params.entries) ordered_item
-    begins_item item_events item_at c.args.self.now c.tree_item.new.self (Err c.in_err-bare_item.field-0.0)
+    rw (left_with c.from_residual.ensures.1) (led_builds (λ b. item_with b c.element_item.new.params.entries) ordered_item
+    begins_item item_events item_at c.args.self.now c.element_item.new.self (Err c.in_err-bare_item.field-0.0)
     c.in_err-bare_item.ensures.tree)
 
 pub returns-clause-tree : goal.returns-clause-tree
 unfolding inner_item_at
 returns-clause-tree c =
-    let built = led_builds (λ b. item_with b c.tree_item.new.params.entries) ordered_item begins_item item_events item_at
-    c.args.self.now c.tree_item.new.self (Ok c.in_ok-bare_item.bare_item) c.in_ok-bare_item.ensures.tree in (
+    let built = led_builds (λ b. item_with b c.element_item.new.params.entries) ordered_item begins_item item_events item_at
+    c.args.self.now c.element_item.new.self (Ok c.in_ok-bare_item.bare_item) c.in_ok-bare_item.ensures.tree in (
       built.0,
       built.1,
       pushed_item _ _ _ c.with_params.result built.0 c.in_ok-bare_item.ensures.items c.push_reserved.ensures.items

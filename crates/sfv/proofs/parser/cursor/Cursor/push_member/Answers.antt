@@ -4,17 +4,17 @@ use Rattle.std.specs.declared.alloc.Global.{Global}
 use Rattle.std.specs.declared.vec.Vec.{Vec}
 use Rattle.indexmap.specs.IndexMap.{hasher_of}
 use Rattle.sfv_spec.specs.Values.{item, inner_list}
-use Rattle.sfv_spec.specs.Events.{item_events}
+use Rattle.sfv_spec.specs.Events.{item_events, member_events, parameters_end}
 use Rattle.sfv_reading.specs.Items.{item_at}
-use Rattle.sfv_reading.specs.Members.{inner_at}
+use Rattle.sfv_reading.specs.Members.{inner_at, member_at}
 use Rattle.sfv_tree.specs.Seeds.{ItemHasSeed}
 use Rattle.sfv_tree.specs.declared.parsed.Item.{Item}
 use Rattle.sfv_tree.specs.declared.parsed.ListEntry.TheVariants as entries
 use Rattle.sfv.specs.parser.Cursor.{kept, version}
 use Rattle.sfv.specs.parser.Members.{after_begin}
-use Rattle.sfv.specs.parser.Trees.{Any, AnyFails}
+use Rattle.sfv.proofs.trees.Errors.{Any, NoMemory, as_answer, as_fault, fails_after, member_ends}
 use Rattle.sfv.proofs.reads.Errors.{left_with, kept_reads}
-use Rattle.sfv.proofs.visits.InnerLists.{list_member_visits, item_member_visits, list_begin_fails}
+use Rattle.sfv.proofs.visits.InnerLists.{list_member_visits, item_member_visits}
 use Rattle.sfv.proofs.visits.Parts.{kept_visits}
 use Rattle.sfv.proofs.trees.Parts.{member_list_some, member_item_some}
 use Rattle.sfv.proofs.trees.Loops.{seed_kept}
@@ -23,16 +23,19 @@ use Rattle.sfv.proofs.parser.cursor.Cursor.push_member.Goals as goal
 
 pub returns-in_err-make_room-clause-tree : goal.returns-in_err-make_room-clause-tree
 returns-in_err-make_room-clause-tree c =
-    rw (left_with c.from_residual.ensures.1) (list_begin_fails Any AnyFails (version c.args.self.now) _ _ tt tt
-    (kept c.args.self.now) c.take_if.new.self _ c.if-take_if.ensures.takes c.in_err-make_room.ensures.failed)
+    let built = c.in_ok-items.ensures.tree in
+    rw (left_with c.from_residual-in_err-make_room.ensures.1) (fails_after member_events c.args.self.now _ member_at
+    built.0 _ parameters_end (member_list_some _ _ _ _ _ c.if-take_if.ensures.takes
+    (kept_reads inner_at _ _ _ c.take_if.ensures.kept ∙ built.1)) (member_ends built.0) tt
+    c.in_err-make_room.ensures.failed)
 
 pub returns-in_err-items-clause-tree : goal.returns-in_err-items-clause-tree
 returns-in_err-items-clause-tree c =
-    rw (left_with c.from_residual-in_err-items.ensures.1) (list_member_visits Any AnyFails
-    (version c.args.self.now) _ _ tt tt tt
-    (kept c.args.self.now) c.tree_inner_list.new.self (Err c.in_err-items.field-0.0) c.if-take_if.ensures.takes tt
-    (kept_visits Any AnyFails after_begin inner_at c.take_if.new.self c.tree_inner_list.new.self tt tt _
-    (Err c.in_err-items.field-0.0) c.take_if.ensures.kept c.in_err-items.ensures.tree))
+    rw (left_with c.from_residual.ensures.1) (as_fault (list_member_visits Any NoMemory (version c.args.self.now) _ _
+    tt tt tt (kept c.args.self.now) c.tree_inner_list.new.self (Err c.in_err-items.field-0.0)
+    c.if-take_if.ensures.takes tt
+    (kept_visits Any NoMemory after_begin inner_at c.take_if.new.self c.tree_inner_list.new.self tt tt _
+    (Err c.in_err-items.field-0.0) c.take_if.ensures.kept (as_answer c.in_err-items.ensures.tree))))
 
 pub returns-then-take_if-clause-tree : goal.returns-then-take_if-clause-tree
 returns-then-take_if-clause-tree c =
@@ -59,11 +62,11 @@ returns-then-take_if-clause-seed c h =
 
 pub returns-in_err-bare_item-clause-tree : goal.returns-in_err-bare_item-clause-tree
 returns-in_err-bare_item-clause-tree c =
-    rw (left_with c.from_residual-in_err-bare_item.ensures.1) (item_member_visits Any AnyFails (version c.args.self.now)
-    _ _ tt tt tt (kept c.args.self.now) c.tree_item.new.self (Err c.in_err-bare_item.field-0.0)
+    rw (left_with c.from_residual-in_err-bare_item.ensures.1) (as_fault (item_member_visits Any NoMemory (version c.args.self.now)
+    _ _ tt tt tt (kept c.args.self.now) c.element_item.new.self (Err c.in_err-bare_item.field-0.0)
     c.if-take_if.ensures.takes tt
-    (kept_visits Any AnyFails item_events item_at c.take_if.new.self c.tree_item.new.self tt tt _
-    (Err c.in_err-bare_item.field-0.0) c.take_if.ensures.kept c.in_err-bare_item.ensures.tree))
+    (kept_visits Any NoMemory item_events item_at c.take_if.new.self c.element_item.new.self tt tt _
+    (Err c.in_err-bare_item.field-0.0) c.take_if.ensures.kept (as_answer c.in_err-bare_item.ensures.tree))))
 
 pub returns-clause-tree : goal.returns-clause-tree
 returns-clause-tree c =

@@ -1,5 +1,5 @@
 use Rattle.std.proofs.Common.{◌∙◌}
-use Rattle.sfv_spec.specs.Classes.{is_space_or_tab}
+use Rattle.sfv_spec.proofs.Marks.{is_space_or_tab}
 use Rattle.sfv.proofs.reads.Runs.{skipped_space, skipped_tab, skipped_all, neither_space_nor_tab}
 use Rattle.sfv.proofs.parser.cursor.Cursor.skip_ows.Goals as goal
 

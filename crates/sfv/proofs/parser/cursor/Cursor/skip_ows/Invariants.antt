@@ -1,5 +1,5 @@
 use Rattle.std.proofs.Common.{◌≡◌, length}
-use Rattle.sfv_spec.specs.Classes.{is_space_or_tab}
+use Rattle.sfv_spec.proofs.Marks.{is_space_or_tab}
 use Rattle.sfv.specs.parser.Cursor.{kept, rest}
 use Rattle.sfv.proofs.reads.Runs.{Skipped}
 use Rattle.sfv.proofs.parser.cursor.Cursor.skip_ows.Given as goal

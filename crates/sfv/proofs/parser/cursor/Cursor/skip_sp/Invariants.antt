@@ -1,5 +1,5 @@
 use Rattle.std.proofs.Common.{◌≡◌, length}
-use Rattle.sfv_spec.specs.Classes.{is_space}
+use Rattle.sfv_spec.proofs.Marks.{is_space}
 use Rattle.sfv.specs.parser.Cursor.{kept, rest}
 use Rattle.sfv.proofs.reads.Runs.{Skipped}
 use Rattle.sfv.proofs.parser.cursor.Cursor.skip_sp.Given as goal

@@ -9,7 +9,7 @@ use Rattle.sfv_tree.specs.Seeds.{MemberHasSeed, EntriesHaveSeed}
 use Rattle.sfv_tree.specs.declared.parsed.ListEntry.{ListEntry}
 use Rattle.sfv_reading.specs.Members.{keyed_at}
 use Rattle.sfv.specs.parser.Cursor.{version, rest}
-use Rattle.sfv.specs.parser.Trees.{Any, AnyFails}
+use Rattle.sfv.proofs.trees.Errors.{Any, NoMemory, as_answer, as_fault}
 use Rattle.sfv.proofs.reads.Delimiters.{members_none, members_first, ends_there, at_end}
 use Rattle.sfv.proofs.reads.Errors.{left_with}
 use Rattle.sfv.proofs.visits.Loops.{shorter, first_fails, delimiter_fails, one_fails, members_loop}
@@ -31,12 +31,12 @@ returns-then-is_none-clause-end c = at_end _ (rw (← c.peek.ensures) (c.is_none
 
 pub returns-in_err-insert_member-clause-tree : goal.returns-in_err-insert_member-clause-tree
 returns-in_err-insert_member-clause-tree c =
-    rw (left_with c.from_residual.ensures.1) (first_fails Any AnyFails (members_loop true) c.args.self.now _
+    rw (left_with c.from_residual.ensures.1) (as_fault (first_fails Any NoMemory (members_loop true) c.args.self.now _
     c.skip_sp.new.self c.insert_member.new.self tt tt _ (
       members_first keyed_events (keyed_at (version c.args.self.now)) _ _ _ c.skip_sp.ensures.skipped.1
           (rw (← c.peek.ensures) (c.is_none.ensures ∙ ap not c.if-is_none.false)),
       c.skip_sp.ensures.kept,
-    ) (c.in_err-insert_member.ensures.tree))
+    ) (as_answer c.in_err-insert_member.ensures.tree)))
 
 pub returns-in_err-insert_member-clause-memory : goal.returns-in_err-insert_member-clause-memory
 returns-in_err-insert_member-clause-memory c =
@@ -63,15 +63,15 @@ loop-dictionary-init c =
 
 pub returns-in_err-consume_comma-clause-tree : goal.returns-in_err-consume_comma-clause-tree
 returns-in_err-consume_comma-clause-tree c =
-    rw (left_with c.from_residual-in_err-consume_comma.ensures.1) (delimiter_fails Any AnyFails (members_loop true)
+    rw (left_with c.from_residual-in_err-consume_comma.ensures.1) (as_fault (delimiter_fails Any NoMemory (members_loop true)
     c.args.self.now _ c.loop-dictionary.self c.consume_comma.new.self tt tt _
-    (as_so_far _ _ _ _ _ _ c.loop-dictionary.invariant.built) c.in_err-consume_comma.ensures)
+    (as_so_far _ _ _ _ _ _ c.loop-dictionary.invariant.built) c.in_err-consume_comma.ensures))
 
 pub loop-dictionary-smaller : goal.loop-dictionary-smaller
 loop-dictionary-smaller c =
     let wanted = rw c.if-branch.true at c.in_ok-consume_comma.ensures in
     let one = c.in_ok-insert_member-2.ensures.tree in
-    shorter Any AnyFails (members_loop true) c.loop-dictionary.self c.consume_comma.new.self
+    shorter Any NoMemory (members_loop true) c.loop-dictionary.self c.consume_comma.new.self
     c.insert_member-in-loop-dictionary.new.self tt tt wanted (as_one (members_loop true) c.consume_comma.new.self
     c.insert_member-in-loop-dictionary.new.self one.0 one.1 one.3)
 
@@ -94,10 +94,10 @@ loop-dictionary-preserved c =
 pub returns-in_err-insert_member-2-clause-tree : goal.returns-in_err-insert_member-2-clause-tree
 returns-in_err-insert_member-2-clause-tree c =
     let wanted = rw c.if-branch.true at c.in_ok-consume_comma.ensures in
-    rw (left_with c.from_residual-in_err-insert_member-2.ensures.1) (one_fails Any AnyFails (members_loop true)
+    rw (left_with c.from_residual-in_err-insert_member-2.ensures.1) (as_fault (one_fails Any NoMemory (members_loop true)
     c.args.self.now _ c.loop-dictionary.self c.consume_comma.new.self c.insert_member-in-loop-dictionary.new.self
     tt tt tt _ (as_so_far _ _ _ _ _ _ c.loop-dictionary.invariant.built) wanted
-    (c.in_err-insert_member-2.ensures.tree))
+    (as_answer c.in_err-insert_member-2.ensures.tree)))
 
 pub returns-clause-tree : goal.returns-clause-tree
 returns-clause-tree c =

@@ -6,7 +6,7 @@ use Rattle.sfv_tree.specs.Trees.{item_tree}
 use Rattle.sfv_tree.specs.Seeds.{ItemHasSeed}
 use Rattle.sfv_reading.specs.Reader.{first}
 use Rattle.sfv.specs.parser.Cursor.{rest}
-use Rattle.sfv.specs.parser.Trees.{Any, AnyFails}
+use Rattle.sfv.proofs.trees.Errors.{Any, NoMemory, as_answer, as_fault}
 use Rattle.sfv.proofs.reads.Delimiters.{items_closed, items_first}
 use Rattle.sfv.proofs.reads.Errors.{left_with}
 use Rattle.sfv.proofs.visits.Loops.{shorter, first_fails, delimiter_fails, one_fails, items_loop}
@@ -19,7 +19,7 @@ pub returns-then-is_none-clause-tree : goal.returns-then-is_none-clause-tree
 returns-then-is_none-clause-tree c =
     let none : is_some (first (rest c.args.self.now)) ≡ false =
     rw (← c.peek.ensures) (c.is_none.ensures ∙ ap not c.if-is_none.true) in
-    rw c.error-error.ensures (no_items_visited Any c.args.self.now tt none)
+    rw c.error-error.ensures (as_fault (no_items_visited Any c.args.self.now tt none))
 
 pub returns-then-take_if-clause-tree : goal.returns-then-take_if-clause-tree
 returns-then-take_if-clause-tree c = (
@@ -38,13 +38,13 @@ returns-then-take_if-clause-seed c =
 
 pub returns-in_err-push_inner_item-clause-tree : goal.returns-in_err-push_inner_item-clause-tree
 returns-in_err-push_inner_item-clause-tree c =
-    rw (left_with c.from_residual.ensures.1) (first_fails Any AnyFails items_loop c.args.self.now _ c.take_if.new.self
+    rw (left_with c.from_residual.ensures.1) (as_fault (first_fails Any NoMemory items_loop c.args.self.now _ c.take_if.new.self
     c.push_inner_item.new.self tt tt _ (
       items_first _ _ _ _ _ (rw (← c.peek.ensures) (c.is_none.ensures
           ∙ ap not c.if-is_none.false)) c.skip_sp.ensures.skipped.1 c.if-take_if.ensures.takes,
       c.take_if.ensures.kept
           ∙ c.skip_sp.ensures.kept,
-    ) c.in_err-push_inner_item.ensures.tree)
+    ) (as_answer c.in_err-push_inner_item.ensures.tree)))
 
 pub loop-items-init : goal.loop-items-init
 loop-items-init c =
@@ -64,15 +64,15 @@ loop-items-init c =
 
 pub returns-in_err-consume_item_delimiter-clause-tree : goal.returns-in_err-consume_item_delimiter-clause-tree
 returns-in_err-consume_item_delimiter-clause-tree c =
-    rw (left_with c.from_residual-in_err-consume_item_delimiter.ensures.1) (delimiter_fails Any AnyFails items_loop
+    rw (left_with c.from_residual-in_err-consume_item_delimiter.ensures.1) (as_fault (delimiter_fails Any NoMemory items_loop
     c.args.self.now _ c.loop-items.self c.consume_item_delimiter.new.self tt tt _
-    (as_so_far _ _ _ _ _ _ c.loop-items.invariant.built) c.in_err-consume_item_delimiter.ensures)
+    (as_so_far _ _ _ _ _ _ c.loop-items.invariant.built) c.in_err-consume_item_delimiter.ensures))
 
 pub loop-items-smaller : goal.loop-items-smaller
 loop-items-smaller c =
     let wanted = rw c.if-branch.true at c.in_ok-consume_item_delimiter.ensures in
     let one = c.in_ok-push_inner_item-2.ensures.tree in
-    shorter Any AnyFails items_loop c.loop-items.self c.consume_item_delimiter.new.self
+    shorter Any NoMemory items_loop c.loop-items.self c.consume_item_delimiter.new.self
     c.push_inner_item-in-loop-items.new.self tt tt wanted (as_one items_loop c.consume_item_delimiter.new.self
     c.push_inner_item-in-loop-items.new.self one.0 one.1 one.3)
 
@@ -93,10 +93,10 @@ loop-items-preserved c =
 pub returns-in_err-push_inner_item-2-clause-tree : goal.returns-in_err-push_inner_item-2-clause-tree
 returns-in_err-push_inner_item-2-clause-tree c =
     let wanted = rw c.if-branch.true at c.in_ok-consume_item_delimiter.ensures in
-    rw (left_with c.from_residual-in_err-push_inner_item-2.ensures.1) (one_fails Any AnyFails items_loop
+    rw (left_with c.from_residual-in_err-push_inner_item-2.ensures.1) (as_fault (one_fails Any NoMemory items_loop
     c.args.self.now _ c.loop-items.self c.consume_item_delimiter.new.self c.push_inner_item-in-loop-items.new.self
     tt tt tt _ (as_so_far _ _ _ _ _ _ c.loop-items.invariant.built) wanted
-    c.in_err-push_inner_item-2.ensures.tree)
+    (as_answer c.in_err-push_inner_item-2.ensures.tree)))
 
 pub returns-clause-tree : goal.returns-clause-tree
 returns-clause-tree c =

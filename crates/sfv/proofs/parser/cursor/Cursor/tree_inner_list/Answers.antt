@@ -1,32 +1,28 @@
-use Rattle.std.proofs.Common.{◌∙◌, ap, map, sym, subst, Err}
-use Rattle.std.specs.Prelude.{All}
+use Rattle.std.proofs.Common.{◌∙◌, Err}
 use Rattle.sfv_spec.specs.Events.{parameters_events}
-use Rattle.sfv_tree.specs.Trees.{item_tree, pairs_tree}
-use Rattle.sfv_tree.specs.Seeds.{ItemHasSeed}
 use Rattle.sfv_reading.specs.Items.{parameters_at}
 use Rattle.sfv_reading.specs.Members.{inner_of}
 use Rattle.sfv.specs.parser.Cursor.{kept, version, rest}
-use Rattle.sfv.specs.parser.Trees.{Any, AnyFails}
+use Rattle.sfv.proofs.trees.Errors.{Any, NoMemory, as_answer, as_fault, any_run}
 use Rattle.sfv.proofs.reads.Errors.{left_with, kept_reads}
 use Rattle.sfv.proofs.visits.InnerLists.{items_fail, inner_list_visits}
 use Rattle.sfv.proofs.visits.Parts.{kept_visits}
-use Rattle.sfv.proofs.trees.Parameters.{any_run}
 use Rattle.sfv.proofs.trees.Parts.{inner_some, inner_list_parts}
 use Rattle.sfv.proofs.parser.cursor.Cursor.tree_inner_list.Goals as goal
 
 pub returns-in_err-items-clause-tree : goal.returns-in_err-items-clause-tree
 returns-in_err-items-clause-tree c =
-    rw (left_with c.from_residual.ensures.1) (items_fail Any AnyFails (version c.args.self.now)
-    (rest c.args.self.now) tt tt (kept c.args.self.now) c.tree_inner_items.new.self _ c.in_err-items.ensures.tree)
+    rw (left_with c.from_residual.ensures.1) (as_fault (items_fail Any NoMemory (version c.args.self.now)
+    (rest c.args.self.now) tt tt (kept c.args.self.now) c.tree_inner_items.new.self _ (as_answer c.in_err-items.ensures.tree)))
 
 pub returns-in_err-tree_parameters-clause-tree : goal.returns-in_err-tree_parameters-clause-tree
 returns-in_err-tree_parameters-clause-tree c =
     let read = c.in_ok-items.ensures.tree in
-    rw (left_with c.from_residual-in_err-tree_parameters.ensures.1) (inner_list_visits Any AnyFails (version c.args.self.now)
+    rw (left_with c.from_residual-in_err-tree_parameters.ensures.1) (as_fault (inner_list_visits Any NoMemory (version c.args.self.now)
     (rest c.args.self.now) (rest c.tree_inner_items.new.self) read.0 tt tt tt tt (kept c.args.self.now)
     c.tree_parameters.new.self (Err c.in_err-tree_parameters.field-0.0) read.1 (any_run _) tt
-    (kept_visits Any AnyFails parameters_events parameters_at c.tree_inner_items.new.self c.tree_parameters.new.self
-    tt tt _ (Err c.in_err-tree_parameters.field-0.0) read.3 c.in_err-tree_parameters.ensures.tree))
+    (kept_visits Any NoMemory parameters_events parameters_at c.tree_inner_items.new.self c.tree_parameters.new.self
+    tt tt _ (Err c.in_err-tree_parameters.field-0.0) read.3 (as_answer c.in_err-tree_parameters.ensures.tree))))
 
 pub returns-clause-tree : goal.returns-clause-tree
 returns-clause-tree c =
@@ -34,12 +30,6 @@ returns-clause-tree c =
     let built = c.in_ok-tree_parameters.ensures.tree in (
       inner_of read.0 built.0,
       inner_some _ _ _ _ _ _ read.1 (kept_reads parameters_at _ _ _ read.3 ∙ built.1),
-      inner_list_parts _ _ _ _ (ap (map item_tree) c.in_ok-tree_parameters.ensures.items ∙ read.2)
-          (ap pairs_tree c.fit_after.ensures.entries ∙ built.2),
+      inner_list_parts _ _ _ _ read.2 built.2,
       built.3 ∙ read.3,
     )
-
-pub returns-clause-item_seeds : goal.returns-clause-item_seeds
-returns-clause-item_seeds c =
-    subst (All (ItemHasSeed c.args.self.now.parser.seed)) (sym c.in_ok-tree_parameters.ensures.items)
-    c.in_ok-items.ensures.seed

@@ -9,7 +9,7 @@ use Rattle.sfv_tree.specs.Trees.{list_tree}
 use Rattle.sfv_tree.specs.Seeds.{MemberHasSeed, ListHasSeed}
 use Rattle.sfv_reading.specs.Members.{entry_at}
 use Rattle.sfv.specs.parser.Cursor.{version, rest}
-use Rattle.sfv.specs.parser.Trees.{Any, AnyFails}
+use Rattle.sfv.proofs.trees.Errors.{Any, NoMemory, as_answer, as_fault}
 use Rattle.sfv.proofs.reads.Delimiters.{members_none, members_first, ends_there, at_end}
 use Rattle.sfv.proofs.reads.Errors.{left_with}
 use Rattle.sfv.proofs.visits.Loops.{shorter, first_fails, delimiter_fails, one_fails, members_loop}
@@ -31,13 +31,13 @@ returns-then-is_none-clause-end c = at_end _ (rw (← c.peek.ensures) (c.is_none
 
 pub returns-in_err-push_member-clause-tree : goal.returns-in_err-push_member-clause-tree
 returns-in_err-push_member-clause-tree c =
-    rw (left_with c.from_residual.ensures.1) (first_fails Any AnyFails (members_loop false) c.args.self.now _
+    rw (left_with c.from_residual.ensures.1) (as_fault (first_fails Any NoMemory (members_loop false) c.args.self.now _
     c.skip_sp.new.self c.push_member.new.self tt tt _ (
       members_first entry_events (entry_at (version c.args.self.now)) _ _ _ c.skip_sp.ensures.skipped.1
           (rw (← c.peek.ensures) (c.is_none.ensures ∙ ap not c.if-is_none.false)),
       c.skip_sp.ensures.kept,
-    ) (entry_builds (λ (u : Unit {0}). list_tree c.push_member.new.list.items) (members_with (list_tree c.new-list.result.items))
-    c.skip_sp.new.self c.push_member.new.self (Err c.in_err-push_member.field-0.0) c.in_err-push_member.ensures.tree))
+    ) (as_answer (entry_builds (λ (u : Unit {0}). list_tree c.push_member.new.list.items) (members_with (list_tree c.new-list.result.items))
+    c.skip_sp.new.self c.push_member.new.self (Err c.in_err-push_member.field-0.0) c.in_err-push_member.ensures.tree))))
 
 pub returns-in_err-push_member-clause-memory : goal.returns-in_err-push_member-clause-memory
 returns-in_err-push_member-clause-memory c =
@@ -64,9 +64,9 @@ loop-list-init c =
 
 pub returns-in_err-consume_comma-clause-tree : goal.returns-in_err-consume_comma-clause-tree
 returns-in_err-consume_comma-clause-tree c =
-    rw (left_with c.from_residual-in_err-consume_comma.ensures.1) (delimiter_fails Any AnyFails (members_loop false)
+    rw (left_with c.from_residual-in_err-consume_comma.ensures.1) (as_fault (delimiter_fails Any NoMemory (members_loop false)
     c.args.self.now _ c.loop-list.self c.consume_comma.new.self tt tt _
-    (as_so_far _ _ _ _ _ _ c.loop-list.invariant.built) c.in_err-consume_comma.ensures)
+    (as_so_far _ _ _ _ _ _ c.loop-list.invariant.built) c.in_err-consume_comma.ensures))
 
 pub loop-list-smaller : goal.loop-list-smaller
 loop-list-smaller c =
@@ -74,7 +74,7 @@ loop-list-smaller c =
     let one = entry_builds (λ (u : Unit {0}). list_tree c.push_member-in-loop-list.new.list.items)
     (members_with (list_tree c.loop-list.list.items)) c.consume_comma.new.self c.push_member-in-loop-list.new.self (Ok tt)
     c.in_ok-push_member-2.ensures.tree in
-    shorter Any AnyFails (members_loop false) c.loop-list.self c.consume_comma.new.self
+    shorter Any NoMemory (members_loop false) c.loop-list.self c.consume_comma.new.self
     c.push_member-in-loop-list.new.self tt tt wanted (as_one (members_loop false) c.consume_comma.new.self
     c.push_member-in-loop-list.new.self one.0 one.1 one.3)
 
@@ -97,12 +97,12 @@ loop-list-preserved c =
 pub returns-in_err-push_member-2-clause-tree : goal.returns-in_err-push_member-2-clause-tree
 returns-in_err-push_member-2-clause-tree c =
     let wanted = rw c.if-branch.true at c.in_ok-consume_comma.ensures in
-    rw (left_with c.from_residual-in_err-push_member-2.ensures.1) (one_fails Any AnyFails (members_loop false)
+    rw (left_with c.from_residual-in_err-push_member-2.ensures.1) (as_fault (one_fails Any NoMemory (members_loop false)
     c.args.self.now _ c.loop-list.self c.consume_comma.new.self c.push_member-in-loop-list.new.self
     tt tt tt _ (as_so_far _ _ _ _ _ _ c.loop-list.invariant.built) wanted
-    (entry_builds (λ (u : Unit {0}). list_tree c.push_member-in-loop-list.new.list.items)
+    (as_answer (entry_builds (λ (u : Unit {0}). list_tree c.push_member-in-loop-list.new.list.items)
     (members_with (list_tree c.loop-list.list.items)) c.consume_comma.new.self c.push_member-in-loop-list.new.self
-    (Err c.in_err-push_member-2.field-0.0) c.in_err-push_member-2.ensures.tree))
+    (Err c.in_err-push_member-2.field-0.0) c.in_err-push_member-2.ensures.tree))))
 
 pub returns-clause-tree : goal.returns-clause-tree
 returns-clause-tree c =

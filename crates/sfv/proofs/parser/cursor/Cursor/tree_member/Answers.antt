@@ -5,7 +5,7 @@ use Rattle.sfv_reading.specs.Items.{item_at}
 use Rattle.sfv_reading.specs.Members.{inner_at}
 use Rattle.sfv.specs.parser.Cursor.{kept, version}
 use Rattle.sfv.specs.parser.Members.{after_begin}
-use Rattle.sfv.specs.parser.Trees.{Any, AnyFails}
+use Rattle.sfv.proofs.trees.Errors.{Any, NoMemory, as_answer, as_fault}
 use Rattle.sfv.proofs.reads.Errors.{left_with, kept_reads}
 use Rattle.sfv.proofs.visits.InnerLists.{list_member_visits, item_member_visits}
 use Rattle.sfv.proofs.visits.Parts.{kept_visits}
@@ -14,10 +14,10 @@ use Rattle.sfv.proofs.parser.cursor.Cursor.tree_member.Goals as goal
 
 pub returns-in_err-items-clause-tree : goal.returns-in_err-items-clause-tree
 returns-in_err-items-clause-tree c =
-    rw (left_with c.from_residual.ensures.1) (list_member_visits Any AnyFails (version c.args.self.now) _ _ tt tt tt
+    rw (left_with c.from_residual.ensures.1) (as_fault (list_member_visits Any NoMemory (version c.args.self.now) _ _ tt tt tt
     (kept c.args.self.now) c.tree_inner_list.new.self (Err c.in_err-items.field-0.0) c.if-take_if.ensures.takes tt
-    (kept_visits Any AnyFails after_begin inner_at c.take_if.new.self c.tree_inner_list.new.self tt tt _
-    (Err c.in_err-items.field-0.0) c.take_if.ensures.kept c.in_err-items.ensures.tree))
+    (kept_visits Any NoMemory after_begin inner_at c.take_if.new.self c.tree_inner_list.new.self tt tt _
+    (Err c.in_err-items.field-0.0) c.take_if.ensures.kept (as_answer c.in_err-items.ensures.tree))))
 
 pub returns-then-take_if-clause-tree : goal.returns-then-take_if-clause-tree
 returns-then-take_if-clause-tree c =
@@ -31,11 +31,11 @@ returns-then-take_if-clause-tree c =
 
 pub returns-in_err-bare_item-clause-tree : goal.returns-in_err-bare_item-clause-tree
 returns-in_err-bare_item-clause-tree c =
-    rw (left_with c.from_residual-in_err-bare_item.ensures.1) (item_member_visits Any AnyFails (version c.args.self.now)
+    rw (left_with c.from_residual-in_err-bare_item.ensures.1) (as_fault (item_member_visits Any NoMemory (version c.args.self.now)
     _ _ tt tt tt (kept c.args.self.now) c.tree_item.new.self (Err c.in_err-bare_item.field-0.0)
     c.if-take_if.ensures.takes tt
-    (kept_visits Any AnyFails item_events item_at c.take_if.new.self c.tree_item.new.self tt tt _
-    (Err c.in_err-bare_item.field-0.0) c.take_if.ensures.kept c.in_err-bare_item.ensures.tree))
+    (kept_visits Any NoMemory item_events item_at c.take_if.new.self c.tree_item.new.self tt tt _
+    (Err c.in_err-bare_item.field-0.0) c.take_if.ensures.kept (as_answer c.in_err-bare_item.ensures.tree))))
 
 pub returns-clause-tree : goal.returns-clause-tree
 returns-clause-tree c =

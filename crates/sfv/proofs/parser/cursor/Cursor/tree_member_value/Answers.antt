@@ -1,10 +1,11 @@
 use Rattle.std.proofs.Common.{◌∙◌, true, refl, ap, Err}
 use Rattle.sfv_spec.specs.Events.{parameters_events}
 use Rattle.sfv_spec.specs.Values.{item, boolean}
-use Rattle.sfv_spec.specs.Grammar.{true_with}
+use Rattle.sfv_spec.proofs.Marks.{true_with}
 use Rattle.sfv_reading.specs.Items.{parameters_at}
 use Rattle.sfv.specs.parser.Cursor.{kept, version}
-use Rattle.sfv.specs.parser.Trees.{Any, AnyFails, head_tree}
+use Rattle.sfv.specs.parser.Trees.{head_tree}
+use Rattle.sfv.proofs.trees.Errors.{Any, NoMemory, as_answer, as_fault}
 use Rattle.sfv.proofs.reads.Errors.{left_with, kept_reads}
 use Rattle.sfv.proofs.visits.Keyed.{true_visits}
 use Rattle.sfv.proofs.visits.Parts.{kept_visits}
@@ -18,11 +19,11 @@ returns-then-take_if-clause-tree c = value_builds (λ head. head_tree head c.tre
 
 pub returns-in_err-tree_parameters-clause-tree : goal.returns-in_err-tree_parameters-clause-tree
 returns-in_err-tree_parameters-clause-tree c =
-    rw (left_with c.from_residual.ensures.1) (true_visits Any AnyFails (version c.args.self.now) _ _ tt tt tt tt
+    rw (left_with c.from_residual.ensures.1) (as_fault (true_visits Any NoMemory (version c.args.self.now) _ _ tt tt tt tt
     (kept c.args.self.now) c.tree_parameters.new.self (Err c.in_err-tree_parameters.field-0.0)
     c.if-take_if.ensures.takes tt tt
-    (kept_visits Any AnyFails parameters_events parameters_at c.take_if.new.self c.tree_parameters.new.self tt tt _
-    (Err c.in_err-tree_parameters.field-0.0) c.take_if.ensures.kept c.in_err-tree_parameters.ensures.tree))
+    (kept_visits Any NoMemory parameters_events parameters_at c.take_if.new.self c.tree_parameters.new.self tt tt _
+    (Err c.in_err-tree_parameters.field-0.0) c.take_if.ensures.kept (as_answer c.in_err-tree_parameters.ensures.tree))))
 
 pub returns-clause-tree : goal.returns-clause-tree
 returns-clause-tree c =

@@ -1,13 +1,24 @@
 use Rattle.std.proofs.Common.{rules, ◌≡◌, false, refl, subst}
-use Rattle.std.specs.Prelude.{⊤, Option, Some, MatchOption}
+use Rattle.std.specs.Prelude.{⊤, Option, Some, MatchOption, IsTrue}
 use Rattle.sfv_tree.specs.Seeds.{MemberHasSeed}
-use Rattle.sfv_visitor.specs.Builders.{MemberSoFarHasSeed, StepHasSeed}
-use Rattle.sfv_visitor.specs.Events.{is_moved}
+use Rattle.sfv_tree.specs.Trees.{member_tree}
+use Rattle.sfv_visitor.specs.Builders.{member_state, member_step, MemberSoFarHasSeed, StepHasSeed}
+use Rattle.sfv_visitor.specs.Builders.{list_state, list_takes_memory, ended}
+use Rattle.sfv_visitor.specs.Events.{event_of, is_moved}
 use Rattle.sfv_visitor.specs.declared.visitor.member.Member.{Member}
-use Rattle.sfv_visitor.proofs.Members.{not_moved}
+use Rattle.sfv_visitor.proofs.Members.{not_moved, or_true}
 use Rattle.sfv_visitor.proofs.Seeded.{all_push}
 use Rattle.sfv_visitor.proofs.visitor.list_builder.ListBuilder.step.Goals as goal
 use Rattle.sfv_visitor.proofs.visitor.list_builder.ListBuilder.step.Goals.{in-None-Entry, in-None-default}
+
+pub returns-in_err-push-in-Ended-clause-out_of_memory : goal.returns-in_err-push-in-Ended-clause-out_of_memory
+returns-in_err-push-in-Ended-clause-out_of_memory c =
+    let held : c.args.self.now.member ≡ Some c.in-Some-default.member = search rules in
+    let state : ended (member_tree c.in-Ended.member) ≡ member_step (member_state c.in-Some-default.member) (event_of c.args.event) =
+    rw c.in-Ended.is at c.in_ok-member-in-Some-default.ensures.state in
+    let takes : IsTrue (list_takes_memory (list_state c.args.self.now) (event_of c.args.event)) =
+    rw (held, ← state) (or_true _) in
+    search rules
 
 pub returns-in_err-push-in-Ended-clause-copied : goal.returns-in_err-push-in-Ended-clause-copied
 returns-in_err-push-in-Ended-clause-copied c =

@@ -1,0 +1,94 @@
+-- Whole items that are built.
+use Rattle.std.proofs.Common.{◌≡◌, ℕ, true, false, List, [], ◌∷◌, Some, Ok, Err, refl, subst, ◌∙◌, inl, inr, arith}
+use Rattle.std.specs.Prelude.{is_some}
+use Rattle.std.specs.List.{Contains}
+use Rattle.std.specs.declared.alloc.Global.{Global}
+use Rattle.sfv_spec.proofs.Marks.{backslash, percent_sign, colon}
+use Rattle.sfv_spec.proofs.Marks.{is_space}
+use Rattle.sfv_spec.specs.Values.{RawItem}
+use Rattle.sfv_spec.specs.Events.{TreeEvent, item_events}
+use Rattle.sfv_spec.specs.Ordered.{ordered_item}
+use Rattle.sfv_spec.specs.Statements.{IsParsedAs}
+use Rattle.sfv_spec.specs.declared.field_kind.FieldKind.TheVariants.{Item as item_field}
+use Rattle.sfv_spec.specs.declared.version.Version.{Version}
+use Rattle.sfv_spec.specs.declared.error_kind.ErrorKind.TheVariants.{TrailingCharactersAfterParsedValue}
+use Rattle.sfv_spec.specs.declared.error_kind.ErrorKind.TheVariants.{ExpectedStartOfBareItem}
+use Rattle.sfv_base.specs.declared.error.Error.{Error}
+use Rattle.sfv_base.specs.declared.error.ParseError.TheVariants.{Syntax, Visitor}
+use Rattle.sfv_base.specs.declared.error.OutOfMemory.{OutOfMemory}
+use Rattle.sfv_base.specs.Errors.{error_of}
+use Rattle.sfv_reading.specs.Reader.{first, span, visited, at_reach, bind, branch, ahead, fail}
+use Rattle.sfv_reading.specs.Bare.{bare_at, token_at}
+use Rattle.sfv_reading.specs.Items.{item_at}
+use Rattle.sfv.specs.declared.parser.Parser.{Parser}
+use Rattle.sfv.specs.declared.parser.cursor.Cursor.{Cursor}
+use Rattle.sfv.specs.parser.Cursor.{kept, kept_input, kept_version, version, rest, IsErrorOf}
+use Rattle.sfv.specs.parser.Trees.{FailsAs}
+use Rattle.sfv.specs.Memory.{HoldsMark, HasMoreThanSpaces, NeedsMoreThanSpaces}
+use Rattle.sfv.specs.Parsers.{IsParseError}
+use Rattle.sfv.proofs.Memory.{other_than_space}
+use Rattle.sfv.proofs.Parsed.{parsed, parse_error}
+use Rattle.sfv.proofs.reads.Errors.{kept_reads, ErrorOf-same}
+use Rattle.sfv.proofs.trees.Fields.{more_after}
+use Rattle.sfv.proofs.visits.Whole.{field_error, field_trailing_error, field_done}
+
+-- no item is read of nothing
+item_none : (version : Version) → item_at version [] ≡ Err (at_reach ExpectedStartOfBareItem [])
+unfolding item_at bare_at token_at bind branch ahead fail
+item_none version = refl
+
+some_read : (version : Version) (q : List ℕ) (e : TreeEvent) → Contains (visited item_events (item_at version q)) e
+    → is_some (first q) ≡ true
+some_read version [] e h =
+    let none = subst (λ a. Contains (visited item_events a) e) (item_none version) h in
+    absurd (let lt = none.1 in omega arith)
+some_read version (c ∷ q) e h = refl
+
+marked : (t : List ℕ) → HoldsMark t → HasMoreThanSpaces t
+marked t (inl h) = (backslash, h, other_than_space backslash refl)
+marked t (inr (inl h)) = (percent_sign, h, other_than_space percent_sign refl)
+marked t (inr (inr h)) = (colon, h, other_than_space colon refl)
+
+-- from the start of the input, after its spaces
+module _ (start before : Cursor) (k : Parser × Global) (s : List ℕ) (same : kept before ≡ k)
+    (whole : rest start ≡ kept_input k) (spaces_first : span is_space (rest start) ≡ Ok (s, rest before)) where
+  skipped : span is_space (kept_input k) ≡ Ok (s, rest before)
+  skipped = subst (λ (t : List ℕ). span is_space t ≡ Ok (s, rest before)) whole spaces_first
+
+  pub item_rejected : (e : Error) → FailsAs item_events before (Syntax e) item_at
+      → IsParseError (kept_version k) item_field (kept_input k) e
+  item_rejected e h = parse_error (kept_version k) item_field (kept_input k) e
+      (field_error (kept_version k) (kept_input k) s (rest before) (kept_input k) e skipped
+      (ErrorOf-same (kept before) k e item_at (rest before) (item_at (kept_version k) (rest before)) same refl
+      (h.syntax e refl)))
+
+  pub item_syntax_memory : (e : Error) → FailsAs item_events before (Syntax e) item_at
+      → NeedsMoreThanSpaces (kept_input k) e
+  item_syntax_memory e h out =
+      let i = ErrorOf-same (kept before) k e item_at (rest before) (item_at (kept_version k) (rest before)) same refl
+      (h.syntax e refl) in
+      marked (kept_input k)
+      (subst (λ (e : Error). IsErrorOf (kept_input k) e (item_at (kept_version k) (rest before))) out i).1
+
+  pub item_memory : (m : OutOfMemory) → FailsAs item_events before (Visitor m) item_at
+      → HasMoreThanSpaces (kept_input k)
+  item_memory m h =
+      let w = h.memory m refl in
+      more_after (kept_input k) s (rest before) skipped (some_read (version before) (rest before) w.0 w.1)
+
+  module _ (between after : Cursor) (raw : RawItem) (spaces : List ℕ)
+      (read : item_at (version before) (rest before) ≡ Ok (raw, rest between))
+      (skipped_more : span is_space (rest between) ≡ Ok (spaces, rest after)) where
+    pub item_trailing : kept after ≡ k → is_some (first (rest after)) ≡ true
+        → IsParseError (kept_version k) item_field (kept_input k)
+        (error_of TrailingCharactersAfterParsedValue (Some after.index))
+    item_trailing same_after some = parse_error (kept_version k) item_field (kept_input k)
+        (error_of TrailingCharactersAfterParsedValue (Some after.index))
+        (field_trailing_error (kept_version k) (kept_input k) s (rest before) (rest between) spaces after k raw
+        same_after skipped (kept_reads item_at (rest before) (kept before) k same ∙ read) skipped_more some)
+
+    pub item_read : (value : RawItem) → is_some (first (rest after)) ≡ false → value ≡ ordered_item raw
+        → IsParsedAs (kept_version k) item_field (kept_input k) value
+    item_read value none built = parsed (kept_version k) item_field (kept_input k) raw value
+        (field_done (kept_version k) (kept_input k) s (rest before) (rest between) spaces (rest after) raw skipped
+        (kept_reads item_at (rest before) (kept before) k same ∙ read) skipped_more none) built

@@ -1,0 +1,5 @@
+mod Encoded
+mod Symbols
+mod Groups
+mod Accepted
+mod Contents

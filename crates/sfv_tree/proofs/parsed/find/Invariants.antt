@@ -1,0 +1,10 @@
+use Rattle.std.proofs.Common.{◌≡◌}
+use Rattle.std.specs.Prelude.{bytes_eq}
+use Rattle.std.specs.Map.{lookup}
+use Rattle.sfv_text.specs.CheckedTexts.{text_of as key_text}
+use Rattle.sfv_tree.proofs.parsed.find.Given as goal
+
+abbrev pub invariant-loop-name : goal.invariant-loop-name
+invariant-loop-name g l =
+    (goal.iterator-loop-name g).can_next l.name-iterator × (goal.iterator-loop-name g).is_finite l.name-iterator
+    × (lookup (bytes_eq (key_text l.key)) l.name-iterator ≡ lookup (bytes_eq (key_text l.key)) l.map.entries)
