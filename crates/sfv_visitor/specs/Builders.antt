@@ -3,7 +3,7 @@ use Rattle.std.specs.Prelude.{◌≡◌, ⊤, MatchOption}
 use Rattle.std.specs.Prelude.{ℕ, List, [], ◌∷◌, ◌++◌, Bool, true, false, ◌&&◌, ◌||◌, Option, Some, None, is_none}
 use Rattle.std.specs.Prelude.{bytes_eq}
 use Rattle.std.specs.Map.{lookup}
-use Rattle.indexmap.specs.IndexMap.{IndexMap, hasher_of, insert_entry}
+use Rattle.indexmap.specs.IndexMap.{insert_entry}
 use Rattle.sfv_spec.specs.Values.{BareValue, RawItem, RawInnerList, RawMember, item, inner_list}
 use Rattle.sfv_spec.specs.Events.{TreeEvent, entry, keyed_entry, begins_item, begins_inner_list}
 use Rattle.sfv_spec.specs.Events.{bare_item, parameter, parameters_end, inner_list_end}
@@ -11,8 +11,6 @@ use Rattle.sfv_bare.specs.BareItems.{is_text}
 use Rattle.sfv_tree.specs.Trees.{item_tree, inner_list_tree, member_tree, list_tree, dictionary_tree}
 use Rattle.sfv_tree.specs.Seeds.{ItemHasSeed, InnerListHasSeed, MemberHasSeed, ListHasSeed, DictionaryHasSeed}
 use Rattle.sfv_tree.specs.declared.hash_seed.HashSeed.{HashSeed}
-use Rattle.sfv_tree.specs.declared.parsed.Item.{Item}
-use Rattle.sfv_tree.specs.declared.parsed.ListEntry.{ListEntry}
 use Rattle.sfv_visitor.specs.declared.visitor.item_builder.ItemBuilder.{ItemBuilder}
 use Rattle.sfv_visitor.specs.declared.visitor.list_builder.ListBuilder.{ListBuilder}
 use Rattle.sfv_visitor.specs.declared.visitor.member.Member.{Member}
@@ -77,11 +75,13 @@ takes_memory (inner_parameters l i) parameters_end = true
 takes_memory (list_parameters l) (parameter key value) = true
 takes_memory p e = false
 
-abbrev pub has_ended : MemberState → Bool
-has_ended (ended m) = true
-has_ended p = false
+-- the member ends at this event
+abbrev pub ends : MemberState → TreeEvent → Bool
+ends (item_parameters i) parameters_end = true
+ends (list_parameters l) parameters_end = true
+ends p e = false
 
--- the state of a builder's member
+-- the state of a member, with its tree so far
 abbrev pub member_state : Member → MemberState
 member_state members.Begun = begun
 member_state members.ItemHead = item_head
@@ -91,43 +91,37 @@ member_state (members.InnerHead l) = inner_head (inner_list_tree l)
 member_state (members.InnerParams l i) = inner_parameters (inner_list_tree l) (item_tree i)
 member_state (members.ListParams l) = list_parameters (inner_list_tree l)
 
+-- the state after an event, complete or not
 abbrev pub step_state : Step → MemberState
 step_state (steps.Within p) = member_state p
 step_state (steps.Ended m) = ended (member_tree m)
 
 -- the parameters in the member so far hash under this seed
-abbrev pub MemberSoFarHasSeed : HashSeed → Member → Type 0
-MemberSoFarHasSeed seed members.Begun = ⊤
-MemberSoFarHasSeed seed members.ItemHead = ⊤
-MemberSoFarHasSeed seed (members.ItemParams i) = ItemHasSeed seed i
-MemberSoFarHasSeed seed (members.Items l) = InnerListHasSeed seed l
-MemberSoFarHasSeed seed (members.InnerHead l) = InnerListHasSeed seed l
-MemberSoFarHasSeed seed (members.InnerParams l i) = InnerListHasSeed seed l × ItemHasSeed seed i
-MemberSoFarHasSeed seed (members.ListParams l) = InnerListHasSeed seed l
+abbrev pub HasSeedSoFar : HashSeed → Member → Type 0
+HasSeedSoFar seed members.Begun = ⊤
+HasSeedSoFar seed members.ItemHead = ⊤
+HasSeedSoFar seed (members.ItemParams i) = ItemHasSeed seed i
+HasSeedSoFar seed (members.Items l) = InnerListHasSeed seed l
+HasSeedSoFar seed (members.InnerHead l) = InnerListHasSeed seed l
+HasSeedSoFar seed (members.InnerParams l i) = InnerListHasSeed seed l × ItemHasSeed seed i
+HasSeedSoFar seed (members.ListParams l) = InnerListHasSeed seed l
 
+-- the same for a member that is complete or not
 abbrev pub StepHasSeed : HashSeed → Step → Type 0
-StepHasSeed seed (steps.Within p) = MemberSoFarHasSeed seed p
+StepHasSeed seed (steps.Within p) = HasSeedSoFar seed p
 StepHasSeed seed (steps.Ended m) = MemberHasSeed seed m
 
 -- The state of an item's builder: it reads the item as a member is read.
 abbrev pub item_state : ItemBuilder → MemberState
 item_state b = step_state b.item
 
--- the hash seed of a builder
-abbrev pub item_seed : ItemBuilder → HashSeed
-item_seed b = b.seed
+-- the builder adds maps under this seed, and those that it has hash under it
+abbrev pub IsItemUnder : HashSeed → ItemBuilder → Type 0
+IsItemUnder seed b = (b.seed ≡ seed) × StepHasSeed seed b.item
 
--- the parameters of the item so far hash under the builder's seed
-abbrev pub IsItemSeeded : ItemBuilder → Type 0
-IsItemSeeded b = StepHasSeed b.seed b.item
-
--- a step keeps the seed, and adds only maps under it
-abbrev pub KeepsItemSeed : ItemBuilder → ItemBuilder → Type 0
-KeepsItemSeed s after = (item_seed after ≡ item_seed s) × (IsItemSeeded s → IsItemSeeded after)
-
--- the result of a builder whose maps hash under its seed hashes under this seed
-abbrev pub AnswersSeeded : ItemBuilder → Item → Type 0
-AnswersSeeded s answer = IsItemSeeded s → ItemHasSeed (item_seed s) answer
+-- `after` is under each seed that `s` is under
+abbrev pub StaysUnder : {B : Type 0} → (HashSeed → B → Type 0) → B → B → Type 0
+StaysUnder is_under s after = (seed : HashSeed) → is_under seed s → is_under seed after
 
 -- the state of a list's builder, with the complete members: between two members, or within one
 pub data ListState : Type 0 where
@@ -145,10 +139,10 @@ list_step (between ms) entry = within ms begun
 list_step (between ms) e = between ms
 list_step (within ms p) e = settle ms (member_step p e)
 
--- the event allocates here: within the member, or because the complete member goes into the list
+-- the event allocates here: within the member, or because the member ends and goes into the list
 abbrev pub list_takes_memory : ListState → TreeEvent → Bool
 list_takes_memory (between ms) e = false
-list_takes_memory (within ms p) e = takes_memory p e || has_ended (member_step p e)
+list_takes_memory (within ms p) e = takes_memory p e || ends p e
 
 -- the complete members
 abbrev pub list_members : ListState → List RawMember
@@ -164,20 +158,9 @@ list_shown ms (Some p) = within ms (member_state p)
 abbrev pub list_state : ListBuilder → ListState
 list_state b = list_shown (list_tree b.list.items) b.member
 
-abbrev pub list_seed : ListBuilder → HashSeed
-list_seed b = b.seed
-
--- the maps of the members so far hash under the builder's seed
-abbrev pub IsListSeeded : ListBuilder → Type 0
-IsListSeeded b = ListHasSeed b.seed b.list.items × MatchOption b.member ⊤ (MemberSoFarHasSeed b.seed)
-
--- a step keeps the seed, and adds only maps under it
-abbrev pub KeepsListSeed : ListBuilder → ListBuilder → Type 0
-KeepsListSeed s after = (list_seed after ≡ list_seed s) × (IsListSeeded s → IsListSeeded after)
-
--- the result of a builder whose maps hash under its seed hashes under this seed
-abbrev pub ListAnswersSeeded : ListBuilder → List ListEntry → Type 0
-ListAnswersSeeded s members = IsListSeeded s → ListHasSeed (list_seed s) members
+-- the builder adds maps under this seed, and those that it has hash under it
+abbrev pub IsListUnder : HashSeed → ListBuilder → Type 0
+IsListUnder seed b = (b.seed ≡ seed) × ListHasSeed seed b.list.items × MatchOption b.member ⊤ (HasSeedSoFar seed)
 
 -- the state of a dictionary's builder, with the complete pairs: between two pairs, or within the member of a key
 pub data DictionaryState : Type 0 where
@@ -195,16 +178,11 @@ dictionary_step (between_pairs ms) (keyed_entry key) = within_pair ms key begun
 dictionary_step (between_pairs ms) e = between_pairs ms
 dictionary_step (within_pair ms key p) e = settle_pair ms key (member_step p e)
 
--- inserting a complete member allocates if its key is new
-abbrev pub settle_takes_memory : List (List ℕ × RawMember) → List ℕ → MemberState → Bool
-settle_takes_memory ms key p = has_ended p && is_none (lookup (bytes_eq key) ms)
-
--- The event allocates here. A key is copied. An event may allocate within the member. A member with a new key allocates
--- at its end, when it is inserted.
+-- the event allocates here: a key is copied; within the member; or because the member ends and has a new key
 abbrev pub dictionary_takes_memory : DictionaryState → TreeEvent → Bool
 dictionary_takes_memory (between_pairs ms) (keyed_entry key) = true
 dictionary_takes_memory (between_pairs ms) e = false
-dictionary_takes_memory (within_pair ms key p) e = takes_memory p e || settle_takes_memory ms key (member_step p e)
+dictionary_takes_memory (within_pair ms key p) e = takes_memory p e || (ends p e && is_none (lookup (bytes_eq key) ms))
 
 -- the complete pairs
 abbrev pub dictionary_members : DictionaryState → List (List ℕ × RawMember)
@@ -220,20 +198,6 @@ dictionary_shown ms (Some (key, p)) = within_pair ms key (member_state p)
 abbrev pub dictionary_state : DictionaryBuilder → DictionaryState
 dictionary_state b = dictionary_shown (dictionary_tree b.dictionary.entries) b.member
 
--- the hash seed of a builder's dictionary, also for its parameters
-abbrev pub dictionary_seed : DictionaryBuilder → HashSeed
-dictionary_seed b = hasher_of b.dictionary
-
--- the dictionary, its members so far, and the current member hash under the builder's seed
-abbrev pub IsDictionarySeeded : DictionaryBuilder → Type 0
-IsDictionarySeeded b = DictionaryHasSeed (dictionary_seed b) b.dictionary
-    × MatchOption b.member ⊤ (λ p. MemberSoFarHasSeed (dictionary_seed b) p.1)
-
--- a step keeps the seed, and adds only maps under it
-abbrev pub KeepsDictionarySeed : DictionaryBuilder → DictionaryBuilder → Type 0
-KeepsDictionarySeed s after = (dictionary_seed after ≡ dictionary_seed s)
-    × (IsDictionarySeeded s → IsDictionarySeeded after)
-
--- the result of a builder whose maps hash under its seed hashes under this seed
-abbrev pub DictionaryAnswersSeeded : DictionaryBuilder → IndexMap (List ℕ) ListEntry HashSeed → Type 0
-DictionaryAnswersSeeded s d = IsDictionarySeeded s → DictionaryHasSeed (dictionary_seed s) d
+-- the dictionary, its members and the current member hash under this seed
+abbrev pub IsDictionaryUnder : HashSeed → DictionaryBuilder → Type 0
+IsDictionaryUnder seed b = DictionaryHasSeed seed b.dictionary × MatchOption b.member ⊤ (λ p. HasSeedSoFar seed p.1)

@@ -2,9 +2,8 @@
 
 ghost use Rattle.std.specs.Prelude.{◌≡◌, [], None};
 ghost use Rattle.sfv_tree.specs.declared.hash_seed.HashSeed.{HashSeed};
-ghost use Rattle.sfv_visitor.specs.Builders.{item_state, item_seed, item_head, list_state, list_seed, between};
-ghost use Rattle.sfv_visitor.specs.Builders.{dictionary_state, dictionary_seed, between_pairs};
-ghost use Rattle.sfv_visitor.specs.Builders.{IsItemSeeded, IsListSeeded, IsDictionarySeeded};
+ghost use Rattle.sfv_visitor.specs.Builders.{item_state, item_head, list_state, between, dictionary_state, between_pairs};
+ghost use Rattle.sfv_visitor.specs.Builders.{IsItemUnder, IsListUnder, IsDictionaryUnder};
 ghost use Rattle.sfv_visitor.specs.ProvidedVisitors.{item_kept};
 
 use crate::expect_item::{ExpectItem, ExpectedItem};
@@ -58,8 +57,7 @@ pub trait MakeDictionaryVisitor<'de>: Drop {
 impl<'de> MakeItemVisitor<'de> for Item {
     type Visitor = ItemBuilder;
 
-    ghost is_made = { λ seed visitor.
-        (item_state visitor ≡ item_head) × (item_seed visitor ≡ seed) × IsItemSeeded visitor };
+    ghost is_made = { λ seed visitor. (item_state visitor ≡ item_head) × IsItemUnder seed visitor };
 
     fn make_item_visitor(alloc: Global, seed: HashSeed) -> ItemBuilder {
         ItemBuilder::new(alloc, seed)
@@ -79,8 +77,7 @@ impl<'de, T: ExpectedItem<'de>> MakeItemVisitor<'de> for T {
 impl<'de> MakeListVisitor<'de> for List {
     type Visitor = ListBuilder;
 
-    ghost is_made = { λ seed visitor.
-        (list_state visitor ≡ between []) × (list_seed visitor ≡ seed) × IsListSeeded visitor };
+    ghost is_made = { λ seed visitor. (list_state visitor ≡ between []) × IsListUnder seed visitor };
 
     fn make_list_visitor(alloc: Global, seed: HashSeed) -> ListBuilder {
         ListBuilder::new(List::new(alloc), seed)
@@ -91,7 +88,7 @@ impl<'de> MakeDictionaryVisitor<'de> for Dictionary {
     type Visitor = DictionaryBuilder;
 
     ghost is_made = { λ seed visitor.
-        (dictionary_state visitor ≡ between_pairs []) × (dictionary_seed visitor ≡ seed) × IsDictionarySeeded visitor };
+        (dictionary_state visitor ≡ between_pairs []) × IsDictionaryUnder seed visitor };
 
     fn make_dictionary_visitor(alloc: Global, seed: HashSeed) -> DictionaryBuilder {
         DictionaryBuilder::new(Dictionary::with_hasher(alloc, seed))

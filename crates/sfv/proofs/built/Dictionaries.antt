@@ -27,7 +27,7 @@ use Rattle.sfv_visitor.specs.Builders.{dictionary_state}
 use Rattle.sfv_tree.specs.declared.parsed.ListEntry.{ListEntry}
 use Rattle.sfv_visitor.specs.declared.visitor.dictionary_builder.DictionaryBuilder.{DictionaryBuilder}
 use Rattle.sfv.specs.Parsers.{IsAnswerOf}
-use Rattle.sfv_visitor.specs.Builders.{KeepsDictionarySeed, DictionaryAnswersSeeded, IsDictionarySeeded, dictionary_seed}
+use Rattle.sfv_visitor.specs.Builders.{IsDictionaryUnder, StaysUnder}
 use Rattle.sfv_tree.specs.declared.hash_seed.HashSeed.{HashSeed}
 use Rattle.sfv_tree.specs.Seeds.{DictionaryHasSeed}
 use Rattle.sfv.proofs.built.Seeded.{answer_seeded, runs_weaker}
@@ -69,11 +69,11 @@ abbrev Places : DictionaryBuilder → TreeEvent → DictionaryBuilder → Type 0
 Places s e after = dictionary_state after ≡ dictionary_step (dictionary_state s) e
 
 abbrev Steps : DictionaryBuilder → TreeEvent → DictionaryBuilder → Type 0
-Steps s e after = (dictionary_state after ≡ dictionary_step (dictionary_state s) e) × KeepsDictionarySeed s after
+Steps s e after = (dictionary_state after ≡ dictionary_step (dictionary_state s) e) × StaysUnder IsDictionaryUnder s after
 
 abbrev Ends : DictionaryBuilder → IndexMap (List ℕ) ListEntry HashSeed → Type 0
 Ends s dictionary = (dictionary_tree dictionary.entries ≡ dictionary_members (dictionary_state s))
-    × DictionaryAnswersSeeded s dictionary
+    × ((seed : HashSeed) → IsDictionaryUnder seed s → DictionaryHasSeed seed dictionary)
 
 within_each : (ms : List (List ℕ × RawMember)) (key : List ℕ) (p : MemberState) (e : TreeEvent) → IsOpen p
     → dictionary_step (settle_pair ms key p) e ≡ settle_pair ms key (member_step p e)
@@ -161,8 +161,7 @@ built_dictionary version t from dictionary here h =
 
 -- what was built is under the builder's seed
 pub dictionary_seeded : (version : Version) (t : List ℕ) (from : DictionaryBuilder)
-    (dictionary : IndexMap (List ℕ) ListEntry HashSeed) (seed : HashSeed) → dictionary_seed from ≡ seed
-    → IsDictionarySeeded from → IsAnswerOf Steps Ends version dictionary_field t from dictionary
-    → DictionaryHasSeed seed dictionary
-dictionary_seeded version t from dictionary seed same start h = answer_seeded dictionary_seed IsDictionarySeeded Steps
-    (λ s e t k. k.1) Ends DictionaryHasSeed (λ s out k. k.1) version dictionary_field t from dictionary seed same start h
+    (dictionary : IndexMap (List ℕ) ListEntry HashSeed) (seed : HashSeed) → IsDictionaryUnder seed from
+    → IsAnswerOf Steps Ends version dictionary_field t from dictionary → DictionaryHasSeed seed dictionary
+dictionary_seeded version t from dictionary seed start h = answer_seeded IsDictionaryUnder Steps (λ s e t k. k.1) Ends
+    DictionaryHasSeed (λ s out k. k.1) version dictionary_field t from dictionary seed start h

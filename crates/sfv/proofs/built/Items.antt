@@ -13,7 +13,7 @@ use Rattle.sfv_spec.specs.Visiting.{RunsTo, IsEarlyVisitorError}
 use Rattle.sfv_spec.proofs.Collapse.{entered, collapse-push}
 use Rattle.sfv_tree.specs.Trees.{item_tree}
 use Rattle.sfv_visitor.specs.Builders.{MemberState, item_head, item_parameters, ended, member_step, item_state, takes_memory}
-use Rattle.sfv_visitor.specs.Builders.{KeepsItemSeed, AnswersSeeded, IsItemSeeded, item_seed}
+use Rattle.sfv_visitor.specs.Builders.{IsItemUnder, StaysUnder}
 use Rattle.sfv_tree.specs.declared.hash_seed.HashSeed.{HashSeed}
 use Rattle.sfv_tree.specs.Seeds.{ItemHasSeed}
 use Rattle.sfv.proofs.built.Seeded.{answer_seeded}
@@ -25,10 +25,11 @@ use Rattle.sfv.specs.Parsers.{IsAnswerOf}
 
 -- what the builder does with an event, and with the end
 abbrev Steps : ItemBuilder → TreeEvent → ItemBuilder → Type 0
-Steps s e after = (item_state after ≡ member_step (item_state s) e) × KeepsItemSeed s after
+Steps s e after = (item_state after ≡ member_step (item_state s) e) × StaysUnder IsItemUnder s after
 
 abbrev Ends : ItemBuilder → Item → Type 0
-Ends s out = (item_state s ≡ ended (item (item_tree out))) × AnswersSeeded s out
+Ends s out = (item_state s ≡ ended (item (item_tree out)))
+    × ((seed : HashSeed) → IsItemUnder seed s → ItemHasSeed seed out)
 
 abbrev Fails : ItemBuilder → TreeEvent → ItemFault → Type 0
 Fails s e fault = (fault ≡ faults.OutOfMemory) × IsTrue (takes_memory (item_state s) e)
@@ -91,7 +92,6 @@ built_fails from fault here (inr h) = absurd (h.5.1 (ordered_item h.1) (item_bui
 
 -- what was built is under the builder's seed
 pub item_seeded : (version : Version) (t : List ℕ) (from : ItemBuilder) (item : Item) (seed : HashSeed)
-    → item_seed from ≡ seed → IsItemSeeded from → IsAnswerOf Steps Ends version item_field t from item
-    → ItemHasSeed seed item
-item_seeded version t from made seed same start h = answer_seeded item_seed IsItemSeeded Steps (λ s e t k. k.1) Ends
-    ItemHasSeed (λ s out k. k.1) version item_field t from made seed same start h
+    → IsItemUnder seed from → IsAnswerOf Steps Ends version item_field t from item → ItemHasSeed seed item
+item_seeded version t from made seed start h = answer_seeded IsItemUnder Steps (λ s e t k. k.1) Ends ItemHasSeed
+    (λ s out k. k.1) version item_field t from made seed start h

@@ -21,7 +21,7 @@ use Rattle.sfv_visitor.specs.Builders.{settle, list_step, list_members, list_sta
 use Rattle.sfv_tree.specs.declared.parsed.ListEntry.{ListEntry}
 use Rattle.sfv_visitor.specs.declared.visitor.list_builder.ListBuilder.{ListBuilder}
 use Rattle.sfv.specs.Parsers.{IsAnswerOf}
-use Rattle.sfv_visitor.specs.Builders.{KeepsListSeed, ListAnswersSeeded, IsListSeeded, list_seed}
+use Rattle.sfv_visitor.specs.Builders.{IsListUnder, StaysUnder}
 use Rattle.sfv_tree.specs.declared.hash_seed.HashSeed.{HashSeed}
 use Rattle.sfv_tree.specs.Seeds.{ListHasSeed}
 use Rattle.sfv.proofs.built.Seeded.{answer_seeded, runs_weaker}
@@ -32,10 +32,11 @@ abbrev Places : ListBuilder → TreeEvent → ListBuilder → Type 0
 Places s e after = list_state after ≡ list_step (list_state s) e
 
 abbrev Steps : ListBuilder → TreeEvent → ListBuilder → Type 0
-Steps s e after = (list_state after ≡ list_step (list_state s) e) × KeepsListSeed s after
+Steps s e after = (list_state after ≡ list_step (list_state s) e) × StaysUnder IsListUnder s after
 
 abbrev Ends : ListBuilder → Vec ListEntry Global → Type 0
-Ends s list = (list_tree list.items ≡ list_members (list_state s)) × ListAnswersSeeded s list.items
+Ends s list = (list_tree list.items ≡ list_members (list_state s))
+    × ((seed : HashSeed) → IsListUnder seed s → ListHasSeed seed list.items)
 
 within_each : (ms : List RawMember) (p : MemberState) (e : TreeEvent) → IsOpen p
     → list_step (settle ms p) e ≡ settle ms (member_step p e)
@@ -89,7 +90,7 @@ built_list version t from list here h =
 
 -- what was built is under the builder's seed
 pub list_seeded : (version : Version) (t : List ℕ) (from : ListBuilder) (list : Vec ListEntry Global) (seed : HashSeed)
-    → list_seed from ≡ seed → IsListSeeded from → IsAnswerOf Steps Ends version list_field t from list
-    → ListHasSeed seed list.items
-list_seeded version t from list seed same start h = answer_seeded list_seed IsListSeeded Steps (λ s e t k. k.1) Ends
-    (λ seed (list : Vec ListEntry Global). ListHasSeed seed list.items) (λ s out k. k.1) version list_field t from list seed same start h
+    → IsListUnder seed from → IsAnswerOf Steps Ends version list_field t from list → ListHasSeed seed list.items
+list_seeded version t from list seed start h = answer_seeded IsListUnder Steps (λ s e t k. k.1) Ends
+    (λ seed (list : Vec ListEntry Global). ListHasSeed seed list.items) (λ s out k. k.1) version list_field t from list seed
+    start h

@@ -1,10 +1,11 @@
 -- What was built is under the seed of its builder.
-use Rattle.std.proofs.Common.{◌≡◌, ℕ, List, [], ◌∷◌, ◌∙◌, refl, subst}
+use Rattle.std.proofs.Common.{ℕ, List, [], ◌∷◌, subst}
 use Rattle.sfv_spec.specs.declared.field_kind.FieldKind.{FieldKind}
 use Rattle.sfv_spec.specs.declared.version.Version.{Version}
 use Rattle.sfv_spec.specs.Events.{TreeEvent}
 use Rattle.sfv_spec.specs.Visiting.{RunsTo}
 use Rattle.sfv_tree.specs.declared.hash_seed.HashSeed.{HashSeed}
+use Rattle.sfv_visitor.specs.Builders.{StaysUnder}
 use Rattle.sfv.specs.Parsers.{IsAnswerOf}
 
 -- events that are taken are taken in a weaker sense
@@ -14,25 +15,17 @@ pub runs_weaker : {S : Type 0} (takes less : S → TreeEvent → S → Type 0)
 runs_weaker takes less w [] from to h = h
 runs_weaker takes less w (e ∷ es) from to h = (h.0, w from e h.0 h.1, runs_weaker takes less w es h.0 to h.2)
 
--- the seed stays over all events, and what is under it
-abbrev pub Keeps : {S : Type 0} → (S → HashSeed) → (S → Type 0) → S → S → Type 0
-Keeps seed seeded s after = (seed after ≡ seed s) × (seeded s → seeded after)
-
-module _ {S : Type 0} (seed : S → HashSeed) (seeded : S → Type 0) (takes : S → TreeEvent → S → Type 0)
-    (each : (s : S) (e : TreeEvent) (t : S) → takes s e t → Keeps seed seeded s t) where
-  runs_keep : (es : List TreeEvent) (from to : S) → RunsTo takes from es to → Keeps seed seeded from to
-  runs_keep [] from to h = subst (Keeps seed seeded from) h (refl, λ s. s)
-  runs_keep (e ∷ es) from to h =
-      let one = each from e h.0 h.1 in
-      let more = runs_keep es h.0 to h.2 in
-      (more.0 ∙ one.0, λ s. more.1 (one.1 s))
+module _ {S : Type 0} (is_under : HashSeed → S → Type 0) (takes : S → TreeEvent → S → Type 0)
+    (each : (s : S) (e : TreeEvent) (t : S) → takes s e t → StaysUnder is_under s t) where
+  -- what is under a seed stays under it over all events
+  runs_stay : (es : List TreeEvent) (from to : S) → RunsTo takes from es to → StaysUnder is_under from to
+  runs_stay [] from to h seed start = subst (is_under seed) h start
+  runs_stay (e ∷ es) from to h seed start = runs_stay es h.0 to h.2 seed (each from e h.0 h.1 seed start)
 
   -- the answer is under the seed that the builder was made with
   pub answer_seeded : {O : Type 0} (finishes : S → O → Type 0) (has : HashSeed → O → Type 0)
-      → ((s : S) (out : O) → finishes s out → seeded s → has (seed s) out) → (version : Version) (kind : FieldKind)
-      → (t : List ℕ) (from : S) (out : O) (given : HashSeed) → seed from ≡ given → seeded from
-      → IsAnswerOf takes finishes version kind t from out → has given out
-  answer_seeded finishes has answers version kind t from out given same start h =
-      let kept = runs_keep _ from h.holds.last h.holds.taken in
-      subst (λ (seed : HashSeed). has seed out) (kept.0 ∙ same)
-      (answers h.holds.last out h.holds.answered (kept.1 start))
+      → ((s : S) (out : O) → finishes s out → (seed : HashSeed) → is_under seed s → has seed out)
+      → (version : Version) (kind : FieldKind) (t : List ℕ) (from : S) (out : O) (seed : HashSeed) → is_under seed from
+      → IsAnswerOf takes finishes version kind t from out → has seed out
+  answer_seeded finishes has answers version kind t from out seed start h =
+      answers h.holds.last out h.holds.answered seed (runs_stay _ from h.holds.last h.holds.taken seed start)

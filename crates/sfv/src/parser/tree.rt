@@ -1,7 +1,7 @@
 //! Parsing to trees (RFC 9651, sections 4.2.1 to 4.2.3).
 //!
-//! These functions build what `ItemBuilder`, `ListBuilder` and `DictionaryBuilder` build from events. They need no list
-//! for the member of a dictionary. A list requests room for an element when the element is complete.
+//! These functions build what `ItemBuilder`, `ListBuilder` and `DictionaryBuilder` build from events. A list requests room
+//! for an element when the element is complete.
 
 ghost use Rattle.std.specs.Prelude.{◌≡◌, ◌<◌, ◌≤◌, ◌++◌, ◌∷◌, [], ⊤, None, Ok, OnOk, OnErr, IfOk, IfErr, IsTrue, All, map, flat_map, length, vec_capacity};
 ghost use Rattle.std.specs.Prelude.{bytes_eq};

@@ -1,13 +1,13 @@
 //! The visitor that builds a dictionary.
 
 ghost use Rattle.std.specs.Prelude.{◌≡◌, ⊤, false, OnOk, OnErr, IsTrue};
-ghost use Rattle.indexmap.specs.IndexMap.{hasher_of};
 ghost use Rattle.sfv_tree.specs.Seeds.{DictionaryHasSeed};
 ghost use Rattle.sfv_tree.specs.Trees.{dictionary_tree};
+ghost use Rattle.sfv_tree.specs.declared.hash_seed.HashSeed.{HashSeed};
 ghost use Rattle.sfv_visitor.specs.Events.{event_of, is_moved};
-ghost use Rattle.sfv_visitor.specs.Builders.{dictionary_step, dictionary_state, dictionary_members, dictionary_seed};
+ghost use Rattle.sfv_visitor.specs.Builders.{dictionary_step, dictionary_state, dictionary_members};
 ghost use Rattle.sfv_visitor.specs.Builders.{between_pairs, dictionary_takes_memory};
-ghost use Rattle.sfv_visitor.specs.Builders.{IsDictionarySeeded, KeepsDictionarySeed, DictionaryAnswersSeeded};
+ghost use Rattle.sfv_visitor.specs.Builders.{IsDictionaryUnder, StaysUnder};
 
 use crate::visitor::member::{Member, Step};
 use crate::visitor::{Event, Visitor};
@@ -34,8 +34,7 @@ impl DictionaryBuilder {
     /// lines of a field, pass the dictionary of the earlier lines.
     pub fn new(dictionary: Dictionary) -> DictionaryBuilder
         ensures state { dictionary_state result ≡ between_pairs (dictionary_tree dictionary.entries) }
-        ensures seed { dictionary_seed result ≡ hasher_of dictionary }
-        ensures seeded { DictionaryHasSeed (hasher_of dictionary) dictionary → IsDictionarySeeded result }
+        ensures seed { (seed : HashSeed) → DictionaryHasSeed seed dictionary → IsDictionaryUnder seed result }
     {
         DictionaryBuilder {
             dictionary,
@@ -50,7 +49,7 @@ impl DictionaryBuilder {
         ensures out_of_memory { OnErr result
             (IsTrue (dictionary_takes_memory (dictionary_state self.old) (event_of event.entry))) }
         ensures copied { OnErr result (is_moved event.entry ≡ false) }
-        ensures seed { OnOk result (KeepsDictionarySeed self.old self.new) }
+        ensures seed { OnOk result (StaysUnder IsDictionaryUnder self.old self.new) }
     {
         let (alloc, seed) = (*self.dictionary.allocator(), *self.dictionary.hasher());
         match (self.member.take(), event) {
@@ -84,14 +83,14 @@ impl<'de> Visitor<'de> for DictionaryBuilder {
     type Error = OutOfMemory;
 
     ghost takes = { λ s event after.
-        (dictionary_state after ≡ dictionary_step (dictionary_state s) event) × KeepsDictionarySeed s after };
+        (dictionary_state after ≡ dictionary_step (dictionary_state s) event) × StaysUnder IsDictionaryUnder s after };
 
     ghost fails = { λ s event fault. IsTrue (dictionary_takes_memory (dictionary_state s) event) };
 
     ghost fails_read = { λ _ event _. is_moved event ≡ false };
 
-    ghost finishes = { λ s dictionary.
-        (dictionary_tree dictionary.entries ≡ dictionary_members (dictionary_state s)) × DictionaryAnswersSeeded s dictionary };
+    ghost finishes = { λ s dictionary. (dictionary_tree dictionary.entries ≡ dictionary_members (dictionary_state s))
+        × ((seed : HashSeed) → IsDictionaryUnder seed s → DictionaryHasSeed seed dictionary) };
 
     ghost finish_fails = { λ _ _. ⊥ };
 

@@ -2,10 +2,12 @@
 
 ghost use Rattle.std.specs.Prelude.{◌≡◌, false, OnOk, OnErr, IsTrue};
 ghost use Rattle.sfv_spec.specs.Values.{RawItem, item};
+ghost use Rattle.sfv_tree.specs.Seeds.{ItemHasSeed};
 ghost use Rattle.sfv_tree.specs.Trees.{item_tree};
+ghost use Rattle.sfv_tree.specs.declared.hash_seed.HashSeed.{HashSeed};
 ghost use Rattle.sfv_visitor.specs.Events.{event_of, is_moved};
-ghost use Rattle.sfv_visitor.specs.Builders.{item_head, ended, member_step, item_state, item_seed, takes_memory};
-ghost use Rattle.sfv_visitor.specs.Builders.{IsItemSeeded, KeepsItemSeed, AnswersSeeded};
+ghost use Rattle.sfv_visitor.specs.Builders.{item_head, ended, member_step, item_state, takes_memory};
+ghost use Rattle.sfv_visitor.specs.Builders.{IsItemUnder, StaysUnder};
 ghost use Rattle.sfv_visitor.specs.declared.visitor.ItemFault.TheVariants as faults;
 
 use crate::visitor::member::{Member, Step};
@@ -32,8 +34,7 @@ impl ItemBuilder {
     /// Creates a builder that has received no event. It allocates from `alloc`, and builds parameters under `seed`.
     pub fn new(alloc: Global, seed: HashSeed) -> ItemBuilder
         ensures state { item_state result ≡ item_head }
-        ensures seed { item_seed result ≡ seed }
-        ensures seeded { IsItemSeeded result }
+        ensures seed { IsItemUnder seed result }
     {
         ItemBuilder {
             alloc,
@@ -47,7 +48,7 @@ impl ItemBuilder {
         ensures state { OnOk result (item_state self.new ≡ member_step (item_state self.old) (event_of event.entry)) }
         ensures out_of_memory { OnErr result (IsTrue (takes_memory (item_state self.old) (event_of event.entry))) }
         ensures copied { OnErr result (is_moved event.entry ≡ false) }
-        ensures seed { OnOk result (KeepsItemSeed self.old self.new) }
+        ensures seed { OnOk result (StaysUnder IsItemUnder self.old self.new) }
     {
         match mem::replace(&mut self.item, Step::Within(Member::ItemHead)) {
             Step::Within(item) => self.item = item.step(self.alloc, self.seed, 0, event)?,
@@ -62,13 +63,15 @@ impl<'de> Visitor<'de> for ItemBuilder {
 
     type Error = ItemFault;
 
-    ghost takes = { λ s event after. (item_state after ≡ member_step (item_state s) event) × KeepsItemSeed s after };
+    ghost takes = { λ s event after.
+        (item_state after ≡ member_step (item_state s) event) × StaysUnder IsItemUnder s after };
 
     ghost fails = { λ s event fault. (fault ≡ faults.OutOfMemory) × IsTrue (takes_memory (item_state s) event) };
 
     ghost fails_read = { λ _ event _. is_moved event ≡ false };
 
-    ghost finishes = { λ s out. (item_state s ≡ ended (item (item_tree out))) × AnswersSeeded s out };
+    ghost finishes = { λ s out. (item_state s ≡ ended (item (item_tree out)))
+        × ((seed : HashSeed) → IsItemUnder seed s → ItemHasSeed seed out) };
 
     ghost finish_fails = { λ s fault. (fault ≡ faults.NoItem) × ((i : RawItem) → ¬ (item_state s ≡ ended (item i))) };
 

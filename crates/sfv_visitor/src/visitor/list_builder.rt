@@ -3,9 +3,10 @@
 ghost use Rattle.std.specs.Prelude.{◌≡◌, ⊤, false, OnOk, OnErr, IsTrue};
 ghost use Rattle.sfv_tree.specs.Seeds.{ListHasSeed};
 ghost use Rattle.sfv_tree.specs.Trees.{list_tree};
+ghost use Rattle.sfv_tree.specs.declared.hash_seed.HashSeed.{HashSeed};
 ghost use Rattle.sfv_visitor.specs.Events.{event_of, is_moved};
-ghost use Rattle.sfv_visitor.specs.Builders.{between, list_step, list_state, list_members, list_takes_memory, list_seed};
-ghost use Rattle.sfv_visitor.specs.Builders.{IsListSeeded, KeepsListSeed, ListAnswersSeeded};
+ghost use Rattle.sfv_visitor.specs.Builders.{between, list_step, list_state, list_members, list_takes_memory};
+ghost use Rattle.sfv_visitor.specs.Builders.{IsListUnder, StaysUnder};
 
 use crate::visitor::member::{Member, Step};
 use crate::visitor::{Event, Visitor};
@@ -34,8 +35,7 @@ impl ListBuilder {
     /// several lines of a field, pass the list of the earlier lines.
     pub fn new(list: List, seed: HashSeed) -> ListBuilder
         ensures state { list_state result ≡ between (list_tree list.items) }
-        ensures seed { list_seed result ≡ seed }
-        ensures seeded { ListHasSeed seed list.items → IsListSeeded result }
+        ensures seed { ListHasSeed seed list.items → IsListUnder seed result }
     {
         ListBuilder {
             list,
@@ -47,7 +47,7 @@ impl ListBuilder {
     #[inline(always)]
     fn step(&mut self, event: Event<'_>) -> Result<(), OutOfMemory>
         ensures state { OnOk result (list_state self.new ≡ list_step (list_state self.old) (event_of event.entry)) }
-        ensures seed { OnOk result (KeepsListSeed self.old self.new) }
+        ensures seed { OnOk result (StaysUnder IsListUnder self.old self.new) }
         ensures out_of_memory { OnErr result (IsTrue (list_takes_memory (list_state self.old) (event_of event.entry))) }
         ensures copied { OnErr result (is_moved event.entry ≡ false) }
     {
@@ -75,13 +75,15 @@ impl<'de> Visitor<'de> for ListBuilder {
 
     type Error = OutOfMemory;
 
-    ghost takes = { λ s event after. (list_state after ≡ list_step (list_state s) event) × KeepsListSeed s after };
+    ghost takes = { λ s event after.
+        (list_state after ≡ list_step (list_state s) event) × StaysUnder IsListUnder s after };
 
     ghost fails = { λ s event fault. IsTrue (list_takes_memory (list_state s) event) };
 
     ghost fails_read = { λ _ event _. is_moved event ≡ false };
 
-    ghost finishes = { λ s list. (list_tree list.items ≡ list_members (list_state s)) × ListAnswersSeeded s list.items };
+    ghost finishes = { λ s list. (list_tree list.items ≡ list_members (list_state s))
+        × ((seed : HashSeed) → IsListUnder seed s → ListHasSeed seed list.items) };
 
     ghost finish_fails = { λ _ _. ⊥ };
 

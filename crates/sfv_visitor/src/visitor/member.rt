@@ -9,7 +9,7 @@ ghost use Rattle.sfv_tree.specs.Seeds.{ItemHasSeed};
 ghost use Rattle.sfv_tree.specs.declared.hash_seed.HashSeed.{HashSeed};
 ghost use Rattle.sfv_visitor.specs.Events.{event_of, is_moved};
 ghost use Rattle.sfv_visitor.specs.Builders.{member_step, member_state, step_state, plain_item, takes_memory};
-ghost use Rattle.sfv_visitor.specs.Builders.{MemberSoFarHasSeed, StepHasSeed};
+ghost use Rattle.sfv_visitor.specs.Builders.{HasSeedSoFar, StepHasSeed};
 
 use crate::visitor::Event;
 use crate::visitor::parameters::{fit_after, insert_parameter};
@@ -67,8 +67,8 @@ impl Member {
     ) -> Result<Member, OutOfMemory>
         ensures state { IfOk result (λ after. member_state after
             ≡ member_step (member_state self) (tree.parameter (text_of key.entry) (input_value value.entry))) }
-        ensures seed { IfOk result (λ after. (seed : HashSeed) → MemberSoFarHasSeed seed self
-            → MemberSoFarHasSeed seed after) }
+        ensures seed { IfOk result (λ after. (seed : HashSeed) → HasSeedSoFar seed self
+            → HasSeedSoFar seed after) }
         ensures out_of_memory { OnErr result (IsTrue (takes_memory (member_state self)
             (tree.parameter (text_of key.entry) (input_value value.entry)))) }
     {
@@ -93,7 +93,7 @@ impl Member {
     fn end_parameters(self, count: usize) -> Result<Step, OutOfMemory>
         ensures state { IfOk result (λ after. step_state after
             ≡ member_step (member_state self) tree.parameters_end) }
-        ensures seed { IfOk result (λ after. (seed : HashSeed) → MemberSoFarHasSeed seed self → StepHasSeed seed after) }
+        ensures seed { IfOk result (λ after. (seed : HashSeed) → HasSeedSoFar seed self → StepHasSeed seed after) }
         ensures out_of_memory { OnErr result (IsTrue (takes_memory (member_state self) tree.parameters_end)) }
     {
         match self {
@@ -123,7 +123,7 @@ impl Member {
         event: Event<'_>,
     ) -> Result<Step, OutOfMemory>
         ensures state { IfOk result (λ after. step_state after ≡ member_step (member_state self) (event_of event.entry)) }
-        ensures seed { IfOk result (λ after. MemberSoFarHasSeed seed self → StepHasSeed seed after) }
+        ensures seed { IfOk result (λ after. HasSeedSoFar seed self → StepHasSeed seed after) }
         ensures out_of_memory { OnErr result (IsTrue (takes_memory (member_state self) (event_of event.entry))) }
         ensures copied { OnErr result (is_moved event.entry ≡ false) }
     {

@@ -13,7 +13,7 @@ returns-clause-read c = IfOk-weaker c.parse_dictionary.result _ _
 
 pub returns-clause-seed : goal.returns-clause-seed
 returns-clause-seed c = IfOk-weaker c.parse_dictionary.result _ _
-    (λ value h. dictionary_seeded Rfc9651 c.args.input.now h.0 value library_seed h.1.1 h.1.2 h.2)
+    (λ value h. dictionary_seeded Rfc9651 c.args.input.now h.0 value library_seed h.1.1 h.2)
     (made_visited _ (rw c.new.ensures at c.parse_dictionary.ensures))
 
 pub returns-clause-rejected : goal.returns-clause-rejected

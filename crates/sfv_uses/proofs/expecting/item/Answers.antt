@@ -14,7 +14,7 @@ returns-clause-read c = IfOk-weaker c.parse_item.result _ _
 
 pub returns-clause-seed : goal.returns-clause-seed
 returns-clause-seed c = IfOk-weaker c.parse_item.result _ _
-    (λ value h. item_seeded Rfc9651 c.args.input.now h.0 value library_seed h.1.1 h.1.2 h.2)
+    (λ value h. item_seeded Rfc9651 c.args.input.now h.0 value library_seed h.1.1 h.2)
     (made_visited _ (made_item _ (rw c.new.ensures at c.parse_item.ensures)))
 
 pub returns-clause-rejected : goal.returns-clause-rejected

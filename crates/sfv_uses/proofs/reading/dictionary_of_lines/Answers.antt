@@ -1,4 +1,4 @@
-use Rattle.std.proofs.Common.{◌≡◌, ℕ, List, ◌∙◌, sym, subst}
+use Rattle.std.proofs.Common.{◌≡◌, ℕ, List}
 use Rattle.std.proofs.lemmas.Result.{IfOk-weaker}
 use Rattle.sfv.specs.Types.{dictionary_field}
 use Rattle.sfv.specs.Types.{Rfc9651}
@@ -8,8 +8,7 @@ use Rattle.sfv.specs.Types.{HashSeed, DictionaryBuilder, ListEntry}
 use Rattle.sfv.specs.Maps.{IndexMap}
 use Rattle.sfv.specs.Seeds.{DictionaryHasSeed}
 use Rattle.sfv.proofs.Callers.{dictionary_after, dictionary_seeded, read_is_value}
-use Rattle.sfv.specs.Builders.{dictionary_state, dictionary_step, dictionary_members, KeepsDictionarySeed}
-use Rattle.sfv.specs.Builders.{DictionaryAnswersSeeded}
+use Rattle.sfv.specs.Builders.{dictionary_state, dictionary_step, dictionary_members, IsDictionaryUnder, StaysUnder}
 use Rattle.sfv_uses.proofs.Uses.{second_fails}
 use Rattle.sfv_uses.proofs.reading.dictionary_of_lines.Goals as goal
 
@@ -30,17 +29,16 @@ returns-clause-seed c =
     let first : DictionaryHasSeed c.args.seed c.in_ok-held.held =
     rw c.with_hash_seed-parser.ensures at c.in_ok-held.ensures.seed in
     IfOk-weaker c.parse_dictionary_with_visitor.result _ _ (λ dictionary h. dictionary_seeded Rfc9651 c.args.second.now
-    c.new-builder.result dictionary c.args.seed (c.new-builder.ensures.seed ∙ first.0)
-    (c.new-builder.ensures.seeded (subst (λ (seed : HashSeed). DictionaryHasSeed seed c.in_ok-held.held) (sym first.0) first)) h)
-    second
+    c.new-builder.result dictionary c.args.seed (c.new-builder.ensures.seed c.args.seed first) h) second
 
 pub returns-clause-rejected : goal.returns-clause-rejected
 returns-clause-rejected c =
     let read : IsParsedAs Rfc9651 dictionary_field c.args.first.now (dictionary_tree c.in_ok-held.held.entries) =
     rw (c.with_hash_seed-parser.ensures, c.new.ensures) at c.in_ok-held.ensures.read in
     second_fails dictionary_field (λ (s : DictionaryBuilder) e after.
-    (dictionary_state after ≡ dictionary_step (dictionary_state s) e) × KeepsDictionarySeed s after)
+    (dictionary_state after ≡ dictionary_step (dictionary_state s) e) × StaysUnder IsDictionaryUnder s after)
     (λ s (dictionary : IndexMap (List ℕ) ListEntry HashSeed). (dictionary_tree dictionary.entries
-    ≡ dictionary_members (dictionary_state s)) × DictionaryAnswersSeeded s dictionary) c.args.first.now c.args.second.now
+    ≡ dictionary_members (dictionary_state s)) × ((seed : HashSeed) → IsDictionaryUnder seed s
+    → DictionaryHasSeed seed dictionary)) c.args.first.now c.args.second.now
     c.new-builder.result c.parse_dictionary_with_visitor.result (read.raw, read.accepted)
     (rw c.new-2.ensures at c.parse_dictionary_with_visitor.ensures.syntax)

@@ -1,15 +1,14 @@
-use Rattle.std.proofs.Common.{rules, ◌≡◌, false, refl, sym, subst, ℕ, List}
+use Rattle.std.proofs.Common.{rules, ◌≡◌, ◌∙◌, false, refl, sym, subst, ℕ, List}
 use Rattle.std.proofs.lemmas.Map.Made.{lookup-map_values}
 use Rattle.std.specs.Prelude.{⊤, Option, Some, MatchOption, IsTrue, bytes_eq}
-use Rattle.indexmap.specs.IndexMap.{hasher_of}
 use Rattle.sfv_tree.proofs.Entered.{dictionary_tree-insert}
 use Rattle.sfv_tree.specs.Seeds.{MemberHasSeed}
 use Rattle.sfv_tree.specs.Trees.{member_tree}
-use Rattle.sfv_visitor.specs.Builders.{member_state, member_step, MemberSoFarHasSeed, StepHasSeed}
+use Rattle.sfv_visitor.specs.Builders.{member_state, member_step, HasSeedSoFar, StepHasSeed}
 use Rattle.sfv_visitor.specs.Builders.{dictionary_state, dictionary_takes_memory, ended}
 use Rattle.sfv_visitor.specs.Events.{event_of, is_moved}
 use Rattle.sfv_visitor.specs.declared.visitor.member.Member.{Member}
-use Rattle.sfv_visitor.proofs.Members.{not_moved, settles_pair, or_true}
+use Rattle.sfv_visitor.proofs.Members.{ends_here, not_moved, settles_pair, or_true}
 use Rattle.sfv_visitor.proofs.Seeded.{all_entered}
 use Rattle.sfv_visitor.proofs.visitor.dictionary_builder.DictionaryBuilder.step.Goals as goal
 use Rattle.sfv_visitor.proofs.visitor.dictionary_builder.DictionaryBuilder.step.Goals.{in-None-KeyedEntry+in_ok-to_owned-in-None-KeyedEntry, in-None-default}
@@ -20,7 +19,7 @@ returns-in_err-insert-in-Ended-clause-out_of_memory c =
     let state : ended (member_tree c.in-Ended.member) ≡ member_step (member_state c.in-Some-default.member) (event_of c.args.event) =
     rw c.in-Ended.is at c.in_ok-member-in-Some-default.ensures.state in
     let takes : IsTrue (dictionary_takes_memory (dictionary_state c.args.self.now) (event_of c.args.event)) =
-    rw (held, ← state, lookup-map_values member_tree, c.in_err-insert-in-Ended.ensures.absent) (or_true _) in
+    rw (held, ends_here _ _ _ state, lookup-map_values member_tree, c.in_err-insert-in-Ended.ensures.absent) (or_true _) in
     search rules
 
 pub returns-in_err-insert-in-Ended-clause-copied : goal.returns-in_err-insert-in-Ended-clause-copied
@@ -30,8 +29,8 @@ returns-in_err-insert-in-Ended-clause-copied c =
 
 pub returns-after-event-clause-seed : goal.returns-after-event-clause-seed
 returns-after-event-clause-seed c = elim c.match-event.branch [
-  | in-None-KeyedEntry+in_ok-to_owned-in-None-KeyedEntry w ↦ rw (w.result-is, w.self-is) (refl, λ h. (h.0, tt))
-  | in-None-default w ↦ rw (w.result-is, w.self-is, c.take.ensures.after) (refl, λ h. (h.0, tt))
+  | in-None-KeyedEntry+in_ok-to_owned-in-None-KeyedEntry w ↦ rw (w.result-is, w.self-is) (λ seed h. (h.0, tt))
+  | in-None-default w ↦ rw (w.result-is, w.self-is, c.take.ensures.after) (λ seed h. (h.0, tt))
 ]
 
 pub returns-in-Within-clause-state : goal.returns-in-Within-clause-state
@@ -49,19 +48,15 @@ returns-in_ok-insert-in-Ended-clause-state c =
     rw (c.take.ensures.after, held, ← state, c.in_ok-insert-in-Ended.ensures.entries, dictionary_tree-insert) refl
 
 pub returns-in_ok-insert-in-Ended-clause-seed : goal.returns-in_ok-insert-in-Ended-clause-seed
-returns-in_ok-insert-in-Ended-clause-seed c = (
-  c.insert.ensures.hasher,
-  λ h. let held : c.args.self.now.member ≡ Some (c.in-Some-default.key, c.in-Some-default.member) = search rules in
-      let seed = hasher_of c.args.self.now.dictionary in
-      let before : MemberSoFarHasSeed seed c.in-Some-default.member =
-      subst (λ (o : Option (List ℕ × Member)). MatchOption o ⊤ (λ p. MemberSoFarHasSeed seed p.1)) held h.1 in
-      let stays = rw c.hasher.ensures at c.in_ok-member-in-Some-default.ensures.seed in
-      let member : MemberHasSeed seed c.in-Ended.member = subst (StepHasSeed seed) c.in-Ended.is (stays before) in (
-        (
-          refl,
-          rw (c.insert.ensures.hasher, c.in_ok-insert-in-Ended.ensures.entries)
-              (all_entered bytes_eq (MemberHasSeed seed) _ _ _ member h.0.1),
-        ),
-        rw c.take.ensures.after tt,
+returns-in_ok-insert-in-Ended-clause-seed c = λ seed h.
+    let held : c.args.self.now.member ≡ Some (c.in-Some-default.key, c.in-Some-default.member) = search rules in
+    let before : HasSeedSoFar seed c.in-Some-default.member =
+    subst (λ (o : Option (List ℕ × Member)). MatchOption o ⊤ (λ p. HasSeedSoFar seed p.1)) held h.1 in
+    let stays = rw (c.hasher.ensures, h.0.0) at c.in_ok-member-in-Some-default.ensures.seed in
+    let member : MemberHasSeed seed c.in-Ended.member = subst (StepHasSeed seed) c.in-Ended.is (stays before) in (
+      (
+        c.insert.ensures.hasher ∙ h.0.0,
+        rw c.in_ok-insert-in-Ended.ensures.entries (all_entered bytes_eq (MemberHasSeed seed) _ _ _ member h.0.1),
       ),
-)
+      rw c.take.ensures.after tt,
+    )

@@ -1,12 +1,12 @@
-use Rattle.std.proofs.Common.{rules, ◌≡◌, false, refl, subst}
+use Rattle.std.proofs.Common.{rules, ◌≡◌, false, subst}
 use Rattle.std.specs.Prelude.{⊤, Option, Some, MatchOption, IsTrue}
 use Rattle.sfv_tree.specs.Seeds.{MemberHasSeed}
 use Rattle.sfv_tree.specs.Trees.{member_tree}
-use Rattle.sfv_visitor.specs.Builders.{member_state, member_step, MemberSoFarHasSeed, StepHasSeed}
+use Rattle.sfv_visitor.specs.Builders.{member_state, member_step, HasSeedSoFar, StepHasSeed}
 use Rattle.sfv_visitor.specs.Builders.{list_state, list_takes_memory, ended}
 use Rattle.sfv_visitor.specs.Events.{event_of, is_moved}
 use Rattle.sfv_visitor.specs.declared.visitor.member.Member.{Member}
-use Rattle.sfv_visitor.proofs.Members.{not_moved, or_true}
+use Rattle.sfv_visitor.proofs.Members.{ends_here, not_moved, or_true}
 use Rattle.sfv_visitor.proofs.Seeded.{all_push}
 use Rattle.sfv_visitor.proofs.visitor.list_builder.ListBuilder.step.Goals as goal
 use Rattle.sfv_visitor.proofs.visitor.list_builder.ListBuilder.step.Goals.{in-None-Entry, in-None-default}
@@ -17,7 +17,7 @@ returns-in_err-push-in-Ended-clause-out_of_memory c =
     let state : ended (member_tree c.in-Ended.member) ≡ member_step (member_state c.in-Some-default.member) (event_of c.args.event) =
     rw c.in-Ended.is at c.in_ok-member-in-Some-default.ensures.state in
     let takes : IsTrue (list_takes_memory (list_state c.args.self.now) (event_of c.args.event)) =
-    rw (held, ← state) (or_true _) in
+    rw (held, ends_here _ _ _ state) (or_true _) in
     search rules
 
 pub returns-in_err-push-in-Ended-clause-copied : goal.returns-in_err-push-in-Ended-clause-copied
@@ -27,19 +27,18 @@ returns-in_err-push-in-Ended-clause-copied c =
 
 pub returns-after-event-clause-seed : goal.returns-after-event-clause-seed
 returns-after-event-clause-seed c = elim c.match-event.branch [
-  | in-None-Entry w ↦ rw (w.result-is, w.self-is) (refl, λ h. (h.0, tt))
-  | in-None-default w ↦ rw (w.result-is, w.self-is, c.take.ensures.after) (refl, λ h. (h.0, tt))
+  | in-None-Entry w ↦ rw (w.result-is, w.self-is) (λ seed h. (h.0, h.1, tt))
+  | in-None-default w ↦ rw (w.result-is, w.self-is, c.take.ensures.after) (λ seed h. (h.0, h.1, tt))
 ]
 
 pub returns-in_ok-push-in-Ended-clause-seed : goal.returns-in_ok-push-in-Ended-clause-seed
-returns-in_ok-push-in-Ended-clause-seed c = (
-  refl,
-  λ h. let held : c.args.self.now.member ≡ Some c.in-Some-default.member = search rules in
-      let before : MemberSoFarHasSeed c.args.self.now.seed c.in-Some-default.member =
-      subst (λ (o : Option Member). MatchOption o ⊤ (MemberSoFarHasSeed c.args.self.now.seed)) held h.1 in
-      let member : MemberHasSeed c.args.self.now.seed c.in-Ended.member =
-      subst (StepHasSeed c.args.self.now.seed) c.in-Ended.is (c.in_ok-member-in-Some-default.ensures.seed before) in (
-        rw c.in_ok-push-in-Ended.ensures.items (all_push (MemberHasSeed c.args.self.now.seed) _ _ member h.0),
-        rw c.take.ensures.after tt,
-      ),
-)
+returns-in_ok-push-in-Ended-clause-seed c = λ seed h.
+    let held : c.args.self.now.member ≡ Some c.in-Some-default.member = search rules in
+    let before : HasSeedSoFar seed c.in-Some-default.member =
+    subst (λ (o : Option Member). MatchOption o ⊤ (HasSeedSoFar seed)) held h.2 in
+    let member : MemberHasSeed seed c.in-Ended.member =
+    subst (StepHasSeed seed) c.in-Ended.is (rw h.0 at c.in_ok-member-in-Some-default.ensures.seed before) in (
+      h.0,
+      rw c.in_ok-push-in-Ended.ensures.items (all_push (MemberHasSeed seed) _ _ member h.1),
+      rw c.take.ensures.after tt,
+    )

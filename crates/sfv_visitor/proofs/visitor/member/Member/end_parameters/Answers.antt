@@ -1,13 +1,13 @@
 use Rattle.std.proofs.Common.{subst, ◌∙◌}
 use Rattle.sfv_tree.specs.Seeds.{InnerListHasSeed, ItemHasSeed}
-use Rattle.sfv_visitor.specs.Builders.{MemberSoFarHasSeed}
+use Rattle.sfv_visitor.specs.Builders.{HasSeedSoFar}
 use Rattle.sfv_visitor.proofs.Seeded.{all_push}
 use Rattle.sfv_visitor.proofs.visitor.member.Member.end_parameters.Goals as goal
 
 pub returns-in_ok-push-in-InnerParams-clause-seed : goal.returns-in_ok-push-in-InnerParams-clause-seed
 returns-in_ok-push-in-InnerParams-clause-seed c = λ seed h.
     let l : InnerListHasSeed seed c.in-InnerParams.list × ItemHasSeed seed c.in-InnerParams.item =
-    subst (MemberSoFarHasSeed seed) c.in-InnerParams.is h in (
+    subst (HasSeedSoFar seed) c.in-InnerParams.is h in (
       l.0.0,
       rw c.in_ok-push-in-InnerParams.ensures.items
           (all_push (ItemHasSeed seed) _ _ (c.fit_after-in-InnerParams.ensures.seed ∙ l.1) l.0.1),
