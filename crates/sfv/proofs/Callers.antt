@@ -31,11 +31,11 @@ use Rattle.sfv_spec.specs.declared.error_kind.ErrorKind.{ErrorKind}
 use Rattle.sfv_base.specs.declared.error.Error.{Error}
 use Rattle.sfv_base.specs.Errors.{index_of, kind_of, out_of_memory}
 use Rattle.sfv_tree.specs.Trees.{list_tree, dictionary_tree}
-use Rattle.sfv_visitor.specs.Builders.{between, between_pairs, list_state, list_step, list_members, dictionary_state}
+use Rattle.sfv_visitor.specs.Builders.{complete, list_state, list_step, dictionary_state}
 use Rattle.sfv_visitor.specs.Builders.{IsListUnder, IsDictionaryUnder, StaysUnder}
 use Rattle.sfv_tree.specs.Seeds.{ListHasSeed, DictionaryHasSeed}
 use Rattle.sfv_tree.specs.declared.hash_seed.HashSeed.{HashSeed}
-use Rattle.sfv_visitor.specs.Builders.{dictionary_step, dictionary_members}
+use Rattle.sfv_visitor.specs.Builders.{dictionary_step}
 use Rattle.sfv_tree.specs.declared.parsed.ListEntry.{ListEntry}
 use Rattle.sfv_visitor.specs.declared.visitor.list_builder.ListBuilder.{ListBuilder}
 use Rattle.sfv_visitor.specs.declared.visitor.dictionary_builder.DictionaryBuilder.{DictionaryBuilder}
@@ -220,9 +220,9 @@ located_error version kind t e index (inr h) here =
 
 -- a further line of a list: its members stand after those that the builder was given
 pub list_after : {E : Type 0} (version : Version) (t : List ℕ) (held : List RawMember) (from : ListBuilder)
-    (r : Result (Vec ListEntry Global) E) → list_state from ≡ between held
+    (r : Result (Vec ListEntry Global) E) → list_state from ≡ (held, None)
     → IfOk r (IsAnswerOf (λ (s : ListBuilder) e after. (list_state after ≡ list_step (list_state s) e)
-    × StaysUnder IsListUnder s after) (λ s (list : Vec ListEntry Global). (list_tree list.items ≡ list_members (list_state s))
+    × StaysUnder IsListUnder s after) (λ s (list : Vec ListEntry Global). (list_tree list.items ≡ complete (list_state s))
     × ((seed : HashSeed) → IsListUnder seed s → ListHasSeed seed list.items)) version list_field t from)
     → IfOk r (λ list. (raw : List RawMember) × IsFieldText version list_field raw t
     × (list_tree list.items ≡ held ++ ordered list_field raw))
@@ -232,11 +232,11 @@ list_after version t held from r here = IfOk-weaker r _ _ (λ list h.
 -- a further line of a dictionary: as if its members stood after those that the builder was given
 pub dictionary_after : {E : Type 0} (version : Version) (t : List ℕ) (held : List (List ℕ × RawMember))
     (from : DictionaryBuilder) (r : Result (IndexMap (List ℕ) ListEntry HashSeed) E) → IsOrdered dictionary_field held
-    → dictionary_state from ≡ between_pairs held
+    → dictionary_state from ≡ (held, None)
     → IfOk r (IsAnswerOf (λ (s : DictionaryBuilder) e after. (dictionary_state after
     ≡ dictionary_step (dictionary_state s) e) × StaysUnder IsDictionaryUnder s after)
     (λ s (dictionary : IndexMap (List ℕ) ListEntry HashSeed). (dictionary_tree dictionary.entries
-    ≡ dictionary_members (dictionary_state s)) × ((seed : HashSeed) → IsDictionaryUnder seed s
+    ≡ complete (dictionary_state s)) × ((seed : HashSeed) → IsDictionaryUnder seed s
     → DictionaryHasSeed seed dictionary)) version dictionary_field t from)
     → IfOk r (λ dictionary. (raw : List (List ℕ × RawMember)) × IsFieldText version dictionary_field raw t
     × (dictionary_tree dictionary.entries ≡ ordered dictionary_field (held ++ raw)))

@@ -1,17 +1,17 @@
 -- A member after an event is complete or not.
 use Rattle.std.proofs.Common.{◌≡◌, ℕ, true, false, List, rules}
-use Rattle.std.specs.Prelude.{Bool, ◌||◌, IsTrue}
+use Rattle.std.specs.Prelude.{Bool, Some, ◌||◌, IsTrue}
 use native.Mathlib.Omega.{arith}
 use Rattle.sfv_spec.specs.Events.{TreeEvent}
 use Rattle.sfv_spec.specs.Values.{RawMember}
-use Rattle.sfv_visitor.specs.Builders.{member_state, member_step, within_pair, settle_pair, ended, ends}
+use Rattle.sfv_visitor.specs.Builders.{member_state, member_step, settle_pair, ended, ends}
 use Rattle.sfv_visitor.specs.Events.{event_of, is_moved}
 use Rattle.sfv_visitor.specs.declared.visitor.member.Member.{Member}
 use Rattle.sfv_visitor.specs.declared.visitor.Event.{Event}
 
 -- an incomplete member does not go in
 pub settles_pair : (ms : List (List ℕ × RawMember)) (key : List ℕ) (p : Member)
-    → settle_pair ms key (member_state p) ≡ within_pair ms key (member_state p)
+    → settle_pair ms key (member_state p) ≡ (ms, Some (key, member_state p))
 settles_pair ms key p = grind arith
 
 -- a member that is complete after an event ends there

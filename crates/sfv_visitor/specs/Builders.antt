@@ -1,6 +1,6 @@
 -- The steps of the builders of owned trees.
 use Rattle.std.specs.Prelude.{◌≡◌, ⊤, MatchOption}
-use Rattle.std.specs.Prelude.{ℕ, List, [], ◌∷◌, ◌++◌, Bool, true, false, ◌&&◌, ◌||◌, Option, Some, None, is_none}
+use Rattle.std.specs.Prelude.{ℕ, List, [], ◌∷◌, ◌++◌, Bool, true, false, ◌&&◌, ◌||◌, Option, Some, None, is_none, option_map}
 use Rattle.std.specs.Prelude.{bytes_eq}
 use Rattle.std.specs.Map.{lookup}
 use Rattle.indexmap.specs.IndexMap.{insert_entry}
@@ -123,80 +123,62 @@ IsItemUnder seed b = (b.seed ≡ seed) × StepHasSeed seed b.item
 abbrev pub StaysUnder : {B : Type 0} → (HashSeed → B → Type 0) → B → B → Type 0
 StaysUnder is_under s after = (seed : HashSeed) → is_under seed s → is_under seed after
 
--- the state of a list's builder, with the complete members: between two members, or within one
-pub data ListState : Type 0 where
-  between : List RawMember → ListState
-  within : List RawMember → MemberState → ListState
+-- the complete members of a state
+abbrev pub complete : {A B : Type 0} → A × B → A
+complete s = s.0
 
--- a complete member is appended to the list
+-- the state of a list's builder: the complete members, and the current member, if there is one
+abbrev pub ListState : Type 0
+ListState = List RawMember × Option MemberState
+
+-- a member that has ended is appended to the list
 abbrev pub settle : List RawMember → MemberState → ListState
-settle ms (ended m) = between (ms ++ m ∷ [])
-settle ms p = within ms p
+settle ms (ended m) = (ms ++ m ∷ [], None)
+settle ms p = (ms, Some p)
 
 -- the state after an event; every other event changes nothing
 abbrev pub list_step : ListState → TreeEvent → ListState
-list_step (between ms) entry = within ms begun
-list_step (between ms) e = between ms
-list_step (within ms p) e = settle ms (member_step p e)
+list_step (ms, Some p) e = settle ms (member_step p e)
+list_step (ms, None) entry = (ms, Some begun)
+list_step s e = s
 
 -- the event allocates here: within the member, or because the member ends and goes into the list
 abbrev pub list_takes_memory : ListState → TreeEvent → Bool
-list_takes_memory (between ms) e = false
-list_takes_memory (within ms p) e = takes_memory p e || ends p e
-
--- the complete members
-abbrev pub list_members : ListState → List RawMember
-list_members (between ms) = ms
-list_members (within ms p) = ms
-
--- the state with these complete members and the current member
-abbrev pub list_shown : List RawMember → Option Member → ListState
-list_shown ms None = between ms
-list_shown ms (Some p) = within ms (member_state p)
+list_takes_memory (ms, Some p) e = takes_memory p e || ends p e
+list_takes_memory s e = false
 
 -- the state of a builder, with the list so far
 abbrev pub list_state : ListBuilder → ListState
-list_state b = list_shown (list_tree b.list.items) b.member
+list_state b = (list_tree b.list.items, option_map member_state b.member)
 
 -- the builder adds maps under this seed, and those that it has hash under it
 abbrev pub IsListUnder : HashSeed → ListBuilder → Type 0
 IsListUnder seed b = (b.seed ≡ seed) × ListHasSeed seed b.list.items × MatchOption b.member ⊤ (HasSeedSoFar seed)
 
--- the state of a dictionary's builder, with the complete pairs: between two pairs, or within the member of a key
-pub data DictionaryState : Type 0 where
-  between_pairs : List (List ℕ × RawMember) → DictionaryState
-  within_pair : List (List ℕ × RawMember) → List ℕ → MemberState → DictionaryState
+-- the state of a dictionary's builder: the complete members, and the current member, if there is one, with their keys
+abbrev pub DictionaryState : Type 0
+DictionaryState = List (List ℕ × RawMember) × Option (List ℕ × MemberState)
 
--- A complete member is inserted: an existing key keeps its place and gets the new member, and a new key goes last.
+-- A member that has ended is inserted: an existing key keeps its place and gets the new member; a new key goes last.
 abbrev pub settle_pair : List (List ℕ × RawMember) → List ℕ → MemberState → DictionaryState
-settle_pair ms key (ended m) = between_pairs (insert_entry bytes_eq ms key m)
-settle_pair ms key p = within_pair ms key p
+settle_pair ms key (ended m) = (insert_entry bytes_eq ms key m, None)
+settle_pair ms key p = (ms, Some (key, p))
 
 -- the state after an event; every other event changes nothing
 abbrev pub dictionary_step : DictionaryState → TreeEvent → DictionaryState
-dictionary_step (between_pairs ms) (keyed_entry key) = within_pair ms key begun
-dictionary_step (between_pairs ms) e = between_pairs ms
-dictionary_step (within_pair ms key p) e = settle_pair ms key (member_step p e)
+dictionary_step (ms, Some (key, p)) e = settle_pair ms key (member_step p e)
+dictionary_step (ms, None) (keyed_entry key) = (ms, Some (key, begun))
+dictionary_step s e = s
 
 -- the event allocates here: a key is copied; within the member; or because the member ends and has a new key
 abbrev pub dictionary_takes_memory : DictionaryState → TreeEvent → Bool
-dictionary_takes_memory (between_pairs ms) (keyed_entry key) = true
-dictionary_takes_memory (between_pairs ms) e = false
-dictionary_takes_memory (within_pair ms key p) e = takes_memory p e || (ends p e && is_none (lookup (bytes_eq key) ms))
-
--- the complete pairs
-abbrev pub dictionary_members : DictionaryState → List (List ℕ × RawMember)
-dictionary_members (between_pairs ms) = ms
-dictionary_members (within_pair ms key p) = ms
-
--- the state with these complete pairs and the current member, with its key
-abbrev pub dictionary_shown : List (List ℕ × RawMember) → Option (List ℕ × Member) → DictionaryState
-dictionary_shown ms None = between_pairs ms
-dictionary_shown ms (Some (key, p)) = within_pair ms key (member_state p)
+dictionary_takes_memory (ms, Some (key, p)) e = takes_memory p e || (ends p e && is_none (lookup (bytes_eq key) ms))
+dictionary_takes_memory (ms, None) (keyed_entry key) = true
+dictionary_takes_memory s e = false
 
 -- the state of a builder, with the dictionary so far
 abbrev pub dictionary_state : DictionaryBuilder → DictionaryState
-dictionary_state b = dictionary_shown (dictionary_tree b.dictionary.entries) b.member
+dictionary_state b = (dictionary_tree b.dictionary.entries, option_map (λ m. (m.0, member_state m.1)) b.member)
 
 -- the dictionary, its members and the current member hash under this seed
 abbrev pub IsDictionaryUnder : HashSeed → DictionaryBuilder → Type 0

@@ -22,7 +22,7 @@ use Rattle.sfv_spec.proofs.Runs.{runs_fold}
 use Rattle.sfv_tree.specs.Trees.{dictionary_tree}
 use Rattle.sfv_visitor.specs.Builders.{MemberState, begun, item_head, item_parameters, inner_items, inner_head}
 use Rattle.sfv_visitor.specs.Builders.{inner_parameters, list_parameters, ended, member_step, DictionaryState}
-use Rattle.sfv_visitor.specs.Builders.{between_pairs, within_pair, settle_pair, dictionary_step, dictionary_members}
+use Rattle.sfv_visitor.specs.Builders.{settle_pair, dictionary_step, complete}
 use Rattle.sfv_visitor.specs.Builders.{dictionary_state}
 use Rattle.sfv_tree.specs.declared.parsed.ListEntry.{ListEntry}
 use Rattle.sfv_visitor.specs.declared.visitor.dictionary_builder.DictionaryBuilder.{DictionaryBuilder}
@@ -72,8 +72,12 @@ abbrev Steps : DictionaryBuilder → TreeEvent → DictionaryBuilder → Type 0
 Steps s e after = (dictionary_state after ≡ dictionary_step (dictionary_state s) e) × StaysUnder IsDictionaryUnder s after
 
 abbrev Ends : DictionaryBuilder → IndexMap (List ℕ) ListEntry HashSeed → Type 0
-Ends s dictionary = (dictionary_tree dictionary.entries ≡ dictionary_members (dictionary_state s))
+Ends s dictionary = (dictionary_tree dictionary.entries ≡ complete (dictionary_state s))
     × ((seed : HashSeed) → IsDictionaryUnder seed s → DictionaryHasSeed seed dictionary)
+
+-- no member is current
+abbrev pub between_pairs : List (List ℕ × RawMember) → DictionaryState
+between_pairs ms = (ms, None)
 
 within_each : (ms : List (List ℕ × RawMember)) (key : List ℕ) (p : MemberState) (e : TreeEvent) → IsOpen p
     → dictionary_step (settle_pair ms key p) e ≡ settle_pair ms key (member_step p e)
@@ -87,7 +91,7 @@ within_each ms key (list_parameters l) e h = refl
 within_each ms key (ended m) e h = absurd h
 
 pair_built : (ms : List (List ℕ × RawMember)) (key : List ℕ) (m : RawMember)
-    → fold dictionary_step (within_pair (collapse ms) key begun) (member_events m)
+    → fold dictionary_step (collapse ms, Some (key, begun)) (member_events m)
     ≡ between_pairs (collapse (ms ++ (key, ordered_member m) ∷ []))
 pair_built ms key m =
     member_built dictionary_step (settle_pair (collapse ms) key) (within_each (collapse ms) key) m
@@ -99,7 +103,7 @@ pairs_built : (ms raw : List (List ℕ × RawMember))
     ≡ between_pairs (collapse (ms ++ ordered_pairs raw))
 pairs_built ms [] = ap (λ (qs : List (List ℕ × RawMember)). between_pairs (collapse qs)) (sym (append-nil ms))
 pairs_built ms (m ∷ raw) =
-    fold-append dictionary_step (within_pair (collapse ms) m.0 begun) (member_events m.1) (events dictionary_field raw)
+    fold-append dictionary_step (collapse ms, Some (m.0, begun)) (member_events m.1) (events dictionary_field raw)
     ∙ ap (λ (p : DictionaryState). fold dictionary_step p (events dictionary_field raw)) (pair_built ms m.0 m.1)
     ∙ pairs_built (ms ++ (m.0, ordered_member m.1) ∷ []) raw
     ∙ ap (λ (qs : List (List ℕ × RawMember)). between_pairs (collapse qs))
@@ -141,7 +145,7 @@ built_dictionary_after version t held from dictionary distinct here h =
     let whole : dictionary_state h.holds.last ≡ between_pairs (collapse (held ++ ordered_pairs h.raw)) =
     dictionary_built held h.raw from h.holds.last distinct here h.holds.taken in
     let there : dictionary_tree dictionary.entries ≡ collapse (held ++ ordered_pairs h.raw) = h.holds.answered.0
-    ∙ ap dictionary_members whole in (
+    ∙ ap complete whole in (
       h.raw,
       h.accepted,
       h.only,

@@ -1,6 +1,6 @@
 -- The builder of a list: after all events of a tree it has the ordered members after those that it was given.
 use Rattle.std.proofs.Common.{◌≡◌, ℕ, List, [], ◌∷◌, ◌++◌, map, refl, sym, ap, ◌∙◌, append_assoc}
-use Rattle.std.specs.Prelude.{fold}
+use Rattle.std.specs.Prelude.{Some, None, fold}
 use Rattle.std.specs.declared.alloc.Global.{Global}
 use Rattle.std.specs.declared.vec.Vec.{Vec}
 use Rattle.std.proofs.lemmas.List.{append-nil}
@@ -16,8 +16,8 @@ use Rattle.sfv_spec.specs.Visiting.{RunsTo}
 use Rattle.sfv_spec.proofs.Runs.{runs_fold}
 use Rattle.sfv_tree.specs.Trees.{list_tree}
 use Rattle.sfv_visitor.specs.Builders.{MemberState, begun, item_head, item_parameters, inner_items, inner_head}
-use Rattle.sfv_visitor.specs.Builders.{inner_parameters, list_parameters, ended, member_step, ListState, between, within}
-use Rattle.sfv_visitor.specs.Builders.{settle, list_step, list_members, list_state}
+use Rattle.sfv_visitor.specs.Builders.{inner_parameters, list_parameters, ended, member_step, ListState}
+use Rattle.sfv_visitor.specs.Builders.{settle, list_step, complete, list_state}
 use Rattle.sfv_tree.specs.declared.parsed.ListEntry.{ListEntry}
 use Rattle.sfv_visitor.specs.declared.visitor.list_builder.ListBuilder.{ListBuilder}
 use Rattle.sfv.specs.Parsers.{IsAnswerOf}
@@ -35,8 +35,12 @@ abbrev Steps : ListBuilder → TreeEvent → ListBuilder → Type 0
 Steps s e after = (list_state after ≡ list_step (list_state s) e) × StaysUnder IsListUnder s after
 
 abbrev Ends : ListBuilder → Vec ListEntry Global → Type 0
-Ends s list = (list_tree list.items ≡ list_members (list_state s))
+Ends s list = (list_tree list.items ≡ complete (list_state s))
     × ((seed : HashSeed) → IsListUnder seed s → ListHasSeed seed list.items)
+
+-- no member is current
+abbrev pub between : List RawMember → ListState
+between ms = (ms, None)
 
 within_each : (ms : List RawMember) (p : MemberState) (e : TreeEvent) → IsOpen p
     → list_step (settle ms p) e ≡ settle ms (member_step p e)
@@ -53,7 +57,7 @@ members_built : (ms raw : List RawMember) → fold list_step (between ms) (event
     ≡ between (ms ++ ordered list_field raw)
 members_built ms [] = ap between (sym (append-nil ms))
 members_built ms (m ∷ raw) =
-    fold-append list_step (within ms begun) (member_events m) (events list_field raw)
+    fold-append list_step (ms, Some begun) (member_events m) (events list_field raw)
     ∙ ap (λ (p : ListState). fold list_step p (events list_field raw))
     (member_built list_step (settle ms) (within_each ms) m)
     ∙ members_built (ms ++ ordered_member m ∷ []) raw
@@ -78,7 +82,7 @@ pub built_list_after : (version : Version) (t : List ℕ) (held : List RawMember
 built_list_after version t held from list here h =
     let whole : list_state h.holds.last ≡ between (held ++ ordered list_field h.raw) =
     list_built held h.raw from h.holds.last here h.holds.taken in
-    (h.raw, h.accepted, h.only, h.holds.answered.0 ∙ ap list_members whole)
+    (h.raw, h.accepted, h.only, h.holds.answered.0 ∙ ap complete whole)
 
 -- what was built is the ordered list of the only tree
 pub built_list : (version : Version) (t : List ℕ) (from : ListBuilder) (list : Vec ListEntry Global)

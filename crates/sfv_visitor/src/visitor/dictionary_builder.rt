@@ -1,12 +1,12 @@
 //! The visitor that builds a dictionary.
 
-ghost use Rattle.std.specs.Prelude.{◌≡◌, ⊤, false, OnOk, OnErr, IsTrue};
+ghost use Rattle.std.specs.Prelude.{◌≡◌, ⊤, false, None, OnOk, OnErr, IsTrue};
 ghost use Rattle.sfv_tree.specs.Seeds.{DictionaryHasSeed};
 ghost use Rattle.sfv_tree.specs.Trees.{dictionary_tree};
 ghost use Rattle.sfv_tree.specs.declared.hash_seed.HashSeed.{HashSeed};
 ghost use Rattle.sfv_visitor.specs.Events.{event_of, is_moved};
-ghost use Rattle.sfv_visitor.specs.Builders.{dictionary_step, dictionary_state, dictionary_members};
-ghost use Rattle.sfv_visitor.specs.Builders.{between_pairs, dictionary_takes_memory};
+ghost use Rattle.sfv_visitor.specs.Builders.{complete, dictionary_step, dictionary_state};
+ghost use Rattle.sfv_visitor.specs.Builders.{dictionary_takes_memory};
 ghost use Rattle.sfv_visitor.specs.Builders.{IsDictionaryUnder, StaysUnder};
 
 use crate::visitor::member::{Member, Step};
@@ -33,7 +33,7 @@ impl DictionaryBuilder {
     /// Creates a builder that begins with `dictionary`, and uses its allocator and its hash seed. To join several
     /// lines of a field, pass the dictionary of the earlier lines.
     pub fn new(dictionary: Dictionary) -> DictionaryBuilder
-        ensures state { dictionary_state result ≡ between_pairs (dictionary_tree dictionary.entries) }
+        ensures state { dictionary_state result ≡ (dictionary_tree dictionary.entries, None) }
         ensures seed { (seed : HashSeed) → DictionaryHasSeed seed dictionary → IsDictionaryUnder seed result }
     {
         DictionaryBuilder {
@@ -89,7 +89,7 @@ impl<'de> Visitor<'de> for DictionaryBuilder {
 
     ghost fails_read = { λ _ event _. is_moved event ≡ false };
 
-    ghost finishes = { λ s dictionary. (dictionary_tree dictionary.entries ≡ dictionary_members (dictionary_state s))
+    ghost finishes = { λ s dictionary. (dictionary_tree dictionary.entries ≡ complete (dictionary_state s))
         × ((seed : HashSeed) → IsDictionaryUnder seed s → DictionaryHasSeed seed dictionary) };
 
     ghost finish_fails = { λ _ _. ⊥ };

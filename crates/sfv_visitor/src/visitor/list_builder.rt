@@ -1,11 +1,11 @@
 //! The visitor that builds a list.
 
-ghost use Rattle.std.specs.Prelude.{◌≡◌, ⊤, false, OnOk, OnErr, IsTrue};
+ghost use Rattle.std.specs.Prelude.{◌≡◌, ⊤, false, None, OnOk, OnErr, IsTrue};
 ghost use Rattle.sfv_tree.specs.Seeds.{ListHasSeed};
 ghost use Rattle.sfv_tree.specs.Trees.{list_tree};
 ghost use Rattle.sfv_tree.specs.declared.hash_seed.HashSeed.{HashSeed};
 ghost use Rattle.sfv_visitor.specs.Events.{event_of, is_moved};
-ghost use Rattle.sfv_visitor.specs.Builders.{between, list_step, list_state, list_members, list_takes_memory};
+ghost use Rattle.sfv_visitor.specs.Builders.{complete, list_step, list_state, list_takes_memory};
 ghost use Rattle.sfv_visitor.specs.Builders.{IsListUnder, StaysUnder};
 
 use crate::visitor::member::{Member, Step};
@@ -34,7 +34,7 @@ impl ListBuilder {
     /// Creates a builder that begins with `list` and uses its allocator. It builds parameters under `seed`. To join
     /// several lines of a field, pass the list of the earlier lines.
     pub fn new(list: List, seed: HashSeed) -> ListBuilder
-        ensures state { list_state result ≡ between (list_tree list.items) }
+        ensures state { list_state result ≡ (list_tree list.items, None) }
         ensures seed { ListHasSeed seed list.items → IsListUnder seed result }
     {
         ListBuilder {
@@ -82,7 +82,7 @@ impl<'de> Visitor<'de> for ListBuilder {
 
     ghost fails_read = { λ _ event _. is_moved event ≡ false };
 
-    ghost finishes = { λ s list. (list_tree list.items ≡ list_members (list_state s))
+    ghost finishes = { λ s list. (list_tree list.items ≡ complete (list_state s))
         × ((seed : HashSeed) → IsListUnder seed s → ListHasSeed seed list.items) };
 
     ghost finish_fails = { λ _ _. ⊥ };

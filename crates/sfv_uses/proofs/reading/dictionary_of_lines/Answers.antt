@@ -8,7 +8,7 @@ use Rattle.sfv.specs.Types.{HashSeed, DictionaryBuilder, ListEntry}
 use Rattle.sfv.specs.Maps.{IndexMap}
 use Rattle.sfv.specs.Seeds.{DictionaryHasSeed}
 use Rattle.sfv.proofs.Callers.{dictionary_after, dictionary_seeded, read_is_value}
-use Rattle.sfv.specs.Builders.{dictionary_state, dictionary_step, dictionary_members, IsDictionaryUnder, StaysUnder}
+use Rattle.sfv.specs.Builders.{dictionary_state, dictionary_step, complete, IsDictionaryUnder, StaysUnder}
 use Rattle.sfv_uses.proofs.Uses.{second_fails}
 use Rattle.sfv_uses.proofs.reading.dictionary_of_lines.Goals as goal
 
@@ -38,7 +38,7 @@ returns-clause-rejected c =
     second_fails dictionary_field (λ (s : DictionaryBuilder) e after.
     (dictionary_state after ≡ dictionary_step (dictionary_state s) e) × StaysUnder IsDictionaryUnder s after)
     (λ s (dictionary : IndexMap (List ℕ) ListEntry HashSeed). (dictionary_tree dictionary.entries
-    ≡ dictionary_members (dictionary_state s)) × ((seed : HashSeed) → IsDictionaryUnder seed s
+    ≡ complete (dictionary_state s)) × ((seed : HashSeed) → IsDictionaryUnder seed s
     → DictionaryHasSeed seed dictionary)) c.args.first.now c.args.second.now
     c.new-builder.result c.parse_dictionary_with_visitor.result (read.raw, read.accepted)
     (rw c.new-2.ensures at c.parse_dictionary_with_visitor.ensures.syntax)
