@@ -14,6 +14,6 @@ pub use sfv_reading::{
     fault_rejects, field_or_fault, joined_lines, one_fault, ruled_or_at_reach, true_is_wanted,
 };
 pub use sfv_spec::{
-    accepted_is_value, equal_texts, length_bound, newer_accepts, older_reads_back, one_field, one_reach,
-    round_trip, some_reach, text_again,
+    accepted_is_value, equal_texts, length_bound, newer_accepts, older_reads_back, one_field,
+    one_reach, round_trip, some_reach, text_again,
 };
