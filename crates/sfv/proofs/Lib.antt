@@ -7,5 +7,6 @@ pub mod Memory
 pub mod Expected
 pub mod LastRead
 pub mod Fields
+pub mod Lines
 mod Beginnings
 pub mod Callers

@@ -1,3 +1,4 @@
+pub mod Lines
 pub mod base64
 pub mod complete
 pub mod local

@@ -9,7 +9,7 @@ use Rattle.sfv.specs.Values.{BareValue, integer}
 use Rattle.sfv.specs.Types.{FieldKind, item_field, list_field, dictionary_field}
 use Rattle.sfv.specs.Types.{Rfc9651}
 use Rattle.sfv.specs.Values.{string, token}
-use Rattle.sfv.specs.Values.{RawParameters, RawItem, RawMember}
+use Rattle.sfv.specs.Values.{RawField, HasMember, RawParameters, RawItem, RawMember}
 use Rattle.sfv.specs.Values.{item, inner_list}
 use Rattle.sfv.specs.Grammar.{IsFieldText, IsAccepted, StandsFirst}
 use Rattle.sfv.specs.Ordered.{ordered, last_of}
@@ -46,6 +46,11 @@ pub record IsExplained (t text : List ℕ) : Type 0 where
   pub index : ℕ
   pub located : IsFaultAt Rfc9651 list_field t fault index
   pub text_is : text ≡ repeat index (codes " ") ++ codes "^ " ++ message_of fault
+
+-- if both lines have a member, the value is that of the lines joined by a comma and a space
+abbrev pub IsOfOneLine : (kind : FieldKind) → List ℕ → List ℕ → RawField kind → Type 0
+IsOfOneLine kind first second value = (a b : RawField kind) → IsFieldText Rfc9651 kind a first → HasMember kind a
+    → IsFieldText Rfc9651 kind b second → HasMember kind b → IsParsedAs Rfc9651 kind (first ++ codes ", " ++ second) value
 
 -- the error of `parse` for the first of two lines that is rejected, or out of memory
 abbrev pub IsErrorOfLines : FieldKind → List ℕ → List ℕ → ParseError OutOfMemory → Type 0

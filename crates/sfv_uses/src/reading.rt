@@ -13,7 +13,7 @@ ghost use Rattle.sfv.specs.Parsers.{IsParseError};
 ghost use Rattle.sfv.specs.NumberValues.{integer_of};
 ghost use Rattle.sfv.specs.Seeds.{ListHasSeed, DictionaryHasSeed};
 ghost use Rattle.sfv_uses.specs.Uses.{IsExplained, HasIntegerOr, parameters_of, param_in, HasParam};
-ghost use Rattle.sfv_uses.specs.Uses.{IsListOfBoth, IsDictionaryOfBoth, IsErrorOfLines};
+ghost use Rattle.sfv_uses.specs.Uses.{IsListOfBoth, IsDictionaryOfBoth, IsOfOneLine, IsErrorOfLines};
 
 use sfv::visitor::{DictionaryBuilder, ListBuilder};
 use sfv::{
@@ -133,6 +133,7 @@ pub fn list_of_lines(
     second: &[u8],
 ) -> Result<List, ParseError<OutOfMemory>>
     ensures joined { IfOk result (λ list. IsListOfBoth first.now second.now (list_tree list.items)) }
+    ensures one_line { IfOk result (λ list. IsOfOneLine list_field first.now second.now (list_tree list.items)) }
     ensures seed { IfOk result (λ list. ListHasSeed seed list.items) }
     ensures rejected { IfErr result (IsErrorOfLines list_field first.now second.now) }
 {
@@ -156,6 +157,8 @@ pub fn dictionary_of_lines(
 ) -> Result<Dictionary, ParseError<OutOfMemory>>
     ensures joined { IfOk result
         (λ dictionary. IsDictionaryOfBoth first.now second.now (dictionary_tree dictionary.entries)) }
+    ensures one_line { IfOk result
+        (λ dictionary. IsOfOneLine dictionary_field first.now second.now (dictionary_tree dictionary.entries)) }
     ensures seed { IfOk result (DictionaryHasSeed seed) }
     ensures rejected { IfErr result (IsErrorOfLines dictionary_field first.now second.now) }
 {

@@ -91,14 +91,6 @@ text-append (a ∷ b ∷ c ∷ rest) ys n =
     let m : length rest % 3 ≡ 0 = omega (arith, n) in
     cc (text-append rest ys m)
 
--- how long a text is
-pub text_len : (bytes : List ℕ) → length (base64_text bytes) ≡ (length bytes + 2) / 3 * 4
-unfolding base64_text
-text_len [] = refl
-text_len (a ∷ []) = refl
-text_len (a ∷ b ∷ []) = refl
-text_len (a ∷ b ∷ c ∷ rest) = omega (arith, text_len rest)
-
 -- ---- the text so far
 
 -- The text of the bytes before the rest is appended.

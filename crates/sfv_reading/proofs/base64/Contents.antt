@@ -8,6 +8,7 @@ use Rattle.std.proofs.lemmas.Bool.{and_parts, eqb-true, eqb-false, not-true, bot
 use Rattle.std.proofs.lemmas.List.{length-append, length-map, length-replicate, append-nil, nil_from_length, take_at}
 use Rattle.std.proofs.lemmas.List.{length-take-le}
 use Rattle.std.proofs.lemmas.List.Folds.{list_all-append}
+use Rattle.sfv_spec.proofs.Lengths.{length-all_bits}
 use Rattle.sfv_spec.proofs.Marks.{colon, equals_sign, upper_a}
 use Rattle.sfv_spec.specs.Texts.{IsLongestBeginning}
 use Rattle.sfv_spec.specs.Base64.{symbol, bits, IsBase64Text}
@@ -49,20 +50,6 @@ well_formed run padding h most one =
       few_spare = omega (arith, counted, few_spare (length run));
       padded = omega (arith, counted, most);
     }
-
-length-bits : (k n : ℕ) → length (bits k n) ≡ k
-unfolding bits
-length-bits zero n = refl
-length-bits (suc k) n = ap suc (length-bits k n)
-
-length-all_bits : (k : ℕ) (ns : List ℕ) → length (flat_map (bits k) ns) ≡ k * length ns
-length-all_bits k [] = omega arith
-length-all_bits k (n ∷ ns) = omega (
-  arith,
-  length-append (bits k n) (flat_map (bits k) ns),
-  length-bits k n,
-  length-all_bits k ns,
-)
 
 -- how many symbols and how much padding a text of Base64 has
 pub counted : (bytes t : List ℕ) (h : IsBase64Text bytes t)

@@ -7,7 +7,7 @@ use Rattle.sfv.specs.Trees.{dictionary_tree}
 use Rattle.sfv.specs.Types.{HashSeed, DictionaryBuilder, ListEntry}
 use Rattle.sfv.specs.Maps.{IndexMap}
 use Rattle.sfv.specs.Seeds.{DictionaryHasSeed}
-use Rattle.sfv.proofs.Callers.{dictionary_after, dictionary_seeded, read_is_value}
+use Rattle.sfv.proofs.Callers.{dictionary_in_lines, dictionary_after, dictionary_seeded, read_is_value}
 use Rattle.sfv.specs.Builders.{dictionary_state, dictionary_step, complete, IsDictionaryUnder, StaysUnder}
 use Rattle.sfv_uses.proofs.Uses.{second_fails}
 use Rattle.sfv_uses.proofs.reading.dictionary_of_lines.Goals as goal
@@ -22,6 +22,11 @@ returns-clause-joined c =
     let past = dictionary_after Rfc9651 c.args.second.now held c.new-builder.result
     c.parse_dictionary_with_visitor.result distinct c.new-builder.ensures.state second in
     IfOk-weaker c.parse_dictionary_with_visitor.result _ _ (λ dictionary h. (held, h.0, first, h.1, h.2)) past
+
+pub returns-clause-one_line : goal.returns-clause-one_line
+returns-clause-one_line c = IfOk-weaker c.parse_dictionary_with_visitor.result _ _ (λ dictionary h a b first m second n.
+    rw h.4 (dictionary_in_lines Rfc9651 c.args.first.now c.args.second.now h.0 h.1 a b h.2 h.3 first m second n))
+    (returns-clause-joined c)
 
 pub returns-clause-seed : goal.returns-clause-seed
 returns-clause-seed c =

@@ -9,7 +9,7 @@ use Rattle.sfv.specs.Trees.{list_tree}
 use Rattle.sfv.specs.Seeds.{ListHasSeed}
 use Rattle.sfv.specs.Builders.{list_state, list_step, complete, IsListUnder, StaysUnder}
 use Rattle.sfv.specs.Types.{HashSeed, ListBuilder, ListEntry}
-use Rattle.sfv.proofs.Callers.{list_after, list_seeded}
+use Rattle.sfv.proofs.Callers.{list_in_lines, list_after, list_seeded}
 use Rattle.sfv_uses.proofs.Uses.{second_fails}
 use Rattle.sfv_uses.proofs.reading.list_of_lines.Goals as goal
 
@@ -21,6 +21,11 @@ returns-clause-joined c =
     c.new-builder.ensures.state second in
     IfOk-weaker c.parse_list_with_visitor.result _ _ (λ list h.
     (held, h.0, rw (c.with_hash_seed-parser.ensures, c.new.ensures) at c.in_ok-held.ensures.read, h.1, h.2)) past
+
+pub returns-clause-one_line : goal.returns-clause-one_line
+returns-clause-one_line c = IfOk-weaker c.parse_list_with_visitor.result _ _ (λ list h a b first m second n.
+    rw h.4 (list_in_lines Rfc9651 c.args.first.now c.args.second.now h.0 h.1 a b h.2 h.3 first m second n))
+    (returns-clause-joined c)
 
 pub returns-clause-seed : goal.returns-clause-seed
 returns-clause-seed c =

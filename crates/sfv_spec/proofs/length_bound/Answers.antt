@@ -1,0 +1,5 @@
+use Rattle.sfv_spec.proofs.length_bound.Goals as goal
+use Rattle.sfv_spec.proofs.Lengths.{length_bound_lem}
+
+pub returns : goal.returns
+returns c = length_bound_lem
