@@ -1,8 +1,8 @@
 -- Writing for a version: the values that it checks, and the errors for them.
 use Rattle.std.specs.Prelude.{⊤, ◌≡◌, ◌<◌, ◌⊎◌, ◌++◌, ℕ, Bool, List, length, map, flat_map, codes, Option, Result, MatchResult}
-use Rattle.std.specs.Prelude.{IsTrue}
+use Rattle.std.specs.Prelude.{IsTrue, Some, not}
 use Rattle.std.specs.Iterator.{Yields, Drains}
-use Rattle.std.specs.List.{AllByRecursion}
+use Rattle.std.specs.List.{AllByRecursion, find}
 use Rattle.std.specs.Borrow.{Bor}
 use Rattle.std.specs.declared.string.String.{String}
 use Rattle.sfv_spec.specs.Classes.{is_key}
@@ -10,7 +10,7 @@ use Rattle.sfv_spec.specs.Canonical.{item_text, member_text, dictionary_member_t
 use Rattle.sfv_spec.specs.Ordered.{IsOrderedItem, IsOrderedMember}
 use Rattle.sfv_spec.specs.Values.{BareValue, IsItem, IsMember, AreParameters, item_values, member_values}
 use Rattle.sfv_spec.specs.declared.version.Version.{Version}
-use Rattle.sfv_spec.specs.Values.{AllFit, IsFirstUnfit}
+use Rattle.sfv_spec.specs.Values.{fits_bare, AllFit}
 use Rattle.sfv_bare.specs.BareItems.{bare_value}
 use Rattle.sfv_bare.specs.Kinds.{kind_text, kind_of_value}
 use Rattle.sfv_tree.specs.Trees.{OwnedBareItem, member_tree}
@@ -27,8 +27,8 @@ serialize_error_text errors.OutOfMemory = codes "out of memory"
 
 -- the error has the kind of the first value that the version lacks
 abbrev pub NamesFirstUnfit : Version → List BareValue → SerializeError → Type 0
-NamesFirstUnfit version values error =
-    (b : BareValue) × IsFirstUnfit version values b × (error ≡ errors.Unsupported (kind_of_value b))
+NamesFirstUnfit version values error = (b : BareValue)
+    × (find (λ v. not (fits_bare version v)) values ≡ Some b) × (error ≡ errors.Unsupported (kind_of_value b))
 
 -- the version has all values, or the error has the kind of the first that it lacks
 abbrev pub ChecksVersion : {T : Type 0} → Version → List BareValue → Result T SerializeError → Type 0

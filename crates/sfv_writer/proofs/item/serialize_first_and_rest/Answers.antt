@@ -1,7 +1,7 @@
 use Rattle.std.proofs.Common.{[], ◌∷◌, subst}
 use Rattle.indexmap.proofs.MapLemmas.{OnOk-map}
 use Rattle.sfv_spec.specs.Values.{AllFit}
-use Rattle.sfv_bare.specs.BareItems.{bare_value}
+use Rattle.sfv_bare.specs.BareItems.{bare_value, ref_value}
 use Rattle.sfv_spec.specs.Canonical.{parameters_text}
 use Rattle.sfv_writer.specs.Written.{lent_pairs, param_text}
 use Rattle.sfv_writer.specs.Versions.{parameter_pairs}
@@ -37,7 +37,8 @@ pub returns-in_err-check_bare_item-clause-room : goal.returns-in_err-check_bare_
 returns-in_err-check_bare_item-clause-room g c =
     named_lacks g.I.Iterator.next_gives c.args.rest (λ taken. parameter_pairs.values (c.args.first ∷ taken))
     c.args.version c.args.output.now (λ taken. parameters_text (lent_pairs (c.args.first ∷ taken)))
-    c.from_residual.result _ c.in_err-check_bare_item.field-0.0 c.from_residual.ensures.1
+    c.from_residual.result (ref_value c.as_ref_item.result ∷ [])
+    c.in_err-check_bare_item.field-0.0 c.from_residual.ensures.1
     c.in_err-check_bare_item.ensures
 
 pub returns-in_err-serialize_parameter-clause-room : goal.returns-in_err-serialize_parameter-clause-room

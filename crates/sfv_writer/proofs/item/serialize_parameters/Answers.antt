@@ -1,6 +1,6 @@
 use Rattle.std.proofs.Common.{[], ◌∷◌, refl, subst, arith, rules}
 use Rattle.std.specs.Iterator.{IsFinite, Yields}
-use Rattle.sfv_bare.specs.BareItems.{bare_value}
+use Rattle.sfv_bare.specs.BareItems.{bare_value, ref_value}
 use Rattle.sfv_spec.specs.Values.{AllFit}
 use Rattle.sfv_spec.specs.Canonical.{parameters_text}
 use Rattle.sfv_writer.specs.Written.{lent_pairs}
@@ -74,7 +74,8 @@ returns-in_err-serialize_parameter-clause-grows g c =
 pub returns-in_err-check_bare_item-clause-room : goal.returns-in_err-check_bare_item-clause-room
 returns-in_err-check_bare_item-clause-room g c =
     named_lacks g.I.Iterator.next_gives c.args.params parameter_pairs.values c.args.version c.args.output.now
-    (λ taken. parameters_text (lent_pairs taken)) c.from_residual.result _ c.in_err-check_bare_item.field-0.0
+    (λ taken. parameters_text (lent_pairs taken)) c.from_residual.result (ref_value c.as_ref_item.result ∷ [])
+    c.in_err-check_bare_item.field-0.0
     c.from_residual.ensures.1 c.in_err-check_bare_item.ensures
 
 pub returns-in_err-serialize_parameter-clause-room : goal.returns-in_err-serialize_parameter-clause-room
