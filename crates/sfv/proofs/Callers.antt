@@ -58,7 +58,7 @@ pub use Rattle.sfv_tree.proofs.Entered.{dictionary_tree-insert, pairs_tree-inser
 -- what an accessor of a bare item returns, as the content of the value
 pub use Rattle.sfv_bare.proofs.Parts.{decimal_part, integer_part, boolean_part, date_part, display_string_part}
 -- the pairs that an iterator over a map lends
-pub use Rattle.sfv_writer.proofs.Lent.{lent_all}
+pub use Rattle.sfv_writer.proofs.Lacks.{parameters_all}
 -- what is written of a field is read as its ordered value, repeated keys too, and what is written of a value as itself,
 -- by each version that has all that it holds: RFC 9651 has all
 pub use Rattle.sfv_writer.proofs.ReadBack.{read_back, value_read_back, serialized_is_value}

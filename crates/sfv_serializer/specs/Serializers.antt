@@ -1,8 +1,8 @@
 -- The texts of serializers.
-use Rattle.std.specs.Prelude.{◌≡◌, ◌≤◌, ◌++◌, ℕ, Bool, true, false, List, codes, Option, Result}
+use Rattle.std.specs.Prelude.{◌≡◌, ◌≤◌, ◌++◌, ℕ, Bool, true, false, List, [], codes, Option, Result}
 use Rattle.std.specs.Prelude.{string_bytes, string_len, string_capacity}
 use Rattle.std.specs.Borrow.{Bor, MutBor, RattleType, Fml, RestsIfErr}
-use Rattle.sfv_spec.specs.Canonical.{value_text, parameters_text}
+use Rattle.sfv_spec.specs.Canonical.{value_text}
 use Rattle.sfv_spec.specs.declared.version.Version.{Version}
 use Rattle.sfv_bare.specs.BareItems.{ref_value}
 use Rattle.sfv_bare.specs.declared.bare.GenericBareItem.{GenericBareItem}
@@ -11,8 +11,8 @@ use Rattle.sfv_text.specs.CheckedTexts.{text_of}
 use Rattle.sfv_text.specs.StringText.{StringRef}
 use Rattle.sfv_text.specs.TokenText.{TokenRef}
 use Rattle.sfv_tree.specs.Trees.{OwnedBareItem}
-use Rattle.sfv_writer.specs.Versions.{ElementKind, TakesAll, StopsEarly, parameter_pairs}
-use Rattle.sfv_writer.specs.Written.{Extends, IsTruncatedTo, LacksRoom, separator_before, is_first_after, lent_pairs}
+use Rattle.sfv_writer.specs.Versions.{PartKind, parts_text, TakesAll, StopsEarly, parameter_pairs}
+use Rattle.sfv_writer.specs.Written.{Extends, IsTruncatedTo, LacksRoom, separator_before, is_first_after}
 use Rattle.sfv_writer.specs.declared.serialize_error.SerializeError.{SerializeError}
 use Rattle.sfv_serializer.specs.declared.item_serializer.ItemSerializer.{ItemSerializer}
 use Rattle.sfv_serializer.specs.declared.parameter_serializer.ParameterSerializer.{ParameterSerializer}
@@ -127,14 +127,16 @@ module _ {W : Type 0} (w : Sink W) where
       (IsTruncatedTo (length_before l) (string_bytes (w.text s.sink)) (string_bytes (w.text t.sink))) s.is_first s t
 
 module _ {W K : Type 0} (w : Sink W) where
-  -- `t` is `s` with the text of all elements that the iterator gives, and the version of `s` has their values
-  abbrev pub WritesAll : {A S : Type 0} → ElementKind A → (S → Option A → S → Type 0) → S → Parts W K → Parts W K → Type 0
-  WritesAll kind gives elements s t = TakesAll kind s.version gives elements
-      (λ taken. HasAppended w s t (kind.text s.is_first taken) (is_first_after s.is_first taken))
+  -- `t` is `s` with the text of all parts that the iterator gives, and the version of `s` has their values
+  abbrev pub WritesAll : {A S : Type 0} → List ℕ → PartKind A → (S → Option A → S → Type 0) → S → Parts W K → Parts W K
+      → Type 0
+  WritesAll separator kind gives from s t = TakesAll kind s.version gives from
+      (λ taken. HasAppended w s t (parts_text kind separator s.is_first taken) (is_first_after s.is_first taken))
 
-  -- the error of appending the elements of an iterator to `s`
-  abbrev pub FailsToWrite : {A S : Type 0} → ElementKind A → (S → Option A → S → Type 0) → S → Parts W K → SerializeError → Type 0
-  FailsToWrite kind gives elements s = StopsEarly kind s.version gives elements (w.text s.sink) s.is_first
+  -- the error of appending the parts of an iterator to `s`
+  abbrev pub FailsToWrite : {A S : Type 0} → List ℕ → PartKind A → (S → Option A → S → Type 0) → S → Parts W K
+      → SerializeError → Type 0
+  FailsToWrite separator kind gives from s = StopsEarly kind s.version gives from separator (w.text s.sink) s.is_first
 
   -- an item of this text is appended to `s` as the next part, and `p` writes its parameters
   abbrev pub HasAppendedItem : List ℕ → Parts W K → List ℕ → ParameterSerializer (Parts W K) → Type 0
@@ -165,15 +167,15 @@ module _ {W K : Type 0} (w : Sink W) where
   LacksNext separator s text = LacksRoom (w.text s.sink) (separator_before s.is_first separator ++ text)
 
 module _ {X S : Type 0} (gives : S → Option (Bor (List ℕ) × Bor OwnedBareItem) → S → Type 0) (pairs : S) where
-  -- all parameters that the iterator gives are appended to `s`, by this relation for a text, and `p` writes more of them
+  -- All parameters that the iterator gives are appended to `s`, by this relation for a text. `p` writes more of them.
   abbrev pub WritesParameters : (MutBor X → List ℕ → ParameterSerializer X → Type 0) → ParameterSerializer X
       → ParameterSerializer X → Type 0
   WritesParameters appends s p = TakesAll parameter_pairs (params_version s) gives pairs
-      (λ taken. appends (params_sink s) (parameters_text (lent_pairs taken)) p)
+      (λ taken. appends (params_sink s) (parts_text parameter_pairs [] true taken) p)
 
   -- the error of appending the parameters of an iterator to `s`, which writes to this text
   abbrev pub FailsToWriteParameters : ParameterSerializer X → Text → SerializeError → Type 0
-  FailsToWriteParameters s text = StopsEarly parameter_pairs (params_version s) gives pairs text true
+  FailsToWriteParameters s text = StopsEarly parameter_pairs (params_version s) gives pairs [] text true
 
 module _ (W K : RattleType) where
   -- on success, a serializer of parameters borrows the parts; after an error, this holds of their old and new state

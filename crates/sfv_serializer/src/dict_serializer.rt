@@ -104,8 +104,8 @@ impl<W: Sink> SequenceSerializer<W, DictMembers> {
     ) -> Result<(), SerializeError>
         requires can { I.can_next members }
         requires ends { IsFinite (I.remaining members) }
-        ensures text { OnOk result (WritesAll W.Sink dictionary_members I.next_gives members self.old self.new) }
-        ensures failed { IfErr result (FailsToWrite W.Sink dictionary_members I.next_gives members self.old) }
+        ensures text { OnOk result (WritesAll W.Sink (codes ", ") dictionary_members I.next_gives members self.old self.new) }
+        ensures failed { IfErr result (FailsToWrite W.Sink (codes ", ") dictionary_members I.next_gives members self.old) }
         ensures kept { OnErr result (KeepsSequence W.Sink self.old self.new) }
     {
         self.append_each(members)

@@ -35,8 +35,8 @@ impl<X: Sink> SequenceSerializer<X, InnerListItems> {
     ) -> Result<(), SerializeError>
         requires can { I.can_next items }
         requires ends { IsFinite (I.remaining items) }
-        ensures text { OnOk result (WritesAll X.Sink inner_items I.next_gives items self.old self.new) }
-        ensures failed { IfErr result (FailsToWrite X.Sink inner_items I.next_gives items self.old) }
+        ensures text { OnOk result (WritesAll X.Sink (codes " ") inner_items I.next_gives items self.old self.new) }
+        ensures failed { IfErr result (FailsToWrite X.Sink (codes " ") inner_items I.next_gives items self.old) }
         ensures kept { OnErr result (KeepsSequence X.Sink self.old self.new) }
     {
         self.append_each(items)

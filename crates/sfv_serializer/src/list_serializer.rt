@@ -55,8 +55,8 @@ impl<W: Sink> SequenceSerializer<W, ListMembers> {
     ) -> Result<(), SerializeError>
         requires can { I.can_next members }
         requires ends { IsFinite (I.remaining members) }
-        ensures text { OnOk result (WritesAll W.Sink list_members I.next_gives members self.old self.new) }
-        ensures failed { IfErr result (FailsToWrite W.Sink list_members I.next_gives members self.old) }
+        ensures text { OnOk result (WritesAll W.Sink (codes ", ") list_members I.next_gives members self.old self.new) }
+        ensures failed { IfErr result (FailsToWrite W.Sink (codes ", ") list_members I.next_gives members self.old) }
         ensures kept { OnErr result (KeepsSequence W.Sink self.old self.new) }
     {
         self.append_each(members)

@@ -10,7 +10,7 @@ ghost use Rattle.sfv_spec.specs.Values.{IsBareValue};
 ghost use Rattle.sfv_spec.specs.declared.version.Version.TheVariants.{Rfc9651};
 ghost use Rattle.sfv_spec.specs.Canonical.{bare_text};
 ghost use Rattle.sfv_bare.specs.BareItems.{ref_value};
-ghost use Rattle.sfv_writer.specs.Versions.{separated, OnOutOfMemory, ChecksVersionFirst};
+ghost use Rattle.sfv_writer.specs.Versions.{OnOutOfMemory, ChecksVersionFirst};
 ghost use Rattle.sfv_serializer.specs.Serializers.{IsSameSequence, KeepsSequence, HasAppendedNext, sequence_sink};
 ghost use Rattle.sfv_serializer.specs.Serializers.{sequence_version, is_empty_so_far, params_sink, params_version};
 ghost use Rattle.sfv_serializer.specs.Serializers.{WritesAll, FailsToWrite, AfterErrInner, AfterErr, HasAppendedItem, HasAppendedOpening, BeginsAfter, LacksNext};
@@ -130,10 +130,8 @@ impl<W: Sink, K: SequenceKind> SequenceSerializer<W, K> {
     ) -> Result<(), SerializeError>
         requires can { I.can_next elements }
         requires ends { IsFinite (I.remaining elements) }
-        ensures text { OnOk result (WritesAll W.Sink (separated K.separator E.text E.values E.is_valid) I.next_gives elements
-            self.old self.new) }
-        ensures failed { IfErr result (FailsToWrite W.Sink (separated K.separator E.text E.values E.is_valid) I.next_gives
-            elements self.old) }
+        ensures text { OnOk result (WritesAll W.Sink K.separator E.part I.next_gives elements self.old self.new) }
+        ensures failed { IfErr result (FailsToWrite W.Sink K.separator E.part I.next_gives elements self.old) }
         ensures kept { OnErr result (KeepsSequence W.Sink self.old self.new) }
     {
         let separator = K::separator();
