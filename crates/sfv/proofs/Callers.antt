@@ -61,10 +61,12 @@ pub use Rattle.sfv_tree.proofs.Entered.{dictionary_tree-insert, pairs_tree-inser
 -- what an accessor of a bare item returns, as the content of the value
 pub use Rattle.sfv_bare.proofs.Parts.{decimal_part, integer_part, boolean_part, date_part, display_string_part}
 -- the pairs that an iterator over a map lends
-pub use Rattle.sfv_writer.proofs.Lent.{lent_all}
+pub use Rattle.sfv_writer.proofs.Lacks.{parameters_all}
 -- what is written of a field is read as its ordered value, repeated keys too, and what is written of a value as itself,
 -- by each version that has all that it holds: RFC 9651 has all
-pub use Rattle.sfv_writer.proofs.ReadBack.{read_back, value_read_back}
+pub use Rattle.sfv_writer.proofs.ReadBack.{read_back, value_read_back, serialized_is_value}
+-- the first value that a version lacks, among more values
+pub use Rattle.sfv_writer.proofs.Looks.{names_front, names_after}
 pub use Rattle.sfv_spec.proofs.Fields.{all_fit_newer}
 pub use Rattle.sfv.proofs.LastRead.{read_back_either}
 -- an inner list that is taken away again, and what a text holds after what was written to it

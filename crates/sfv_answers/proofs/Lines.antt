@@ -28,7 +28,7 @@ empty_text dictionary_field (m ∷ ms) none = absurd (none (m, ms, refl))
 pub serialized_line : (version : Version) (kind : FieldKind) (value : RawField kind) (o : Option (String Global))
     → IsSerializedAs version kind value (option_map string_bytes o) → text_or_empty o ≡ canonical kind value
 serialized_line version kind value None h = empty_text kind value h
-serialized_line version kind value (Some text) h = h.1.text
+serialized_line version kind value (Some text) h = h.1
 
 -- the line of a field that was read
 pub answered : (reading writing : Version) (kind : FieldKind) (input : List ℕ) (value : RawField kind)

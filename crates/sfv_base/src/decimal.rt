@@ -1,7 +1,7 @@
 //! Decimals (RFC 9651, section 3.3.2).
 
 ghost use Rattle.std.specs.Prelude.{◌≡◌, Some, pos, nat_abs};
-ghost use Rattle.sfv_spec.specs.Numbers.{is_negative};
+ghost use Rattle.std.specs.Int.{is_negative};
 ghost use Rattle.sfv_spec.proofs.Marks.{minus_text};
 ghost use Rattle.sfv_spec.specs.Values.{decimal as decimal_value};
 ghost use Rattle.sfv_spec.specs.Canonical.{bare_text};

@@ -111,5 +111,5 @@ pub digests_written : (d : Digests) (o : Option (String Global))
     → IfSome o (λ text. IsContentDigest (string_bytes text) d)
 digests_written d None h = tt
 digests_written d (Some text) h =
-    let parsed = h.1.read_back in
+    let parsed = h.2 in
     of_text _ (digest_members d) parsed _ (are _ (digest_members d) parsed d (AreDigests-members d))

@@ -14,10 +14,8 @@ use Rattle.sfv_spec.specs.declared.error_kind.ErrorKind.TheVariants.{TrailingCom
 use Rattle.sfv_spec.specs.declared.error_kind.ErrorKind.TheVariants.{ExpectedStartOfKey}
 use Rattle.sfv_spec.specs.declared.error_kind.ErrorKind.TheVariants.{ExpectedInnerListDelimiter}
 use Rattle.sfv_spec.specs.declared.error_kind.ErrorKind.TheVariants.{TrailingCharactersAfterMember}
-use Rattle.sfv_spec.specs.Faults.{WantsBetween}
 use Rattle.sfv_spec.specs.declared.error_kind.ErrorKind.TheVariants.{TrailingCharactersAfterParsedValue}
 use Rattle.sfv_spec.specs.Faults.{RuledFault, BareItemFault, BegunFault, WantedFault, IsWantedAt, IsFaultAt}
-use Rattle.sfv_spec.specs.Faults.{IsTrailingComma}
 use Rattle.sfv_spec.specs.Faults as faults
 use Rattle.sfv_spec.specs.Statements.{TrueIsWanted}
 use Rattle.sfv_spec.proofs.Versions.{one_reach_lem}
@@ -25,7 +23,7 @@ use Rattle.sfv_reading.specs.Reader.{Fault, has_rule}
 use Rattle.sfv_reading.specs.Fields.{read_field}
 use Rattle.sfv_reading.specs.Places.{IsLike, IsOfBare}
 use Rattle.sfv_reading.proofs.Theorems.{read_is_accepted, fault_is_placed}
-use Rattle.sfv_reading.proofs.rules.Commas.{comma_row}
+use Rattle.sfv_reading.proofs.rules.Commas.{comma_row, not_item}
 use Rattle.sfv_reading.proofs.rules.BareFaults.{bare_fault_has_row}
 use Rattle.sfv_reading.proofs.rules.BareRows.{bare_row_is_given}
 use Rattle.sfv_reading.proofs.rules.RuledFaults.{ruled_is_given}
@@ -64,17 +62,22 @@ wanted_kind version kind u _ (faults.end _ _) = refl
 
 ruled_kind : (version : Version) (kind : FieldKind) (t : List ℕ) (f : ErrorKind) (i : ℕ)
     → RuledFault version kind t f i → is_want f ≡ false
-ruled_kind version kind t _ i (faults.comma h) = refl
+ruled_kind version kind t _ _ (faults.comma _ _ _ _ _ _ _ _) = refl
 ruled_kind version kind t _ _ (faults.bare _ _ _ _ (faults.point _ _ _ _ _ _ _ _)) = refl
 ruled_kind version kind t _ _ (faults.bare _ _ _ _ (faults.decimal_date _ _ _ _ _ _ _ _)) = refl
 ruled_kind version kind t _ _ (faults.bare _ _ _ _ (faults.long_decimal_date _ _ _ _ _ _ _ _)) = refl
 ruled_kind version kind t _ _ (faults.bare _ _ _ _ (faults.open_bytes _ _ _ _)) = refl
 ruled_kind version kind t _ _ (faults.bare _ _ _ _ (faults.lone_symbol _ _ _ _ _ _)) = refl
-ruled_kind version kind t _ _ (faults.display _ _ _ _ _ _ (faults.open_display _ _)) = refl
-ruled_kind version kind t _ _ (faults.display _ _ _ _ _ _ (faults.open_escape _ _ _ _)) = refl
-ruled_kind version kind t _ _ (faults.display _ _ _ _ _ _ (faults.wrong_escape _ _ _ _)) = refl
-ruled_kind version kind t _ _ (faults.display _ _ _ _ _ _ (faults.wrong_byte _ _)) = refl
-ruled_kind version kind t _ _ (faults.display _ _ _ _ _ _ (faults.wrong_utf8 _ _ _ _ _ _)) = refl
+ruled_kind version kind t _ _ (faults.bare _ _ _ _
+    (faults.display _ _ _ _ _ _ _ (faults.open_display _ _))) = refl
+ruled_kind version kind t _ _ (faults.bare _ _ _ _
+    (faults.display _ _ _ _ _ _ _ (faults.open_escape _ _ _ _))) = refl
+ruled_kind version kind t _ _ (faults.bare _ _ _ _
+    (faults.display _ _ _ _ _ _ _ (faults.wrong_escape _ _ _ _))) = refl
+ruled_kind version kind t _ _ (faults.bare _ _ _ _
+    (faults.display _ _ _ _ _ _ _ (faults.wrong_byte _ _))) = refl
+ruled_kind version kind t _ _ (faults.bare _ _ _ _
+    (faults.display _ _ _ _ _ _ _ (faults.wrong_utf8 _ _ _ _ _ _))) = refl
 
 row_kind : (version : Version) (s there : List ℕ) (f : ErrorKind) → BareItemFault version s there f → is_want f
     ≡ false
@@ -87,10 +90,10 @@ row_kind version s there _ (faults.no_number _ _ _) = refl
 row_kind version s there _ (faults.long_integer _ _ _ _ _ _) = refl
 row_kind version s there _ (faults.late_point _ _ _ _ _ _) = refl
 row_kind version s there _ (faults.long_decimal _ _ _ _ _ _ _) = refl
-row_kind version s there _ (faults.open_string _ _ _ _ _) = refl
-row_kind version s there _ (faults.wrong_string_byte _ _ _ _ _) = refl
-row_kind version s there _ (faults.open_string_escape _ _ _ _ _) = refl
-row_kind version s there _ (faults.wrong_string_escape _ _ _ _ _) = refl
+row_kind version s there _ (faults.open_string _ _) = refl
+row_kind version s there _ (faults.wrong_string_byte _ _) = refl
+row_kind version s there _ (faults.open_string_escape _ _) = refl
+row_kind version s there _ (faults.wrong_string_escape _ _) = refl
 row_kind version s there _ (faults.wrong_bytes _ _ _ _ _ _ _ _) = refl
 
 -- ---- the text in front of a fault
@@ -231,7 +234,7 @@ module _ (version : Version) (kind : FieldKind) where
     | inr (inl c) ↦
         let n = ap (length {A = ℕ}) c.here in
         let m = ap (length {A = ℕ}) c.trails.text in
-        let same : c.index ≡ length t - length e.rest = omega (
+        let same : length c.trails.before ≡ length t - length e.rest = omega (
           arith,
           n,
           length-drop c.index t,
@@ -241,7 +244,9 @@ module _ (version : Version) (kind : FieldKind) where
           length-append c.trails.before (codes ","),
         ) in
         inl (subst (λ (k : ErrorKind). RuledFault version kind t k (length t - length e.rest)) (sym c.kind_of)
-        (subst (RuledFault version kind t TrailingComma) same (faults.comma c.trails)))
+        (subst (RuledFault version kind t TrailingComma) same (faults.comma c.trails.before
+        c.trails.whitespace c.trails.raw (not_item kind c.trails.many) c.trails.accepted c.trails.member c.trails.text
+        c.trails.blank)))
     | inr (inr (x, inl w)) ↦
         inr (inr (wanted_at t e h x (wanted_kind version kind w.before e.kind w.wanted) w.before w.text w.wanted))
     | inr (inr (x, inr o)) ↦

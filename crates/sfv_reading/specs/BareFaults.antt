@@ -6,7 +6,7 @@ use Rattle.sfv_spec.specs.Values.{BareValue}
 use Rattle.sfv_spec.specs.declared.field_kind.FieldKind.{FieldKind}
 use Rattle.sfv_spec.specs.declared.version.Version.{Version}
 use Rattle.sfv_spec.specs.Grammar.{IsBareText}
-use Rattle.sfv_spec.specs.Faults.{IsTrailingComma}
+use Rattle.sfv_reading.specs.Commas.{IsTrailingComma}
 use Rattle.sfv_spec.specs.declared.error_kind.ErrorKind.{ErrorKind}
 use Rattle.sfv_spec.specs.declared.error_kind.ErrorKind.TheVariants.{TrailingComma, ExpectedStartOfBareItem}
 use Rattle.sfv_spec.specs.Faults.{WantsBetween, RuledFault, BareItemFault}

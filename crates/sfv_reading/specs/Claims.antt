@@ -13,7 +13,7 @@ use Rattle.sfv_spec.specs.Reach.{IsReach}
 use Rattle.sfv_spec.specs.Visiting.{BeginsEvents, BeginsEventsAfter}
 use Rattle.sfv_spec.specs.Base64.{IsBase64Text, symbols}
 use Rattle.sfv_spec.specs.declared.error_kind.ErrorKind.TheVariants.{TrailingComma, UnterminatedByteSequence}
-use Rattle.sfv_spec.specs.Faults.{IsTrailingComma}
+use Rattle.sfv_reading.specs.Commas.{IsTrailingComma}
 use Rattle.sfv_reading.specs.Reader.{has_rule, Fault, by_rule, visited}
 use Rattle.sfv_reading.specs.Content.{valid_from, bytes_of, fault_place, HasNoColon, content_fault}
 use Rattle.sfv_reading.specs.Bare.{bare_at}

@@ -6,6 +6,7 @@ pub mod Bare
 pub mod Items
 pub mod Members
 pub mod Fields
+pub mod Commas
 pub mod Claims
 pub mod Visits
 pub mod BareFaults

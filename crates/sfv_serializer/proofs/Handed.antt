@@ -24,12 +24,12 @@ use Rattle.sfv_serializer.specs.Scripts.{supplied_dictionary}
 -- calls of which a value doesn't fit are not none
 pub named_list : (version : Version) (calls : List MemberCalls) (e : SerializeError)
     → NamesFirstUnfit version (bare_values list_field (supplied_list calls)) e → 0 < length calls
-named_list version [] e h = absurd (not_of_none h.1.before h.0 h.1.after h.1.split)
+named_list version [] e h = absurd (not_of_none version h.0 h.1)
 named_list version (c ∷ cs) e h = omega arith
 
 pub named_dictionary : (version : Version) (calls : List (KeyRef × MemberCalls)) (e : SerializeError)
     → NamesFirstUnfit version (bare_values dictionary_field (supplied_dictionary calls)) e → 0 < length calls
-named_dictionary version [] e h = absurd (not_of_none h.1.before h.0 h.1.after h.1.split)
+named_dictionary version [] e h = absurd (not_of_none version h.0 h.1)
 named_dictionary version (c ∷ cs) e h = omega arith
 
 -- the value of one parameter, and those of all

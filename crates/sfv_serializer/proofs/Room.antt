@@ -38,6 +38,12 @@ lacks_more old output so_far one whole e c l h =
 three_len : (a b c : List ℕ) → length (a ++ (b ++ c)) ≡ length a + (length b + length c)
 three_len a b c = omega (arith, length-append a (b ++ c), length-append b c)
 
+-- a next part without a separator
+pub unseparated : {Z : Type 0} (old : String Z) (is_first : Bool) (text : List ℕ)
+    → LacksRoom old (separator_before is_first [] ++ text) → LacksRoom old text
+unseparated old true text h = h
+unseparated old false text h = h
+
 -- ---- parameters
 
 module _ (calls : List ParamCall) (n : ℕ) (x : ParamCall) (lt : n < length calls) (is : x ≡ get_or calls n x) where

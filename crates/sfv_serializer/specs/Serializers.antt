@@ -1,8 +1,8 @@
 -- The texts of serializers.
-use Rattle.std.specs.Prelude.{◌≡◌, ◌≤◌, ◌++◌, ℕ, Bool, true, false, List, codes, Option, Result}
+use Rattle.std.specs.Prelude.{◌≡◌, ◌≤◌, ◌++◌, ℕ, Bool, true, false, List, [], codes, Option, Result}
 use Rattle.std.specs.Prelude.{string_bytes, string_len, string_capacity}
-use Rattle.std.specs.Borrow.{Bor, MutBor, RattleType, Fml, GName, RestsIfErr}
-use Rattle.sfv_spec.specs.Canonical.{value_text, parameters_text}
+use Rattle.std.specs.Borrow.{Bor, MutBor, RattleType, Fml, RestsIfErr}
+use Rattle.sfv_spec.specs.Canonical.{value_text}
 use Rattle.sfv_spec.specs.declared.version.Version.{Version}
 use Rattle.sfv_bare.specs.BareItems.{ref_value}
 use Rattle.sfv_bare.specs.declared.bare.GenericBareItem.{GenericBareItem}
@@ -11,8 +11,8 @@ use Rattle.sfv_text.specs.CheckedTexts.{text_of}
 use Rattle.sfv_text.specs.StringText.{StringRef}
 use Rattle.sfv_text.specs.TokenText.{TokenRef}
 use Rattle.sfv_tree.specs.Trees.{OwnedBareItem}
-use Rattle.sfv_writer.specs.Versions.{ElementKind, TakesAll, StopsEarly, parameter_pairs}
-use Rattle.sfv_writer.specs.Written.{Extends, IsTruncatedTo, LacksRoom, separator_before, is_first_after, lent_pairs}
+use Rattle.sfv_writer.specs.Versions.{PartKind, parts_text, TakesAll, StopsEarly, parameter_pairs}
+use Rattle.sfv_writer.specs.Written.{Extends, IsTruncatedTo, LacksRoom, separator_before, is_first_after}
 use Rattle.sfv_writer.specs.declared.serialize_error.SerializeError.{SerializeError}
 use Rattle.sfv_serializer.specs.declared.item_serializer.ItemSerializer.{ItemSerializer}
 use Rattle.sfv_serializer.specs.declared.parameter_serializer.ParameterSerializer.{ParameterSerializer}
@@ -30,10 +30,6 @@ item_buffer s = s.buffer
 abbrev pub params_sink : {X : Type 0} → ParameterSerializer X → MutBor X
 params_sink s = s.sink
 
--- the same, by its name in the logic of borrows
-abbrev pub params_name : {X : Type 0} → ParameterSerializer X → GName
-params_name s = s.sink.ghost_name
-
 -- a serializer's version
 abbrev pub item_version : ItemSerializer → Version
 item_version s = s.version
@@ -42,14 +38,15 @@ abbrev pub params_version : {X : Type 0} → ParameterSerializer X → Version
 params_version s = s.version
 
 -- after an error, the borrowed text is unchanged, with no less room
-abbrev pub TextRests : {E : Type 0} → MutBor Text → Result (ParameterSerializer Text) E → Fml
-TextRests lent result =
+abbrev pub TextAfterErr : {E : Type 0} → MutBor Text → Result (ParameterSerializer Text) E → Fml
+TextAfterErr lent result =
     RestsIfErr text_row lent (λ p. (params_sink p).ghost_name) result
     (λ last. (string_bytes last ≡ string_bytes lent.now) × (string_capacity lent.now ≤ string_capacity last))
 
--- this text is appended to the borrowed text, which `p` writes to
+-- this text is appended to the borrowed text, which has no less room, and which `p` writes to
 abbrev pub ContinuesText : MutBor Text → List ℕ → ParameterSerializer Text → Type 0
-ContinuesText lent more p = string_bytes (params_sink p).now ≡ string_bytes lent.now ++ more
+ContinuesText lent more p = (string_bytes (params_sink p).now ≡ string_bytes lent.now ++ more)
+    × (string_capacity lent.now ≤ string_capacity (params_sink p).now)
 
 -- the text of a key with its value
 abbrev pub keyed : KeyRef → GenericBareItem StringRef (Bor (List ℕ)) TokenRef (Bor (List ℕ)) → List ℕ
@@ -70,10 +67,6 @@ is_empty_so_far s = s.is_first
 abbrev pub sequence_version : {W K : Type 0} → SequenceSerializer W K → Version
 sequence_version s = s.version
 
--- the borrow for an inner list, by its name in the logic of borrows
-abbrev pub inner_list_name : {X : Type 0} → SequenceSerializer (MutBor X) InnerListItems → GName
-inner_list_name s = s.sink.ghost_name
-
 -- the length of the text before the inner list, its separator and its key
 abbrev pub length_before : {X : Type 0} → SequenceSerializer X InnerListItems → ℕ
 length_before s = s.kind.len_before
@@ -88,61 +81,62 @@ InnerList W K = SequenceSerializer (MutBor (Parts W K)) InnerListItems
 
 module _ {W : Type 0} (w : Sink W) where
   -- the same output, version and kind, and the same `is_empty_so_far`
-  abbrev pub IsSameSequence : {K : Type 0} → MutBor (SequenceSerializer W K) → MutBor (SequenceSerializer W K) → Type 0
+  abbrev pub IsSameSequence : {K : Type 0} → MutBor (Parts W K) → MutBor (Parts W K) → Type 0
   IsSameSequence s t = (t.ghost_name ≡ s.ghost_name) × w.same s.now.sink t.now.sink
       × (t.now.is_first ≡ s.now.is_first) × (t.now.version ≡ s.now.version) × (t.now.kind ≡ s.now.kind)
 
   -- borrowed parts, as an output
-  abbrev pub lent_sequence : {K : Type 0} → Sink (MutBor (SequenceSerializer W K))
+  abbrev pub lent_sequence : {K : Type 0} → Sink (MutBor (Parts W K))
   lent_sequence = record {
     text = λ s. w.text s.now.sink;
     with_text = λ s t. record s { now = record s.now { sink = w.with_text s.now.sink t } };
     same = IsSameSequence;
   }
 
-  -- the text has no less room
-  abbrev pub KeepsRoom : {K : Type 0} → SequenceSerializer W K → SequenceSerializer W K → Type 0
-  KeepsRoom s t = string_capacity (w.text s.sink) ≤ string_capacity (w.text t.sink)
-
   -- the text has the same capacity
-  abbrev pub KeepsCapacity : {K : Type 0} → SequenceSerializer W K → SequenceSerializer W K → Type 0
+  abbrev pub KeepsCapacity : {K : Type 0} → Parts W K → Parts W K → Type 0
   KeepsCapacity s t = string_capacity (w.text t.sink) ≡ string_capacity (w.text s.sink)
 
-  -- the same output, version and kind, the same text with no less room, and the same `is_empty_so_far`
-  abbrev pub KeepsSequence : {K : Type 0} → SequenceSerializer W K → SequenceSerializer W K → Type 0
-  KeepsSequence s t = w.same s.sink t.sink × (string_bytes (w.text t.sink) ≡ string_bytes (w.text s.sink))
-      × (t.is_first ≡ s.is_first) × (t.version ≡ s.version) × (t.kind ≡ s.kind) × KeepsRoom s t
+  -- The same output, version and kind, and no less room; this holds of the text; and `is_first` says whether no part
+  -- is written then.
+  abbrev pub Becomes : {K : Type 0} → Type 0 → Bool → Parts W K → Parts W K → Type 0
+  Becomes Holds is_first s t = w.same s.sink t.sink × Holds × (t.is_first ≡ is_first) × (t.version ≡ s.version)
+      × (t.kind ≡ s.kind) × (string_capacity (w.text s.sink) ≤ string_capacity (w.text t.sink))
 
-  -- the same output, version and kind, with this text appended; and whether a part is written then
-  abbrev pub HasAppended : {K : Type 0} → SequenceSerializer W K → SequenceSerializer W K → List ℕ → Bool → Type 0
-  HasAppended s t more is_first = w.same s.sink t.sink
-      × (string_bytes (w.text t.sink) ≡ string_bytes (w.text s.sink) ++ more) × (t.is_first ≡ is_first)
-      × (t.version ≡ s.version) × (t.kind ≡ s.kind) × KeepsRoom s t
+  -- nothing changes, but there may be more room
+  abbrev pub KeepsSequence : {K : Type 0} → Parts W K → Parts W K → Type 0
+  KeepsSequence s t = Becomes (string_bytes (w.text t.sink) ≡ string_bytes (w.text s.sink)) s.is_first s t
+
+  -- this text is appended, and `is_first` says whether no part is written then
+  abbrev pub HasAppended : {K : Type 0} → Parts W K → Parts W K → List ℕ → Bool → Type 0
+  HasAppended s t more is_first =
+      Becomes (string_bytes (w.text t.sink) ≡ string_bytes (w.text s.sink) ++ more) is_first s t
 
   -- the same for one part, after the separator unless it is the first
-  abbrev pub HasAppendedNext : {K : Type 0} → List ℕ → SequenceSerializer W K → SequenceSerializer W K → List ℕ → Bool → Type 0
+  abbrev pub HasAppendedNext : {K : Type 0} → List ℕ → Parts W K → Parts W K → List ℕ → Bool → Type 0
   HasAppendedNext separator s t text is_first = HasAppended s t (separator_before s.is_first separator ++ text) is_first
 
   -- the same output and kind; the old text is a prefix of the new one
-  abbrev pub GrowsSequence : {K : Type 0} → SequenceSerializer W K → SequenceSerializer W K → Type 0
+  abbrev pub GrowsSequence : {K : Type 0} → Parts W K → Parts W K → Type 0
   GrowsSequence s t = w.same s.sink t.sink × Extends (string_bytes (w.text s.sink)) (string_bytes (w.text t.sink))
-      × (t.kind ≡ s.kind) × KeepsRoom s t
+      × (t.kind ≡ s.kind) × (string_capacity (w.text s.sink) ≤ string_capacity (w.text t.sink))
 
-  -- `t` is `s` without the inner list `l`: the same output, version, kind and `is_empty_so_far`, and the text before `l`
+  -- the inner list `l` is removed: the text before it is back
   abbrev pub Removes : {K : Type 0} → InnerList W K → Parts W K → Parts W K → Type 0
-  Removes l s t = w.same s.sink t.sink
-      × IsTruncatedTo (length_before l) (string_bytes (w.text s.sink)) (string_bytes (w.text t.sink))
-      × (t.is_first ≡ s.is_first) × (t.version ≡ s.version) × (t.kind ≡ s.kind) × KeepsRoom s t
+  Removes l s t = Becomes
+      (IsTruncatedTo (length_before l) (string_bytes (w.text s.sink)) (string_bytes (w.text t.sink))) s.is_first s t
 
 module _ {W K : Type 0} (w : Sink W) where
-  -- `t` is `s` with the text of all elements that the iterator gives, and the version of `s` has their values
-  abbrev pub WritesAll : {A S : Type 0} → ElementKind A → (S → Option A → S → Type 0) → S → Parts W K → Parts W K → Type 0
-  WritesAll kind gives elements s t = TakesAll kind s.version gives elements
-      (λ taken. HasAppended w s t (kind.text s.is_first taken) (is_first_after s.is_first taken))
+  -- `t` is `s` with the text of all parts that the iterator gives, and the version of `s` has their values
+  abbrev pub WritesAll : {A S : Type 0} → List ℕ → PartKind A → (S → Option A → S → Type 0) → S → Parts W K → Parts W K
+      → Type 0
+  WritesAll separator kind gives from s t = TakesAll kind s.version gives from
+      (λ taken. HasAppended w s t (parts_text kind separator s.is_first taken) (is_first_after s.is_first taken))
 
-  -- the error of appending the elements of an iterator to `s`
-  abbrev pub FailsToWrite : {A S : Type 0} → ElementKind A → (S → Option A → S → Type 0) → S → Parts W K → SerializeError → Type 0
-  FailsToWrite kind gives elements s = StopsEarly kind s.version gives elements (w.text s.sink) s.is_first
+  -- the error of appending the parts of an iterator to `s`
+  abbrev pub FailsToWrite : {A S : Type 0} → List ℕ → PartKind A → (S → Option A → S → Type 0) → S → Parts W K
+      → SerializeError → Type 0
+  FailsToWrite separator kind gives from s = StopsEarly kind s.version gives from separator (w.text s.sink) s.is_first
 
   -- an item of this text is appended to `s` as the next part, and `p` writes its parameters
   abbrev pub HasAppendedItem : List ℕ → Parts W K → List ℕ → ParameterSerializer (Parts W K) → Type 0
@@ -173,23 +167,25 @@ module _ {W K : Type 0} (w : Sink W) where
   LacksNext separator s text = LacksRoom (w.text s.sink) (separator_before s.is_first separator ++ text)
 
 module _ {X S : Type 0} (gives : S → Option (Bor (List ℕ) × Bor OwnedBareItem) → S → Type 0) (pairs : S) where
-  -- all parameters that the iterator gives are appended to `s`, by this relation for a text, and `p` writes more of them
+  -- All parameters that the iterator gives are appended to `s`, by this relation for a text. `p` writes more of them.
   abbrev pub WritesParameters : (MutBor X → List ℕ → ParameterSerializer X → Type 0) → ParameterSerializer X
       → ParameterSerializer X → Type 0
   WritesParameters appends s p = TakesAll parameter_pairs (params_version s) gives pairs
-      (λ taken. appends (params_sink s) (parameters_text (lent_pairs taken)) p)
+      (λ taken. appends (params_sink s) (parts_text parameter_pairs [] true taken) p)
 
   -- the error of appending the parameters of an iterator to `s`, which writes to this text
   abbrev pub FailsToWriteParameters : ParameterSerializer X → Text → SerializeError → Type 0
-  FailsToWriteParameters s text = StopsEarly parameter_pairs (params_version s) gives pairs text true
+  FailsToWriteParameters s text = StopsEarly parameter_pairs (params_version s) gives pairs [] text true
 
 module _ (W K : RattleType) where
   -- on success, a serializer of parameters borrows the parts; after an error, this holds of their old and new state
-  abbrev pub ParamsRest : {E : Type 0} → (Parts W.Denot K.Denot → Parts W.Denot K.Denot → Type 0)
+  abbrev pub AfterErr : {E : Type 0} → (Parts W.Denot K.Denot → Parts W.Denot K.Denot → Type 0)
       → MutBor (Parts W.Denot K.Denot) → Result (ParameterSerializer (Parts W.Denot K.Denot)) E → Fml
-  ParamsRest says lent result = RestsIfErr (sequence.the_row W K) lent params_name result (says lent.now)
+  AfterErr says lent result =
+      RestsIfErr (sequence.the_row W K) lent (λ p. (params_sink p).ghost_name) result (says lent.now)
 
   -- the same for a serializer of an inner list
-  abbrev pub InnerListRests : {E : Type 0} → (Parts W.Denot K.Denot → Parts W.Denot K.Denot → Type 0)
+  abbrev pub AfterErrInner : {E : Type 0} → (Parts W.Denot K.Denot → Parts W.Denot K.Denot → Type 0)
       → MutBor (Parts W.Denot K.Denot) → Result (InnerList W.Denot K.Denot) E → Fml
-  InnerListRests says lent result = RestsIfErr (sequence.the_row W K) lent inner_list_name result (says lent.now)
+  AfterErrInner says lent result = RestsIfErr (sequence.the_row W K) lent
+      (λ (l : InnerList W.Denot K.Denot). (sequence_sink l).ghost_name) result (says lent.now)

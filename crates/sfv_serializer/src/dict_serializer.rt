@@ -9,9 +9,9 @@ ghost use Rattle.sfv_bare.specs.BareItems.{ref_value};
 ghost use Rattle.sfv_text.specs.CheckedTexts.{text_of};
 ghost use Rattle.sfv_writer.specs.Versions.{OnOutOfMemory, ChecksVersionFirst, dictionary_members};
 ghost use Rattle.sfv_serializer.specs.Serializers.{KeepsSequence};
-ghost use Rattle.sfv_serializer.specs.Serializers.{sequence_version, params_name, params_version};
-ghost use Rattle.sfv_serializer.specs.Serializers.{inner_list_name};
-ghost use Rattle.sfv_serializer.specs.Serializers.{WritesAll, FailsToWrite, InnerListRests, ParamsRest, HasAppendedItem, HasAppendedOpening, BeginsAfter, LacksNext, keyed};
+ghost use Rattle.sfv_serializer.specs.Serializers.{sequence_version, params_sink, params_version};
+ghost use Rattle.sfv_serializer.specs.Serializers.{sequence_sink};
+ghost use Rattle.sfv_serializer.specs.Serializers.{WritesAll, FailsToWrite, AfterErrInner, AfterErr, HasAppendedItem, HasAppendedOpening, BeginsAfter, LacksNext, keyed};
 ghost use Rattle.sfv_serializer.specs.contracts.sequence_kind.DictMembers.{the_row as dict_row};
 
 use crate::fragment::{KeyValue, KeyedInnerListStart};
@@ -50,8 +50,8 @@ impl<W: Sink> SequenceSerializer<W, DictMembers> {
         name: KeyRef<'_>,
         value: RefBareItem<'_>,
     ) -> Result<ParameterSerializer<'_, DictSerializer<W>>, SerializeError>
-        ensures* kept { sem 𝓛 (ParamsRest W.row dict_row (KeepsSequence W.Sink) self.entry result) }
-        ensures lent { IfOk result (λ p. params_name p ≡ self.entry.ghost_name) }
+        ensures* kept { sem 𝓛 (AfterErr W.row dict_row (KeepsSequence W.Sink) self.entry result) }
+        ensures lent { IfOk result (λ p. (params_sink p).ghost_name ≡ self.entry.ghost_name) }
         ensures version { IfOk result (λ p. params_version p ≡ sequence_version self.old) }
         ensures unsupported { ChecksVersionFirst (sequence_version self.old) (ref_value value.entry ∷ []) result }
         ensures text { IfOk result (HasAppendedItem W.Sink (codes ", ") self.old (keyed name.entry value.entry)) }
@@ -80,8 +80,8 @@ impl<W: Sink> SequenceSerializer<W, DictMembers> {
         &mut self,
         name: KeyRef<'_>,
     ) -> Result<InnerListSerializer<&mut DictSerializer<W>>, OutOfMemory>
-        ensures* out_of_memory { sem 𝓛 (InnerListRests W.row dict_row (KeepsSequence W.Sink) self.entry result) }
-        ensures lent { IfOk result (λ s. inner_list_name s ≡ self.entry.ghost_name) }
+        ensures* kept { sem 𝓛 (AfterErrInner W.row dict_row (KeepsSequence W.Sink) self.entry result) }
+        ensures lent { IfOk result (λ s. (sequence_sink s).ghost_name ≡ self.entry.ghost_name) }
         ensures version { IfOk result (λ s. sequence_version s ≡ sequence_version self.old) }
         ensures text { IfOk result (HasAppendedOpening W.Sink (codes ", ") self.old (text_of name.entry ++ codes "=(")) }
         ensures begins { IfOk result (BeginsAfter W.Sink self.old) }
@@ -104,8 +104,8 @@ impl<W: Sink> SequenceSerializer<W, DictMembers> {
     ) -> Result<(), SerializeError>
         requires can { I.can_next members }
         requires ends { IsFinite (I.remaining members) }
-        ensures text { OnOk result (WritesAll W.Sink dictionary_members I.next_gives members self.old self.new) }
-        ensures failed { IfErr result (FailsToWrite W.Sink dictionary_members I.next_gives members self.old) }
+        ensures text { OnOk result (WritesAll W.Sink (codes ", ") dictionary_members I.next_gives members self.old self.new) }
+        ensures failed { IfErr result (FailsToWrite W.Sink (codes ", ") dictionary_members I.next_gives members self.old) }
         ensures kept { OnErr result (KeepsSequence W.Sink self.old self.new) }
     {
         self.append_each(members)

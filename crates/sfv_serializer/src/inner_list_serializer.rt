@@ -1,13 +1,12 @@
 //! The serializer of inner lists (RFC 9651, section 4.1.1.1).
 
-ghost use Rattle.std.specs.Prelude.{◌≡◌, false, IfOk, IfErr, OnOk, OnErr, codes};
+ghost use Rattle.std.specs.Prelude.{◌≡◌, [], false, IfOk, IfErr, OnOk, OnErr, codes};
 ghost use Rattle.std.specs.Borrow.{sem};
 ghost use Rattle.std.specs.Iterator.{IsFinite};
-ghost use Rattle.sfv_writer.specs.Written.{LacksRoom};
 ghost use Rattle.sfv_writer.specs.Versions.{inner_items};
 ghost use Rattle.sfv_serializer.specs.Serializers.{KeepsSequence, KeepsCapacity, sequence_sink, sequence_version};
-ghost use Rattle.sfv_serializer.specs.Serializers.{WritesAll, FailsToWrite, ParamsRest, Removes, HasClosed};
-ghost use Rattle.sfv_serializer.specs.Serializers.{params_name, params_version};
+ghost use Rattle.sfv_serializer.specs.Serializers.{WritesAll, FailsToWrite, AfterErr, Removes, HasClosed, LacksNext};
+ghost use Rattle.sfv_serializer.specs.Serializers.{params_sink, params_version};
 
 use crate::parameter_serializer::ParameterSerializer;
 use crate::sequence::SequenceSerializer;
@@ -36,8 +35,8 @@ impl<X: Sink> SequenceSerializer<X, InnerListItems> {
     ) -> Result<(), SerializeError>
         requires can { I.can_next items }
         requires ends { IsFinite (I.remaining items) }
-        ensures text { OnOk result (WritesAll X.Sink inner_items I.next_gives items self.old self.new) }
-        ensures failed { IfErr result (FailsToWrite X.Sink inner_items I.next_gives items self.old) }
+        ensures text { OnOk result (WritesAll X.Sink (codes " ") inner_items I.next_gives items self.old self.new) }
+        ensures failed { IfErr result (FailsToWrite X.Sink (codes " ") inner_items I.next_gives items self.old) }
         ensures kept { OnErr result (KeepsSequence X.Sink self.old self.new) }
     {
         self.append_each(items)
@@ -52,11 +51,11 @@ impl<'s, W: Sink, K> SequenceSerializer<&'s mut SequenceSerializer<W, K>, InnerL
     /// Returns `OutOfMemory` if memory runs out. The inner list is then removed with its separator or key, as by
     /// `abandon`.
     pub fn finish(self) -> Result<ParameterSerializer<'s, SequenceSerializer<W, K>>, OutOfMemory>
-        ensures* out_of_memory { sem 𝓛 (ParamsRest W.row K.row (Removes W.Sink self.entry) (sequence_sink self.entry) result) }
-        ensures lent { IfOk result (λ p. params_name p ≡ (sequence_sink self.entry).ghost_name) }
+        ensures* removed { sem 𝓛 (AfterErr W.row K.row (Removes W.Sink self.entry) (sequence_sink self.entry) result) }
+        ensures lent { IfOk result (λ p. (params_sink p).ghost_name ≡ (sequence_sink self.entry).ghost_name) }
         ensures version { IfOk result (λ p. params_version p ≡ sequence_version (sequence_sink self.entry).now) }
         ensures text { IfOk result (HasClosed W.Sink self.entry) }
-        ensures room { OnErr result (LacksRoom (W.text (sequence_sink (sequence_sink self.entry).now)) (codes ")")) }
+        ensures room { OnErr result (LacksNext W.Sink [] (sequence_sink self.entry).now (codes ")")) }
     {
         let SequenceSerializer {
             sink,

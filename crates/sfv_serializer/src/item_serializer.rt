@@ -1,6 +1,6 @@
 //! The serializer of items (RFC 9651, section 4.1.3).
 
-ghost use Rattle.std.specs.Prelude.{◌≡◌, ◌≤◌, ◌∷◌, [], IfOk, string_bytes, string_capacity};
+ghost use Rattle.std.specs.Prelude.{◌≡◌, ◌∷◌, [], IfOk, string_bytes, string_capacity};
 ghost use Rattle.std.specs.Borrow.{sem};
 ghost use Rattle.sfv_spec.specs.Values.{IsBareValue};
 ghost use Rattle.sfv_spec.specs.declared.version.Version.TheVariants.{Rfc9651};
@@ -8,7 +8,7 @@ ghost use Rattle.sfv_spec.specs.Canonical.{bare_text};
 ghost use Rattle.sfv_bare.specs.BareItems.{ref_value};
 ghost use Rattle.sfv_writer.specs.Written.{LacksRoom};
 ghost use Rattle.sfv_writer.specs.Versions.{OnOutOfMemory, ChecksVersionFirst};
-ghost use Rattle.sfv_serializer.specs.Serializers.{TextRests, ContinuesText, item_buffer, params_sink, item_version, params_version};
+ghost use Rattle.sfv_serializer.specs.Serializers.{TextAfterErr, ContinuesText, item_buffer, params_sink, item_version, params_version};
 
 use crate::fragment::{BareItemFragment, append};
 use crate::parameter_serializer::ParameterSerializer;
@@ -34,7 +34,7 @@ impl<'a> ItemSerializer<'a> {
     /// Creates a serializer that appends to `buffer`, under RFC 9651.
     #[inline(always)]
     pub fn with_buffer(buffer: &'a mut StdString) -> ItemSerializer<'a>
-        ensures lent { (item_buffer result).ghost_name ≡ buffer.entry.ghost_name }
+        ensures same_buffer { (item_buffer result).ghost_name ≡ buffer.entry.ghost_name }
         ensures text { string_bytes (item_buffer result).now ≡ string_bytes buffer.old }
         ensures room { string_capacity (item_buffer result).now ≡ string_capacity buffer.old }
         ensures version { item_version result ≡ Rfc9651 }
@@ -45,7 +45,7 @@ impl<'a> ItemSerializer<'a> {
     /// Creates a serializer that appends to `buffer`, and accepts only values of `version`.
     #[inline(always)]
     pub fn with_buffer_for(buffer: &'a mut StdString, version: Version) -> ItemSerializer<'a>
-        ensures lent { (item_buffer result).ghost_name ≡ buffer.entry.ghost_name }
+        ensures same_buffer { (item_buffer result).ghost_name ≡ buffer.entry.ghost_name }
         ensures text { string_bytes (item_buffer result).now ≡ string_bytes buffer.old }
         ensures room { string_capacity (item_buffer result).now ≡ string_capacity buffer.old }
         ensures version { item_version result ≡ version }
@@ -64,13 +64,12 @@ impl<'a> ItemSerializer<'a> {
         self,
         bare_item: RefBareItem<'_>,
     ) -> Result<ParameterSerializer<'a, StdString>, SerializeError>
-        ensures* kept { sem 𝓛 (TextRests (item_buffer self.entry) result) }
+        ensures* kept { sem 𝓛 (TextAfterErr (item_buffer self.entry) result) }
         ensures lent { IfOk result (λ p. (params_sink p).ghost_name ≡ (item_buffer self.entry).ghost_name) }
         ensures version { IfOk result (λ p. params_version p ≡ item_version self.entry) }
         ensures unsupported { ChecksVersionFirst (item_version self.entry) (ref_value bare_item.entry ∷ []) result }
         ensures text { IfOk result (ContinuesText (item_buffer self.entry) (bare_text (ref_value bare_item.entry))) }
         ensures room { OnOutOfMemory result (LacksRoom (item_buffer self.entry).now (bare_text (ref_value bare_item.entry))) }
-        ensures stays { IfOk result (λ p. string_capacity (item_buffer self.entry).now ≤ string_capacity (params_sink p).now) }
         ensures is_value { IsBareValue (ref_value bare_item.entry) }
     {
         let ItemSerializer { buffer, version } = self;

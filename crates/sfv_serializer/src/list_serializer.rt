@@ -5,8 +5,8 @@ ghost use Rattle.std.specs.Borrow.{sem};
 ghost use Rattle.std.specs.Iterator.{IsFinite};
 ghost use Rattle.sfv_writer.specs.Versions.{list_members};
 ghost use Rattle.sfv_serializer.specs.Serializers.{KeepsSequence};
-ghost use Rattle.sfv_serializer.specs.Serializers.{sequence_version, inner_list_name};
-ghost use Rattle.sfv_serializer.specs.Serializers.{WritesAll, FailsToWrite, InnerListRests, HasAppendedOpening, BeginsAfter, LacksNext};
+ghost use Rattle.sfv_serializer.specs.Serializers.{sequence_version, sequence_sink};
+ghost use Rattle.sfv_serializer.specs.Serializers.{WritesAll, FailsToWrite, AfterErrInner, HasAppendedOpening, BeginsAfter, LacksNext};
 ghost use Rattle.sfv_serializer.specs.contracts.sequence_kind.ListMembers.{the_row as list_row};
 
 use crate::fragment::InnerListStart;
@@ -33,8 +33,8 @@ impl<W: Sink> SequenceSerializer<W, ListMembers> {
     ///
     /// Returns `OutOfMemory` if memory runs out. The text and `has_member` are then unchanged.
     pub fn inner_list(&mut self) -> Result<InnerListSerializer<&mut ListSerializer<W>>, OutOfMemory>
-        ensures* out_of_memory { sem 𝓛 (InnerListRests W.row list_row (KeepsSequence W.Sink) self.entry result) }
-        ensures lent { IfOk result (λ s. inner_list_name s ≡ self.entry.ghost_name) }
+        ensures* kept { sem 𝓛 (AfterErrInner W.row list_row (KeepsSequence W.Sink) self.entry result) }
+        ensures lent { IfOk result (λ s. (sequence_sink s).ghost_name ≡ self.entry.ghost_name) }
         ensures version { IfOk result (λ s. sequence_version s ≡ sequence_version self.old) }
         ensures text { IfOk result (HasAppendedOpening W.Sink (codes ", ") self.old (codes "(")) }
         ensures begins { IfOk result (BeginsAfter W.Sink self.old) }
@@ -55,8 +55,8 @@ impl<W: Sink> SequenceSerializer<W, ListMembers> {
     ) -> Result<(), SerializeError>
         requires can { I.can_next members }
         requires ends { IsFinite (I.remaining members) }
-        ensures text { OnOk result (WritesAll W.Sink list_members I.next_gives members self.old self.new) }
-        ensures failed { IfErr result (FailsToWrite W.Sink list_members I.next_gives members self.old) }
+        ensures text { OnOk result (WritesAll W.Sink (codes ", ") list_members I.next_gives members self.old self.new) }
+        ensures failed { IfErr result (FailsToWrite W.Sink (codes ", ") list_members I.next_gives members self.old) }
         ensures kept { OnErr result (KeepsSequence W.Sink self.old self.new) }
     {
         self.append_each(members)

@@ -1,6 +1,6 @@
 //! The serializer of parameters (RFC 9651, section 4.1.1.2).
 
-ghost use Rattle.std.specs.Prelude.{◌≡◌, ◌≤◌, ◌∷◌, [], IfOk, IfErr, IsTrue, string_capacity};
+ghost use Rattle.std.specs.Prelude.{◌≡◌, ◌∷◌, [], IfOk, IfErr, IsTrue};
 ghost use Rattle.std.specs.Borrow.{sem};
 ghost use Rattle.std.specs.Iterator.{IsFinite};
 ghost use Rattle.sfv_spec.specs.Classes.{is_key};
@@ -9,8 +9,8 @@ ghost use Rattle.sfv_bare.specs.BareItems.{ref_value};
 ghost use Rattle.sfv_text.specs.CheckedTexts.{text_of};
 ghost use Rattle.sfv_writer.specs.Written.{LacksRoom};
 ghost use Rattle.sfv_writer.specs.Versions.{OnOutOfMemory, ChecksVersionFirst};
-ghost use Rattle.sfv_serializer.specs.Serializers.{TextRests, ContinuesText, params_sink, params_name, params_version};
-ghost use Rattle.sfv_serializer.specs.Serializers.{WritesParameters, FailsToWriteParameters, ParamsRest, Continues, params_text, param};
+ghost use Rattle.sfv_serializer.specs.Serializers.{TextAfterErr, ContinuesText, params_sink, params_version};
+ghost use Rattle.sfv_serializer.specs.Serializers.{WritesParameters, FailsToWriteParameters, AfterErr, Continues, params_text, param};
 ghost use Rattle.sfv_serializer.specs.Serializers.{KeepsSequence};
 
 use crate::fragment::{KeyValue, Parameter, append};
@@ -72,13 +72,12 @@ impl<'s> ParameterSerializer<'s, StdString> {
         name: KeyRef<'_>,
         value: RefBareItem<'_>,
     ) -> Result<ParameterSerializer<'s, StdString>, SerializeError>
-        ensures* kept { sem 𝓛 (TextRests (params_sink self.entry) result) }
+        ensures* kept { sem 𝓛 (TextAfterErr (params_sink self.entry) result) }
         ensures lent { IfOk result (λ p. (params_sink p).ghost_name ≡ (params_sink self.entry).ghost_name) }
         ensures version { IfOk result (λ p. params_version p ≡ params_version self.entry) }
         ensures text { IfOk result (ContinuesText (params_sink self.entry) (param name.entry value.entry)) }
         ensures unsupported { ChecksVersionFirst (params_version self.entry) (ref_value value.entry ∷ []) result }
         ensures room { OnOutOfMemory result (LacksRoom (params_sink self.entry).now (param name.entry value.entry)) }
-        ensures stays { IfOk result (λ p. string_capacity (params_sink self.entry).now ≤ string_capacity (params_sink p).now) }
         ensures is_key { IsTrue (is_key (text_of name.entry)) }
         ensures is_value { IsBareValue (ref_value value.entry) }
     {
@@ -104,12 +103,11 @@ impl<'s> ParameterSerializer<'s, StdString> {
     ) -> Result<ParameterSerializer<'s, StdString>, SerializeError>
         requires can { I.can_next params }
         requires ends { IsFinite (I.remaining params) }
-        ensures* kept { sem 𝓛 (TextRests (params_sink self.entry) result) }
+        ensures* kept { sem 𝓛 (TextAfterErr (params_sink self.entry) result) }
         ensures lent { IfOk result (λ p. (params_sink p).ghost_name ≡ (params_sink self.entry).ghost_name) }
         ensures version { IfOk result (λ p. params_version p ≡ params_version self.entry) }
         ensures text { IfOk result (WritesParameters I.next_gives params ContinuesText self.entry) }
         ensures failed { IfErr result (FailsToWriteParameters I.next_gives params self.entry (params_sink self.entry).now) }
-        ensures stays { IfOk result (λ p. string_capacity (params_sink self.entry).now ≤ string_capacity (params_sink p).now) }
     {
         let ParameterSerializer { sink, version } = self;
         append_parameters(version, params, sink)?;
@@ -130,8 +128,8 @@ impl<'s, W: Sink, K> ParameterSerializer<'s, SequenceSerializer<W, K>> {
         name: KeyRef<'_>,
         value: RefBareItem<'_>,
     ) -> Result<ParameterSerializer<'s, SequenceSerializer<W, K>>, SerializeError>
-        ensures* kept { sem 𝓛 (ParamsRest W.row K.row (KeepsSequence W.Sink) (params_sink self.entry) result) }
-        ensures lent { IfOk result (λ p. params_name p ≡ params_name self.entry) }
+        ensures* kept { sem 𝓛 (AfterErr W.row K.row (KeepsSequence W.Sink) (params_sink self.entry) result) }
+        ensures lent { IfOk result (λ p. (params_sink p).ghost_name ≡ (params_sink self.entry).ghost_name) }
         ensures version { IfOk result (λ p. params_version p ≡ params_version self.entry) }
         ensures text { IfOk result (Continues W.Sink (params_sink self.entry) (param name.entry value.entry)) }
         ensures unsupported { ChecksVersionFirst (params_version self.entry) (ref_value value.entry ∷ []) result }
@@ -161,8 +159,8 @@ impl<'s, W: Sink, K> ParameterSerializer<'s, SequenceSerializer<W, K>> {
     ) -> Result<ParameterSerializer<'s, SequenceSerializer<W, K>>, SerializeError>
         requires can { I.can_next params }
         requires ends { IsFinite (I.remaining params) }
-        ensures* kept { sem 𝓛 (ParamsRest W.row K.row (KeepsSequence W.Sink) (params_sink self.entry) result) }
-        ensures lent { IfOk result (λ p. params_name p ≡ params_name self.entry) }
+        ensures* kept { sem 𝓛 (AfterErr W.row K.row (KeepsSequence W.Sink) (params_sink self.entry) result) }
+        ensures lent { IfOk result (λ p. (params_sink p).ghost_name ≡ (params_sink self.entry).ghost_name) }
         ensures version { IfOk result (λ p. params_version p ≡ params_version self.entry) }
         ensures text { IfOk result (WritesParameters I.next_gives params (Continues W.Sink) self.entry) }
         ensures failed { IfErr result (FailsToWriteParameters I.next_gives params self.entry (params_text W.Sink self.entry)) }

@@ -17,7 +17,7 @@ ghost use Rattle.sfv_text.specs.CheckedTexts.{text_of};
 ghost use Rattle.sfv_writer.specs.Written.{Appends, AppendsOrKeeps, AsksForRoom, LacksRoom, IsReadBack, separator_before, with_separators, is_first_after};
 ghost use Rattle.sfv_writer.specs.Versions.{OnOutOfMemory, ChecksVersionFirst};
 ghost use Rattle.sfv_writer.specs.declared.serialize_error.SerializeError.TheVariants as errors;
-ghost use Rattle.sfv_serializer.specs.Serializers.{lent_sequence, HasAppended, HasAppendedNext, GrowsSequence, inner_list_name, is_empty_so_far};
+ghost use Rattle.sfv_serializer.specs.Serializers.{lent_sequence, HasAppended, HasAppendedNext, GrowsSequence, sequence_sink, is_empty_so_far};
 ghost use Rattle.sfv_serializer.specs.Serializers.{sequence_version, sequence_sink};
 ghost use Rattle.sfv_serializer.specs.Scripts.{param_of_call, item_of_calls, member_calls, list_calls, dictionary_calls};
 ghost use Rattle.sfv_serializer.specs.Scripts.{described_list, described_dictionary, supplied_list, supplied_dictionary, tried_list, tried_dictionary};
@@ -157,7 +157,7 @@ fn write_inner_items<W: Sink, K>(
     items: &[ItemCalls<'_>],
 ) -> Result<(), OutOfMemory>
     requires { sequence_version inner.old ≡ Rfc9651 }
-    ensures lent { inner_list_name inner.new ≡ inner_list_name inner.old }
+    ensures lent { (sequence_sink inner.new).ghost_name ≡ (sequence_sink inner.old).ghost_name }
     ensures text { OnOk result (HasAppended (lent_sequence W.Sink) inner.old inner.new
         (with_separators (is_empty_so_far inner.old) (codes " ") (map item_text (map item_of_calls items.now)))
         (is_first_after (is_empty_so_far inner.old) (map item_of_calls items.now))) }

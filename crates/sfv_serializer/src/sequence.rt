@@ -10,11 +10,11 @@ ghost use Rattle.sfv_spec.specs.Values.{IsBareValue};
 ghost use Rattle.sfv_spec.specs.declared.version.Version.TheVariants.{Rfc9651};
 ghost use Rattle.sfv_spec.specs.Canonical.{bare_text};
 ghost use Rattle.sfv_bare.specs.BareItems.{ref_value};
-ghost use Rattle.sfv_writer.specs.Versions.{separated, OnOutOfMemory, ChecksVersionFirst};
+ghost use Rattle.sfv_writer.specs.Versions.{OnOutOfMemory, ChecksVersionFirst};
 ghost use Rattle.sfv_serializer.specs.Serializers.{IsSameSequence, KeepsSequence, HasAppendedNext, sequence_sink};
-ghost use Rattle.sfv_serializer.specs.Serializers.{sequence_version, is_empty_so_far, params_name, params_version};
-ghost use Rattle.sfv_serializer.specs.Serializers.{WritesAll, FailsToWrite, InnerListRests, ParamsRest, HasAppendedItem, HasAppendedOpening, BeginsAfter, LacksNext};
-ghost use Rattle.sfv_serializer.specs.Serializers.{inner_list_name};
+ghost use Rattle.sfv_serializer.specs.Serializers.{sequence_version, is_empty_so_far, params_sink, params_version};
+ghost use Rattle.sfv_serializer.specs.Serializers.{WritesAll, FailsToWrite, AfterErrInner, AfterErr, HasAppendedItem, HasAppendedOpening, BeginsAfter, LacksNext};
+ghost use Rattle.sfv_serializer.specs.Serializers.{sequence_sink};
 
 use crate::fragment::{BareItemFragment, Fragment, Separated, TokenFragment, append};
 use crate::inner_list_serializer::InnerListSerializer;
@@ -46,7 +46,7 @@ pub struct SequenceSerializer<W, K> {
 impl<'a, K: TopLevel> SequenceSerializer<&'a mut StdString, K> {
     /// Creates a serializer that appends to `buffer`, under RFC 9651.
     pub fn with_buffer(buffer: &'a mut StdString) -> SequenceSerializer<&'a mut StdString, K>
-        ensures lent { (sequence_sink result).ghost_name ≡ buffer.entry.ghost_name }
+        ensures same_buffer { (sequence_sink result).ghost_name ≡ buffer.entry.ghost_name }
         ensures text { string_bytes (sequence_sink result).now ≡ string_bytes buffer.old }
         ensures room { string_capacity (sequence_sink result).now ≡ string_capacity buffer.old }
         ensures none { is_empty_so_far result ≡ true }
@@ -60,7 +60,7 @@ impl<'a, K: TopLevel> SequenceSerializer<&'a mut StdString, K> {
         buffer: &'a mut StdString,
         version: Version,
     ) -> SequenceSerializer<&'a mut StdString, K>
-        ensures lent { (sequence_sink result).ghost_name ≡ buffer.entry.ghost_name }
+        ensures same_buffer { (sequence_sink result).ghost_name ≡ buffer.entry.ghost_name }
         ensures text { string_bytes (sequence_sink result).now ≡ string_bytes buffer.old }
         ensures room { string_capacity (sequence_sink result).now ≡ string_capacity buffer.old }
         ensures none { is_empty_so_far result ≡ true }
@@ -130,10 +130,8 @@ impl<W: Sink, K: SequenceKind> SequenceSerializer<W, K> {
     ) -> Result<(), SerializeError>
         requires can { I.can_next elements }
         requires ends { IsFinite (I.remaining elements) }
-        ensures text { OnOk result (WritesAll W.Sink (separated K.separator E.text E.values E.is_valid) I.next_gives elements
-            self.old self.new) }
-        ensures failed { IfErr result (FailsToWrite W.Sink (separated K.separator E.text E.values E.is_valid) I.next_gives
-            elements self.old) }
+        ensures text { OnOk result (WritesAll W.Sink K.separator E.part I.next_gives elements self.old self.new) }
+        ensures failed { IfErr result (FailsToWrite W.Sink K.separator E.part I.next_gives elements self.old) }
         ensures kept { OnErr result (KeepsSequence W.Sink self.old self.new) }
     {
         let separator = K::separator();
@@ -153,8 +151,8 @@ impl<W: Sink, K: SequenceKind> SequenceSerializer<W, K> {
         &mut self,
         opening: P,
     ) -> Result<InnerListSerializer<&mut SequenceSerializer<W, K>>, OutOfMemory>
-        ensures* out_of_memory { sem 𝓛 (InnerListRests W.row K.row (KeepsSequence W.Sink) self.entry result) }
-        ensures lent { IfOk result (λ s. inner_list_name s ≡ self.entry.ghost_name) }
+        ensures* kept { sem 𝓛 (AfterErrInner W.row K.row (KeepsSequence W.Sink) self.entry result) }
+        ensures lent { IfOk result (λ s. (sequence_sink s).ghost_name ≡ self.entry.ghost_name) }
         ensures version { IfOk result (λ s. sequence_version s ≡ sequence_version self.old) }
         ensures text { IfOk result (HasAppendedOpening W.Sink K.separator self.old (P.text opening)) }
         ensures room { OnErr result (LacksNext W.Sink K.separator self.old (P.text opening)) }
@@ -188,8 +186,8 @@ impl<W: Sink, K: Keyless> SequenceSerializer<W, K> {
         &mut self,
         bare_item: RefBareItem<'_>,
     ) -> Result<ParameterSerializer<'_, SequenceSerializer<W, K>>, SerializeError>
-        ensures* kept { sem 𝓛 (ParamsRest W.row K.row (KeepsSequence W.Sink) self.entry result) }
-        ensures lent { IfOk result (λ p. params_name p ≡ self.entry.ghost_name) }
+        ensures* kept { sem 𝓛 (AfterErr W.row K.row (KeepsSequence W.Sink) self.entry result) }
+        ensures lent { IfOk result (λ p. (params_sink p).ghost_name ≡ self.entry.ghost_name) }
         ensures version { IfOk result (λ p. params_version p ≡ sequence_version self.old) }
         ensures unsupported { ChecksVersionFirst (sequence_version self.old) (ref_value bare_item.entry ∷ []) result }
         ensures text { IfOk result (HasAppendedItem W.Sink K.separator self.old (bare_text (ref_value bare_item.entry))) }

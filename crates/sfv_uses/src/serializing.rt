@@ -12,7 +12,7 @@ ghost use Rattle.sfv.specs.BareItems.{ref_value};
 ghost use Rattle.sfv.specs.CheckedTexts.{text_of};
 ghost use Rattle.sfv.specs.Written.{keyed_text, with_separators};
 ghost use Rattle.sfv.specs.Serializers.{lent_sequence, HasAppended, HasAppendedNext, GrowsSequence, KeepsSequence};
-ghost use Rattle.sfv.specs.Serializers.{inner_list_name, is_empty_so_far};
+ghost use Rattle.sfv.specs.Serializers.{sequence_sink, is_empty_so_far};
 ghost use Rattle.sfv_uses.specs.Uses.{item_of_one, item_of_two, pair_of, example_dictionary, Adds};
 
 use crate::writing::write_item;
@@ -87,7 +87,7 @@ pub fn write_inner<W: Sink, K>(
     inner: &mut InnerListSerializer<&mut SequenceSerializer<W, K>>,
     value: RefBareItem<'_>,
 ) -> Result<(), SerializeError>
-    ensures lent { inner_list_name inner.new ≡ inner_list_name inner.old }
+    ensures lent { (sequence_sink inner.new).ghost_name ≡ (sequence_sink inner.old).ghost_name }
     ensures text { OnOk result (HasAppendedNext (lent_sequence W.Sink) (codes " ") inner.old inner.new
         (bare_text (ref_value value.entry)) false) }
     ensures grows { GrowsSequence (lent_sequence W.Sink) inner.old inner.new }
@@ -266,7 +266,7 @@ fn write_pair<W: Sink, K>(
     param: (KeyRef<'_>, RefBareItem<'_>),
     second: RefBareItem<'_>,
 ) -> Result<(), SerializeError>
-    ensures lent { inner_list_name inner.new ≡ inner_list_name inner.old }
+    ensures lent { (sequence_sink inner.new).ghost_name ≡ (sequence_sink inner.old).ghost_name }
     ensures text { OnOk result (HasAppended (lent_sequence W.Sink) inner.old inner.new
         (with_separators (is_empty_so_far inner.old) (codes " ") (map item_text (pair_of (ref_value first.entry)
         (text_of param.entry.0) (ref_value param.entry.1) (ref_value second.entry)))) false) }

@@ -2,13 +2,13 @@
 use Rattle.std.proofs.Common.{◌≡◌, ℕ, ◌+◌, ◌<◌, ◌≤◌, ◌/◌, ◌%◌, Bool, true, false, eqb, List, [], ◌∷◌, ◌++◌, refl, ap, subst}
 use Rattle.std.proofs.Common.{◌∙◌, arith, sym, Result, ℤ, pos, negsuc, to_z, of_z, w64}
 use Rattle.std.specs.Prelude.{MatchResult, nat_abs, int_lt, codes, decimal as decimal_digits}
-use Rattle.std.proofs.lemmas.Bool.{ltb-true}
 use Rattle.std.proofs.lemmas.Fmt.{decimal_digit, decimal_step}
 use Rattle.std.proofs.lemmas.Int.{to_z-of_z}
 use Rattle.std.specs.Fmt.{signed_decimal}
 use Rattle.sfv_spec.proofs.Marks.{digit_zero}
-use Rattle.sfv_spec.specs.Numbers.{is_negative}
+use Rattle.std.specs.Int.{is_negative}
 use Rattle.sfv_spec.proofs.Marks.{minus_text}
+use Rattle.sfv_spec.proofs.Written.{not_negative}
 use Rattle.sfv_spec.specs.Canonical.{fraction_digits, decimal_text}
 use Rattle.sfv_writer.specs.Written.{Extends}
 use Rattle.sfv_writer.proofs.Appended.{put, next, after}
@@ -56,9 +56,7 @@ pub minus_of : (v z : ℤ) (b : Bool) → v ≡ z → int_lt v (pos 0) ≡ b →
 minus_of v z b e h = ap minus_text (test z b (rw e at h))
   where
     test : (z : ℤ) (b : Bool) → int_lt z (pos 0) ≡ b → is_negative z ≡ b
-    test (pos n) true e = absurd (omega (arith, ltb-true n 0 e))
-    test (pos n) false e = refl
-    test (negsuc n) b e = e
+    test z b e = e
 
 -- what is written in front of the digits
 pub front_of : (old text sign mid new : List ℕ) → new ≡ mid → mid ≡ old ++ text → text ≡ sign → new ≡ old ++ sign
@@ -66,7 +64,8 @@ front_of old text sign mid new a b e = a ∙ put old text sign mid b e
 
 -- a sign and digits are the text of an integer
 signed_text : (z : ℤ) → minus_text (is_negative z) ++ decimal_digits (nat_abs z) ≡ signed_decimal z
-signed_text (pos n) = refl
+signed_text (pos n) =
+    ap (λ (b : Bool). minus_text b ++ decimal_digits n) (not_negative n)
 signed_text (negsuc n) = refl
 
 -- the digits of a number that is not below zero are its text

@@ -3,8 +3,8 @@ use Rattle.std.proofs.Common.{◌≡◌, ◌≤◌, ◌<◌, ◌+◌, ℕ, suc, 
 use Rattle.std.proofs.Common.{refl, sym, ap, subst, ◌∙◌, arith, Result, Ok, Err}
 use Rattle.std.specs.Prelude.{Option, Some, IfErr, IsErrAnd}
 use Rattle.std.specs.Borrow.{Bor}
-use Rattle.std.specs.Iterator.{Yields}
-use Rattle.std.specs.Map.Iter.{TakesFirst, deref_pair}
+use Rattle.std.specs.Iterator.{Yields, Drains}
+use Rattle.std.specs.Map.Iter.{TakesFirst, ShowsInOrder, deref_pair}
 use Rattle.std.specs.declared.string.String.{String}
 use Rattle.std.proofs.iter.Next.{Yields-more}
 use Rattle.std.proofs.lemmas.List.{length-append, map-append}
@@ -17,11 +17,13 @@ use Rattle.sfv_spec.specs.Canonical.{parameters_text}
 use Rattle.sfv_spec.specs.Values.{AllFit}
 use Rattle.sfv_bare.specs.BareItems.{bare_value}
 use Rattle.sfv_tree.specs.Trees.{OwnedBareItem, pairs_tree}
-use Rattle.sfv_writer.specs.Written.{LacksRoom, separator_before, with_separators, is_first_after, lent_pairs, param_text}
-use Rattle.sfv_writer.specs.Versions.{NamesFirstUnfit, LacksAmong}
+use Rattle.sfv_writer.specs.Written.{LacksRoom, separator_before, with_separators, is_first_after, param_text}
+use Rattle.sfv_writer.specs.Pairs.{lent_pairs}
+use Rattle.sfv_writer.specs.Versions.{NamesFirstUnfit, LacksAmong, parameter_pairs, parts_text}
+use Rattle.sfv_writer.proofs.Elements.{text_as}
 use Rattle.sfv_writer.specs.declared.serialize_error.SerializeError.{SerializeError}
 use Rattle.sfv_writer.proofs.Appended.{next}
-use Rattle.sfv_writer.proofs.Lent.{pairs_front}
+use Rattle.sfv_writer.proofs.Lent.{lent_all, pairs_front}
 use Rattle.sfv_writer.proofs.Looks.{at_exit, split_at}
 use Rattle.sfv_writer.proofs.Parameters.{parameters_push, lent_push}
 use Rattle.sfv_writer.proofs.Room.{len_of, room_after, room_before, room_shorter}
@@ -220,16 +222,28 @@ module _ {Z A B : Type 0} (f : A → B) (text_of : B → List ℕ) (IsGood : B �
 -- ---- the elements of a map or a slice, some of which were taken
 
 -- no room for the parameters that were taken
-pub parameters_lack : {Z : Type 0} (old : String Z) (s t : List (List ℕ × OwnedBareItem))
+pub pairs_lack : {Z : Type 0} (old : String Z) (s t : List (List ℕ × OwnedBareItem))
     (taken : List (Bor (List ℕ) × Bor OwnedBareItem)) → Yields (TakesFirst deref_pair) s taken t
     → LacksRoom old (parameters_text (lent_pairs taken)) → LacksRoom old (parameters_text (pairs_tree s))
-parameters_lack old s t taken ran h =
+pairs_lack old s t taken ran h =
     let front : RawParameters = lent_pairs taken in
     let whole : parameters_text (pairs_tree s) ≡ parameters_text front ++ parameters_text (pairs_tree t) =
     ap parameters_text (pairs_front s t taken ran)
     ∙ flat_map-append (λ p. param_text p.0 p.1) front (pairs_tree t) in
     subst (λ (l : List ℕ). LacksRoom old l) (sym whole)
     (room_before old (parameters_text front) (parameters_text (pairs_tree t)) h)
+
+pub parameters_lack : {Z : Type 0} (old : String Z) (s t : List (List ℕ × OwnedBareItem))
+    (taken : List (Bor (List ℕ) × Bor OwnedBareItem)) → Yields (TakesFirst deref_pair) s taken t
+    → LacksRoom old (parts_text parameter_pairs [] true taken) → LacksRoom old (parameters_text (pairs_tree s))
+parameters_lack old s t taken ran h =
+    pairs_lack old s t taken ran (subst (λ (l : List ℕ). LacksRoom old l) (text_as true taken) h)
+
+-- all parameters of a map were taken
+pub parameters_all : (es : List (List ℕ × OwnedBareItem)) (taken : List (Bor (List ℕ) × Bor OwnedBareItem))
+    → ShowsInOrder (deref_pair {K = List ℕ} {X = OwnedBareItem}) → Drains (TakesFirst deref_pair) es taken
+    → parts_text parameter_pairs [] true taken ≡ parameters_text (pairs_tree es)
+parameters_all es taken runs all = text_as true taken ∙ ap parameters_text (lent_all es taken runs all)
 
 -- no room for the text with one more parameter
 module _ {Z : Type 0} (k : Bor (List ℕ)) (v : Bor OwnedBareItem) (ps : List (Bor (List ℕ) × Bor OwnedBareItem))

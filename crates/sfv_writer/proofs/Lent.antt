@@ -12,7 +12,8 @@ use Rattle.std.proofs.lemmas.Simd.{map-map}
 use Rattle.sfv_tree.specs.Trees.{OwnedBareItem, pairs_tree, member_tree, list_tree, dictionary_tree}
 use Rattle.sfv_tree.proofs.Words.{pair_tree, entry_tree}
 use Rattle.sfv_tree.specs.declared.parsed.ListEntry.{ListEntry}
-use Rattle.sfv_writer.specs.Written.{lent_pairs, lent_list_member, lent_dictionary_member}
+use Rattle.sfv_writer.specs.Pairs.{lent_pairs}
+use Rattle.sfv_writer.proofs.Words.{lent_list_member, lent_dictionary_member}
 
 -- what was taken from a map, to the end, is all of it
 all_of_map : {X : Type 0} (es : List (List ℕ × X)) (xs : List (Bor (List ℕ) × Bor X))

@@ -12,3 +12,4 @@ pub mod Lent
 pub mod Rows
 pub mod Drained
 pub mod Elements
+pub mod Words

@@ -1,9 +1,10 @@
 -- Values that are looked at one after another.
 use Rattle.std.proofs.Common.{◌≡◌, ℕ, zero, suc, ◌+◌, ◌<◌, List, [], ◌∷◌, ◌++◌, length, get_or, map, take, refl, sym, ap}
-use Rattle.std.proofs.Common.{false, subst, ◌∙◌, append_assoc, length-append, Result, Ok, Err, inl, inr, arith}
-use Rattle.std.specs.Prelude.{⊤, Option, Some, None, flat_map, MatchResult, IfErr, IsErrAnd}
+use Rattle.std.proofs.Common.{subst, ◌∙◌, length-append, Result, Ok, Err, inl, inr, arith}
+use Rattle.std.specs.Prelude.{⊤, not, Option, Some, None, flat_map, MatchResult, IfErr, IsErrAnd}
 use Rattle.std.specs.Borrow.{Bor}
 use Rattle.std.specs.Iterator.{Yields, Drains}
+use Rattle.std.specs.List.{find}
 use Rattle.std.specs.Map.Iter.{TakesFirst, deref}
 use Rattle.std.proofs.lemmas.Result.{err_from_is_err_and}
 use Rattle.std.proofs.lemmas.List.Concat.{flat_map-append}
@@ -20,12 +21,11 @@ use Rattle.sfv_spec.specs.declared.version.Version.TheVariants.{Rfc9651}
 use Rattle.sfv_spec.specs.Values.{RawField, HasMember}
 use Rattle.sfv_spec.specs.Values.{bare_values}
 use Rattle.sfv_spec.specs.Values.{fits_bare, AllFit}
-use Rattle.sfv_bare.specs.Kinds.{kind_of_value}
 use Rattle.sfv_bare.specs.BareItems.{bare_value}
 use Rattle.sfv_tree.specs.Trees.{OwnedBareItem, pairs_tree, member_tree, dictionary_tree}
 use Rattle.sfv_tree.specs.declared.parsed.ListEntry.{ListEntry}
 use Rattle.std.specs.Map.{values_of}
-use Rattle.sfv_spec.proofs.Given.{newer_has_all}
+use Rattle.sfv_spec.proofs.Given.{found_front, found_after, newer_has_all}
 use Rattle.sfv_writer.proofs.Rows.{mapped_more}
 use Rattle.sfv_writer.specs.Versions.{NamesFirstUnfit, ChecksVersion, ChecksVersionFirst, IsSerializeError, FailsAmong, FailsFrom}
 use Rattle.sfv_spec.specs.Values.{member_values}
@@ -34,41 +34,16 @@ use Rattle.sfv_spec.proofs.Fields.{fit_append}
 use Rattle.sfv_writer.specs.declared.serialize_error.SerializeError.{SerializeError}
 use Rattle.sfv_writer.specs.declared.serialize_error.SerializeError.TheVariants as errors
 
--- one value that doesn't fit
-pub lacks : (version : Version) (b : BareValue) → fits_bare version b ≡ false
-    → NamesFirstUnfit version (b ∷ []) (errors.Unsupported (kind_of_value b))
-lacks version b h = (b, record { before = []; after = []; split = refl; fit = tt; unfit = h }, refl)
-
 -- ---- in front of others and after them
 
 -- the first that doesn't fit is that of more
 pub names_front : (version : Version) (bs cs : List BareValue) (e : SerializeError) → NamesFirstUnfit version bs e
     → NamesFirstUnfit version (bs ++ cs) e
-names_front version bs cs e h = (
-  h.0,
-  record {
-    before = h.1.before;
-    after = h.1.after ++ cs;
-    split = ap (λ (l : List BareValue). l ++ cs) h.1.split ∙ append_assoc h.1.before (h.0 ∷ h.1.after) cs;
-    fit = h.1.fit;
-    unfit = h.1.unfit;
-  },
-  h.2,
-)
+names_front version bs cs e h = (h.0, found_front version bs cs h.0 h.1, h.2)
 
 pub names_after : (version : Version) (bs cs : List BareValue) (e : SerializeError) → AllFit version bs
     → NamesFirstUnfit version cs e → NamesFirstUnfit version (bs ++ cs) e
-names_after version bs cs e f h = (
-  h.0,
-  record {
-    before = bs ++ h.1.before;
-    after = h.1.after;
-    split = ap (λ (l : List BareValue). bs ++ l) h.1.split ∙ sym (append_assoc bs h.1.before (h.0 ∷ h.1.after));
-    fit = fit_append version bs h.1.before f h.1.fit;
-    unfit = h.1.unfit;
-  },
-  h.2,
-)
+names_after version bs cs e f h = (h.0, found_after version bs cs h.0 f h.1, h.2)
 
 -- others are looked at after those that fit
 pub looks_after : {T : Type 0} (version : Version) (bs cs : List BareValue) (r : Result T SerializeError)
@@ -239,17 +214,16 @@ pub memory_fails : {T : Type 0} (version : Version) (values : List BareValue) (r
     → IsErrAnd r (λ y. y ≡ errors.OutOfMemory) → AllFit version values → ChecksVersionFirst version values r
 memory_fails version values r exit h = at_exit r errors.OutOfMemory _ _ exit (inl (refl, h))
 
-pub not_of_none : {A : Type 0} (xs : List A) (y : A) (ys : List A) → ¬ ([] ≡ xs ++ y ∷ ys)
-not_of_none [] y ys = λ e. cc
-not_of_none (x ∷ xs) y ys = λ e. cc
+pub not_of_none : (version : Version) (b : BareValue) → find (λ v. not (fits_bare version v)) [] ≡ Some b → ⊥
+not_of_none version b e = absurd cc
 
 -- what has a value that doesn't fit has a member
 pub named_has_member : (version : Version) (kind : FieldKind) (raw : RawField kind) (e : SerializeError)
     → NamesFirstUnfit version (bare_values kind raw) e → HasMember kind raw
 named_has_member version item_field i e h = tt
-named_has_member version list_field [] e h = absurd (not_of_none h.1.before h.0 h.1.after h.1.split)
+named_has_member version list_field [] e h = absurd (not_of_none version h.0 h.1)
 named_has_member version list_field (m ∷ ms) e h = (m, ms, refl)
-named_has_member version dictionary_field [] e h = absurd (not_of_none h.1.before h.0 h.1.after h.1.split)
+named_has_member version dictionary_field [] e h = absurd (not_of_none version h.0 h.1)
 named_has_member version dictionary_field (m ∷ ms) e h = (m, ms, refl)
 
 -- the values of parameters, as a map lends them

@@ -12,8 +12,8 @@ use Rattle.sfv_spec.specs.Canonical.{parameters_text}
 use Rattle.sfv_spec.specs.Values.{AllFit}
 use Rattle.sfv_bare.specs.BareItems.{bare_value}
 use Rattle.sfv_tree.specs.Trees.{OwnedBareItem, pairs_tree}
-use Rattle.sfv_writer.specs.Written.{lent_pairs, param_text}
-use Rattle.sfv_writer.specs.Versions.{parameter_pairs}
+use Rattle.sfv_writer.specs.Written.{param_text}
+use Rattle.sfv_writer.specs.Pairs.{lent_pairs, pair_values}
 use Rattle.sfv_writer.proofs.Appended.{next}
 
 -- the text of one more, after those of all before
@@ -55,8 +55,8 @@ module _ (k : Bor (List ℕ)) (v : Bor OwnedBareItem) where
 
   -- whose value fits
   pub fit_more : (version : Version) (ps : List (Bor (List ℕ) × Bor OwnedBareItem))
-      → AllFit version (parameter_pairs.values ps) → AllFit version (bare_value v.now ∷ [])
-      → AllFit version (parameter_pairs.values (ps ++ (k, v) ∷ []))
+      → AllFit version (pair_values ps) → AllFit version (bare_value v.now ∷ [])
+      → AllFit version (pair_values (ps ++ (k, v) ∷ []))
   fit_more version [] h fit = fit
   fit_more version (p ∷ ps) h fit = (h.0, fit_more version ps h.1 fit)
 

@@ -4,15 +4,18 @@ use Rattle.std.specs.Prelude.{Option, Some, None}
 use Rattle.sfv_spec.specs.Values.{RawField, IsFieldValue}
 use Rattle.sfv_spec.specs.declared.field_kind.FieldKind.{FieldKind}
 use Rattle.sfv_spec.specs.declared.version.Version.{Version}
-use Rattle.sfv_spec.specs.declared.version.Version.TheVariants.{Rfc9651}
+use Rattle.sfv_spec.specs.declared.version.Version.TheVariants.{Rfc8941, Rfc9651}
 use Rattle.sfv_spec.specs.Values.{bare_values}
 use Rattle.sfv_spec.specs.Values.{Fits}
 use Rattle.sfv_spec.specs.Ordered.{ordered}
-use Rattle.sfv_spec.specs.Statements.{IsValue, IsParsedAs, IsWrittenAs, IsSerializedAs}
+use Rattle.sfv_spec.specs.Grammar.{IsFieldText}
+use Rattle.sfv_spec.specs.Statements.{IsValue, IsParsedAs, IsSerializedAs}
 use Rattle.sfv_spec.specs.Canonical.{canonical}
 use Rattle.sfv_spec.proofs.Fields.{all_fit_newer}
 use Rattle.sfv_spec.proofs.Laws.{round_trip_lem}
 use Rattle.sfv_spec.proofs.Structure.{one_field_lem}
+use Rattle.sfv_spec.proofs.Valid.{accepted_is_value_lem}
+use Rattle.sfv_spec.proofs.Versions.{newer_accepts_lem}
 
 -- what is written of a field that fits a version is read by it as its ordered value: repeated keys too
 pub read_back : (version : Version) (kind : FieldKind) (raw : RawField kind) → IsFieldValue kind raw → Fits version kind raw
@@ -33,22 +36,43 @@ value_read_back version kind value v fits = subst (IsParsedAs version kind (cano
     ((round_trip_lem version kind value v.parts fits).1 v.distinct) (read_back version kind value v.parts fits)
 
 -- the canonical text of a value that fits a version is read back by it as this value
-pub written_for : (version : Version) (kind : FieldKind) (value : RawField kind) (t : List ℕ) → IsValue kind value
-    → Fits version kind value → t ≡ canonical kind value → IsWrittenAs version kind value t
-written_for version kind value t v fits e = record {
-  is_value = v;
-  fits = fits;
-  text = e;
-  read_back = subst (λ s. IsParsedAs version kind s value) (sym e) (value_read_back version kind value v fits);
-}
+abbrev pub IsWritten : Version → (kind : FieldKind) → RawField kind → List ℕ → Type 0
+IsWritten version kind value t = (t ≡ canonical kind value) × IsParsedAs version kind t value
+
+written_for : (version : Version) (kind : FieldKind) (value : RawField kind) (t : List ℕ) → IsValue kind value
+    → Fits version kind value → t ≡ canonical kind value → IsWritten version kind value t
+written_for version kind value t v fits e =
+    (e, subst (λ s. IsParsedAs version kind s value) (sym e) (value_read_back version kind value v fits))
 
 -- under RFC 9651 every value fits
 pub written : (kind : FieldKind) (value : RawField kind) (t : List ℕ) → IsValue kind value → t ≡ canonical kind value
-    → IsWrittenAs Rfc9651 kind value t
+    → IsWritten Rfc9651 kind value t
 written kind value t v e = written_for Rfc9651 kind value t v (all_fit_newer (bare_values kind value)) e
+
+-- what is parsed is a value
+parsed_is_value : (version : Version) (kind : FieldKind) (value : RawField kind) (t : List ℕ)
+    → IsParsedAs version kind t value → IsValue kind value
+parsed_is_value version kind value t h = subst (IsValue kind) (sym h.holds)
+    (accepted_is_value_lem version kind t h.raw h.accepted).1
+
+-- what is serialized for a version is a value, and the version has it
+pub serialized_is_value : (version : Version) (kind : FieldKind) (value : RawField kind) (t : List ℕ)
+    → IsSerializedAs version kind value (Some t) → IsValue kind value × Fits version kind value
+serialized_is_value version kind value t h =
+    let parsed = h.2 in
+    let v = parsed_is_value version kind value t parsed in
+    let same = one_field_lem Rfc9651 kind t parsed.raw value (newer version parsed.raw parsed.accepted)
+    (subst (IsFieldText Rfc9651 kind value) (sym h.1)
+    (round_trip_lem Rfc9651 kind value v.parts (all_fit_newer (bare_values kind value))).0) in
+    (v, subst (Fits version kind) same (accepted_is_value_lem version kind t parsed.raw parsed.accepted).2)
+  where
+    newer : (version : Version) (raw : RawField kind) → IsFieldText version kind raw t → IsFieldText Rfc9651 kind raw t
+    newer Rfc8941 raw a = newer_accepts_lem kind raw t a
+    newer Rfc9651 raw a = a
 
 -- what is serialized under RFC 9651 is so under every version that the value fits
 pub serialized_for : (version : Version) (kind : FieldKind) (value : RawField kind) (o : Option (List ℕ))
     → Fits version kind value → IsSerializedAs Rfc9651 kind value o → IsSerializedAs version kind value o
 serialized_for version kind value None fits h = h
-serialized_for version kind value (Some t) fits h = (h.0, written_for version kind value t h.1.is_value fits h.1.text)
+serialized_for version kind value (Some t) fits h =
+    let w = written_for version kind value t (parsed_is_value Rfc9651 kind value t h.2) fits h.1 in (h.0, w.0, w.1)

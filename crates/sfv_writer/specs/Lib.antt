@@ -1,4 +1,5 @@
 pub mod Written
 pub mod Versions
+pub mod Pairs
 pub mod Quoted
 pub mod Base64

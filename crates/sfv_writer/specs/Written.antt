@@ -1,20 +1,16 @@
 -- The text of a buffer after an append.
-use Rattle.std.specs.Prelude.{◌≡◌, ℕ, Bool, false, if◌then◌else◌, List, [], ◌∷◌, ◌++◌, map, Result, MatchResult}
+use Rattle.std.specs.Prelude.{◌≡◌, ℕ, Bool, false, if◌then◌else◌, List, [], ◌∷◌, ◌++◌, Result, MatchResult}
 use Rattle.std.specs.Prelude.{codes, string_bytes, string_len, string_capacity, length, IsUtf8, Option, option_map}
 use Rattle.std.specs.Prelude.{◌≤◌, ◌<◌, ◌+◌, OnErr}
-use Rattle.std.specs.Borrow.{Bor}
 use Rattle.std.specs.declared.alloc.Global.{Global}
 use Rattle.std.specs.declared.string.String.{String}
-use Rattle.sfv_spec.specs.Values.{RawField, BareValue, RawParameters, RawItem, RawMember}
+use Rattle.sfv_spec.specs.Values.{RawField, BareValue}
 use Rattle.sfv_spec.specs.declared.field_kind.FieldKind.{FieldKind}
 use Rattle.sfv_spec.specs.declared.version.Version.{Version}
 use Rattle.sfv_spec.specs.declared.version.Version.TheVariants.{Rfc9651}
 use Rattle.sfv_spec.specs.Ordered.{ordered}
 use Rattle.sfv_spec.specs.Canonical.{value_text, canonical}
 use Rattle.sfv_spec.specs.Statements.{IsParsedAs, IsSerializedAs}
-use Rattle.sfv_tree.specs.Trees.{OwnedBareItem, pairs_tree, item_tree, member_tree}
-use Rattle.sfv_tree.specs.declared.parsed.Item.{Item}
-use Rattle.sfv_tree.specs.declared.parsed.ListEntry.{ListEntry}
 
 -- the old text is a prefix of the new one
 abbrev pub Extends : List ℕ → List ℕ → Type 0
@@ -38,10 +34,6 @@ LacksRoom old text = string_capacity old < string_len old + length text
 -- The capacity doesn't shrink, and an error comes only where the old capacity doesn't hold the added text.
 abbrev pub AsksForRoom : {Z T E : Type 0} → String Z → String Z → List ℕ → Result T E → Type 0
 AsksForRoom old new text result = (string_capacity old ≤ string_capacity new) × OnErr result (LacksRoom old text)
-
--- the pairs of borrowed parameters
-abbrev pub lent_pairs : List (Bor (List ℕ) × Bor OwnedBareItem) → RawParameters
-lent_pairs pairs = pairs_tree (map (λ p. (p.0.now, p.1.now)) pairs)
 
 -- the text of a key with its value; the text of a parameter
 abbrev pub keyed_text : List ℕ → BareValue → List ℕ
@@ -69,19 +61,10 @@ pub record IsTruncatedTo (len : ℕ) (old new : List ℕ) : Type 0 where
 -- parts in order, each after the separator unless it is the first
 abbrev pub with_separators : Bool → List ℕ → List (List ℕ) → List ℕ
 with_separators is_first separator [] = []
-with_separators is_first separator (t ∷ ts) = separator_before is_first separator ++ t ++ with_separators false separator ts
+with_separators is_first separator (t ∷ ts) =
+    separator_before is_first separator ++ t ++ with_separators false separator ts
 
 -- no part is written yet, after these parts
 abbrev pub is_first_after : {A : Type 0} → Bool → List A → Bool
 is_first_after is_first [] = is_first
 is_first_after is_first (x ∷ xs) = false
-
--- a borrowed argument, as a part of a field
-abbrev pub lent_item : Bor Item → RawItem
-lent_item item = item_tree item.now
-
-abbrev pub lent_list_member : Bor ListEntry → RawMember
-lent_list_member member = member_tree member.now
-
-abbrev pub lent_dictionary_member : Bor (List ℕ) × Bor ListEntry → List ℕ × RawMember
-lent_dictionary_member member = (member.0.now, member_tree member.1.now)

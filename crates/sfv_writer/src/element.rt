@@ -1,19 +1,14 @@
 //! The elements of lists, dictionaries and inner lists, and functions that append all elements of an iterator or none.
 #![tactic(auto, using(crate::proofs::Written::cut_to))]
 
-ghost use Rattle.std.specs.Prelude.{◌≡◌, ◌++◌, ℕ, List, IfErr, IfOk, OnOk, OnErr, IsTrue, map, flat_map};
+ghost use Rattle.std.specs.Prelude.{◌≡◌, ◌++◌, List, IfErr, IfOk, OnOk, OnErr, map, flat_map};
 ghost use Rattle.std.specs.Prelude.{◌≤◌, string_bytes, string_capacity};
 ghost use Rattle.std.specs.List.{AllByRecursion};
 ghost use Rattle.std.specs.Iterator.{IsFinite, Drains};
-ghost use Rattle.sfv_spec.specs.Classes.{is_key};
-ghost use Rattle.sfv_spec.specs.Values.{BareValue, IsItem, IsMember};
-ghost use Rattle.sfv_spec.specs.Ordered.{IsOrderedItem, IsOrderedMember};
-ghost use Rattle.sfv_spec.specs.Canonical.{item_text, member_text, dictionary_member_text};
 ghost use Rattle.sfv_spec.specs.Values.{AllFit};
-ghost use Rattle.sfv_tree.specs.Trees.{member_tree};
-ghost use Rattle.sfv_writer.specs.Versions.{ChecksVersion, FailsAmong, LacksAmong, StopsEarly, separated};
-ghost use Rattle.sfv_spec.specs.Values.{item_values, member_values};
-ghost use Rattle.sfv_writer.specs.Written.{AsksForRoom, Appends, Extends, with_separators, is_first_after, lent_item, lent_list_member, lent_dictionary_member};
+ghost use Rattle.sfv_writer.specs.Versions.{ChecksVersion, FailsAmong, LacksAmong, PartKind, AppendsAll, StopsEarly};
+ghost use Rattle.sfv_writer.specs.Versions.{inner_items, list_members, dictionary_members};
+ghost use Rattle.sfv_writer.specs.Written.{AsksForRoom, Appends, Extends, with_separators, is_first_after};
 
 use crate::item::serialize_item;
 use crate::member::{serialize_dictionary_member, serialize_member};
@@ -31,11 +26,7 @@ use std::string::String as StdString;
 // The functions that append an element are inlined into the loop of each caller, except for inner lists. A member that
 // is a token then takes 65 instructions instead of 90.
 pub trait Element: Copy {
-    ghost text: { Self → List ℕ };
-
-    ghost is_valid: { Self → Type 0 };
-
-    ghost values: { Self → List BareValue };
+    ghost part: { PartKind Self };
 
     /// Checks that `version` has every value of the element.
     ///
@@ -43,7 +34,7 @@ pub trait Element: Copy {
     ///
     /// Returns `SerializeError::Unsupported` with the kind of the first value that `version` lacks.
     fn check(self, version: Version) -> Result<(), SerializeError>
-        ensures { ChecksVersion version (values self) result };
+        ensures { ChecksVersion version (part.values self) result };
 
     /// Appends the text of the element.
     ///
@@ -51,17 +42,13 @@ pub trait Element: Copy {
     ///
     /// Returns `OutOfMemory` if memory runs out. The old text is then still a prefix of `output`.
     fn serialize<A: Allocator>(self, output: &mut StdString<A>) -> Result<(), OutOfMemory>
-        ensures text { Appends output.old output.new (text self) result }
-        ensures room { AsksForRoom output.old output.new (text self) result }
-        ensures valid { OnOk result (is_valid self) };
+        ensures text { Appends output.old output.new (part.text self) result }
+        ensures room { AsksForRoom output.old output.new (part.text self) result }
+        ensures valid { OnOk result (part.is_valid self) };
 }
 
 impl<'m> Element for &'m Item {
-    ghost text = { λ i. item_text (lent_item i) };
-
-    ghost is_valid = { λ i. IsItem (lent_item i) × IsOrderedItem (lent_item i) };
-
-    ghost values = { λ i. item_values (lent_item i) };
+    ghost part = { inner_items };
 
     fn check(self, version: Version) -> Result<(), SerializeError> {
         check_item(version, self)
@@ -74,11 +61,7 @@ impl<'m> Element for &'m Item {
 }
 
 impl<'m> Element for &'m ListEntry {
-    ghost text = { λ m. member_text (lent_list_member m) };
-
-    ghost is_valid = { λ m. IsMember (lent_list_member m) × IsOrderedMember (lent_list_member m) };
-
-    ghost values = { λ m. member_values (lent_list_member m) };
+    ghost part = { list_members };
 
     fn check(self, version: Version) -> Result<(), SerializeError> {
         check_member(version, self)
@@ -91,12 +74,7 @@ impl<'m> Element for &'m ListEntry {
 }
 
 impl<'m> Element for (&'m Key, &'m ListEntry) {
-    ghost text = { λ m. dictionary_member_text (lent_dictionary_member m) };
-
-    ghost is_valid = { λ m. (IsTrue (is_key m.0.now) × IsMember (member_tree m.1.now))
-        × IsOrderedMember (member_tree m.1.now) };
-
-    ghost values = { λ m. member_values (lent_dictionary_member m).1 };
+    ghost part = { dictionary_members };
 
     fn check(self, version: Version) -> Result<(), SerializeError> {
         check_member(version, self.1)
@@ -120,12 +98,12 @@ pub(crate) fn serialize_each<E: Element, A: Allocator, I: Iterator<Item = E> + D
     requires can { I.can_next elements }
     requires ends { IsFinite (I.remaining elements) }
     ensures text { IfOk result (λ none. (taken : List _) × Drains I.next_gives elements taken
-        × (string_bytes output.new ≡ string_bytes output.old ++ with_separators is_first separator.now (map E.text taken))
-        × (none ≡ is_first_after is_first taken) × AllByRecursion E.is_valid taken
-        × AllFit version (flat_map E.values taken)) }
-    ensures failed { IfErr result (FailsAmong I.next_gives elements (flat_map E.values) version) }
-    ensures room { IfErr result (LacksAmong I.next_gives elements (flat_map E.values) version output.old
-        (λ taken. with_separators is_first separator.now (map E.text taken))) }
+        × (string_bytes output.new ≡ string_bytes output.old ++ with_separators is_first separator.now (map E.part.text taken))
+        × (none ≡ is_first_after is_first taken) × AllByRecursion E.part.is_valid taken
+        × AllFit version (flat_map E.part.values taken)) }
+    ensures failed { IfErr result (FailsAmong I.next_gives elements (flat_map E.part.values) version) }
+    ensures room { IfErr result (LacksAmong I.next_gives elements (flat_map E.part.values) version output.old
+        (λ taken. with_separators is_first separator.now (map E.part.text taken))) }
     ensures stays { string_capacity output.old ≤ string_capacity output.new }
     ensures kept { OnErr result (Extends (string_bytes output.old) (string_bytes output.new)) }
 {
@@ -139,35 +117,31 @@ pub(crate) fn serialize_each<E: Element, A: Allocator, I: Iterator<Item = E> + D
     Ok(none)
 }
 
-/// Appends each element, after the separator except for the first. Returns `true` if nothing has been written so far.
+/// Appends each part, after the separator except for the first. Returns `true` if nothing has been written so far.
 ///
 /// # Errors
 ///
 /// Returns `SerializeError::Unsupported` with the kind of the first value that `version` lacks, or `OutOfMemory` if
-/// memory runs out. After an error, `output` is unchanged.
+/// memory runs out. After an error, `text` is unchanged.
 pub fn append_each<E: Element, A: Allocator, I: Iterator<Item = E> + Drop>(
     version: Version,
     is_first: bool,
     separator: &str,
-    elements: I,
-    output: &mut StdString<A>,
+    parts: I,
+    text: &mut StdString<A>,
 ) -> Result<bool, SerializeError>
-    requires can { I.can_next elements }
-    requires ends { IsFinite (I.remaining elements) }
-    ensures text { IfOk result (λ none. (taken : List _) × Drains I.next_gives elements taken
-        × (string_bytes output.new ≡ string_bytes output.old ++ with_separators is_first separator.now (map E.text taken))
-        × (none ≡ is_first_after is_first taken) × AllByRecursion E.is_valid taken
-        × AllFit version (flat_map E.values taken)) }
-    ensures failed { IfErr result (StopsEarly (separated separator.now E.text E.values E.is_valid) version I.next_gives
-        elements output.old is_first) }
-    ensures stays { string_capacity output.old ≤ string_capacity output.new }
-    ensures kept { OnErr result (string_bytes output.new ≡ string_bytes output.old) }
+    requires can { I.can_next parts }
+    requires ends { IsFinite (I.remaining parts) }
+    ensures text { IfOk result (AppendsAll E.part version I.next_gives parts separator.now text.old is_first text.new) }
+    ensures failed { IfErr result (StopsEarly E.part version I.next_gives parts separator.now text.old is_first) }
+    ensures stays { string_capacity text.old ≤ string_capacity text.new }
+    ensures kept { OnErr result (string_bytes text.new ≡ string_bytes text.old) }
 {
-    let len = output.len();
-    match serialize_each(version, is_first, separator, elements, output) {
+    let len = text.len();
+    match serialize_each(version, is_first, separator, parts, text) {
         Ok(none) => Ok(none),
         Err(error) => {
-            truncate_to(len, output);
+            truncate_to(len, text);
             Err(error)
         }
     }

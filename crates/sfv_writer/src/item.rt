@@ -1,6 +1,6 @@
 //! Serialization of bare items, parameters and items (RFC 9651, sections 4.1.1.2, 4.1.3 and 4.1.3.1).
 
-ghost use Rattle.std.specs.Prelude.{◌≡◌, ◌∷◌, ◌++◌, List, true, IfErr, OnOk, OnErr, MatchBool, IsTrue, codes, string_bytes};
+ghost use Rattle.std.specs.Prelude.{◌≡◌, [], ◌∷◌, ◌++◌, List, true, IfErr, OnOk, OnErr, MatchBool, IsTrue, codes, string_bytes};
 ghost use Rattle.std.specs.Prelude.{◌≤◌, Some, IfOk, string_capacity};
 ghost use Rattle.std.specs.Iterator.{IsFinite, Drains};
 ghost use Rattle.sfv_spec.specs.Classes.{is_key, is_token};
@@ -16,8 +16,9 @@ ghost use Rattle.sfv_spec.specs.Values.{AllFit};
 ghost use Rattle.sfv_bare.specs.BareItems.{ref_value, bare_value};
 ghost use Rattle.sfv_text.specs.CheckedTexts.{text_of};
 ghost use Rattle.sfv_tree.specs.Trees.{pairs_tree, item_tree};
-ghost use Rattle.sfv_writer.specs.Written.{AsksForRoom, Appends, Extends, param_text, lent_pairs};
-ghost use Rattle.sfv_writer.specs.Versions.{FailsAmong, FailsFrom, LacksAmong, StopsEarly, parameter_pairs};
+ghost use Rattle.sfv_writer.specs.Written.{AsksForRoom, Appends, Extends, param_text};
+ghost use Rattle.sfv_writer.specs.Pairs.{lent_pairs, pair_values};
+ghost use Rattle.sfv_writer.specs.Versions.{FailsAmong, FailsFrom, LacksAmong, StopsEarly, AppendsParameters, parameter_pairs};
 
 use crate::byte_sequence::serialize_byte_sequence;
 use crate::capacity::text_for_item;
@@ -167,9 +168,9 @@ pub(crate) fn serialize_parameters<
     requires ends { IsFinite (I.remaining params) }
     ensures text { OnOk result ((pairs : List _) × Drains I.next_gives params pairs
         × (string_bytes output.new ≡ string_bytes output.old ++ parameters_text (lent_pairs pairs))
-        × AreParameters (lent_pairs pairs) × AllFit version (parameter_pairs.values pairs)) }
-    ensures failed { IfErr result (FailsAmong I.next_gives params parameter_pairs.values version) }
-    ensures room { IfErr result (LacksAmong I.next_gives params parameter_pairs.values version output.old
+        × AreParameters (lent_pairs pairs) × AllFit version (pair_values pairs)) }
+    ensures failed { IfErr result (FailsAmong I.next_gives params pair_values version) }
+    ensures room { IfErr result (LacksAmong I.next_gives params pair_values version output.old
         (λ taken. parameters_text (lent_pairs taken))) }
     ensures stays { string_capacity output.old ≤ string_capacity output.new }
     ensures grows { OnErr result (Extends (string_bytes output.old) (string_bytes output.new)) }
@@ -193,10 +194,10 @@ fn serialize_first_and_rest<'k, A: Allocator, I: Iterator<Item = (&'k Key, &'k B
     requires ends { IsFinite (I.remaining rest) }
     ensures text { OnOk result ((pairs : List _) × Drains I.next_gives rest pairs
         × (string_bytes output.new ≡ string_bytes output.old ++ parameters_text (lent_pairs (first.entry ∷ pairs)))
-        × AreParameters (lent_pairs (first.entry ∷ pairs)) × AllFit version (parameter_pairs.values (first.entry ∷ pairs))) }
+        × AreParameters (lent_pairs (first.entry ∷ pairs)) × AllFit version (pair_values (first.entry ∷ pairs))) }
     ensures failed { IfErr result
-        (FailsFrom I.next_gives rest (λ taken. parameter_pairs.values (first.entry ∷ taken)) version) }
-    ensures room { IfErr result (LacksAmong I.next_gives rest (λ taken. parameter_pairs.values (first.entry ∷ taken))
+        (FailsFrom I.next_gives rest (λ taken. pair_values (first.entry ∷ taken)) version) }
+    ensures room { IfErr result (LacksAmong I.next_gives rest (λ taken. pair_values (first.entry ∷ taken))
         version output.old (λ taken. parameters_text (lent_pairs (first.entry ∷ taken)))) }
     ensures stays { string_capacity output.old ≤ string_capacity output.new }
     ensures grows { OnErr result (Extends (string_bytes output.old) (string_bytes output.new)) }
@@ -220,10 +221,10 @@ fn append_first_and_rest<'k, A: Allocator, I: Iterator<Item = (&'k Key, &'k Bare
     requires ends { IsFinite (I.remaining rest) }
     ensures text { OnOk result ((pairs : List _) × Drains I.next_gives rest pairs
         × (string_bytes output.new ≡ string_bytes output.old ++ parameters_text (lent_pairs (first.entry ∷ pairs)))
-        × AreParameters (lent_pairs (first.entry ∷ pairs)) × AllFit version (parameter_pairs.values (first.entry ∷ pairs))) }
+        × AreParameters (lent_pairs (first.entry ∷ pairs)) × AllFit version (pair_values (first.entry ∷ pairs))) }
     ensures failed { IfErr result
-        (FailsFrom I.next_gives rest (λ taken. parameter_pairs.values (first.entry ∷ taken)) version) }
-    ensures room { IfErr result (LacksAmong I.next_gives rest (λ taken. parameter_pairs.values (first.entry ∷ taken))
+        (FailsFrom I.next_gives rest (λ taken. pair_values (first.entry ∷ taken)) version) }
+    ensures room { IfErr result (LacksAmong I.next_gives rest (λ taken. pair_values (first.entry ∷ taken))
         version output.old (λ taken. parameters_text (lent_pairs (first.entry ∷ taken)))) }
     ensures stays { string_capacity output.old ≤ string_capacity output.new }
     ensures kept { OnErr result (string_bytes output.new ≡ string_bytes output.old) }
@@ -251,10 +252,8 @@ pub fn append_parameters<'k, A: Allocator, I: Iterator<Item = (&'k Key, &'k Bare
 ) -> Result<(), SerializeError>
     requires can { I.can_next params }
     requires ends { IsFinite (I.remaining params) }
-    ensures text { OnOk result ((pairs : List _) × Drains I.next_gives params pairs
-        × (string_bytes output.new ≡ string_bytes output.old ++ parameters_text (lent_pairs pairs))
-        × AreParameters (lent_pairs pairs) × AllFit version (parameter_pairs.values pairs)) }
-    ensures failed { IfErr result (StopsEarly parameter_pairs version I.next_gives params output.old true) }
+    ensures text { OnOk result (AppendsParameters version I.next_gives params output.old output.new) }
+    ensures failed { IfErr result (StopsEarly parameter_pairs version I.next_gives params [] output.old true) }
     ensures stays { string_capacity output.old ≤ string_capacity output.new }
     ensures kept { OnErr result (string_bytes output.new ≡ string_bytes output.old) }
 {

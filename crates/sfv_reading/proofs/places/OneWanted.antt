@@ -23,7 +23,7 @@ use Rattle.sfv_reading.specs.Items.{key_at}
 use Rattle.sfv_reading.specs.Fields.{whole_field_at, ending, read_field}
 use Rattle.sfv_reading.proofs.complete.Combinators.{Apart-cons}
 use Rattle.sfv_reading.proofs.complete.Fields.{spaces_end, comma_ends, item_field_complete}
-use Rattle.sfv_reading.proofs.rules.Commas.{comma_after}
+use Rattle.sfv_reading.proofs.rules.Commas.{comma_after, has_many}
 use Rattle.sfv_reading.proofs.rules.Longer.{not_longer}
 use Rattle.sfv_reading.proofs.places.Calls.{Calls}
 use Rattle.sfv_reading.proofs.places.Calls as calls
@@ -86,9 +86,10 @@ tells : (version : Version) (kind : FieldKind) (u : List â„•) (f : ErrorKind) â†
 tells version kind u f (bare_item w) = inr (tells_bare version kind u (calls_wanted version kind u w))
 tells version kind u f (key w) = inr (tells_key version kind u (calls_wanted_key version kind u w))
 tells version kind u f (delimiter a) = inl (refl, a)
-tells version kind u f (WantedFault.comma raw many h has) = inr (record {
+tells version kind u f (WantedFault.comma raw other h has) = inr (record {
   fault = _;
-  is_fault = ends_faulty version kind (u ++ codes ",") _ (comma_after version kind raw u [] many has h refl);
+  is_fault = ends_faulty version kind (u ++ codes ",") _
+      (comma_after version kind raw u [] (has_many kind other) has h refl);
   kind_of = refl;
   outside = not_longer version kind raw u has h;
 })

@@ -32,6 +32,7 @@ use Rattle.sfv_reading.proofs.sound.Combinators.{Somewhere}
 use Rattle.sfv_reading.proofs.sound.Fields.{FieldGoes, Sound-field}
 use Rattle.sfv_reading.proofs.rules.Tight.{IsTight, not_last}
 use Rattle.sfv_reading.proofs.rules.Standing.{Stands, IsLastComma}
+use Rattle.sfv_reading.proofs.rules.Commas.{not_item}
 use Rattle.sfv_reading.proofs.rules.Fields.{HasMembers, field_rules}
 use Rattle.sfv_reading.proofs.rules.Ends.{field_none}
 use Rattle.sfv_reading.proofs.places.Calls.{bare, key, Stuck, Calls}
@@ -158,7 +159,8 @@ by_kind version kind t e TrailingCharactersAfterMember true i x h s = inr (inr (
   inl (record {
     before = s.front;
     text = s.text;
-    wanted = subst (WantedFault version kind s.front) (sym i) (WantedFault.comma s.value s.has.0 s.means s.has.1);
+    wanted = subst (WantedFault version kind s.front) (sym i)
+        (WantedFault.comma s.value (not_item kind s.has.0) s.means s.has.1);
   }),
 ))
 by_kind version kind t e TrailingComma false i x h s = inr (inl (at_comma version kind t e s i x))

@@ -6,7 +6,7 @@ use Rattle.std.specs.List.{concat}
 use Rattle.std.specs.Str.Lossy.{utf8_valid_len}
 use Rattle.std.proofs.lemmas.Bool.{cases_Bool, eqb-true, true≢false, or_from, or_parts, or_cases, eq-eqb, both_ways}
 use Rattle.std.proofs.lemmas.Bool.{not_from_false}
-use Rattle.std.proofs.lemmas.List.{append-nil, length-append, length-drop}
+use Rattle.std.proofs.lemmas.List.{length-append, length-drop}
 use Rattle.sfv_spec.proofs.Marks.{double_quote, percent_sign, digit_zero, colon}
 use Rattle.sfv_spec.proofs.Marks.{digit_one}
 use Rattle.sfv_spec.proofs.Marks.{backslash}
@@ -30,7 +30,7 @@ use Rattle.sfv_spec.specs.declared.error_kind.ErrorKind.TheVariants.{InvalidDisp
 use Rattle.sfv_spec.specs.declared.error_kind.ErrorKind.TheVariants.{InvalidUtf8InDisplayString}
 use Rattle.sfv_spec.specs.Faults.{open_bytes, bare}
 use Rattle.sfv_spec.specs.Faults.{lone_symbol, BareItemFault, no_boolean, old_display, no_quote}
-use Rattle.sfv_spec.specs.Faults.{open_string}
+use Rattle.sfv_spec.specs.Faults.{OpensString, open_string}
 use Rattle.sfv_spec.specs.Faults.{wrong_string_byte, open_string_escape, wrong_string_escape, wrong_bytes}
 use Rattle.sfv_reading.specs.Reader.{Fault, Answer, byte, give, fail, and_then, bind, branch, ahead}
 use Rattle.sfv_reading.specs.Reader.{at_reach, by_rule, placed}
@@ -102,26 +102,27 @@ boolean_row version t e i = elim (cases_Bool (begins_with (is_one_of (codes "01"
       subst (HasRow version (question_mark ∷ t)) same (inl (refl, inr (no_boolean refl n)))
 ]
 
+opens : (t there : List ℕ) (k : ErrorKind) (h : IsStringFault t k there) (rest : List ℕ) → h.left ≡ rest
+    → OpensString (double_quote ∷ t) rest
+opens t there k h rest e = (
+  h.bytes,
+  concat h.pieces,
+  record { pieces = h.pieces; text = refl; each = h.content },
+  ap (λ (l : List ℕ). double_quote ∷ l) (h.text ∙ ap (λ (l : List ℕ). concat h.pieces ++ l) e),
+)
+
 string_fault_row : (version : Version) (t there : List ℕ) (k : ErrorKind) → IsStringFault t k there
     → BareItemFault version (double_quote ∷ t) there k
-string_fault_row version t there UnterminatedString h =
-    open_string h.bytes (concat h.pieces) (record { pieces = h.pieces; text = refl; each = h.content })
-    (ap (λ (l : List ℕ). double_quote ∷ l) (h.text ∙ ap (λ (l : List ℕ). concat h.pieces ++ l) h.ends.0
-    ∙ append-nil (concat h.pieces))) h.ends.1
+string_fault_row version t there UnterminatedString h = open_string (opens t there UnterminatedString h [] h.ends.0) h.ends.1
 string_fault_row version t there UnterminatedEscapeSequence h =
-    open_string_escape h.bytes (concat h.pieces) (record { pieces = h.pieces; text = refl; each = h.content })
-    (ap (λ (l : List ℕ). double_quote ∷ l) (h.text ∙ ap (λ (l : List ℕ). concat h.pieces ++ l) h.ends.0)) h.ends.1
+    open_string_escape (opens t there UnterminatedEscapeSequence h (codes "\\") h.ends.0) h.ends.1
 string_fault_row version t there InvalidEscapeSequence h =
-    wrong_string_escape h.bytes (concat h.pieces) (record { pieces = h.pieces; text = refl; each = h.content })
-    (ap (λ (l : List ℕ). double_quote ∷ l) (h.text ∙ ap (λ (l : List ℕ). concat h.pieces ++ l)
-    (h.ends.2 ∙ ap (λ (l : List ℕ). backslash ∷ l) (sym h.ends.3))
-    ∙ sym (append_assoc (concat h.pieces) (backslash ∷ []) there)))
+    wrong_string_escape (opens t there InvalidEscapeSequence h (codes "\\" ++ there)
+    (h.ends.2 ∙ ap (λ (l : List ℕ). backslash ∷ l) (sym h.ends.3)))
     (ap (begins_with (λ c. not (is_escaped_in_string c))) h.ends.3
     ∙ not_from_false (is_escaped_in_string h.ends.0) h.ends.4)
 string_fault_row version t there InvalidStringCharacter h =
-    wrong_string_byte h.bytes (concat h.pieces) (record { pieces = h.pieces; text = refl; each = h.content })
-    (ap (λ (l : List ℕ). double_quote ∷ l) (h.text ∙ ap (λ (l : List ℕ). concat h.pieces ++ l)
-    (h.ends.2 ∙ sym h.ends.3)))
+    wrong_string_byte (opens t there InvalidStringCharacter h there (h.ends.2 ∙ sym h.ends.3))
     (ap (begins_with (λ c. not (is_string_byte c))) h.ends.3 ∙ not_from_false (is_string_byte h.ends.0) h.ends.4)
 string_fault_row version t there _ h = absurd h.ends
 

@@ -127,8 +127,9 @@ row_read version s there _ (long_decimal negative whole fraction counted three t
     ∙ number_given version false t (at_reach TooManyDigitsAfterDecimalPoint there)
     (λ e. absurd (true≢false (sym e))) (λ _. front negative whole (dot ∷ (fraction ++ there)) counted.0 counted.2)
     (long_fraction negative whole fraction there refl counted three h)
-row_read version s there _ (open_string bytes content h text none) =
-    string_given version s content there UnterminatedString text (record {
+row_read version s there _ (open_string (bytes, content, h, text) none) =
+    string_given version s content there UnterminatedString
+    (text ∙ ap (λ (l : List ℕ). double_quote ∷ l) (append-nil content)) (record {
       bytes = bytes;
       pieces = h.pieces;
       left = [];
@@ -136,7 +137,7 @@ row_read version s there _ (open_string bytes content h text none) =
       content = h.each;
       ends = (refl, none);
     })
-row_read version s there _ (wrong_string_byte bytes content h text wrong) =
+row_read version s there _ (wrong_string_byte (bytes, content, h, text) wrong) =
     let n = next_of (λ c. not (is_string_byte c)) there wrong in
     string_given version s (content ++ there) there InvalidStringCharacter text (record {
       bytes = bytes;
@@ -146,7 +147,7 @@ row_read version s there _ (wrong_string_byte bytes content h text wrong) =
       content = h.each;
       ends = (n.c, n.rest, n.text, n.text, not-true (is_string_byte n.c) n.is);
     })
-row_read version s there _ (open_string_escape bytes content h text none) =
+row_read version s there _ (open_string_escape (bytes, content, h, text) none) =
     string_given version s (content ++ backslash ∷ []) there UnterminatedEscapeSequence text (record {
       bytes = bytes;
       pieces = h.pieces;
@@ -155,10 +156,9 @@ row_read version s there _ (open_string_escape bytes content h text none) =
       content = h.each;
       ends = (refl, none);
     })
-row_read version s there _ (wrong_string_escape bytes content h text wrong) =
+row_read version s there _ (wrong_string_escape (bytes, content, h, text) wrong) =
     let n = next_of (λ c. not (is_escaped_in_string c)) there wrong in
-    string_given version s (content ++ backslash ∷ there) there InvalidEscapeSequence
-    (text ∙ ap (λ (l : List ℕ). double_quote ∷ l) (append_assoc content (backslash ∷ []) there)) (record {
+    string_given version s (content ++ backslash ∷ there) there InvalidEscapeSequence text (record {
       bytes = bytes;
       pieces = h.pieces;
       left = backslash ∷ there;

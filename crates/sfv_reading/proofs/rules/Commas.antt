@@ -2,7 +2,7 @@
 use Rattle.std.proofs.Common.{◌≡◌, ℕ, false, eqb, List, [], ◌∷◌, ◌++◌, length, drop, Ok, Err, refl, sym, ap}
 use Rattle.std.proofs.Common.{◌∙◌, append_assoc, arith}
 use Rattle.std.proofs.lemmas.List.{append-nil, drop_at}
-use Rattle.std.specs.Prelude.{codes}
+use Rattle.std.specs.Prelude.{codes, ◌≢◌}
 use Rattle.sfv_spec.proofs.Marks.{comma, right_parenthesis}
 use Rattle.sfv_spec.specs.Texts.{RunOf}
 use Rattle.sfv_spec.proofs.Marks.{is_space, is_space_or_tab}
@@ -13,7 +13,7 @@ use Rattle.sfv_spec.specs.declared.field_kind.FieldKind.TheVariants.{Dictionary 
 use Rattle.sfv_spec.specs.declared.version.Version.{Version}
 use Rattle.sfv_spec.specs.Grammar.{IsMemberText, IsDictionaryMemberText, IsFieldText, IsAccepted}
 use Rattle.sfv_spec.specs.Events.{TreeEvent, events, entry_events, keyed_events}
-use Rattle.sfv_spec.specs.Faults.{HasManyMembers}
+use Rattle.sfv_reading.specs.Commas.{HasManyMembers}
 use Rattle.sfv_spec.specs.declared.error_kind.ErrorKind.TheVariants.{TrailingComma, TrailingCharactersAfterMember}
 use Rattle.sfv_reading.specs.Reader.{Fault, Reader, Apart, any, byte, at_reach, by_rule, after_events, at_start}
 use Rattle.sfv_reading.specs.Reader.{give, fail}
@@ -34,6 +34,17 @@ use Rattle.sfv_reading.proofs.complete.Members.{entry_complete, entry_fresh, key
 use Rattle.sfv_reading.proofs.complete.Fields.{spaces_end, comma_ends, item_field_complete}
 use Rattle.sfv_reading.proofs.Theorems.{read_is_accepted}
 use Rattle.sfv_reading.proofs.rules.UpToFault.{bind_met}
+
+-- a list or a dictionary is what is no item
+pub not_item : (kind : FieldKind) → HasManyMembers kind → kind ≢ item_field
+not_item item_field many = absurd many
+not_item list_field many = λ e. cc
+not_item dictionary_field many = λ e. cc
+
+pub has_many : (kind : FieldKind) → kind ≢ item_field → HasManyMembers kind
+has_many item_field other = absurd (other refl)
+has_many list_field other = tt
+has_many dictionary_field other = tt
 
 -- blanks, a comma, and the end
 comma_met : {A : Type 0} (one : Reader A) (w z : List ℕ) → RunOf is_space_or_tab w → RunOf is_space_or_tab z

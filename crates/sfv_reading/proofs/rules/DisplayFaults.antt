@@ -19,9 +19,9 @@ use Rattle.sfv_spec.specs.declared.error_kind.ErrorKind.{ErrorKind}
 use Rattle.sfv_spec.specs.declared.error_kind.ErrorKind.TheVariants.{UnterminatedEscapeSequence, InvalidEscapeSequence}
 use Rattle.sfv_spec.specs.declared.error_kind.ErrorKind.TheVariants.{InvalidUtf8InDisplayString}
 use Rattle.sfv_spec.specs.declared.error_kind.ErrorKind.TheVariants.{InvalidDisplayStringCharacter}
-use Rattle.sfv_spec.specs.Faults.{WantsBetween, IsDisplayBegun, DisplayFault}
+use Rattle.sfv_spec.specs.Faults.{WantsBetween, DisplayFault}
 use Rattle.sfv_spec.specs.declared.error_kind.ErrorKind.TheVariants.{UnterminatedDisplayString}
-use Rattle.sfv_spec.specs.Faults.{open_display, open_escape, wrong_escape, wrong_byte, wrong_utf8, RuledFault, display}
+use Rattle.sfv_spec.specs.Faults.{open_display, open_escape, wrong_escape, wrong_byte, wrong_utf8, RuledFault, bare, display}
 use Rattle.sfv_reading.specs.Quoted.{outside, after_pieces, DisplayStops, IsDisplayFault}
 use Rattle.sfv_reading.proofs.quoted.Pieces.{closed, closed_past, closed_pieces, IsStuck, stuck, stuck_quote}
 use Rattle.sfv_reading.proofs.texts.Utf8.{longest_text}
@@ -56,16 +56,6 @@ longest_pieces bytes pieces left h k = record {
       let fits : suc j ≤ length left = omega (arith, e, n, length-append (concat pieces) left) in
       both_ways (closed outside (concat w.1.pieces)) (ap (closed outside) (sym same)
       ∙ closed_past bytes pieces (take (suc j) left) h ∙ k j fits) shut;
-}
-
-begun : (version : Version) (kind : FieldKind) (whole before t left bytes : List ℕ) (pieces : List (List ℕ))
-    → version ≡ Rfc9651 → WantsBetween version kind whole before (codes "%\"" ++ t) → t ≡ concat pieces ++ left
-    → AllZip IsDisplayPiece bytes pieces → IsStuck left → IsDisplayBegun version kind whole before left bytes pieces
-begun version kind whole before t left bytes pieces known place e h k = record {
-  known = known;
-  place = subst (λ (t : List ℕ). WantsBetween version kind whole before (codes "%\"" ++ t)) e place;
-  content = h;
-  longest = longest_pieces bytes pieces left h k;
 }
 
 -- ---- where a piece is written
@@ -109,12 +99,13 @@ pub ruled : (version : Version) (kind : FieldKind) (whole before t there : List 
     → RuledFault version kind whole k (length whole - length there)
 ruled version kind whole before t there InvalidUtf8InDisplayString known place h =
     let valid : ℕ = utf8_valid_len h.bytes in
-    display before h.left there h.bytes h.pieces
-    (begun version kind whole before t h.left h.bytes h.pieces known place h.text h.content
-    (subst IsStuck (sym h.ends.1) (stuck_quote h.ends.0)))
+    bare before (codes "%\"" ++ t) there place (display h.left h.bytes h.pieces known
+    (ap (λ (t : List ℕ). codes "%\"" ++ t) h.text) h.content
+    (longest_pieces h.bytes h.pieces h.left h.content (subst IsStuck (sym h.ends.1) (stuck_quote h.ends.0)))
     (wrong_utf8 h.ends.0 valid h.ends.2 (longest_text h.bytes) h.ends.1 (h.ends.3 ∙ ap (after_pieces valid) h.text
-    ∙ after_drop valid h.bytes h.pieces h.left h.content (utf8_valid_len_le h.bytes)))
+    ∙ after_drop valid h.bytes h.pieces h.left h.content (utf8_valid_len_le h.bytes))))
 ruled version kind whole before t there k known place h =
-    display before h.left there h.bytes h.pieces
-    (begun version kind whole before t h.left h.bytes h.pieces known place h.text h.content
-    (stuck k h.left there h.ends)) (row_of k h.bytes h.pieces h.left there h.ends)
+    bare before (codes "%\"" ++ t) there place (display h.left h.bytes h.pieces known
+    (ap (λ (t : List ℕ). codes "%\"" ++ t) h.text) h.content
+    (longest_pieces h.bytes h.pieces h.left h.content (stuck k h.left there h.ends))
+    (row_of k h.bytes h.pieces h.left there h.ends))

@@ -14,7 +14,7 @@ use Rattle.sfv_spec.specs.declared.version.Version.{Version}
 use Rattle.sfv_spec.specs.Grammar.{OptionalWhitespace, IsMemberText, IsDictionaryMemberText, IsFieldText}
 use Rattle.sfv_spec.specs.Grammar.{AreMembersText}
 use Rattle.sfv_spec.specs.Events.{TreeEvent, entry_events, keyed_events}
-use Rattle.sfv_spec.specs.Faults.{HasManyMembers}
+use Rattle.sfv_reading.specs.Commas.{HasManyMembers}
 use Rattle.sfv_spec.specs.declared.error_kind.ErrorKind.TheVariants.{TrailingComma, TrailingCharactersAfterMember}
 use Rattle.sfv_reading.specs.Reader.{Fault, Reader, by_rule, byte, any, ahead, back, many, span, ◌>>=◌, give}
 use Rattle.sfv_reading.specs.Fields.{comma_at, next_at, members_at, whole_field_at}

@@ -19,7 +19,7 @@ use Rattle.sfv_spec.specs.Grammar.{IsParameterText, IsParametersText, IsMemberTe
 use Rattle.sfv_spec.specs.Grammar.{IsDictionaryMemberText}
 use Rattle.sfv_spec.specs.Grammar.{AreMembersText, IsItemText, Spaces, IsFieldText, IsAccepted, Comma}
 use Rattle.sfv_spec.proofs.Marks.{true_with}
-use Rattle.sfv_spec.specs.Faults.{HasManyMembers}
+use Rattle.sfv_reading.specs.Commas.{HasManyMembers}
 use Rattle.sfv_spec.specs.declared.error_kind.ErrorKind.TheVariants.{TrailingCharactersAfterMember}
 use Rattle.sfv_spec.proofs.Settled.{joining-nil}
 use Rattle.sfv_reading.specs.Reader.{Apart, at_reach}

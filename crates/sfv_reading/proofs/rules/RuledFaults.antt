@@ -19,7 +19,8 @@ use Rattle.sfv_spec.specs.declared.error_kind.ErrorKind.TheVariants.{TrailingDec
 use Rattle.sfv_spec.specs.declared.error_kind.ErrorKind.TheVariants.{TooManyDigitsAfterDecimalPoint}
 use Rattle.sfv_spec.specs.declared.error_kind.ErrorKind.TheVariants.{UnterminatedByteSequence, InvalidByteSequence}
 use Rattle.sfv_spec.specs.Faults.{comma, point, decimal_date, long_decimal_date, open_bytes}
-use Rattle.sfv_spec.specs.Faults.{lone_symbol, display, IsDisplayBegun, DisplayFault}
+use Rattle.sfv_spec.specs.Faults.{lone_symbol, display}
+use Rattle.sfv_reading.proofs.rules.Commas.{has_many}
 use Rattle.sfv_reading.specs.Reader.{give, and_then, by_rule, Answer, placed}
 use Rattle.sfv_reading.specs.Bare.{bare_at}
 use Rattle.sfv_reading.specs.BareFaults.{IsFaultInBare, RuledIsGiven}
@@ -113,22 +114,29 @@ item_given version s there _ (lone_symbol content rest text left only one) =
           ∙ left_as InvalidByteSequence there last at,
       omega (arith, ap (length {A = ℕ}) left, length-drop (length content) s),
     )
-
-display_in : (version : Version) (kind : FieldKind) (whole before rest there bytes : List ℕ) (pieces : List (List ℕ))
-    (k : ErrorKind) → IsDisplayBegun version kind whole before rest bytes pieces
-    → DisplayFault bytes pieces rest there k → IsFaultInBare version kind whole k (length whole - length there)
-display_in version kind whole before rest there bytes pieces k h fault =
+item_given version s there k (display rest bytes pieces known text content longest fault) =
     let inside : List ℕ = concat pieces ++ rest in
-    let s : List ℕ = percent_sign ∷ double_quote ∷ inside in
-    let f = faults_ruled bytes pieces rest there k h.content h.longest fault in
-    in_bare version kind whole before s there k h.place
-    (ap (λ e. bare_at e s) h.known ∙ bare_percent Rfc9651 (double_quote ∷ inside) ∙ quoted_read inside
-    ∙ ap (λ a. and_then a (λ s. give (display_string s))) (display_faulty inside there k f))
-    (omega (arith, display_short inside there k f))
+    let f = faults_ruled bytes pieces rest there k content longest fault in (
+      ap (bare_at version) text ∙ ap (λ e. bare_at e (percent_sign ∷ double_quote ∷ inside)) known
+          ∙ bare_percent Rfc9651 (double_quote ∷ inside) ∙ quoted_read inside
+          ∙ ap (λ a. and_then a (λ s. give (display_string s))) (display_faulty inside there k f),
+      omega (arith, ap (length {A = ℕ}) text, display_short inside there k f),
+    )
 
 pub ruled_is_given : RuledIsGiven
-ruled_is_given version kind whole _ index (comma h) = inl (refl, h)
+ruled_is_given version kind whole _ _ (comma before whitespace raw other h has text blank) = inl (
+  refl,
+  record {
+    many = has_many kind other;
+    before = before;
+    whitespace = whitespace;
+    raw = raw;
+    text = text;
+    blank = blank;
+    accepted = h;
+    member = has;
+    here = refl;
+  },
+)
 ruled_is_given version kind whole k _ (bare before s there place h) =
     let g = item_given version s there k h in inr (in_bare version kind whole before s there k place g.0 g.1)
-ruled_is_given version kind whole k _ (display before rest there bytes pieces h fault) =
-    inr (display_in version kind whole before rest there bytes pieces k h fault)

@@ -10,7 +10,7 @@ use Rattle.sfv_spec.specs.declared.field_kind.FieldKind.TheVariants.{Dictionary 
 use Rattle.sfv_spec.specs.declared.version.Version.{Version}
 use Rattle.sfv_spec.specs.Grammar.{IsFieldText}
 use Rattle.sfv_spec.specs.Events.{events}
-use Rattle.sfv_spec.specs.Faults.{HasManyMembers}
+use Rattle.sfv_reading.specs.Commas.{HasManyMembers}
 use Rattle.sfv_reading.specs.Reader.{visited}
 use Rattle.sfv_reading.specs.Fields.{whole_field_at}
 use Rattle.sfv_reading.proofs.sound.Combinators.{Begins}

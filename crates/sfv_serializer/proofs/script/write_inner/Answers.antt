@@ -1,4 +1,4 @@
-use Rattle.std.proofs.Common.{[], map, ◌∙◌, subst, rules}
+use Rattle.std.proofs.Common.{[], ◌∷◌, codes, map, ◌∙◌, subst, rules}
 use Rattle.std.proofs.lemmas.List.{take_all}
 use Rattle.sfv_writer.specs.Written.{separator_before, param_text}
 use Rattle.sfv_text.specs.CheckedTexts.{text_of as key_text}
@@ -6,7 +6,7 @@ use Rattle.sfv_bare.specs.BareItems.{ref_value}
 use Rattle.sfv_writer.proofs.Rows.{anyway}
 use Rattle.sfv_serializer.specs.Serializers.{is_empty_so_far, KeepsSequence}
 use Rattle.sfv_serializer.specs.Scripts.{param_of_call, item_of_calls}
-use Rattle.sfv_serializer.proofs.Room.{opening_lacks, either_lacks, ending_lacks, params_after_lack, params_lack, memory_lacks}
+use Rattle.sfv_serializer.proofs.Room.{unseparated, opening_lacks, either_lacks, ending_lacks, params_after_lack, params_lack, memory_lacks}
 use Rattle.sfv_serializer.proofs.Scripts.{begun_grown, more_grown, kept_grown, taken_away, away_grown, of_error}
 use Rattle.sfv_serializer.proofs.Scripts.{inner_ended}
 use Rattle.sfv_serializer.proofs.Steps.{params_text_more, are_params_more, kept_grows, more_at, more_after}
@@ -127,7 +127,8 @@ returns-in_err-ending-clause-room g c =
     rw c.if-abandon.false (anyway _ _ (ending_lacks old front opening items params
     (g.W.Sink.text c.in_ok-inner.inner.sink.now.sink) (is_empty_so_far c.in_ok-inner.inner) begun.text.1 begun.begins.0
     begun.text.5 (g.W.Sink.text c.write_inner_items.new.inner.sink.now.sink) filled.1 filled.5
-    c.in_err-ending.ensures.room))
+    (unseparated (g.W.Sink.text c.write_inner_items.new.inner.sink.now.sink)
+    c.write_inner_items.new.inner.sink.now.is_first (codes ")") c.in_err-ending.ensures.room)))
 
 pub returns-in-Err-parameter-clause-room : goal.returns-in-Err-parameter-clause-room
 returns-in-Err-parameter-clause-room g c =
@@ -144,7 +145,7 @@ returns-in-Err-parameter-clause-room g c =
     let last = g.W.Sink.text c.loop-call.ending.sink.now.sink in
     let one = param_text (key_text c.call-item.result.key) (ref_value c.call-item.result.value) in
     let after = params_lack c.args.params.now c.loop-call.call-index c.call-item.result c.loop-call-test.true
-    c.call-item.is ended last [] [] row.1.1 row.1.5 (memory_lacks _ _ last one _ row.3 e.unsupported e.room) in
+    c.call-item.is ended last [] [] row.1.1 row.1.5 (memory_lacks _ (ref_value c.call-item.result.value ∷ []) last one _ row.3 e.unsupported e.room) in
     rw c.if-abandon.false (params_after_lack old front opening items (map param_of_call c.args.params.now)
     (g.W.Sink.text c.in_ok-inner.inner.sink.now.sink) (is_empty_so_far c.in_ok-inner.inner) begun.text.1 begun.begins.0
     begun.text.5 (g.W.Sink.text c.write_inner_items.new.inner.sink.now.sink) filled.1 filled.5 ended ends.1 ends.5

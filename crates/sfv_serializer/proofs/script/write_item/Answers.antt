@@ -1,4 +1,4 @@
-use Rattle.std.proofs.Common.{[], ◌<◌, length, arith}
+use Rattle.std.proofs.Common.{[], ◌∷◌, ◌<◌, length, arith}
 use Rattle.sfv_spec.specs.Canonical.{bare_text}
 use Rattle.sfv_text.specs.CheckedTexts.{text_of as key_text}
 use Rattle.sfv_bare.specs.BareItems.{ref_value}
@@ -20,5 +20,5 @@ returns-in-Err-parameter-clause-room c =
     let stays = no_less row.2 kept.1 in (
       grind (arith, stays),
       params_lack params c.loop-call.call-index c.call-item.result within is c.args.text.now last []
-          (bare_text (ref_value c.args.calls.now.value)) row.1 row.2 (memory_lacks _ _ last one _ row.4 e.unsupported e.room),
+          (bare_text (ref_value c.args.calls.now.value)) row.1 row.2 (memory_lacks _ (ref_value c.call-item.result.value ∷ []) last one _ row.4 e.unsupported e.room),
     )

@@ -1,4 +1,4 @@
-use Rattle.std.proofs.Common.{◌<◌, ◌≤◌, length, refl, ◌∙◌, rules}
+use Rattle.std.proofs.Common.{[], ◌∷◌, ◌<◌, ◌≤◌, length, refl, ◌∙◌, rules}
 use Rattle.std.proofs.lemmas.List.{append-nil, take_all}
 use Rattle.sfv_spec.specs.Canonical.{bare_text}
 use Rattle.sfv_text.specs.CheckedTexts.{text_of as key_text}
@@ -74,4 +74,4 @@ returns-in-Err-parameter-clause-room g c =
     params_lack params n c.call-item.result within is (g.W.Sink.text c.args.sequence.now.sink) last
     (separator_before (is_empty_so_far c.args.sequence.now) g.K.SequenceKind.separator)
     (bare_text (ref_value c.args.calls.now.value))
-    row.1.1 row.1.5 (memory_lacks _ _ last one _ row.3 e.unsupported e.room)
+    row.1.1 row.1.5 (memory_lacks _ (ref_value c.call-item.result.value ∷ []) last one _ row.3 e.unsupported e.room)

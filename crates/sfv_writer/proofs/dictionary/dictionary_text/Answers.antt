@@ -22,9 +22,8 @@ returns-in_err-serialize_dictionary-clause-out_of_memory c =
 pub returns-clause-text : goal.returns-clause-text
 returns-clause-text c =
     let members = dictionary_tree c.args.dictionary.now.entries in
-    let some : 0 < length c.args.dictionary.now.entries = search rules in (
-      first_of_some entry_tree c.args.dictionary.now.entries some,
-      written dictionary_field members _ c.in_ok-serialize_dictionary.ensures.value
-          (c.in_ok-serialize_dictionary.ensures.text
-          ∙ ap (λ (s : List ℕ). s ++ canonical dictionary_field members) c.text_for_members-text.ensures.bytes),
-    )
+    let some : 0 < length c.args.dictionary.now.entries = search rules in
+    let w = written dictionary_field members _ c.in_ok-serialize_dictionary.ensures.value
+    (c.in_ok-serialize_dictionary.ensures.text
+    ∙ ap (λ (s : List ℕ). s ++ canonical dictionary_field members) c.text_for_members-text.ensures.bytes) in
+    (first_of_some entry_tree c.args.dictionary.now.entries some, w.0, w.1)

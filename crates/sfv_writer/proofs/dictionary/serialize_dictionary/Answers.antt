@@ -1,3 +1,4 @@
+use Rattle.std.specs.List.{flat_map}
 use Rattle.std.proofs.Common.{codes, sym, ap, ◌∙◌}
 use Rattle.std.specs.Prelude.{IsTrue}
 use Rattle.std.specs.Map.Iter.{TakesFirst, deref_pair}
@@ -9,7 +10,7 @@ use Rattle.sfv_spec.specs.Canonical.{dictionary_member_text}
 use Rattle.sfv_spec.specs.Statements.{IsValue}
 use Rattle.sfv_tree.specs.Trees.{dictionary_tree}
 use Rattle.sfv_tree.proofs.Distinct.{members_distinct}
-use Rattle.sfv_writer.specs.Written.{lent_dictionary_member}
+use Rattle.sfv_writer.proofs.Words.{lent_dictionary_member}
 use Rattle.sfv_writer.specs.Versions.{dictionary_members}
 use Rattle.sfv_writer.proofs.Lacks.{front_lacks}
 use Rattle.sfv_writer.proofs.Lent.{members_all, members_front}
@@ -20,7 +21,7 @@ use Rattle.sfv_writer.proofs.dictionary.serialize_dictionary.Goals as goal
 
 pub expect_out_of_memory-requires : goal.expect_out_of_memory-requires
 expect_out_of_memory-requires g c =
-    newer_fails (TakesFirst deref_pair) c.iter.result dictionary_members.values _ c.in-Err.ensures.failed
+    newer_fails (TakesFirst deref_pair) c.iter.result (flat_map dictionary_members.values) _ c.in-Err.ensures.failed
 
 pub returns : goal.returns
 returns g c =
@@ -38,7 +39,7 @@ returns g c =
 pub returns-in-Err-clause-room : goal.returns-in-Err-clause-room
 returns-in-Err-clause-room g c =
     let e = c.in-Err.ensures in
-    let p = e.room (newer_fails (TakesFirst deref_pair) c.iter.result dictionary_members.values _ e.failed) in
+    let p = e.room (newer_fails (TakesFirst deref_pair) c.iter.result (flat_map dictionary_members.values) _ e.failed) in
     let members = dictionary_tree c.args.dictionary.now.entries in (
       e.stays,
       front_lacks lent_dictionary_member dictionary_member_text (codes ", ") c.args.output.now p.0 members (dictionary_tree p.1)

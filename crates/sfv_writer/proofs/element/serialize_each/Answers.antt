@@ -15,9 +15,9 @@ loop-element-preserved g c =
     search rules in (
       goes.0,
       goes.1,
-      in_a_row_more g.E.Element.text g.E.Element.is_valid c.args.separator.now _ _ _ _ _ _ _ _ c.in-Some.element
+      in_a_row_more g.E.Element.part.text g.E.Element.part.is_valid c.args.separator.now _ _ _ _ _ _ _ _ c.in-Some.element
           c.loop-element.invariant.2 refl c.in_ok-serialize_separator.ensures.text written.text written.valid,
-      each_more c.args.version g.E.Element.values c.loop-element.yielded c.in-Some.element
+      each_more c.args.version g.E.Element.part.values c.loop-element.yielded c.in-Some.element
           c.loop-element.invariant.3 c.in_ok-check.ensures,
       omega (arith, c.loop-element.invariant.4, c.in_ok-serialize_separator.ensures.room.0, written.room.0),
     )
@@ -25,7 +25,7 @@ loop-element-preserved g c =
 pub returns-in_err-check-clause-failed : goal.returns-in_err-check-clause-failed
 returns-in_err-check-clause-failed g c =
     let steps = g.I.Iterator.next_gives in
-    let values = g.E.Element.values in
+    let values = g.E.Element.part.values in
     let ran = subst (λ s. Yields steps s c.loop-element.yielded c.loop-element.element-iterator)
     c.into_iter-element-iterator.ensures.into_iter_gives c.loop-element.yielded_by in
     fails_among steps c.args.version values (flat_map values) (λ _. refl) c.args.elements
@@ -36,7 +36,7 @@ returns-in_err-check-clause-failed g c =
 pub returns-in_err-serialize_separator-clause-failed : goal.returns-in_err-serialize_separator-clause-failed
 returns-in_err-serialize_separator-clause-failed g c =
     let steps = g.I.Iterator.next_gives in
-    let values = g.E.Element.values in
+    let values = g.E.Element.part.values in
     let ran = subst (λ s. Yields steps s c.loop-element.yielded c.loop-element.element-iterator)
     c.into_iter-element-iterator.ensures.into_iter_gives c.loop-element.yielded_by in
     memory_among steps c.args.version values (flat_map values) (λ _. refl) c.args.elements
@@ -47,7 +47,7 @@ returns-in_err-serialize_separator-clause-failed g c =
 pub returns-in_err-serialize-clause-failed : goal.returns-in_err-serialize-clause-failed
 returns-in_err-serialize-clause-failed g c =
     let steps = g.I.Iterator.next_gives in
-    let values = g.E.Element.values in
+    let values = g.E.Element.part.values in
     let ran = subst (λ s. Yields steps s c.loop-element.yielded c.loop-element.element-iterator)
     c.into_iter-element-iterator.ensures.into_iter_gives c.loop-element.yielded_by in
     memory_among steps c.args.version values (flat_map values) (λ _. refl) c.args.elements
@@ -87,41 +87,41 @@ returns-in_err-serialize-clause-kept g c =
 
 pub returns-in_err-check-clause-room : goal.returns-in_err-check-clause-room
 returns-in_err-check-clause-room g c =
-    named_lacks g.I.Iterator.next_gives c.args.elements (flat_map g.E.Element.values) c.args.version
-    c.args.output.now (λ taken. with_separators c.args.is_first c.args.separator.now (map g.E.Element.text taken))
+    named_lacks g.I.Iterator.next_gives c.args.elements (flat_map g.E.Element.part.values) c.args.version
+    c.args.output.now (λ taken. with_separators c.args.is_first c.args.separator.now (map g.E.Element.part.text taken))
     c.from_residual.result _ c.in_err-check.field-0.0 c.from_residual.ensures.1 c.in_err-check.ensures
 
 pub returns-in_err-serialize_separator-clause-room : goal.returns-in_err-serialize_separator-clause-room
 returns-in_err-serialize_separator-clause-room g c =
     let steps = g.I.Iterator.next_gives in
-    let values = g.E.Element.values in
+    let values = g.E.Element.part.values in
     let ran = subst (λ s. Yields steps s c.loop-element.yielded c.loop-element.element-iterator)
     c.into_iter-element-iterator.ensures.into_iter_gives c.loop-element.yielded_by in
     lacks_among steps c.args.elements c.loop-element.element-iterator c.next.new.self (flat_map values)
     c.args.version c.args.output.now
-    (λ taken. with_separators c.args.is_first c.args.separator.now (map g.E.Element.text taken))
+    (λ taken. with_separators c.args.is_first c.args.separator.now (map g.E.Element.part.text taken))
     c.from_residual-in_err-serialize_separator.result c.loop-element.yielded c.in-Some.element ran
     c.in-Some.ensures.steps
     (each_more c.args.version values c.loop-element.yielded c.in-Some.element c.loop-element.invariant.3
     c.in_ok-check.ensures)
-    (separator_lacks g.E.Element.text g.E.Element.is_valid c.args.separator.now c.loop-element.yielded c.args.is_first
+    (separator_lacks g.E.Element.part.text g.E.Element.part.is_valid c.args.separator.now c.loop-element.yielded c.args.is_first
     c.loop-element.none c.args.output.now c.loop-element.output c.in-Some.element c.loop-element.invariant.2
     c.loop-element.invariant.4 c.in_err-serialize_separator.ensures.room.1)
 
 pub returns-in_err-serialize-clause-room : goal.returns-in_err-serialize-clause-room
 returns-in_err-serialize-clause-room g c =
     let steps = g.I.Iterator.next_gives in
-    let values = g.E.Element.values in
+    let values = g.E.Element.part.values in
     let ran = subst (λ s. Yields steps s c.loop-element.yielded c.loop-element.element-iterator)
     c.into_iter-element-iterator.ensures.into_iter_gives c.loop-element.yielded_by in
     let parted = c.in_ok-serialize_separator.ensures in
     lacks_among steps c.args.elements c.loop-element.element-iterator c.next.new.self (flat_map values)
     c.args.version c.args.output.now
-    (λ taken. with_separators c.args.is_first c.args.separator.now (map g.E.Element.text taken))
+    (λ taken. with_separators c.args.is_first c.args.separator.now (map g.E.Element.part.text taken))
     c.from_residual-in_err-serialize.result c.loop-element.yielded c.in-Some.element ran c.in-Some.ensures.steps
     (each_more c.args.version values c.loop-element.yielded c.in-Some.element c.loop-element.invariant.3
     c.in_ok-check.ensures)
-    (part_lacks g.E.Element.text g.E.Element.is_valid c.args.separator.now c.loop-element.yielded c.args.is_first
+    (part_lacks g.E.Element.part.text g.E.Element.part.is_valid c.args.separator.now c.loop-element.yielded c.args.is_first
     c.loop-element.none c.args.output.now c.loop-element.output c.in-Some.element c.loop-element.invariant.2
     c.loop-element.invariant.4 c.serialize_separator.new.output parted.text parted.room.0
     c.in_err-serialize.ensures.room.1)

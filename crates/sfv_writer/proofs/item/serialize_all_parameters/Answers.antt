@@ -4,10 +4,9 @@ use Rattle.sfv_tree.specs.Trees.{pairs_tree}
 use Rattle.sfv_tree.proofs.Distinct.{pairs_distinct}
 use Rattle.std.specs.Iterator.{Yields}
 use Rattle.std.specs.Map.Iter.{TakesFirst, deref_pair}
-use Rattle.sfv_writer.specs.Written.{lent_pairs}
-use Rattle.sfv_writer.specs.Versions.{parameter_pairs}
+use Rattle.sfv_writer.specs.Pairs.{lent_pairs, pair_values}
 use Rattle.sfv_writer.proofs.Lent.{lent_all}
-use Rattle.sfv_writer.proofs.Lacks.{parameters_lack}
+use Rattle.sfv_writer.proofs.Lacks.{pairs_lack}
 use Rattle.sfv_writer.proofs.Looks.{newer_fails}
 use Rattle.sfv_writer.proofs.Parameters.{none_written, none_valid, none_repeated}
 use Rattle.sfv_writer.proofs.item.serialize_all_parameters.Goals as goal
@@ -46,13 +45,13 @@ returns-clause-distinct g c = pairs_distinct c.args.params.now.entries c.iter.en
 
 pub expect_out_of_memory-requires : goal.expect_out_of_memory-requires
 expect_out_of_memory-requires g c =
-    newer_fails (TakesFirst deref_pair) c.iter.result parameter_pairs.values _ c.in-Err.ensures.failed
+    newer_fails (TakesFirst deref_pair) c.iter.result pair_values _ c.in-Err.ensures.failed
 
 pub returns-in-Err-clause-room : goal.returns-in-Err-clause-room
 returns-in-Err-clause-room g c =
     let e = c.in-Err.ensures in
-    let p = e.room (newer_fails (TakesFirst deref_pair) c.iter.result parameter_pairs.values _ e.failed) in (
+    let p = e.room (newer_fails (TakesFirst deref_pair) c.iter.result pair_values _ e.failed) in (
       e.stays,
-      parameters_lack c.args.output.now c.args.params.now.entries p.1 p.0
+      pairs_lack c.args.output.now c.args.params.now.entries p.1 p.0
           (subst (λ s. Yields (TakesFirst deref_pair) s p.0 p.1) c.iter.ensures.rest p.2) p.4,
     )

@@ -1,10 +1,10 @@
 use Rattle.std.proofs.Common.{[], ◌∷◌, subst}
 use Rattle.indexmap.proofs.MapLemmas.{OnOk-map}
 use Rattle.sfv_spec.specs.Values.{AllFit}
-use Rattle.sfv_bare.specs.BareItems.{bare_value}
+use Rattle.sfv_bare.specs.BareItems.{bare_value, ref_value}
 use Rattle.sfv_spec.specs.Canonical.{parameters_text}
-use Rattle.sfv_writer.specs.Written.{lent_pairs, param_text}
-use Rattle.sfv_writer.specs.Versions.{parameter_pairs}
+use Rattle.sfv_writer.specs.Written.{param_text}
+use Rattle.sfv_writer.specs.Pairs.{lent_pairs, pair_values}
 use Rattle.sfv_writer.proofs.Appended.{next, grows_after}
 use Rattle.sfv_writer.proofs.Lacks.{named_lacks, lacks_at_first, lacks_after}
 use Rattle.sfv_writer.proofs.Room.{room_before}
@@ -23,7 +23,7 @@ returns-clause-text g c =
 pub returns-clause-failed : goal.returns-clause-failed
 returns-clause-failed g c =
     let version = c.args.version in
-    fails_after g.I.Iterator.next_gives c.args.rest parameter_pairs.values version (bare_value c.args.first.1.now)
+    fails_after g.I.Iterator.next_gives c.args.rest pair_values version (bare_value c.args.first.1.now)
     c.serialize_parameters.result
     (subst (λ b. AllFit version (b ∷ [])) c.as_ref_item.ensures.value c.in_ok-check_bare_item.ensures)
     c.serialize_parameters.ensures.failed
@@ -35,16 +35,17 @@ returns-clause-grows g c =
 
 pub returns-in_err-check_bare_item-clause-room : goal.returns-in_err-check_bare_item-clause-room
 returns-in_err-check_bare_item-clause-room g c =
-    named_lacks g.I.Iterator.next_gives c.args.rest (λ taken. parameter_pairs.values (c.args.first ∷ taken))
+    named_lacks g.I.Iterator.next_gives c.args.rest (λ taken. pair_values (c.args.first ∷ taken))
     c.args.version c.args.output.now (λ taken. parameters_text (lent_pairs (c.args.first ∷ taken)))
-    c.from_residual.result _ c.in_err-check_bare_item.field-0.0 c.from_residual.ensures.1
+    c.from_residual.result (ref_value c.as_ref_item.result ∷ [])
+    c.in_err-check_bare_item.field-0.0 c.from_residual.ensures.1
     c.in_err-check_bare_item.ensures
 
 pub returns-in_err-serialize_parameter-clause-room : goal.returns-in_err-serialize_parameter-clause-room
 returns-in_err-serialize_parameter-clause-room g c =
     let version = c.args.version in
     let old = c.args.output.now in
-    lacks_at_first g.I.Iterator.next_gives c.args.rest (λ taken. parameter_pairs.values (c.args.first ∷ taken)) version old
+    lacks_at_first g.I.Iterator.next_gives c.args.rest (λ taken. pair_values (c.args.first ∷ taken)) version old
     (λ taken. parameters_text (lent_pairs (c.args.first ∷ taken)))
     c.from_residual-in_err-serialize_parameter.result
     (subst (λ b. AllFit version (b ∷ [])) c.as_ref_item.ensures.value c.in_ok-check_bare_item.ensures)
@@ -55,7 +56,7 @@ pub returns-clause-room : goal.returns-clause-room
 returns-clause-room g c =
     let version = c.args.version in
     let one = c.in_ok-serialize_parameter.ensures in
-    lacks_after g.I.Iterator.next_gives c.args.rest parameter_pairs.values version (bare_value c.args.first.1.now)
+    lacks_after g.I.Iterator.next_gives c.args.rest pair_values version (bare_value c.args.first.1.now)
     c.args.output.now c.serialize_parameter.new.output _ (λ taken. parameters_text (lent_pairs taken))
     c.serialize_parameters.result
     (subst (λ b. AllFit version (b ∷ [])) c.as_ref_item.ensures.value c.in_ok-check_bare_item.ensures)

@@ -1,10 +1,10 @@
 use Rattle.std.proofs.Common.{[], ◌∷◌, refl, subst, arith, rules}
 use Rattle.std.specs.Iterator.{IsFinite, Yields}
-use Rattle.sfv_bare.specs.BareItems.{bare_value}
+use Rattle.sfv_bare.specs.BareItems.{bare_value, ref_value}
 use Rattle.sfv_spec.specs.Values.{AllFit}
 use Rattle.sfv_spec.specs.Canonical.{parameters_text}
-use Rattle.sfv_writer.specs.Written.{lent_pairs}
-use Rattle.sfv_writer.specs.Versions.{NamesFirstUnfit, parameter_pairs}
+use Rattle.sfv_writer.specs.Pairs.{lent_pairs, pair_values}
+use Rattle.sfv_writer.specs.Versions.{NamesFirstUnfit}
 use Rattle.sfv_writer.proofs.Appended.{unchanged, stops_grown}
 use Rattle.sfv_writer.proofs.Lacks.{named_lacks, lacks_among, one_lacks}
 use Rattle.sfv_writer.proofs.Looks.{fails_among, memory_among, singles}
@@ -33,7 +33,7 @@ returns-in_err-check_bare_item-clause-failed g c =
     let error = c.in_err-check_bare_item.field-0.0 in
     let ran = subst (λ s. Yields steps s c.loop-key.yielded c.loop-key.key-iterator)
     c.into_iter-key-iterator.ensures.into_iter_gives c.loop-key.yielded_by in
-    fails_among steps version (λ p. bare_value p.1.now ∷ []) parameter_pairs.values (singles (λ p. bare_value p.1.now))
+    fails_among steps version (λ p. bare_value p.1.now ∷ []) pair_values (singles (λ p. bare_value p.1.now))
     c.args.params c.loop-key.key-iterator c.next.new.self c.loop-key.yielded (c.in-Some.key, c.in-Some.value)
     c.from_residual.result error c.from_residual.ensures.1 ran c.in-Some.ensures.steps c.loop-key.invariant.4
     (subst (λ b. NamesFirstUnfit version (b ∷ []) error) c.as_ref_item.ensures.value c.in_err-check_bare_item.ensures)
@@ -44,7 +44,7 @@ returns-in_err-serialize_parameter-clause-failed g c =
     let version = c.args.version in
     let ran = subst (λ s. Yields steps s c.loop-key.yielded c.loop-key.key-iterator)
     c.into_iter-key-iterator.ensures.into_iter_gives c.loop-key.yielded_by in
-    memory_among steps version (λ p. bare_value p.1.now ∷ []) parameter_pairs.values (singles (λ p. bare_value p.1.now))
+    memory_among steps version (λ p. bare_value p.1.now ∷ []) pair_values (singles (λ p. bare_value p.1.now))
     c.args.params c.loop-key.key-iterator c.next.new.self c.loop-key.yielded (c.in-Some.key, c.in-Some.value)
     c.from_residual-in_err-serialize_parameter.result c.from_residual-in_err-serialize_parameter.ensures.1 ran
     c.in-Some.ensures.steps c.loop-key.invariant.4
@@ -73,8 +73,9 @@ returns-in_err-serialize_parameter-clause-grows g c =
 
 pub returns-in_err-check_bare_item-clause-room : goal.returns-in_err-check_bare_item-clause-room
 returns-in_err-check_bare_item-clause-room g c =
-    named_lacks g.I.Iterator.next_gives c.args.params parameter_pairs.values c.args.version c.args.output.now
-    (λ taken. parameters_text (lent_pairs taken)) c.from_residual.result _ c.in_err-check_bare_item.field-0.0
+    named_lacks g.I.Iterator.next_gives c.args.params pair_values c.args.version c.args.output.now
+    (λ taken. parameters_text (lent_pairs taken)) c.from_residual.result (ref_value c.as_ref_item.result ∷ [])
+    c.in_err-check_bare_item.field-0.0
     c.from_residual.ensures.1 c.in_err-check_bare_item.ensures
 
 pub returns-in_err-serialize_parameter-clause-room : goal.returns-in_err-serialize_parameter-clause-room
@@ -83,7 +84,7 @@ returns-in_err-serialize_parameter-clause-room g c =
     let version = c.args.version in
     let ran = subst (λ s. Yields steps s c.loop-key.yielded c.loop-key.key-iterator)
     c.into_iter-key-iterator.ensures.into_iter_gives c.loop-key.yielded_by in
-    lacks_among steps c.args.params c.loop-key.key-iterator c.next.new.self parameter_pairs.values version c.args.output.now
+    lacks_among steps c.args.params c.loop-key.key-iterator c.next.new.self pair_values version c.args.output.now
     (λ taken. parameters_text (lent_pairs taken)) c.from_residual-in_err-serialize_parameter.result c.loop-key.yielded
     (c.in-Some.key, c.in-Some.value) ran c.in-Some.ensures.steps
     (fit_more c.in-Some.key c.in-Some.value version c.loop-key.yielded c.loop-key.invariant.4

@@ -21,8 +21,7 @@ returns-in_err-serialize_list-clause-out_of_memory c =
 pub returns-clause-text : goal.returns-clause-text
 returns-clause-text c =
     let members = list_tree c.args.list.now.items in
-    let some : 0 < length c.args.list.now.items = search rules in (
-      first_of_some member_tree c.args.list.now.items some,
-      written list_field members _ c.in_ok-serialize_list.ensures.value (c.in_ok-serialize_list.ensures.text
-          ∙ ap (λ (s : List ℕ). s ++ canonical list_field members) c.text_for_members-text.ensures.bytes),
-    )
+    let some : 0 < length c.args.list.now.items = search rules in
+    let w = written list_field members _ c.in_ok-serialize_list.ensures.value (c.in_ok-serialize_list.ensures.text
+    ∙ ap (λ (s : List ℕ). s ++ canonical list_field members) c.text_for_members-text.ensures.bytes) in
+    (first_of_some member_tree c.args.list.now.items some, w.0, w.1)

@@ -1,3 +1,4 @@
+use Rattle.std.specs.List.{flat_map}
 use Rattle.std.proofs.Common.{List, codes, sym, ap, ◌∙◌}
 use Rattle.std.specs.Slice.Iter.{iter_steps, iter_rest}
 use Rattle.sfv_spec.specs.Values.{RawMember, IsMember}
@@ -6,7 +7,7 @@ use Rattle.sfv_spec.specs.Ordered.{IsOrderedMember}
 use Rattle.sfv_spec.specs.Canonical.{member_text}
 use Rattle.sfv_spec.specs.Statements.{IsValue}
 use Rattle.sfv_tree.specs.Trees.{list_tree}
-use Rattle.sfv_writer.specs.Written.{lent_list_member}
+use Rattle.sfv_writer.proofs.Words.{lent_list_member}
 use Rattle.sfv_writer.specs.Versions.{list_members}
 use Rattle.sfv_writer.proofs.Lent.{entries_all, entries_front}
 use Rattle.sfv_writer.proofs.Lacks.{front_lacks}
@@ -16,7 +17,7 @@ use Rattle.sfv_writer.proofs.Drained.{all_written}
 use Rattle.sfv_writer.proofs.list.serialize_list.Goals as goal
 
 pub expect_out_of_memory-requires : goal.expect_out_of_memory-requires
-expect_out_of_memory-requires g c = newer_fails iter_steps c.iter.result list_members.values _ c.in-Err.ensures.failed
+expect_out_of_memory-requires g c = newer_fails iter_steps c.iter.result (flat_map list_members.values) _ c.in-Err.ensures.failed
 
 pub returns : goal.returns
 returns g c =
@@ -32,7 +33,7 @@ returns g c =
 pub returns-in-Err-clause-room : goal.returns-in-Err-clause-room
 returns-in-Err-clause-room g c =
     let e = c.in-Err.ensures in
-    let p = e.room (newer_fails iter_steps c.iter.result list_members.values _ e.failed) in
+    let p = e.room (newer_fails iter_steps c.iter.result (flat_map list_members.values) _ e.failed) in
     let members : List RawMember = list_tree c.args.list.now.items in (
       e.stays,
       front_lacks lent_list_member member_text (codes ", ") c.args.output.now p.0 members (list_tree (iter_rest p.1))

@@ -2,7 +2,7 @@ use Rattle.std.proofs.Common.{◌≡◌, ◌++◌, ◌∙◌, List, [], ℕ, tru
 use Rattle.std.specs.Prelude.{◌/◌, nat_abs, decimal}
 use Rattle.std.proofs.lemmas.List.{append-nil}
 use Rattle.sfv_base.specs.Numbers.{thousandths_of}
-use Rattle.sfv_spec.specs.Numbers.{is_negative}
+use Rattle.std.specs.Int.{is_negative}
 use Rattle.sfv_spec.proofs.Marks.{minus_text}
 use Rattle.sfv_spec.specs.Canonical.{decimal_text}
 use Rattle.sfv_writer.specs.Written.{Extends}

@@ -6,21 +6,21 @@ pub returns-clause-text : goal.returns-clause-text
 returns-clause-text g c =
     let w = c.in_ok-none.ensures.text in
     let sink = c.args.self.now.sink in
-    let text = c.append_each.new.output in
-    let more = rw (c.text_mut.ensures.text, c.separator-separator.ensures) at w.2 in record {
-      taken = w.0;
-      drained = w.1;
+    let text = c.append_each.new.text in
+    let more = rw (c.text_mut.ensures.text, c.separator-separator.ensures) at w.written.1 in record {
+      taken = w.taken;
+      drained = w.drained;
       written = (
         g.met.W.Sink.same_with sink text,
         ap string_bytes (g.met.W.Sink.text_of_with sink text) ∙ more,
-        w.3,
+        w.written.0,
         refl,
         refl,
         subst (λ t. string_capacity (g.W.Sink.text sink) ≤ string_capacity t) (sym (g.met.W.Sink.text_of_with sink text))
             (subst (λ t. string_capacity t ≤ string_capacity text) c.text_mut.ensures.text c.append_each.ensures.stays),
       );
-      valid = w.4;
-      supported = w.5;
+      valid = w.valid;
+      supported = w.supported;
     }
 
 pub returns-in_err-none-clause-failed : goal.returns-in_err-none-clause-failed
