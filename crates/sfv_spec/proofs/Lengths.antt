@@ -24,7 +24,7 @@ use Rattle.sfv_spec.specs.Grammar.{IsBareText, IsValueText, IsKeyText, IsParamet
 use Rattle.sfv_spec.specs.Ordered.{last_of, without, collapse, ordered_item, ordered_member, ordered}
 use Rattle.sfv_spec.proofs.Collapse.{last_of-collapse}
 use Rattle.sfv_spec.proofs.Settled.{joining-cons}
-use Rattle.sfv_spec.proofs.Written.{numerals}
+use Rattle.sfv_spec.proofs.Written.{numerals, not_negative}
 use Rattle.sfv_spec.proofs.Valid.{fraction_below}
 use Rattle.sfv_spec.specs.Statements.{LengthBound}
 
@@ -159,7 +159,7 @@ positive_len n =
     let whole = decimal_digits (n / 1000) in
     let l2 = length-append (whole ++ codes ".") (fraction_digits (n % 1000)) in
     let l1 = length-append whole (codes ".") in
-    omega (arith, l1, l2)
+    rw (not_negative n) (omega (arith, l1, l2))
 
 thousandths_len : (b : Bool) (n : ℕ) → length (decimal_text (signed b n))
     ≤ length (text_if b (codes "-")) + length (decimal_digits (n / 1000)) + 1 + length (fraction_digits (n % 1000))
