@@ -8,9 +8,7 @@
 //! - `older_reads_back`: a value without dates and display strings parses back under RFC 8941, too;
 //! - `newer_accepts`: RFC 9651 accepts every text that RFC 8941 accepts, as the same field.
 
-pub use sfv_reading::{
-    fault_rejects, field_or_fault, one_fault, ruled_or_at_reach, true_is_wanted,
-};
+pub use sfv_reading::{fault_rejects, field_or_fault, one_fault, ruled_or_at_reach};
 pub use sfv_spec::{
     accepted_is_value, equal_texts, newer_accepts, older_reads_back, one_field, one_reach,
     round_trip, some_reach, text_again,
