@@ -101,7 +101,7 @@ impl InnerList {
     pub fn with_params(items: Vec<Item>, params: Parameters) -> InnerList
         ensures items { result.items ≡ items }
         ensures params { result.params ≡ params }
-        ensures tree { inner_list_tree result ≡ record { items = map item_tree items.items; parameters = pairs_tree params.entries } }
+        ensures tree { inner_list_tree result ≡ inner_list_tree (record { items = items; params = params }) }
     {
         InnerList { items, params }
     }
