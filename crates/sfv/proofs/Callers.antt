@@ -20,7 +20,8 @@ use Rattle.sfv_spec.specs.declared.field_kind.FieldKind.TheVariants.{Item as ite
 use Rattle.sfv_spec.specs.declared.field_kind.FieldKind.TheVariants.{Dictionary as dictionary_field}
 use Rattle.sfv_spec.specs.declared.version.Version.{Version}
 use Rattle.sfv_spec.specs.Grammar.{IsFieldText, IsAccepted}
-use Rattle.sfv_spec.specs.Ordered.{last_of, ordered, ordered_member, no_repeats, IsOrdered}
+use Rattle.sfv_spec.specs.Ordered.{last_of, ordered, ordered_member}
+use Rattle.sfv_spec.proofs.Repeats.{no_repeats}
 use Rattle.sfv_spec.proofs.Marks.{keys}
 use Rattle.sfv_spec.specs.Statements.{IsParsedAs, IsValue}
 use Rattle.sfv_spec.proofs.Collapse.{entered, collapse-distinct, collapse-push, last_of-push}
@@ -64,6 +65,11 @@ pub use Rattle.sfv_bare.proofs.Parts.{decimal_part, integer_part, boolean_part, 
 pub use Rattle.sfv_writer.proofs.Lacks.{parameters_all}
 -- what is written of a field is read as its ordered value, repeated keys too, and what is written of a value as itself,
 -- by each version that has all that it holds: RFC 9651 has all
+-- a value is its own ordered value, so no key occurs twice in it, and the other way round
+pub use Rattle.sfv_spec.proofs.Repeats.{IsOrdered}
+pub use Rattle.sfv_spec.proofs.Distinct.{ordered_same, same_ordered, ordered_again}
+-- the old member or value of an insertion is the last of its key
+pub use Rattle.sfv_tree.proofs.Distinct.{entered_member, entered_value}
 pub use Rattle.sfv_writer.proofs.ReadBack.{read_back, value_read_back, serialized_is_value}
 -- the first value that a version lacks, among more values
 pub use Rattle.sfv_writer.proofs.Looks.{names_front, names_after}
@@ -235,7 +241,7 @@ list_after version t held from r here = IfOk-weaker r _ _ (λ list h.
 
 -- a further line of a dictionary: as if its members stood after those that the builder was given
 pub dictionary_after : {E : Type 0} (version : Version) (t : List ℕ) (held : List (List ℕ × RawMember))
-    (from : DictionaryBuilder) (r : Result (IndexMap (List ℕ) ListEntry HashSeed) E) → IsOrdered dictionary_field held
+    (from : DictionaryBuilder) (r : Result (IndexMap (List ℕ) ListEntry HashSeed) E) → ordered dictionary_field held ≡ held
     → dictionary_state from ≡ (held, None)
     → IfOk r (IsAnswerOf (λ (s : DictionaryBuilder) e after. (dictionary_state after
     ≡ dictionary_step (dictionary_state s) e) × StaysUnder IsDictionaryUnder s after)
@@ -244,6 +250,7 @@ pub dictionary_after : {E : Type 0} (version : Version) (t : List ℕ) (held : L
     → DictionaryHasSeed seed dictionary)) version dictionary_field t from)
     → IfOk r (λ dictionary. (raw : List (List ℕ × RawMember)) × IsFieldText version dictionary_field raw t
     × (dictionary_tree dictionary.entries ≡ ordered dictionary_field (held ++ raw)))
-dictionary_after version t held from r distinct here = IfOk-weaker r _ _ (λ dictionary h.
+dictionary_after version t held from r own here = IfOk-weaker r _ _ (λ dictionary h.
+    let distinct = same_ordered dictionary_field held own in
     let whole = built_dictionary_after version t held from dictionary distinct.0 here h in
     (whole.0, whole.1, whole.4 distinct))

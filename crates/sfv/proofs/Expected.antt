@@ -6,7 +6,7 @@ use Rattle.std.proofs.lemmas.Option.{same_Some}
 use Rattle.sfv_spec.specs.Values.{BareValue, RawItem}
 use Rattle.sfv_spec.specs.declared.field_kind.FieldKind.TheVariants.{Item as item_field}
 use Rattle.sfv_spec.specs.declared.version.Version.{Version}
-use Rattle.sfv_spec.specs.Grammar.{IsFieldText, StandsFirst, BeginsWithBareItem}
+use Rattle.sfv_spec.specs.Grammar.{IsFieldText, BeginsWithLongest, BeginsWithComplete}
 use Rattle.sfv_spec.specs.Events.{TreeEvent, bare_item, parameters_events, item_events}
 use Rattle.sfv_spec.specs.Visiting.{RunsTo, IsVisitorError}
 use Rattle.sfv_base.specs.declared.error.Error.{Error}
@@ -96,7 +96,7 @@ module _ {T : Type 0} (holds : T → BareValue) (fails : BareValue → ItemFault
   expect_fails version t raw fault accepted h = failure_is raw h.0 fault h.1 (h.2.0 raw accepted)
 
   -- at a bare item that the type doesn't hold it fails, whatever stands after it, or out of memory
-  pub expect_first : (version : Version) (t : List ℕ) (value : BareValue) → BeginsWithBareItem version value t
+  pub expect_first : (version : Version) (t : List ℕ) (value : BareValue) → BeginsWithComplete version value t
       → ((item : T) → ¬ (holds item ≡ value))
       → ((e : Error) → OfMade Made (VisitsFirst Takes Fails FinishFails version t) (Syntax e) → e ≡ out_of_memory)
       × ((fault : ItemFault) → OfMade Made (VisitsFirst Takes Fails FinishFails version t) (Visitor fault)
@@ -117,7 +117,7 @@ module _ {T : Type 0} (holds : T → BareValue) (fails : BareValue → ItemFault
   -- and it fails only so: at a bare item that stands first
   pub expect_only : (version : Version) (t : List ℕ) (fault : ItemFault)
       → OfMade Made (VisitsFirst Takes Fails FinishFails version t) (Visitor fault)
-      → (value : BareValue) × StandsFirst version value t × fails value fault
+      → (value : BareValue) × BeginsWithLongest version value t × fails value fault
   expect_only version t fault h = let k = h.2 in (k.0.bare, k.1, failure_is k.0 h.0 fault h.1 k.3)
 
 -- what is kept is made of the bare item as it was read
@@ -125,7 +125,7 @@ pub expect_read : {T : Type 0} (holds : T → BareValue) (is_of : T → ReadBare
     (r : Result T (ParseError ItemFault))
     → IfOk r (OfMade (λ (s : ExpectItem T). item_kept s ≡ None)
     (AnswersAsRead (KeepTakes holds) (KeepTakesRead is_of) (λ s item. item_kept s ≡ Some item) version t))
-    → IfOk r (λ item. (read : ReadBareItem) × is_of item read × (stands : StandsFirst version (input_value read) t)
+    → IfOk r (λ item. (read : ReadBareItem) × is_of item read × (stands : BeginsWithLongest version (input_value read) t)
     × IsBorrowedIfPlain read stands.first.front)
 expect_read {T} holds is_of version t (Ok out) h =
     let a = h.2 in

@@ -23,7 +23,8 @@ use Rattle.sfv_spec.proofs.Structure.{one_field_lem}
 use Rattle.sfv_spec.proofs.Fields.{all_fit_newer}
 use Rattle.sfv_spec.proofs.Kept.{last_kept, fold_parameters}
 use Rattle.sfv_spec.proofs.Collapse.{last_of-push}
-use Rattle.sfv_spec.specs.Ordered.{IsOrdered}
+use Rattle.sfv_spec.proofs.Repeats.{IsOrdered}
+use Rattle.sfv_spec.proofs.Distinct.{ordered_same}
 use Rattle.sfv_spec.specs.Canonical.{canonical}
 use Rattle.sfv_spec.proofs.Runs.{runs_fold}
 use Rattle.sfv.specs.Parsers.{IsAnswerOf}
@@ -142,7 +143,7 @@ pub written_is_read : {T E : Type 0} (r : Result T E) (kind : FieldKind) (raw va
     → OnOk r (IsFieldValue kind raw) → raw ≡ value → IsOrdered kind value → Fits Rfc8941 kind value
     → OnOk r ((version : Version) → IsParsedAs version kind (canonical kind value) value)
 written_is_read (Ok x) kind raw value h same distinct fits = λ version. read_back_either version kind value
-    (record { parts = subst (IsFieldValue kind) same h; distinct = distinct }) fits
+    (record { parts = subst (IsFieldValue kind) same h; distinct = ordered_same kind value distinct }) fits
 written_is_read (Err e) kind raw value h same distinct fits = tt
 
 -- RFC 8941 has every value but Dates and Display Strings

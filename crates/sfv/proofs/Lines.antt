@@ -10,8 +10,7 @@ use Rattle.sfv_spec.specs.declared.field_kind.FieldKind.{FieldKind}
 use Rattle.sfv_spec.specs.declared.field_kind.FieldKind.TheVariants.{List as list_field, Dictionary as dictionary_field}
 use Rattle.sfv_spec.specs.declared.version.Version.{Version}
 use Rattle.sfv_spec.proofs.Collapse.{collapse-distinct, no_repeats-collapse, entered_all, entered_all-collapse}
-use Rattle.sfv_spec.proofs.Valid.{is_ordered}
-use Rattle.sfv_spec.proofs.Laws.{ordered_same}
+use Rattle.sfv_spec.proofs.Distinct.{is_ordered, ordered_same}
 use Rattle.sfv_spec.proofs.Structure.{one_field_lem}
 use Rattle.sfv_reading.proofs.Lines.{joined_lines_lem}
 use Rattle.sfv.proofs.built.Dictionaries.{collapse-over}

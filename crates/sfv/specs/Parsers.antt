@@ -10,7 +10,7 @@ use Rattle.sfv_spec.specs.declared.version.Version.{Version}
 use Rattle.sfv_spec.specs.Values.{BareValue, RawParameters, RawItem}
 use Rattle.sfv_spec.specs.Ascii.{byte}
 use Rattle.sfv_spec.specs.Texts.{RunOf}
-use Rattle.sfv_spec.specs.Grammar.{IsFieldText, IsAccepted, StandsFirst, BeginsWithBareItem, HasField}
+use Rattle.sfv_spec.specs.Grammar.{IsFieldText, IsAccepted, BeginsWithLongest, BeginsWithComplete, HasField}
 use Rattle.sfv_spec.specs.Reach.{IsReach}
 use Rattle.sfv_spec.specs.Events.{TreeEvent, bare_item, parameters_events, item_events, events}
 use Rattle.sfv_spec.specs.Visiting.{NeverFails, RunsTo, IsVisited, IsVisitorError, IsEarlyVisitorError}
@@ -82,7 +82,7 @@ pub record AnswersAsRead {S O : Type 0} (takes : S → TreeEvent → S → Type 
   pub read : ReadBareItem
   pub parameters : RawParameters
   pub accepted : IsFieldText version item_field (record { bare = input_value read; parameters = parameters }) t
-  pub stands : StandsFirst version (input_value read) t
+  pub stands : BeginsWithLongest version (input_value read) t
   pub lent : IsBorrowedIfPlain read stands.first.front
   pub middle : S
   pub taken : takes_read from (event.BareItem read) middle
@@ -162,11 +162,11 @@ IsVisitorErrorOf takes fails finish_fails version kind t from (parse_errors.Visi
 abbrev pub VisitsFirst : {S E : Type 0} → (S → TreeEvent → S → Type 0) → (S → TreeEvent → E → Type 0)
     → (S → E → Type 0) → Version → List ℕ → S → ParseError E → Type 0
 VisitsFirst {S} takes fails finish_fails version t from (parse_errors.Syntax e) =
-    (e ≡ out_of_memory) ⊎ ((value : BareValue) → BeginsWithBareItem version value t
+    (e ≡ out_of_memory) ⊎ ((value : BareValue) → BeginsWithComplete version value t
     → (after : S) × takes from (bare_item value) after)
 VisitsFirst takes fails finish_fails version t from (parse_errors.Visitor fault) =
-    (raw : RawItem) × StandsFirst version raw.bare t
-    × ((value : BareValue) → BeginsWithBareItem version value t → raw.bare ≡ value)
+    (raw : RawItem) × BeginsWithLongest version raw.bare t
+    × ((value : BareValue) → BeginsWithComplete version value t → raw.bare ≡ value)
     × IsVisitorError takes fails finish_fails from (item_events raw) fault
 
 module _ {S O E : Type 0} (v : Visitor S O E) (p : Parser) where

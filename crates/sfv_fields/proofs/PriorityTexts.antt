@@ -9,9 +9,9 @@ use Rattle.sfv.specs.Types.{dictionary_field}
 use Rattle.sfv.specs.Types.{Version, Rfc8941}
 use Rattle.sfv.specs.Ordered.{last_of}
 use Rattle.sfv.specs.Canonical.{canonical}
-use Rattle.sfv.specs.Values.{Fits}
+use Rattle.sfv.specs.Values.{Fits, IsFieldValue}
 use Rattle.sfv.specs.Statements.{IsParsedAs, IsValue}
-use Rattle.sfv.proofs.Callers.{read_back_either}
+use Rattle.sfv.proofs.Callers.{read_back_either, ordered_same, IsOrdered}
 use Rattle.sfv_fields.specs.Priority.{PriorityValue, priority, priority_text, IsPriorityOf}
 use Rattle.sfv_fields.specs.PrioritySteps.{members_by, members_of}
 
@@ -30,14 +30,22 @@ written_text p h = same_text (p.urgency == 3) p.incremental p.urgency h
 
 -- each is a value
 is_value : (d i : Bool) (n : ℕ) → n ≤ 7 → IsValue dictionary_field (members_by d i n)
-is_value true true n h = record { parts = ((refl, (tt, tt)), tt); distinct = (refl, (refl, tt)) }
-is_value true false n h = record { parts = tt; distinct = (refl, tt) }
-is_value false true n h =
-    let small : n < 10 ^ 15 = omega (arith, h) in
-    record { parts = ((refl, (small, tt)), ((refl, (tt, tt)), tt)); distinct = (refl, (refl, (refl, tt))) }
-is_value false false n h =
-    let small : n < 10 ^ 15 = omega (arith, h) in
-    record { parts = ((refl, (small, tt)), tt); distinct = (refl, (refl, tt)) }
+is_value d i n h = record { parts = parts d i; distinct = ordered_same dictionary_field (members_by d i n) (distinct d i) }
+  where
+    small : n < 10 ^ 15
+    small = omega (arith, h)
+
+    parts : (d i : Bool) → IsFieldValue dictionary_field (members_by d i n)
+    parts true true = ((refl, (tt, tt)), tt)
+    parts true false = tt
+    parts false true = ((refl, (small, tt)), ((refl, (tt, tt)), tt))
+    parts false false = ((refl, (small, tt)), tt)
+
+    distinct : (d i : Bool) → IsOrdered dictionary_field (members_by d i n)
+    distinct true true = (refl, (refl, tt))
+    distinct true false = (refl, tt)
+    distinct false true = (refl, (refl, (refl, tt)))
+    distinct false false = (refl, (refl, tt))
 
 -- of which this is the priority
 within : (n : ℕ) → n ≤ 7 → nat_le n 7 ≡ true

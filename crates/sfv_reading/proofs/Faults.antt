@@ -1,10 +1,10 @@
 -- The fault of the reader is that of the table of faults, and no other is.
 use Rattle.std.proofs.Common.{◌≡◌, ℕ, ◌+◌, ◌-◌, ◌≤◌, Bool, true, false, List, ◌++◌, length, take, Result}
-use Rattle.std.proofs.Common.{Ok, Err, refl, sym, ap, subst, ◌∙◌, inl, inr, arith, append_assoc}
+use Rattle.std.proofs.Common.{Ok, Err, refl, sym, ap, subst, ◌∙◌, inl, inr, arith}
 use Rattle.std.specs.Prelude.{◌⊎◌, codes}
 use Rattle.std.proofs.lemmas.Bool.{cases_Bool, true≢false}
 use Rattle.std.proofs.lemmas.List.{length-append, length-drop, take_at}
-use Rattle.sfv_spec.specs.Values.{RawField, boolean}
+use Rattle.sfv_spec.specs.Values.{RawField}
 use Rattle.sfv_spec.specs.declared.field_kind.FieldKind.{FieldKind}
 use Rattle.sfv_spec.specs.declared.version.Version.{Version}
 use Rattle.sfv_spec.specs.Grammar.{IsAccepted}
@@ -17,7 +17,6 @@ use Rattle.sfv_spec.specs.declared.error_kind.ErrorKind.TheVariants.{TrailingCha
 use Rattle.sfv_spec.specs.declared.error_kind.ErrorKind.TheVariants.{TrailingCharactersAfterParsedValue}
 use Rattle.sfv_spec.specs.Faults.{RuledFault, BareItemFault, BegunFault, WantedFault, IsWantedAt, IsFaultAt}
 use Rattle.sfv_spec.specs.Faults as faults
-use Rattle.sfv_spec.specs.Statements.{TrueIsWanted}
 use Rattle.sfv_spec.proofs.Versions.{one_reach_lem}
 use Rattle.sfv_reading.specs.Reader.{Fault, has_rule}
 use Rattle.sfv_reading.specs.Fields.{read_field}
@@ -29,7 +28,7 @@ use Rattle.sfv_reading.proofs.rules.BareRows.{bare_row_is_given}
 use Rattle.sfv_reading.proofs.rules.RuledFaults.{ruled_is_given}
 use Rattle.sfv_reading.proofs.rules.Cut.{open_list_is_read}
 use Rattle.sfv_reading.proofs.places.Wanted.{bare_is_wanted}
-use Rattle.sfv_reading.proofs.places.Read.{wanted_bare_is_read, bare_stuck, calls_wanted}
+use Rattle.sfv_reading.proofs.places.Read.{wanted_bare_is_read}
 use Rattle.sfv_reading.proofs.places.OneWanted.{one_wanted}
 
 -- ---- kinds
@@ -354,13 +353,3 @@ module _ (version : Version) (kind : FieldKind) where
       let reach = at_the_reach t a.0.fault a.0.read a.1 in
       let here : length t - length a.0.fault.rest ≡ i = omega (arith, a.0.here) in
       inr (λ g j r. not_both t g f j i r b, subst (IsReach version kind t) here reach.1)
-
--- where a bare item is wanted true can stand, as it can where a question mark can and two parentheses can't
-pub true_is_wanted : TrueIsWanted
-true_is_wanted version kind u = (
-  λ h. (bare_stuck version kind u (codes "?1") (boolean true) (calls_wanted version kind u h) refl, h.outside),
-  λ h. record {
-    bare = (codes "1" ++ h.0.0, subst (IsAccepted version kind) (simp append_assoc) h.0.1);
-    outside = h.1;
-  },
-)

@@ -7,7 +7,7 @@ use Rattle.sfv_spec.proofs.Marks.{is_space}
 use Rattle.sfv_spec.specs.Values.{BareValue}
 use Rattle.sfv_spec.specs.declared.version.Version.{Version}
 use Rattle.sfv_spec.specs.Texts.{IsLongestBeginning}
-use Rattle.sfv_spec.specs.Grammar.{IsBareText, BeginsWithBareItem}
+use Rattle.sfv_spec.specs.Grammar.{IsBareText, BeginsWithComplete}
 use Rattle.sfv_reading.specs.Reader.{span}
 use Rattle.sfv_reading.specs.Bare.{bare_at}
 use Rattle.sfv_reading.specs.Items.{item_of}
@@ -17,7 +17,7 @@ use Rattle.sfv_reading.proofs.complete.Combinators.{span_complete}
 use Rattle.sfv_reading.proofs.complete.Bare.{bare_complete}
 use Rattle.sfv_reading.proofs.complete.Items.{item_no}
 
-pub first_bare : (version : Version) (value : BareValue) (t : List ℕ) (h : BeginsWithBareItem version value t)
+pub first_bare : (version : Version) (value : BareValue) (t : List ℕ) (h : BeginsWithComplete version value t)
     → (span is_space t ≡ Ok (h.first.spaces, h.first.front ++ h.first.rest))
     × (bare_at version (h.first.front ++ h.first.rest) ≡ Ok (value, h.first.rest))
 first_bare version value t h =

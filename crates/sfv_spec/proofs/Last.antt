@@ -9,7 +9,8 @@ use Rattle.std.proofs.lemmas.Bool.{and_parts, not-true}
 use Rattle.std.proofs.lemmas.Option.{same_Some}
 use Rattle.sfv_spec.specs.Values.{RawMember}
 use Rattle.sfv_spec.specs.declared.field_kind.FieldKind.TheVariants.{Dictionary as dictionary_field}
-use Rattle.sfv_spec.specs.Ordered.{last_of, collapse, ordered, ordered_member, no_repeats}
+use Rattle.sfv_spec.specs.Ordered.{last_of, collapse, ordered, ordered_member}
+use Rattle.sfv_spec.proofs.Repeats.{no_repeats}
 use Rattle.sfv_spec.proofs.Marks.{keys}
 use Rattle.sfv_spec.proofs.Collapse.{last_of-absent, last_of-collapse}
 

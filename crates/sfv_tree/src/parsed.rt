@@ -1,10 +1,9 @@
 //! Lists, dictionaries, inner lists, parameters and items (RFC 9651, sections 3.1 to 3.3).
 
-ghost use Rattle.std.specs.Prelude.{◌≡◌, ◌+◌, ◌<◌, ◌≤◌, [], IsOk, IfOk, OnOk, OnErr, IsTrue, None, map, bytes_eq};
-ghost use Rattle.std.specs.Prelude.{option_copied, option_map};
+ghost use Rattle.std.specs.Prelude.{◌≡◌, ◌+◌, ◌<◌, ◌≤◌, [], IsOk, IfOk, OnOk, OnErr, None, map, bytes_eq};
+ghost use Rattle.std.specs.Prelude.{option_copied};
 ghost use Rattle.indexmap.specs.IndexMap.{get, hasher_of, insert_entry, spare, IsUnique};
-ghost use Rattle.sfv_spec.specs.Ordered.{last_of, no_repeats};
-ghost use Rattle.sfv_spec.proofs.Marks.{keys};
+ghost use Rattle.sfv_spec.specs.Ordered.{last_of};
 ghost use Rattle.sfv_bare.specs.BareItems.{bare_value};
 ghost use Rattle.sfv_text.specs.CheckedTexts.{text_of};
 ghost use Rattle.sfv_tree.specs.HashSeeds.{library_seed};
@@ -102,7 +101,7 @@ impl InnerList {
     pub fn with_params(items: Vec<Item>, params: Parameters) -> InnerList
         ensures items { result.items ≡ items }
         ensures params { result.params ≡ params }
-        ensures tree { inner_list_tree result ≡ record { items = map item_tree items.items; parameters = pairs_tree params.entries } }
+        ensures tree { inner_list_tree result ≡ inner_list_tree (record { items = items; params = params }) }
     {
         InnerList { items, params }
     }
@@ -248,18 +247,14 @@ pub fn insert_entry(
     member: ListEntry,
 ) -> Result<Option<ListEntry>, AllocError>
     ensures old { IfOk result (λ old. old ≡ get bytes_eq dictionary.old key) }
-    ensures last { IfOk result (λ old. option_map member_tree old
-        ≡ last_of key (dictionary_tree dictionary.old.entries)) }
     ensures entries { OnOk result (dictionary.new.entries ≡ insert_entry bytes_eq dictionary.old.entries key member) }
     ensures seed { hasher_of dictionary.new ≡ hasher_of dictionary.old }
     ensures unchanged { OnErr result (dictionary.new.entries ≡ dictionary.old.entries) }
-    ensures absent { OnErr result (last_of key (dictionary_tree dictionary.old.entries) ≡ None) }
+    ensures absent { OnErr result (get bytes_eq dictionary.old key ≡ None) }
     ensures succeeds { 0 < spare dictionary.old → IsOk result }
     ensures spare { spare dictionary.old ≤ spare dictionary.new + 1 }
-    ensures distinct { IsTrue (no_repeats (keys (dictionary_tree dictionary.new.entries))) }
+    ensures distinct { IsUnique bytes_eq dictionary.new }
 {
-    // The proof cites the clause of this call that no key occurs twice.
-    let _len = dictionary.len();
     Ok(dictionary.insert(key, member)?)
 }
 
@@ -276,16 +271,13 @@ pub fn insert_param(
     value: BareItem,
 ) -> Result<Option<BareItem>, AllocError>
     ensures old { IfOk result (λ old. old ≡ get bytes_eq params.old key) }
-    ensures last { IfOk result (λ old. option_map bare_value old ≡ last_of key (pairs_tree params.old.entries)) }
     ensures entries { OnOk result (params.new.entries ≡ insert_entry bytes_eq params.old.entries key value) }
     ensures seed { hasher_of params.new ≡ hasher_of params.old }
     ensures unchanged { OnErr result (params.new.entries ≡ params.old.entries) }
-    ensures absent { OnErr result (last_of key (pairs_tree params.old.entries) ≡ None) }
+    ensures absent { OnErr result (get bytes_eq params.old key ≡ None) }
     ensures succeeds { 0 < spare params.old → IsOk result }
     ensures spare { spare params.old ≤ spare params.new + 1 }
-    ensures distinct { IsTrue (no_repeats (keys (pairs_tree params.new.entries))) }
+    ensures distinct { IsUnique bytes_eq params.new }
 {
-    // The proof cites the clause of this call that no key occurs twice.
-    let _len = params.len();
     Ok(params.insert(key, value)?)
 }

@@ -14,7 +14,7 @@ use Rattle.sfv.specs.Values.{string, token, byte_sequence}
 use Rattle.sfv.specs.Values.{boolean, date, display_string, RawMember, item, inner_list}
 use Rattle.sfv.specs.Events.{TreeEvent, entry, keyed_entry, begins_item, begins_inner_list, bare_item, parameter}
 use Rattle.sfv.specs.Events.{parameters_end, inner_list_end, events}
-use Rattle.sfv.specs.Grammar.{IsFieldText, IsAccepted, StandsFirst, BeginsWithBareItem}
+use Rattle.sfv.specs.Grammar.{IsFieldText, IsAccepted, BeginsWithLongest, BeginsWithComplete}
 use Rattle.sfv.specs.Ordered.{last_of, ordered_member}
 use Rattle.sfv.specs.Statements.{IsParsedAs}
 use Rattle.sfv.specs.Visiting.{RunsTo, IsVisitorError}
@@ -179,7 +179,7 @@ module _ {T : Type 0} (holds : T → BareValue) (fails : BareValue → ItemFault
   pub expected_first : (t : List ℕ) (r : Result T (ParseError ItemFault))
       → IfOk r (OfMade Waits (IsAnswerOf (KeepTakes holds) Keeps Rfc9651 item_field t))
       → IfErr r (OfMade Waits (VisitsFirst (KeepTakes holds) (KeepFails fails) KeepsNone Rfc9651 t))
-      → (value : BareValue) → BeginsWithBareItem Rfc9651 value t → ((held : T) → ¬ (holds held ≡ value))
+      → (value : BareValue) → BeginsWithComplete Rfc9651 value t → ((held : T) → ¬ (holds held ≡ value))
       → MatchResult r (λ _. ⊥) (IsExpectError fails value)
   expected_first t (Ok held) h k value begins none =
       let read = expect_answers holds fails Rfc9651 t (Ok held) h in
@@ -191,12 +191,12 @@ module _ {T : Type 0} (holds : T → BareValue) (fails : BareValue → ItemFault
 -- a string that was kept is the one that was read
 pub lent_string : {E : Type 0} (t : List ℕ) (r : Result StringFromInput E)
     → IfOk r (λ text. (read : ReadBareItem) × (read ≡ bare_items.String text)
-    × (stands : StandsFirst Rfc9651 (input_value read) t) × IsBorrowedIfPlain read stands.first.front)
+    × (stands : BeginsWithLongest Rfc9651 (input_value read) t) × IsBorrowedIfPlain read stands.first.front)
     → IfOk r (λ text. IsLentString text t)
 lent_string t (Ok text) h =
-    let k : (stands : StandsFirst Rfc9651 (input_value (bare_items.String text)) t)
+    let k : (stands : BeginsWithLongest Rfc9651 (input_value (bare_items.String text)) t)
     × IsBorrowedIfPlain (bare_items.String text) stands.first.front =
-    subst (λ (read : ReadBareItem). (stands : StandsFirst Rfc9651 (input_value read) t)
+    subst (λ (read : ReadBareItem). (stands : BeginsWithLongest Rfc9651 (input_value read) t)
     × IsBorrowedIfPlain read stands.first.front) h.1 (h.2, h.3) in
     (k.0, k.1)
 lent_string t (Err e) h = tt

@@ -11,7 +11,7 @@ use Rattle.sfv.specs.Types.{Rfc9651}
 use Rattle.sfv.specs.Values.{string, token}
 use Rattle.sfv.specs.Values.{RawField, HasMember, RawParameters, RawItem, RawMember}
 use Rattle.sfv.specs.Values.{item, inner_list}
-use Rattle.sfv.specs.Grammar.{IsFieldText, IsAccepted, StandsFirst}
+use Rattle.sfv.specs.Grammar.{IsFieldText, IsAccepted, BeginsWithLongest}
 use Rattle.sfv.specs.Ordered.{ordered, last_of}
 use Rattle.sfv.specs.Statements.{IsParsedAs, IsSerializedAs}
 use Rattle.sfv.specs.KeyText.{KeyRef}
@@ -137,7 +137,7 @@ IsReadError holds kind t (Visitor fault) = holds fault
 
 -- a bare item comes first in the text, and the type rejects it with this error
 abbrev pub FailsAtFirst : (BareValue → ItemFault → Type 0) → List ℕ → ItemFault → Type 0
-FailsAtFirst fails t fault = (value : BareValue) × StandsFirst Rfc9651 value t × fails value fault
+FailsAtFirst fails t fault = (value : BareValue) × BeginsWithLongest Rfc9651 value t × fails value fault
 
 -- memory ran out, or the type rejects the value with this error
 abbrev pub IsExpectError : (BareValue → ItemFault → Type 0) → BareValue → ParseError ItemFault → Type 0
@@ -159,7 +159,7 @@ RefusesOther value result =
 
 -- the string comes first in the text, and is borrowed from it if and only if it has no escape there
 abbrev pub IsLentString : StringFromInput → List ℕ → Type 0
-IsLentString text t = (stands : StandsFirst Rfc9651 (string (read_text text)) t)
+IsLentString text t = (stands : BeginsWithLongest Rfc9651 (string (read_text text)) t)
     × (IsTrue (is_borrowed_string text) ↔ IsPlainString stands.first.front)
 
 -- the text parses to an item: its integer, or the default for another kind

@@ -4,7 +4,7 @@ ghost use Rattle.std.specs.Prelude.{◌≡◌, ⊤, IfOk, IfErr, MatchResult};
 ghost use Rattle.sfv.specs.Values.{BareValue, RawItem};
 ghost use Rattle.sfv.specs.Types.{item_field, list_field, dictionary_field};
 ghost use Rattle.sfv.specs.Types.{Rfc9651};
-ghost use Rattle.sfv.specs.Grammar.{IsFieldText, BeginsWithBareItem};
+ghost use Rattle.sfv.specs.Grammar.{IsFieldText, BeginsWithComplete};
 ghost use Rattle.sfv.specs.Statements.{IsParsedAs};
 ghost use Rattle.sfv.specs.Trees.{item_tree, list_tree, dictionary_tree};
 ghost use Rattle.sfv.specs.HashSeeds.{library_seed};
@@ -30,7 +30,7 @@ pub fn expect<'de, T: ExpectedItem<'de>>(
     ensures held { IfOk result (λ item. HasBareItem input.now (T.holds item)) }
     ensures of_an_item { (raw : RawItem) → IsFieldText Rfc9651 item_field raw input.now
         → MatchResult result (λ item. T.holds item ≡ raw.bare) (IsExpectError T.fails raw.bare) }
-    ensures of_another_kind { (value : BareValue) → BeginsWithBareItem Rfc9651 value input.now
+    ensures of_another_kind { (value : BareValue) → BeginsWithComplete Rfc9651 value input.now
         → ((item : T) → ¬ (T.holds item ≡ value)) → MatchResult result (λ _. ⊥) (IsExpectError T.fails value) }
     ensures rejected { IfErr result (IsReadError (FailsAtFirst T.fails input.now) item_field input.now) }
 {
@@ -45,7 +45,8 @@ pub fn expect<'de, T: ExpectedItem<'de>>(
 /// whatever follows the bare item. Otherwise, if the input is not an item, returns the error of `Parser::parse`.
 pub fn token<'de>(alloc: Global, input: &'de [u8]) -> Result<TokenRef<'de>, ParseError<ItemFault>>
     ensures of_an_item { (raw : RawItem) → IsFieldText Rfc9651 item_field raw input.now → GivesToken raw.bare result }
-    ensures of_another_kind { (value : BareValue) → BeginsWithBareItem Rfc9651 value input.now → RefusesOther value result }
+    ensures of_another_kind { (value : BareValue) → BeginsWithComplete Rfc9651 value input.now
+        → RefusesOther value result }
 {
     expect::<TokenRef>(alloc, input)
 }

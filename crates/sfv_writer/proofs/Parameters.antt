@@ -1,12 +1,15 @@
 -- Parameters that are written one after another: as values, and as they are lent.
 use Rattle.std.proofs.Common.{◌≡◌, ℕ, List, [], ◌∷◌, ◌++◌, length, refl, sym, ap, subst, ◌∙◌, append_assoc, arith}
-use Rattle.std.specs.Prelude.{IsTrue}
+use Rattle.std.specs.Prelude.{IsTrue, Result, Ok, Err, OnOk}
 use Rattle.std.specs.Borrow.{Bor}
 use Rattle.std.proofs.lemmas.List.{append-nil}
 use Rattle.sfv_spec.specs.Classes.{is_key}
-use Rattle.sfv_spec.specs.Values.{BareValue, RawParameters, IsBareValue, AreParameters}
+use Rattle.sfv_spec.specs.Values.{BareValue, RawParameters, RawItem, IsBareValue, AreParameters}
+use Rattle.sfv_spec.specs.declared.field_kind.FieldKind.TheVariants.{Item as item_field}
+use Rattle.sfv_spec.specs.Statements.{IsValue}
+use Rattle.sfv_spec.proofs.Distinct.{item_own}
 use Rattle.sfv_spec.specs.declared.version.Version.{Version}
-use Rattle.sfv_spec.specs.Ordered.{no_repeats}
+use Rattle.sfv_spec.proofs.Repeats.{no_repeats}
 use Rattle.sfv_spec.proofs.Marks.{keys}
 use Rattle.sfv_spec.specs.Canonical.{parameters_text}
 use Rattle.sfv_spec.specs.Values.{AllFit}
@@ -74,3 +77,9 @@ pub none_repeated : (es : List (List ℕ × OwnedBareItem)) → length es ≡ 0
     → IsTrue (no_repeats (keys (pairs_tree es)))
 none_repeated [] e = refl
 none_repeated (p ∷ es) e = absurd (omega (arith, e))
+
+-- an item is a value if its bare item is, and its parameters are
+pub item_on_ok : {T E : Type 0} (i : RawItem) (r : Result T E) → IsBareValue i.bare → OnOk r (AreParameters i.parameters)
+    → OnOk r (IsTrue (no_repeats (keys i.parameters))) → OnOk r (IsValue item_field i)
+item_on_ok i (Ok x) bare h distinct = record { parts = (bare, h); distinct = item_own i distinct }
+item_on_ok i (Err e) bare h distinct = tt

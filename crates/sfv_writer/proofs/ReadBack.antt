@@ -21,7 +21,7 @@ use Rattle.sfv_spec.proofs.Versions.{newer_accepts_lem}
 pub read_back : (version : Version) (kind : FieldKind) (raw : RawField kind) → IsFieldValue kind raw → Fits version kind raw
     → IsParsedAs version kind (canonical kind raw) (ordered kind raw)
 read_back version kind raw h fits =
-    let accepted = (round_trip_lem version kind raw h fits).0 in
+    let accepted = round_trip_lem version kind raw h fits in
     record {
       raw = raw;
       accepted = accepted;
@@ -33,7 +33,7 @@ read_back version kind raw h fits =
 pub value_read_back : (version : Version) (kind : FieldKind) (value : RawField kind) → IsValue kind value
     → Fits version kind value → IsParsedAs version kind (canonical kind value) value
 value_read_back version kind value v fits = subst (IsParsedAs version kind (canonical kind value))
-    ((round_trip_lem version kind value v.parts fits).1 v.distinct) (read_back version kind value v.parts fits)
+    v.distinct (read_back version kind value v.parts fits)
 
 -- the canonical text of a value that fits a version is read back by it as this value
 abbrev pub IsWritten : Version → (kind : FieldKind) → RawField kind → List ℕ → Type 0
@@ -63,7 +63,7 @@ serialized_is_value version kind value t h =
     let v = parsed_is_value version kind value t parsed in
     let same = one_field_lem Rfc9651 kind t parsed.raw value (newer version parsed.raw parsed.accepted)
     (subst (IsFieldText Rfc9651 kind value) (sym h.1)
-    (round_trip_lem Rfc9651 kind value v.parts (all_fit_newer (bare_values kind value))).0) in
+    (round_trip_lem Rfc9651 kind value v.parts (all_fit_newer (bare_values kind value)))) in
     (v, subst (Fits version kind) same (accepted_is_value_lem version kind t parsed.raw parsed.accepted).2)
   where
     newer : (version : Version) (raw : RawField kind) → IsFieldText version kind raw t → IsFieldText Rfc9651 kind raw t

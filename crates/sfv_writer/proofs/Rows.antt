@@ -118,9 +118,9 @@ first_of_none f [] e = λ h. let e = h.2 in cc
 first_of_none f (x ∷ xs) e = absurd (omega (arith, e))
 
 -- what is known of the items of an inner list, and what its parameters are when they are written
-pub parts_on_ok : {T E P R : Type 0} (Q S : Type 0) (r : Result T E) → P → R → OnOk r Q → OnOk r S
-    → OnOk r ((P × Q) × (R × S))
-parts_on_ok Q S (Ok x) p q h k = ((p, h), (q, k))
+pub parts_on_ok : {T E P R : Type 0} (Q S : Type 0) (r : Result T E) → P → (S → R) → OnOk r Q → OnOk r S
+    → OnOk r ((P × Q) × R)
+parts_on_ok Q S (Ok x) p q h k = ((p, h), q k)
 parts_on_ok Q S (Err e) p q h k = tt
 
 -- what holds anyway holds of an error

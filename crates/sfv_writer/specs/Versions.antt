@@ -7,7 +7,7 @@ use Rattle.std.specs.Borrow.{Bor}
 use Rattle.std.specs.declared.string.String.{String}
 use Rattle.sfv_spec.specs.Classes.{is_key}
 use Rattle.sfv_spec.specs.Canonical.{item_text, member_text, dictionary_member_text, value_text}
-use Rattle.sfv_spec.specs.Ordered.{IsOrderedItem, IsOrderedMember}
+use Rattle.sfv_spec.specs.Ordered.{ordered_item, ordered_member}
 use Rattle.sfv_spec.specs.Values.{BareValue, IsBareValue, IsItem, IsMember, item_values, member_values}
 use Rattle.sfv_spec.specs.declared.version.Version.{Version}
 use Rattle.sfv_spec.specs.Values.{fits_bare, AllFit}
@@ -84,14 +84,14 @@ parts_by view text values is_valid =
 
 -- the items of an inner list; the members of a list; the members of a dictionary; parameters
 abbrev pub inner_items : PartKind (Bor Item)
-inner_items = parts_by (λ i. item_tree i.now) item_text item_values (λ i. IsItem i × IsOrderedItem i)
+inner_items = parts_by (λ i. item_tree i.now) item_text item_values (λ i. IsItem i × (ordered_item i ≡ i))
 
 abbrev pub list_members : PartKind (Bor ListEntry)
-list_members = parts_by (λ m. member_tree m.now) member_text member_values (λ m. IsMember m × IsOrderedMember m)
+list_members = parts_by (λ m. member_tree m.now) member_text member_values (λ m. IsMember m × (ordered_member m ≡ m))
 
 abbrev pub dictionary_members : PartKind (Bor (List ℕ) × Bor ListEntry)
 dictionary_members = parts_by (λ m. (m.0.now, member_tree m.1.now)) dictionary_member_text (λ m. member_values m.1)
-    (λ m. (IsTrue (is_key m.0) × IsMember m.1) × IsOrderedMember m.1)
+    (λ m. (IsTrue (is_key m.0) × IsMember m.1) × (ordered_member m.1 ≡ m.1))
 
 abbrev pub parameter_pairs : PartKind (Bor (List ℕ) × Bor OwnedBareItem)
 parameter_pairs = parts_by {R = List ℕ × BareValue} (λ p. (p.0.now, bare_value p.1.now))

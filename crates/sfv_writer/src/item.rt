@@ -6,7 +6,7 @@ ghost use Rattle.std.specs.Iterator.{IsFinite, Drains};
 ghost use Rattle.sfv_spec.specs.Classes.{is_key, is_token};
 ghost use Rattle.sfv_spec.specs.Values.{IsBareValue, AreParameters, boolean};
 ghost use Rattle.sfv_spec.specs.declared.field_kind.FieldKind.TheVariants.{Item as item_field};
-ghost use Rattle.sfv_spec.specs.Ordered.{no_repeats};
+ghost use Rattle.sfv_spec.proofs.Repeats.{no_repeats};
 ghost use Rattle.sfv_spec.proofs.Marks.{keys};
 ghost use Rattle.sfv_spec.specs.Grammar.{boolean_text};
 ghost use Rattle.sfv_spec.specs.Canonical.{bare_text, value_text, parameters_text, item_text};

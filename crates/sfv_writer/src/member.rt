@@ -1,13 +1,13 @@
 //! Serialization of inner lists, and of members of lists and dictionaries (RFC 9651, sections 4.1.1, 4.1.1.1 and
 //! 4.1.2).
 
-ghost use Rattle.std.specs.Prelude.{◌++◌, OnOk, IsTrue, map, codes};
+ghost use Rattle.std.specs.Prelude.{◌≡◌, ◌++◌, OnOk, IsTrue, map, codes};
 ghost use Rattle.std.specs.List.{AllByRecursion};
 ghost use Rattle.sfv_spec.specs.Classes.{is_key};
 ghost use Rattle.sfv_spec.specs.Texts.{joined};
 ghost use Rattle.sfv_spec.specs.Values.{IsItem, IsMember, inner_list};
 ghost use Rattle.sfv_spec.specs.declared.field_kind.FieldKind.TheVariants.{Item as item_field};
-ghost use Rattle.sfv_spec.specs.Ordered.{IsOrderedItem, IsOrderedMember};
+ghost use Rattle.sfv_spec.specs.Ordered.{ordered_item, ordered_member};
 ghost use Rattle.sfv_spec.specs.Canonical.{value_text, parameters_text, item_text, inner_list_text, member_text};
 ghost use Rattle.sfv_spec.specs.Canonical.{dictionary_member_text};
 ghost use Rattle.sfv_spec.specs.Statements.{IsValue};
@@ -29,7 +29,7 @@ fn serialize_items<A: Allocator>(
 ) -> Result<(), OutOfMemory>
     ensures text { Appends output.old output.new (joined (codes " ") (map item_text (map item_tree items.now))) result }
     ensures room { AsksForRoom output.old output.new (joined (codes " ") (map item_text (map item_tree items.now))) result }
-    ensures values { OnOk result (AllByRecursion (λ i. IsItem i × IsOrderedItem i) (map item_tree items.now)) }
+    ensures values { OnOk result (AllByRecursion (λ i. IsItem i × (ordered_item i ≡ i)) (map item_tree items.now)) }
 {
     let Some((first, others)) = items.split_first() else {
         return Ok(());
@@ -52,7 +52,7 @@ fn serialize_inner_list<A: Allocator>(
     ensures text { Appends output.old output.new (inner_list_text (inner_list_tree list.now)) result }
     ensures room { AsksForRoom output.old output.new (inner_list_text (inner_list_tree list.now)) result }
     ensures value { OnOk result (IsMember (inner_list (inner_list_tree list.now))
-        × IsOrderedMember (inner_list (inner_list_tree list.now))) }
+        × (ordered_member (inner_list (inner_list_tree list.now)) ≡ inner_list (inner_list_tree list.now))) }
 {
     output.push('(')?;
     serialize_items(&list.items, output)?;
@@ -68,7 +68,8 @@ pub(crate) fn serialize_member<A: Allocator>(
 ) -> Result<(), OutOfMemory>
     ensures text { Appends output.old output.new (member_text (member_tree member.now)) result }
     ensures room { AsksForRoom output.old output.new (member_text (member_tree member.now)) result }
-    ensures value { OnOk result (IsMember (member_tree member.now) × IsOrderedMember (member_tree member.now)) }
+    ensures value { OnOk result (IsMember (member_tree member.now)
+        × (ordered_member (member_tree member.now) ≡ member_tree member.now)) }
 {
     match member {
         ListEntry::Item(item) => serialize_item(item, output),
@@ -102,7 +103,8 @@ pub(crate) fn serialize_dictionary_member<A: Allocator>(
     ensures text { Appends output.old output.new (dictionary_member_text (key.now, member_tree member.now)) result }
     ensures room { AsksForRoom output.old output.new (dictionary_member_text (key.now, member_tree member.now)) result }
     ensures key { OnOk result (IsTrue (is_key key.now)) }
-    ensures value { OnOk result (IsMember (member_tree member.now) × IsOrderedMember (member_tree member.now)) }
+    ensures value { OnOk result (IsMember (member_tree member.now)
+        × (ordered_member (member_tree member.now) ≡ member_tree member.now)) }
 {
     serialize_key(key.as_key_ref(), output)?;
     match member {

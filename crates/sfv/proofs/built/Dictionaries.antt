@@ -11,13 +11,14 @@ use Rattle.sfv_spec.specs.declared.field_kind.FieldKind.TheVariants.{Dictionary 
 use Rattle.sfv_spec.specs.declared.version.Version.{Version}
 use Rattle.sfv_spec.specs.Grammar.{IsFieldText}
 use Rattle.sfv_spec.specs.Events.{TreeEvent, member_events, events}
-use Rattle.sfv_spec.specs.Ordered.{last_of, without, collapse, ordered, ordered_member, no_repeats, IsOrdered}
+use Rattle.sfv_spec.specs.Ordered.{last_of, without, collapse, ordered, ordered_member}
+use Rattle.sfv_spec.proofs.Repeats.{no_repeats, IsOrdered}
 use Rattle.sfv_spec.proofs.Marks.{keys}
 use Rattle.sfv_spec.specs.Statements.{IsParsedAs}
 use Rattle.sfv_spec.specs.Visiting.{RunsTo}
 use Rattle.sfv_spec.proofs.Collapse.{collapse-push, collapse-distinct}
 use Rattle.sfv_spec.proofs.Last.{over, last_of-over}
-use Rattle.sfv_spec.proofs.Laws.{ordered_same}
+use Rattle.sfv_spec.proofs.Distinct.{ordered_same}
 use Rattle.sfv_spec.proofs.Runs.{runs_fold}
 use Rattle.sfv_tree.specs.Trees.{dictionary_tree}
 use Rattle.sfv_visitor.specs.Builders.{MemberState, begun, item_head, item_parameters, inner_items, inner_head}

@@ -9,7 +9,7 @@ use Rattle.sfv_spec.specs.Values.{BareValue, RawItem, RawParameters}
 use Rattle.sfv_spec.specs.declared.field_kind.FieldKind.TheVariants.{Item as item_field}
 use Rattle.sfv_spec.specs.declared.version.Version.{Version}
 use Rattle.sfv_spec.specs.Texts.{RunOf}
-use Rattle.sfv_spec.specs.Grammar.{IsFieldText, IsBareText, StandsFirst, BeginsWithBareItem}
+use Rattle.sfv_spec.specs.Grammar.{IsFieldText, IsBareText, BeginsWithLongest, BeginsWithComplete}
 use Rattle.sfv_spec.specs.Events.{TreeEvent, bare_item, parameters_events, item_events, events}
 use Rattle.sfv_spec.specs.Visiting.{RunsTo}
 use Rattle.sfv_base.specs.declared.error.Error.{Error}
@@ -87,7 +87,7 @@ item_taken {S} {E} takes fails version t s r q from to item e skipped read run =
     (run.0, subst (λ (e : TreeEvent). takes from e run.0) same run.1))
 
 -- the field begins with it
-field_begins : (version : Version) (value : BareValue) (t : List ℕ) → BeginsWithBareItem version value t
+field_begins : (version : Version) (value : BareValue) (t : List ℕ) → BeginsWithComplete version value t
     → (more : List TreeEvent) × (visited (events item_field) (whole_field_at version item_field t)
     ≡ bare_item value ∷ more)
 field_begins version value t h =
@@ -112,7 +112,7 @@ item_is_quiet version r f e =
 -- what is visited first of an item's text is a bare item that stands first in it
 visited_first : (version : Version) (t : List ℕ) (e : TreeEvent) (es : List TreeEvent)
     → visited (events item_field) (whole_field_at version item_field t) ≡ e ∷ es
-    → (value : BareValue) × (e ≡ bare_item value) × StandsFirst version value t
+    → (value : BareValue) × (e ≡ bare_item value) × BeginsWithLongest version value t
 visited_first version t e es h =
     let skipped = (Steady-span is_space).steady t in
     on skipped.0 skipped.1 skipped.2 skipped.4 skipped.5
@@ -120,7 +120,7 @@ visited_first version t e es h =
   where
     on : (s spaces r : List ℕ) → t ≡ s ++ r → IsSpan is_space spaces s
         → visited item_events (item_at version r) ≡ e ∷ es → (a : Answer BareValue) → bare_at version r ≡ a
-        → (value : BareValue) × (e ≡ bare_item value) × StandsFirst version value t
+        → (value : BareValue) × (e ≡ bare_item value) × BeginsWithLongest version value t
     on s spaces r parts blank begins (Ok x) k =
         let begun = item_begins version r x.1 x.0 k in
         let read = bare_is_exact.0 version r x.0 x.1 k in (
@@ -142,7 +142,7 @@ visited_first version t e es h =
 
 -- an item that is accepted has this bare item
 pub begins_with_its : (version : Version) (value : BareValue) (t : List ℕ) (raw : RawItem)
-    → IsFieldText version item_field raw t → BeginsWithBareItem version value t → raw.bare ≡ value
+    → IsFieldText version item_field raw t → BeginsWithComplete version value t → raw.bare ≡ value
 begins_with_its version value t raw accepted h =
     let begun = field_begins version value t h in
     same_head raw.bare value (parameters_events raw.parameters) begun.0
@@ -159,13 +159,13 @@ module _ {S O E : Type 0} (takes : S → TreeEvent → S → Type 0) (fails : S 
   -- the bare item of an item whose events begin with those that were visited
   its_bare : (raw : RawItem) (e : TreeEvent) (es more : List TreeEvent)
       → visited (events item_field) (whole_field_at version item_field t) ≡ e ∷ es → item_events raw ≡ (e ∷ es) ++ more
-      → StandsFirst version raw.bare t × ((value : BareValue) → BeginsWithBareItem version value t → raw.bare ≡ value)
+      → BeginsWithLongest version raw.bare t × ((value : BareValue) → BeginsWithComplete version value t → raw.bare ≡ value)
   its_bare raw e es more begins all =
       let first = visited_first version t e es begins in
       let same : raw.bare ≡ first.0 =
       same_head raw.bare first.0 (parameters_events raw.parameters) (es ++ more)
       (all ∙ ap (λ (e : TreeEvent). e ∷ (es ++ more)) first.1) in (
-        subst (λ (b : BareValue). StandsFirst version b t) (sym same) first.2,
+        subst (λ (b : BareValue). BeginsWithLongest version b t) (sym same) first.2,
         λ value h. same ∙ (let begun = field_begins version value t h in
             same_head first.0 value es begun.0
             (ap (λ (e : TreeEvent). e ∷ es) (sym first.1) ∙ sym begins ∙ begun.1)),

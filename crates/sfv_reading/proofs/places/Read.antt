@@ -1,7 +1,7 @@
 -- Where a bare item or a key is wanted, the readers of a field call the reader of it.
 use Rattle.std.proofs.Common.{◌≡◌, ℕ, ◌≤◌, Bool, true, false, eqb, ◌||◌, List, [], ◌∷◌, ◌++◌, length, Ok, Err, refl}
 use Rattle.std.proofs.Common.{sym, ap, subst, ◌∙◌, append_assoc, arith, inl, inr, ◌⊎◌}
-use Rattle.std.specs.Prelude.{codes, IsTrue}
+use Rattle.std.specs.Prelude.{◌↔◌, codes, IsTrue}
 use Rattle.std.specs.List.{list_all}
 use Rattle.std.proofs.lemmas.Bool.{true≢false, and_from, and_parts, or_from, or_cases, or_left, cases_Bool}
 use Rattle.std.proofs.lemmas.Bool.{not-true, eqb-true}
@@ -37,7 +37,7 @@ use Rattle.sfv_reading.proofs.complete.Fields.{field_complete}
 use Rattle.sfv_reading.proofs.places.Calls.{bare, key, blocked, Stuck, Follows, Calls}
 use Rattle.sfv_reading.proofs.places.Walks.{eaten, marked, Met, Found, called, elsewhere, run_has}
 use Rattle.sfv_reading.proofs.places.Readers.{Ever, walk-field}
-use Rattle.sfv_reading.proofs.places.Wanted.{ends_faulty, begins_stuck}
+use Rattle.sfv_reading.proofs.places.Wanted.{wants_bare, ends_faulty, begins_stuck}
 
 -- ---- lists
 
@@ -176,20 +176,38 @@ module _ (version : Version) (kind : FieldKind) where
       ∙ ap (λ (l : List ℕ). l ++ m.1) (sym (append_assoc before (d ∷ x) (codes "(("))
       ∙ ap (λ (l : List ℕ). l ++ codes "((") (sym parts))) b)))
 
-  pub calls_wanted : (u : List ℕ) → WantsBareItem version kind u → Calls version bare Field u
-  calls_wanted u h =
-      on (found u true h.bare.0 (subst (IsAccepted version kind) (append_assoc u (codes "?") h.bare.0) h.bare.1))
+  -- a question mark can stand there, and two parentheses can't
+  calls_marked : (u : List ℕ) → BeginsAccepted version kind (u ++ codes "?")
+      → ¬ BeginsAccepted version kind (u ++ codes "((") → Calls version bare Field u
+  calls_marked u mark out =
+      on (found u true mark.0 (subst (IsAccepted version kind) (append_assoc u (codes "?") mark.0) mark.1))
     where
-      on : Found version (eaten true h.bare.0) Field Ever (u ++ question_mark ∷ h.bare.0) → Calls version bare Field u
+      on : Found version (eaten true mark.0) Field Ever (u ++ question_mark ∷ mark.0) → Calls version bare Field u
       on (called bare before s parts c some met) =
-          let m = at_leaf (bare_at version) (IsBareText version) (bare_read version) true h.bare.0 s met in
-          by_mark u before m.0 m.1 m.2 (append_cancel_right u (before ++ m.0) (question_mark ∷ h.bare.0)
-          (parts ∙ ap (λ (l : List ℕ). before ++ l) m.3 ∙ sym (append_assoc before m.0 (question_mark ∷ h.bare.0))))
-          c m.4 h.outside
+          let m = at_leaf (bare_at version) (IsBareText version) (bare_read version) true mark.0 s met in
+          by_mark u before m.0 m.1 m.2 (append_cancel_right u (before ++ m.0) (question_mark ∷ mark.0)
+          (parts ∙ ap (λ (l : List ℕ). before ++ l) m.3 ∙ sym (append_assoc before m.0 (question_mark ∷ mark.0))))
+          c m.4 out
       on (called key before s parts c some met) =
-          let m = at_leaf key_at IsKeyText key_read true h.bare.0 s met in
+          let m = at_leaf key_at IsKeyText key_read true mark.0 s met in
           absurd (no_mark_in_key m.0 m.1 m.2 m.4)
       on (elsewhere o) = absurd o
+
+  pub calls_wanted : (u : List ℕ) → WantsBareItem version kind u → Calls version bare Field u
+  calls_wanted u h = calls_marked u (begins_part version kind (u ++ codes "?") (codes "1")
+      (subst (BeginsAccepted version kind) (sym (append_assoc u (codes "?") (codes "1"))) h.true_follows)) h.not_in_string
+
+  -- so a question mark alone shows it as well
+  pub marked_is_wanted : (u : List ℕ) → WantsBareItem version kind u
+      ↔ (BeginsAccepted version kind (u ++ codes "?") × (¬ BeginsAccepted version kind (u ++ codes "((")))
+  marked_is_wanted u = (
+    λ h. (
+      begins_part version kind (u ++ codes "?") (codes "1") (subst (BeginsAccepted version kind)
+          (sym (append_assoc u (codes "?") (codes "1"))) h.true_follows),
+      h.not_in_string,
+    ),
+    λ h. wants_bare version kind u (calls_marked u h.0 h.1),
+  )
 
   -- ---- keys
 
@@ -215,19 +233,19 @@ module _ (version : Version) (kind : FieldKind) where
 
   pub calls_wanted_key : (u : List ℕ) → WantsKey version kind u → Calls version key Field u
   calls_wanted_key u h =
-      on (found u false h.key.0 (subst (IsAccepted version kind) (append_assoc u (codes "*") h.key.0) h.key.1))
+      on (found u false h.key_follows.0 (subst (IsAccepted version kind) (append_assoc u (codes "*") h.key_follows.0) h.key_follows.1))
     where
-      on : Found version (eaten false h.key.0) Field Ever (u ++ asterisk ∷ h.key.0) → Calls version key Field u
+      on : Found version (eaten false h.key_follows.0) Field Ever (u ++ asterisk ∷ h.key_follows.0) → Calls version key Field u
       on (called bare before s parts c some met) =
-          let m = at_leaf (bare_at version) (IsBareText version) (bare_read version) false h.key.0 s met in
-          absurd (h.outside (by_bare u before m.0 m.1 m.2 (append_cancel_right u (before ++ m.0) (asterisk ∷ h.key.0)
-          (parts ∙ ap (λ (l : List ℕ). before ++ l) m.3 ∙ sym (append_assoc before m.0 (asterisk ∷ h.key.0))))
+          let m = at_leaf (bare_at version) (IsBareText version) (bare_read version) false h.key_follows.0 s met in
+          absurd (h.not_in_word (by_bare u before m.0 m.1 m.2 (append_cancel_right u (before ++ m.0) (asterisk ∷ h.key_follows.0)
+          (parts ∙ ap (λ (l : List ℕ). before ++ l) m.3 ∙ sym (append_assoc before m.0 (asterisk ∷ h.key_follows.0))))
           c m.4))
       on (called key before s parts c some met) =
-          let m = at_leaf key_at IsKeyText key_read false h.key.0 s met in
-          by_key u before m.0 m.1 m.2 (append_cancel_right u (before ++ m.0) (asterisk ∷ h.key.0)
-          (parts ∙ ap (λ (l : List ℕ). before ++ l) m.3 ∙ sym (append_assoc before m.0 (asterisk ∷ h.key.0))))
-          c m.4 h.outside
+          let m = at_leaf key_at IsKeyText key_read false h.key_follows.0 s met in
+          by_key u before m.0 m.1 m.2 (append_cancel_right u (before ++ m.0) (asterisk ∷ h.key_follows.0)
+          (parts ∙ ap (λ (l : List ℕ). before ++ l) m.3 ∙ sym (append_assoc before m.0 (asterisk ∷ h.key_follows.0))))
+          c m.4 h.not_in_word
       on (elsewhere o) = absurd o
 
 -- ---- the faults

@@ -84,12 +84,11 @@ not_accepted version kind t f a =
 
 pub wants_bare : (version : Version) (kind : FieldKind) (u : List ℕ)
     → Calls version bare (whole_field_at version kind) u → WantsBareItem version kind u
-unfolding bare_at boolean_at branch fail
+unfolding bare_at boolean_at branch fail give
 wants_bare version kind u h = record {
-  bare = let m = h.follows question_mark [] refl in
-      begins_to version kind (u ++ codes "?") [] m.0 (ap (read_field version kind) (append-nil (u ++ codes "?"))
-      ∙ ends_faulty version kind _ m.0 m.1) (sym m.2.exact) (sym m.2.rest);
-  outside = λ b. not_accepted version kind ((u ++ codes "((") ++ b.0)
+  true_follows = begins_stuck version kind (u ++ codes "?1") (subst (λ (l : List ℕ). Stuck (whole_field_at version kind l))
+      (sym (append_assoc u (codes "?1") (0 ∷ []))) (h.follows question_mark (codes "1" ++ 0 ∷ []) refl refl));
+  not_in_string = λ b. not_accepted version kind ((u ++ codes "((") ++ b.0)
       (let m = h.barred b.0 in (m.0, ap (whole_field_at version kind) (append_assoc u (codes "((") b.0) ∙ m.1)) b.1;
 }
 
@@ -97,9 +96,9 @@ pub wants_key : (version : Version) (kind : FieldKind) (u : List ℕ)
     → Calls version key (whole_field_at version kind) u → WantsKey version kind u
 unfolding key_at branch fail span bind give
 wants_key version kind u h = record {
-  key = begins_stuck version kind (u ++ codes "*") (subst (λ (l : List ℕ). Stuck (whole_field_at version kind l))
+  key_follows = begins_stuck version kind (u ++ codes "*") (subst (λ (l : List ℕ). Stuck (whole_field_at version kind l))
       (sym (append_assoc u (codes "*") (0 ∷ []))) (h.follows asterisk (0 ∷ []) refl refl));
-  outside = λ b. not_accepted version kind ((u ++ codes "1") ++ b.0)
+  not_in_word = λ b. not_accepted version kind ((u ++ codes "1") ++ b.0)
       (let m = h.follows digit_one b.0 refl in
       (m.0, ap (whole_field_at version kind) (append_assoc u (codes "1") b.0) ∙ m.1)) b.1;
 }

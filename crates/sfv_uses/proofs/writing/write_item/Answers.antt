@@ -4,7 +4,7 @@ use Rattle.sfv.specs.Types.{Rfc9651}
 use Rattle.sfv.specs.Values.{bare_values}
 use Rattle.sfv.specs.BareItems.{ref_value}
 use Rattle.sfv.specs.CheckedTexts.{text_of as key_text}
-use Rattle.sfv.proofs.Callers.{value_read_back, all_fit_newer}
+use Rattle.sfv.proofs.Callers.{value_read_back, all_fit_newer, ordered_same}
 use Rattle.sfv_uses.specs.Uses.{item_of_one}
 use Rattle.sfv_uses.proofs.writing.write_item.Goals as goal
 
@@ -14,5 +14,5 @@ returns-clause-read_back c =
     let param = c.in_ok-text.ensures.is_value in
     value_read_back Rfc9651 item_field item (record {
       parts = (c.bare_item.ensures.is_value, ((c.parameter.ensures.is_key, param), tt));
-      distinct = refl;
+      distinct = ordered_same item_field item refl;
     }) (all_fit_newer (bare_values item_field item))

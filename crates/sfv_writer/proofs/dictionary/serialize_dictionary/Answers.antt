@@ -1,11 +1,12 @@
 use Rattle.std.specs.List.{flat_map}
-use Rattle.std.proofs.Common.{codes, sym, ap, ◌∙◌}
+use Rattle.std.proofs.Common.{◌≡◌, codes, sym, ap, ◌∙◌}
 use Rattle.std.specs.Prelude.{IsTrue}
 use Rattle.std.specs.Map.Iter.{TakesFirst, deref_pair}
 use Rattle.sfv_spec.specs.Classes.{is_key}
 use Rattle.sfv_spec.specs.Values.{IsMember}
 use Rattle.sfv_spec.specs.declared.field_kind.FieldKind.TheVariants.{Dictionary as dictionary_field}
-use Rattle.sfv_spec.specs.Ordered.{IsOrderedMember}
+use Rattle.sfv_spec.specs.Ordered.{ordered_member}
+use Rattle.sfv_spec.proofs.Distinct.{dictionary_own}
 use Rattle.sfv_spec.specs.Canonical.{dictionary_member_text}
 use Rattle.sfv_spec.specs.Statements.{IsValue}
 use Rattle.sfv_tree.specs.Trees.{dictionary_tree}
@@ -29,11 +30,11 @@ returns g c =
     let members = dictionary_tree entries in
     let w = c.in_default.ensures.text in
     let all = all_written lent_dictionary_member dictionary_member_text (λ m. (IsTrue (is_key m.0) × IsMember m.1)
-    × IsOrderedMember m.1) (codes ", ") members (IsValue dictionary_field members) c.args.output.now
+    × (ordered_member m.1 ≡ m.1)) (codes ", ") members (IsValue dictionary_field members) c.args.output.now
     c.serialize_each-written.new.output w.0
     (members_all c.iter.result w.0 c.iter.ensures.runs w.1 ∙ ap dictionary_tree c.iter.ensures.rest)
-    (λ good. let both = all_both (λ m. IsTrue (is_key m.0) × IsMember m.1) (λ m. IsOrderedMember m.1) members good in
-    record { parts = both.0; distinct = (members_distinct entries c.iter.ensures.unique, both.1) }) w.2 w.4 in
+    (λ good. let both = all_both (λ m. IsTrue (is_key m.0) × IsMember m.1) (λ m. ordered_member m.1 ≡ m.1) members good in
+    record { parts = both.0; distinct = dictionary_own members (members_distinct entries c.iter.ensures.unique) both.1 }) w.2 w.4 in
     record { text = all.0; value = all.1; room = (c.serialize_each-written.ensures.stays, tt) }
 
 pub returns-in-Err-clause-room : goal.returns-in-Err-clause-room

@@ -1,9 +1,10 @@
 use Rattle.std.specs.List.{flat_map}
-use Rattle.std.proofs.Common.{List, codes, sym, ap, ◌∙◌}
+use Rattle.std.proofs.Common.{◌≡◌, List, codes, sym, ap, ◌∙◌}
 use Rattle.std.specs.Slice.Iter.{iter_steps, iter_rest}
 use Rattle.sfv_spec.specs.Values.{RawMember, IsMember}
 use Rattle.sfv_spec.specs.declared.field_kind.FieldKind.TheVariants.{List as list_field}
-use Rattle.sfv_spec.specs.Ordered.{IsOrderedMember}
+use Rattle.sfv_spec.specs.Ordered.{ordered_member}
+use Rattle.sfv_spec.proofs.Distinct.{list_own}
 use Rattle.sfv_spec.specs.Canonical.{member_text}
 use Rattle.sfv_spec.specs.Statements.{IsValue}
 use Rattle.sfv_tree.specs.Trees.{list_tree}
@@ -23,11 +24,11 @@ pub returns : goal.returns
 returns g c =
     let members : List RawMember = list_tree c.args.list.now.items in
     let w = c.in_default.ensures.text in
-    let all = all_written lent_list_member member_text (λ m. IsMember m × IsOrderedMember m) (codes ", ") members
+    let all = all_written lent_list_member member_text (λ m. IsMember m × (ordered_member m ≡ m)) (codes ", ") members
     (IsValue list_field members) c.args.output.now c.serialize_each.new.output w.0
     (entries_all c.iter.result w.0 w.1 ∙ ap list_tree (c.iter.ensures.rest ∙ c.deref.ensures.value))
-    (λ good. let both = all_both IsMember IsOrderedMember members good in
-    record { parts = both.0; distinct = both.1 }) w.2 w.4 in
+    (λ good. let both = all_both IsMember (λ m. ordered_member m ≡ m) members good in
+    record { parts = both.0; distinct = list_own members both.1 }) w.2 w.4 in
     record { text = all.0; value = all.1; room = (c.serialize_each.ensures.stays, tt) }
 
 pub returns-in-Err-clause-room : goal.returns-in-Err-clause-room
