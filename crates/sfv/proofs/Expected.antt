@@ -1,14 +1,14 @@
 -- What a visitor that expects one bare item says of the field.
 use Rattle.std.proofs.Common.{◌≡◌, List, [], ◌∷◌, ◌++◌, Option, Some, None, Result, Ok, Err, sym, ap, subst, ◌∙◌}
 use Rattle.std.proofs.Common.{inl, inr}
-use Rattle.std.specs.Prelude.{ℕ, IfOk, MatchOption}
+use Rattle.std.specs.Prelude.{⊤, ℕ, IfOk, MatchOption}
 use Rattle.std.proofs.lemmas.Option.{same_Some}
 use Rattle.sfv_spec.specs.Values.{BareValue, RawItem}
 use Rattle.sfv_spec.specs.declared.field_kind.FieldKind.TheVariants.{Item as item_field}
 use Rattle.sfv_spec.specs.declared.version.Version.{Version}
 use Rattle.sfv_spec.specs.Grammar.{IsFieldText, StandsFirst, BeginsWithBareItem}
 use Rattle.sfv_spec.specs.Events.{TreeEvent, bare_item, parameters_events, item_events}
-use Rattle.sfv_spec.specs.Visiting.{RunsTo, IsVisitorError}
+use Rattle.std.specs.List.{FoldsTo}
 use Rattle.sfv_base.specs.declared.error.Error.{Error}
 use Rattle.sfv_base.specs.declared.error.ParseError.{ParseError}
 use Rattle.sfv_base.specs.declared.error.ParseError.TheVariants.{Syntax, Visitor}
@@ -18,7 +18,8 @@ use Rattle.sfv_visitor.specs.declared.visitor.ItemFault.{ItemFault}
 use Rattle.sfv_visitor.specs.declared.visitor.ItemFault.TheVariants as faults
 use Rattle.sfv_visitor.specs.ProvidedVisitors.{ReadBareItem, item_kept, first_value, KeepTakes, KeepFails, KeepTakesRead}
 use Rattle.sfv_visitor.specs.declared.expect_item.ExpectItem.{ExpectItem}
-use Rattle.sfv.specs.Parsers.{IsAnswerOf, IsVisitorErrorOf, VisitsFirst, IsBorrowedIfPlain, AnswersAsRead, OfMade}
+use Rattle.sfv.specs.Parsers.{IsBorrowedIfPlain, WithSomeVisitor}
+use Rattle.sfv.proofs.Relations.{Answers, FailsIn, HasVisitorError, HasFirst, HasBorrowed}
 
 module _ {T : Type 0} (holds : T → BareValue) (fails : BareValue → ItemFault → Type 0) where
   abbrev Takes : ExpectItem T → TreeEvent → ExpectItem T → Type 0
@@ -34,7 +35,7 @@ module _ {T : Type 0} (holds : T → BareValue) (fails : BareValue → ItemFault
   FinishFails s fault = (item_kept s ≡ None) × (fault ≡ faults.NoItem)
 
   -- what is kept stays
-  stays : (es : List TreeEvent) (item : T) (s last : ExpectItem T) → item_kept s ≡ Some item → RunsTo Takes s es last
+  stays : (es : List TreeEvent) (item : T) (s last : ExpectItem T) → item_kept s ≡ Some item → FoldsTo Takes s es last
       → item_kept last ≡ Some item
   stays [] item s last here run = ap item_kept (sym run) ∙ here
   stays (e ∷ es) item s last here run =
@@ -43,7 +44,7 @@ module _ {T : Type 0} (holds : T → BareValue) (fails : BareValue → ItemFault
       stays es item run.0 last (ap item_kept same ∙ here) run.2
 
   -- the bare item of the field is kept
-  kept : (raw : RawItem) (from last : ExpectItem T) → item_kept from ≡ None → RunsTo Takes from (item_events raw) last
+  kept : (raw : RawItem) (from last : ExpectItem T) → item_kept from ≡ None → FoldsTo Takes from (item_events raw) last
       → (item : T) × (holds item ≡ raw.bare) × (item_kept last ≡ Some item)
   kept raw from last none run =
       let first : (item : T) × (holds item ≡ raw.bare) × (item_kept run.0 ≡ Some item) = rw none at run.1 in
@@ -51,19 +52,19 @@ module _ {T : Type 0} (holds : T → BareValue) (fails : BareValue → ItemFault
 
   -- of an answer it is the field's
   answer_is : (version : Version) (t : List ℕ) (from : ExpectItem T) (out : T) → item_kept from ≡ None
-      → IsAnswerOf Takes Finishes version item_field t from out
+      → Answers Takes Finishes version item_field t from out
       → (raw : RawItem) × IsFieldText version item_field raw t × (holds out ≡ raw.bare)
   answer_is version t from out none h =
-      let k = kept h.raw from h.holds.last none h.holds.taken in
-      let same : k.0 ≡ out = same_Some k.0 out (sym k.2 ∙ h.holds.answered) in
+      let k = kept h.raw from h.holds.0 none h.holds.1 in
+      let same : k.0 ≡ out = same_Some k.0 out (sym k.2 ∙ h.holds.2) in
       (h.raw, h.accepted, ap holds (sym same) ∙ k.1)
 
   -- it fails on a field exactly for the bare item
   failure_is : (raw : RawItem) (from : ExpectItem T) (fault : ItemFault) → item_kept from ≡ None
-      → IsVisitorError Takes Fails FinishFails from (item_events raw) fault → fails raw.bare fault
+      → FailsIn Takes Fails FinishFails from (item_events raw) ⊤ fault → fails raw.bare fault
   failure_is raw from fault none (inl h) = at h.0 h.4 h.5
     where
-      at : (before : List TreeEvent) → item_events raw ≡ before ++ h.1 ∷ h.2 → RunsTo Takes from before h.3
+      at : (before : List TreeEvent) → item_events raw ≡ before ++ h.1 ∷ h.2 → FoldsTo Takes from before h.3
           → fails raw.bare fault
       at [] split taken =
           let e : h.1 ≡ bare_item raw.bare = cc in
@@ -76,30 +77,30 @@ module _ {T : Type 0} (holds : T → BareValue) (fails : BareValue → ItemFault
           let here = stays before first.0 taken.0 h.3 first.2 taken.2 in
           absurd (rw here at h.6)
   failure_is raw from fault none (inr h) =
-      let k = kept raw from h.0 none h.1 in
-      absurd (let e : Some k.0 ≡ None = sym k.2 ∙ h.2.0 in cc)
+      let k = kept raw from h.1 none h.2 in
+      absurd (let e : Some k.0 ≡ None = sym k.2 ∙ h.3.0 in cc)
 
   -- as the contract of a reading with a visitor that was made has it
   abbrev Made : ExpectItem T → Type 0
   Made s = item_kept s ≡ None
 
   pub expect_answers : (version : Version) (t : List ℕ) (r : Result T (ParseError ItemFault))
-      → IfOk r (OfMade Made (IsAnswerOf Takes Finishes version item_field t))
+      → IfOk r (WithSomeVisitor Made (Answers Takes Finishes version item_field t))
       → IfOk r (λ item. (raw : RawItem) × IsFieldText version item_field raw t × (holds item ≡ raw.bare))
   expect_answers version t (Ok item) h = answer_is version t h.0 item h.1 h.2
   expect_answers version t (Err e) h = tt
 
   pub expect_fails : (version : Version) (t : List ℕ) (raw : RawItem) (fault : ItemFault)
       → IsFieldText version item_field raw t
-      → OfMade Made (IsVisitorErrorOf Takes Fails FinishFails version item_field t) (Visitor fault)
+      → WithSomeVisitor Made (HasVisitorError Takes Fails FinishFails version item_field t) (Visitor fault)
       → fails raw.bare fault
   expect_fails version t raw fault accepted h = failure_is raw h.0 fault h.1 (h.2.0 raw accepted)
 
   -- at a bare item that the type doesn't hold it fails, whatever stands after it, or out of memory
   pub expect_first : (version : Version) (t : List ℕ) (value : BareValue) → BeginsWithBareItem version value t
       → ((item : T) → ¬ (holds item ≡ value))
-      → ((e : Error) → OfMade Made (VisitsFirst Takes Fails FinishFails version t) (Syntax e) → e ≡ out_of_memory)
-      × ((fault : ItemFault) → OfMade Made (VisitsFirst Takes Fails FinishFails version t) (Visitor fault)
+      → ((e : Error) → WithSomeVisitor Made (HasFirst Takes Fails FinishFails version t) (Syntax e) → e ≡ out_of_memory)
+      × ((fault : ItemFault) → WithSomeVisitor Made (HasFirst Takes Fails FinishFails version t) (Visitor fault)
       → fails value fault)
   expect_first version t value begins none = (
     λ e h. elim h.2 [
@@ -116,21 +117,21 @@ module _ {T : Type 0} (holds : T → BareValue) (fails : BareValue → ItemFault
 
   -- and it fails only so: at a bare item that stands first
   pub expect_only : (version : Version) (t : List ℕ) (fault : ItemFault)
-      → OfMade Made (VisitsFirst Takes Fails FinishFails version t) (Visitor fault)
+      → WithSomeVisitor Made (HasFirst Takes Fails FinishFails version t) (Visitor fault)
       → (value : BareValue) × StandsFirst version value t × fails value fault
   expect_only version t fault h = let k = h.2 in (k.0.bare, k.1, failure_is k.0 h.0 fault h.1 k.3)
 
 -- what is kept is made of the bare item as it was read
 pub expect_read : {T : Type 0} (holds : T → BareValue) (is_of : T → ReadBareItem → Type 0) (version : Version) (t : List ℕ)
     (r : Result T (ParseError ItemFault))
-    → IfOk r (OfMade (λ (s : ExpectItem T). item_kept s ≡ None)
-    (AnswersAsRead (KeepTakes holds) (KeepTakesRead is_of) (λ s item. item_kept s ≡ Some item) version t))
+    → IfOk r (WithSomeVisitor (λ (s : ExpectItem T). item_kept s ≡ None)
+    (HasBorrowed (KeepTakes holds) (KeepTakesRead is_of) (λ s item. item_kept s ≡ Some item) version t))
     → IfOk r (λ item. (read : ReadBareItem) × is_of item read × (stands : StandsFirst version (input_value read) t)
     × IsBorrowedIfPlain read stands.first.front)
 expect_read {T} holds is_of version t (Ok out) h =
     let a = h.2 in
-    let first : (item : T) × is_of item a.read × (item_kept a.middle ≡ Some item) = rw h.1 at a.taken in
-    let last = stays holds (λ _ _. ⊥) (parameters_events a.parameters) first.0 a.middle a.last first.2 a.ran in
-    let same : first.0 ≡ out = same_Some first.0 out (sym last ∙ a.answered) in
-    (a.read, subst (λ (item : T). is_of item a.read) same first.1, a.stands, a.lent)
+    let first : (item : T) × is_of item a.0 × (item_kept a.5 ≡ Some item) = rw h.1 at a.6 in
+    let last = stays holds (λ _ _. ⊥) (parameters_events a.1) first.0 a.5 a.7.0 first.2 a.7.1 in
+    let same : first.0 ≡ out = same_Some first.0 out (sym last ∙ a.7.2) in
+    (a.0, subst (λ (item : T). is_of item a.0) same first.1, a.3, a.4)
 expect_read holds is_of version t (Err e) h = tt

@@ -53,6 +53,11 @@ IsErrorOfLines kind first second (Syntax e) = IsParseError Rfc9651 kind first e
     ⊎ (IsAccepted Rfc9651 kind first × IsParseError Rfc9651 kind second e)
 IsErrorOfLines kind first second (Visitor fault) = IsAccepted Rfc9651 kind first
 
+-- out of memory, as the parser's error or the visitor's
+abbrev pub IsMemoryError : {E : Type 0} → (E → Type 0) → ParseError E → Type 0
+IsMemoryError is_memory (Syntax e) = e ≡ out_of_memory
+IsMemoryError is_memory (Visitor error) = is_memory error
+
 -- the value of an integer, and the default for another kind
 abbrev pub integer_or : ℤ → BareValue → ℤ
 integer_or default (integer z) = z
