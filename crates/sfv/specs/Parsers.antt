@@ -110,13 +110,14 @@ module _ {S O E : Type 0} (v : Visitor S O E) (p : Parser) (kind : FieldKind) (f
   ReceivesBeforeErrorBy (parse_errors.Visitor error) = ⊤
 
   -- On an accepted text, the visitor fails on its field. On a rejected text, it fails on some field, and on a field
-  -- whose text begins with the bytes before the reach. There, it fails in `finish` only on an item, which is these bytes.
+  -- whose text begins with the bytes before the reach. There, it fails in `finish` only on an item: the latter is these
+  -- bytes.
   abbrev pub IsVisitorErrorBy : ParseError E → Type 0
   IsVisitorErrorBy (parse_errors.Syntax e) = ⊤
-  IsVisitorErrorBy (parse_errors.Visitor error) =
-      ((raw : RawField kind) → IsFieldText (version_of p) kind raw (input_of p) → FailsOn v from (events kind raw) ⊤ error)
-      × (¬ IsAccepted (version_of p) kind (input_of p)
-      → ((raw : RawField kind) × IsFieldValue kind raw × FailsOn v from (events kind raw) (kind ≡ item_field) error)
+  IsVisitorErrorBy (parse_errors.Visitor error) = ((raw : RawField kind)
+      → IsFieldText (version_of p) kind raw (input_of p) → FailsOn v from (events kind raw) ⊤ error)
+      × (¬ IsAccepted (version_of p) kind (input_of p) → ((raw : RawField kind) × IsFieldValue kind raw
+      × FailsOn v from (events kind raw) (kind ≡ item_field) error)
       × ((n : ℕ) → IsReach (version_of p) kind (input_of p) n → (raw : RawField kind) × (more : List ℕ)
       × IsFieldText (version_of p) kind raw (take n (input_of p) ++ more)
       × FailsOn v from (events kind raw) ((kind ≡ item_field) × (more ≡ [])) error))
@@ -137,7 +138,7 @@ module _ {S O E : Type 0} (v : Visitor S O E) (p : Parser) (from : S) where
   abbrev pub ReceivesBorrowedBy : O → Type 0
   ReceivesBorrowedBy out = (read : ReadBareItem) × (parameters : RawParameters)
       × IsFieldText (version_of p) item_field (record { bare = input_value read; parameters = parameters }) (input_of p)
-      × (stands : StandsFirst (version_of p) (input_value read) (input_of p)) × IsBorrowedIfPlain read stands.first.front
+      × (at : StandsFirst (version_of p) (input_value read) (input_of p)) × IsBorrowedIfPlain read at.first.front
       × (s : S) × v.takes_read from (event.BareItem read) s × Returns v s (parameters_events parameters) out
 
 -- The clauses of `parse_.._with_visitor` for one visitor: its result, a syntax error, the events before that, its own
