@@ -30,5 +30,5 @@ pub use Rattle.sfv_tree.specs.Trees.{item_tree, member_tree, list_tree, dictiona
 -- the results of a parser
 pub use Rattle.sfv.specs.Parsers.{IsParseError, IsAnswerBy, IsSyntaxErrorBy, IsVisitorErrorBy}
 -- writing
-pub use Rattle.sfv_serializer.specs.Scripts.{item_of_calls, member_calls, described_list, described_dictionary}
+pub use Rattle.sfv_serializer.specs.Scripts.{item_of_calls, member_of_calls, described_list, described_dictionary}
 pub use Rattle.sfv_writer.specs.Written.{AppendsOrKeeps, IsSerialized}
