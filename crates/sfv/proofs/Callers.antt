@@ -4,11 +4,9 @@ use Rattle.std.proofs.Common.{◌≡◌, ℕ, List, [], ◌∷◌, ◌++◌, tru
 use Rattle.std.proofs.Common.{inl, inr}
 use Rattle.std.specs.Prelude.{fold}
 use Rattle.sfv_spec.specs.Events.{TreeEvent, events}
-use Rattle.sfv_spec.specs.Visiting.{IsVisitorError, IsEarlyVisitorError}
 use Rattle.sfv_base.specs.declared.error.ParseError.TheVariants as parse_errors
-use Rattle.sfv.specs.Parsers.{IsSyntaxOf, IsVisitorErrorOf}
 use Rattle.sfv_spec.proofs.Runs.{runs_fold}
-use Rattle.std.specs.Prelude.{bytes_eq, option_map, Some, None, IfOk, IfErr, ◌⊎◌}
+use Rattle.std.specs.Prelude.{⊤, bytes_eq, option_map, Some, None, IfOk, IfErr, MatchResult}
 use Rattle.std.specs.declared.alloc.Global.{Global}
 use Rattle.std.specs.declared.vec.Vec.{Vec}
 use Rattle.std.proofs.lemmas.Option.{same_Some}
@@ -19,7 +17,7 @@ use Rattle.sfv_spec.specs.declared.field_kind.FieldKind.{FieldKind}
 use Rattle.sfv_spec.specs.declared.field_kind.FieldKind.TheVariants.{Item as item_field, List as list_field}
 use Rattle.sfv_spec.specs.declared.field_kind.FieldKind.TheVariants.{Dictionary as dictionary_field}
 use Rattle.sfv_spec.specs.declared.version.Version.{Version}
-use Rattle.sfv_spec.specs.Grammar.{IsFieldText, IsAccepted}
+use Rattle.sfv_spec.specs.Grammar.{IsFieldText}
 use Rattle.sfv_spec.specs.Ordered.{last_of, ordered, ordered_member}
 use Rattle.sfv_spec.proofs.Repeats.{no_repeats}
 use Rattle.sfv_spec.proofs.Marks.{keys}
@@ -40,14 +38,12 @@ use Rattle.sfv_visitor.specs.Builders.{dictionary_step}
 use Rattle.sfv_tree.specs.declared.parsed.ListEntry.{ListEntry}
 use Rattle.sfv_visitor.specs.declared.visitor.list_builder.ListBuilder.{ListBuilder}
 use Rattle.sfv_visitor.specs.declared.visitor.dictionary_builder.DictionaryBuilder.{DictionaryBuilder}
-use Rattle.sfv_reading.specs.Reader.{Fault}
-use Rattle.sfv_reading.specs.Fields.{read_field}
-use Rattle.sfv_reading.proofs.Theorems.{read_is_accepted}
 use Rattle.sfv_base.specs.declared.error.ParseError.{ParseError}
 use Rattle.sfv_visitor.specs.declared.visitor.Visitor.{Ghosts as Visitor}
 use Rattle.sfv.specs.declared.parser.Parser.{Parser}
-use Rattle.sfv.specs.Parsers.{IsParseError, IsAnswerOf, IsAnswerBy, IsSyntaxBy, IsVisitorErrorBy, VisitsFirstBy, AnswersAsReadBy}
-use Rattle.sfv.specs.Parsers.{ReadsBy, ReadsItemBy, OfMade}
+use Rattle.sfv.specs.Parsers.{IsParseError, IsAnswerBy, IsSyntaxErrorBy, IsVisitorErrorBy, ReceivesFirstBy, ReceivesBorrowedBy}
+use Rattle.sfv.specs.Parsers.{ReadsBy, ReadsItemBy, WithSomeVisitor}
+use Rattle.sfv.specs.parser.Visits.{ReturnsAfter}
 use Rattle.sfv.proofs.built.Items.{insert_entry-entered}
 use Rattle.sfv.proofs.built.Lists.{built_list_after}
 use Rattle.sfv.proofs.built.Dictionaries.{built_dictionary_after}
@@ -85,7 +81,7 @@ pub use Rattle.sfv_writer.proofs.Lacks.{parameters_lack, front_lacks}
 pub use Rattle.sfv_writer.proofs.Lent.{pairs_front, members_front, entries_front}
 pub use Rattle.sfv_writer.proofs.Elements.{newer_stops}
 -- what a visitor did with the events of a field
-pub use Rattle.sfv_spec.proofs.Runs.{runs_fold, key_in, entry_in, keys_in_events, entries_in_events, fails_somewhere}
+pub use Rattle.sfv_spec.proofs.Runs.{runs_fold, key_in, entry_in, keys_in_events, entries_in_events}
 -- what is kept of a field by the last of each key
 pub use Rattle.sfv_spec.proofs.Kept.{last_kept, fold_members, fold_parameters, idle_within}
 pub use Rattle.sfv_spec.proofs.Runs.{IsInside, member_inside}
@@ -93,6 +89,11 @@ pub use Rattle.sfv.proofs.LastRead.{on_ok, fold_entries, IsIdle, member_passed, 
 -- from a visitor's result to the clause of a field crate in one step
 pub use Rattle.sfv.proofs.Fields.{of_pushed, state_kept, parameters_kept, written_is_read}
 pub use Rattle.sfv.proofs.Fields.{last_set, idle_by, list_read, member_looked, answer_read, fits_unless, fits_either}
+-- the parts of a syntax error, by name: its kind, its index, and that the text is rejected
+pub use Rattle.sfv.proofs.Parsed.{syntax_parts}
+-- how parsing with a visitor ends: the lemmas are stated in this
+pub use Rattle.sfv.proofs.Relations.{Answers, FailsIn, HasSyntax, HasVisitorError, HasFirst, HasBorrowed}
+pub use Rattle.sfv.proofs.Relations.{accepted_or_not, item_failed, fails_somewhere}
 -- what a visitor that expects one bare item says of the field
 pub use Rattle.sfv.proofs.Expected.{expect_answers, expect_fails, expect_first, expect_only, expect_read}
 -- an accepted item has the bare item that stands first in its text
@@ -118,16 +119,6 @@ last_of-insert {A} j ps k v distinct =
     ∙ ap (λ (qs : List (List ℕ × A)). entered qs k v) (sym same) ∙ sym (collapse-push ps k v))
     ∙ last_of-collapse j (ps ++ (k, v) ∷ []) ∙ last_of-push j ps k v
 
--- a text is accepted or it isn't: so a visitor's error on a dictionary or a list is one on an accepted text
-pub accepted_or_not : (version : Version) (kind : FieldKind) (t : List ℕ)
-    → IsAccepted version kind t ⊎ ¬ IsAccepted version kind t
-accepted_or_not version kind t = decided (read_field version kind t) refl
-  where
-    decided : (r : Result (RawField kind) Fault) → read_field version kind t ≡ r
-        → IsAccepted version kind t ⊎ ¬ IsAccepted version kind t
-    decided (Ok raw) h = inl (raw, (read_is_accepted version kind t raw).0 h)
-    decided (Err e) h = inr (λ a. let k = (read_is_accepted version kind t a.0).1 a.1 in absurd (cc))
-
 -- an accepted text is read as the ordered value of its field
 pub parsed_as : (version : Version) (kind : FieldKind) (t : List ℕ) (raw : RawField kind)
     → IsFieldText version kind raw t → IsParsedAs version kind t (ordered kind raw)
@@ -151,31 +142,32 @@ module _ {V S F X : Type 0} {finish_fails : V → F → Type 0} {from : V} (view
   abbrev NeverAt : V → TreeEvent → F → Type 0
   NeverAt s e fault = ⊥
 
-  last_found : (fault : F) (raw : RawField kind) → IsVisitorError TakesStep NeverAt finish_fails from (events kind raw) fault
+  last_found : (fault : F) (raw : RawField kind) → FailsIn TakesStep NeverAt finish_fails from (events kind raw) ⊤ fault
       → shown fault ≡ of (ordered kind raw)
   last_found fault raw (inl h) = absurd h.6
-  last_found fault raw (inr h) = finished h.0 fault h.2 ∙ ap look (runs_fold view step (events kind raw) from h.0 h.1
+  last_found fault raw (inr h) = finished h.1 fault h.3 ∙ ap look (runs_fold view step (events kind raw) from h.1 h.2
       ∙ ap (λ (s : S). fold step s (events kind raw)) begun) ∙ all raw
 
-  never_early : (fault : F) → IsEarlyVisitorError TakesStep NeverAt finish_fails kind from fault → ⊥
-  never_early fault (inl h) = h.5
-  never_early fault (inr h) = members h.0
+  never_early : (fault : F) (raw : RawField kind)
+      → FailsIn TakesStep NeverAt finish_fails from (events kind raw) (kind ≡ item_field) fault → ⊥
+  never_early fault raw (inl h) = h.6
+  never_early fault raw (inr h) = members h.0
 
   pub failure_read : {O : Type 0} (finishes : V → O → Type 0) (version : Version) (t : List ℕ) (r : Result O (ParseError F))
-      → IfErr r (IsSyntaxOf TakesStep finishes version kind t from)
-      → IfErr r (IsVisitorErrorOf TakesStep NeverAt finish_fails version kind t from)
+      → IfErr r (HasSyntax TakesStep finishes version kind t from)
+      → IfErr r (HasVisitorError TakesStep NeverAt finish_fails version kind t from)
       → (P : ParseError F → Type 0) → ((e : Error) → IsParseError version kind t e → P (parse_errors.Syntax e))
       → ((fault : F) → (value : RawField kind) × IsParsedAs version kind t value × (shown fault ≡ of value)
       → P (parse_errors.Visitor fault)) → IfErr r P
   failure_read {O} finishes version t r h k P syntax visitor = cases r h k
     where
-      cases : (r : Result O (ParseError F)) → IfErr r (IsSyntaxOf TakesStep finishes version kind t from)
-          → IfErr r (IsVisitorErrorOf TakesStep NeverAt finish_fails version kind t from) → IfErr r P
+      cases : (r : Result O (ParseError F)) → IfErr r (HasSyntax TakesStep finishes version kind t from)
+          → IfErr r (HasVisitorError TakesStep NeverAt finish_fails version kind t from) → IfErr r P
       cases (Ok out) h k = tt
       cases (Err (parse_errors.Syntax e)) h k = syntax e h.0
       cases (Err (parse_errors.Visitor fault)) h k = elim (accepted_or_not version kind t) [
         | inl a ↦ visitor fault (ordered kind a.0, parsed_as version kind t a.0 a.1, last_found fault a.0 (k.0 a.0 a.1))
-        | inr n ↦ absurd (never_early fault (k.1 (inr (λ raw a. n (raw, a)))))
+        | inr n ↦ let some = (k.1 n).0 in absurd (never_early fault some.0 some.2)
       ]
 
 -- what was read is a value: each part is in its range or class, and no key stands twice
@@ -192,31 +184,51 @@ one_value version kind t a b h k = h.holds ∙ ap (ordered kind) (k.only h.raw h
 -- what a reading with a visitor that a type makes returns, one fact at a time
 module _ {S O E : Type 0} {v : Visitor S O E} {p : Parser} {kind : FieldKind} {Made : S → Type 0}
     (r : Result O (ParseError E)) where
-  pub made_visited : OfMade Made (ReadsBy v p kind) r → IfOk r (OfMade Made (IsAnswerBy v p kind))
+  pub made_visited : WithSomeVisitor Made (ReadsBy v p kind) r → IfOk r (WithSomeVisitor Made (IsAnswerBy v p kind))
   made_visited h = IfOk-weaker r _ _ (λ out k. (h.0, h.1, k)) h.2.visited
 
-  pub made_syntax : OfMade Made (ReadsBy v p kind) r → IfErr r (OfMade Made (IsSyntaxBy v p kind))
+  pub made_syntax : WithSomeVisitor Made (ReadsBy v p kind) r → IfErr r (WithSomeVisitor Made (IsSyntaxErrorBy v p kind))
   made_syntax h = IfErr-weaker r _ _ (λ e k. (h.0, h.1, k)) h.2.syntax
 
-  pub made_visitor : OfMade Made (ReadsBy v p kind) r → IfErr r (OfMade Made (IsVisitorErrorBy v p kind))
+  pub made_visitor : WithSomeVisitor Made (ReadsBy v p kind) r → IfErr r (WithSomeVisitor Made (IsVisitorErrorBy v p kind))
   made_visitor h = IfErr-weaker r _ _ (λ e k. (h.0, h.1, k)) h.2.visitor
 
 -- and of an item
 module _ {S O E : Type 0} {v : Visitor S O E} {p : Parser} {Made : S → Type 0} (r : Result O (ParseError E)) where
-  pub made_item : OfMade Made (ReadsItemBy v p) r → OfMade Made (ReadsBy v p item_field) r
+  pub made_item : WithSomeVisitor Made (ReadsItemBy v p) r → WithSomeVisitor Made (ReadsBy v p item_field) r
   made_item h = (h.0, h.1, h.2.all)
 
-  pub made_first : OfMade Made (ReadsItemBy v p) r → IfErr r (OfMade Made (VisitsFirstBy v p))
+  pub made_first : WithSomeVisitor Made (ReadsItemBy v p) r → IfErr r (WithSomeVisitor Made (ReceivesFirstBy v p))
   made_first h = IfErr-weaker r _ _ (λ e k. (h.0, h.1, k)) h.2.first
 
-  pub made_lent : OfMade Made (ReadsItemBy v p) r → IfOk r (OfMade Made (AnswersAsReadBy v p))
-  made_lent h = IfOk-weaker r _ _ (λ out k. (h.0, h.1, k)) h.2.lent
+  pub made_lent : WithSomeVisitor Made (ReadsItemBy v p) r → IfOk r (WithSomeVisitor Made (ReceivesBorrowedBy v p))
+  made_lent h = IfOk-weaker r _ _ (λ out k. (h.0, h.1, k)) h.2.borrowed_if_plain
 
 -- of an accepted text an error is want of memory
 pub accepted_error : (version : Version) (kind : FieldKind) (t : List ℕ) (raw : RawField kind) (e : Error)
     → IsFieldText version kind raw t → IsParseError version kind t e → e ≡ out_of_memory
 accepted_error version kind t raw e accepted (inl same) = same
-accepted_error version kind t raw e accepted (inr h) = absurd (h.rejected (raw, accepted))
+accepted_error version kind t raw e accepted (inr h) = absurd ((syntax_parts version kind t e h).3 (raw, accepted))
+
+-- On an accepted text, a visitor returns its result for the events of the field, or memory runs out, or the visitor fails
+-- on the field. So one that never fails returns a result unless memory runs out.
+pub never_fails : {S O E : Type 0} (takes : S → TreeEvent → S → Type 0) (fails : S → TreeEvent → E → Type 0)
+    (finishes : S → O → Type 0) (finish_fails : S → E → Type 0) (version : Version) (kind : FieldKind) (t : List ℕ)
+    (from : S) (raw : RawField kind) (result : Result O (ParseError E)) → IsFieldText version kind raw t
+    → IfOk result (Answers takes finishes version kind t from)
+    → IfErr result (HasSyntax takes finishes version kind t from)
+    → IfErr result (HasVisitorError takes fails finish_fails version kind t from)
+    → (P : ParseError E → Type 0) → P (parse_errors.Syntax out_of_memory)
+    → ((error : E) → FailsIn takes fails finish_fails from (events kind raw) ⊤ error → P (parse_errors.Visitor error))
+    → MatchResult result (ReturnsAfter takes finishes from (events kind raw)) P
+never_fails takes fails finishes finish_fails version kind t from raw (Ok out) accepted h k l P memory failed =
+    subst (λ (raw : RawField kind). ReturnsAfter takes finishes from (events kind raw) out) (sym (h.only raw accepted))
+    h.holds
+never_fails takes fails finishes finish_fails version kind t from raw (Err (parse_errors.Syntax e)) accepted h k l P memory
+    failed =
+    subst (λ (e : Error). P (parse_errors.Syntax e)) (sym (accepted_error version kind t raw e accepted k.0)) memory
+never_fails takes fails finishes finish_fails version kind t from raw (Err (parse_errors.Visitor error)) accepted h k l P
+    memory failed = failed error (l.0 raw accepted)
 
 -- an error with an index is a fault of the text there
 pub located_error : (version : Version) (kind : FieldKind) (t : List ℕ) (e : Error) (index : ℕ)
@@ -225,13 +237,14 @@ pub located_error : (version : Version) (kind : FieldKind) (t : List ℕ) (e : E
 located_error version kind t e index (inl same) here =
     absurd (let none : index_of e ≡ None = ap index_of same in cc)
 located_error version kind t e index (inr h) here =
-    let place : h.index ≡ index = same_Some h.index index (sym (ap index_of h.error) ∙ here) in
-    (h.fault, ap kind_of h.error, subst (IsFaultAt version kind t h.fault) place h.located)
+    let s = syntax_parts version kind t e h in
+    let place : s.1 ≡ index = same_Some s.1 index (sym (ap index_of s.2) ∙ here) in
+    (s.0, ap kind_of s.2, subst (IsFaultAt version kind t s.0) place s.5)
 
 -- a further line of a list: its members stand after those that the builder was given
 pub list_after : {E : Type 0} (version : Version) (t : List ℕ) (held : List RawMember) (from : ListBuilder)
     (r : Result (Vec ListEntry Global) E) → list_state from ≡ (held, None)
-    → IfOk r (IsAnswerOf (λ (s : ListBuilder) e after. (list_state after ≡ list_step (list_state s) e)
+    → IfOk r (Answers (λ (s : ListBuilder) e after. (list_state after ≡ list_step (list_state s) e)
     × StaysUnder IsListUnder s after) (λ s (list : Vec ListEntry Global). (list_tree list.items ≡ complete (list_state s))
     × ((seed : HashSeed) → IsListUnder seed s → ListHasSeed seed list.items)) version list_field t from)
     → IfOk r (λ list. (raw : List RawMember) × IsFieldText version list_field raw t
@@ -243,7 +256,7 @@ list_after version t held from r here = IfOk-weaker r _ _ (λ list h.
 pub dictionary_after : {E : Type 0} (version : Version) (t : List ℕ) (held : List (List ℕ × RawMember))
     (from : DictionaryBuilder) (r : Result (IndexMap (List ℕ) ListEntry HashSeed) E) → ordered dictionary_field held ≡ held
     → dictionary_state from ≡ (held, None)
-    → IfOk r (IsAnswerOf (λ (s : DictionaryBuilder) e after. (dictionary_state after
+    → IfOk r (Answers (λ (s : DictionaryBuilder) e after. (dictionary_state after
     ≡ dictionary_step (dictionary_state s) e) × StaysUnder IsDictionaryUnder s after)
     (λ s (dictionary : IndexMap (List ℕ) ListEntry HashSeed). (dictionary_tree dictionary.entries
     ≡ complete (dictionary_state s)) × ((seed : HashSeed) → IsDictionaryUnder seed s

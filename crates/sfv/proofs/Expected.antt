@@ -1,14 +1,14 @@
 -- What a visitor that expects one bare item says of the field.
-use Rattle.std.proofs.Common.{◌≡◌, List, [], ◌∷◌, ◌++◌, Option, Some, None, Result, Ok, Err, sym, ap, subst, ◌∙◌}
+use Rattle.std.proofs.Common.{◌≡◌, List, [], ◌∷◌, ◌++◌, Option, Some, None, Result, Ok, Err, refl, sym, ap, subst, ◌∙◌}
 use Rattle.std.proofs.Common.{inl, inr}
-use Rattle.std.specs.Prelude.{ℕ, IfOk, MatchOption}
+use Rattle.std.specs.Prelude.{⊤, ℕ, IfOk, MatchOption}
 use Rattle.std.proofs.lemmas.Option.{same_Some}
 use Rattle.sfv_spec.specs.Values.{BareValue, RawItem}
 use Rattle.sfv_spec.specs.declared.field_kind.FieldKind.TheVariants.{Item as item_field}
 use Rattle.sfv_spec.specs.declared.version.Version.{Version}
 use Rattle.sfv_spec.specs.Grammar.{IsFieldText, BeginsWithLongest, BeginsWithComplete}
 use Rattle.sfv_spec.specs.Events.{TreeEvent, bare_item, parameters_events, item_events}
-use Rattle.sfv_spec.specs.Visiting.{RunsTo, IsVisitorError}
+use Rattle.std.specs.List.{FoldsTo}
 use Rattle.sfv_base.specs.declared.error.Error.{Error}
 use Rattle.sfv_base.specs.declared.error.ParseError.{ParseError}
 use Rattle.sfv_base.specs.declared.error.ParseError.TheVariants.{Syntax, Visitor}
@@ -16,16 +16,75 @@ use Rattle.sfv_base.specs.Errors.{out_of_memory}
 use Rattle.sfv_bare.specs.BareItems.{input_value}
 use Rattle.sfv_visitor.specs.declared.visitor.ItemFault.{ItemFault}
 use Rattle.sfv_visitor.specs.declared.visitor.ItemFault.TheVariants as faults
-use Rattle.sfv_visitor.specs.ProvidedVisitors.{ReadBareItem, item_kept, first_value, KeepTakes, KeepFails, KeepTakesRead}
+use Rattle.sfv_visitor.specs.Events.{event_of}
+use Rattle.sfv_visitor.specs.declared.visitor.Event.{Event}
+use Rattle.sfv_visitor.specs.declared.visitor.Event.TheVariants as event
+use Rattle.sfv_visitor.specs.ProvidedVisitors.{ReadBareItem, OnRead, item_kept, KeepTakes, KeepFails}
 use Rattle.sfv_visitor.specs.declared.expect_item.ExpectItem.{ExpectItem}
-use Rattle.sfv.specs.Parsers.{IsAnswerOf, IsVisitorErrorOf, VisitsFirst, IsBorrowedIfPlain, AnswersAsRead, OfMade}
+use Rattle.sfv.specs.Parsers.{IsBorrowedIfPlain, WithSomeVisitor}
+use Rattle.sfv.proofs.built.Seeded.{runs_weaker}
+use Rattle.sfv.proofs.Relations.{Answers, FailsIn, HasVisitorError, HasFirst, HasBorrowed}
 
-module _ {T : Type 0} (holds : T → BareValue) (fails : BareValue → ItemFault → Type 0) where
+module _ {T : Type 0} (holds : T → BareValue) (is_of : T → ReadBareItem → Type 0)
+    (fails : ReadBareItem → ItemFault → Type 0) where
+  abbrev TakesRead : ExpectItem T → TreeEvent → ExpectItem T → Type 0
+  TakesRead = OnRead (KeepTakes holds is_of)
+
+  abbrev FailsRead : ExpectItem T → TreeEvent → ItemFault → Type 0
+  FailsRead = OnRead (KeepFails fails)
+
+  -- the same by the events
   abbrev Takes : ExpectItem T → TreeEvent → ExpectItem T → Type 0
-  Takes = KeepTakes holds
+  Takes s (bare_item value) after =
+      MatchOption (item_kept s) ((item : T) × (holds item ≡ value) × (item_kept after ≡ Some item)) (λ _. after ≡ s)
+  Takes s e after = after ≡ s
 
   abbrev Fails : ExpectItem T → TreeEvent → ItemFault → Type 0
-  Fails = KeepFails fails
+  Fails s (bare_item value) fault =
+      MatchOption (item_kept s) ((read : ReadBareItem) × (input_value read ≡ value) × fails read fault) (λ _. ⊥)
+  Fails s e fault = ⊥
+
+  takes_event : (s : ExpectItem T) (read : Event) (after : ExpectItem T) → KeepTakes holds is_of s read after
+      → Takes s (event_of read) after
+  takes_event s (event.BareItem read) after h = on (item_kept s) h
+    where
+      on : (o : Option T) → MatchOption o ((item : T) × (holds item ≡ input_value read) × is_of item read
+          × (item_kept after ≡ Some item)) (λ _. after ≡ s)
+          → MatchOption o ((item : T) × (holds item ≡ input_value read) × (item_kept after ≡ Some item)) (λ _. after ≡ s)
+      on None h = (h.0, h.1, h.3)
+      on (Some item) h = h
+  takes_event s event.Entry after h = h
+  takes_event s (event.KeyedEntry key) after h = h
+  takes_event s event.Item after h = h
+  takes_event s event.InnerList after h = h
+  takes_event s (event.Parameter key value) after h = h
+  takes_event s event.ParametersEnd after h = h
+  takes_event s event.InnerListEnd after h = h
+
+  takes_value : (s : ExpectItem T) (e : TreeEvent) (after : ExpectItem T) → TakesRead s e after → Takes s e after
+  takes_value s e after h = subst (λ (e : TreeEvent). Takes s e after) h.1 (takes_event s h.0 after h.2)
+
+  runs_value : (es : List TreeEvent) (from to : ExpectItem T) → FoldsTo TakesRead from es to → FoldsTo Takes from es to
+  runs_value = runs_weaker TakesRead Takes takes_value
+
+  fails_event : (s : ExpectItem T) (read : Event) (fault : ItemFault) → KeepFails fails s read fault
+      → Fails s (event_of read) fault
+  fails_event s (event.BareItem read) fault h = on (item_kept s) h
+    where
+      on : (o : Option T) → MatchOption o (fails read fault) (λ _. ⊥)
+          → MatchOption o ((other : ReadBareItem) × (input_value other ≡ input_value read) × fails other fault) (λ _. ⊥)
+      on None h = (read, refl, h)
+      on (Some item) h = h
+  fails_event s event.Entry fault h = h
+  fails_event s (event.KeyedEntry key) fault h = h
+  fails_event s event.Item fault h = h
+  fails_event s event.InnerList fault h = h
+  fails_event s (event.Parameter key value) fault h = h
+  fails_event s event.ParametersEnd fault h = h
+  fails_event s event.InnerListEnd fault h = h
+
+  fails_value : (s : ExpectItem T) (e : TreeEvent) (fault : ItemFault) → FailsRead s e fault → Fails s e fault
+  fails_value s e fault h = subst (λ (e : TreeEvent). Fails s e fault) h.1 (fails_event s h.0 fault h.2)
 
   abbrev Finishes : ExpectItem T → T → Type 0
   Finishes s item = item_kept s ≡ Some item
@@ -33,17 +92,25 @@ module _ {T : Type 0} (holds : T → BareValue) (fails : BareValue → ItemFault
   abbrev FinishFails : ExpectItem T → ItemFault → Type 0
   FinishFails s fault = (item_kept s ≡ None) × (fault ≡ faults.NoItem)
 
+  -- the type rejects a bare item of this value
+  abbrev Rejects : BareValue → ItemFault → Type 0
+  Rejects value fault = (read : ReadBareItem) × (input_value read ≡ value) × fails read fault
+
   -- what is kept stays
-  stays : (es : List TreeEvent) (item : T) (s last : ExpectItem T) → item_kept s ≡ Some item → RunsTo Takes s es last
+  stays : (es : List TreeEvent) (item : T) (s last : ExpectItem T) → item_kept s ≡ Some item → FoldsTo Takes s es last
       → item_kept last ≡ Some item
   stays [] item s last here run = ap item_kept (sym run) ∙ here
   stays (e ∷ es) item s last here run =
-      let same : run.0 ≡ s = subst (λ (o : Option T). MatchOption (first_value o e) (run.0 ≡ s) (λ value.
-      (item : T) × (holds item ≡ value) × (item_kept run.0 ≡ Some item))) here run.1 in
+      let same : run.0 ≡ s = by e run.1 in
       stays es item run.0 last (ap item_kept same ∙ here) run.2
+    where
+      by : (e : TreeEvent) → Takes s e run.0 → run.0 ≡ s
+      by (bare_item value) h = subst (λ (o : Option T). MatchOption o ((item : T) × (holds item ≡ value)
+          × (item_kept run.0 ≡ Some item)) (λ _. run.0 ≡ s)) here h
+      by _ h = h
 
   -- the bare item of the field is kept
-  kept : (raw : RawItem) (from last : ExpectItem T) → item_kept from ≡ None → RunsTo Takes from (item_events raw) last
+  kept : (raw : RawItem) (from last : ExpectItem T) → item_kept from ≡ None → FoldsTo Takes from (item_events raw) last
       → (item : T) × (holds item ≡ raw.bare) × (item_kept last ≡ Some item)
   kept raw from last none run =
       let first : (item : T) × (holds item ≡ raw.bare) × (item_kept run.0 ≡ Some item) = rw none at run.1 in
@@ -51,86 +118,95 @@ module _ {T : Type 0} (holds : T → BareValue) (fails : BareValue → ItemFault
 
   -- of an answer it is the field's
   answer_is : (version : Version) (t : List ℕ) (from : ExpectItem T) (out : T) → item_kept from ≡ None
-      → IsAnswerOf Takes Finishes version item_field t from out
+      → Answers TakesRead Finishes version item_field t from out
       → (raw : RawItem) × IsFieldText version item_field raw t × (holds out ≡ raw.bare)
   answer_is version t from out none h =
-      let k = kept h.raw from h.holds.last none h.holds.taken in
-      let same : k.0 ≡ out = same_Some k.0 out (sym k.2 ∙ h.holds.answered) in
+      let k = kept h.raw from h.holds.0 none (runs_value (item_events h.raw) from h.holds.0 h.holds.1) in
+      let same : k.0 ≡ out = same_Some k.0 out (sym k.2 ∙ h.holds.2) in
       (h.raw, h.accepted, ap holds (sym same) ∙ k.1)
 
   -- it fails on a field exactly for the bare item
   failure_is : (raw : RawItem) (from : ExpectItem T) (fault : ItemFault) → item_kept from ≡ None
-      → IsVisitorError Takes Fails FinishFails from (item_events raw) fault → fails raw.bare fault
-  failure_is raw from fault none (inl h) = at h.0 h.4 h.5
+      → FailsIn TakesRead FailsRead FinishFails from (item_events raw) ⊤ fault → Rejects raw.bare fault
+  failure_is raw from fault none (inl h) = at h.0 h.4 (runs_value h.0 from h.3 h.5) (fails_value h.3 h.1 fault h.6)
     where
-      at : (before : List TreeEvent) → item_events raw ≡ before ++ h.1 ∷ h.2 → RunsTo Takes from before h.3
-          → fails raw.bare fault
-      at [] split taken =
+      never : (e : TreeEvent) {item : T} → item_kept h.3 ≡ Some item → Fails h.3 e fault → ⊥
+      never (bare_item value) here failed = rw here at failed
+      never _ here failed = failed
+
+      at : (before : List TreeEvent) → item_events raw ≡ before ++ h.1 ∷ h.2 → FoldsTo Takes from before h.3
+          → Fails h.3 h.1 fault → Rejects raw.bare fault
+      at [] split taken failed =
           let e : h.1 ≡ bare_item raw.bare = cc in
           let here : item_kept h.3 ≡ None = ap item_kept (sym taken) ∙ none in
-          rw (here, e) at h.6
-      at (b ∷ before) split taken =
+          rw (e, here) at failed
+      at (b ∷ before) split taken failed =
           let e : b ≡ bare_item raw.bare = cc in
           let first : (item : T) × (holds item ≡ raw.bare) × (item_kept taken.0 ≡ Some item) =
-          rw (none, e) at taken.1 in
+          rw (e, none) at taken.1 in
           let here = stays before first.0 taken.0 h.3 first.2 taken.2 in
-          absurd (rw here at h.6)
+          absurd (never h.1 here failed)
   failure_is raw from fault none (inr h) =
-      let k = kept raw from h.0 none h.1 in
-      absurd (let e : Some k.0 ≡ None = sym k.2 ∙ h.2.0 in cc)
+      let k = kept raw from h.1 none (runs_value (item_events raw) from h.1 h.2) in
+      absurd (let e : Some k.0 ≡ None = sym k.2 ∙ h.3.0 in cc)
 
   -- as the contract of a reading with a visitor that was made has it
   abbrev Made : ExpectItem T → Type 0
   Made s = item_kept s ≡ None
 
   pub expect_answers : (version : Version) (t : List ℕ) (r : Result T (ParseError ItemFault))
-      → IfOk r (OfMade Made (IsAnswerOf Takes Finishes version item_field t))
+      → IfOk r (WithSomeVisitor Made (Answers TakesRead Finishes version item_field t))
       → IfOk r (λ item. (raw : RawItem) × IsFieldText version item_field raw t × (holds item ≡ raw.bare))
   expect_answers version t (Ok item) h = answer_is version t h.0 item h.1 h.2
   expect_answers version t (Err e) h = tt
 
   pub expect_fails : (version : Version) (t : List ℕ) (raw : RawItem) (fault : ItemFault)
       → IsFieldText version item_field raw t
-      → OfMade Made (IsVisitorErrorOf Takes Fails FinishFails version item_field t) (Visitor fault)
-      → fails raw.bare fault
+      → WithSomeVisitor Made (HasVisitorError TakesRead FailsRead FinishFails version item_field t) (Visitor fault)
+      → Rejects raw.bare fault
   expect_fails version t raw fault accepted h = failure_is raw h.0 fault h.1 (h.2.0 raw accepted)
 
   -- at a bare item that the type doesn't hold it fails, whatever stands after it, or out of memory
   pub expect_first : (version : Version) (t : List ℕ) (value : BareValue) → BeginsWithComplete version value t
       → ((item : T) → ¬ (holds item ≡ value))
-      → ((e : Error) → OfMade Made (VisitsFirst Takes Fails FinishFails version t) (Syntax e) → e ≡ out_of_memory)
-      × ((fault : ItemFault) → OfMade Made (VisitsFirst Takes Fails FinishFails version t) (Visitor fault)
-      → fails value fault)
+      → ((e : Error) → WithSomeVisitor Made (HasFirst TakesRead FailsRead FinishFails version t) (Syntax e) → e ≡ out_of_memory)
+      × ((fault : ItemFault) → WithSomeVisitor Made (HasFirst TakesRead FailsRead FinishFails version t) (Visitor fault)
+      → Rejects value fault)
   expect_first version t value begins none = (
     λ e h. elim h.2 [
       | inl same ↦ same
       | inr k ↦
           let taken = k value begins in
-          let first : (item : T) × (holds item ≡ value) × (item_kept taken.0 ≡ Some item) = rw h.1 at taken.1 in
+          let first : (item : T) × (holds item ≡ value) × (item_kept taken.0 ≡ Some item) =
+          rw h.1 at (takes_value h.0 (bare_item value) taken.0 taken.1) in
           absurd (none first.0 first.1)
     ],
     λ fault h.
         let k = h.2 in
-        subst (λ (v : BareValue). fails v fault) (k.2 value begins) (failure_is k.0 h.0 fault h.1 k.3),
+        subst (λ (v : BareValue). Rejects v fault) (k.2 value begins) (failure_is k.0 h.0 fault h.1 k.3),
   )
 
   -- and it fails only so: at a bare item that stands first
   pub expect_only : (version : Version) (t : List ℕ) (fault : ItemFault)
-      → OfMade Made (VisitsFirst Takes Fails FinishFails version t) (Visitor fault)
-      → (value : BareValue) × BeginsWithLongest version value t × fails value fault
-  expect_only version t fault h = let k = h.2 in (k.0.bare, k.1, failure_is k.0 h.0 fault h.1 k.3)
+      → WithSomeVisitor Made (HasFirst TakesRead FailsRead FinishFails version t) (Visitor fault)
+      → (read : ReadBareItem) × BeginsWithLongest version (input_value read) t × fails read fault
+  expect_only version t fault h =
+      let k = h.2 in
+      let rejected = failure_is k.0 h.0 fault h.1 k.3 in
+      (rejected.0, subst (λ (v : BareValue). BeginsWithLongest version v t) (sym rejected.1) k.1, rejected.2)
 
 -- what is kept is made of the bare item as it was read
 pub expect_read : {T : Type 0} (holds : T → BareValue) (is_of : T → ReadBareItem → Type 0) (version : Version) (t : List ℕ)
     (r : Result T (ParseError ItemFault))
-    → IfOk r (OfMade (λ (s : ExpectItem T). item_kept s ≡ None)
-    (AnswersAsRead (KeepTakes holds) (KeepTakesRead is_of) (λ s item. item_kept s ≡ Some item) version t))
+    → IfOk r (WithSomeVisitor (λ (s : ExpectItem T). item_kept s ≡ None)
+    (HasBorrowed (OnRead (KeepTakes holds is_of)) (KeepTakes holds is_of) (λ s item. item_kept s ≡ Some item) version t))
     → IfOk r (λ item. (read : ReadBareItem) × is_of item read × (stands : BeginsWithLongest version (input_value read) t)
     × IsBorrowedIfPlain read stands.first.front)
 expect_read {T} holds is_of version t (Ok out) h =
     let a = h.2 in
-    let first : (item : T) × is_of item a.read × (item_kept a.middle ≡ Some item) = rw h.1 at a.taken in
-    let last = stays holds (λ _ _. ⊥) (parameters_events a.parameters) first.0 a.middle a.last first.2 a.ran in
-    let same : first.0 ≡ out = same_Some first.0 out (sym last ∙ a.answered) in
-    (a.read, subst (λ (item : T). is_of item a.read) same first.1, a.stands, a.lent)
+    let first : (item : T) × (holds item ≡ input_value a.0) × is_of item a.0 × (item_kept a.5 ≡ Some item) = rw h.1 at a.6 in
+    let run = runs_value holds is_of (λ _ _. ⊥) (parameters_events a.1) a.5 a.7.0 a.7.1 in
+    let last = stays holds is_of (λ _ _. ⊥) (parameters_events a.1) first.0 a.5 a.7.0 first.3 run in
+    let same : first.0 ≡ out = same_Some first.0 out (sym last ∙ a.7.2) in
+    (a.0, subst (λ (item : T). is_of item a.0) same first.2, a.3, a.4)
 expect_read holds is_of version t (Err e) h = tt

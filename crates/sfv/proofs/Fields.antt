@@ -27,7 +27,7 @@ use Rattle.sfv_spec.proofs.Repeats.{IsOrdered}
 use Rattle.sfv_spec.proofs.Distinct.{ordered_same}
 use Rattle.sfv_spec.specs.Canonical.{canonical}
 use Rattle.sfv_spec.proofs.Runs.{runs_fold}
-use Rattle.sfv.specs.Parsers.{IsAnswerOf}
+use Rattle.sfv.proofs.Relations.{Answers}
 use Rattle.sfv.proofs.LastRead.{fold_entries, IsIdle, last_read, read_back_either}
 
 -- If each pair of a key sets the looked-at part of the state, and no other pair changes it, the final part comes from the
@@ -127,13 +127,13 @@ pub answer_read : {V S O X : Type 0} {finishes : V → O → Type 0} (view : V �
     → ((s : V) (out : O) → finishes s out → shown out ≡ look (view s))
     → ((raw : RawField kind) → look (fold step start (events kind raw)) ≡ of (ordered kind raw))
     → {version : Version} {t : List ℕ} {from : V} {out : O} → view from ≡ start
-    → IsAnswerOf (λ s e after. view after ≡ step (view s) e) finishes version kind t from out
+    → Answers (λ s e after. view after ≡ step (view s) e) finishes version kind t from out
     → (value : RawField kind) × IsParsedAs version kind t value × (shown out ≡ of value)
 answer_read {V} {S} view step look shown kind of start finished all {version} {t} {from} {out} begun h = (
   ordered kind h.raw,
   record { raw = h.raw; accepted = h.accepted; only = λ other k. one_field_lem version kind t other h.raw k h.accepted; holds = refl },
-  finished h.holds.last out h.holds.answered
-      ∙ ap look (runs_fold view step (events kind h.raw) from h.holds.last h.holds.taken
+  finished h.holds.0 out h.holds.2
+      ∙ ap look (runs_fold view step (events kind h.raw) from h.holds.0 h.holds.1
       ∙ ap (λ (s : S). fold step s (events kind h.raw)) begun)
       ∙ all h.raw,
 )

@@ -2,6 +2,7 @@ pub mod built
 pub mod visits
 pub mod trees
 pub mod reads
+pub mod Relations
 pub mod Parsed
 pub mod Memory
 pub mod Expected

@@ -28,7 +28,7 @@ pub use Rattle.sfv_bare.specs.BareItems.{bare_value, ref_value, input_value, rea
 pub use Rattle.sfv_visitor.specs.Builders.{plain_item}
 pub use Rattle.sfv_tree.specs.Trees.{item_tree, member_tree, list_tree, dictionary_tree, pairs_tree}
 -- the results of a parser
-pub use Rattle.sfv.specs.Parsers.{IsParseError, IsAnswerOf, IsSyntaxOf, IsVisitorErrorOf}
+pub use Rattle.sfv.specs.Parsers.{IsParseError, IsAnswerBy, IsSyntaxErrorBy, IsVisitorErrorBy}
 -- writing
-pub use Rattle.sfv_serializer.specs.Scripts.{item_of_calls, member_calls, described_list, described_dictionary}
+pub use Rattle.sfv_serializer.specs.Scripts.{item_of_calls, member_of_calls, described_list, described_dictionary}
 pub use Rattle.sfv_writer.specs.Written.{AppendsOrKeeps, IsSerialized}

@@ -8,7 +8,6 @@ pub mod parser
 -- The definitions of lower crates, and of the map, that public clauses use. So a caller imports from this crate only.
 pub use Rattle.sfv_spec.specs.Ascii
 pub use Rattle.sfv_spec.specs.Base64
-pub use Rattle.sfv_spec.specs.Calls
 pub use Rattle.sfv_spec.specs.Canonical
 pub use Rattle.sfv_spec.specs.Classes
 pub use Rattle.sfv_spec.specs.Events

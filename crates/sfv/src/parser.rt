@@ -50,9 +50,9 @@ pub struct Parser<'de> {
 }
 
 impl<'de> Parser<'de> {
-    ghost use Rattle.sfv.specs.Parsers.{parser_of, input_of, version_of, IsParseError, IsAnswerBy, IsSyntaxBy};
-    ghost use Rattle.sfv.specs.Parsers.{IsVisitorErrorBy, VisitsAcceptedBy, VisitsFirstBy, AnswersAsReadBy, OfMade, TookBeforeFaultBy};
-    ghost use Rattle.sfv.specs.Parsers.{ReadsBy, ReadsItemBy};
+    ghost use Rattle.sfv.specs.Parsers.{parser_of, input_of, version_of, IsParseError, IsAnswerBy, IsSyntaxErrorBy};
+    ghost use Rattle.sfv.specs.Parsers.{ReceivesBeforeErrorBy, IsVisitorErrorBy, ReceivesFirstBy, ReceivesBorrowedBy};
+    ghost use Rattle.sfv.specs.Parsers.{ReadsBy, ReadsItemBy, WithSomeVisitor};
     ghost use Rattle.sfv.specs.Memory.{NeedsMark, NeedsMoreThanSpaces};
 
     /// Creates a parser for `input` under RFC 9651, with the library's hash seed.
@@ -126,7 +126,7 @@ impl<'de> Parser<'de> {
         self,
         alloc: Global,
     ) -> Result<T, ParseError<<T::Visitor as Visitor<'de>>::Error>>
-        ensures { OfMade (T.is_made self.entry.seed) (ReadsItemBy T.Visitor.Visitor self.entry) result }
+        ensures { WithSomeVisitor (T.is_made self.entry.seed) (ReadsItemBy T.Visitor.Visitor self.entry) result }
     {
         let visitor = T::make_item_visitor(alloc, self.seed);
         self.parse_item_with_visitor(alloc, visitor)
@@ -143,7 +143,7 @@ impl<'de> Parser<'de> {
         self,
         alloc: Global,
     ) -> Result<T, ParseError<<T::Visitor as Visitor<'de>>::Error>>
-        ensures { OfMade (T.is_made self.entry.seed) (ReadsBy T.Visitor.Visitor self.entry list_field) result }
+        ensures { WithSomeVisitor (T.is_made self.entry.seed) (ReadsBy T.Visitor.Visitor self.entry list_field) result }
     {
         let visitor = T::make_list_visitor(alloc, self.seed);
         self.parse_list_with_visitor(alloc, visitor)
@@ -160,7 +160,7 @@ impl<'de> Parser<'de> {
         self,
         alloc: Global,
     ) -> Result<T, ParseError<<T::Visitor as Visitor<'de>>::Error>>
-        ensures { OfMade (T.is_made self.entry.seed) (ReadsBy T.Visitor.Visitor self.entry dictionary_field) result }
+        ensures { WithSomeVisitor (T.is_made self.entry.seed) (ReadsBy T.Visitor.Visitor self.entry dictionary_field) result }
     {
         let visitor = T::make_dictionary_visitor(alloc, self.seed);
         self.parse_dictionary_with_visitor(alloc, visitor)
@@ -183,13 +183,12 @@ impl<'de> Parser<'de> {
     ) -> Result<V::Out, ParseError<V::Error>>
         requires { V.is_ready visitor }
         ensures visited { IfOk result (IsAnswerBy V.Visitor self.entry item_field visitor) }
-        ensures syntax { IfErr result (IsSyntaxBy V.Visitor self.entry item_field visitor) }
-        ensures taken { IfErr result (TookBeforeFaultBy V.Visitor self.entry item_field visitor) }
+        ensures syntax { IfErr result (IsSyntaxErrorBy V.Visitor self.entry item_field visitor) }
+        ensures before_error { IfErr result (ReceivesBeforeErrorBy V.Visitor self.entry item_field visitor) }
         ensures visitor { IfErr result (IsVisitorErrorBy V.Visitor self.entry item_field visitor) }
-        ensures accepted { VisitsAcceptedBy V.Visitor self.entry item_field visitor result }
         ensures memory { IfErr result (NeedsMark (input_of self.entry)) }
-        ensures first { IfErr result (VisitsFirstBy V.Visitor self.entry visitor) }
-        ensures borrowed_if_plain { IfOk result (AnswersAsReadBy V.Visitor self.entry visitor) }
+        ensures first { IfErr result (ReceivesFirstBy V.Visitor self.entry visitor) }
+        ensures borrowed_if_plain { IfOk result (ReceivesBorrowedBy V.Visitor self.entry visitor) }
     {
         parse_item_field(self, alloc, visitor)
     }
@@ -211,10 +210,9 @@ impl<'de> Parser<'de> {
     ) -> Result<V::Out, ParseError<V::Error>>
         requires { V.is_ready visitor }
         ensures visited { IfOk result (IsAnswerBy V.Visitor self.entry list_field visitor) }
-        ensures syntax { IfErr result (IsSyntaxBy V.Visitor self.entry list_field visitor) }
-        ensures taken { IfErr result (TookBeforeFaultBy V.Visitor self.entry list_field visitor) }
+        ensures syntax { IfErr result (IsSyntaxErrorBy V.Visitor self.entry list_field visitor) }
+        ensures before_error { IfErr result (ReceivesBeforeErrorBy V.Visitor self.entry list_field visitor) }
         ensures visitor { IfErr result (IsVisitorErrorBy V.Visitor self.entry list_field visitor) }
-        ensures accepted { VisitsAcceptedBy V.Visitor self.entry list_field visitor result }
         ensures memory { IfErr result (NeedsMark (input_of self.entry)) }
     {
         parse_members_field::<Entry, V>(self, alloc, visitor)
@@ -238,10 +236,9 @@ impl<'de> Parser<'de> {
     ) -> Result<V::Out, ParseError<V::Error>>
         requires { V.is_ready visitor }
         ensures visited { IfOk result (IsAnswerBy V.Visitor self.entry dictionary_field visitor) }
-        ensures syntax { IfErr result (IsSyntaxBy V.Visitor self.entry dictionary_field visitor) }
-        ensures taken { IfErr result (TookBeforeFaultBy V.Visitor self.entry dictionary_field visitor) }
+        ensures syntax { IfErr result (IsSyntaxErrorBy V.Visitor self.entry dictionary_field visitor) }
+        ensures before_error { IfErr result (ReceivesBeforeErrorBy V.Visitor self.entry dictionary_field visitor) }
         ensures visitor { IfErr result (IsVisitorErrorBy V.Visitor self.entry dictionary_field visitor) }
-        ensures accepted { VisitsAcceptedBy V.Visitor self.entry dictionary_field visitor result }
         ensures memory { IfErr result (NeedsMark (input_of self.entry)) }
     {
         parse_members_field::<KeyedEntry, V>(self, alloc, visitor)

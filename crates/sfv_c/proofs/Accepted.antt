@@ -8,7 +8,7 @@ use Rattle.sfv.specs.Values.{RawInnerList, RawMember, item, inner_list, RawField
 use Rattle.sfv.specs.Events.{TreeEvent, entry, keyed_entry, begins_item, begins_inner_list, bare_item, parameter}
 use Rattle.sfv.specs.Events.{parameters_end, inner_list_end, parameters_events, item_events, inner_item_events}
 use Rattle.sfv.specs.Events.{member_events, entry_events, keyed_events, events}
-use Rattle.sfv.specs.Visiting.{BeginsEvents}
+use Rattle.sfv_c.specs.Writing.{BeginsEvents}
 use Rattle.sfv_c.specs.RowEvents.{ParseState, ended, list_members, dictionary_members, member, value, parameters, items, after}
 use Rattle.sfv_c.specs.RowEvents.{stops, beginning}
 use Rattle.sfv_c.proofs.Valid.{AreValid, valid_field, valid_together}

@@ -8,10 +8,9 @@ use Rattle.std.specs.declared.string.String as std_string
 use Rattle.sfv.specs.Values.{RawField, RawItem, RawMember, item, inner_list}
 use Rattle.sfv.specs.Types.{FieldKind, item_field, list_field, dictionary_field}
 use Rattle.sfv.specs.Types.{Version}
-use Rattle.sfv.specs.Calls.{supplied_member}
+use Rattle.sfv.specs.Scripts.{member_of_calls, entry_of_calls}
 use Rattle.sfv.specs.Events.{TreeEvent, parameter, parameters_end, member_events, entry_events, keyed_events, events}
 use Rattle.sfv.specs.Values.{bare_values}
-use Rattle.sfv.specs.Scripts.{member_calls, supplied_list, supplied_dictionary}
 use Rattle.sfv.specs.KeyText.{KeyRef}
 use Rattle.sfv.specs.Types.{MemberCalls, SerializeError}
 use Rattle.sfv.specs.Types.serialize_errors as errors
@@ -60,13 +59,13 @@ some_member : (m : RawMember) (es : List TreeEvent) → 0 < length (member_event
 some_member (item i) es = omega arith
 some_member (inner_list l) es = omega arith
 
-pub some_list : (ms : List MemberCalls) → 0 < length ms → 1 < length (events list_field (supplied_list ms))
+pub some_list : (ms : List MemberCalls) → 0 < length ms → 1 < length (events list_field (map member_of_calls ms))
 some_list [] h = absurd (omega (arith, h))
 some_list (m ∷ ms) h =
-    omega (arith, some_member (supplied_member (member_calls m)) (flat_map entry_events (supplied_list ms)))
+    omega (arith, some_member (member_of_calls m) (flat_map entry_events (map member_of_calls ms)))
 
 pub some_dictionary : (ms : List (KeyRef × MemberCalls)) → 0 < length ms
-    → 1 < length (events dictionary_field (supplied_dictionary ms))
+    → 1 < length (events dictionary_field (map entry_of_calls ms))
 some_dictionary [] h = absurd (omega (arith, h))
 some_dictionary (m ∷ ms) h =
-    omega (arith, some_member (supplied_member (member_calls m.1)) (flat_map keyed_events (supplied_dictionary ms)))
+    omega (arith, some_member (member_of_calls m.1) (flat_map keyed_events (map entry_of_calls ms)))

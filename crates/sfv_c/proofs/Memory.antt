@@ -6,9 +6,8 @@ use Rattle.sfv.specs.Types.{FieldKind, item_field, list_field, dictionary_field}
 use Rattle.sfv.specs.Events.{TreeEvent, entry, keyed_entry, begins_item, begins_inner_list, bare_item, parameter, events}
 use Rattle.sfv.specs.Events.{parameters_end, inner_list_end}
 use Rattle.sfv.specs.Values.{BareValue, RawField}
-use Rattle.sfv.specs.Visiting.{BeginsEvents}
 use Rattle.sfv_c.specs.declared.rows.Row.{Row}
-use Rattle.sfv_c.specs.Writing.{AreRowsOfField, BeginRowsOfField}
+use Rattle.sfv_c.specs.Writing.{BeginsEvents, AreRowsOfField, BeginRowsOfField}
 use Rattle.sfv_c.specs.RowEvents.{ParseState, ended, list_members, dictionary_members, member, value, parameters, items}
 use Rattle.sfv_c.specs.RowEvents.{beginning, after, stops, RunsOut, takes_memory}
 use Rattle.sfv_c.proofs.Accepted.{begin_field}

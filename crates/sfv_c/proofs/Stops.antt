@@ -6,15 +6,15 @@ use Rattle.std.specs.Result.{IsErrAnd, IfErr}
 use Rattle.std.proofs.lemmas.Bool.Decides.{nat_tests}
 use Rattle.std.proofs.lemmas.List.{append-nil, map-append}
 use Rattle.std.proofs.lemmas.Grind.{flat_map-append}
-use Rattle.std.proofs.lemmas.List.Elements.{filter_map-append}
+use Rattle.std.proofs.lemmas.List.Elements.{filter-append}
 use Rattle.sfv.specs.Events.{TreeEvent, entry, keyed_entry, begins_item, item_events, inner_item_events, member_events}
 use Rattle.sfv.specs.Events.{entry_events, keyed_events, begins_inner_list, bare_item, parameter, parameters_end, inner_list_end}
 use Rattle.sfv.specs.Classes.{is_key}
 use Rattle.sfv.specs.Values.{BareValue, IsBareValue, RawParameters, RawItem, RawMember, item, inner_list}
-use Rattle.sfv.specs.Calls.{written, supplied_member}
+use Rattle.sfv.specs.Scripts.{item_of_calls, member_of_calls, entry_of_calls, is_written}
+use Rattle.sfv.specs.Scripts.{described_list, described_dictionary}
 use Rattle.sfv.specs.KeyText.{KeyRef}
 use Rattle.sfv.specs.CheckedTexts.{text_of as key_text}
-use Rattle.sfv.specs.Scripts.{item_of_calls, member_calls, supplied_list, described_list, supplied_dictionary, described_dictionary}
 use Rattle.sfv.specs.Types.{ItemCalls, MemberCalls}
 use Rattle.sfv_c.specs.declared.rows.Row.{Row}
 use Rattle.sfv_c.specs.declared.rows_to_calls.ParseStop.{ParseStop}
@@ -260,34 +260,34 @@ items_more bytes rows left rest after is i h e k =
     simp (map-append, flat_map-append, append-nil) r
 
 pub list_more : (bytes : List ℕ) (rows left rest after : List Row) (ms : List MemberCalls) (m : MemberCalls)
-    → Reads bytes rows (flat_map entry_events (supplied_list ms)) left → Reads bytes left (entry ∷ []) rest
-    → Reads bytes rest (member_events (supplied_member (member_calls m))) after
-    → Reads bytes rows (flat_map entry_events (supplied_list (ms ++ m ∷ []))) after
+    → Reads bytes rows (flat_map entry_events (map member_of_calls ms)) left → Reads bytes left (entry ∷ []) rest
+    → Reads bytes rest (member_events (member_of_calls m)) after
+    → Reads bytes rows (flat_map entry_events (map member_of_calls (ms ++ m ∷ []))) after
 list_more bytes rows left rest after ms m h e k =
-    let o = reads_on bytes left (entry ∷ []) rest (member_events (supplied_member (member_calls m))) after e k in
-    let r = reads_on bytes rows (flat_map entry_events (supplied_list ms)) left
-    (entry ∷ member_events (supplied_member (member_calls m))) after h o in
+    let o = reads_on bytes left (entry ∷ []) rest (member_events (member_of_calls m)) after e k in
+    let r = reads_on bytes rows (flat_map entry_events (map member_of_calls ms)) left
+    (entry ∷ member_events (member_of_calls m)) after h o in
     simp (map-append, flat_map-append, append-nil) r
 
-pub list_whole : (ms : List MemberCalls) (m : MemberCalls) → described_list ms ≡ supplied_list ms
-    → member_calls m ≡ written (supplied_member (member_calls m))
-    → described_list (ms ++ m ∷ []) ≡ supplied_list (ms ++ m ∷ [])
-list_whole ms m e h = simp (map-append, filter_map-append, e) (rw h refl)
+pub list_whole : (ms : List MemberCalls) (m : MemberCalls) → described_list ms ≡ map member_of_calls ms
+    → IsTrue (is_written m)
+    → described_list (ms ++ m ∷ []) ≡ map member_of_calls (ms ++ m ∷ [])
+list_whole ms m e h = simp (map-append, filter-append, e) (rw h refl)
 
 pub dictionary_more : (bytes : List ℕ) (rows left rest after : List Row) (ms : List (KeyRef × MemberCalls)) (key : KeyRef)
-    (m : MemberCalls) → Reads bytes rows (flat_map keyed_events (supplied_dictionary ms)) left
+    (m : MemberCalls) → Reads bytes rows (flat_map keyed_events (map entry_of_calls ms)) left
     → Reads bytes left (keyed_entry (key_text key) ∷ []) rest
-    → Reads bytes rest (member_events (supplied_member (member_calls m))) after
-    → Reads bytes rows (flat_map keyed_events (supplied_dictionary (ms ++ (key, m) ∷ []))) after
+    → Reads bytes rest (member_events (member_of_calls m)) after
+    → Reads bytes rows (flat_map keyed_events (map entry_of_calls (ms ++ (key, m) ∷ []))) after
 dictionary_more bytes rows left rest after ms key m h e k =
     let o = reads_on bytes left (keyed_entry (key_text key) ∷ []) rest
-    (member_events (supplied_member (member_calls m))) after e k in
-    let r = reads_on bytes rows (flat_map keyed_events (supplied_dictionary ms)) left
-    (keyed_entry (key_text key) ∷ member_events (supplied_member (member_calls m))) after h o in
+    (member_events (member_of_calls m)) after e k in
+    let r = reads_on bytes rows (flat_map keyed_events (map entry_of_calls ms)) left
+    (keyed_entry (key_text key) ∷ member_events (member_of_calls m)) after h o in
     simp (map-append, flat_map-append, append-nil) r
 
 pub dictionary_whole : (ms : List (KeyRef × MemberCalls)) (key : KeyRef) (m : MemberCalls)
-    → described_dictionary ms ≡ supplied_dictionary ms
-    → member_calls m ≡ written (supplied_member (member_calls m))
-    → described_dictionary (ms ++ (key, m) ∷ []) ≡ supplied_dictionary (ms ++ (key, m) ∷ [])
-dictionary_whole ms key m e h = simp (map-append, filter_map-append, e) (rw h refl)
+    → described_dictionary ms ≡ map entry_of_calls ms
+    → IsTrue (is_written m)
+    → described_dictionary (ms ++ (key, m) ∷ []) ≡ map entry_of_calls (ms ++ (key, m) ∷ [])
+dictionary_whole ms key m e h = simp (map-append, filter-append, e) (rw h refl)

@@ -1,5 +1,5 @@
 -- Rows that are written as a text.
-use Rattle.std.specs.Prelude.{◌≡◌, ℕ, ◌+◌, ◌≤◌, ◌<◌, List, length, take, drop, Option, Some, None, Result, Ok, Err}
+use Rattle.std.specs.Prelude.{◌≡◌, ℕ, ◌+◌, ◌≤◌, ◌<◌, List, ◌++◌, length, take, drop, Option, Some, None, Result, Ok, Err}
 use Rattle.std.specs.List.{AllZip}
 use Rattle.sfv.specs.Values.{RawField, IsFieldValue, HasMember}
 use Rattle.sfv.specs.Types.{FieldKind}
@@ -11,7 +11,6 @@ use Rattle.sfv.specs.Canonical.{canonical}
 use Rattle.sfv.specs.Values.{Fits}
 use Rattle.sfv.specs.Statements.{IsParsedAs}
 use Rattle.sfv.specs.Versions.{IsSerializeError}
-use Rattle.sfv.specs.Visiting.{BeginsEvents}
 use Rattle.sfv.specs.Types.{BareItemType}
 use Rattle.sfv.specs.Types.serialize_errors as errors
 use Rattle.sfv_c.specs.Answers.{PutsText, outcome_answer}
@@ -44,6 +43,13 @@ AreRowsOf bytes rows es = AllZip (IsRowOf bytes) rows es
 pub record AreRowsOfField (kind : FieldKind) (rows : List Row) (bytes : List ℕ) (raw : RawField kind) : Type 0 where
   pub value : IsFieldValue kind raw
   pub in_rows : AreRowsOf bytes rows (events kind raw)
+
+-- es is a prefix of the events of some field of this type
+pub record BeginsEvents (kind : FieldKind) (es : List TreeEvent) : Type 0 where
+  pub raw : RawField kind
+  pub is_value : IsFieldValue kind raw
+  pub more : List TreeEvent
+  pub all : events kind raw ≡ es ++ more
 
 -- the rows are a prefix of the rows of some field
 pub record BeginRowsOfField (kind : FieldKind) (rows : List Row) (bytes : List ℕ) : Type 0 where

@@ -1,11 +1,10 @@
 //! Rows as the calls that write them.
 
-ghost use Rattle.std.specs.Prelude.{◌≡◌, ◌++◌, ◌∷◌, [], map, flat_map, IfOk, IfErr};
+ghost use Rattle.std.specs.Prelude.{IsTrue, ◌≡◌, ◌++◌, ◌∷◌, [], map, flat_map, IfOk, IfErr};
 ghost use Rattle.sfv.specs.Types.{item_field, list_field, dictionary_field};
 ghost use Rattle.sfv.specs.Events.{begins_inner_list, parameters_events, item_events, inner_item_events, member_events, inner_list_end};
-ghost use Rattle.sfv.specs.Calls.{written, supplied_member};
-ghost use Rattle.sfv.specs.Scripts.{param_of_call, item_of_calls, member_calls, described_list, supplied_list};
-ghost use Rattle.sfv.specs.Scripts.{described_dictionary, supplied_dictionary};
+ghost use Rattle.sfv.specs.Scripts.{param_of_call, item_of_calls, member_of_calls, entry_of_calls};
+ghost use Rattle.sfv.specs.Scripts.{is_written, described_list, described_dictionary};
 ghost use Rattle.sfv_c.specs.Writing.{IsRowOf, AreRowsOfField};
 ghost use Rattle.sfv_c.specs.RowEvents.{ParseState, beginning, member, value, parameters, items};
 ghost use Rattle.sfv_c.specs.RowEvents.{Reads, IsStop};
@@ -113,8 +112,8 @@ fn inner_list<'a, 'r>(
     bytes: &'a [u8],
 ) -> Result<(MemberCalls<'a>, &'r [Row]), ParseStop>
     ensures read { IfOk result (λ r. (row : Row) → IsRowOf bytes.now row begins_inner_list
-        → Reads bytes.now (row ∷ rows.now) (member_events (supplied_member (member_calls r.0))) r.1.now) }
-    ensures whole { IfOk result (λ r. member_calls r.0 ≡ written (supplied_member (member_calls r.0))) }
+        → Reads bytes.now (row ∷ rows.now) (member_events (member_of_calls r.0)) r.1.now) }
+    ensures whole { IfOk result (λ r. IsTrue (is_written r.0)) }
     ensures stopped { IfErr result (λ stop. (p : ParseState) → IsStop bytes.now (items p) rows.now stop) }
 {
     let (items, left) = items(alloc, rows, bytes)?;
@@ -133,8 +132,8 @@ fn member<'a, 'r>(
     rows: &'r [Row],
     bytes: &'a [u8],
 ) -> Result<(MemberCalls<'a>, &'r [Row]), ParseStop>
-    ensures read { IfOk result (λ r. Reads bytes.now rows.now (member_events (supplied_member (member_calls r.0))) r.1.now) }
-    ensures whole { IfOk result (λ r. member_calls r.0 ≡ written (supplied_member (member_calls r.0))) }
+    ensures read { IfOk result (λ r. Reads bytes.now rows.now (member_events (member_of_calls r.0)) r.1.now) }
+    ensures whole { IfOk result (λ r. IsTrue (is_written r.0)) }
     ensures stopped { IfErr result (λ stop. (p : ParseState) → IsStop bytes.now (member p) rows.now stop) }
 {
     let Some((row, rest)) = rows.split_first() else {
@@ -172,8 +171,8 @@ pub(crate) fn list_of<'a>(
     rows: &[Row],
     bytes: &'a [u8],
 ) -> Result<Vec<MemberCalls<'a>>, ParseStop>
-    ensures read { IfOk result (λ calls. AreRowsOfField list_field rows.now bytes.now (supplied_list calls.items)) }
-    ensures whole { IfOk result (λ calls. described_list calls.items ≡ supplied_list calls.items) }
+    ensures read { IfOk result (λ calls. AreRowsOfField list_field rows.now bytes.now (map member_of_calls calls.items)) }
+    ensures whole { IfOk result (λ calls. described_list calls.items ≡ map member_of_calls calls.items) }
     ensures stopped { IfErr result (IsStop bytes.now (beginning list_field) rows.now) }
 {
     let mut members = Vec::new(alloc);
@@ -195,8 +194,8 @@ pub(crate) fn dictionary_of<'a>(
     rows: &[Row],
     bytes: &'a [u8],
 ) -> Result<Vec<(KeyRef<'a>, MemberCalls<'a>)>, ParseStop>
-    ensures read { IfOk result (λ calls. AreRowsOfField dictionary_field rows.now bytes.now (supplied_dictionary calls.items)) }
-    ensures whole { IfOk result (λ calls. described_dictionary calls.items ≡ supplied_dictionary calls.items) }
+    ensures read { IfOk result (λ calls. AreRowsOfField dictionary_field rows.now bytes.now (map entry_of_calls calls.items)) }
+    ensures whole { IfOk result (λ calls. described_dictionary calls.items ≡ map entry_of_calls calls.items) }
     ensures stopped { IfErr result (IsStop bytes.now (beginning dictionary_field) rows.now) }
 {
     let mut members = Vec::new(alloc);

@@ -6,7 +6,7 @@ use Rattle.sfv_spec.specs.declared.field_kind.FieldKind.TheVariants.{Dictionary 
 use Rattle.sfv_spec.specs.Events.{TreeEvent, keyed_entry, begins_item, bare_item, parameter, parameters_end}
 use Rattle.sfv_spec.specs.Events.{inner_list_end, parameters_events, inner_item_events, member_events, events}
 use Rattle.sfv_spec.specs.Ordered.{ordered, ordered_item, ordered_member}
-use Rattle.sfv_spec.specs.Visiting.{RunsTo}
+use Rattle.std.specs.List.{FoldsTo}
 use Rattle.sfv_spec.proofs.Last.{over}
 use Rattle.sfv_field.specs.declared.dictionary.DictionaryVisitor.{DictionaryVisitor}
 use Rattle.sfv_field.specs.Words.{Head, of_item, of_inner_list, member_of, raw_item, put, IsIgnored}
@@ -43,11 +43,11 @@ module _ {R K I : Type 0} (inner : I → List RawItem → Type 0) (text : K → 
     idle_ends s after xs h same = subst Idle (sym same) h
 
     items_passed : (items : List RawItem) (s to : Visitor) → Idle s
-        → RunsTo Takes s (flat_map inner_item_events items) to → Idle to
+        → FoldsTo Takes s (flat_map inner_item_events items) to → Idle to
     items_passed items s to h run =
         items_known Takes (λ s xs. Idle s) idle_begins idle_bare idle_entered idle_ends items [] s to h run
 
-    parameters_passed : (ps : RawParameters) (s to : Visitor) → Idle s → RunsTo Takes s (parameters_events ps) to → Idle to
+    parameters_passed : (ps : RawParameters) (s to : Visitor) → Idle s → FoldsTo Takes s (parameters_events ps) to → Idle to
     parameters_passed [] s to h run = subst Idle (sym run.1 ∙ run.2) h
     parameters_passed (p ∷ ps) s to h run =
         let passed = (on_none _ _ s.key h.1 run.1).0 in
@@ -80,20 +80,20 @@ module _ {R K I : Type 0} (inner : I → List RawItem → Type 0) (text : K → 
     ends s after xs h same = subst (λ (s : Visitor). InItems s xs) (sym same) h
 
     items_read : (items : List RawItem) (s to : Visitor) → InItems s []
-        → RunsTo Takes s (flat_map inner_item_events items) to → InItems to (map ordered_item items)
+        → FoldsTo Takes s (flat_map inner_item_events items) to → InItems to (map ordered_item items)
     items_read items s to h run = items_known Takes InItems begins bare entered ends items [] s to h run
 
   -- parameters of a member whose key matters
   parameters_read : (key : K) (head : Head) (ps done : RawParameters) (ms : List (List ℕ × RawMember)) (s to : Visitor)
       → s.key ≡ Some key → reads s.reader (put ms (text key) (member_of head done))
-      → RunsTo Takes s (parameters_events ps) to → reads to.reader (put ms (text key) (member_of head (put_all done ps)))
+      → FoldsTo Takes s (parameters_events ps) to → reads to.reader (put ms (text key) (member_of head (put_all done ps)))
   parameters_read key head [] done ms s to k h run =
       subst (λ (s : Visitor). reads s.reader (put ms (text key) (member_of head done))) (sym run.1 ∙ run.2) h
   parameters_read key head (p ∷ ps) done ms s to k h run =
       let step = on_some _ _ s.key key k run.1 in
       parameters_read key head ps (put done p.0 p.1) ms run.0 to (step.0 ∙ k) (step.1 ms head done h) run.2
 
-  member_passed : (m : RawMember) (s to : Visitor) → s.key ≡ None → RunsTo Takes s (member_events m) to
+  member_passed : (m : RawMember) (s to : Visitor) → s.key ≡ None → FoldsTo Takes s (member_events m) to
       → to.reader ≡ s.reader
   member_passed (item i) s to k run =
       let begun : Idle s.reader s.outer run.0 =
@@ -111,7 +111,7 @@ module _ {R K I : Type 0} (inner : I → List RawItem → Type 0) (text : K → 
       (reader ∙ inside.0, end.0 ∙ inside.2, refl) parts.2.2).0
 
   member_read : (key : K) (m : RawMember) (ms : List (List ℕ × RawMember)) (s to : Visitor)
-      → s.key ≡ Some key → reads s.reader ms → RunsTo Takes s (member_events m) to
+      → s.key ≡ Some key → reads s.reader ms → FoldsTo Takes s (member_events m) to
       → reads to.reader (put ms (text key) (ordered_member m))
   member_read key (item i) ms s to k h run =
       let there = ap (λ (s : Visitor). s.key) run.1 ∙ k in
@@ -139,7 +139,7 @@ module _ {R K I : Type 0} (inner : I → List RawItem → Type 0) (text : K → 
       })))) (all_put l.parameters) read
 
   keyed_read : (k : List ℕ) (m : RawMember) (ms : List (List ℕ × RawMember)) (s begun to : Visitor)
-      → reads s.reader ms → Takes s (keyed_entry k) begun → RunsTo Takes begun (member_events m) to
+      → reads s.reader ms → Takes s (keyed_entry k) begun → FoldsTo Takes begun (member_events m) to
       → reads to.reader (put ms k (ordered_member m))
   keyed_read k m ms s begun to h taken run = by begun.key refl
     where
@@ -157,7 +157,7 @@ module _ {R K I : Type 0} (inner : I → List RawItem → Type 0) (text : K → 
           (member_read key m ms begun to e there run)
 
   members_read : (raw ms : List (List ℕ × RawMember)) (s to : Visitor) → reads s.reader ms
-      → RunsTo Takes s (events dictionary_field raw) to → reads to.reader (put_all ms (over ordered_member raw))
+      → FoldsTo Takes s (events dictionary_field raw) to → reads to.reader (put_all ms (over ordered_member raw))
   members_read [] ms s to h run = subst (λ (s : Visitor). reads s.reader ms) run h
   members_read (m ∷ raw) ms s to h run =
       let parts = split_run Takes (member_events m.1) (events dictionary_field raw) run.0 to run.2 in
@@ -166,6 +166,6 @@ module _ {R K I : Type 0} (inner : I → List RawItem → Type 0) (text : K → 
 
   -- the whole dictionary
   pub dictionary_read : (raw : List (List ℕ × RawMember)) (s to : Visitor) → reads s.reader []
-      → RunsTo Takes s (events dictionary_field raw) to → reads to.reader (ordered dictionary_field raw)
+      → FoldsTo Takes s (events dictionary_field raw) to → reads to.reader (ordered dictionary_field raw)
   dictionary_read raw s to h run = subst (reads to.reader)
       (all_put (over ordered_member raw) ∙ collapse-over ordered_member raw) (members_read raw [] s to h run)

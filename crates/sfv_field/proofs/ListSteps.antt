@@ -7,7 +7,7 @@ use Rattle.sfv_spec.specs.declared.field_kind.FieldKind.TheVariants.{List as lis
 use Rattle.sfv_spec.specs.Events.{TreeEvent, begins_item, bare_item, parameter, parameters_end, inner_list_end}
 use Rattle.sfv_spec.specs.Events.{parameters_events, inner_item_events, member_events, events}
 use Rattle.sfv_spec.specs.Ordered.{ordered, ordered_item, ordered_member}
-use Rattle.sfv_spec.specs.Visiting.{RunsTo}
+use Rattle.std.specs.List.{FoldsTo}
 use Rattle.sfv_field.specs.declared.list.ListVisitor.{ListVisitor}
 use Rattle.sfv_field.specs.Words.{Head, of_item, of_inner_list, member_of, head_of, parameters_of, raw_item, put}
 use Rattle.sfv_field.specs.Steps.{Keeps, Within, ListTakes}
@@ -57,11 +57,11 @@ module _ {R M I : Type 0} (inner : I → List RawItem → Type 0) (keeps : M →
         subst (λ (s : Visitor). InItems s xs) (sym (on_some _ _ s.items there.0 there.1 taken)) h
 
     items_read : (items : List RawItem) (s to : Visitor) → InItems s []
-        → RunsTo Takes s (flat_map inner_item_events items) to → InItems to (map ordered_item items)
+        → FoldsTo Takes s (flat_map inner_item_events items) to → InItems to (map ordered_item items)
     items_read items s to h run = items_known Takes InItems begins bare entered ends items [] s to h run
 
   parameters_read : (head : Head) (ps done : RawParameters) (ms : List RawMember) (s to : Visitor)
-      → InMember s head done ms → RunsTo Takes s (parameters_events ps) to
+      → InMember s head done ms → FoldsTo Takes s (parameters_events ps) to
       → Read to (ms ++ member_of head (put_all done ps) ∷ [])
   parameters_read head [] done ms s to h run =
       let end = on_none _ _ s.items h.0 run.1 in
@@ -75,7 +75,7 @@ module _ {R M I : Type 0} (inner : I → List RawItem → Type 0) (keeps : M →
       (step.0, step.1 head done h.1, subst (λ (r : R). reads r ms) (sym run.1.0) h.2) run.2
 
   member_read : (m : RawMember) (ms : List RawMember) (s to : Visitor) → Read s ms
-      → RunsTo Takes s (member_events m) to → Read to (ms ++ ordered_member m ∷ [])
+      → FoldsTo Takes s (member_events m) to → Read to (ms ++ ordered_member m ∷ [])
   member_read (item i) ms s to h run =
       let bare = on_none _ _ run.0.items (ap (λ (s : Visitor). s.items) run.1 ∙ h.0) run.2.1.1 in
       let reader = run.2.1.0 ∙ ap (λ (s : Visitor). s.reader) run.1 in
@@ -99,7 +99,7 @@ module _ {R M I : Type 0} (inner : I → List RawItem → Type 0) (keeps : M →
       }) ∷ [])) (all_put l.parameters) read
 
   members_read : (raw ms : List RawMember) (s to : Visitor) → Read s ms
-      → RunsTo Takes s (events list_field raw) to → Read to (ms ++ ordered list_field raw)
+      → FoldsTo Takes s (events list_field raw) to → Read to (ms ++ ordered list_field raw)
   members_read [] ms s to h run =
       subst (λ (s : Visitor). Read s (ms ++ [])) run (rw (append-nil ms) h)
   members_read (m ∷ raw) ms s to h run =
@@ -110,5 +110,5 @@ module _ {R M I : Type 0} (inner : I → List RawItem → Type 0) (keeps : M →
 
   -- the whole list
   pub list_read : (raw : List RawMember) (s to : Visitor) → s.items ≡ None → reads s.reader []
-      → RunsTo Takes s (events list_field raw) to → reads to.reader (ordered list_field raw)
+      → FoldsTo Takes s (events list_field raw) to → reads to.reader (ordered list_field raw)
   list_read raw s to w h run = (members_read raw [] s to (w, h) run).1

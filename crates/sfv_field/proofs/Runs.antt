@@ -6,12 +6,12 @@ use Rattle.sfv_spec.specs.Values.{BareValue, RawParameters, RawItem}
 use Rattle.sfv_spec.specs.Events.{TreeEvent, begins_item, bare_item, parameter, parameters_end, parameters_events}
 use Rattle.sfv_spec.specs.Events.{inner_item_events}
 use Rattle.sfv_spec.specs.Ordered.{ordered_item}
-use Rattle.sfv_spec.specs.Visiting.{RunsTo}
+use Rattle.std.specs.List.{FoldsTo}
 use Rattle.sfv_field.specs.Words.{Head, of_item, of_inner_list, member_of, head_of, parameters_of, raw_item, put}
 use Rattle.sfv_field.proofs.Puts.{put_all, all_put}
 
 pub split_run : {S : Type 0} (takes : S → TreeEvent → S → Type 0) (es fs : List TreeEvent) (s to : S)
-    → RunsTo takes s (es ++ fs) to → (middle : S) × RunsTo takes s es middle × RunsTo takes middle fs to
+    → FoldsTo takes s (es ++ fs) to → (middle : S) × FoldsTo takes s es middle × FoldsTo takes middle fs to
 split_run takes [] fs s to h = (s, refl, h)
 split_run takes (e ∷ es) fs s to h =
     let rest = split_run takes es fs h.0 to h.2 in (rest.0, (h.0, h.1, rest.1), rest.2)
@@ -25,7 +25,7 @@ module _ {S : Type 0} (takes : S → TreeEvent → S → Type 0) (Known : S → 
     → Known s (xs ++ raw_item b ps ∷ []) → takes s (parameter k v) after → Known after (xs ++ raw_item b (put ps k v) ∷ []))
     (ends : (s after : S) (xs : List RawItem) → Known s xs → takes s parameters_end after → Known after xs) where
   parameters_known : (ps done : RawParameters) (xs : List RawItem) (b : BareValue) (s to : S)
-      → Known s (xs ++ raw_item b done ∷ []) → RunsTo takes s (parameters_events ps) to
+      → Known s (xs ++ raw_item b done ∷ []) → FoldsTo takes s (parameters_events ps) to
       → Known to (xs ++ raw_item b (put_all done ps) ∷ [])
   parameters_known [] done xs b s to h run =
       subst (λ s. Known s (xs ++ raw_item b done ∷ [])) run.2 (ends s run.0 (xs ++ raw_item b done ∷ []) h run.1)
@@ -33,7 +33,7 @@ module _ {S : Type 0} (takes : S → TreeEvent → S → Type 0) (Known : S → 
       parameters_known ps (put done p.0 p.1) xs b run.0 to (entered s run.0 xs b done p.0 p.1 h run.1) run.2
 
   pub items_known : (items done : List RawItem) (s to : S) → Known s done
-      → RunsTo takes s (flat_map inner_item_events items) to → Known to (done ++ map ordered_item items)
+      → FoldsTo takes s (flat_map inner_item_events items) to → Known to (done ++ map ordered_item items)
   items_known [] done s to h run = subst (λ s. Known s (done ++ [])) run (rw (append-nil done) h)
   items_known (x ∷ items) done s to h run =
       let begun = begins s run.0 done h run.1 in

@@ -12,8 +12,8 @@ pub use Rattle.sfv.specs.Field.{keyed_events, events, integer_of, thousandths_of
 pub use Rattle.sfv.specs.Field.{index_of, kind_of, out_of_memory, text_of}
 pub use Rattle.sfv.specs.Field.{bare_value, ref_value, input_value, read_text, plain_item}
 pub use Rattle.sfv.specs.Field.{item_tree, member_tree, list_tree, dictionary_tree, pairs_tree}
-pub use Rattle.sfv.specs.Field.{IsParseError, IsAnswerOf, IsSyntaxOf, IsVisitorErrorOf}
-pub use Rattle.sfv.specs.Field.{item_of_calls, member_calls, described_list, described_dictionary}
+pub use Rattle.sfv.specs.Field.{IsParseError, IsAnswerBy, IsSyntaxErrorBy, IsVisitorErrorBy}
+pub use Rattle.sfv.specs.Field.{item_of_calls, member_of_calls, described_list, described_dictionary}
 pub use Rattle.sfv.specs.Field.{AppendsOrKeeps, IsSerialized}
 -- members and their parts
 pub use Rattle.sfv_field.specs.Words.{Head, of_item, of_inner_list, member_of, head_of, parameters_of, raw_item, put}

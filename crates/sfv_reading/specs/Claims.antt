@@ -10,7 +10,7 @@ use Rattle.sfv_spec.specs.declared.version.Version.{Version}
 use Rattle.sfv_spec.specs.Grammar.{IsBareText, IsFieldText, IsEnded}
 use Rattle.sfv_spec.specs.Events.{TreeEvent, events}
 use Rattle.sfv_spec.specs.Reach.{IsReach}
-use Rattle.sfv_spec.specs.Visiting.{BeginsEvents, BeginsEventsAfter}
+use Rattle.sfv_spec.specs.Visiting.{BeginsEventsAfter}
 use Rattle.sfv_spec.specs.Base64.{IsBase64Text, symbols}
 use Rattle.sfv_spec.specs.declared.error_kind.ErrorKind.TheVariants.{TrailingComma, UnterminatedByteSequence}
 use Rattle.sfv_reading.specs.Commas.{IsTrailingComma}
@@ -18,6 +18,7 @@ use Rattle.sfv_reading.specs.Reader.{has_rule, Fault, by_rule, visited}
 use Rattle.sfv_reading.specs.Content.{valid_from, bytes_of, fault_place, HasNoColon, content_fault}
 use Rattle.sfv_reading.specs.Bare.{bare_at}
 use Rattle.sfv_reading.specs.Fields.{whole_field_at, read_field}
+use Rattle.sfv_reading.specs.Visits.{BeginsEvents}
 
 -- A fault is at the reach, or its index has a rule. The events before it are a prefix of the events of some field.
 pub record IsPlacedFault (version : Version) (kind : FieldKind) (t : List ℕ) (e : Fault) : Type 0 where
@@ -44,11 +45,6 @@ VisitedBegins = (version : Version) (kind : FieldKind) (t : List ℕ)
 abbrev pub EventsReach : Type 0
 EventsReach = (version : Version) (kind : FieldKind) (t : List ℕ) (e : Fault) → read_field version kind t ≡ Err e
     → (n : ℕ) → IsReach version kind t n → BeginsEventsAfter version kind (take n t) e.events
-
--- so are the events before an event at which a visitor fails, and that event
-abbrev pub FailedBegins : Type 0
-FailedBegins = (kind : FieldKind) (es before : List TreeEvent) (e : TreeEvent) (after : List TreeEvent)
-    → BeginsEvents kind es → es ≡ before ++ e ∷ after → BeginsEvents kind (before ++ e ∷ [])
 
 -- the fault of a field with a member, a comma, and blanks up to the end
 abbrev pub CommaRow : Type 0

@@ -1,12 +1,14 @@
 -- The values that calls hand over.
-use Rattle.std.proofs.Common.{Bool, true, false, ◌≡◌, ℕ, ◌<◌, List, [], ◌∷◌, length, map, sym, Result, arith}
+use Rattle.std.proofs.Common.{Bool, true, false, ◌≡◌, ℕ, ◌<◌, List, [], ◌∷◌, length, map, sym, ap, ◌∙◌, Result, arith}
 use Rattle.std.specs.Prelude.{flat_map}
 use Rattle.std.proofs.lemmas.List.Folds.{flat_map-map}
 use Rattle.sfv_spec.specs.Values.{BareValue, RawParameters}
 use Rattle.sfv_spec.specs.declared.field_kind.FieldKind.TheVariants.{List as list_field, Dictionary as dictionary_field}
 use Rattle.sfv_spec.specs.declared.version.Version.{Version}
 use Rattle.sfv_spec.specs.Values.{bare_values}
-use Rattle.sfv_spec.specs.Calls.{supplied_member}
+use Rattle.sfv_serializer.specs.Scripts.{param_of_call, item_of_calls, member_of_calls, entry_of_calls}
+use Rattle.sfv_serializer.specs.ScriptSteps.{supplied_member, inner_list_calls, list_calls, dictionary_calls}
+use Rattle.sfv_serializer.proofs.Described.{supplied_list_is, supplied_dictionary_is}
 use Rattle.sfv_spec.specs.Values.{AllFit}
 use Rattle.sfv_text.specs.KeyText.{KeyRef}
 use Rattle.sfv_writer.specs.Versions.{NamesFirstUnfit, ChecksVersion}
@@ -18,17 +20,15 @@ use Rattle.sfv_writer.proofs.Looks.{names_front, looks_after, not_of_none, singl
 use Rattle.sfv_serializer.specs.declared.script.ParamCall.{ParamCall}
 use Rattle.sfv_serializer.specs.declared.script.ItemCalls.{ItemCalls}
 use Rattle.sfv_serializer.specs.declared.script.MemberCalls.{MemberCalls}
-use Rattle.sfv_serializer.specs.Scripts.{param_of_call, item_of_calls, inner_list_calls, list_calls, dictionary_calls, supplied_list}
-use Rattle.sfv_serializer.specs.Scripts.{supplied_dictionary}
 
 -- calls of which a value doesn't fit are not none
 pub named_list : (version : Version) (calls : List MemberCalls) (e : SerializeError)
-    → NamesFirstUnfit version (bare_values list_field (supplied_list calls)) e → 0 < length calls
+    → NamesFirstUnfit version (bare_values list_field (map member_of_calls calls)) e → 0 < length calls
 named_list version [] e h = absurd (not_of_none version h.0 h.1)
 named_list version (c ∷ cs) e h = omega arith
 
 pub named_dictionary : (version : Version) (calls : List (KeyRef × MemberCalls)) (e : SerializeError)
-    → NamesFirstUnfit version (bare_values dictionary_field (supplied_dictionary calls)) e → 0 < length calls
+    → NamesFirstUnfit version (bare_values dictionary_field (map entry_of_calls calls)) e → 0 < length calls
 named_dictionary version [] e h = absurd (not_of_none version h.0 h.1)
 named_dictionary version (c ∷ cs) e h = omega arith
 
@@ -64,11 +64,13 @@ module _ (version : Version) (items : List ItemCalls) (params : List ParamCall) 
 -- the values of the members that are handed over, one after another
 pub list_supplied : (members : List MemberCalls)
     → flat_map (λ m. member_values (supplied_member m)) (list_calls members)
-    ≡ bare_values list_field (supplied_list members)
+    ≡ bare_values list_field (map member_of_calls members)
 list_supplied members = sym (flat_map-map member_values supplied_member (list_calls members))
+    ∙ ap (bare_values list_field) (supplied_list_is members)
 
 pub dictionary_supplied : (members : List (KeyRef × MemberCalls))
     → flat_map (λ m. member_values (supplied_member m.1)) (dictionary_calls members)
-    ≡ bare_values dictionary_field (supplied_dictionary members)
+    ≡ bare_values dictionary_field (map entry_of_calls members)
 dictionary_supplied members =
     sym (flat_map-map (λ m. member_values m.1) (λ c. (c.0, supplied_member c.1)) (dictionary_calls members))
+    ∙ ap (bare_values dictionary_field) (supplied_dictionary_is members)

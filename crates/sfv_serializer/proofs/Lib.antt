@@ -2,4 +2,5 @@ pub mod Handed
 pub mod Scripts
 pub mod Steps
 mod WhereFit
+mod Described
 pub mod Room

@@ -24,7 +24,8 @@ use Rattle.sfv_writer.proofs.Room.{len_of, room_after, room_before}
 use Rattle.sfv_writer.proofs.Rows.{IsLed, in_a_row_first}
 use Rattle.sfv_serializer.specs.declared.script.ParamCall.{ParamCall}
 use Rattle.sfv_serializer.specs.declared.script.ItemCalls.{ItemCalls}
-use Rattle.sfv_serializer.specs.Scripts.{param_of_call, item_of_calls, ended_text, inner_list_calls, added_text, added_text_of_pair}
+use Rattle.sfv_serializer.specs.Scripts.{param_of_call, item_of_calls}
+use Rattle.sfv_serializer.specs.ScriptSteps.{ended_text, inner_list_calls, added_text, added_text_of_pair}
 use Rattle.sfv_serializer.proofs.Scripts.{in_a_row_append, is_first_after-map, named_inner}
 
 -- no room for a part of a text means no room for the text

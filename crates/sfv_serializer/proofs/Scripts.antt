@@ -18,8 +18,8 @@ use Rattle.sfv_writer.proofs.Rows.{IsLed, mapped_more, is_first_after-false, in_
 use Rattle.sfv_serializer.specs.declared.script.ItemCalls.{ItemCalls}
 use Rattle.sfv_serializer.specs.declared.script.ParamCall.{ParamCall}
 use Rattle.sfv_serializer.specs.declared.script.MemberCalls.{MemberCalls}
-use Rattle.sfv_serializer.specs.Scripts.{param_of_call, item_of_calls, inner_list_calls, member_calls, ended_text}
-use Rattle.sfv_serializer.specs.Scripts.{WritesInner, WritesList, WritesDictionary}
+use Rattle.sfv_serializer.specs.Scripts.{param_of_call, item_of_calls}
+use Rattle.sfv_serializer.specs.ScriptSteps.{inner_list_calls, member_calls, ended_text, WritesInner, WritesList, WritesDictionary}
 use Rattle.sfv_serializer.specs.declared.sequence_kind.InnerListItems.{InnerListItems}
 use Rattle.sfv_serializer.specs.declared.sequence.SequenceSerializer.{SequenceSerializer}
 use Rattle.sfv_serializer.specs.declared.sink.Sink.{Ghosts as Sink}

@@ -1,3 +1,4 @@
 pub mod Texts
 pub mod Serializers
 pub mod Scripts
+pub mod ScriptSteps

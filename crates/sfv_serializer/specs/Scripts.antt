@@ -1,22 +1,18 @@
 -- The fields that lists of calls describe.
-use Rattle.std.specs.Prelude.{◌++◌, ℕ, Bool, false, List, map, take, drop, codes, if◌then◌else◌, MatchBool}
+use Rattle.std.specs.Prelude.{◌++◌, ◌-◌, [], ℕ, Bool, true, false, not, List, length, map, filter, take, drop, codes}
+use Rattle.std.specs.Prelude.{if◌then◌else◌}
 use Rattle.std.specs.declared.string.String.{String}
 use Rattle.sfv_spec.specs.Texts.{joined}
-use Rattle.sfv_spec.specs.Values.{BareValue, RawParameters, RawItem, RawField, item, inner_list}
-use Rattle.sfv_spec.specs.declared.field_kind.FieldKind.TheVariants.{List as list_field, Dictionary as dictionary_field}
-use Rattle.sfv_spec.specs.Canonical.{item_text, parameters_text, member_text, dictionary_member_text}
+use Rattle.sfv_spec.specs.Values.{BareValue, RawItem, RawMember, RawField, item, inner_list}
 use Rattle.sfv_spec.specs.declared.field_kind.FieldKind.{FieldKind}
+use Rattle.sfv_spec.specs.declared.field_kind.FieldKind.TheVariants.{List as list_field, Dictionary as dictionary_field}
 use Rattle.sfv_spec.specs.declared.version.Version.{Version}
-use Rattle.sfv_spec.specs.Calls.{Calls, described, supplied, written, abandoned}
+use Rattle.sfv_spec.specs.Canonical.{member_text, dictionary_member_text}
 use Rattle.sfv_spec.specs.Values.{Fits}
-use Rattle.sfv_spec.specs.Calls as spec
 use Rattle.sfv_text.specs.KeyText.{KeyRef}
 use Rattle.sfv_text.specs.CheckedTexts.{text_of}
 use Rattle.sfv_bare.specs.BareItems.{ref_value}
-use Rattle.sfv_writer.specs.Written.{IsReadBack, LacksRoom, with_separators, is_first_after}
-use Rattle.sfv_serializer.specs.declared.sequence.SequenceSerializer.{SequenceSerializer}
-use Rattle.sfv_serializer.specs.declared.sink.Sink.{Ghosts as Sink}
-use Rattle.sfv_serializer.specs.Serializers.{KeepsSequence, HasAppended, HasAppendedNext}
+use Rattle.sfv_writer.specs.Written.{IsReadBack, LacksRoom}
 use Rattle.sfv_serializer.specs.declared.script.ParamCall.{ParamCall}
 use Rattle.sfv_serializer.specs.declared.script.ItemCalls.{ItemCalls}
 use Rattle.sfv_serializer.specs.declared.script.MemberCalls.{MemberCalls}
@@ -30,91 +26,44 @@ param_of_call c = (text_of c.key, ref_value c.value)
 abbrev pub item_of_calls : ItemCalls → RawItem
 item_of_calls c = record { bare = ref_value c.value; parameters = map param_of_call c.params.items }
 
--- the text of an inner list with this beginning, its items and its parameters
-abbrev pub ended_text : List ℕ → List RawItem → RawParameters → List ℕ
-ended_text opening items parameters =
-    opening ++ joined (codes " ") (map item_text items) ++ codes ")" ++ parameters_text parameters
+-- the member of these calls; an inner list that is abandoned is one without parameters
+abbrev pub member_of_calls : MemberCalls → RawMember
+member_of_calls (calls.Item i) = item (item_of_calls i)
+member_of_calls (calls.InnerList items params true) =
+    inner_list (record { items = map item_of_calls items.items; parameters = [] })
+member_of_calls (calls.InnerList items params false) =
+    inner_list (record { items = map item_of_calls items.items; parameters = map param_of_call params.items })
 
--- the calls of an inner list: abandoned after its items, or finished with its parameters
-abbrev pub inner_list_calls : List ItemCalls → List ParamCall → Bool → spec.MemberCalls
-inner_list_calls items params abandon =
-    if abandon then abandoned (map item_of_calls items)
-    else written (inner_list (record { items = map item_of_calls items; parameters = map param_of_call params }))
+-- the member of these calls, with its key
+abbrev pub entry_of_calls : KeyRef × MemberCalls → List ℕ × RawMember
+entry_of_calls m = (text_of m.0, member_of_calls m.1)
 
--- the calls of a member
-abbrev pub member_calls : MemberCalls → spec.MemberCalls
-member_calls (calls.Item i) = written (item (item_of_calls i))
-member_calls (calls.InnerList items params abandon) = inner_list_calls items.items params.items abandon
+-- the calls write a member: it is no inner list that is abandoned
+abbrev pub is_written : MemberCalls → Bool
+is_written (calls.InnerList items params abandon) = not abandon
+is_written c = true
 
--- the calls of the members of a list, in order
-abbrev pub list_calls : List MemberCalls → Calls list_field
-list_calls members = map member_calls members
-
--- the calls of the members of a dictionary, each with its key
-abbrev pub dictionary_calls : List (KeyRef × MemberCalls) → Calls dictionary_field
-dictionary_calls members = map (λ m. (text_of m.0, member_calls m.1)) members
-
--- the field that the calls describe
+-- the field that the calls describe, repeated keys included
 abbrev pub described_list : List MemberCalls → RawField list_field
-described_list members = described list_field (list_calls members)
+described_list members = map member_of_calls (filter is_written members)
 
 abbrev pub described_dictionary : List (KeyRef × MemberCalls) → RawField dictionary_field
-described_dictionary members = described dictionary_field (dictionary_calls members)
+described_dictionary members = map entry_of_calls (filter (λ m. is_written m.1) members)
 
--- the field of all values of the calls, abandoned inner lists included
-abbrev pub supplied_list : List MemberCalls → RawField list_field
-supplied_list members = supplied list_field (list_calls members)
+-- For some call, `old` has no room for the members that the calls before it write, and for what it appends: the text of
+-- its member, without the last parenthesis if it is abandoned.
+abbrev pub LacksForCall : {Z A : Type 0} → String Z → (A → Bool) → (A → List ℕ) → List A → Type 0
+LacksForCall old is_written text calls = (n : ℕ) × LacksRoom old (joined (codes ", ")
+    (map text (filter is_written (take n calls))
+    ++ map (λ c. if is_written c then text c else take (length (text c) - 1) (text c)) (take 1 (drop n calls))))
 
-abbrev pub supplied_dictionary : List (KeyRef × MemberCalls) → RawField dictionary_field
-supplied_dictionary members = supplied dictionary_field (dictionary_calls members)
+abbrev pub LacksForListCall : {Z : Type 0} → String Z → List MemberCalls → Type 0
+LacksForListCall old calls = LacksForCall old is_written (λ c. member_text (member_of_calls c)) calls
 
--- the text that the calls of a member append; an abandoned inner list is not closed
-abbrev pub added_text : spec.MemberCalls → List ℕ
-added_text (written m) = member_text m
-added_text (abandoned items) = codes "(" ++ joined (codes " ") (map item_text items)
-
-abbrev pub added_text_of_pair : List ℕ × spec.MemberCalls → List ℕ
-added_text_of_pair (key, written m) = dictionary_member_text (key, m)
-added_text_of_pair (key, abandoned items) = key ++ codes "=(" ++ joined (codes " ") (map item_text items)
-
--- the texts of the members before call number `n`, and the text that this call appends
-abbrev pub tried_list : List MemberCalls → ℕ → List (List ℕ)
-tried_list members n =
-    map member_text (described_list (take n members)) ++ map added_text (list_calls (take 1 (drop n members)))
-
-abbrev pub tried_dictionary : List (KeyRef × MemberCalls) → ℕ → List (List ℕ)
-tried_dictionary members n =
-    map dictionary_member_text (described_dictionary (take n members))
-    ++ map added_text_of_pair (dictionary_calls (take 1 (drop n members)))
-
--- a text has no room for the text of some call after the calls before it
-abbrev pub LacksForCall : {Z : Type 0} → String Z → (ℕ → List (List ℕ)) → Type 0
-LacksForCall old tried = (n : ℕ) × LacksRoom old (joined (codes ", ") (tried n))
-
--- the text that the calls append, after other members or as the first of a list or a dictionary
-abbrev pub list_text : Bool → Calls list_field → List ℕ
-list_text is_first calls = with_separators is_first (codes ", ") (map member_text (described list_field calls))
-
-abbrev pub dictionary_text : Bool → Calls dictionary_field → List ℕ
-dictionary_text is_first calls =
-    with_separators is_first (codes ", ") (map dictionary_member_text (described dictionary_field calls))
+abbrev pub LacksForEntryCall : {Z : Type 0} → String Z → List (KeyRef × MemberCalls) → Type 0
+LacksForEntryCall old calls =
+    LacksForCall old (λ m. is_written m.1) (λ m. dictionary_member_text (entry_of_calls m)) calls
 
 -- the text of the field parses back under each version that has all its values
 abbrev pub IsReadBackWhereFit : (kind : FieldKind) → RawField kind → Type 0
 IsReadBackWhereFit kind raw = (version : Version) → Fits version kind raw → IsReadBack version kind raw
-
-module _ {W : Type 0} (w : Sink W) where
-  -- an inner list was written after its beginning, or abandoned
-  abbrev pub WritesInner : {K : Type 0} → SequenceSerializer W K → SequenceSerializer W K → List ℕ → List ℕ → List RawItem → RawParameters → Bool
-      → Type 0
-  WritesInner s t separator opening items parameters abandon = MatchBool abandon (KeepsSequence w s t)
-      (HasAppendedNext w separator s t (ended_text opening items parameters) false)
-
-  -- the calls were performed: their text is appended
-  abbrev pub WritesList : {K : Type 0} → SequenceSerializer W K → SequenceSerializer W K → Calls list_field → Type 0
-  WritesList s t calls = HasAppended w s t (list_text s.is_first calls)
-      (is_first_after s.is_first (described list_field calls))
-
-  abbrev pub WritesDictionary : {K : Type 0} → SequenceSerializer W K → SequenceSerializer W K → Calls dictionary_field → Type 0
-  WritesDictionary s t calls = HasAppended w s t (dictionary_text s.is_first calls)
-      (is_first_after s.is_first (described dictionary_field calls))

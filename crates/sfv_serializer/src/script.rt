@@ -11,7 +11,11 @@ ghost use Rattle.sfv_spec.specs.declared.field_kind.FieldKind.TheVariants.{Dicti
 ghost use Rattle.sfv_spec.specs.Values.{IsItem, AreParameters, IsFieldValue, HasMember};
 ghost use Rattle.sfv_spec.specs.declared.version.Version.TheVariants.{Rfc9651};
 ghost use Rattle.sfv_spec.specs.Values.{bare_values};
-ghost use Rattle.sfv_spec.specs.Calls.{described};
+ghost use Rattle.sfv_serializer.specs.Scripts.{param_of_call, item_of_calls, member_of_calls, entry_of_calls};
+ghost use Rattle.sfv_serializer.specs.Scripts.{described_list, described_dictionary, LacksForListCall, LacksForEntryCall, IsReadBackWhereFit};
+ghost use Rattle.sfv_serializer.specs.ScriptSteps.{described, member_calls, list_calls, dictionary_calls, list_described, dictionary_described};
+ghost use Rattle.sfv_serializer.specs.ScriptSteps.{tried_list, tried_dictionary, LacksForTry, added_text};
+ghost use Rattle.sfv_serializer.specs.ScriptSteps.{added_text_of_pair, ended_text, WritesInner, WritesList, WritesDictionary};
 ghost use Rattle.sfv_spec.specs.Canonical.{canonical, item_text, dictionary_member_text};
 ghost use Rattle.sfv_text.specs.CheckedTexts.{text_of};
 ghost use Rattle.sfv_writer.specs.Written.{Appends, AppendsOrKeeps, AsksForRoom, LacksRoom, IsReadBack, separator_before, with_separators, is_first_after};
@@ -19,10 +23,6 @@ ghost use Rattle.sfv_writer.specs.Versions.{OnOutOfMemory, ChecksVersionFirst};
 ghost use Rattle.sfv_writer.specs.declared.serialize_error.SerializeError.TheVariants as errors;
 ghost use Rattle.sfv_serializer.specs.Serializers.{lent_sequence, HasAppended, HasAppendedNext, GrowsSequence, sequence_sink, is_empty_so_far};
 ghost use Rattle.sfv_serializer.specs.Serializers.{sequence_version, sequence_sink};
-ghost use Rattle.sfv_serializer.specs.Scripts.{param_of_call, item_of_calls, member_calls, list_calls, dictionary_calls};
-ghost use Rattle.sfv_serializer.specs.Scripts.{described_list, described_dictionary, supplied_list, supplied_dictionary, tried_list, tried_dictionary};
-ghost use Rattle.sfv_serializer.specs.Scripts.{LacksForCall, added_text, added_text_of_pair, ended_text, WritesInner};
-ghost use Rattle.sfv_serializer.specs.Scripts.{WritesList, WritesDictionary, IsReadBackWhereFit};
 
 use crate::dict_serializer::DictSerializer;
 use crate::fragment::{Fragment, InnerListStart, KeyedInnerListStart};
@@ -275,7 +275,7 @@ fn write_list_members<W: Sink>(
         (list_calls calls.now)) }
     ensures room { OnErr result ((n : ℕ) × LacksRoom (W.text (sequence_sink list.old))
         (with_separators (is_empty_so_far list.old) (codes ", ") (tried_list calls.now n))) }
-    ensures value { OnOk result (IsFieldValue list_field (described_list calls.now)) }
+    ensures value { OnOk result (IsFieldValue list_field (list_described calls.now)) }
     ensures out_of_memory { OnErr result (GrowsSequence W.Sink list.old list.new) }
     ensures some { OnErr result (0 < length calls.now) }
 {
@@ -288,11 +288,11 @@ fn write_list_members<W: Sink>(
 /// Performs the calls of a list, and returns `true` if it has a member.
 #[tactic(auto, using(sfv_writer::proofs::Rows::in_a_row_first))]
 fn write_list(text: &mut StdString, calls: &[MemberCalls<'_>]) -> Result<bool, OutOfMemory>
-    ensures text { Appends text.old text.new (canonical list_field (described_list calls.now)) result }
-    ensures room { OnErr result (LacksForCall text.old (tried_list calls.now)) }
+    ensures text { Appends text.old text.new (canonical list_field (list_described calls.now)) result }
+    ensures room { OnErr result (LacksForTry text.old (tried_list calls.now)) }
     ensures stays { string_capacity text.old ≤ string_capacity text.new }
-    ensures member { IfOk result (λ stands. IsTrue stands ↔ HasMember list_field (described_list calls.now)) }
-    ensures value { OnOk result (IsFieldValue list_field (described_list calls.now)) }
+    ensures has_member { IfOk result (λ any. IsTrue any ↔ HasMember list_field (list_described calls.now)) }
+    ensures value { OnOk result (IsFieldValue list_field (list_described calls.now)) }
     ensures some { OnErr result (0 < length calls.now) }
 {
     let mut list = ListSerializer::with_buffer(text);
@@ -310,7 +310,7 @@ fn write_dictionary_members<W: Sink>(
         (dictionary_calls calls.now)) }
     ensures room { OnErr result ((n : ℕ) × LacksRoom (W.text (sequence_sink dictionary.old))
         (with_separators (is_empty_so_far dictionary.old) (codes ", ") (tried_dictionary calls.now n))) }
-    ensures value { OnOk result (IsFieldValue dictionary_field (described_dictionary calls.now)) }
+    ensures value { OnOk result (IsFieldValue dictionary_field (dictionary_described calls.now)) }
     ensures out_of_memory { OnErr result (GrowsSequence W.Sink dictionary.old dictionary.new) }
     ensures some { OnErr result (0 < length calls.now) }
 {
@@ -326,12 +326,12 @@ fn write_dictionary(
     text: &mut StdString,
     calls: &[(KeyRef<'_>, MemberCalls<'_>)],
 ) -> Result<bool, OutOfMemory>
-    ensures text { Appends text.old text.new (canonical dictionary_field (described_dictionary calls.now)) result }
-    ensures room { OnErr result (LacksForCall text.old (tried_dictionary calls.now)) }
+    ensures text { Appends text.old text.new (canonical dictionary_field (dictionary_described calls.now)) result }
+    ensures room { OnErr result (LacksForTry text.old (tried_dictionary calls.now)) }
     ensures stays { string_capacity text.old ≤ string_capacity text.new }
-    ensures member { IfOk result (λ stands. IsTrue stands
-        ↔ HasMember dictionary_field (described_dictionary calls.now)) }
-    ensures value { OnOk result (IsFieldValue dictionary_field (described_dictionary calls.now)) }
+    ensures has_member { IfOk result (λ any. IsTrue any
+        ↔ HasMember dictionary_field (dictionary_described calls.now)) }
+    ensures value { OnOk result (IsFieldValue dictionary_field (dictionary_described calls.now)) }
     ensures some { OnErr result (0 < length calls.now) }
 {
     let mut dictionary = DictSerializer::with_buffer(text);
@@ -369,9 +369,9 @@ pub fn run_item(text: &mut StdString, calls: &ItemCalls<'_>) -> Result<(), OutOf
 #[tactic(auto, using(sfv_writer::proofs::Written::cut_to, crate::proofs::WhereFit::read_back_where_fit))]
 pub fn run_list(text: &mut StdString, calls: &[MemberCalls<'_>]) -> Result<bool, OutOfMemory>
     ensures text { AppendsOrKeeps text.old text.new (canonical list_field (described_list calls.now)) result }
-    ensures room { OnErr result (LacksForCall text.old (tried_list calls.now)) }
+    ensures room { OnErr result (LacksForListCall text.old calls.now) }
     ensures stays { string_capacity text.old ≤ string_capacity text.new }
-    ensures member { IfOk result (λ stands. IsTrue stands ↔ HasMember list_field (described_list calls.now)) }
+    ensures has_member { IfOk result (λ any. IsTrue any ↔ HasMember list_field (described_list calls.now)) }
     ensures value { OnOk result (IsFieldValue list_field (described_list calls.now)) }
     ensures read_back { OnOk result (IsReadBackWhereFit list_field (described_list calls.now)) }
     ensures some { OnErr result (0 < length calls.now) }
@@ -399,9 +399,9 @@ pub fn run_dict(
 ) -> Result<bool, OutOfMemory>
     ensures text { AppendsOrKeeps text.old text.new
         (canonical dictionary_field (described_dictionary calls.now)) result }
-    ensures room { OnErr result (LacksForCall text.old (tried_dictionary calls.now)) }
+    ensures room { OnErr result (LacksForEntryCall text.old calls.now) }
     ensures stays { string_capacity text.old ≤ string_capacity text.new }
-    ensures member { IfOk result (λ stands. IsTrue stands
+    ensures has_member { IfOk result (λ any. IsTrue any
         ↔ HasMember dictionary_field (described_dictionary calls.now)) }
     ensures value { OnOk result (IsFieldValue dictionary_field (described_dictionary calls.now)) }
     ensures read_back { OnOk result (IsReadBackWhereFit dictionary_field (described_dictionary calls.now)) }
@@ -453,18 +453,17 @@ pub fn run_list_for(
     calls: &[MemberCalls<'_>],
 ) -> Result<bool, SerializeError>
     ensures text { AppendsOrKeeps text.old text.new (canonical list_field (described_list calls.now)) result }
-    ensures room { IfErr result (λ e. e ≡ errors.OutOfMemory
-        → LacksForCall text.old (tried_list calls.now)) }
+    ensures room { OnOutOfMemory result (LacksForListCall text.old calls.now) }
     ensures stays { string_capacity text.old ≤ string_capacity text.new }
-    ensures member { IfOk result (λ stands. IsTrue stands ↔ HasMember list_field (described_list calls.now)) }
+    ensures has_member { IfOk result (λ any. IsTrue any ↔ HasMember list_field (described_list calls.now)) }
     ensures value { OnOk result (IsFieldValue list_field (described_list calls.now)) }
-    ensures unsupported { ChecksVersionFirst version (bare_values list_field (supplied_list calls.now)) result }
+    ensures unsupported { ChecksVersionFirst version (bare_values list_field (map member_of_calls calls.now)) result }
     ensures read_back { OnOk result (IsReadBack version list_field (described_list calls.now)) }
     ensures some { OnErr result (0 < length calls.now) }
 {
     check_list_calls(version, calls)?;
-    let stands = run_list(text, calls)?;
-    Ok(stands)
+    let has_member = run_list(text, calls)?;
+    Ok(has_member)
 }
 
 /// Appends a dictionary to `text`, as `run_dict` does, if `version` has every value of the calls, abandoned inner
@@ -483,17 +482,16 @@ pub fn run_dict_for(
 ) -> Result<bool, SerializeError>
     ensures text { AppendsOrKeeps text.old text.new
         (canonical dictionary_field (described_dictionary calls.now)) result }
-    ensures room { IfErr result (λ e. e ≡ errors.OutOfMemory
-        → LacksForCall text.old (tried_dictionary calls.now)) }
+    ensures room { OnOutOfMemory result (LacksForEntryCall text.old calls.now) }
     ensures stays { string_capacity text.old ≤ string_capacity text.new }
-    ensures member { IfOk result (λ stands. IsTrue stands
+    ensures has_member { IfOk result (λ any. IsTrue any
         ↔ HasMember dictionary_field (described_dictionary calls.now)) }
     ensures value { OnOk result (IsFieldValue dictionary_field (described_dictionary calls.now)) }
-    ensures unsupported { ChecksVersionFirst version (bare_values dictionary_field (supplied_dictionary calls.now)) result }
+    ensures unsupported { ChecksVersionFirst version (bare_values dictionary_field (map entry_of_calls calls.now)) result }
     ensures read_back { OnOk result (IsReadBack version dictionary_field (described_dictionary calls.now)) }
     ensures some { OnErr result (0 < length calls.now) }
 {
     check_dictionary_calls(version, calls)?;
-    let stands = run_dict(text, calls)?;
-    Ok(stands)
+    let has_member = run_dict(text, calls)?;
+    Ok(has_member)
 }

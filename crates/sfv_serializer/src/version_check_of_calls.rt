@@ -4,12 +4,11 @@ ghost use Rattle.std.specs.Prelude.{map, flat_map};
 ghost use Rattle.sfv_spec.specs.declared.field_kind.FieldKind.TheVariants.{List as list_field};
 ghost use Rattle.sfv_spec.specs.declared.field_kind.FieldKind.TheVariants.{Dictionary as dictionary_field};
 ghost use Rattle.sfv_spec.specs.Values.{bare_values};
-ghost use Rattle.sfv_spec.specs.Calls.{supplied_member};
+ghost use Rattle.sfv_serializer.specs.Scripts.{param_of_call, item_of_calls, member_of_calls, entry_of_calls};
+ghost use Rattle.sfv_serializer.specs.ScriptSteps.{supplied_member, inner_list_calls, member_calls};
 ghost use Rattle.sfv_writer.specs.Versions.{ChecksVersion};
 ghost use Rattle.sfv_spec.specs.Values.{item_values, member_values};
 ghost use Rattle.sfv_spec.proofs.Marks.{parameter_values};
-ghost use Rattle.sfv_serializer.specs.Scripts.{param_of_call, item_of_calls, inner_list_calls, member_calls, supplied_list};
-ghost use Rattle.sfv_serializer.specs.Scripts.{supplied_dictionary};
 
 use crate::script::{ItemCalls, MemberCalls, ParamCall};
 use sfv_spec::version::Version;
@@ -84,7 +83,7 @@ pub(crate) fn check_list_calls(
     version: Version,
     calls: &[MemberCalls<'_>],
 ) -> Result<(), SerializeError>
-    ensures { ChecksVersion version (bare_values list_field (supplied_list calls.now)) result }
+    ensures { ChecksVersion version (bare_values list_field (map member_of_calls calls.now)) result }
 {
     for member in calls {
         check_member_calls(version, member)?;
@@ -97,7 +96,7 @@ pub(crate) fn check_dictionary_calls(
     version: Version,
     calls: &[(KeyRef<'_>, MemberCalls<'_>)],
 ) -> Result<(), SerializeError>
-    ensures { ChecksVersion version (bare_values dictionary_field (supplied_dictionary calls.now)) result }
+    ensures { ChecksVersion version (bare_values dictionary_field (map entry_of_calls calls.now)) result }
 {
     for (_name, member) in calls {
         check_member_calls(version, member)?;

@@ -1,4 +1,4 @@
--- What calls describe fits a version if all that they hand over does; and a first value that doesn't fit.
+-- A first value that doesn't fit a version.
 use Rattle.std.proofs.Common.{◌≡◌, ℕ, Bool, true, false, cond, not, List, [], ◌∷◌, ◌++◌, true≢false, refl, sym, ap, subst}
 use Rattle.std.proofs.Common.{◌∙◌, append_assoc}
 use Rattle.std.specs.Prelude.{flat_map, Some}
@@ -9,39 +9,9 @@ use Rattle.sfv_spec.specs.declared.field_kind.FieldKind.TheVariants.{Item as ite
 use Rattle.sfv_spec.specs.declared.field_kind.FieldKind.TheVariants.{Dictionary as dictionary_field}
 use Rattle.sfv_spec.specs.declared.version.Version.{Version}
 use Rattle.sfv_spec.specs.declared.version.Version.TheVariants.{Rfc9651}
-use Rattle.sfv_spec.specs.Calls.{MemberCalls, written, abandoned, Calls, described, supplied_member, supplied}
 use Rattle.sfv_spec.specs.Values.{AllFit, Fits}
 use Rattle.sfv_spec.specs.Values.{fits_bare}
 use Rattle.sfv_spec.proofs.Fields.{fit_split, fit_append}
-
-list_fits : (version : Version) (calls : List MemberCalls) → Fits version list_field (supplied list_field calls)
-    → Fits version list_field (described list_field calls)
-list_fits version [] h = tt
-list_fits version (written m ∷ cs) h =
-    let p = fit_split version (member_values m) (flat_map member_values (supplied list_field cs)) h in
-    fit_append version (member_values m) (flat_map member_values (described list_field cs)) p.0 (list_fits version cs p.1)
-list_fits version (abandoned is ∷ cs) h = list_fits version cs
-    (fit_split version (member_values (supplied_member (abandoned is))) (flat_map member_values (supplied list_field cs)) h).1
-
-dictionary_fits : (version : Version) (calls : List (List ℕ × MemberCalls))
-    → Fits version dictionary_field (supplied dictionary_field calls)
-    → Fits version dictionary_field (described dictionary_field calls)
-dictionary_fits version [] h = tt
-dictionary_fits version ((key, written m) ∷ cs) h =
-    let p = fit_split version (member_values m) (flat_map (λ m. member_values m.1) (supplied dictionary_field cs)) h in
-    fit_append version (member_values m) (flat_map (λ m. member_values m.1) (described dictionary_field cs)) p.0
-    (dictionary_fits version cs p.1)
-dictionary_fits version ((key, abandoned is) ∷ cs) h = dictionary_fits version cs
-    (fit_split version (member_values (supplied_member (abandoned is)))
-    (flat_map (λ m. member_values m.1) (supplied dictionary_field cs)) h).1
-
-pub described_fit : (version : Version) (kind : FieldKind) (calls : Calls kind) → Fits version kind (supplied kind calls)
-    → Fits version kind (described kind calls)
-described_fit version item_field i h = h
-described_fit version list_field calls h = list_fits version calls h
-described_fit version dictionary_field calls h = dictionary_fits version calls h
-
--- ---- a first value that doesn't fit
 
 -- the one that is found is the first that the version lacks
 pub found_unfit : (version : Version) (values : List BareValue) (b : BareValue)

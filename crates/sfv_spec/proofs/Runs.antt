@@ -1,7 +1,7 @@
 -- What a visitor has done with the events of a field, for callers.
 use Rattle.std.proofs.Common.{◌≡◌, suc, List, [], ◌∷◌, ◌++◌, length, refl, sym, ap, subst, ◌∙◌, inl, inr, arith}
 use Rattle.std.specs.Prelude.{⊤, ℕ, Option, Some, None, fold, filter_map, flat_map, ◌⊎◌}
-use Rattle.std.specs.List.{Contains, AllByRecursion}
+use Rattle.std.specs.List.{FoldsTo, Contains, AllByRecursion}
 use Rattle.std.proofs.lemmas.List.Elements.{filter_map-append, Contains-append_right}
 use Rattle.sfv_spec.specs.Values.{RawParameters, RawItem, RawMember, item, inner_list}
 use Rattle.sfv_spec.specs.declared.field_kind.FieldKind.TheVariants.{List as list_field, Dictionary as dictionary_field}
@@ -9,11 +9,10 @@ use Rattle.sfv_spec.specs.Events.{TreeEvent, entry, keyed_entry, begins_item, be
 use Rattle.sfv_spec.specs.Events.{parameter, parameters_end, inner_list_end, parameters_events, inner_item_events}
 use Rattle.sfv_spec.specs.Events.{member_events, events}
 use Rattle.sfv_spec.proofs.Marks.{keys}
-use Rattle.sfv_spec.specs.Visiting.{RunsTo, IsVisitorError}
 
 -- where each event is a step of the place, a run is all steps
 pub runs_fold : {S P : Type 0} (place : S → P) (step : P → TreeEvent → P) (es : List TreeEvent) (s last : S)
-    → RunsTo (λ s e after. place after ≡ step (place s) e) s es last → place last ≡ fold step (place s) es
+    → FoldsTo (λ s e after. place after ≡ step (place s) e) s es last → place last ≡ fold step (place s) es
 runs_fold place step [] s last h = ap place (sym h)
 runs_fold {S} {P} place step (e ∷ es) s last h = runs_fold place step es h.0 last h.2
     ∙ ap (λ (p : P). fold step p es) h.1
@@ -93,18 +92,3 @@ entries_in_events (m ∷ ms) =
     filter_map-append entry_in (member_events m) (events list_field ms)
     ∙ rw (none_within entry_in (λ e h. (neither_inside e h).1) (member_events m) (member_inside m)) refl in
     rw rest (ap suc (entries_in_events ms))
-
--- an error of a visitor comes at some event of the field, or at its end
-pub fails_somewhere : {S F : Type 0} (takes : S → TreeEvent → S → Type 0) (fails : S → TreeEvent → F → Type 0)
-    (finish_fails : S → F → Type 0) (start : S) (es : List TreeEvent) (fault : F)
-    → IsVisitorError takes fails finish_fails start es fault
-    → ((e : TreeEvent) × Contains es e × (s : S) × fails s e fault) ⊎ ((s : S) × finish_fails s fault)
-fails_somewhere takes fails finish_fails start es fault (inl h) =
-    inl (
-      h.1,
-      subst (λ (xs : List TreeEvent). Contains xs h.1) (sym h.4) (Contains-append_right h.0 (h.1 ∷ h.2) h.1
-          (0, omega arith, refl)),
-      h.3,
-      h.6,
-    )
-fails_somewhere takes fails finish_fails start es fault (inr h) = inr (h.0, h.2)

@@ -2,9 +2,9 @@
 use Rattle.std.proofs.Common.{◌≡◌, ℕ, ℤ, ◌+◌, ◌<◌, ◌≤◌, List, [], ◌∷◌, length, refl, sym, ap, ◌∙◌, arith}
 use Rattle.std.proofs.Common.{inl, inr, subst}
 use Rattle.std.specs.Prelude.{Option, Some, None, Result, Ok, Err, OnOk, IsSome, IfOk, IfErr, MatchResult, fold}
-use Rattle.std.specs.Prelude.{filter_map}
+use Rattle.std.specs.Prelude.{⊤, filter_map}
 use Rattle.std.specs.Prelude.{option_map}
-use Rattle.std.specs.List.{cons_option}
+use Rattle.std.specs.List.{FoldsTo, cons_option}
 use Rattle.std.proofs.lemmas.List.{length-append, length-map}
 use Rattle.std.proofs.lemmas.List.Elements.{filter_map-append}
 use Rattle.sfv.specs.Values.{RawItem, BareValue, integer, decimal}
@@ -17,18 +17,20 @@ use Rattle.sfv.specs.Events.{parameters_end, inner_list_end, events}
 use Rattle.sfv.specs.Grammar.{IsFieldText, IsAccepted, BeginsWithLongest, BeginsWithComplete}
 use Rattle.sfv.specs.Ordered.{last_of, ordered_member}
 use Rattle.sfv.specs.Statements.{IsParsedAs}
-use Rattle.sfv.specs.Visiting.{RunsTo, IsVisitorError}
-use Rattle.sfv.specs.Parsers.{IsParseError, IsAnswerOf, IsSyntaxOf, IsVisitorErrorOf, VisitsFirst, IsBorrowedIfPlain, OfMade}
-use Rattle.sfv.specs.ProvidedVisitors.{ReadBareItem, item_kept, KeepTakes, KeepFails}
+use Rattle.sfv.specs.Parsers.{IsParseError, IsBorrowedIfPlain, WithSomeVisitor}
+use Rattle.sfv.proofs.Callers.{Answers, FailsIn, HasSyntax, HasVisitorError, HasFirst}
+use Rattle.sfv.specs.ProvidedVisitors.{ReadBareItem, OnRead, item_kept, KeepTakes, KeepFails, IsWrongType}
 use Rattle.sfv.specs.Types.{Error, ParseError, OutOfMemory, ItemFault, ExpectItem}
 use Rattle.sfv.specs.BareItems.{input_value}
 use Rattle.sfv.specs.Types.{StringFromInput}
 use Rattle.sfv.specs.Types.bare_items as bare_items
+use Rattle.sfv.specs.Types.bare_item_types as kinds
+use Rattle.sfv.specs.TokenText.{TokenRef}
 use Rattle.sfv.specs.Types.item_faults as item_faults
 use Rattle.sfv.specs.Types.parse_errors.{Syntax, Visitor}
 use Rattle.sfv.proofs.Callers.{runs_fold, key_in, keys_in_events, member_read, last_of-collapse, expect_answers}
 use Rattle.sfv.proofs.Callers.{expect_fails, expect_first, begins_with_its, accepted_error}
-use Rattle.sfv_uses.specs.Uses.{integer_or, param_in, counts, HasMembers, IsCountError, IsExpectError, IsReadError}
+use Rattle.sfv_uses.specs.Uses.{integer_or, param_in, counts, HasMembers, IsCountError, IsExpectError, IsTokenError, IsReadError}
 use Rattle.sfv_uses.specs.Uses.{IsErrorOfLines, IsLentString}
 use Rattle.sfv_uses.specs.declared.visiting.MemberCounter.{MemberCounter}
 use Rattle.sfv_uses.specs.declared.visiting.TooMany.{TooMany}
@@ -64,7 +66,7 @@ param_read t value key param h =
 -- the second of two lines fails as `parse` does, or for memory
 pub second_fails : {S O T : Type 0} (kind : FieldKind) (takes : S → TreeEvent → S → Type 0) (finishes : S → O → Type 0)
     (first second : List ℕ) (from : S) (r : Result T (ParseError OutOfMemory)) → IsAccepted Rfc9651 kind first
-    → IfErr r (IsSyntaxOf takes finishes Rfc9651 kind second from) → IfErr r (IsErrorOfLines kind first second)
+    → IfErr r (HasSyntax takes finishes Rfc9651 kind second from) → IfErr r (IsErrorOfLines kind first second)
 second_fails kind takes finishes first second from (Ok x) a h = tt
 second_fails kind takes finishes first second from (Err (Syntax e)) a h = inr (a, h.0)
 second_fails kind takes finishes first second from (Err (Visitor fault)) a h = a
@@ -96,7 +98,7 @@ abbrev Takes : MemberCounter → TreeEvent → MemberCounter → Type 0
 Takes s e after = (after.members, after.limit) ≡ counts (s.members, s.limit) e
 
 -- what it has counted after some events
-run_counted : (es : List TreeEvent) (from s : MemberCounter) → from.members ≡ 0 → RunsTo Takes from es s
+run_counted : (es : List TreeEvent) (from s : MemberCounter) → from.members ≡ 0 → FoldsTo Takes from es s
     → (s.members ≡ keys_among es) × (s.limit ≡ from.limit)
 run_counted es from s start run =
     let whole = runs_fold (λ (c : MemberCounter). (c.members, c.limit)) counts es from s run
@@ -115,10 +117,10 @@ FinishFails s fault = ⊥
 
 module _ (t : List ℕ) (from : MemberCounter) (start : from.members ≡ 0) where
   pub count_answered : (r : Result ℕ (ParseError TooMany))
-      → IfOk r (IsAnswerOf Takes Finishes Rfc9651 dictionary_field t from) → IfOk r (HasMembers t from.limit)
+      → IfOk r (Answers Takes Finishes Rfc9651 dictionary_field t from) → IfOk r (HasMembers t from.limit)
   count_answered (Ok n) h =
-      let run = run_counted (events dictionary_field h.raw) from h.holds.last start h.holds.taken in
-      let last = h.holds.answered in
+      let run = run_counted (events dictionary_field h.raw) from h.holds.0 start h.holds.1 in
+      let last = h.holds.2 in
       record {
         raw = h.raw;
         accepted = h.accepted;
@@ -129,7 +131,7 @@ module _ (t : List ℕ) (from : MemberCounter) (start : from.members ≡ 0) wher
 
   -- where it fails one member more comes than are wanted
   failed_late : (raw : List (List ℕ × RawMember)) (fault : TooMany)
-      → IsVisitorError Takes Fails FinishFails from (events dictionary_field raw) fault → from.limit < length raw
+      → FailsIn Takes Fails FinishFails from (events dictionary_field raw) ⊤ fault → from.limit < length raw
   failed_late raw fault (inl h) =
       let run = run_counted h.0 from h.3 start h.5 in
       let full = h.6.0 in
@@ -143,18 +145,19 @@ module _ (t : List ℕ) (from : MemberCounter) (start : from.members ≡ 0) wher
       one_more : (o : Option (List ℕ)) → IsSome o → 0 < length (cons_option o (filter_map key_in h.2))
       one_more (Some key) k = omega arith
       one_more None k = absurd cc
-  failed_late raw fault (inr h) = absurd h.2
+  failed_late raw fault (inr h) = absurd h.3
 
   pub count_failed : (r : Result ℕ (ParseError TooMany))
-      → IfErr r (IsSyntaxOf Takes Finishes Rfc9651 dictionary_field t from)
-      → IfErr r (IsVisitorErrorOf Takes Fails FinishFails Rfc9651 dictionary_field t from)
+      → IfErr r (HasSyntax Takes Finishes Rfc9651 dictionary_field t from)
+      → IfErr r (HasVisitorError Takes Fails FinishFails Rfc9651 dictionary_field t from)
       → IfErr r (IsCountError t from.limit)
   count_failed (Ok n) h k = tt
   count_failed (Err (Syntax e)) h k = h.0
   count_failed (Err (Visitor fault)) h k = λ raw accepted. failed_late raw fault (k.0 raw accepted)
 
 -- what a type that holds bare items is read as of an item
-module _ {T : Type 0} (holds : T → BareValue) (fails : BareValue → ItemFault → Type 0) where
+module _ {T : Type 0} (holds : T → BareValue) (is_of : T → ReadBareItem → Type 0)
+    (fails : ReadBareItem → ItemFault → Type 0) where
   abbrev Waits : ExpectItem T → Type 0
   Waits s = item_kept s ≡ None
 
@@ -165,28 +168,28 @@ module _ {T : Type 0} (holds : T → BareValue) (fails : BareValue → ItemFault
   KeepsNone s fault = (item_kept s ≡ None) × (fault ≡ item_faults.NoItem)
 
   pub expected : (t : List ℕ) (r : Result T (ParseError ItemFault))
-      → IfOk r (OfMade Waits (IsAnswerOf (KeepTakes holds) Keeps Rfc9651 item_field t))
-      → IfErr r (OfMade Waits (IsSyntaxOf (KeepTakes holds) Keeps Rfc9651 item_field t))
-      → IfErr r (OfMade Waits (IsVisitorErrorOf (KeepTakes holds) (KeepFails fails) KeepsNone Rfc9651 item_field t))
+      → IfOk r (WithSomeVisitor Waits (Answers (OnRead (KeepTakes holds is_of)) Keeps Rfc9651 item_field t))
+      → IfErr r (WithSomeVisitor Waits (HasSyntax (OnRead (KeepTakes holds is_of)) Keeps Rfc9651 item_field t))
+      → IfErr r (WithSomeVisitor Waits (HasVisitorError (OnRead (KeepTakes holds is_of)) (OnRead (KeepFails fails)) KeepsNone Rfc9651 item_field t))
       → (raw : RawItem) → IsFieldText Rfc9651 item_field raw t
       → MatchResult r (λ held. holds held ≡ raw.bare) (IsExpectError fails raw.bare)
   expected t (Ok held) h k l raw accepted =
-      let read = expect_answers holds fails Rfc9651 t (Ok held) h in
+      let read = expect_answers holds is_of fails Rfc9651 t (Ok held) h in
       read.2 ∙ ap (λ (i : RawItem). i.bare) (h.2.only read.0 read.1 ∙ sym (h.2.only raw accepted))
   expected t (Err (Syntax e)) h k l raw accepted = accepted_error Rfc9651 item_field t raw e accepted k.2.0
-  expected t (Err (Visitor fault)) h k l raw accepted = expect_fails holds fails Rfc9651 t raw fault accepted l
+  expected t (Err (Visitor fault)) h k l raw accepted = expect_fails holds is_of fails Rfc9651 t raw fault accepted l
 
   pub expected_first : (t : List ℕ) (r : Result T (ParseError ItemFault))
-      → IfOk r (OfMade Waits (IsAnswerOf (KeepTakes holds) Keeps Rfc9651 item_field t))
-      → IfErr r (OfMade Waits (VisitsFirst (KeepTakes holds) (KeepFails fails) KeepsNone Rfc9651 t))
+      → IfOk r (WithSomeVisitor Waits (Answers (OnRead (KeepTakes holds is_of)) Keeps Rfc9651 item_field t))
+      → IfErr r (WithSomeVisitor Waits (HasFirst (OnRead (KeepTakes holds is_of)) (OnRead (KeepFails fails)) KeepsNone Rfc9651 t))
       → (value : BareValue) → BeginsWithComplete Rfc9651 value t → ((held : T) → ¬ (holds held ≡ value))
       → MatchResult r (λ _. ⊥) (IsExpectError fails value)
   expected_first t (Ok held) h k value begins none =
-      let read = expect_answers holds fails Rfc9651 t (Ok held) h in
+      let read = expect_answers holds is_of fails Rfc9651 t (Ok held) h in
       none held (read.2 ∙ begins_with_its Rfc9651 value t read.0 read.1 begins)
-  expected_first t (Err (Syntax e)) h k value begins none = (expect_first holds fails Rfc9651 t value begins none).0 e k
+  expected_first t (Err (Syntax e)) h k value begins none = (expect_first holds is_of fails Rfc9651 t value begins none).0 e k
   expected_first t (Err (Visitor fault)) h k value begins none =
-      (expect_first holds fails Rfc9651 t value begins none).1 fault k
+      (expect_first holds is_of fails Rfc9651 t value begins none).1 fault k
 
 -- a string that was kept is the one that was read
 pub lent_string : {E : Type 0} (t : List ℕ) (r : Result StringFromInput E)
@@ -213,3 +216,15 @@ pub read_failed : {O E : Type 0} (P Q : ParseError E → Type 0) (holds : E → 
 read_failed P Q holds kind t syntax visitor (Ok value) h k = tt
 read_failed P Q holds kind t syntax visitor (Err (Syntax e)) h k = syntax e h
 read_failed P Q holds kind t syntax visitor (Err (Visitor fault)) h k = visitor fault k
+
+-- a token's type rejects each bare item of this value, or none
+pub token_error : (value : BareValue) (e : ParseError ItemFault)
+    → IsExpectError (λ read. IsWrongType kinds.Token (input_value read)) value e → IsTokenError value e
+token_error value (Syntax e) h = h
+token_error value (Visitor fault) h = subst (λ (v : BareValue). IsWrongType kinds.Token v fault) h.1 h.2
+
+pub token_result : (value : BareValue) (P : TokenRef → Type 0) (r : Result TokenRef (ParseError ItemFault))
+    → MatchResult r P (IsExpectError (λ read. IsWrongType kinds.Token (input_value read)) value)
+    → MatchResult r P (IsTokenError value)
+token_result value P (Ok name) h = h
+token_result value P (Err e) h = token_error value e h

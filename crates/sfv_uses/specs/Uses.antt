@@ -19,7 +19,7 @@ use Rattle.sfv.specs.CheckedTexts.{text_of}
 use Rattle.sfv.specs.TokenText.{TokenRef}
 use Rattle.sfv.specs.StringText.{StringRef}
 use Rattle.sfv.specs.Canonical.{item_text}
-use Rattle.sfv.specs.BareItems.{bare_value, ref_value, read_text, is_borrowed_string}
+use Rattle.sfv.specs.BareItems.{bare_value, ref_value, input_value, read_text, is_borrowed_string}
 use Rattle.sfv.specs.Trees.{OwnedBareItem}
 use Rattle.sfv.specs.Events.{TreeEvent, keyed_entry}
 use Rattle.sfv.specs.Types.{ParseError, OutOfMemory}
@@ -29,7 +29,7 @@ use Rattle.sfv_uses.specs.declared.visiting.TooMany.{TooMany}
 use Rattle.sfv.specs.Faults.{IsFaultAt}
 use Rattle.sfv.specs.Types.{ErrorKind}
 use Rattle.sfv.specs.Errors.{out_of_memory}
-use Rattle.sfv.specs.ProvidedVisitors.{IsWrongType}
+use Rattle.sfv.specs.ProvidedVisitors.{ReadBareItem, IsWrongType}
 use Rattle.sfv.specs.Types.{ItemFault}
 use Rattle.sfv.specs.Types.bare_item_types as kinds
 use Rattle.sfv.specs.Types.{GenericBareItem, StringFromInput}
@@ -57,6 +57,11 @@ abbrev pub IsErrorOfLines : FieldKind → List ℕ → List ℕ → ParseError O
 IsErrorOfLines kind first second (Syntax e) = IsParseError Rfc9651 kind first e
     ⊎ (IsAccepted Rfc9651 kind first × IsParseError Rfc9651 kind second e)
 IsErrorOfLines kind first second (Visitor fault) = IsAccepted Rfc9651 kind first
+
+-- out of memory, as the parser's error or the visitor's
+abbrev pub IsMemoryError : {E : Type 0} → (E → Type 0) → ParseError E → Type 0
+IsMemoryError is_memory (Syntax e) = e ≡ out_of_memory
+IsMemoryError is_memory (Visitor error) = is_memory error
 
 -- the value of an integer, and the default for another kind
 abbrev pub integer_or : ℤ → BareValue → ℤ
@@ -136,17 +141,20 @@ IsReadError holds kind t (Syntax e) = IsParseError Rfc9651 kind t e
 IsReadError holds kind t (Visitor fault) = holds fault
 
 -- a bare item comes first in the text, and the type rejects it with this error
-abbrev pub FailsAtFirst : (BareValue → ItemFault → Type 0) → List ℕ → ItemFault → Type 0
-FailsAtFirst fails t fault = (value : BareValue) × BeginsWithLongest Rfc9651 value t × fails value fault
+abbrev pub FailsAtFirst : (ReadBareItem → ItemFault → Type 0) → List ℕ → ItemFault → Type 0
+FailsAtFirst fails t fault =
+    (read : ReadBareItem) × BeginsWithLongest Rfc9651 (input_value read) t × fails read fault
 
--- memory ran out, or the type rejects the value with this error
-abbrev pub IsExpectError : (BareValue → ItemFault → Type 0) → BareValue → ParseError ItemFault → Type 0
+-- memory ran out, or the type rejects a bare item of this value with this error
+abbrev pub IsExpectError : (ReadBareItem → ItemFault → Type 0) → BareValue → ParseError ItemFault → Type 0
 IsExpectError fails value (Syntax e) = e ≡ out_of_memory
-IsExpectError fails value (Visitor fault) = fails value fault
+IsExpectError fails value (Visitor fault) =
+    (read : ReadBareItem) × (input_value read ≡ value) × fails read fault
 
--- the same for a token
+-- memory ran out, or the value is no token
 abbrev pub IsTokenError : BareValue → ParseError ItemFault → Type 0
-IsTokenError = IsExpectError (IsWrongType kinds.Token)
+IsTokenError value (Syntax e) = e ≡ out_of_memory
+IsTokenError value (Visitor fault) = IsWrongType kinds.Token value fault
 
 -- the token with this value, or such an error
 abbrev pub GivesToken : BareValue → Result TokenRef (ParseError ItemFault) → Type 0

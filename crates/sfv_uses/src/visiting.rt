@@ -5,8 +5,7 @@ ghost use Rattle.sfv.specs.Types.{item_field, dictionary_field};
 ghost use Rattle.sfv.specs.Types.{Rfc9651};
 ghost use Rattle.sfv.specs.Grammar.{IsAccepted};
 ghost use Rattle.sfv.specs.EventRuns.{key_in};
-ghost use Rattle.sfv.specs.Parsers.{IsMemoryError};
-ghost use Rattle.sfv_uses.specs.Uses.{counts, HasMembers, IsCountError};
+ghost use Rattle.sfv_uses.specs.Uses.{counts, HasMembers, IsCountError, IsMemoryError};
 
 use sfv::visitor::{Event, MemoryErrors, Visitor, item_visitor_with};
 use sfv::{BareItemFromInput, OutOfMemory, ParseError, Parser};

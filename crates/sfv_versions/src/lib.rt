@@ -1,14 +1,14 @@
 //! Serialization for a version, and parsing under the same version.
 #![tactic(auto)]
 
-ghost use Rattle.std.specs.Prelude.{◌≡◌, ◌∷◌, ◌++◌, [], false, OnOk, IfOk, IfErr, codes, string_bytes};
+ghost use Rattle.std.specs.Prelude.{map, ◌≡◌, ◌∷◌, ◌++◌, [], false, OnOk, IfOk, IfErr, codes, string_bytes};
 ghost use Rattle.sfv.specs.Types.{list_field};
 ghost use Rattle.sfv.specs.Ordered.{ordered};
 ghost use Rattle.sfv.specs.Values.{bare_values};
 ghost use Rattle.sfv.specs.Values.{AllFit};
 ghost use Rattle.sfv.specs.BareItems.{ref_value};
 ghost use Rattle.sfv.specs.Trees.{list_tree};
-ghost use Rattle.sfv.specs.Scripts.{described_list, supplied_list};
+ghost use Rattle.sfv.specs.Scripts.{member_of_calls, described_list};
 ghost use Rattle.sfv.specs.Serializers.{HasAppendedNext, sequence_version};
 ghost use Rattle.sfv.specs.Versions.{ChecksVersionFirst};
 ghost use Rattle.sfv_versions.specs.Pairs.{two_members, IsPairError};
@@ -72,7 +72,7 @@ pub fn performed_and_read_for(
     calls: &[MemberCalls<'_>],
 ) -> Result<List, SerializeError>
     ensures read { IfOk result (λ list. list_tree list.items ≡ ordered list_field (described_list calls.now)) }
-    ensures unsupported { ChecksVersionFirst version (bare_values list_field (supplied_list calls.now)) result }
+    ensures unsupported { ChecksVersionFirst version (bare_values list_field (map member_of_calls calls.now)) result }
 {
     let mut text = String::new(alloc);
     run_list_for(version, &mut text, calls)?;

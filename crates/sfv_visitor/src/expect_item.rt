@@ -1,6 +1,6 @@
 //! A visitor that returns a bare item of one type.
 
-ghost use Rattle.std.specs.Prelude.{◌≡◌, ⊤, Some, None, IfOk, IfErr, IsTrue};
+ghost use Rattle.std.specs.Prelude.{◌≡◌, Some, None, IfOk, IfErr, IsTrue};
 ghost use Rattle.sfv_spec.specs.Values as values;
 ghost use Rattle.sfv_spec.specs.Values.{BareValue};
 ghost use Rattle.sfv_base.specs.Numbers.{integer_of, thousandths_of, seconds_of};
@@ -11,8 +11,7 @@ ghost use Rattle.sfv_bare.specs.declared.bare.BareItemType.TheVariants as kinds;
 ghost use Rattle.sfv_visitor.specs.declared.visitor.ItemFault.{ItemFault};
 ghost use Rattle.sfv_visitor.specs.declared.visitor.ItemFault.TheVariants as faults;
 ghost use Rattle.sfv_bare.specs.Kinds.{kind_of_value};
-ghost use Rattle.sfv_visitor.specs.ProvidedVisitors.{IsWrongType, LacksMemory, item_kept, KeepTakes, KeepFails};
-ghost use Rattle.sfv_visitor.specs.ProvidedVisitors.{ReadBareItem, KeepTakesRead, KeepFailsRead};
+ghost use Rattle.sfv_visitor.specs.ProvidedVisitors.{ReadBareItem, IsWrongType, OnRead, item_kept, KeepTakes, KeepFails};
 
 use crate::visitor::{BareItemType, Event, ItemFault, Visitor};
 use sfv_bare::bare::{BareItem, BareItemFromInput, GenericBareItem, StringFromInput};
@@ -28,14 +27,11 @@ pub trait ExpectedItem<'de>: Drop {
     /// `holds value`: the bare value of `value`.
     ghost holds: { Self → BareValue };
 
-    /// `fails value fault`: the conversion of `value` may fail with `fault`.
-    ghost fails: { BareValue → ItemFault → Type 0 };
+    /// `fails item fault`: the conversion of `item` may fail with `fault`.
+    ghost fails: { ReadBareItem → ItemFault → Type 0 };
 
     /// `is_of value item`: `value` is the conversion of `item`, including whether its text is borrowed.
     ghost is_of: { Self → ReadBareItem → Type 0 };
-
-    /// As `fails`, for a bare item with borrowed or owned text. Default: no further constraint.
-    ghost fails_read: { ReadBareItem → ItemFault → Type 0 } = { λ _ _. ⊤ };
 
     /// Converts `item` to this type. Copies are allocated from `alloc`.
     ///
@@ -45,8 +41,7 @@ pub trait ExpectedItem<'de>: Drop {
     fn from_bare_item(item: BareItemFromInput<'de>, alloc: Global) -> Result<Self, ItemFault>
         ensures held { IfOk result (λ kept. holds kept ≡ input_value item.entry) }
         ensures same { IfOk result (λ kept. is_of kept item.entry) }
-        ensures failed { IfErr result (λ fault. fails (input_value item.entry) fault) }
-        ensures failed_read { IfErr result (λ fault. fails_read item.entry fault) };
+        ensures failed { IfErr result (λ fault. fails item.entry fault) };
 }
 
 fn type_of(item: &BareItemFromInput<'_>) -> BareItemType
@@ -77,7 +72,7 @@ fn wrong_type(expected: BareItemType, item: &BareItemFromInput<'_>) -> ItemFault
 impl<'de> ExpectedItem<'de> for Decimal {
     ghost holds = { λ value. values.decimal (thousandths_of value) };
 
-    ghost fails = { IsWrongType kinds.Decimal };
+    ghost fails = { λ item. IsWrongType kinds.Decimal (input_value item) };
 
     ghost is_of = { λ value item. item ≡ bare.Decimal value };
 
@@ -92,7 +87,7 @@ impl<'de> ExpectedItem<'de> for Decimal {
 impl<'de> ExpectedItem<'de> for Integer {
     ghost holds = { λ value. values.integer (integer_of value) };
 
-    ghost fails = { IsWrongType kinds.Integer };
+    ghost fails = { λ item. IsWrongType kinds.Integer (input_value item) };
 
     ghost is_of = { λ value item. item ≡ bare.Integer value };
 
@@ -107,7 +102,7 @@ impl<'de> ExpectedItem<'de> for Integer {
 impl<'de> ExpectedItem<'de> for StringFromInput<'de> {
     ghost holds = { λ text. values.string (read_text text) };
 
-    ghost fails = { IsWrongType kinds.String };
+    ghost fails = { λ item. IsWrongType kinds.String (input_value item) };
 
     ghost is_of = { λ text item. item ≡ bare.String text };
 
@@ -125,7 +120,7 @@ impl<'de> ExpectedItem<'de> for StringFromInput<'de> {
 impl<'de> ExpectedItem<'de> for Vec<u8> {
     ghost holds = { λ bytes. values.byte_sequence bytes.items };
 
-    ghost fails = { IsWrongType kinds.ByteSequence };
+    ghost fails = { λ item. IsWrongType kinds.ByteSequence (input_value item) };
 
     ghost is_of = { λ bytes item. item ≡ bare.ByteSequence bytes };
 
@@ -140,7 +135,7 @@ impl<'de> ExpectedItem<'de> for Vec<u8> {
 impl<'de> ExpectedItem<'de> for bool {
     ghost holds = { λ value. values.boolean value };
 
-    ghost fails = { IsWrongType kinds.Boolean };
+    ghost fails = { λ item. IsWrongType kinds.Boolean (input_value item) };
 
     ghost is_of = { λ value item. item ≡ bare.Boolean value };
 
@@ -155,7 +150,7 @@ impl<'de> ExpectedItem<'de> for bool {
 impl<'de> ExpectedItem<'de> for TokenRef<'de> {
     ghost holds = { λ token. values.token (text_of token) };
 
-    ghost fails = { IsWrongType kinds.Token };
+    ghost fails = { λ item. IsWrongType kinds.Token (input_value item) };
 
     ghost is_of = { λ token item. item ≡ bare.Token token };
 
@@ -173,7 +168,7 @@ impl<'de> ExpectedItem<'de> for TokenRef<'de> {
 impl<'de> ExpectedItem<'de> for Date {
     ghost holds = { λ value. values.date (seconds_of value) };
 
-    ghost fails = { IsWrongType kinds.Date };
+    ghost fails = { λ item. IsWrongType kinds.Date (input_value item) };
 
     ghost is_of = { λ value item. item ≡ bare.Date value };
 
@@ -203,11 +198,9 @@ impl<'de> ExpectedItem<'de> for BareItemFromInput<'de> {
 impl<'de> ExpectedItem<'de> for BareItem {
     ghost holds = { λ item. bare_value item };
 
-    ghost fails = { LacksMemory };
+    ghost fails = { λ item fault. IsTrue (is_borrowed item) × (fault ≡ faults.OutOfMemory) };
 
     ghost is_of = { λ kept item. bare_value kept ≡ input_value item };
-
-    ghost fails_read = { λ item _. IsTrue (is_borrowed item) };
 
     fn from_bare_item(item: BareItemFromInput<'de>, alloc: Global) -> Result<BareItem, ItemFault> {
         match item.try_into_owned(alloc) {
@@ -244,13 +237,13 @@ impl<'de, T: ExpectedItem<'de>> Visitor<'de> for ExpectItem<T> {
 
     type Error = ItemFault;
 
-    ghost takes = { KeepTakes T.holds };
+    ghost takes = { OnRead (KeepTakes T.holds T.is_of) };
 
-    ghost fails = { KeepFails T.fails };
+    ghost fails = { OnRead (KeepFails T.fails) };
 
-    ghost takes_read = { KeepTakesRead T.is_of };
+    ghost takes_read = { KeepTakes T.holds T.is_of };
 
-    ghost fails_read = { KeepFailsRead T.fails_read };
+    ghost fails_read = { KeepFails T.fails };
 
     ghost finishes = { λ s item. item_kept s ≡ Some item };
 

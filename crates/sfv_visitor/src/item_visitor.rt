@@ -1,8 +1,7 @@
 //! A visitor that calls a function on a bare item.
 
 ghost use Rattle.std.specs.Prelude.{◌≡◌, ⊤, Some, None, MatchOption};
-ghost use Rattle.sfv_visitor.specs.ProvidedVisitors.{function_waiting, answer_kept, CallTakes, CallFails};
-ghost use Rattle.sfv_visitor.specs.ProvidedVisitors.{CallTakesRead, CallFailsRead};
+ghost use Rattle.sfv_visitor.specs.ProvidedVisitors.{OnRead, function_waiting, answer_kept, CallTakes, CallFails};
 
 use crate::visitor::{Event, Visitor};
 use sfv_bare::bare::BareItemFromInput;
@@ -80,13 +79,13 @@ impl<
 
     ghost is_ready = { λ s. MatchOption (function_waiting s) ⊤ F.IsAlwaysCallable };
 
-    ghost takes = { CallTakes F.post };
+    ghost takes = { OnRead (CallTakes F.post) };
 
-    ghost fails = { CallFails F.post };
+    ghost fails = { OnRead (CallFails F.post) };
 
-    ghost takes_read = { CallTakesRead F.post };
+    ghost takes_read = { CallTakes F.post };
 
-    ghost fails_read = { CallFailsRead F.post };
+    ghost fails_read = { CallFails F.post };
 
     ghost finishes = { λ s out. out ≡ answer_kept s };
 

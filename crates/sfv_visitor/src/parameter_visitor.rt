@@ -1,8 +1,7 @@
 //! A visitor that passes the result of another visitor to a function.
 
 ghost use Rattle.std.specs.Prelude.{◌≡◌, ◌⊎◌, Ok, Err};
-ghost use Rattle.sfv_visitor.specs.ProvidedVisitors.{visitor_within, function_after, ForwardTakes, ForwardTakesRead};
-ghost use Rattle.sfv_visitor.specs.ProvidedVisitors.{GivesAfter};
+ghost use Rattle.sfv_visitor.specs.ProvidedVisitors.{visitor_within, function_after, ForwardTakes, GivesAfter};
 
 use crate::visitor::{Event, Visitor};
 use std::marker::PhantomData;
@@ -57,7 +56,7 @@ impl<
 
     ghost fails = { λ s e fault. V.fails (visitor_within s) e fault };
 
-    ghost takes_read = { ForwardTakesRead V.takes_read };
+    ghost takes_read = { ForwardTakes V.takes_read };
 
     ghost fails_read = { λ s e fault. V.fails_read (visitor_within s) e fault };
 

@@ -15,7 +15,7 @@ use Rattle.sfv_spec.specs.Ordered.{last_of, without, collapse, ordered, ordered_
 use Rattle.sfv_spec.proofs.Repeats.{no_repeats, IsOrdered}
 use Rattle.sfv_spec.proofs.Marks.{keys}
 use Rattle.sfv_spec.specs.Statements.{IsParsedAs}
-use Rattle.sfv_spec.specs.Visiting.{RunsTo}
+use Rattle.std.specs.List.{FoldsTo}
 use Rattle.sfv_spec.proofs.Collapse.{collapse-push, collapse-distinct}
 use Rattle.sfv_spec.proofs.Last.{over, last_of-over}
 use Rattle.sfv_spec.proofs.Distinct.{ordered_same}
@@ -27,7 +27,7 @@ use Rattle.sfv_visitor.specs.Builders.{settle_pair, dictionary_step, complete}
 use Rattle.sfv_visitor.specs.Builders.{dictionary_state}
 use Rattle.sfv_tree.specs.declared.parsed.ListEntry.{ListEntry}
 use Rattle.sfv_visitor.specs.declared.visitor.dictionary_builder.DictionaryBuilder.{DictionaryBuilder}
-use Rattle.sfv.specs.Parsers.{IsAnswerOf}
+use Rattle.sfv.proofs.Relations.{Answers}
 use Rattle.sfv_visitor.specs.Builders.{IsDictionaryUnder, StaysUnder}
 use Rattle.sfv_tree.specs.declared.hash_seed.HashSeed.{HashSeed}
 use Rattle.sfv_tree.specs.Seeds.{DictionaryHasSeed}
@@ -113,7 +113,7 @@ pairs_built ms (m ∷ raw) =
 -- after all events the pairs are entered in turn, each member ordered
 pub dictionary_built : (held raw : List (List ℕ × RawMember)) (s last : DictionaryBuilder)
     → no_repeats (keys held) ≡ true → dictionary_state s ≡ between_pairs held
-    → RunsTo Steps s (events dictionary_field raw) last
+    → FoldsTo Steps s (events dictionary_field raw) last
     → dictionary_state last ≡ between_pairs (collapse (held ++ ordered_pairs raw))
 dictionary_built held raw s last distinct here run =
     runs_fold dictionary_state dictionary_step (events dictionary_field raw) s last
@@ -136,16 +136,16 @@ joined held raw h =
 pub built_dictionary_after : (version : Version) (t : List ℕ) (held : List (List ℕ
     × RawMember)) (from : DictionaryBuilder) (dictionary : IndexMap (List ℕ) ListEntry HashSeed)
     → no_repeats (keys held) ≡ true → dictionary_state from ≡ between_pairs held
-    → IsAnswerOf Steps Ends version dictionary_field t from dictionary
+    → Answers Steps Ends version dictionary_field t from dictionary
     → (raw : List (List ℕ × RawMember)) × IsFieldText version dictionary_field raw t
     × ((other : List (List ℕ × RawMember)) → IsFieldText version dictionary_field other t → other ≡ raw)
     × (dictionary_tree dictionary.entries ≡ collapse (held ++ ordered_pairs raw))
     × (IsOrdered dictionary_field held → dictionary_tree dictionary.entries
     ≡ ordered dictionary_field (held ++ raw))
 built_dictionary_after version t held from dictionary distinct here h =
-    let whole : dictionary_state h.holds.last ≡ between_pairs (collapse (held ++ ordered_pairs h.raw)) =
-    dictionary_built held h.raw from h.holds.last distinct here h.holds.taken in
-    let there : dictionary_tree dictionary.entries ≡ collapse (held ++ ordered_pairs h.raw) = h.holds.answered.0
+    let whole : dictionary_state h.holds.0 ≡ between_pairs (collapse (held ++ ordered_pairs h.raw)) =
+    dictionary_built held h.raw from h.holds.0 distinct here h.holds.1 in
+    let there : dictionary_tree dictionary.entries ≡ collapse (held ++ ordered_pairs h.raw) = h.holds.2.0
     ∙ ap complete whole in (
       h.raw,
       h.accepted,
@@ -158,7 +158,7 @@ built_dictionary_after version t held from dictionary distinct here h =
 -- what was built is the ordered dictionary of the only tree
 pub built_dictionary : (version : Version) (t : List ℕ) (from : DictionaryBuilder)
     (dictionary : IndexMap (List ℕ) ListEntry HashSeed) → dictionary_state from ≡ between_pairs []
-    → IsAnswerOf Steps Ends version dictionary_field t from dictionary
+    → Answers Steps Ends version dictionary_field t from dictionary
     → IsParsedAs version dictionary_field t (dictionary_tree dictionary.entries)
 built_dictionary version t from dictionary here h =
     let whole = built_dictionary_after version t [] from dictionary refl here h in
@@ -167,6 +167,6 @@ built_dictionary version t from dictionary here h =
 -- what was built is under the builder's seed
 pub dictionary_seeded : (version : Version) (t : List ℕ) (from : DictionaryBuilder)
     (dictionary : IndexMap (List ℕ) ListEntry HashSeed) (seed : HashSeed) → IsDictionaryUnder seed from
-    → IsAnswerOf Steps Ends version dictionary_field t from dictionary → DictionaryHasSeed seed dictionary
+    → Answers Steps Ends version dictionary_field t from dictionary → DictionaryHasSeed seed dictionary
 dictionary_seeded version t from dictionary seed start h = answer_seeded IsDictionaryUnder Steps (λ s e t k. k.1) Ends
     DictionaryHasSeed (λ s out k. k.1) version dictionary_field t from dictionary seed start h

@@ -1,6 +1,6 @@
 -- The builder of an item: after all events of a tree it has the ordered item.
 use Rattle.std.proofs.Common.{◌≡◌, ℕ, cond, List, [], ◌∷◌, ◌++◌, refl, sym, ap, ◌∙◌, append_assoc, inl, inr}
-use Rattle.std.specs.Prelude.{bytes_eq, IsTrue}
+use Rattle.std.specs.Prelude.{⊤, bytes_eq, IsTrue}
 use Rattle.std.proofs.lemmas.List.{append-nil}
 use Rattle.indexmap.specs.IndexMap.{insert_entry}
 use Rattle.sfv_spec.specs.Values.{BareValue, RawParameters, RawItem, item}
@@ -9,11 +9,12 @@ use Rattle.sfv_spec.specs.declared.version.Version.{Version}
 use Rattle.sfv_spec.specs.Events.{TreeEvent, bare_item, parameter, parameters_end, parameters_events, item_events}
 use Rattle.sfv_spec.specs.Ordered.{collapse, ordered_item}
 use Rattle.sfv_spec.specs.Statements.{IsParsedAs}
-use Rattle.sfv_spec.specs.Visiting.{RunsTo, IsEarlyVisitorError}
+use Rattle.std.specs.List.{FoldsTo}
 use Rattle.sfv_spec.proofs.Collapse.{entered, collapse-push}
 use Rattle.sfv_tree.specs.Trees.{item_tree}
 use Rattle.sfv_visitor.specs.Builders.{MemberState, item_head, item_parameters, ended, member_step, item_state, takes_memory}
 use Rattle.sfv_visitor.specs.Builders.{IsItemUnder, StaysUnder}
+use Rattle.sfv_base.specs.declared.error.ParseError.TheVariants.{Visitor}
 use Rattle.sfv_tree.specs.declared.hash_seed.HashSeed.{HashSeed}
 use Rattle.sfv_tree.specs.Seeds.{ItemHasSeed}
 use Rattle.sfv.proofs.built.Seeded.{answer_seeded}
@@ -21,7 +22,7 @@ use Rattle.sfv_visitor.specs.declared.visitor.ItemFault.{ItemFault}
 use Rattle.sfv_visitor.specs.declared.visitor.ItemFault.TheVariants as faults
 use Rattle.sfv_tree.specs.declared.parsed.Item.{Item}
 use Rattle.sfv_visitor.specs.declared.visitor.item_builder.ItemBuilder.{ItemBuilder}
-use Rattle.sfv.specs.Parsers.{IsAnswerOf}
+use Rattle.sfv.proofs.Relations.{Answers, FailsIn, HasVisitorError, item_failed}
 
 -- what the builder does with an event, and with the end
 abbrev Steps : ItemBuilder → TreeEvent → ItemBuilder → Type 0
@@ -47,7 +48,7 @@ abbrev pub with_bare : BareValue → RawParameters → RawItem
 with_bare b ps = record { bare = b; parameters = ps }
 
 parameters_built : (ps front : RawParameters) (b : BareValue) (s last : ItemBuilder)
-    → item_state s ≡ item_parameters (with_bare b (collapse front)) → RunsTo Steps s (parameters_events ps) last
+    → item_state s ≡ item_parameters (with_bare b (collapse front)) → FoldsTo Steps s (parameters_events ps) last
     → item_state last ≡ ended (item (with_bare b (collapse (front ++ ps))))
 parameters_built [] front b s last here run =
     ap item_state (sym run.2) ∙ run.1.0 ∙ ap (λ (p : MemberState). member_step p parameters_end) here
@@ -61,7 +62,7 @@ parameters_built (p ∷ ps) front b s last here run =
     parameters_built ps (front ++ p ∷ []) b run.0 last next run.2
     ∙ ap (λ (qs : RawParameters). ended (item (with_bare b (collapse qs)))) (append_assoc front (p ∷ []) ps)
 
-item_built : (raw : RawItem) (s last : ItemBuilder) → item_state s ≡ item_head → RunsTo Steps s (item_events raw) last
+item_built : (raw : RawItem) (s last : ItemBuilder) → item_state s ≡ item_head → FoldsTo Steps s (item_events raw) last
     → item_state last ≡ ended (item (ordered_item raw))
 unfolding collapse
 item_built raw s last here run =
@@ -74,24 +75,29 @@ item_at_end i j e = cc
 
 -- what was built is the ordered item of the only tree
 pub built : (version : Version) (t : List ℕ) (from : ItemBuilder) (item : Item) → item_state from ≡ item_head
-    → IsAnswerOf Steps Ends version item_field t from item → IsParsedAs version item_field t (item_tree item)
+    → Answers Steps Ends version item_field t from item → IsParsedAs version item_field t (item_tree item)
 built version t from made here h =
-    let whole = item_built h.raw from h.holds.last here h.holds.taken in
+    let whole = item_built h.raw from h.holds.0 here h.holds.1 in
     record {
       raw = h.raw;
       accepted = h.accepted;
       only = h.only;
-      holds = item_at_end (item_tree made) (ordered_item h.raw) (sym h.holds.answered.0 ∙ whole);
+      holds = item_at_end (item_tree made) (ordered_item h.raw) (sym h.holds.2.0 ∙ whole);
     }
 
 -- the builder's error is want of memory: no event fails otherwise, and after all events of an item there is one
-pub built_fails : (from : ItemBuilder) (fault : ItemFault) → item_state from ≡ item_head
-    → IsEarlyVisitorError Steps Fails EndFails item_field from fault → fault ≡ faults.OutOfMemory
-built_fails from fault here (inl h) = h.5.0
-built_fails from fault here (inr h) = absurd (h.5.1 (ordered_item h.1) (item_built h.1 from h.2 here h.4))
+pub built_fails : (version : Version) (t : List ℕ) (from : ItemBuilder) (fault : ItemFault) → item_state from ≡ item_head
+    → HasVisitorError Steps Fails EndFails version item_field t from (Visitor fault) → fault ≡ faults.OutOfMemory
+built_fails version t from fault here h =
+    let some = item_failed Steps Fails EndFails version t from fault h in
+    on some.0 some.2
+  where
+    on : (raw : RawItem) → FailsIn Steps Fails EndFails from (item_events raw) ⊤ fault → fault ≡ faults.OutOfMemory
+    on raw (inl h) = h.6.0
+    on raw (inr h) = absurd (h.3.1 (ordered_item raw) (item_built raw from h.1 here h.2))
 
 -- what was built is under the builder's seed
 pub item_seeded : (version : Version) (t : List ℕ) (from : ItemBuilder) (item : Item) (seed : HashSeed)
-    → IsItemUnder seed from → IsAnswerOf Steps Ends version item_field t from item → ItemHasSeed seed item
+    → IsItemUnder seed from → Answers Steps Ends version item_field t from item → ItemHasSeed seed item
 item_seeded version t from made seed start h = answer_seeded IsItemUnder Steps (λ s e t k. k.1) Ends ItemHasSeed
     (λ s out k. k.1) version item_field t from made seed start h

@@ -12,7 +12,7 @@ use Rattle.sfv_spec.specs.Grammar.{IsFieldText}
 use Rattle.sfv_spec.specs.Events.{TreeEvent, member_events, events}
 use Rattle.sfv_spec.specs.Ordered.{ordered, ordered_member}
 use Rattle.sfv_spec.specs.Statements.{IsParsedAs}
-use Rattle.sfv_spec.specs.Visiting.{RunsTo}
+use Rattle.std.specs.List.{FoldsTo}
 use Rattle.sfv_spec.proofs.Runs.{runs_fold}
 use Rattle.sfv_tree.specs.Trees.{list_tree}
 use Rattle.sfv_visitor.specs.Builders.{MemberState, begun, item_head, item_parameters, inner_items, inner_head}
@@ -20,7 +20,7 @@ use Rattle.sfv_visitor.specs.Builders.{inner_parameters, list_parameters, ended,
 use Rattle.sfv_visitor.specs.Builders.{settle, list_step, complete, list_state}
 use Rattle.sfv_tree.specs.declared.parsed.ListEntry.{ListEntry}
 use Rattle.sfv_visitor.specs.declared.visitor.list_builder.ListBuilder.{ListBuilder}
-use Rattle.sfv.specs.Parsers.{IsAnswerOf}
+use Rattle.sfv.proofs.Relations.{Answers}
 use Rattle.sfv_visitor.specs.Builders.{IsListUnder, StaysUnder}
 use Rattle.sfv_tree.specs.declared.hash_seed.HashSeed.{HashSeed}
 use Rattle.sfv_tree.specs.Seeds.{ListHasSeed}
@@ -65,7 +65,7 @@ members_built ms (m ∷ raw) =
 
 -- after all events the members stand last, each of them ordered
 pub list_built : (ms raw : List RawMember) (s last : ListBuilder) → list_state s ≡ between ms
-    → RunsTo Steps s (events list_field raw) last → list_state last ≡ between (ms ++ ordered list_field raw)
+    → FoldsTo Steps s (events list_field raw) last → list_state last ≡ between (ms ++ ordered list_field raw)
 list_built ms raw s last here run =
     runs_fold list_state list_step (events list_field raw) s last
     (runs_weaker Steps Places (λ s e t k. k.0) (events list_field raw) s last run)
@@ -75,18 +75,18 @@ list_built ms raw s last here run =
 -- what was built after the members of earlier lines is those, and then the ordered members of the only tree
 pub built_list_after : (version : Version) (t : List ℕ) (held : List RawMember) (from : ListBuilder)
     (list : Vec ListEntry Global) → list_state from ≡ between held
-    → IsAnswerOf Steps Ends version list_field t from list
+    → Answers Steps Ends version list_field t from list
     → (raw : List RawMember) × IsFieldText version list_field raw t
     × ((other : List RawMember) → IsFieldText version list_field other t → other ≡ raw)
     × (list_tree list.items ≡ held ++ ordered list_field raw)
 built_list_after version t held from list here h =
-    let whole : list_state h.holds.last ≡ between (held ++ ordered list_field h.raw) =
-    list_built held h.raw from h.holds.last here h.holds.taken in
-    (h.raw, h.accepted, h.only, h.holds.answered.0 ∙ ap complete whole)
+    let whole : list_state h.holds.0 ≡ between (held ++ ordered list_field h.raw) =
+    list_built held h.raw from h.holds.0 here h.holds.1 in
+    (h.raw, h.accepted, h.only, h.holds.2.0 ∙ ap complete whole)
 
 -- what was built is the ordered list of the only tree
 pub built_list : (version : Version) (t : List ℕ) (from : ListBuilder) (list : Vec ListEntry Global)
-    → list_state from ≡ between [] → IsAnswerOf Steps Ends version list_field t from list
+    → list_state from ≡ between [] → Answers Steps Ends version list_field t from list
     → IsParsedAs version list_field t (list_tree list.items)
 built_list version t from list here h =
     let whole = built_list_after version t [] from list here h in
@@ -94,7 +94,7 @@ built_list version t from list here h =
 
 -- what was built is under the builder's seed
 pub list_seeded : (version : Version) (t : List ℕ) (from : ListBuilder) (list : Vec ListEntry Global) (seed : HashSeed)
-    → IsListUnder seed from → IsAnswerOf Steps Ends version list_field t from list → ListHasSeed seed list.items
+    → IsListUnder seed from → Answers Steps Ends version list_field t from list → ListHasSeed seed list.items
 list_seeded version t from list seed start h = answer_seeded IsListUnder Steps (λ s e t k. k.1) Ends
     (λ seed (list : Vec ListEntry Global). ListHasSeed seed list.items) (λ s out k. k.1) version list_field t from list seed
     start h

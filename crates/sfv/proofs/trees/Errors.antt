@@ -3,7 +3,7 @@
 use Rattle.std.proofs.Common.{◌≡◌, ℕ, List, [], ◌∷◌, ◌++◌, Option, Some, None, Ok, Err, map, refl, ap, inl, inr, subst}
 use Rattle.std.proofs.Common.{sym, arith}
 use Rattle.std.specs.Prelude.{⊤, IsTrue, MatchOption, flat_map}
-use Rattle.std.specs.List.{Contains}
+use Rattle.std.specs.List.{FoldsTo, Contains}
 use Rattle.std.proofs.lemmas.List.Elements.{Contains-append_left, Contains-append_right, Contains-append_cases}
 use Rattle.std.proofs.lemmas.List.Elements.{Contains-push, Contains-push_cases, Contains-get_or}
 use Rattle.std.specs.declared.alloc.Global.{Global}
@@ -14,7 +14,6 @@ use Rattle.sfv_spec.specs.Values.{RawParameters, RawItem, RawMember, item, inner
 use Rattle.sfv_spec.specs.Events.{TreeEvent, keyed_entry, begins_item, begins_inner_list, bare_item, parameter}
 use Rattle.sfv_spec.specs.Events.{parameters_end, inner_list_end, parameters_events, item_events, inner_item_events}
 use Rattle.sfv_spec.specs.Events.{member_events, keyed_events}
-use Rattle.sfv_spec.specs.Visiting.{RunsTo}
 use Rattle.sfv_base.specs.declared.error.Error.{Error}
 use Rattle.sfv_base.specs.Errors.{index_of}
 use Rattle.sfv_base.specs.declared.error.ParseError.{ParseError}
@@ -38,14 +37,14 @@ abbrev pub NoMemory : Unit {0} → TreeEvent → OutOfMemory → Type 0
 NoMemory s e fault = TakesMemory e
 
 -- every run of events is taken
-pub any_run : (es : List TreeEvent) → RunsTo Any tt es tt
+pub any_run : (es : List TreeEvent) → FoldsTo Any tt es tt
 any_run [] = refl
 any_run (e ∷ es) = (tt, tt, any_run es)
 
 took_any : {A : Type 0} (parts : A → List TreeEvent) (e : Error) (answer : Answer A) → TookAll Any parts e answer tt tt
 took_any {A} parts e answer = on (index_of e)
   where
-    on : (o : Option ℕ) → MatchOption o ⊤ (λ index. RunsTo Any tt (visited parts answer) tt)
+    on : (o : Option ℕ) → MatchOption o ⊤ (λ index. FoldsTo Any tt (visited parts answer) tt)
     on None = tt
     on (Some i) = any_run (visited parts answer)
 

@@ -1,7 +1,7 @@
 -- What is visited of a whole field.
 use Rattle.std.proofs.Common.{◌≡◌, ℕ, ◌≤◌, List, [], ◌∷◌, ◌++◌, length, take, drop, Option, Some, None, Result, Ok, Err}
 use Rattle.std.proofs.Common.{refl, sym, ap, subst, ◌∙◌, append_assoc, inl, inr}
-use Rattle.std.proofs.lemmas.List.{append_cancel_right, take-append-drop}
+use Rattle.std.proofs.lemmas.List.{append_cancel_right, append-nil, take-append-drop}
 use Rattle.std.specs.Prelude.{⊤, codes, Bool, true, false, MatchOption, IfOk, IfErr, flat_map, ◌⊎◌}
 use Rattle.std.specs.declared.alloc.Global.{Global}
 use Rattle.sfv_spec.proofs.Marks.{is_space}
@@ -17,14 +17,12 @@ use Rattle.sfv_spec.specs.declared.error_kind.ErrorKind.TheVariants.{TrailingCha
 use Rattle.sfv_spec.specs.Grammar.{IsFieldText, IsAccepted}
 use Rattle.sfv_spec.specs.Reach.{IsReach}
 use Rattle.sfv_spec.specs.Events.{TreeEvent, events, item_events}
-use Rattle.sfv_spec.specs.Visiting.{RunsTo, IsVisited, IsVisitorError, IsEarlyVisitorError, BeginsEventsAfter}
-use Rattle.sfv_spec.specs.Visiting.{IsVisitorErrorFrom}
+use Rattle.std.specs.List.{FoldsTo}
 use Rattle.sfv_spec.proofs.Valid.{accepted_is_value_lem}
 use Rattle.sfv_spec.proofs.Structure.{one_field_lem}
 use Rattle.sfv_spec.proofs.Versions.{one_reach_lem}
-use Rattle.sfv_spec.proofs.Visits.{fails_for_memory}
 use Rattle.sfv_base.specs.declared.error.Error.{Error}
-use Rattle.sfv_base.specs.Errors.{kind_of, index_of, out_of_memory}
+use Rattle.sfv_base.specs.Errors.{error_of, kind_of, index_of, out_of_memory}
 use Rattle.sfv_base.specs.declared.error.ParseError.{ParseError}
 use Rattle.sfv_base.specs.declared.error.ParseError.TheVariants.{Syntax, Visitor}
 use Rattle.sfv_reading.specs.Reader.{Answer, Fault, and_then, bind, give, span, visited, ◌>>=◌}
@@ -37,7 +35,7 @@ use Rattle.sfv_reading.proofs.sound.Combinators.{Somewhere}
 use Rattle.sfv_reading.proofs.sound.Fields.{FieldGoes, Sound-field}
 use Rattle.sfv_reading.proofs.Theorems.{read_is_accepted, fault_is_placed}
 use Rattle.sfv_reading.proofs.Trailing.{read_before}
-use Rattle.sfv_reading.proofs.visits.Fields.{visited_begins, failed_begins}
+use Rattle.sfv_reading.proofs.visits.Fields.{visited_begins}
 use Rattle.sfv_reading.proofs.visits.Reached.{visited_reach}
 use Rattle.sfv_reading.proofs.visits.Before.{visited_before}
 use Rattle.sfv.specs.declared.parser.Parser.{Parser}
@@ -45,12 +43,13 @@ use Rattle.sfv.specs.declared.parser.cursor.Cursor.{Cursor}
 use Rattle.sfv.specs.parser.Cursor.{kept_input, located, IsErrorOf}
 use Rattle.sfv.specs.parser.Cursor.{located_whole}
 use Rattle.sfv.specs.parser.Members.{MemberValue, member_parts, one_member_at, field_of}
-use Rattle.sfv.specs.parser.Visits.{VisitsAnswer, IsOfVisitor, VisitsField, IsFinishedAt, IsAskedThere}
+use Rattle.sfv_visitor.specs.declared.visitor.Visitor.{Ghosts}
+use Rattle.sfv.specs.parser.Visits.{VisitsAnswer, IsOfVisitor, VisitsField, IsFinishedAt, IsAskedThere, ReturnsAfter}
 use Rattle.sfv.specs.parser.Visits.{TookAllOf, TookAll}
-use Rattle.sfv.specs.Parsers.{IsAnswerOf, IsSyntaxOf, IsVisitorErrorOf, IsParseError, VisitsAccepted, IsFinishedFirst}
-use Rattle.sfv.specs.Parsers.{trailing_error, TookBeforeFault, TakesUpTo}
+use Rattle.sfv.specs.Parsers.{version_of, input_of, IsParseError, FailsOn, IsAnswerOf, IsAnswerBy, IsSyntaxErrorBy}
+use Rattle.sfv.specs.Parsers.{ReceivesUpTo, ReceivesBeforeErrorBy, IsVisitorErrorBy}
 use Rattle.sfv.proofs.visits.Whole.{spaced, field_error, ending_located}
-use Rattle.sfv.proofs.Parsed.{located_fault, parse_error}
+use Rattle.sfv.proofs.Parsed.{located_fault, parse_error, syntax_parts}
 use Rattle.sfv.proofs.reads.Delimiters.{span_total}
 use Rattle.sfv.specs.Memory.{IsRefusal}
 
@@ -125,7 +124,7 @@ no_item : {S O : Type 0} (takes : S → TreeEvent → S → Type 0) (finishes : 
     → span is_space t ≡ Ok (s, r) → IsErrorOf i e (item_at version r)
     → whole_field_at version item_field t ≡ Ok (raw, q)
     → MatchOption (index_of e) ⊤ (λ index. (item_field ≡ item_field) × (out : O)
-    × IsVisited takes finishes from (item_events raw) out)
+    × ReturnsAfter takes finishes from (item_events raw) out)
 no_item {S} {O} takes finishes version t s r q from i e raw skipped error whole = on (index_of e) error
   where
     never : (a : Answer RawItem) (k : ErrorKind) (rest : List ℕ) → item_at version r ≡ a → located a ≡ Err (k, rest) → ⊥
@@ -134,26 +133,26 @@ no_item {S} {O} takes finishes version t s r q from i e raw skipped error whole 
 
     on : (o : Option ℕ) → MatchOption o (IsRefusal i e) (λ index. (located (item_at version r) ≡ Err (kind_of e, drop index i)) × (index ≤ length i))
         → MatchOption o ⊤ (λ index. (item_field ≡ item_field) × (out : O)
-        × IsVisited takes finishes from (item_events raw) out)
+        × ReturnsAfter takes finishes from (item_events raw) out)
     on None h = tt
     on (Some n) h = absurd (never (item_at version r) _ _ refl h.0)
 
 -- what stands after an item is looked at after the answer
 pub finished_at : {S O : Type 0} (takes : S → TreeEvent → S → Type 0) (finishes : S
     → O → Type 0) (version : Version) (t s r q : List ℕ) (item : RawItem) (from to : S) (out : O) (e : Error)
-    → span is_space t ≡ Ok (s, r) → item_at version r ≡ Ok (item, q) → RunsTo takes from (item_events item) to
+    → span is_space t ≡ Ok (s, r) → item_at version r ≡ Ok (item, q) → FoldsTo takes from (item_events item) to
     → finishes to out → IsFinishedAt takes finishes version item_field t from e
 finished_at {S} {O} takes finishes version t s r q item from to out e skipped read run finished raw w whole =
     on (index_of e)
   where
     on : (o : Option ℕ) → MatchOption o ⊤ (λ index. (item_field ≡ item_field) × (out : O)
-        × IsVisited takes finishes from (item_events raw) out)
+        × ReturnsAfter takes finishes from (item_events raw) out)
     on None = tt
     on (Some n) =
         let there = whole_some version t s r q item skipped read in
         let same = same_value (whole_field_at version item_field t) item raw there.0 w there.1 whole in
-        let taken = subst (λ (i : RawItem). RunsTo takes from (item_events i) to) same run in
-        (refl, out, record { last = to; taken = taken; answered = finished })
+        let taken = subst (λ (i : RawItem). FoldsTo takes from (item_events i) to) same run in
+        (refl, out, (to, taken, finished))
 
 -- all events of the item were taken, which are those of the field
 took_item : {S : Type 0} (takes : S → TreeEvent → S → Type 0) (version : Version) (t s r : List ℕ) (from to : S) (e : Error)
@@ -161,24 +160,24 @@ took_item : {S : Type 0} (takes : S → TreeEvent → S → Type 0) (version : V
     → TookAllOf takes version item_field t from e
 took_item {S} takes version t s r from to e skipped h = on (index_of e) h
   where
-    on : (o : Option ℕ) → MatchOption o ⊤ (λ index. RunsTo takes from (visited item_events (item_at version r)) to)
-        → MatchOption o ⊤ (λ index. (to : S) × RunsTo takes from (visited (events item_field) (whole_field_at version item_field t)) to)
+    on : (o : Option ℕ) → MatchOption o ⊤ (λ index. FoldsTo takes from (visited item_events (item_at version r)) to)
+        → MatchOption o ⊤ (λ index. (to : S) × FoldsTo takes from (visited (events item_field) (whole_field_at version item_field t)) to)
     on None m = tt
     on (Some n) m = (
       to,
-      subst (λ (es : List TreeEvent). RunsTo takes from es to) (sym (whole_visited version t s r skipped)) m,
+      subst (λ (es : List TreeEvent). FoldsTo takes from es to) (sym (whole_visited version t s r skipped)) m,
     )
 
 -- all events of an item that was read
 pub took_whole : {S : Type 0} (takes : S → TreeEvent → S → Type 0) (version : Version) (t s r q : List ℕ) (item : RawItem)
     (from to : S) (e : Error) → span is_space t ≡ Ok (s, r) → item_at version r ≡ Ok (item, q)
-    → RunsTo takes from (item_events item) to → TookAllOf takes version item_field t from e
+    → FoldsTo takes from (item_events item) to → TookAllOf takes version item_field t from e
 took_whole {S} takes version t s r q item from to e skipped read run =
     took_item takes version t s r from to e skipped (on (index_of e))
   where
-    on : (o : Option ℕ) → MatchOption o ⊤ (λ index. RunsTo takes from (visited item_events (item_at version r)) to)
+    on : (o : Option ℕ) → MatchOption o ⊤ (λ index. FoldsTo takes from (visited item_events (item_at version r)) to)
     on None = tt
-    on (Some n) = subst (λ (es : List TreeEvent). RunsTo takes from es to) (sym (ap (visited item_events) read)) run
+    on (Some n) = subst (λ (es : List TreeEvent). FoldsTo takes from es to) (sym (ap (visited item_events) read)) run
 
 -- all events of a field that is at fault
 took_field : {S : Type 0} (takes : S → TreeEvent → S → Type 0) (version : Version) (kind : FieldKind) (t : List ℕ)
@@ -186,8 +185,8 @@ took_field : {S : Type 0} (takes : S → TreeEvent → S → Type 0) (version : 
     → TookAllOf takes version kind t from e
 took_field {S} takes version kind t from to e h = on (index_of e) h
   where
-    on : (o : Option ℕ) → MatchOption o ⊤ (λ index. RunsTo takes from (visited (events kind) (whole_field_at version kind t)) to)
-        → MatchOption o ⊤ (λ index. (to : S) × RunsTo takes from (visited (events kind) (whole_field_at version kind t)) to)
+    on : (o : Option ℕ) → MatchOption o ⊤ (λ index. FoldsTo takes from (visited (events kind) (whole_field_at version kind t)) to)
+        → MatchOption o ⊤ (λ index. (to : S) × FoldsTo takes from (visited (events kind) (whole_field_at version kind t)) to)
     on None m = tt
     on (Some n) m = (to, m)
 
@@ -210,7 +209,7 @@ item_fails takes fails finishes finish_fails version k s r from to after (Visito
 pub finish_failed : {S O E : Type 0} (takes : S → TreeEvent → S → Type 0) (fails : S → TreeEvent
     → E → Type 0) (finishes : S → O → Type 0) (finish_fails : S
     → E → Type 0) (version : Version) (t s r q : List ℕ) (raw : RawItem) (from to : S) (error : ParseError E)
-    → span is_space t ≡ Ok (s, r) → item_at version r ≡ Ok (raw, q) → RunsTo takes from (item_events raw) to
+    → span is_space t ≡ Ok (s, r) → item_at version r ≡ Ok (raw, q) → FoldsTo takes from (item_events raw) to
     → IsOfVisitor (finish_fails to) error
     → VisitsField takes fails finishes finish_fails version item_field t from (Err error)
 finish_failed takes fails finishes finish_fails version t s r q raw from to (Syntax e) skipped k run failed =
@@ -248,7 +247,7 @@ field_fails {S} {O} takes fails finishes finish_fails version kind k from to aft
         → MatchOption o (IsRefusal t e) (λ index. (located (whole_field_at version kind t)
         ≡ Err (kind_of e, drop index t)) × (index ≤ length t))
         → MatchOption o ⊤ (λ index. (kind ≡ item_field) × (out : O)
-        × IsVisited takes finishes from (events kind raw) out)
+        × ReturnsAfter takes finishes from (events kind raw) out)
     never raw q whole None m = tt
     never raw q whole (Some n) m = absurd (no_fault (whole_field_at version kind t) raw q _ _ whole m.0)
 
@@ -257,7 +256,7 @@ pub end_failed : {S O E : Type 0} (takes : S → TreeEvent → S → Type 0) (fa
     → E → Type 0) (finishes : S → O → Type 0) (finish_fails : S
     → E → Type 0) (version : Version) (kind : FieldKind) (t q : List ℕ) (raw : RawField kind) (from to : S)
     (error : ParseError E) → whole_field_at version kind t ≡ Ok (raw, q) → IsAskedThere kind q
-    → RunsTo takes from (events kind raw) to
+    → FoldsTo takes from (events kind raw) to
     → IsOfVisitor (finish_fails to) error → VisitsField takes fails finishes finish_fails version kind t from
     (Err error)
 end_failed takes fails finishes finish_fails version kind t q raw from to (Syntax e) read asked run failed =
@@ -290,14 +289,14 @@ pub members_finish : {S O E : Type 0} (takes : S → TreeEvent → S → Type 0)
     → E → Type 0) (keyed : Bool) (version : Version) (t q : List ℕ) (from to : S) (r : Result O (ParseError E))
     (ms : List (MemberValue keyed))
     → members_at (member_parts keyed) (one_member_at keyed version) t ≡ Ok (ms, q) → q ≡ []
-    → RunsTo takes from (flat_map (member_parts keyed) ms) to → IfOk r (finishes to)
+    → FoldsTo takes from (flat_map (member_parts keyed) ms) to → IfOk r (finishes to)
     → IfErr r (IsOfVisitor (finish_fails to)) → VisitsField takes fails finishes finish_fails version
     (field_of keyed) t from r
 unfolding whole_field_at
 members_finish takes fails finishes finish_fails true version t q from to (Ok out) ms read end run answered failed =
-    (ms, whole_read version dictionary_field t q ms read end, record { last = to; taken = run; answered = answered })
+    (ms, whole_read version dictionary_field t q ms read end, (to, run, answered))
 members_finish takes fails finishes finish_fails false version t q from to (Ok out) ms read end run answered failed =
-    (ms, whole_read version list_field t q ms read end, record { last = to; taken = run; answered = answered })
+    (ms, whole_read version list_field t q ms read end, (to, run, answered))
 members_finish takes fails finishes finish_fails true version t q from to (Err e) ms read end run answered failed =
     end_failed takes fails finishes finish_fails version dictionary_field t q ms from to e read end run failed
 members_finish takes fails finishes finish_fails false version t q from to (Err e) ms read end run answered failed =
@@ -334,11 +333,6 @@ asked_of_item item_field q asked none = refl
 asked_of_item list_field q asked none = absurd (none asked)
 asked_of_item dictionary_field q asked none = absurd (none asked)
 
--- an item's, by what is known or by what follows
-an_item : {kind : FieldKind} {A : Type 0} → (kind ≡ item_field) ⊎ A → (A → kind ≡ item_field) → kind ≡ item_field
-an_item (inl same) h = same
-an_item (inr a) h = h a
-
 -- the fault that more stands after a field
 abbrev after_field : (kind : FieldKind) → RawField kind → List ℕ → Fault
 after_field kind raw rest = record {
@@ -357,19 +351,6 @@ front_is : (t front rest : List ℕ) (n : ℕ) → t ≡ front ++ rest → rest 
 front_is t front rest n e d = append_cancel_right front (take n t) rest (sym e ∙ sym (take-append-drop n t)
     ∙ ap (λ (l : List ℕ). take n t ++ l) (sym d))
 
--- each beginning of events that begin a field's begins them too
-begins_to : (version : Version) (kind : FieldKind) (u : List ℕ) (es before : List TreeEvent) (e : TreeEvent)
-    (after : List TreeEvent) → BeginsEventsAfter version kind u es → es ≡ before ++ e ∷ after
-    → BeginsEventsAfter version kind u (before ++ e ∷ [])
-begins_to version kind u es before e after h i = record {
-  raw = h.raw;
-  more = h.more;
-  accepted = h.accepted;
-  others = after ++ h.others;
-  all = h.all ∙ ap (λ (l : List TreeEvent). l ++ h.others) i ∙ append_assoc before (e ∷ after) h.others
-      ∙ sym (append_assoc before (e ∷ []) (after ++ h.others));
-}
-
 -- where more stands after a field, the field is the text up to the reach
 text_before : (version : Version) (kind : FieldKind) (t q : List ℕ) (raw : RawField kind)
     → whole_field_at version kind t ≡ Ok (raw, q) → ¬ (q ≡ []) → (n : ℕ) → IsReach version kind t n
@@ -386,84 +367,81 @@ text_before version kind t (c ∷ q) raw e more n reach =
     subst (λ (raw : RawField kind). IsFieldText version kind raw (take n t)) same
     (subst (IsFieldText version kind before.raw) (front_is t before.front (c ∷ q) n before.text here) before.means)
 
--- what stands after a whole field was looked at after the answer, and only after an item
-finished_first : {S O : Type 0} (takes : S → TreeEvent → S → Type 0) (finishes : S → O → Type 0) (version : Version)
-    (kind : FieldKind) (t : List ℕ) (from : S) (e : Error) → ((index : ℕ) → e ≡ trailing_error index
-    → (kind ≡ item_field) × (out : O) × IsAnswerOf takes finishes version kind (take index t) from out)
-    → IsFinishedFirst takes finishes version kind t from e
-finished_first takes finishes version item_field t from e h = λ index same. let w = h index same in (w.1, w.2)
-finished_first takes finishes version list_field t from e h = λ index same. let w = (h index same).0 in cc
-finished_first takes finishes version dictionary_field t from e h = λ index same. let w = (h index same).0 in cc
+-- what the parser's call for a whole field returns, in the words of its clauses
+module _ {S O E : Type 0} (v : Ghosts S O E) (p : Parser) (kind : FieldKind) (from : S) where
+  abbrev version : Version
+  version = version_of p
 
-module _ {S O E : Type 0} (takes : S → TreeEvent → S → Type 0) (fails : S → TreeEvent → E → Type 0) (finishes : S
-    → O → Type 0) (finish_fails : S → E → Type 0) (version : Version) (kind : FieldKind) (t : List ℕ) (from : S) where
-  failed_on_accepted : (f : E) → VisitsField takes fails finishes finish_fails version kind t from (Err (Visitor f))
-      → (raw : RawField kind) → IsFieldText version kind raw t
-      → IsVisitorError takes fails finish_fails from (events kind raw) f
+  abbrev t : List ℕ
+  t = input_of p
+
+  abbrev Visits : Result O (ParseError E) → Type 0
+  Visits r = VisitsField v.takes v.fails v.finishes v.finish_fails version kind t from r
+
+  failed_on_accepted : (f : E) → Visits (Err (Visitor f)) → (raw : RawField kind) → IsFieldText version kind raw t
+      → FailsOn v from (events kind raw) ⊤ f
   failed_on_accepted f (inl r) raw h =
       let e : events kind raw ≡ r.before ++ r.e ∷ r.after =
       ap (visited (events kind)) (sym (whole_accepted version kind t raw h)) ∙ r.all in
       inl (r.before, r.e, r.after, r.s, e, r.taken, r.failed)
   failed_on_accepted f (inr x) raw h =
       let same = same_value (whole_field_at version kind t) x.0 raw x.1 [] x.3 (whole_accepted version kind t raw h) in
-      inr (x.2, subst (λ (i : RawField kind). RunsTo takes from (events kind i) x.2) same x.4, x.5)
+      inr (tt, x.2, subst (λ (i : RawField kind). FoldsTo v.takes from (events kind i) x.2) same x.4, x.5)
 
-  failed_early : (f : E) → VisitsField takes fails finishes finish_fails version kind t from (Err (Visitor f))
-      → (kind ≡ item_field) ⊎ ((raw : RawField kind) → IsFieldText version kind raw t → ⊥)
-      → IsEarlyVisitorError takes fails finish_fails kind from f
-  failed_early f (inl r) none =
-      let begins = visited_begins version kind t in
-      inl (
-        r.before,
-        r.e,
-        r.s,
-        failed_begins kind (visited (events kind) (whole_field_at version kind t)) r.before r.e
-            r.after begins r.all,
-        r.taken,
-        r.failed,
+  -- a failure at one of the first events of a field is one on it
+  failed_within : (raw : RawField kind) (es others : List TreeEvent) (may_finish : Type 0) (f : E)
+      → events kind raw ≡ es ++ others → (r : VisitorFails v.takes v.fails (events kind) (whole_field_at version kind t) from f)
+      → es ≡ r.before ++ r.e ∷ r.after → FailsOn v from (events kind raw) may_finish f
+  failed_within raw es others may_finish f all r split = inl (
+    r.before,
+    r.e,
+    r.after ++ others,
+    r.s,
+    all ∙ ap (λ (l : List TreeEvent). l ++ others) split ∙ append_assoc r.before (r.e ∷ r.after) others,
+    r.taken,
+    r.failed,
+  )
+
+  failed_somewhere : (f : E) → Visits (Err (Visitor f)) → ¬ IsAccepted version kind t
+      → (raw : RawField kind) × IsFieldValue kind raw × FailsOn v from (events kind raw) (kind ≡ item_field) f
+  failed_somewhere f (inl r) rejected =
+      let b = visited_begins version kind t in (
+        b.raw,
+        b.is_value,
+        failed_within b.raw (visited (events kind) (whole_field_at version kind t)) b.more (kind ≡ item_field) f b.all r
+            r.all,
       )
-  failed_early f (inr x) none =
+  failed_somewhere f (inr x) rejected =
       let accepted : x.1 ≡ [] → IsFieldText version kind x.0 t =
-      λ end. (read_is_accepted version kind t x.0).0 (whole_read version kind t x.1 x.0 x.3 end) in
-      inr (
-        an_item none (λ n. asked_of_item kind x.1 x.6 (λ end. n x.0 (accepted end))),
+      λ end. (read_is_accepted version kind t x.0).0 (whole_read version kind t x.1 x.0 x.3 end) in (
         x.0,
-        x.2,
         whole_value version kind t x.1 x.0 x.3,
-        x.4,
-        x.5,
+        inr (asked_of_item kind x.1 x.6 (λ end. rejected (x.0, accepted end)), x.2, x.4, x.5),
       )
 
   -- on a rejected text: the events begin those of a field that begins as the text does up to its reach
-  failed_from : (f : E) → VisitsField takes fails finishes finish_fails version kind t from (Err (Visitor f))
-      → ¬ IsAccepted version kind t → (n : ℕ) → IsReach version kind t n
-      → IsVisitorErrorFrom takes fails finish_fails version kind (take n t) from f
+  failed_from : (f : E) → Visits (Err (Visitor f)) → ¬ IsAccepted version kind t → (n : ℕ) → IsReach version kind t n
+      → (raw : RawField kind) × (more : List ℕ) × IsFieldText version kind raw (take n t ++ more)
+      × FailsOn v from (events kind raw) ((kind ≡ item_field) × (more ≡ [])) f
   failed_from f (inl r) rejected n reach =
-      let all = visited_reach version kind t rejected n reach in
-      inl (
-        r.before,
-        r.e,
-        r.s,
-        begins_to version kind (take n t) (visited (events kind) (whole_field_at version kind t)) r.before r.e r.after all
-            r.all,
-        r.taken,
-        r.failed,
+      let b = visited_reach version kind t rejected n reach in (
+        b.raw,
+        b.more,
+        b.accepted,
+        failed_within b.raw (visited (events kind) (whole_field_at version kind t)) b.others
+            ((kind ≡ item_field) × (b.more ≡ [])) f b.all r r.all,
       )
   failed_from f (inr x) rejected n reach =
       let accepted : x.1 ≡ [] → IsFieldText version kind x.0 t =
-      λ end. (read_is_accepted version kind t x.0).0 (whole_read version kind t x.1 x.0 x.3 end) in
-      inr (
-        asked_of_item kind x.1 x.6 (λ end. rejected (x.0, accepted end)),
+      λ end. (read_is_accepted version kind t x.0).0 (whole_read version kind t x.1 x.0 x.3 end) in (
         x.0,
-        x.2,
-        text_before version kind t x.1 x.0 x.3 (λ end. rejected (x.0, accepted end)) n reach,
-        x.4,
-        x.5,
+        [],
+        subst (IsFieldText version kind x.0) (sym (append-nil (take n t)))
+            (text_before version kind t x.1 x.0 x.3 (λ end. rejected (x.0, accepted end)) n reach),
+        inr ((asked_of_item kind x.1 x.6 (λ end. rejected (x.0, accepted end)), refl), x.2, x.4, x.5),
       )
 
-  pub visits_answer : (r : Result O (ParseError E))
-      → VisitsField takes fails finishes finish_fails version kind t from r
-      → IfOk r (IsAnswerOf takes finishes version kind t from)
+  pub visits_answer : (r : Result O (ParseError E)) → Visits r → IfOk r (IsAnswerBy v p kind from)
   visits_answer (Ok out) h =
       let accepted = (read_is_accepted version kind t h.0).0 h.1 in
       record {
@@ -474,16 +452,14 @@ module _ {S O E : Type 0} (takes : S → TreeEvent → S → Type 0) (fails : S 
       }
   visits_answer (Err e) h = tt
 
-  in_front : (index : ℕ)
-      → VisitsField takes fails finishes finish_fails version kind t from (Err (Syntax (trailing_error index)))
-      → (kind ≡ item_field) × (out : O) × IsAnswerOf takes finishes version kind (take index t) from out
+  in_front : (index : ℕ) → Visits (Err (Syntax (error_of TrailingCharactersAfterParsedValue (Some index))))
+      → (out : O) × IsAnswerOf v from version kind (take index t) out
   in_front index h =
       let f = located_fault (read_field version kind t) _ _ h.0.0 in
       let before = read_before version kind t f.0 f.1 (trailing_kind f.0.kind f.2) in
       let accepted : IsFieldText version kind before.raw (take index t) = subst (IsFieldText version kind before.raw)
       (front_is t before.front f.0.rest index before.text f.3) before.means in
       let answered = h.1 before.raw f.0.rest before.read in (
-        answered.0,
         answered.1,
         record {
           raw = before.raw;
@@ -493,27 +469,22 @@ module _ {S O E : Type 0} (takes : S → TreeEvent → S → Type 0) (fails : S 
         },
       )
 
-  pub visits_syntax : (r : Result O (ParseError E))
-      → VisitsField takes fails finishes finish_fails version kind t from r
-      → IfErr r (IsSyntaxOf takes finishes version kind t from)
+  pub visits_syntax : (r : Result O (ParseError E)) → Visits r → IfErr r (IsSyntaxErrorBy v p kind from)
   visits_syntax (Ok out) h = tt
   visits_syntax (Err (Syntax e)) h = (
     parse_error version kind t e h.0,
-    finished_first takes finishes version kind t from e (λ index same. in_front index (subst
-        (λ (e : Error). VisitsField takes fails finishes finish_fails version kind t from (Err (Syntax e))) same h)),
+    λ index same. in_front index (subst (λ (e : Error). Visits (Err (Syntax e))) same h),
   )
   visits_syntax (Err (Visitor f)) h = tt
 
-  pub visits_taken : (r : Result O (ParseError E))
-      → VisitsField takes fails finishes finish_fails version kind t from r
-      → IfErr r (TookBeforeFault takes version kind t from)
-  visits_taken (Ok out) h = tt
-  visits_taken (Err (Visitor f)) h = tt
-  visits_taken (Err (Syntax e)) h = on (parse_error version kind t e h.0)
+  pub visits_before : (r : Result O (ParseError E)) → Visits r → IfErr r (ReceivesBeforeErrorBy v p kind from)
+  visits_before (Ok out) h = tt
+  visits_before (Err (Visitor f)) h = tt
+  visits_before (Err (Syntax e)) h = on (parse_error version kind t e h.0)
     where
       at_index : {n : ℕ} → (o : Option ℕ) → o ≡ Some n
-          → MatchOption o ⊤ (λ index. (to : S) × RunsTo takes from (visited (events kind) (whole_field_at version kind t)) to)
-          → (to : S) × RunsTo takes from (visited (events kind) (whole_field_at version kind t)) to
+          → MatchOption o ⊤ (λ index. (to : S) × FoldsTo v.takes from (visited (events kind) (whole_field_at version kind t)) to)
+          → (to : S) × FoldsTo v.takes from (visited (events kind) (whole_field_at version kind t)) to
       at_index None same m = absurd cc
       at_index (Some n) same m = m
 
@@ -525,37 +496,21 @@ module _ {S O E : Type 0} (takes : S → TreeEvent → S → Type 0) (fails : S 
           let b = visited_before version kind raw front rest accepted in
           (b.0, ap (λ (l : List ℕ). visited (events kind) (whole_field_at version kind l)) all ∙ b.1)
 
-      on : IsParseError version kind t e → (e ≡ out_of_memory) ⊎ TakesUpTo takes version kind t from
+      on : IsParseError version kind t e → (e ≡ out_of_memory) ⊎ ReceivesUpTo v p kind from
       on (inl same) = inl same
-      on (inr s) =
-          let took = at_index (index_of e) (ap index_of s.error) h.2 in
+      on (inr h') =
+          let s = syntax_parts version kind t e h' in
+          let took = at_index (index_of e) (ap index_of s.2) h.2 in
           inr (record {
             es = visited (events kind) (whole_field_at version kind t);
             to = took.0;
             taken = took.1;
-            begins = λ n reach. visited_reach version kind t s.rejected n reach;
+            begins = λ n reach. visited_reach version kind t s.3 n reach;
             whole = before;
           })
 
-  pub visits_failure : (r : Result O (ParseError E))
-      → VisitsField takes fails finishes finish_fails version kind t from r
-      → IfErr r (IsVisitorErrorOf takes fails finish_fails version kind t from)
+  pub visits_failure : (r : Result O (ParseError E)) → Visits r → IfErr r (IsVisitorErrorBy v p kind from)
   visits_failure (Ok out) h = tt
   visits_failure (Err (Syntax e)) h = tt
-  visits_failure (Err (Visitor f)) h = (failed_on_accepted f h, failed_early f h, failed_from f h)
-
-  pub visits_accepted : (is_memory : E → Type 0) (r : Result O (ParseError E))
-      → VisitsField takes fails finishes finish_fails version kind t from r
-      → VisitsAccepted takes fails finishes finish_fails is_memory version kind t from r
-  visits_accepted is_memory (Ok out) h never raw accepted =
-      let read = (read_is_accepted version kind t h.0).0 h.1 in
-      subst (λ (i : RawField kind). IsVisited takes finishes from (events kind i) out)
-      (one_field_lem version kind t h.0 raw read accepted) h.2
-  visits_accepted is_memory (Err (Syntax e)) h never raw accepted = on (parse_error version kind t e h.0)
-    where
-      on : IsParseError version kind t e → e ≡ out_of_memory
-      on (inl same) = same
-      on (inr s) = absurd (s.rejected (raw, accepted))
-  visits_accepted is_memory (Err (Visitor f)) h never raw accepted =
-      fails_for_memory takes fails finish_fails is_memory kind from raw f never
-      (accepted_is_value_lem version kind t raw accepted).0 (failed_on_accepted f h raw accepted)
+  visits_failure (Err (Visitor f)) h =
+      (failed_on_accepted f h, λ rejected. (failed_somewhere f h rejected, failed_from f h rejected))

@@ -11,7 +11,7 @@ use Rattle.sfv_spec.specs.declared.version.Version.{Version}
 use Rattle.sfv_spec.specs.Texts.{RunOf}
 use Rattle.sfv_spec.specs.Grammar.{IsFieldText, IsBareText, BeginsWithLongest, BeginsWithComplete}
 use Rattle.sfv_spec.specs.Events.{TreeEvent, bare_item, parameters_events, item_events, events}
-use Rattle.sfv_spec.specs.Visiting.{RunsTo}
+use Rattle.std.specs.List.{FoldsTo}
 use Rattle.sfv_base.specs.declared.error.Error.{Error}
 use Rattle.sfv_base.specs.Errors.{index_of}
 use Rattle.sfv_base.specs.declared.error.ParseError.{ParseError}
@@ -26,9 +26,11 @@ use Rattle.sfv_reading.proofs.sound.Combinators.{Somewhere, IsSpan, Steady-span}
 use Rattle.sfv_reading.proofs.Exact.{bare_is_exact}
 use Rattle.sfv_reading.proofs.First.{first_bare, longest_read}
 use Rattle.sfv_reading.proofs.visits.Fields.{visited_begins}
+use Rattle.sfv_visitor.specs.declared.visitor.Visitor.{Ghosts}
+use Rattle.sfv.specs.declared.parser.Parser.{Parser}
 use Rattle.sfv.specs.parser.Visits.{IsOfVisitor, VisitsField, TookBare, TookFirst}
-use Rattle.sfv.specs.Parsers.{IsParseError, VisitsFirst}
-use Rattle.sfv.proofs.Parsed.{parse_error}
+use Rattle.sfv.specs.Parsers.{version_of, input_of, IsParseError, ReceivesFirstBy}
+use Rattle.sfv.proofs.Parsed.{parse_error, syntax_parts}
 use Rattle.sfv.proofs.visits.Fields.{whole_visited, whole_accepted}
 
 -- ---- what was taken before an error
@@ -76,7 +78,7 @@ same_head a b xs ys h = cc
 -- all parts of the item were taken, and then comes an error of the text
 pub item_taken : {S E : Type 0} (takes : S → TreeEvent → S → Type 0) (fails : S → TreeEvent → E → Type 0)
     (version : Version) (t s r q : List ℕ) (from to : S) (item : RawItem) (e : Error) → span is_space t ≡ Ok (s, r)
-    → item_at version r ≡ Ok (item, q) → RunsTo takes from (item_events item) to
+    → item_at version r ≡ Ok (item, q) → FoldsTo takes from (item_events item) to
     → TookFirst {E = E} takes version t from (Syntax e)
 item_taken {S} {E} takes fails version t s r q from to item e skipped read run =
     after_spaces {E = E} takes version version t s r from (Syntax e) refl skipped (λ index value w here k.
@@ -154,8 +156,16 @@ first_of : (before : List TreeEvent) (e : TreeEvent) (after : List TreeEvent)
 first_of [] e after = (e, after, refl)
 first_of (b ∷ before) e after = (b, before ++ e ∷ after, refl)
 
-module _ {S O E : Type 0} (takes : S → TreeEvent → S → Type 0) (fails : S → TreeEvent → E → Type 0) (finishes : S
-    → O → Type 0) (finish_fails : S → E → Type 0) (version : Version) (t : List ℕ) (from : S) where
+module _ {S O E : Type 0} (v : Ghosts S O E) (p : Parser) (from : S) where
+  abbrev version : Version
+  version = version_of p
+
+  abbrev t : List ℕ
+  t = input_of p
+
+  abbrev Visits : Result O (ParseError E) → Type 0
+  Visits r = VisitsField v.takes v.fails v.finishes v.finish_fails version item_field t from r
+
   -- the bare item of an item whose events begin with those that were visited
   its_bare : (raw : RawItem) (e : TreeEvent) (es more : List TreeEvent)
       → visited (events item_field) (whole_field_at version item_field t) ≡ e ∷ es → item_events raw ≡ (e ∷ es) ++ more
@@ -171,8 +181,7 @@ module _ {S O E : Type 0} (takes : S → TreeEvent → S → Type 0) (fails : S 
             (ap (λ (e : TreeEvent). e ∷ es) (sym first.1) ∙ sym begins ∙ begun.1)),
       )
 
-  failed_first : (f : E) → VisitsField takes fails finishes finish_fails version item_field t from (Err (Visitor f))
-      → VisitsFirst takes fails finish_fails version t from (Visitor f)
+  failed_first : (f : E) → Visits (Err (Visitor f)) → ReceivesFirstBy v p from (Visitor f)
   failed_first f (inl r) =
       let some = visited_begins version item_field t in
       let all : item_events some.raw ≡ (r.before ++ r.e ∷ r.after) ++ some.more =
@@ -197,19 +206,18 @@ module _ {S O E : Type 0} (takes : S → TreeEvent → S → Type 0) (fails : S 
       let events_of = parameters_events x.0.parameters in
       let bare = its_bare x.0 (bare_item x.0.bare) events_of [] (ap (visited (events item_field)) x.3)
       (sym (append-nil (bare_item x.0.bare ∷ events_of))) in
-      (x.0, bare.0, bare.1, inr (x.2, x.4, x.5))
+      (x.0, bare.0, bare.1, inr (tt, x.2, x.4, x.5))
 
-  pub visits_first : (r : Result O (ParseError E))
-      → VisitsField takes fails finishes finish_fails version item_field t from r
-      → IfErr r (TookFirst takes version t from)
-      → IfErr r (VisitsFirst takes fails finish_fails version t from)
+  pub visits_first : (r : Result O (ParseError E)) → Visits r → IfErr r (TookFirst v.takes version t from)
+      → IfErr r (ReceivesFirstBy v p from)
   visits_first (Ok out) h k = tt
   visits_first (Err (Syntax e)) h k = on (parse_error version item_field t e h.0)
     where
-      on : IsParseError version item_field t e → VisitsFirst takes fails finish_fails version t from (Syntax e)
+      on : IsParseError version item_field t e → ReceivesFirstBy v p from (Syntax e)
       on (inl same) = inl same
-      on (inr s) = inr (λ value begins.
+      on (inr h) = inr (λ value begins.
+          let s = syntax_parts version item_field t e h in
           let read = first_bare version value t begins in
           let f = begins.first in
-          k f.spaces (f.front ++ f.rest) read.0 s.index value f.rest (ap index_of s.error) read.1)
+          k f.spaces (f.front ++ f.rest) read.0 s.1 value f.rest (ap index_of s.2) read.1)
   visits_first (Err (Visitor f)) h k = failed_first f h

@@ -8,7 +8,7 @@ use Rattle.sfv_spec.specs.Values.{RawParameters, RawItem, RawMember, item, inner
 use Rattle.sfv_spec.specs.declared.version.Version.{Version}
 use Rattle.sfv_spec.specs.Events.{TreeEvent, begins_item, begins_inner_list, inner_list_end, parameters_events}
 use Rattle.sfv_spec.specs.Events.{item_events, member_events, inner_item_events}
-use Rattle.sfv_spec.specs.Visiting.{RunsTo}
+use Rattle.std.specs.List.{FoldsTo}
 use Rattle.sfv_base.specs.declared.error.ParseError.{ParseError}
 use Rattle.sfv_base.specs.declared.error.ParseError.TheVariants.{Syntax, Visitor}
 use Rattle.sfv_reading.specs.Reader.{Answer, Reader, byte, led_answer, led, give, and_then, bind, ◌>>=◌}
@@ -75,7 +75,7 @@ module _ {S E : Type 0} (takes : S → TreeEvent → S → Type 0) (fails : S �
   -- the visitor fails at their end
   pub end_fails : (t q : List ℕ) (is : List RawItem) (from middle to : S) (k : Parser
       × Global) (after : Cursor) (error : ParseError E) → inner_items_at version t ≡ Ok (is, q)
-      → RunsTo takes from (flat_map inner_item_events is) middle → IsOfVisitor (fails middle inner_list_end) error
+      → FoldsTo takes from (flat_map inner_item_events is) middle → IsOfVisitor (fails middle inner_list_end) error
       → VisitsAnswer takes fails after_begin k after from to (Err error) (inner_at version t)
   end_fails t q is from middle to k after error read run h =
       of_visitor takes fails after_begin k after from to (fails middle inner_list_end) error (inner_at version t) h
@@ -85,7 +85,7 @@ module _ {S E : Type 0} (takes : S → TreeEvent → S → Type 0) (fails : S �
   -- the items, their end and the parameters
   pub inner_list_visits : (t q : List ℕ) (is : List RawItem) (from middle end to : S) (k : Parser
       × Global) (after : Cursor) (r : Result (Unit {0}) (ParseError E)) → inner_items_at version t ≡ Ok (is, q)
-      → RunsTo takes from (flat_map inner_item_events is) middle → takes middle inner_list_end end
+      → FoldsTo takes from (flat_map inner_item_events is) middle → takes middle inner_list_end end
       → VisitsAnswer takes fails parameters_events k after end to r (parameters_at version q)
       → VisitsAnswer takes fails after_begin k after from to r (inner_at version t)
   unfolding inner_at list_parameters

@@ -9,7 +9,7 @@ use Rattle.sfv_spec.specs.Values.{RawParameters}
 use Rattle.sfv_spec.specs.declared.field_kind.FieldKind.TheVariants.{Item as item_field}
 use Rattle.sfv_spec.specs.declared.version.Version.{Version}
 use Rattle.sfv_spec.specs.Events.{TreeEvent, parameters_events}
-use Rattle.sfv_spec.specs.Visiting.{RunsTo}
+use Rattle.std.specs.List.{FoldsTo}
 use Rattle.sfv_base.specs.declared.error.ParseError.{ParseError}
 use Rattle.sfv_bare.specs.BareItems.{input_value}
 use Rattle.sfv_bare.specs.declared.bare.GenericBareItem.TheVariants as bare
@@ -28,7 +28,8 @@ use Rattle.sfv.specs.declared.parser.cursor.Cursor.{Cursor}
 use Rattle.sfv.specs.parser.Cursor.{kept, version, rest}
 use Rattle.sfv.specs.parser.Quoted.{IsBorrowedUnlessEscaped}
 use Rattle.sfv.specs.parser.Visits.{Visits, TakesAsRead}
-use Rattle.sfv.specs.Parsers.{IsBorrowedIfPlain, AnswersAsRead}
+use Rattle.sfv.specs.Parsers.{IsBorrowedIfPlain}
+use Rattle.sfv.proofs.Relations.{HasBorrowed}
 use Rattle.sfv.proofs.reads.Steps.{item_some}
 use Rattle.sfv.proofs.visits.Parts.{kept_visits}
 use Rattle.sfv.proofs.visits.First.{same_rest}
@@ -77,18 +78,17 @@ pub answered_as_read : {S O : Type 0} (takes : S → TreeEvent → S → Type 0)
     → bare_at version r ≡ Ok (input_value item, q)
     → ((front : List ℕ) → r ≡ front ++ q → IsBorrowedIfPlain item front)
     → read_field version item_field t ≡ Ok (item_of (input_value item) ps)
-    → takes_read from (event.BareItem item) middle → RunsTo takes middle (parameters_events ps) last
-    → finishes last out → AnswersAsRead takes takes_read finishes version t from out
+    → takes_read from (event.BareItem item) middle → FoldsTo takes middle (parameters_events ps) last
+    → finishes last out → HasBorrowed takes takes_read finishes version t from out
 answered_as_read takes takes_read finishes version t s r q item ps from middle last out skipped here lent read taken ran answered =
     let spaces = (Steady-span is_space).steady t in
     let same : spaces.2 ≡ r = same_rest (span is_space t) spaces.1 s spaces.2 r spaces.3 skipped in
     let parts : t ≡ spaces.0 ++ r = subst (λ (l : List ℕ). t ≡ spaces.0 ++ l) same spaces.4 in
-    let exact = bare_is_exact.0 version r (input_value item) q here in
-    record {
-      read = item;
-      parameters = ps;
-      accepted = (read_is_accepted version item_field t (item_of (input_value item) ps)).0 read;
-      stands = record {
+    let exact = bare_is_exact.0 version r (input_value item) q here in (
+      item,
+      ps,
+      (read_is_accepted version item_field t (item_of (input_value item) ps)).0 read,
+      record {
         first = record {
           spaces = spaces.0;
           front = exact.front;
@@ -98,11 +98,9 @@ answered_as_read takes takes_read finishes version t s r q item ps from middle l
           means = exact.means;
         };
         longest = longest_read version r (input_value item) q exact;
-      };
-      lent = lent exact.front exact.text;
-      middle = middle;
-      taken = taken;
-      last = last;
-      ran = ran;
-      answered = answered;
-    }
+      },
+      lent exact.front exact.text,
+      middle,
+      taken,
+      (last, ran, answered),
+    )

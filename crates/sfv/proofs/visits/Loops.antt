@@ -9,7 +9,7 @@ use Rattle.sfv_spec.specs.Values.{RawItem}
 use Rattle.sfv_spec.specs.declared.version.Version.{Version}
 use Rattle.sfv_spec.specs.Grammar.{IsMemberText, IsDictionaryMemberText}
 use Rattle.sfv_spec.specs.Events.{TreeEvent, inner_item_events, entry_events, keyed_events}
-use Rattle.sfv_spec.specs.Visiting.{RunsTo}
+use Rattle.std.specs.List.{FoldsTo}
 use Rattle.sfv_base.specs.declared.error.Error.{Error}
 use Rattle.sfv_reading.specs.Reader.{Answer, Reader, Fault, after_events, visited, and_then, bind, give, led, many, ◌>>=◌}
 use Rattle.sfv_reading.specs.Members.{inner_item_at, next_item_at, entry_at, keyed_at}
@@ -65,7 +65,7 @@ pub record SoFar {A S : Type 0} (takes : S → TreeEvent
     → S → Type 0) (l : Loop A) (version : Version) (total : Answer (List A)) (now : List ℕ) (from to : S) : Type 0 where
   pub front : List A
   pub so_far : in_front l.parts front (many l.parts (l.next version) now) ≡ total
-  pub taken : RunsTo takes from (all_events l.parts front) to
+  pub taken : FoldsTo takes from (all_events l.parts front) to
 
 module _ {A : Type 0} (l : Loop A) (version : Version) where
   pub next_none : (t r : List ℕ) → l.delimiter t ≡ Ok (false, r) → (l.next version) t ≡ Ok (None, r)
@@ -93,7 +93,7 @@ module _ {A : Type 0} (l : Loop A) (version : Version) where
 
   module _ {S E : Type 0} (takes : S → TreeEvent → S → Type 0) (fails : S → TreeEvent → E → Type 0) where
     -- after the first
-    begun_at : (t q : List ℕ) (v : A) (from to : S) → (l.one version) t ≡ Ok (v, q) → RunsTo takes from (l.parts v) to
+    begun_at : (t q : List ℕ) (v : A) (from to : S) → (l.one version) t ≡ Ok (v, q) → FoldsTo takes from (l.parts v) to
         → SoFar takes l version (first_of l.parts (l.one version) (l.next version) t) q from to
     unfolding first_of bind led
     begun_at t q v from to e run = record {
@@ -101,7 +101,7 @@ module _ {A : Type 0} (l : Loop A) (version : Version) where
       so_far = sym (regroup l.parts [] v (many l.parts (l.next version) q))
           ∙ starts l.parts (put l.parts v (many l.parts (l.next version) q))
           ∙ sym (ap (λ a. and_then a (λ v. led (l.parts v) (many l.parts (l.next version) >>= λ vs. give (v ∷ vs)))) e);
-      taken = subst (λ es. RunsTo takes from es to) (sym (append-nil (l.parts v))) run;
+      taken = subst (λ es. FoldsTo takes from es to) (sym (append-nil (l.parts v))) run;
     }
 
     -- what the first of several hands out stands in front
@@ -145,12 +145,12 @@ module _ {A : Type 0} (l : Loop A) (version : Version) where
     -- after one more
     more_at : (t r q : List ℕ) (v : A) (total : Answer (List A)) (from middle to : S)
         → SoFar takes l version total t from middle → l.delimiter t ≡ Ok (true, r) → (l.one version) r ≡ Ok (v, q)
-        → RunsTo takes middle (l.parts v) to → SoFar takes l version total q from to
+        → FoldsTo takes middle (l.parts v) to → SoFar takes l version total q from to
     more_at t r q v total from middle to h e k run = record {
       front = h.front ++ v ∷ [];
       so_far = goes_on l.parts (l.next version) (l.consumes version) h.front v t q total (next_some t r q v e k)
           h.so_far;
-      taken = subst (λ es. RunsTo takes from es to) (sym (flat_map-append l.parts h.front (v ∷ [])
+      taken = subst (λ es. FoldsTo takes from es to) (sym (flat_map-append l.parts h.front (v ∷ [])
           ∙ ap (λ (es : List TreeEvent). all_events l.parts h.front ++ es) (append-nil (l.parts v))))
           (runs_on takes (all_events l.parts h.front) (l.parts v) from middle to h.taken run);
     }

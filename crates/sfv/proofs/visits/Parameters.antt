@@ -7,7 +7,7 @@ use Rattle.std.proofs.lemmas.List.{map-append}
 use Rattle.sfv_spec.specs.Values.{BareValue, RawParameters, RawItem}
 use Rattle.sfv_spec.specs.declared.version.Version.{Version}
 use Rattle.sfv_spec.specs.Events.{TreeEvent, parameter, parameters_end, parameters_events, bare_item, item_events}
-use Rattle.sfv_spec.specs.Visiting.{RunsTo}
+use Rattle.std.specs.List.{FoldsTo}
 use Rattle.sfv_base.specs.declared.error.Error.{Error}
 use Rattle.sfv_reading.specs.Reader.{Answer, Fault, after_events, visited, and_then, bind, give, led, led_answer, ◌>>=◌}
 use Rattle.sfv_reading.proofs.complete.Combinators.{bind_complete}
@@ -44,7 +44,7 @@ pub record VisitedParameters {S : Type 0} (takes : S → TreeEvent
     → S → Type 0) (version : Version) (start now : List ℕ) (from to : S) : Type 0 where
   pub raw : RawParameters
   pub so_far : in_front parameter_event raw (parameters_at version now) ≡ parameters_at version start
-  pub taken : RunsTo takes from (pair_events raw) to
+  pub taken : FoldsTo takes from (pair_events raw) to
 
 pub visited_none : {S : Type 0} (takes : S → TreeEvent → S → Type 0) (version : Version) (start : List ℕ) (from : S)
     → VisitedParameters takes version start start from from
@@ -65,7 +65,7 @@ visited_more takes version start now r k v from middle to h read taken = record 
     k,
     v,
   ) now r (parameters_at version start) read h.so_far;
-  taken = subst (λ es. RunsTo takes from es to) (sym
+  taken = subst (λ es. FoldsTo takes from es to) (sym
       (map-append (λ (p : List ℕ × BareValue). parameter p.0 p.1) h.raw ((k, v) ∷ [])))
       (runs_on takes (pair_events h.raw) (parameter k v ∷ []) from middle to h.taken (to, taken, refl));
 }
@@ -74,7 +74,7 @@ pub visited_all : {S : Type 0} (takes : S → TreeEvent
     → S → Type 0) (version : Version) (start now r : List ℕ) (from middle to : S)
     (h : VisitedParameters takes version start now from middle) → parameter_at version now ≡ Ok (None, r)
     → takes middle parameters_end to → (parameters_at version start ≡ Ok (h.raw, r))
-    × RunsTo takes from (parameters_events h.raw) to
+    × FoldsTo takes from (parameters_events h.raw) to
 unfolding parameters_at
 visited_all takes version start now r from middle to h read taken = (
   is_done parameter_event (parameter_at version) (Consumes-parameter version) h.raw now r (parameters_at version start)
@@ -171,7 +171,7 @@ visited_error takes start now from middle i j e same h error =
     (flat_map parameter_event h.raw) from middle middle
     (λ f k. is_faulty parameter_event (parameter_at version) (Consumes-parameter version) h.raw now f
     (parameters_at version start) k h.so_far)
-    (subst (λ (es : List TreeEvent). RunsTo takes from es middle) (sym (front_events h.raw)) h.taken)
+    (subst (λ (es : List TreeEvent). FoldsTo takes from es middle) (sym (front_events h.raw)) h.taken)
     (took_none takes (λ _. []) (kept_input j) e (parameter_at version now) middle (parameter_quiet version now)
     (subst (λ (k : Parser × Global). IsErrorOf (kept_input k) e (parameter_at (kept_version k) now)) same error))
 

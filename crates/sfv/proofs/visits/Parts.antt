@@ -5,7 +5,7 @@ use Rattle.std.specs.declared.alloc.Global.{Global}
 use Rattle.std.proofs.lemmas.List.{append-nil}
 use Rattle.sfv_spec.specs.declared.version.Version.{Version}
 use Rattle.sfv_spec.specs.Events.{TreeEvent}
-use Rattle.sfv_spec.specs.Visiting.{RunsTo}
+use Rattle.std.specs.List.{FoldsTo}
 use Rattle.sfv_base.specs.declared.error.ParseError.{ParseError}
 use Rattle.sfv_base.specs.declared.error.ParseError.TheVariants.{Syntax, Visitor}
 use Rattle.sfv_reading.specs.Reader.{Answer, Reader, visited, and_then, bind, give, led_answer, led, ◌>>=◌}
@@ -51,7 +51,7 @@ module _ {S E : Type 0} (takes : S → TreeEvent → S → Type 0) (fails : S �
       → ((v : A) (s : List ℕ) → a ≡ Ok (v, s) → parts' v ≡ parts v)
       → VisitsAnswer takes fails parts k after from to r a → VisitsAnswer takes fails parts' k after from to r b
   visits_as parts parts' a b from to k after (Ok u) eq each h =
-      (h.0, eq ∙ h.1, subst (λ es. RunsTo takes from es to) (sym (each h.0 (rest after) h.1)) h.2, h.3)
+      (h.0, eq ∙ h.1, subst (λ es. FoldsTo takes from es to) (sym (each h.0 (rest after) h.1)) h.2, h.3)
   visits_as parts parts' a b from to k after (Err (Syntax e)) eq each h =
       took_same takes parts parts' (kept_input k) e a b from to eq h
   visits_as parts parts' a b from to k after (Err (Visitor f)) eq each h =
@@ -125,7 +125,7 @@ module _ {S E : Type 0} (takes : S → TreeEvent → S → Type 0) (fails : S �
   map_visits g parts parts' f t from to k after (Ok u) each h = (
     g h.0,
     bind_complete f (λ v. give (g v)) t (rest after) h.0 h.1,
-    subst (λ es. RunsTo takes from es to) (sym (each h.0)) h.2,
+    subst (λ es. FoldsTo takes from es to) (sym (each h.0)) h.2,
     h.3,
   )
   map_visits g parts parts' f t from to k after (Err (Syntax e)) each h =
@@ -152,7 +152,7 @@ module _ {S E : Type 0} (takes : S → TreeEvent → S → Type 0) (fails : S �
   pub then_visits : {A B : Type 0} (f : Reader A) (g : A → Reader B) (first : A → List TreeEvent) (parts more : B
       → List TreeEvent) (t q : List ℕ) (v : A) (from middle to : S) (k : Parser
       × Global) (after : Cursor) (r : Result (Unit {0}) (ParseError E))
-      → f t ≡ Ok (v, q) → RunsTo takes from (first v) middle
+      → f t ≡ Ok (v, q) → FoldsTo takes from (first v) middle
       → ((w : B) (s : List ℕ) → g v q ≡ Ok (w, s) → parts w ≡ first v ++ more w)
       → VisitsAnswer takes fails more k after middle to r (g v q)
       → VisitsAnswer takes fails parts k after from to r ((f >>= λ v. led (first v) (g v)) t)
@@ -160,7 +160,7 @@ module _ {S E : Type 0} (takes : S → TreeEvent → S → Type 0) (fails : S �
   then_visits f g first parts more t q v from middle to k after (Ok u) e run each h = (
     h.0,
     bind_complete f (λ v. led (first v) (g v)) t q v e ∙ led_complete (first v) (g v) q (rest after) h.0 h.1,
-    subst (λ es. RunsTo takes from es to) (sym (each h.0 (rest after) h.1))
+    subst (λ es. FoldsTo takes from es to) (sym (each h.0 (rest after) h.1))
         (runs_on takes (first v) (more h.0) from middle to run h.2),
     h.3,
   )
@@ -204,7 +204,7 @@ module _ {S E : Type 0} (takes : S → TreeEvent → S → Type 0) (fails : S �
   -- a failure after what was read
   pub failed_after : {A : Type 0} (parts longer : A
       → List TreeEvent) (e : TreeEvent) (a : Answer A) (v : A) (q : List ℕ) (from middle : S) (fault : E)
-      → a ≡ Ok (v, q) → longer v ≡ parts v ++ e ∷ [] → RunsTo takes from (parts v) middle → fails middle e fault
+      → a ≡ Ok (v, q) → longer v ≡ parts v ++ e ∷ [] → FoldsTo takes from (parts v) middle → fails middle e fault
       → VisitorFails takes fails longer a from fault
   failed_after parts longer e a v q from middle fault read all run h =
       record {

@@ -6,7 +6,7 @@ use Rattle.std.proofs.lemmas.Bool.{cases_Bool}
 use Rattle.sfv_spec.specs.declared.version.Version.{Version}
 use Rattle.sfv_spec.specs.Grammar.{IsKeyText, IsBareText, IsValueText}
 use Rattle.sfv_spec.specs.Events.{TreeEvent, inner_item_events}
-use Rattle.sfv_spec.specs.Visiting.{RunsTo}
+use Rattle.std.specs.List.{FoldsTo}
 use Rattle.sfv_spec.specs.declared.error_kind.ErrorKind.TheVariants.{TrailingComma, UnterminatedInnerList}
 use Rattle.sfv_base.specs.declared.error.Error.{Error}
 use Rattle.sfv_spec.specs.declared.error_kind.ErrorKind.{ErrorKind}
@@ -33,14 +33,14 @@ use Rattle.sfv.specs.Memory.{IsRefusal}
 
 -- one run after another
 pub runs_on : {S : Type 0} (takes : S → TreeEvent → S → Type 0) (es fs : List TreeEvent) (from middle to : S)
-    → RunsTo takes from es middle → RunsTo takes middle fs to → RunsTo takes from (es ++ fs) to
-runs_on takes [] fs from middle to h k = subst (λ s. RunsTo takes s fs to) (sym h) k
+    → FoldsTo takes from es middle → FoldsTo takes middle fs to → FoldsTo takes from (es ++ fs) to
+runs_on takes [] fs from middle to h k = subst (λ s. FoldsTo takes s fs to) (sym h) k
 runs_on takes (e ∷ es) fs from middle to h k = (h.0, h.1, runs_on takes es fs h.0 middle to h.2 k)
 
 -- the fault of a part is that of the whole, after events that were taken before
 pub took_after : {A B S : Type 0} (takes : S → TreeEvent → S → Type 0) (parts : A → List TreeEvent) (whole : B
     → List TreeEvent) (i : List ℕ) (e : Error) (a : Answer A) (b : Answer B) (front : List TreeEvent)
-    (from middle to : S) → ((f : Fault) → a ≡ Err f → b ≡ Err (after_events front f)) → RunsTo takes from front middle
+    (from middle to : S) → ((f : Fault) → a ≡ Err f → b ≡ Err (after_events front f)) → FoldsTo takes from front middle
     → IsErrorOf i e a × TookAll takes parts e a middle to → IsErrorOf i e b × TookAll takes whole e b from to
 took_after {A} {B} takes parts whole i e a b front from middle to step run h = on (index_of e) a step h
   where
@@ -56,7 +56,7 @@ took_after {A} {B} takes parts whole i e a b front from middle to step run h = o
         let w = h.0.0 in
         let told : located (Err f) ≡ Err (kind_of e, drop n i) = ap (λ (p : ErrorKind × List ℕ). Err p) cc in (
           (ap located s ∙ told, h.0.1),
-          subst (λ (es : List TreeEvent). RunsTo takes from es to) (sym (ap (visited whole) s))
+          subst (λ (es : List TreeEvent). FoldsTo takes from es to) (sym (ap (visited whole) s))
               (runs_on takes front f.events from middle to run h.1),
         )
 
@@ -93,7 +93,7 @@ took_none {A} takes parts i e a from quiet h = on (index_of e) a quiet h
     on None a quiet h = (h, tt)
     on (Some n) (Ok x) quiet h = let w = h.0 in absurd cc
     on (Some n) (Err f) quiet h =
-        (h, subst (λ (es : List TreeEvent). RunsTo takes from es from) (sym (quiet f refl)) refl)
+        (h, subst (λ (es : List TreeEvent). FoldsTo takes from es from) (sym (quiet f refl)) refl)
 
 -- ---- readers of which no event comes before a fault
 

@@ -9,7 +9,7 @@ use Rattle.sfv_spec.specs.declared.field_kind.FieldKind.TheVariants.{Dictionary 
 use Rattle.sfv_spec.specs.declared.version.Version.{Version}
 use Rattle.sfv_spec.specs.Values.{RawParameters}
 use Rattle.sfv_spec.specs.Events.{TreeEvent, bare_item, parameters_events, events}
-use Rattle.sfv_spec.specs.Visiting.{RunsTo, IsVisited}
+use Rattle.std.specs.List.{FoldsTo}
 use Rattle.sfv_base.specs.declared.error.Error.{Error}
 use Rattle.sfv_base.specs.declared.error.ParseError.{ParseError}
 use Rattle.sfv_base.specs.declared.error.ParseError.TheVariants.{Syntax, Visitor}
@@ -30,6 +30,11 @@ use Rattle.sfv_visitor.specs.declared.visitor.Event.TheVariants as event
 use Rattle.sfv_visitor.specs.ProvidedVisitors.{ReadBareItem}
 use Rattle.sfv.specs.Memory.{IsRefusal}
 
+-- the visitor receives these events and returns this result
+abbrev pub ReturnsAfter : {S O : Type 0} → (S → TreeEvent → S → Type 0) → (S → O → Type 0) → S → List TreeEvent → O
+    → Type 0
+ReturnsAfter {S} takes finishes from es out = (last : S) × FoldsTo takes from es last × finishes last out
+
 -- An error with an index comes after the visitor has received all events of the reader's result.
 abbrev pub TookAll : {A S : Type 0} → (S → TreeEvent → S → Type 0) → (A → List TreeEvent) → Error → Answer A → S → S
     → Type 0
@@ -41,7 +46,7 @@ TookAll takes parts e answer from to = MatchOption (index_of e) ⊤ (λ index. V
 abbrev pub VisitsAnswer : {A S E : Type 0} → (S → TreeEvent → S → Type 0) → (S → TreeEvent → E → Type 0)
     → (A → List TreeEvent) → Parser × Global → Cursor → S → S → Result (Unit {0}) (ParseError E) → Answer A → Type 0
 VisitsAnswer {A} takes fails parts k after from to (Ok u) answer = (v : A) × (answer ≡ Ok (v, rest after))
-    × RunsTo takes from (parts v) to × (kept after ≡ k)
+    × FoldsTo takes from (parts v) to × (kept after ≡ k)
 VisitsAnswer takes fails parts k after from to (Err (Syntax e)) answer = IsErrorOf (kept_input k) e answer
     × TookAll takes parts e answer from to
 VisitsAnswer takes fails parts k after from to (Err (Visitor f)) answer = VisitorFails takes fails parts answer from f
@@ -61,7 +66,7 @@ TakesAsRead {S} takes takes_read before after from to =
     × IsBorrowedUnlessEscaped item before between
     × (item_at (version before) (rest before) ≡ Ok (item_of (input_value item) parameters, rest after))
     × takes_read from (event.BareItem item) middle
-    × RunsTo takes middle (parameters_events parameters) to
+    × FoldsTo takes middle (parameters_events parameters) to
 
 -- the error is the visitor's, and `is` holds of it
 abbrev pub IsOfVisitor : {E : Type 0} → (E → Type 0) → ParseError E → Type 0
@@ -85,7 +90,7 @@ abbrev pub IsFinishedAt : {S O : Type 0} → (S → TreeEvent → S → Type 0) 
 IsFinishedAt {S} {O} takes finishes version kind t from e =
     (raw : RawField kind) (q : List ℕ) → whole_field_at version kind t ≡ Ok (raw, q)
     → MatchOption (index_of e) ⊤ (λ index. (kind ≡ item_field) × (out : O)
-    × IsVisited takes finishes from (events kind raw) out)
+    × ReturnsAfter takes finishes from (events kind raw) out)
 
 -- An error with an index comes after the visitor has taken all events that the reader gives of the field.
 abbrev pub TookAllOf : {S : Type 0} → (S → TreeEvent → S → Type 0) → Version → FieldKind → List ℕ → S → Error → Type 0
@@ -102,7 +107,7 @@ IsAskedThere dictionary_field q = q ≡ []
 abbrev pub VisitsField : {S O E : Type 0} → (S → TreeEvent → S → Type 0) → (S → TreeEvent → E → Type 0)
     → (S → O → Type 0) → (S → E → Type 0) → Version → (kind : FieldKind) → List ℕ → S → Result O (ParseError E) → Type 0
 VisitsField takes fails finishes finish_fails version kind t from (Ok out) = (raw : RawField kind)
-    × (read_field version kind t ≡ Ok raw) × IsVisited takes finishes from (events kind raw) out
+    × (read_field version kind t ≡ Ok raw) × ReturnsAfter takes finishes from (events kind raw) out
 VisitsField takes fails finishes finish_fails version kind t from (Err (Syntax e)) =
     MatchOption (index_of e) (IsRefusal t e)
     (λ index. (located_whole (read_field version kind t) ≡ Err (kind_of e, drop index t)) × (index ≤ length t))
@@ -110,4 +115,4 @@ VisitsField takes fails finishes finish_fails version kind t from (Err (Syntax e
 VisitsField {S} takes fails finishes finish_fails version kind t from (Err (Visitor f)) =
     VisitorFails takes fails (events kind) (whole_field_at version kind t) from f
     ⊎ ((raw : RawField kind) × (q : List ℕ) × (s : S) × (whole_field_at version kind t ≡ Ok (raw, q))
-    × RunsTo takes from (events kind raw) s × finish_fails s f × IsAskedThere kind q)
+    × FoldsTo takes from (events kind raw) s × finish_fails s f × IsAskedThere kind q)

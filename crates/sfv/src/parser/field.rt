@@ -3,7 +3,7 @@
 ghost use Rattle.std.specs.Prelude.{IfOk, IfErr};
 ghost use Rattle.sfv_spec.specs.declared.field_kind.FieldKind.TheVariants.{Item as item_field};
 ghost use Rattle.sfv.specs.parser.Members.{field_of};
-ghost use Rattle.sfv.specs.Parsers.{input_of, version_of, AnswersAsRead};
+ghost use Rattle.sfv.specs.Parsers.{input_of, version_of, ReceivesBorrowedBy};
 ghost use Rattle.sfv.specs.parser.Visits.{VisitsField, TookFirst};
 
 use crate::parser::Parser;
@@ -25,8 +25,7 @@ pub(crate) fn parse_item_field<'de, V: Visitor<'de>>(
     ensures visited { VisitsField V.takes V.fails V.finishes V.finish_fails
         (version_of parser.entry) item_field (input_of parser.entry) visitor result }
     ensures taken_first { IfErr result (TookFirst V.takes (version_of parser.entry) (input_of parser.entry) visitor) }
-    ensures borrowed_if_plain { IfOk result (AnswersAsRead V.takes V.takes_read V.finishes
-        (version_of parser.entry) (input_of parser.entry) visitor) }
+    ensures borrowed_if_plain { IfOk result (ReceivesBorrowedBy V.Visitor parser.entry visitor) }
 {
     let mut cursor = Cursor::new(parser, alloc);
     cursor.skip_sp();

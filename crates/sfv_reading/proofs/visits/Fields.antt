@@ -7,12 +7,12 @@ use Rattle.sfv_spec.specs.declared.field_kind.FieldKind.{FieldKind}
 use Rattle.sfv_spec.specs.declared.version.Version.{Version}
 use Rattle.sfv_spec.specs.Grammar.{IsFieldText}
 use Rattle.sfv_spec.specs.Events.{TreeEvent, events}
-use Rattle.sfv_spec.specs.Visiting.{BeginsEvents}
 use Rattle.sfv_spec.proofs.Valid.{accepted_is_value_lem}
 use Rattle.sfv_reading.specs.Judgements.{Reached}
 use Rattle.sfv_reading.specs.Reader.{Answer, visited}
 use Rattle.sfv_reading.specs.Fields.{whole_field_at}
-use Rattle.sfv_reading.specs.Claims.{VisitedBegins, FailedBegins}
+use Rattle.sfv_reading.specs.Visits.{BeginsEvents}
+use Rattle.sfv_reading.specs.Claims.{VisitedBegins}
 use Rattle.sfv_reading.proofs.sound.Combinators.{Somewhere}
 use Rattle.sfv_reading.proofs.sound.Fields.{FieldGoes, Sound-field}
 
@@ -38,13 +38,3 @@ visited_on version kind t (Err x) h = elim (cases_Bool x.exact) [
 pub visited_begins : VisitedBegins
 visited_begins version kind t = begun_by version kind _
     (visited_on version kind t (whole_field_at version kind t) ((Sound-field version kind).sound t))
-
--- and so does each beginning of it, with the event that it fails at
-pub failed_begins : FailedBegins
-failed_begins kind es before e after h i = record {
-  raw = h.raw;
-  is_value = h.is_value;
-  more = after ++ h.more;
-  all = h.all ∙ ap (λ (l : List TreeEvent). l ++ h.more) i ∙ append_assoc before (e ∷ after) h.more
-      ∙ sym (append_assoc before (e ∷ []) (after ++ h.more));
-}

@@ -4,7 +4,7 @@ use Rattle.std.specs.Prelude.{flat_map}
 use Rattle.std.proofs.lemmas.List.{append-nil}
 use Rattle.std.proofs.lemmas.List.Concat.{flat_map-append}
 use Rattle.sfv_spec.specs.Events.{TreeEvent}
-use Rattle.sfv_spec.specs.Visiting.{RunsTo}
+use Rattle.std.specs.List.{FoldsTo}
 use Rattle.sfv_reading.specs.Reader.{Answer, Reader, and_then, ◌>>=◌, bind, led_answer, led, visited}
 use Rattle.sfv_reading.specs.Visits.{VisitorFails}
 use Rattle.sfv_reading.proofs.sound.Many.{in_front}
@@ -54,8 +54,8 @@ pub failed_within : {A B S F : Type 0} (takes : S → TreeEvent → S → Type 0
     (fails : S → TreeEvent → F → Type 0) (parts : A → List TreeEvent) (a : Answer A) (whole : B
     → List TreeEvent) (b : Answer B) (front rest : List TreeEvent)
     → visited whole b ≡ front ++ (visited parts a ++ rest) → (from middle : S) (fault : F)
-    → RunsTo takes from front middle → ((es : List TreeEvent) (to : S) → RunsTo takes middle es to
-    → RunsTo takes from (front ++ es) to)
+    → FoldsTo takes from front middle → ((es : List TreeEvent) (to : S) → FoldsTo takes middle es to
+    → FoldsTo takes from (front ++ es) to)
     → VisitorFails takes fails parts a middle fault → VisitorFails takes fails whole b from fault
 failed_within takes fails parts a whole b front rest e from middle fault run runs r = record {
   before = front ++ r.before;

@@ -12,8 +12,8 @@ returns-in-Ok c =
       raw = v.raw;
       accepted = v.accepted;
       only = v.only;
-      holds = v.holds.answered
-          ∙ runs_fold memory_of keep_event es c.args.rows v.holds.last v.holds.taken;
+      holds = v.holds.2
+          ∙ runs_fold memory_of keep_event es c.args.rows v.holds.0 v.holds.1;
     }
 
 pub returns-in-Err : goal.returns-in-Err

@@ -12,7 +12,7 @@ returns-in-Ok-clause-accepted c =
       raw = v.raw;
       accepted = v.accepted;
       only = v.only;
-      holds = v.holds.answered
-          ∙ (runs_fold collected_of collect es c.new.result v.holds.last v.holds.taken
+      holds = v.holds.2
+          ∙ (runs_fold collected_of collect es c.new.result v.holds.0 v.holds.1
           ∙ ap (λ (m : Collected). fold collect m es) c.new.ensures);
     }

@@ -1,9 +1,8 @@
-use Rattle.std.proofs.Common.{◌≡◌, List, flat_map, refl, sym, subst}
-use Rattle.sfv.specs.Calls.{supplied_member}
+use Rattle.std.proofs.Common.{map, ◌≡◌, List, flat_map, refl, sym, subst}
+use Rattle.sfv.specs.Scripts.{member_of_calls, entry_of_calls, described_dictionary}
 use Rattle.sfv.specs.Events.{TreeEvent, keyed_entry, keyed_events, member_events}
 use Rattle.sfv.specs.KeyText.{KeyRef}
 use Rattle.sfv.specs.CheckedTexts.{text_of as key_text}
-use Rattle.sfv.specs.Scripts.{supplied_dictionary, described_dictionary, member_calls}
 use Rattle.sfv.specs.Types.{MemberCalls, dictionary_field}
 use Rattle.sfv_c.specs.declared.rows.Row.{Row}
 use Rattle.sfv_c.specs.declared.rows_to_calls.ParseStop.TheVariants as stop
@@ -17,12 +16,12 @@ use Rattle.sfv_c.proofs.rows_to_calls.dictionary_of.Goals as goal
 
 -- the events of these calls
 abbrev read_so_far : List (KeyRef × MemberCalls) → List TreeEvent
-read_so_far calls = flat_map keyed_events (supplied_dictionary calls)
+read_so_far calls = flat_map keyed_events (map entry_of_calls calls)
 
 pub returns-in_default-keyed_entry_at-clause-stopped : goal.returns-in_default-keyed_entry_at-clause-stopped
 returns-in_default-keyed_entry_at-clause-stopped c = stopped_at c.args.bytes.now dictionary_members dictionary_members c.args.rows.now
     (read_so_far c.loop-row.members.items) c.loop-row.left.now c.loop-row.invariant.read
-    (stops_dictionary (supplied_dictionary c.loop-row.members.items))
+    (stops_dictionary (map entry_of_calls c.loop-row.members.items))
     (stuck_at c.args.bytes.now dictionary_members c.loop-row.left.now c.in-Some.row.now c.in-Some.rest.now
     c.in-Some.ensures.cases.0
     (not_keyed c.args.bytes.now c.in-Some.row.now c.in_default-keyed_entry_at.ensures))
@@ -31,7 +30,7 @@ pub returns-in_err-read-clause-stopped : goal.returns-in_err-read-clause-stopped
 returns-in_err-read-clause-stopped c = err_and c.from_residual.result _ _ c.from_residual.ensures.1
     (after_event c.args.bytes.now dictionary_members dictionary_members (member dictionary_members) c.args.rows.now
     (read_so_far c.loop-row.members.items) c.loop-row.left.now (keyed_entry (key_text c.in-Some-keyed_entry_at.key)) c.in-Some.rest.now c.loop-row.invariant.read
-    (stops_dictionary (supplied_dictionary c.loop-row.members.items))
+    (stops_dictionary (map entry_of_calls c.loop-row.members.items))
     (reads_one c.args.bytes.now c.loop-row.left.now c.in-Some.row.now c.in-Some.rest.now
     (keyed_entry (key_text c.in-Some-keyed_entry_at.key)) c.in-Some.ensures.cases.0 c.in-Some-keyed_entry_at.ensures.0
     c.in-Some-keyed_entry_at.ensures.1)
@@ -43,17 +42,17 @@ returns-in_err-push-clause-stopped c =
     (after_event c.args.bytes.now dictionary_members dictionary_members (member dictionary_members) c.args.rows.now
     (read_so_far c.loop-row.members.items) c.loop-row.left.now (keyed_entry (key_text c.in-Some-keyed_entry_at.key))
     c.in-Some.rest.now c.loop-row.invariant.read
-    (stops_dictionary (supplied_dictionary c.loop-row.members.items))
+    (stops_dictionary (map entry_of_calls c.loop-row.members.items))
     (reads_one c.args.bytes.now c.loop-row.left.now c.in-Some.row.now c.in-Some.rest.now
     (keyed_entry (key_text c.in-Some-keyed_entry_at.key)) c.in-Some.ensures.cases.0 c.in-Some-keyed_entry_at.ensures.0
     c.in-Some-keyed_entry_at.ensures.1)
     refl stop.Memory
     (out_at_member c.args.bytes.now dictionary_members c.in-Some.rest.now
-    (supplied_member (member_calls c.in_ok-read.read)) c.in_ok-read.after.now c.in_ok-read.ensures.read refl))
+    (member_of_calls c.in_ok-read.read) c.in_ok-read.after.now c.in_ok-read.ensures.read refl))
 
 pub loop-row-smaller : goal.loop-row-smaller
 loop-row-smaller c = reads_shrinks c.args.bytes.now c.loop-row.left.now c.in-Some.row.now c.in-Some.rest.now
-    (member_events (supplied_member (member_calls c.in_ok-read.read))) c.in_ok-read.after.now
+    (member_events (member_of_calls c.in_ok-read.read)) c.in_ok-read.after.now
     c.in-Some.ensures.cases.0 c.in_ok-read.ensures.read
 
 pub loop-row-preserved : goal.loop-row-preserved
@@ -67,12 +66,12 @@ loop-row-preserved c = record {
       (keyed_entry (key_text c.in-Some-keyed_entry_at.key)) c.in-Some.ensures.cases.0 c.in-Some-keyed_entry_at.ensures.0
       c.in-Some-keyed_entry_at.ensures.1)
       c.in_ok-read.ensures.read);
-  whole = subst (λ (calls : List (KeyRef × MemberCalls)). described_dictionary calls ≡ supplied_dictionary calls)
+  whole = subst (λ (calls : List (KeyRef × MemberCalls)). described_dictionary calls ≡ map entry_of_calls calls)
       (sym c.in_ok-push.ensures.items)
       (dictionary_whole c.loop-row.members.items c.in-Some-keyed_entry_at.key c.in_ok-read.read c.loop-row.invariant.whole c.in_ok-read.ensures.whole);
 }
 
 pub returns-clause-read : goal.returns-clause-read
-returns-clause-read c = field_of dictionary_field c.args.rows.now c.args.bytes.now (supplied_dictionary c.loop-row.members.items)
+returns-clause-read c = field_of dictionary_field c.args.rows.now c.args.bytes.now (map entry_of_calls c.loop-row.members.items)
     (subst (λ (r : List Row). Reads c.args.bytes.now c.args.rows.now (read_so_far c.loop-row.members.items) r)
     (no_row c.loop-row.left.now c.in_default.ensures.cases) c.loop-row.invariant.read)

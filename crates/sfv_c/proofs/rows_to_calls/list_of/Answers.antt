@@ -1,7 +1,6 @@
-use Rattle.std.proofs.Common.{◌≡◌, List, flat_map, refl, sym, subst}
-use Rattle.sfv.specs.Calls.{supplied_member}
+use Rattle.std.proofs.Common.{map, ◌≡◌, List, flat_map, refl, sym, subst}
+use Rattle.sfv.specs.Scripts.{member_of_calls, described_list}
 use Rattle.sfv.specs.Events.{TreeEvent, entry, entry_events, member_events}
-use Rattle.sfv.specs.Scripts.{supplied_list, described_list, member_calls}
 use Rattle.sfv.specs.Types.{MemberCalls, list_field}
 use Rattle.sfv_c.specs.declared.rows.Row.{Row}
 use Rattle.sfv_c.specs.declared.rows_to_calls.ParseStop.TheVariants as stop
@@ -16,12 +15,12 @@ use Rattle.sfv_c.proofs.rows_to_calls.list_of.Goals as goal
 
 -- the events of these calls
 abbrev read_so_far : List MemberCalls → List TreeEvent
-read_so_far calls = flat_map entry_events (supplied_list calls)
+read_so_far calls = flat_map entry_events (map member_of_calls calls)
 
 pub returns-then-not-is_plain-clause-stopped : goal.returns-then-not-is_plain-clause-stopped
 returns-then-not-is_plain-clause-stopped c = stopped_at c.args.bytes.now list_members list_members c.args.rows.now
     (read_so_far c.loop-row.members.items) c.loop-row.left.now c.loop-row.invariant.read
-    (stops_list (supplied_list c.loop-row.members.items))
+    (stops_list (map member_of_calls c.loop-row.members.items))
     (stuck_at c.args.bytes.now list_members c.loop-row.left.now c.in-Some.row.now c.in-Some.rest.now
     c.in-Some.ensures.cases.0
     (not_entry c.args.bytes.now c.in-Some.row.now
@@ -31,7 +30,7 @@ pub returns-in_err-read-clause-stopped : goal.returns-in_err-read-clause-stopped
 returns-in_err-read-clause-stopped c = err_and c.from_residual.result _ _ c.from_residual.ensures.1
     (after_event c.args.bytes.now list_members list_members (member list_members) c.args.rows.now
     (read_so_far c.loop-row.members.items) c.loop-row.left.now entry c.in-Some.rest.now c.loop-row.invariant.read
-    (stops_list (supplied_list c.loop-row.members.items))
+    (stops_list (map member_of_calls c.loop-row.members.items))
     (reads_one c.args.bytes.now c.loop-row.left.now c.in-Some.row.now c.in-Some.rest.now entry
     c.in-Some.ensures.cases.0 tt
     (holds (IsRowOf c.args.bytes.now c.in-Some.row.now entry) c.is_plain.result c.is_plain.ensures c.if-not-is_plain.false))
@@ -42,17 +41,17 @@ returns-in_err-push-clause-stopped c =
     err_and c.from_residual-in_err-push.result _ _ c.from_residual-in_err-push.ensures.1
     (after_event c.args.bytes.now list_members list_members (member list_members) c.args.rows.now
     (read_so_far c.loop-row.members.items) c.loop-row.left.now entry c.in-Some.rest.now c.loop-row.invariant.read
-    (stops_list (supplied_list c.loop-row.members.items))
+    (stops_list (map member_of_calls c.loop-row.members.items))
     (reads_one c.args.bytes.now c.loop-row.left.now c.in-Some.row.now c.in-Some.rest.now entry
     c.in-Some.ensures.cases.0 tt
     (holds (IsRowOf c.args.bytes.now c.in-Some.row.now entry) c.is_plain.result c.is_plain.ensures c.if-not-is_plain.false))
     refl stop.Memory
-    (out_at_member c.args.bytes.now list_members c.in-Some.rest.now (supplied_member (member_calls c.in_ok-read.read))
+    (out_at_member c.args.bytes.now list_members c.in-Some.rest.now (member_of_calls c.in_ok-read.read)
     c.in_ok-read.after.now c.in_ok-read.ensures.read refl))
 
 pub loop-row-smaller : goal.loop-row-smaller
 loop-row-smaller c = reads_shrinks c.args.bytes.now c.loop-row.left.now c.in-Some.row.now c.in-Some.rest.now
-    (member_events (supplied_member (member_calls c.in_ok-read.read))) c.in_ok-read.after.now
+    (member_events (member_of_calls c.in_ok-read.read)) c.in_ok-read.after.now
     c.in-Some.ensures.cases.0 c.in_ok-read.ensures.read
 
 pub loop-row-preserved : goal.loop-row-preserved
@@ -66,12 +65,12 @@ loop-row-preserved c = record {
       c.in-Some.ensures.cases.0 tt
       (holds (IsRowOf c.args.bytes.now c.in-Some.row.now entry) c.is_plain.result c.is_plain.ensures c.if-not-is_plain.false))
       c.in_ok-read.ensures.read);
-  whole = subst (λ (calls : List MemberCalls). described_list calls ≡ supplied_list calls)
+  whole = subst (λ (calls : List MemberCalls). described_list calls ≡ map member_of_calls calls)
       (sym c.in_ok-push.ensures.items)
       (list_whole c.loop-row.members.items c.in_ok-read.read c.loop-row.invariant.whole c.in_ok-read.ensures.whole);
 }
 
 pub returns-clause-read : goal.returns-clause-read
-returns-clause-read c = field_of list_field c.args.rows.now c.args.bytes.now (supplied_list c.loop-row.members.items)
+returns-clause-read c = field_of list_field c.args.rows.now c.args.bytes.now (map member_of_calls c.loop-row.members.items)
     (subst (λ (r : List Row). Reads c.args.bytes.now c.args.rows.now (read_so_far c.loop-row.members.items) r)
     (no_row c.loop-row.left.now c.in_default.ensures.cases) c.loop-row.invariant.read)

@@ -1,7 +1,7 @@
-use Rattle.std.proofs.Common.{◌<◌, List, length, refl, subst}
+use Rattle.std.proofs.Common.{map, ◌<◌, List, length, refl, subst}
 use Rattle.sfv.specs.Values.{bare_values}
 use Rattle.sfv.specs.KeyText.{KeyRef}
-use Rattle.sfv.specs.Scripts.{supplied_dictionary}
+use Rattle.sfv.specs.Scripts.{entry_of_calls}
 use Rattle.sfv.specs.Types.{MemberCalls}
 use Rattle.sfv.specs.Types.{dictionary_field}
 use Rattle.sfv.specs.Versions.{IsSerializeError}
@@ -16,8 +16,8 @@ returns-in_err-stands c =
     let e = c.in_err-stands.field-0.0 in
     let ms = c.in-Ok.calls.items in
     text_err c.args.writing dictionary_field c.args.rows.now c.args.bytes.now c.from_residual.result e c.from_residual.ensures.1
-    (script_fault c.args.writing dictionary_field c.args.rows.now c.args.bytes.now (supplied_dictionary ms) c.in-Ok.ensures.read
+    (script_fault c.args.writing dictionary_field c.args.rows.now c.args.bytes.now (map entry_of_calls ms) c.in-Ok.ensures.read
     (some_dictionary ms (subst (λ (x : List (KeyRef × MemberCalls)). 0 < length x) c.deref.ensures.value c.in_err-stands.ensures.some))
     e
-    (subst (λ (x : List (KeyRef × MemberCalls)). IsSerializeError c.args.writing (bare_values dictionary_field (supplied_dictionary x)) e)
+    (subst (λ (x : List (KeyRef × MemberCalls)). IsSerializeError c.args.writing (bare_values dictionary_field (map entry_of_calls x)) e)
     c.deref.ensures.value c.in_err-stands.ensures.unsupported))

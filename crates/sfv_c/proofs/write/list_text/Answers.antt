@@ -1,6 +1,6 @@
-use Rattle.std.proofs.Common.{◌<◌, List, length, refl, subst}
+use Rattle.std.proofs.Common.{map, ◌<◌, List, length, refl, subst}
 use Rattle.sfv.specs.Values.{bare_values}
-use Rattle.sfv.specs.Scripts.{supplied_list}
+use Rattle.sfv.specs.Scripts.{member_of_calls}
 use Rattle.sfv.specs.Types.{MemberCalls}
 use Rattle.sfv.specs.Types.{list_field}
 use Rattle.sfv.specs.Versions.{IsSerializeError}
@@ -15,8 +15,8 @@ returns-in_err-stands c =
     let e = c.in_err-stands.field-0.0 in
     let ms = c.in-Ok.calls.items in
     text_err c.args.writing list_field c.args.rows.now c.args.bytes.now c.from_residual.result e c.from_residual.ensures.1
-    (script_fault c.args.writing list_field c.args.rows.now c.args.bytes.now (supplied_list ms) c.in-Ok.ensures.read
+    (script_fault c.args.writing list_field c.args.rows.now c.args.bytes.now (map member_of_calls ms) c.in-Ok.ensures.read
     (some_list ms (subst (λ (x : List MemberCalls). 0 < length x) c.deref.ensures.value c.in_err-stands.ensures.some))
     e
-    (subst (λ (x : List MemberCalls). IsSerializeError c.args.writing (bare_values list_field (supplied_list x)) e)
+    (subst (λ (x : List MemberCalls). IsSerializeError c.args.writing (bare_values list_field (map member_of_calls x)) e)
     c.deref.ensures.value c.in_err-stands.ensures.unsupported))

@@ -1,8 +1,8 @@
 use Rattle.sfv_spec.specs.declared.field_kind.FieldKind.TheVariants.{List as list_field}
-use Rattle.sfv_spec.proofs.Given.{described_fit}
 use Rattle.sfv_writer.proofs.Looks.{at_exit}
 use Rattle.sfv_writer.proofs.ReadBack.{read_back}
-use Rattle.sfv_serializer.specs.Scripts.{list_calls, described_list}
+use Rattle.sfv_serializer.specs.Scripts.{described_list}
+use Rattle.sfv_serializer.proofs.Described.{list_fits}
 use Rattle.sfv_serializer.proofs.Handed.{named_list}
 use Rattle.sfv_serializer.proofs.script.run_list_for.Goals as goal
 
@@ -10,8 +10,8 @@ pub returns-clause-read_back : goal.returns-clause-read_back
 returns-clause-read_back c =
     let version = c.args.version in
     let calls = c.args.calls.now in
-    read_back version list_field (described_list calls) c.in_ok-stands.ensures.value
-    (described_fit version list_field (list_calls calls) c.in_ok-check_list_calls.ensures)
+    read_back version list_field (described_list calls) c.in_ok-has_member.ensures.value
+    (list_fits version calls c.in_ok-check_list_calls.ensures)
 
 pub returns-in_err-check_list_calls-clause-some : goal.returns-in_err-check_list_calls-clause-some
 returns-in_err-check_list_calls-clause-some c =

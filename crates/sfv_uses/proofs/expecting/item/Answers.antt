@@ -1,4 +1,3 @@
-use Rattle.std.proofs.Common.{refl, inl}
 use Rattle.std.proofs.lemmas.Result.{IfOk-weaker}
 use Rattle.sfv.specs.Types.{item_field}
 use Rattle.sfv.specs.Types.{Rfc9651}
@@ -19,5 +18,5 @@ returns-clause-seed c = IfOk-weaker c.parse_item.result _ _
 
 pub returns-clause-rejected : goal.returns-clause-rejected
 returns-clause-rejected c = read_failed _ _ _ item_field c.args.input.now (λ e h. h.2.0)
-    (λ f h. item_built_fails h.0 f h.1.0 (h.2.1 (inl refl))) c.parse_item.result
+    (λ f h. item_built_fails Rfc9651 c.args.input.now h.0 f h.1.0 h.2) c.parse_item.result
     (made_syntax _ (made_item _ (rw c.new.ensures at c.parse_item.ensures))) (made_visitor _ (made_item _ (rw c.new.ensures at c.parse_item.ensures)))

@@ -1,6 +1,11 @@
 use Rattle.sfv.specs.CheckedTexts.{text_of as token_text}
+use Rattle.sfv_uses.proofs.Uses.{token_result}
 use Rattle.sfv_uses.proofs.expecting.token.Goals as goal
+
+pub returns-clause-of_an_item : goal.returns-clause-of_an_item
+returns-clause-of_an_item c raw accepted =
+    token_result raw.bare _ c.expect.result (c.expect.ensures.of_an_item raw accepted)
 
 pub returns-clause-of_another_kind : goal.returns-clause-of_another_kind
 returns-clause-of_another_kind c value begins none =
-    c.expect.ensures.of_another_kind value begins (λ name. none (token_text name))
+    token_result value _ c.expect.result (c.expect.ensures.of_another_kind value begins (λ name. none (token_text name)))

@@ -1,35 +1,26 @@
 use Rattle.sfv_spec.specs.declared.field_kind.FieldKind.TheVariants.{List as list_field}
 use Rattle.sfv.specs.Parsers.{input_of, version_of}
-use Rattle.sfv.proofs.visits.Fields.{visits_answer, visits_syntax, visits_taken, visits_failure, visits_accepted}
+use Rattle.sfv.proofs.visits.Fields.{visits_answer, visits_syntax, visits_before, visits_failure}
 use Rattle.sfv.proofs.Memory.{visits_memory}
 use Rattle.sfv.proofs.parser.Parser.parse_list_with_visitor.Goals as goal
 
 pub returns-clause-visited : goal.returns-clause-visited
-returns-clause-visited g c = visits_answer g.V.Visitor.takes g.V.Visitor.fails g.V.Visitor.finishes
-    g.V.Visitor.finish_fails (version_of c.args.self) list_field (input_of c.args.self) c.args.visitor
-    c.parse_members_field.result c.parse_members_field.ensures
+returns-clause-visited g c = visits_answer g.V.Visitor c.args.self list_field c.args.visitor c.parse_members_field.result
+    c.parse_members_field.ensures
 
 pub returns-clause-syntax : goal.returns-clause-syntax
-returns-clause-syntax g c = visits_syntax g.V.Visitor.takes g.V.Visitor.fails g.V.Visitor.finishes
-    g.V.Visitor.finish_fails (version_of c.args.self) list_field (input_of c.args.self) c.args.visitor
-    c.parse_members_field.result c.parse_members_field.ensures
+returns-clause-syntax g c = visits_syntax g.V.Visitor c.args.self list_field c.args.visitor c.parse_members_field.result
+    c.parse_members_field.ensures
+
+pub returns-clause-before_error : goal.returns-clause-before_error
+returns-clause-before_error g c = visits_before g.V.Visitor c.args.self list_field c.args.visitor c.parse_members_field.result
+    c.parse_members_field.ensures
 
 pub returns-clause-visitor : goal.returns-clause-visitor
-returns-clause-visitor g c = visits_failure g.V.Visitor.takes g.V.Visitor.fails g.V.Visitor.finishes
-    g.V.Visitor.finish_fails (version_of c.args.self) list_field (input_of c.args.self) c.args.visitor
-    c.parse_members_field.result c.parse_members_field.ensures
-
-pub returns-clause-accepted : goal.returns-clause-accepted
-returns-clause-accepted g c = visits_accepted g.V.Visitor.takes g.V.Visitor.fails g.V.Visitor.finishes
-    g.V.Visitor.finish_fails (version_of c.args.self) list_field (input_of c.args.self) c.args.visitor
-    g.V.Visitor.is_memory c.parse_members_field.result c.parse_members_field.ensures
+returns-clause-visitor g c = visits_failure g.V.Visitor c.args.self list_field c.args.visitor c.parse_members_field.result
+    c.parse_members_field.ensures
 
 pub returns-clause-memory : goal.returns-clause-memory
 returns-clause-memory g c = visits_memory g.V.Visitor.takes g.V.Visitor.fails g.V.Visitor.finishes
-    g.V.Visitor.finish_fails (version_of c.args.self) list_field (input_of c.args.self) c.args.visitor
-    c.parse_members_field.result c.parse_members_field.ensures
-
-pub returns-clause-taken : goal.returns-clause-taken
-returns-clause-taken g c = visits_taken g.V.Visitor.takes g.V.Visitor.fails g.V.Visitor.finishes
     g.V.Visitor.finish_fails (version_of c.args.self) list_field (input_of c.args.self) c.args.visitor
     c.parse_members_field.result c.parse_members_field.ensures

@@ -69,7 +69,7 @@ returns-clause-visited g c =
       read.0,
       field_done _ _ _ _ _ _ _ _ skipped read.1 c.skip_sp-2.ensures.skipped.1
           (rw (← c.peek.ensures) (sym c.is_some.ensures ∙ c.if-is_some.false)),
-      record { last = c.item.new.visitor; taken = read.2; answered = c.in_ok-out.ensures.answered },
+      (c.item.new.visitor, read.2, c.in_ok-out.ensures.answered),
     )
 
 pub returns-in_err-item-clause-taken_first : goal.returns-in_err-item-clause-taken_first

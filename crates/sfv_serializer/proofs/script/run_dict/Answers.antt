@@ -1,0 +1,34 @@
+use Rattle.std.proofs.Common.{◌↔◌, IsTrue, IfOk, OnOk, subst, rules}
+use Rattle.sfv_spec.specs.Values.{IsFieldValue, HasMember}
+use Rattle.sfv_spec.specs.declared.field_kind.FieldKind.TheVariants.{Dictionary as dictionary_field}
+use Rattle.sfv_spec.specs.Canonical.{canonical}
+use Rattle.sfv_writer.specs.Written.{AppendsOrKeeps}
+use Rattle.sfv_serializer.specs.Scripts.{described_dictionary}
+use Rattle.sfv_serializer.specs.ScriptSteps.{dictionary_described}
+use Rattle.sfv_serializer.proofs.Described.{dictionary_described_is, dictionary_lacks}
+use Rattle.sfv_serializer.proofs.WhereFit.{read_back_where_fit}
+use Rattle.sfv_serializer.proofs.script.run_dict.Goals as goal
+
+pub returns-then-is_err-clause-room : goal.returns-then-is_err-clause-room
+returns-then-is_err-clause-room c = dictionary_lacks c.args.text.now c.args.calls.now c.write_dictionary-written.result c.write_dictionary-written.ensures.room
+
+pub returns-else-is_err-clause-text : goal.returns-else-is_err-clause-text
+returns-else-is_err-clause-text c =
+    let old : AppendsOrKeeps c.args.text.now c.write_dictionary-written.new.text (canonical dictionary_field (dictionary_described c.args.calls.now))
+    c.write_dictionary-written.result = search rules in
+    subst (λ raw. AppendsOrKeeps c.args.text.now c.write_dictionary-written.new.text (canonical dictionary_field raw) c.write_dictionary-written.result)
+    (dictionary_described_is c.args.calls.now) old
+
+pub returns-else-is_err-clause-has_member : goal.returns-else-is_err-clause-has_member
+returns-else-is_err-clause-has_member c =
+    subst (λ raw. IfOk c.write_dictionary-written.result (λ member. IsTrue member ↔ HasMember dictionary_field raw))
+    (dictionary_described_is c.args.calls.now) c.write_dictionary-written.ensures.has_member
+
+pub returns-else-is_err-clause-value : goal.returns-else-is_err-clause-value
+returns-else-is_err-clause-value c = subst (λ raw. OnOk c.write_dictionary-written.result (IsFieldValue dictionary_field raw))
+    (dictionary_described_is c.args.calls.now) c.write_dictionary-written.ensures.value
+
+pub returns-else-is_err-clause-read_back : goal.returns-else-is_err-clause-read_back
+returns-else-is_err-clause-read_back c = read_back_where_fit c.write_dictionary-written.result dictionary_field (described_dictionary c.args.calls.now)
+    (subst (λ raw. OnOk c.write_dictionary-written.result (IsFieldValue dictionary_field raw)) (dictionary_described_is c.args.calls.now)
+    c.write_dictionary-written.ensures.value)
