@@ -8,7 +8,7 @@ use Rattle.std.proofs.lemmas.List.{append-nil}
 use Rattle.sfv_spec.proofs.Marks.{double_quote, colon, backslash}
 use Rattle.sfv_spec.proofs.Marks.{minus_sign, dot, at_sign}
 use Rattle.sfv_spec.specs.Texts.{begins_with}
-use Rattle.sfv_spec.specs.Classes.{is_one_of, is_string_byte}
+use Rattle.sfv_spec.specs.Classes.{is_string_byte}
 use Rattle.sfv_spec.proofs.Marks.{is_digit}
 use Rattle.sfv_spec.specs.Values.{BareValue, string, byte_sequence}
 use Rattle.sfv_spec.specs.declared.version.Version.{Version}
@@ -43,7 +43,7 @@ use Rattle.sfv_reading.proofs.rules.Quoted.{string_faulty}
 use Rattle.sfv_reading.proofs.rules.UpToFault.{bind_met}
 use Rattle.sfv_reading.proofs.rules.Numbers.{next_of, NumberShape, no_digits, sixteen_digits, point_too_late}
 use Rattle.sfv_reading.proofs.rules.Numbers.{long_fraction, shape_read}
-use Rattle.sfv_reading.proofs.rules.NumberRows.{one_of, begins_same, date_read}
+use Rattle.sfv_reading.proofs.rules.NumberRows.{date_read}
 use Rattle.sfv_reading.proofs.rules.BareFaults.{boolean_fault, quote_fault}
 
 -- ---- numbers and Dates
@@ -95,11 +95,10 @@ row_read version s there _ (no_digit dated known text h) =
     ∙ number_given version dated (minus_sign ∷ there) (at_reach ExpectedDigit there) known
     (λ _. refl) (no_digits true there refl h (λ e. absurd (true≢false e)))
 row_read version s there _ (no_number known text h) =
-    let n = begins_apart is_digit (is_one_of (codes "-")) there h in
+    let n = begins_apart is_digit (byte minus_sign) there h in
     ap (bare_at version) text
     ∙ number_given version true there (at_reach ExpectedDigit there) (λ _. known) (λ e. absurd (true≢false e))
-    (no_digits false there refl n.0 (λ _. sym (begins_same (is_one_of (codes "-")) (byte minus_sign) there
-    (one_of minus_sign)) ∙ n.1))
+    (no_digits false there refl n.0 (λ _. n.1))
 row_read version s there _ (long_integer sign digits signed counted text h) =
     let dated : Bool = signed.0 in
     let negative : Bool = signed.1 in
@@ -118,8 +117,7 @@ row_read version s there _ (late_point sign digits signed counted text h) =
     ∙ number_given version dated (minus_text negative ++ (digits ++ there))
     (at_reach TooManyDigitsBeforeDecimalPoint there) signed.2
     (λ _. front negative digits there (omega (arith, counted.0)) counted.2)
-    (point_too_late negative digits there refl counted
-    (sym (begins_same (is_one_of (codes ".")) (byte dot) there (one_of dot)) ∙ h))
+    (point_too_late negative digits there refl counted h)
 row_read version s there _ (long_decimal negative whole fraction counted three text h) =
     let t : List ℕ = minus_text negative ++ (whole ++ dot ∷ (fraction ++ there)) in
     let all : s ≡ t = text ∙ simp append_assoc in

@@ -82,7 +82,7 @@ module _ (version : Version) (dated : Bool) (known : dated ≡ true → version 
   digits_row dated' true same q text n plain = no_digit dated' (λ e. known (same ∙ e))
       (ap (λ (l : List ℕ). at_text dated' ++ l) text ∙ sym (append_assoc (at_text dated') (codes "-") q)) n
   digits_row true false same q text n plain = no_number (known same) (ap (λ (l : List ℕ). at_sign ∷ l) text)
-      (begins_neither is_digit (byte minus_sign) (is_one_of (codes "-")) q (one_of minus_sign) n (plain refl))
+      (begins_neither is_digit (byte minus_sign) (byte minus_sign) q (λ c. refl) n (plain refl))
   digits_row false false same q text n plain = absurd (both_ways (begins_with is_number_start q)
       (begins_neither is_digit (byte minus_sign) (byte minus_sign) q (λ c. refl) n (plain refl))
       (ap (begins_with is_number_start) (sym text) ∙ start same))
@@ -109,8 +109,7 @@ module _ (version : Version) (dated : Bool) (known : dated ≡ true → version 
       subst (HasRow version (at_text dated ++ t)) same
       (inl (
         refl,
-        inr (late_point (at_text dated ++ minus_text negative) whole (sign_of negative) counted all
-            (begins_same (is_one_of (codes ".")) (byte dot) q (one_of dot) ∙ h)),
+        inr (late_point (at_text dated ++ minus_text negative) whole (sign_of negative) counted all h),
       ))
   number_row _ (no_fraction negative whole q text counted h) e i =
       let same : by_rule TrailingDecimalPoint (dot ∷ q) ≡ e = cc in
