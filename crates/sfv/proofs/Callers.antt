@@ -42,7 +42,7 @@ use Rattle.sfv_base.specs.declared.error.ParseError.{ParseError}
 use Rattle.sfv_visitor.specs.declared.visitor.Visitor.{Ghosts as Visitor}
 use Rattle.sfv.specs.declared.parser.Parser.{Parser}
 use Rattle.sfv.specs.Parsers.{IsParseError, IsAnswerBy, IsSyntaxErrorBy, IsVisitorErrorBy, ReceivesFirstBy, ReceivesBorrowedBy}
-use Rattle.sfv.specs.Parsers.{ReadsBy, ReadsItemBy, WithSomeVisitor}
+use Rattle.sfv.specs.Parsers.{ReadsBy, ReadsItemBy}
 use Rattle.sfv.specs.parser.Visits.{ReturnsAfter}
 use Rattle.sfv.proofs.built.Items.{insert_entry-entered}
 use Rattle.sfv.proofs.built.Lists.{built_list_after}
@@ -89,11 +89,9 @@ pub use Rattle.sfv.proofs.LastRead.{on_ok, fold_entries, IsIdle, member_passed, 
 -- from a visitor's result to the clause of a field crate in one step
 pub use Rattle.sfv.proofs.Fields.{of_pushed, state_kept, parameters_kept, written_is_read}
 pub use Rattle.sfv.proofs.Fields.{last_set, idle_by, list_read, member_looked, answer_read, fits_unless, fits_either}
--- the parts of a syntax error, by name: its kind, its index, and that the text is rejected
-pub use Rattle.sfv.proofs.Parsed.{syntax_parts}
 -- how parsing with a visitor ends: the lemmas are stated in this
 pub use Rattle.sfv.proofs.Relations.{Answers, FailsIn, HasSyntax, HasVisitorError, HasFirst, HasBorrowed}
-pub use Rattle.sfv.proofs.Relations.{accepted_or_not, item_failed, fails_somewhere}
+pub use Rattle.sfv.proofs.Relations.{WithSomeVisitor, accepted_or_not, item_failed, fails_somewhere}
 -- what a visitor that expects one bare item says of the field
 pub use Rattle.sfv.proofs.Expected.{expect_answers, expect_fails, expect_first, expect_only, expect_read}
 -- an accepted item has the bare item that stands first in its text
@@ -208,7 +206,7 @@ module _ {S O E : Type 0} {v : Visitor S O E} {p : Parser} {Made : S → Type 0}
 pub accepted_error : (version : Version) (kind : FieldKind) (t : List ℕ) (raw : RawField kind) (e : Error)
     → IsFieldText version kind raw t → IsParseError version kind t e → e ≡ out_of_memory
 accepted_error version kind t raw e accepted (inl same) = same
-accepted_error version kind t raw e accepted (inr h) = absurd ((syntax_parts version kind t e h).3 (raw, accepted))
+accepted_error version kind t raw e accepted (inr h) = absurd (h.rejected (raw, accepted))
 
 -- On an accepted text, a visitor returns its result for the events of the field, or memory runs out, or the visitor fails
 -- on the field. So one that never fails returns a result unless memory runs out.
@@ -237,9 +235,8 @@ pub located_error : (version : Version) (kind : FieldKind) (t : List ℕ) (e : E
 located_error version kind t e index (inl same) here =
     absurd (let none : index_of e ≡ None = ap index_of same in cc)
 located_error version kind t e index (inr h) here =
-    let s = syntax_parts version kind t e h in
-    let place : s.1 ≡ index = same_Some s.1 index (sym (ap index_of s.2) ∙ here) in
-    (s.0, ap kind_of s.2, subst (IsFaultAt version kind t s.0) place s.5)
+    let place : h.index ≡ index = same_Some h.index index (sym (ap index_of h.error) ∙ here) in
+    (h.fault, ap kind_of h.error, subst (IsFaultAt version kind t h.fault) place h.located)
 
 -- a further line of a list: its members stand after those that the builder was given
 pub list_after : {E : Type 0} (version : Version) (t : List ℕ) (held : List RawMember) (from : ListBuilder)

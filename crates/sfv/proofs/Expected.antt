@@ -21,9 +21,9 @@ use Rattle.sfv_visitor.specs.declared.visitor.Event.{Event}
 use Rattle.sfv_visitor.specs.declared.visitor.Event.TheVariants as event
 use Rattle.sfv_visitor.specs.ProvidedVisitors.{ReadBareItem, OnRead, item_kept, KeepTakes, KeepFails}
 use Rattle.sfv_visitor.specs.declared.expect_item.ExpectItem.{ExpectItem}
-use Rattle.sfv.specs.Parsers.{IsBorrowedIfPlain, WithSomeVisitor}
+use Rattle.sfv.specs.Parsers.{IsBorrowedIfPlain}
 use Rattle.sfv.proofs.built.Seeded.{runs_weaker}
-use Rattle.sfv.proofs.Relations.{Answers, FailsIn, HasVisitorError, HasFirst, HasBorrowed}
+use Rattle.sfv.proofs.Relations.{WithSomeVisitor, Answers, FailsIn, HasVisitorError, HasFirst, HasBorrowed}
 
 module _ {T : Type 0} (holds : T → BareValue) (is_of : T → ReadBareItem → Type 0)
     (fails : ReadBareItem → ItemFault → Type 0) where

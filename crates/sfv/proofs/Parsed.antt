@@ -8,7 +8,6 @@ use Rattle.sfv_spec.specs.Values.{RawField}
 use Rattle.sfv_spec.specs.declared.field_kind.FieldKind.{FieldKind}
 use Rattle.sfv_spec.specs.declared.version.Version.{Version}
 use Rattle.sfv_spec.specs.Faults.{IsFaultAt}
-use Rattle.sfv_spec.specs.Grammar.{IsAccepted}
 use Rattle.sfv_spec.specs.Ordered.{ordered}
 use Rattle.sfv_spec.specs.Statements.{IsParsedAs}
 use Rattle.sfv_spec.proofs.Structure.{one_field_lem}
@@ -21,7 +20,7 @@ use Rattle.sfv_reading.specs.Fields.{read_field}
 use Rattle.sfv_reading.proofs.Theorems.{read_is_accepted}
 use Rattle.sfv_reading.proofs.Faults.{fault_is_at, fault_rejects}
 use Rattle.sfv.specs.parser.Cursor.{located_whole}
-use Rattle.sfv.specs.Parsers.{IsSyntaxError, IsParseError}
+use Rattle.sfv.specs.Parsers.{IsParseError}
 use Rattle.sfv.specs.Memory.{IsRefusal}
 
 -- a field that was read is the one that the grammar gives
@@ -59,20 +58,6 @@ located_fault (Err f) k r h =
     let e : here ≡ there = cc in
     (f, refl, ap (λ (p : ErrorKind × List ℕ). p.0) e, ap (λ (p : ErrorKind × List ℕ). p.1) e)
 
--- the parts of a syntax error
-pub syntax_parts : (version : Version) (kind : FieldKind) (t : List ℕ) (e : Error) → IsSyntaxError version kind t e
-    → (fault : ErrorKind) × (index : ℕ) × (e ≡ error_of fault (Some index)) × (¬ IsAccepted version kind t)
-    × (index ≤ length t) × IsFaultAt version kind t fault index
-unfolding IsSyntaxError
-syntax_parts version kind t e h = h
-
-pub syntax_of_parts : (version : Version) (kind : FieldKind) (t : List ℕ) (e : Error) (fault : ErrorKind) (index : ℕ)
-    → e ≡ error_of fault (Some index) → ¬ IsAccepted version kind t → index ≤ length t
-    → IsFaultAt version kind t fault index → IsSyntaxError version kind t e
-unfolding IsSyntaxError
-syntax_of_parts version kind t e fault index same rejected within located =
-    (fault, index, same, rejected, within, located)
-
 -- an error of the reading is out of memory, or the fault of the text
 pub parse_error : (version : Version) (kind : FieldKind) (t : List ℕ) (e : Error)
     → MatchOption e.index (IsRefusal t e) (λ index. (located_whole (read_field version kind t)
@@ -87,5 +72,11 @@ parse_error version kind t e = on e.index refl
         let same : e ≡ error_of f.0.kind (Some index) = ap (λ (o : Option ℕ). error_of e.kind o) i
         ∙ ap (λ (kind : ErrorKind). error_of kind (Some index)) (sym f.2) in
         let there = located_at version kind t f.0 index f.1 (sym f.3) h.1 in
-        inr (syntax_of_parts version kind t e f.0.kind index same (fault_rejects version kind t f.0.kind index there).0 h.1
-        there)
+        inr (record {
+          fault = f.0.kind;
+          index = index;
+          error = same;
+          rejected = (fault_rejects version kind t f.0.kind index there).0;
+          within = h.1;
+          located = there;
+        })

@@ -26,6 +26,10 @@ use Rattle.sfv_reading.proofs.Theorems.{read_is_accepted}
 use Rattle.sfv.specs.Parsers.{IsParseError, IsBorrowedIfPlain}
 use Rattle.sfv.specs.parser.Visits.{ReturnsAfter}
 
+-- `P` holds of `x` and of some visitor as it is made
+abbrev pub WithSomeVisitor : {S X : Type 0} → (S → Type 0) → (S → X → Type 0) → X → Type 0
+WithSomeVisitor {S} is_made P x = (from : S) × is_made from × P from x
+
 -- the result after the events of the only field of the text
 abbrev pub Answers : {S O : Type 0} → (S → TreeEvent → S → Type 0) → (S → O → Type 0) → Version → FieldKind → List ℕ → S
     → O → Type 0

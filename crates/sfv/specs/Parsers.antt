@@ -42,9 +42,13 @@ abbrev pub version_of : Parser → Version
 version_of p = p.version
 
 -- The text is rejected, and `e` has the kind and the index of its fault.
-unfoldable pub IsSyntaxError : Version → FieldKind → List ℕ → Error → Type 0
-IsSyntaxError version kind t e = (fault : ErrorKind) × (index : ℕ) × (e ≡ error_of fault (Some index))
-    × (¬ IsAccepted version kind t) × (index ≤ length t) × IsFaultAt version kind t fault index
+pub record IsSyntaxError (version : Version) (kind : FieldKind) (t : List ℕ) (e : Error) : Type 0 where
+  pub fault : ErrorKind
+  pub index : ℕ
+  pub error : e ≡ error_of fault (Some index)
+  pub rejected : ¬ IsAccepted version kind t
+  pub within : index ≤ length t
+  pub located : IsFaultAt version kind t fault index
 
 -- out of memory, or a syntax error of the text
 abbrev pub IsParseError : Version → FieldKind → List ℕ → Error → Type 0
@@ -157,7 +161,3 @@ pub record ReadsItemBy {S O E : Type 0} (v : Visitor S O E) (p : Parser) (from :
   pub all : ReadsBy v p item_field from result
   pub first : IfErr result (ReceivesFirstBy v p from)
   pub borrowed_if_plain : IfOk result (ReceivesBorrowedBy v p from)
-
--- `P` holds of `x` and of some visitor as it is made
-abbrev pub WithSomeVisitor : {S X : Type 0} → (S → Type 0) → (S → X → Type 0) → X → Type 0
-WithSomeVisitor {S} is_made P x = (from : S) × is_made from × P from x

@@ -52,7 +52,7 @@ pub struct Parser<'de> {
 impl<'de> Parser<'de> {
     ghost use Rattle.sfv.specs.Parsers.{parser_of, input_of, version_of, IsParseError, IsAnswerBy, IsSyntaxErrorBy};
     ghost use Rattle.sfv.specs.Parsers.{ReceivesBeforeErrorBy, IsVisitorErrorBy, ReceivesFirstBy, ReceivesBorrowedBy};
-    ghost use Rattle.sfv.specs.Parsers.{ReadsBy, ReadsItemBy, WithSomeVisitor};
+    ghost use Rattle.sfv.specs.Parsers.{ReadsBy, ReadsItemBy};
     ghost use Rattle.sfv.specs.Memory.{NeedsMark, NeedsMoreThanSpaces};
 
     /// Creates a parser for `input` under RFC 9651, with the library's hash seed.
@@ -126,7 +126,7 @@ impl<'de> Parser<'de> {
         self,
         alloc: Global,
     ) -> Result<T, ParseError<<T::Visitor as Visitor<'de>>::Error>>
-        ensures { WithSomeVisitor (T.is_made self.entry.seed) (ReadsItemBy T.Visitor.Visitor self.entry) result }
+        ensures { (v : _) × T.is_made self.entry.seed v × ReadsItemBy T.Visitor.Visitor self.entry v result }
     {
         let visitor = T::make_item_visitor(alloc, self.seed);
         self.parse_item_with_visitor(alloc, visitor)
@@ -143,7 +143,7 @@ impl<'de> Parser<'de> {
         self,
         alloc: Global,
     ) -> Result<T, ParseError<<T::Visitor as Visitor<'de>>::Error>>
-        ensures { WithSomeVisitor (T.is_made self.entry.seed) (ReadsBy T.Visitor.Visitor self.entry list_field) result }
+        ensures { (v : _) × T.is_made self.entry.seed v × ReadsBy T.Visitor.Visitor self.entry list_field v result }
     {
         let visitor = T::make_list_visitor(alloc, self.seed);
         self.parse_list_with_visitor(alloc, visitor)
@@ -160,7 +160,7 @@ impl<'de> Parser<'de> {
         self,
         alloc: Global,
     ) -> Result<T, ParseError<<T::Visitor as Visitor<'de>>::Error>>
-        ensures { WithSomeVisitor (T.is_made self.entry.seed) (ReadsBy T.Visitor.Visitor self.entry dictionary_field) result }
+        ensures { (v : _) × T.is_made self.entry.seed v × ReadsBy T.Visitor.Visitor self.entry dictionary_field v result }
     {
         let visitor = T::make_dictionary_visitor(alloc, self.seed);
         self.parse_dictionary_with_visitor(alloc, visitor)

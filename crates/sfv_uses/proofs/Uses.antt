@@ -17,8 +17,8 @@ use Rattle.sfv.specs.Events.{parameters_end, inner_list_end, events}
 use Rattle.sfv.specs.Grammar.{IsFieldText, IsAccepted, BeginsWithLongest, BeginsWithComplete}
 use Rattle.sfv.specs.Ordered.{last_of, ordered_member}
 use Rattle.sfv.specs.Statements.{IsParsedAs}
-use Rattle.sfv.specs.Parsers.{IsParseError, IsBorrowedIfPlain, WithSomeVisitor}
-use Rattle.sfv.proofs.Callers.{Answers, FailsIn, HasSyntax, HasVisitorError, HasFirst}
+use Rattle.sfv.specs.Parsers.{IsParseError, IsBorrowedIfPlain}
+use Rattle.sfv.proofs.Callers.{WithSomeVisitor, Answers, FailsIn, HasSyntax, HasVisitorError, HasFirst}
 use Rattle.sfv.specs.ProvidedVisitors.{ReadBareItem, OnRead, item_kept, KeepTakes, KeepFails, IsWrongType}
 use Rattle.sfv.specs.Types.{Error, ParseError, OutOfMemory, ItemFault, ExpectItem}
 use Rattle.sfv.specs.BareItems.{input_value}

@@ -49,7 +49,7 @@ use Rattle.sfv.specs.parser.Visits.{TookAllOf, TookAll}
 use Rattle.sfv.specs.Parsers.{version_of, input_of, IsParseError, FailsOn, IsAnswerOf, IsAnswerBy, IsSyntaxErrorBy}
 use Rattle.sfv.specs.Parsers.{ReceivesUpTo, ReceivesBeforeErrorBy, IsVisitorErrorBy}
 use Rattle.sfv.proofs.visits.Whole.{spaced, field_error, ending_located}
-use Rattle.sfv.proofs.Parsed.{located_fault, parse_error, syntax_parts}
+use Rattle.sfv.proofs.Parsed.{located_fault, parse_error}
 use Rattle.sfv.proofs.reads.Delimiters.{span_total}
 use Rattle.sfv.specs.Memory.{IsRefusal}
 
@@ -498,14 +498,13 @@ module _ {S O E : Type 0} (v : Ghosts S O E) (p : Parser) (kind : FieldKind) (fr
 
       on : IsParseError version kind t e → (e ≡ out_of_memory) ⊎ ReceivesUpTo v p kind from
       on (inl same) = inl same
-      on (inr h') =
-          let s = syntax_parts version kind t e h' in
-          let took = at_index (index_of e) (ap index_of s.2) h.2 in
+      on (inr s) =
+          let took = at_index (index_of e) (ap index_of s.error) h.2 in
           inr (record {
             es = visited (events kind) (whole_field_at version kind t);
             to = took.0;
             taken = took.1;
-            begins = λ n reach. visited_reach version kind t s.3 n reach;
+            begins = λ n reach. visited_reach version kind t s.rejected n reach;
             whole = before;
           })
 

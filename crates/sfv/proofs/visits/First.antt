@@ -30,7 +30,7 @@ use Rattle.sfv_visitor.specs.declared.visitor.Visitor.{Ghosts}
 use Rattle.sfv.specs.declared.parser.Parser.{Parser}
 use Rattle.sfv.specs.parser.Visits.{IsOfVisitor, VisitsField, TookBare, TookFirst}
 use Rattle.sfv.specs.Parsers.{version_of, input_of, IsParseError, ReceivesFirstBy}
-use Rattle.sfv.proofs.Parsed.{parse_error, syntax_parts}
+use Rattle.sfv.proofs.Parsed.{parse_error}
 use Rattle.sfv.proofs.visits.Fields.{whole_visited, whole_accepted}
 
 -- ---- what was taken before an error
@@ -215,9 +215,8 @@ module _ {S O E : Type 0} (v : Ghosts S O E) (p : Parser) (from : S) where
     where
       on : IsParseError version item_field t e → ReceivesFirstBy v p from (Syntax e)
       on (inl same) = inl same
-      on (inr h) = inr (λ value begins.
-          let s = syntax_parts version item_field t e h in
+      on (inr s) = inr (λ value begins.
           let read = first_bare version value t begins in
           let f = begins.first in
-          k f.spaces (f.front ++ f.rest) read.0 s.1 value f.rest (ap index_of s.2) read.1)
+          k f.spaces (f.front ++ f.rest) read.0 s.index value f.rest (ap index_of s.error) read.1)
   visits_first (Err (Visitor f)) h k = failed_first f h
