@@ -1,7 +1,7 @@
 -- The digits of an escape in a display string.
 use Rattle.std.specs.Prelude.{ℕ, Option, Some, None, if◌then◌else◌}
 use Rattle.sfv_spec.specs.Classes.{is_lower_hexadecimal}
-use Rattle.sfv_spec.specs.Strings.{hexadecimal_value}
+use Rattle.std.specs.Char.{digit_value as hexadecimal_value}
 
 -- the value of a byte as a digit, if it is one (RFC 9651, section 3.3.8)
 abbrev pub digit_value : ℕ → Option ℕ

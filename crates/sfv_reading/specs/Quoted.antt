@@ -7,7 +7,8 @@ use Rattle.std.specs.Str.Lossy.{utf8_valid_len}
 use Rattle.sfv_spec.proofs.Marks.{double_quote, percent_sign, backslash}
 use Rattle.sfv_spec.specs.Texts.{RunOf, Exactly, ◌⨾◌}
 use Rattle.sfv_spec.specs.Classes.{is_string_byte, is_lower_hexadecimal}
-use Rattle.sfv_spec.specs.Strings.{is_escaped_in_string, hexadecimal_value, IsStringPiece}
+use Rattle.sfv_spec.specs.Strings.{is_escaped_in_string, IsStringPiece}
+use Rattle.std.specs.Char.{digit_value as hexadecimal_value}
 use Rattle.sfv_spec.proofs.Marks.{IsStringContent}
 use Rattle.sfv_spec.specs.Strings.{IsDisplayPiece}
 use Rattle.sfv_spec.proofs.Marks.{IsDisplayContent}

@@ -2,7 +2,8 @@
 
 ghost use Rattle.std.specs.Prelude.{◌≡◌, ◌<◌, true};
 ghost use Rattle.sfv_spec.specs.Values.{display_string};
-ghost use Rattle.sfv_spec.specs.Canonical.{hexadecimal_digit, bare_text};
+ghost use Rattle.sfv_spec.specs.Canonical.{bare_text};
+ghost use Rattle.std.specs.Char.{digit_char};
 ghost use Rattle.sfv_writer.specs.Written.{AsksForRoom, Appends};
 
 use crate::quoted::{Escaping, serialize_inside};
@@ -13,7 +14,7 @@ use std::alloc::{AllocError, Allocator};
 /// Returns the lower-case hexadecimal digit of a number below 16.
 fn digit_of(value: u8) -> char
     requires { value < 16 }
-    ensures digit { result ≡ hexadecimal_digit value }
+    ensures digit { result ≡ digit_char value }
     ensures ascii { result < 128 }
 {
     if value < 10 {

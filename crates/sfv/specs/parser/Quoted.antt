@@ -10,7 +10,7 @@ use Rattle.sfv_spec.proofs.Marks.{semicolon}
 use Rattle.sfv_spec.specs.Texts.{RunOf}
 use Rattle.sfv_spec.specs.Grammar.{Spaces}
 use Rattle.sfv_spec.specs.Classes.{is_lower_hexadecimal}
-use Rattle.sfv_spec.specs.Strings.{hexadecimal_value}
+use Rattle.std.specs.Char.{digit_value as hexadecimal_value}
 use Rattle.sfv_base.specs.declared.error.Error.{Error}
 use Rattle.sfv_spec.specs.declared.error_kind.ErrorKind.{ErrorKind}
 use Rattle.sfv_spec.specs.declared.error_kind.ErrorKind.TheVariants.{UnterminatedString, InvalidStringCharacter}

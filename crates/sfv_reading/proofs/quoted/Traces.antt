@@ -6,7 +6,8 @@ use Rattle.std.specs.List.{concat}
 use Rattle.std.proofs.lemmas.Bool.{and_from, eqb-true, or_from, not_from_false}
 use Rattle.sfv_spec.proofs.Marks.{double_quote, percent_sign, backslash}
 use Rattle.sfv_spec.specs.Classes.{is_string_byte, is_lower_hexadecimal}
-use Rattle.sfv_spec.specs.Strings.{is_escaped_in_string, hexadecimal_value, IsStringPiece, IsDisplayPiece}
+use Rattle.sfv_spec.specs.Strings.{is_escaped_in_string, IsStringPiece, IsDisplayPiece}
+use Rattle.std.specs.Char.{digit_value as hexadecimal_value}
 use Rattle.sfv_spec.specs.declared.error_kind.ErrorKind.{ErrorKind}
 use Rattle.sfv_spec.specs.declared.error_kind.ErrorKind.TheVariants.{InvalidStringCharacter, UnterminatedString}
 use Rattle.sfv_spec.specs.declared.error_kind.ErrorKind.TheVariants.{UnterminatedEscapeSequence, InvalidEscapeSequence}

@@ -10,7 +10,8 @@ use Rattle.std.proofs.lemmas.Str.{utf8_valid_len_le}
 use Rattle.sfv_spec.proofs.Marks.{percent_sign}
 use Rattle.sfv_spec.specs.Texts.{RunOf, IsLongestBeginning}
 use Rattle.sfv_spec.specs.Classes.{is_string_byte, is_lower_hexadecimal}
-use Rattle.sfv_spec.specs.Strings.{hexadecimal_value, IsDisplayPiece}
+use Rattle.sfv_spec.specs.Strings.{IsDisplayPiece}
+use Rattle.std.specs.Char.{digit_value as hexadecimal_value}
 use Rattle.sfv_spec.proofs.Marks.{AreDisplayPieces}
 use Rattle.sfv_spec.specs.Faults.{DisplayFault, open_display, open_escape, wrong_escape, wrong_byte, wrong_utf8}
 use Rattle.sfv_spec.specs.declared.error_kind.ErrorKind.{ErrorKind}
