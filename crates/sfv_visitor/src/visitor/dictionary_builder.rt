@@ -1,6 +1,7 @@
 //! The visitor that builds a dictionary.
 
 ghost use Rattle.std.specs.Prelude.{◌≡◌, ⊤, false, None, OnOk, OnErr, IsTrue};
+ghost use Rattle.indexmap.specs.IndexMap.{hasher_of};
 ghost use Rattle.sfv_tree.specs.Seeds.{DictionaryHasSeed};
 ghost use Rattle.sfv_tree.specs.Trees.{dictionary_tree};
 ghost use Rattle.sfv_tree.specs.declared.hash_seed.HashSeed.{HashSeed};
@@ -34,7 +35,7 @@ impl DictionaryBuilder {
     /// lines of a field, pass the dictionary of the earlier lines.
     pub fn new(dictionary: Dictionary) -> DictionaryBuilder
         ensures state { dictionary_state result ≡ (dictionary_tree dictionary.entries, None) }
-        ensures seed { (seed : HashSeed) → DictionaryHasSeed seed dictionary → IsDictionaryUnder seed result }
+        ensures seed { DictionaryHasSeed (hasher_of dictionary) dictionary → IsDictionaryUnder (hasher_of dictionary) result }
     {
         DictionaryBuilder {
             dictionary,

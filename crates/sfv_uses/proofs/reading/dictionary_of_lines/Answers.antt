@@ -1,4 +1,4 @@
-use Rattle.std.proofs.Common.{◌≡◌, ℕ, List}
+use Rattle.std.proofs.Common.{◌≡◌, ℕ, List, refl}
 use Rattle.std.proofs.lemmas.Result.{IfOk-weaker}
 use Rattle.sfv.specs.Types.{dictionary_field}
 use Rattle.sfv.specs.Types.{Rfc9651}
@@ -34,7 +34,7 @@ returns-clause-seed c =
     let first : DictionaryHasSeed c.args.seed c.in_ok-held.held =
     rw c.with_hash_seed-parser.ensures at c.in_ok-held.ensures.seed in
     IfOk-weaker c.parse_dictionary_with_visitor.result _ _ (λ dictionary h. dictionary_seeded Rfc9651 c.args.second.now
-    c.new-builder.result dictionary c.args.seed (c.new-builder.ensures.seed c.args.seed first) h) second
+    c.new-builder.result dictionary c.args.seed (rw first.0 at c.new-builder.ensures.seed (refl, first.1)) h) second
 
 pub returns-clause-rejected : goal.returns-clause-rejected
 returns-clause-rejected c =
