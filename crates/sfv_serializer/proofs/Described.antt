@@ -150,7 +150,7 @@ dictionary_lacks old ms (Err e) h =
     (each_is (λ m. (text_of m.0, member_calls m.1)) added_text_of_pair (added test text) added_pair_is (take 1 (drop h.0 ms))) in
     (h.0, subst (λ (l : List (List ℕ)). LacksRoom old (joined (codes ", ") l)) same h.1)
 
--- ---- a version that has all values has those of what is described
+-- ---- a version that has all values of the calls has the values of the described field
 
 module _ (version : Version) where
   pub list_fits : (ms : List MemberCalls) → Fits version list_field (map member_of_calls ms)

@@ -50,8 +50,8 @@ described_list members = map member_of_calls (filter is_written members)
 abbrev pub described_dictionary : List (KeyRef × MemberCalls) → RawField dictionary_field
 described_dictionary members = map entry_of_calls (filter (λ m. is_written m.1) members)
 
--- For some call, `old` has no room for the members that the calls before it write, and for what it appends: the text of
--- its member, without the last parenthesis if it is abandoned.
+-- For some call, `old` has no room for the members written before it and the text that the call appends. An abandoned
+-- inner list appends its text without the last parenthesis.
 abbrev pub LacksForCall : {Z A : Type 0} → String Z → (A → Bool) → (A → List ℕ) → List A → Type 0
 LacksForCall old is_written text calls = (n : ℕ) × LacksRoom old (joined (codes ", ")
     (map text (filter is_written (take n calls))
