@@ -3,6 +3,7 @@ use Rattle.std.proofs.Common.{◌≡◌, ℕ, zero, suc, ◌<◌, ◌≤◌, ◌
 use Rattle.std.proofs.Common.{refl, sym, ◌∙◌, ap, Bool, true, false, cond, inl, inr, arith, ℤ, pos, replicate}
 use Rattle.std.specs.Prelude.{not, ◌==◌, codes, flat_map, bytes_eq, filter, Option, Some, None, unwrap_or, decimal as decimal_digits}
 use Rattle.std.specs.Option.{option_or}
+use Rattle.std.specs.Char.{digit_char}
 use Rattle.std.specs.Fmt.{signed_decimal}
 use Rattle.std.proofs.lemmas.Bool.{eq-eqb, true≢false}
 use Rattle.std.proofs.lemmas.Fmt.{length-decimal-le}
@@ -11,7 +12,7 @@ use Rattle.std.proofs.lemmas.Slice.Eq.{bytes_eq-Decides}
 use Rattle.std.proofs.lemmas.Str.Parse.{digits_value_short}
 use Rattle.sfv_spec.specs.Ascii.{byte}
 use Rattle.sfv_spec.specs.Numbers.{AreDigits, place_value, signed, text_if, IsIntegerText, IsDecimalText}
-use Rattle.sfv_spec.specs.Canonical.{fraction_digits, decimal_text, string_piece, hexadecimal_digit, display_piece, bare_text, value_text, parameters_text, item_text, inner_list_text, member_text, dictionary_member_text, canonical}
+use Rattle.sfv_spec.specs.Canonical.{fraction_digits, decimal_text, string_piece, display_piece, bare_text, value_text, parameters_text, item_text, inner_list_text, member_text, dictionary_member_text, canonical}
 use Rattle.sfv_spec.specs.Base64.{IsBase64Text, base64_text, bits, symbol}
 use Rattle.sfv_spec.specs.Strings.{IsStringPiece, IsDisplayPiece, is_escaped_in_string, is_plain_in_display}
 use Rattle.sfv_spec.specs.Texts.{Exactly, ◌⨾◌, IsJoining, IsSeparated, joined}
@@ -119,7 +120,7 @@ display_piece_len : (c : ℕ) (t : List ℕ) → IsDisplayPiece c t → length (
 display_piece_len c t h = go (is_plain_in_display c) refl h
   where
     go : (b : Bool) → is_plain_in_display c ≡ b → IsDisplayPiece c t
-        → length (cond b (c ∷ []) (byte "%" ∷ hexadecimal_digit (c / 16) ∷ hexadecimal_digit (c % 16) ∷ [])) ≤ length t
+        → length (cond b (c ∷ []) (byte "%" ∷ digit_char (c / 16) ∷ digit_char (c % 16) ∷ [])) ≤ length t
     go true e (inl k) = rw k.1 (omega arith)
     go true e (inr k) = rw k.4 (omega arith)
     go false e (inl k) = absurd (grind (arith, e, k.0))
