@@ -1,15 +1,19 @@
 -- The field Sec-CH-UA-Mobile, which is an item.
-use Rattle.std.specs.Prelude.{◌≡◌, ℕ, List, Bool, false}
-use Rattle.sfv.specs.Values.{BareValue, boolean, RawItem}
+use Rattle.std.specs.Prelude.{◌≡◌, ◌≢◌, ℕ, List, Bool}
+use Rattle.sfv.specs.Values.{boolean, RawItem}
 use Rattle.sfv.specs.Types.{item_field}
 use Rattle.sfv.specs.Types.{Rfc9651}
+use Rattle.sfv.specs.Parsers.{IsParseError}
 use Rattle.sfv.specs.Statements.{IsParsedAs}
+use Rattle.sfv_mobile_hint.specs.declared.HintError.{HintError}
+use Rattle.sfv_mobile_hint.specs.declared.HintError.TheVariants as errors
 
--- the value of a Boolean, and false for another kind
-abbrev pub mobile_in : BareValue → Bool
-mobile_in (boolean mobile) = mobile
-mobile_in value = false
-
--- the text parses to an item with this hint
+-- the text parses to an item with this Boolean
 abbrev pub IsMobileHint : List ℕ → Bool → Type 0
-IsMobileHint t mobile = (item : RawItem) × IsParsedAs Rfc9651 item_field t item × (mobile ≡ mobile_in item.bare)
+IsMobileHint t mobile = (item : RawItem) × IsParsedAs Rfc9651 item_field t item × (item.bare ≡ boolean mobile)
+
+-- the error of the parser, or the text parses to an item that is not a Boolean
+abbrev pub IsHintError : List ℕ → HintError → Type 0
+IsHintError t (errors.Parse e) = IsParseError Rfc9651 item_field t e
+IsHintError t errors.WrongType =
+    (item : RawItem) × IsParsedAs Rfc9651 item_field t item × ((mobile : Bool) → item.bare ≢ boolean mobile)

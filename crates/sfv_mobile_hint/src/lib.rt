@@ -2,26 +2,35 @@
 #![tactic(auto)]
 
 ghost use Rattle.std.specs.Prelude.{IfOk, IfErr};
-ghost use Rattle.sfv.specs.Types.{item_field};
-ghost use Rattle.sfv.specs.Types.{Rfc9651};
-ghost use Rattle.sfv.specs.Parsers.{IsParseError};
-ghost use Rattle.sfv_mobile_hint.specs.MobileHint.{IsMobileHint};
+ghost use Rattle.sfv_mobile_hint.specs.MobileHint.{IsMobileHint, IsHintError};
 
 use sfv::{Error, Item, Parser};
 use std::alloc::Global;
 
-/// Parses the field. Returns its Boolean, or `false` for an item of another kind. Ignores parameters.
+/// The error of an input that is not such a field.
+#[derive(Clone, Copy, Debug, PartialEq, Eq)]
+pub enum HintError {
+    /// The input is not an item, or memory ran out.
+    Parse(Error),
+    /// The item is not a Boolean.
+    WrongType,
+}
+
+/// Parses the field. Returns its Boolean. Ignores parameters.
 ///
 /// # Errors
 ///
-/// Returns the error of `Parser::parse` if the input is not an item, or if memory runs out.
-pub fn is_mobile(alloc: Global, input: &[u8]) -> Result<bool, Error>
+/// Returns `Parse` with the error of `Parser::parse`, or `WrongType` for an item that is not a Boolean.
+pub fn is_mobile(alloc: Global, input: &[u8]) -> Result<bool, HintError>
     ensures read { IfOk result (IsMobileHint input.now) }
-    ensures rejected { IfErr result (IsParseError Rfc9651 item_field input.now) }
+    ensures failed { IfErr result (IsHintError input.now) }
 {
-    let item = Parser::new(input).parse::<Item>(alloc)?;
+    let item = match Parser::new(input).parse::<Item>(alloc) {
+        Ok(item) => item,
+        Err(error) => return Err(HintError::Parse(error)),
+    };
     let Some(mobile) = item.bare_item.as_boolean() else {
-        return Ok(false);
+        return Err(HintError::WrongType);
     };
     Ok(mobile)
 }
