@@ -17,6 +17,8 @@ mod scripts;
 #[cfg(test)]
 mod serializers;
 #[cfg(test)]
+mod sizes;
+#[cfg(test)]
 mod versions;
 #[cfg(test)]
 mod visitors;
