@@ -1,6 +1,6 @@
 //! The state within a member of a list or a dictionary, with its parsed part.
 
-ghost use Rattle.std.specs.Prelude.{◌≡◌, false, IfOk, OnErr, IsTrue};
+ghost use Rattle.std.specs.Prelude.{◌≡◌, false, IfOk, OnOk, OnErr, IsTrue};
 ghost use Rattle.sfv_spec.specs.Events as tree;
 ghost use Rattle.sfv_bare.specs.BareItems.{input_value, is_borrowed};
 ghost use Rattle.sfv_text.specs.CheckedTexts.{text_of};
@@ -59,33 +59,32 @@ fn plain_item(
 
 impl Member {
     // Inserts a parameter of the current item, or of the inner list.
-    fn parameter(
-        self,
+    pub(crate) fn parameter(
+        &mut self,
         alloc: Global,
         key: KeyRef<'_>,
         value: BareItemFromInput<'_>,
-    ) -> Result<Member, OutOfMemory>
-        ensures state { IfOk result (λ after. member_state after
-            ≡ member_step (member_state self) (tree.parameter (text_of key.entry) (input_value value.entry))) }
-        ensures seed { IfOk result (λ after. (seed : HashSeed) → HasSeedSoFar seed self
-            → HasSeedSoFar seed after) }
-        ensures out_of_memory { OnErr result (IsTrue (takes_memory (member_state self)
+    ) -> Result<(), OutOfMemory>
+        ensures state { OnOk result (member_state self.new
+            ≡ member_step (member_state self.old) (tree.parameter (text_of key.entry) (input_value value.entry))) }
+        ensures seed { OnOk result ((seed : HashSeed) → HasSeedSoFar seed self.old → HasSeedSoFar seed self.new) }
+        ensures out_of_memory { OnErr result (IsTrue (takes_memory (member_state self.old)
             (tree.parameter (text_of key.entry) (input_value value.entry)))) }
     {
         match self {
-            Member::ItemParams(mut item) => {
+            Member::ItemParams(item) => {
                 insert_parameter(alloc, &mut item.params, key, value)?;
-                Ok(Member::ItemParams(item))
+                Ok(())
             }
-            Member::InnerParams(list, mut item) => {
+            Member::InnerParams(_, item) => {
                 insert_parameter(alloc, &mut item.params, key, value)?;
-                Ok(Member::InnerParams(list, item))
+                Ok(())
             }
-            Member::ListParams(mut list) => {
+            Member::ListParams(list) => {
                 insert_parameter(alloc, &mut list.params, key, value)?;
-                Ok(Member::ListParams(list))
+                Ok(())
             }
-            member => Ok(member),
+            _ => Ok(()),
         }
     }
 
@@ -128,8 +127,9 @@ impl Member {
         ensures copied { OnErr result (is_moved event.entry ≡ false) }
     {
         match (self, event) {
-            (member, Event::Parameter(key, value)) => {
-                Ok(Step::Within(member.parameter(alloc, key, value)?))
+            (mut member, Event::Parameter(key, value)) => {
+                member.parameter(alloc, key, value)?;
+                Ok(Step::Within(member))
             }
             (member, Event::ParametersEnd) => member.end_parameters(count),
             (Member::Begun, Event::Item) => Ok(Step::Within(Member::ItemHead)),
