@@ -44,6 +44,7 @@ pub(crate) enum Step {
 }
 
 // Returns the item of this bare item, without parameters.
+#[inline(always)]
 fn plain_item(
     alloc: Global,
     seed: HashSeed,
@@ -89,6 +90,7 @@ impl Member {
     }
 
     // Ends the parameters of the current item, or of the inner list. `count` members come before this one.
+    #[inline(always)]
     fn end_parameters(self, count: usize) -> Result<Step, OutOfMemory>
         ensures state { IfOk result (λ after. step_state after
             ≡ member_step (member_state self) tree.parameters_end) }
@@ -114,6 +116,7 @@ impl Member {
     }
 
     /// Returns the member after an event. An event out of sequence changes nothing. `count` members come before this one.
+    #[inline(always)]
     pub(crate) fn step(
         self,
         alloc: Global,
