@@ -5,6 +5,9 @@ ghost use Rattle.indexmap.specs.IndexMap.{hasher_of};
 ghost use Rattle.sfv_tree.specs.Seeds.{DictionaryHasSeed};
 ghost use Rattle.sfv_tree.specs.Trees.{dictionary_tree};
 ghost use Rattle.sfv_tree.specs.declared.hash_seed.HashSeed.{HashSeed};
+ghost use Rattle.sfv_bare.specs.BareItems.{input_value};
+ghost use Rattle.sfv_spec.specs.Events as tree;
+ghost use Rattle.sfv_text.specs.CheckedTexts.{text_of};
 ghost use Rattle.sfv_visitor.specs.Events.{event_of, is_moved};
 ghost use Rattle.sfv_visitor.specs.Builders.{complete, dictionary_step, dictionary_state};
 ghost use Rattle.sfv_visitor.specs.Builders.{dictionary_takes_memory};
@@ -12,8 +15,10 @@ ghost use Rattle.sfv_visitor.specs.Builders.{IsDictionaryUnder, StaysUnder};
 
 use crate::visitor::member::{Member, Step};
 use crate::visitor::{Event, Visitor};
+use sfv_bare::bare::BareItemFromInput;
 use sfv_base::error::OutOfMemory;
 use sfv_text::key::Key;
+use sfv_text::key_ref::KeyRef;
 use sfv_tree::parsed::Dictionary;
 
 /// A visitor that builds a dictionary, beginning with an existing one. A repeated key keeps its first position and
@@ -41,6 +46,25 @@ impl DictionaryBuilder {
             dictionary,
             member: None,
         }
+    }
+
+    // Inserts a parameter into the current member, where it is.
+    fn parameter(
+        &mut self,
+        key: KeyRef<'_>,
+        value: BareItemFromInput<'_>,
+    ) -> Result<(), OutOfMemory>
+        ensures state { OnOk result (dictionary_state self.new
+            ≡ dictionary_step (dictionary_state self.old) (tree.parameter (text_of key.entry) (input_value value.entry))) }
+        ensures seed { OnOk result (StaysUnder IsDictionaryUnder self.old self.new) }
+        ensures out_of_memory { OnErr result (IsTrue (dictionary_takes_memory (dictionary_state self.old)
+            (tree.parameter (text_of key.entry) (input_value value.entry)))) }
+    {
+        let alloc = *self.dictionary.allocator();
+        if let Some((_, member)) = &mut self.member {
+            member.parameter(alloc, key, value)?;
+        }
+        Ok(())
     }
 
     #[inline(always)]
@@ -99,6 +123,9 @@ impl<'de> Visitor<'de> for DictionaryBuilder {
 
     #[inline(always)]
     fn event(&mut self, event: Event<'de>) -> Result<(), OutOfMemory> {
+        if let Event::Parameter(key, value) = event {
+            return self.parameter(key, value);
+        }
         self.step(event)
     }
 

@@ -4,13 +4,18 @@ ghost use Rattle.std.specs.Prelude.{◌≡◌, ⊤, false, None, OnOk, OnErr, Is
 ghost use Rattle.sfv_tree.specs.Seeds.{ListHasSeed};
 ghost use Rattle.sfv_tree.specs.Trees.{list_tree};
 ghost use Rattle.sfv_tree.specs.declared.hash_seed.HashSeed.{HashSeed};
+ghost use Rattle.sfv_bare.specs.BareItems.{input_value};
+ghost use Rattle.sfv_spec.specs.Events as tree;
+ghost use Rattle.sfv_text.specs.CheckedTexts.{text_of};
 ghost use Rattle.sfv_visitor.specs.Events.{event_of, is_moved};
 ghost use Rattle.sfv_visitor.specs.Builders.{complete, list_step, list_state, list_takes_memory};
 ghost use Rattle.sfv_visitor.specs.Builders.{IsListUnder, StaysUnder};
 
 use crate::visitor::member::{Member, Step};
 use crate::visitor::{Event, Visitor};
+use sfv_bare::bare::BareItemFromInput;
 use sfv_base::error::OutOfMemory;
+use sfv_text::key_ref::KeyRef;
 use sfv_tree::hash_seed::HashSeed;
 use sfv_tree::parsed::List;
 
@@ -42,6 +47,25 @@ impl ListBuilder {
             seed,
             member: None,
         }
+    }
+
+    // Inserts a parameter into the current member, where it is.
+    fn parameter(
+        &mut self,
+        key: KeyRef<'_>,
+        value: BareItemFromInput<'_>,
+    ) -> Result<(), OutOfMemory>
+        ensures state { OnOk result (list_state self.new
+            ≡ list_step (list_state self.old) (tree.parameter (text_of key.entry) (input_value value.entry))) }
+        ensures seed { OnOk result (StaysUnder IsListUnder self.old self.new) }
+        ensures out_of_memory { OnErr result (IsTrue (list_takes_memory (list_state self.old)
+            (tree.parameter (text_of key.entry) (input_value value.entry)))) }
+    {
+        let alloc = *self.list.allocator();
+        if let Some(member) = &mut self.member {
+            member.parameter(alloc, key, value)?;
+        }
+        Ok(())
     }
 
     #[inline(always)]
@@ -91,6 +115,9 @@ impl<'de> Visitor<'de> for ListBuilder {
 
     #[inline(always)]
     fn event(&mut self, event: Event<'de>) -> Result<(), OutOfMemory> {
+        if let Event::Parameter(key, value) = event {
+            return self.parameter(key, value);
+        }
         self.step(event)
     }
 

@@ -1,6 +1,6 @@
 //! The state within a member of a list or a dictionary, with its parsed part.
 
-ghost use Rattle.std.specs.Prelude.{◌≡◌, false, IfOk, OnErr, IsTrue};
+ghost use Rattle.std.specs.Prelude.{◌≡◌, false, IfOk, OnOk, OnErr, IsTrue};
 ghost use Rattle.sfv_spec.specs.Events as tree;
 ghost use Rattle.sfv_bare.specs.BareItems.{input_value, is_borrowed};
 ghost use Rattle.sfv_text.specs.CheckedTexts.{text_of};
@@ -44,6 +44,7 @@ pub(crate) enum Step {
 }
 
 // Returns the item of this bare item, without parameters.
+#[inline(always)]
 fn plain_item(
     alloc: Global,
     seed: HashSeed,
@@ -59,37 +60,37 @@ fn plain_item(
 
 impl Member {
     // Inserts a parameter of the current item, or of the inner list.
-    fn parameter(
-        self,
+    pub(crate) fn parameter(
+        &mut self,
         alloc: Global,
         key: KeyRef<'_>,
         value: BareItemFromInput<'_>,
-    ) -> Result<Member, OutOfMemory>
-        ensures state { IfOk result (λ after. member_state after
-            ≡ member_step (member_state self) (tree.parameter (text_of key.entry) (input_value value.entry))) }
-        ensures seed { IfOk result (λ after. (seed : HashSeed) → HasSeedSoFar seed self
-            → HasSeedSoFar seed after) }
-        ensures out_of_memory { OnErr result (IsTrue (takes_memory (member_state self)
+    ) -> Result<(), OutOfMemory>
+        ensures state { OnOk result (member_state self.new
+            ≡ member_step (member_state self.old) (tree.parameter (text_of key.entry) (input_value value.entry))) }
+        ensures seed { OnOk result ((seed : HashSeed) → HasSeedSoFar seed self.old → HasSeedSoFar seed self.new) }
+        ensures out_of_memory { OnErr result (IsTrue (takes_memory (member_state self.old)
             (tree.parameter (text_of key.entry) (input_value value.entry)))) }
     {
         match self {
-            Member::ItemParams(mut item) => {
+            Member::ItemParams(item) => {
                 insert_parameter(alloc, &mut item.params, key, value)?;
-                Ok(Member::ItemParams(item))
+                Ok(())
             }
-            Member::InnerParams(list, mut item) => {
+            Member::InnerParams(_, item) => {
                 insert_parameter(alloc, &mut item.params, key, value)?;
-                Ok(Member::InnerParams(list, item))
+                Ok(())
             }
-            Member::ListParams(mut list) => {
+            Member::ListParams(list) => {
                 insert_parameter(alloc, &mut list.params, key, value)?;
-                Ok(Member::ListParams(list))
+                Ok(())
             }
-            member => Ok(member),
+            _ => Ok(()),
         }
     }
 
     // Ends the parameters of the current item, or of the inner list. `count` members come before this one.
+    #[inline(always)]
     fn end_parameters(self, count: usize) -> Result<Step, OutOfMemory>
         ensures state { IfOk result (λ after. step_state after
             ≡ member_step (member_state self) tree.parameters_end) }
@@ -115,6 +116,7 @@ impl Member {
     }
 
     /// Returns the member after an event. An event out of sequence changes nothing. `count` members come before this one.
+    #[inline(always)]
     pub(crate) fn step(
         self,
         alloc: Global,
@@ -128,8 +130,9 @@ impl Member {
         ensures copied { OnErr result (is_moved event.entry ≡ false) }
     {
         match (self, event) {
-            (member, Event::Parameter(key, value)) => {
-                Ok(Step::Within(member.parameter(alloc, key, value)?))
+            (mut member, Event::Parameter(key, value)) => {
+                member.parameter(alloc, key, value)?;
+                Ok(Step::Within(member))
             }
             (member, Event::ParametersEnd) => member.end_parameters(count),
             (Member::Begun, Event::Item) => Ok(Step::Within(Member::ItemHead)),
