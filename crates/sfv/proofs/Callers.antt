@@ -51,7 +51,7 @@ use Rattle.sfv.proofs.built.Dictionaries.{built_dictionary_after}
 pub use Rattle.sfv_spec.proofs.Last.{IsLast, last_of-split, split-last_of, none-last_of, lookup-last_of, last_of-over}
 pub use Rattle.sfv_spec.proofs.Last.{last_of-ordered}
 pub use Rattle.sfv_spec.proofs.Collapse.{last_of-collapse, last_of-absent}
--- the value of two lines, as that of the joined lines
+-- the value of two lines is the value of the joined lines
 pub use Rattle.sfv.proofs.Lines.{list_in_lines, dictionary_in_lines}
 -- an insertion, seen as the pairs
 pub use Rattle.sfv_tree.proofs.Entered.{dictionary_tree-insert, pairs_tree-insert}

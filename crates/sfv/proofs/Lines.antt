@@ -15,7 +15,7 @@ use Rattle.sfv_spec.proofs.Structure.{one_field_lem}
 use Rattle.sfv_reading.proofs.Lines.{joined_lines_lem}
 use Rattle.sfv.proofs.built.Dictionaries.{collapse-over}
 
--- the value of the first line stands for its text
+-- the value of the first line has the same effect as its members
 dictionary_again : (a b : List (List ℕ × RawMember))
     → ordered dictionary_field (ordered dictionary_field a ++ b) ≡ ordered dictionary_field (a ++ b)
 dictionary_again a b =

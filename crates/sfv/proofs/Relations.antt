@@ -75,7 +75,7 @@ HasFirst takes fails finish_fails version t from (Visitor error) = (raw : RawIte
     × ((value : BareValue) → BeginsWithComplete version value t → raw.bare ≡ value)
     × FailsIn takes fails finish_fails from (item_events raw) ⊤ error
 
--- the bare item as it was parsed, and the result after the parameters
+-- the parsed bare item, and the result after the parameters
 abbrev pub HasBorrowed : {S O : Type 0} → (S → TreeEvent → S → Type 0) → (S → Event → S → Type 0) → (S → O → Type 0)
     → Version → List ℕ → S → O → Type 0
 HasBorrowed {S} takes takes_read finishes version t from out = (read : ReadBareItem) × (parameters : RawParameters)

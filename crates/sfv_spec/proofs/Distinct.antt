@@ -11,7 +11,7 @@ use Rattle.sfv_spec.proofs.Repeats.{no_repeats, IsOrderedItem, IsOrderedMember, 
 use Rattle.sfv_spec.proofs.Marks.{keys}
 use Rattle.sfv_spec.proofs.Collapse.{collapse-distinct, no_repeats-collapse}
 
--- what has no repeats is ordered as it stands
+-- a field without repeated keys is its own ordered value
 pub item_same : (i : RawItem) → IsOrderedItem i → ordered_item i ≡ i
 item_same i h = λ j. record { bare = i.bare; parameters = collapse-distinct i.parameters h j }
 

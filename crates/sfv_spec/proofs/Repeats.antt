@@ -1,4 +1,4 @@
--- Words that only proofs use: fields in which no key occurs twice.
+-- Fields without repeated keys. Only proofs use these definitions.
 use Rattle.std.specs.Prelude.{ℕ, List, [], ◌∷◌, Bool, true, not, ◌&&◌, IsTrue, bytes_eq}
 use Rattle.std.specs.List.{list_any, AllByRecursion}
 use Rattle.std.specs.Map.{keys_of}

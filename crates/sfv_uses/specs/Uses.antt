@@ -47,7 +47,7 @@ pub record IsExplained (t text : List ℕ) : Type 0 where
   pub located : IsFaultAt Rfc9651 list_field t fault index
   pub text_is : text ≡ repeat index (codes " ") ++ codes "^ " ++ message_of fault
 
--- if both lines have a member, the value is that of the lines joined by a comma and a space
+-- if both lines have a member, the lines joined by a comma and a space have this value
 abbrev pub IsOfOneLine : (kind : FieldKind) → List ℕ → List ℕ → RawField kind → Type 0
 IsOfOneLine kind first second value = (a b : RawField kind) → IsFieldText Rfc9651 kind a first → HasMember kind a
     → IsFieldText Rfc9651 kind b second → HasMember kind b → IsParsedAs Rfc9651 kind (first ++ codes ", " ++ second) value

@@ -49,13 +49,13 @@ pub written : (kind : FieldKind) (value : RawField kind) (t : List ℕ) → IsVa
     → IsWritten Rfc9651 kind value t
 written kind value t v e = written_for Rfc9651 kind value t v (all_fit_newer (bare_values kind value)) e
 
--- what is parsed is a value
+-- a parsed value has its parts in range and no repeated keys
 parsed_is_value : (version : Version) (kind : FieldKind) (value : RawField kind) (t : List ℕ)
     → IsParsedAs version kind t value → IsValue kind value
 parsed_is_value version kind value t h = subst (IsValue kind) (sym h.holds)
     (accepted_is_value_lem version kind t h.raw h.accepted).1
 
--- what is serialized for a version is a value, and the version has it
+-- so has a serialized value, and the version has its parts
 pub serialized_is_value : (version : Version) (kind : FieldKind) (value : RawField kind) (t : List ℕ)
     → IsSerializedAs version kind value (Some t) → IsValue kind value × Fits version kind value
 serialized_is_value version kind value t h =

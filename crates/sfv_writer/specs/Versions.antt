@@ -77,7 +77,7 @@ pub record PartKind (A : Type 0) : Type 1 where
   pub values : A → List BareValue
   pub is_valid : A → Type 0
 
--- the parts of which `view` shows the value
+-- parts whose value `view` shows
 abbrev pub parts_by : {A R : Type 0} → (A → R) → (R → List ℕ) → (R → List BareValue) → (R → Type 0) → PartKind A
 parts_by view text values is_valid =
     record { text = λ a. text (view a); values = λ a. values (view a); is_valid = λ a. is_valid (view a) }

@@ -17,7 +17,7 @@ runs_weaker takes less w (e ∷ es) from to h = (h.0, w from e h.0 h.1, runs_wea
 
 module _ {S : Type 0} (is_under : HashSeed → S → Type 0) (takes : S → TreeEvent → S → Type 0)
     (each : (s : S) (e : TreeEvent) (t : S) → takes s e t → StaysUnder is_under s t) where
-  -- what is under a seed stays under it over all events
+  -- a builder under a seed stays under it over all events
   runs_stay : (es : List TreeEvent) (from to : S) → FoldsTo takes from es to → StaysUnder is_under from to
   runs_stay [] from to h seed start = subst (is_under seed) h start
   runs_stay (e ∷ es) from to h seed start = runs_stay es h.0 to h.2 seed (each from e h.0 h.1 seed start)

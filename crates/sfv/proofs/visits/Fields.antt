@@ -367,7 +367,7 @@ text_before version kind t (c ∷ q) raw e more n reach =
     subst (λ (raw : RawField kind). IsFieldText version kind raw (take n t)) same
     (subst (IsFieldText version kind before.raw) (front_is t before.front (c ∷ q) n before.text here) before.means)
 
--- what the parser's call for a whole field returns, in the words of its clauses
+-- what the parser's call for a whole field returns, as its clauses say
 module _ {S O E : Type 0} (v : Ghosts S O E) (p : Parser) (kind : FieldKind) (from : S) where
   abbrev version : Version
   version = version_of p

@@ -176,7 +176,7 @@ module _ (version : Version) (kind : FieldKind) where
       ∙ ap (λ (l : List ℕ). l ++ m.1) (sym (append_assoc before (d ∷ x) (codes "(("))
       ∙ ap (λ (l : List ℕ). l ++ codes "((") (sym parts))) b)))
 
-  -- a question mark can stand there, and two parentheses can't
+  -- a question mark may follow, and two parentheses may not
   calls_marked : (u : List ℕ) → BeginsAccepted version kind (u ++ codes "?")
       → ¬ BeginsAccepted version kind (u ++ codes "((") → Calls version bare Field u
   calls_marked u mark out =

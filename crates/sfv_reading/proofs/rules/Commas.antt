@@ -35,7 +35,7 @@ use Rattle.sfv_reading.proofs.complete.Fields.{spaces_end, comma_ends, item_fiel
 use Rattle.sfv_reading.proofs.Theorems.{read_is_accepted}
 use Rattle.sfv_reading.proofs.rules.UpToFault.{bind_met}
 
--- a list or a dictionary is what is no item
+-- a type of field is a list or a dictionary unless it is an item
 pub not_item : (kind : FieldKind) → HasManyMembers kind → kind ≢ item_field
 not_item item_field many = absurd many
 not_item list_field many = λ e. cc
