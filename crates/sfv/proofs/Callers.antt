@@ -31,7 +31,7 @@ use Rattle.sfv_base.specs.declared.error.Error.{Error}
 use Rattle.sfv_base.specs.Errors.{index_of, kind_of, out_of_memory}
 use Rattle.sfv_tree.specs.Trees.{list_tree, dictionary_tree}
 use Rattle.sfv_visitor.specs.Builders.{complete, list_state, list_step, dictionary_state}
-use Rattle.sfv_visitor.specs.Builders.{IsListUnder, IsDictionaryUnder, StaysUnder}
+use Rattle.sfv_visitor.specs.Builders.{ListAddsUnder, IsListUnder, DictionaryAddsUnder, IsDictionaryUnder, StaysUnder}
 use Rattle.sfv_tree.specs.Seeds.{ListHasSeed, DictionaryHasSeed}
 use Rattle.sfv_tree.specs.declared.hash_seed.HashSeed.{HashSeed}
 use Rattle.sfv_visitor.specs.Builders.{dictionary_step}
@@ -242,7 +242,7 @@ located_error version kind t e index (inr h) here =
 pub list_after : {E : Type 0} (version : Version) (t : List ℕ) (held : List RawMember) (from : ListBuilder)
     (r : Result (Vec ListEntry Global) E) → list_state from ≡ (held, None)
     → IfOk r (Answers (λ (s : ListBuilder) e after. (list_state after ≡ list_step (list_state s) e)
-    × StaysUnder IsListUnder s after) (λ s (list : Vec ListEntry Global). (list_tree list.items ≡ complete (list_state s))
+    × StaysUnder IsListUnder s after × StaysUnder ListAddsUnder s after) (λ s (list : Vec ListEntry Global). (list_tree list.items ≡ complete (list_state s))
     × ((seed : HashSeed) → IsListUnder seed s → ListHasSeed seed list.items)) version list_field t from)
     → IfOk r (λ list. (raw : List RawMember) × IsFieldText version list_field raw t
     × (list_tree list.items ≡ held ++ ordered list_field raw))
@@ -254,7 +254,7 @@ pub dictionary_after : {E : Type 0} (version : Version) (t : List ℕ) (held : L
     (from : DictionaryBuilder) (r : Result (IndexMap (List ℕ) ListEntry HashSeed) E) → ordered dictionary_field held ≡ held
     → dictionary_state from ≡ (held, None)
     → IfOk r (Answers (λ (s : DictionaryBuilder) e after. (dictionary_state after
-    ≡ dictionary_step (dictionary_state s) e) × StaysUnder IsDictionaryUnder s after)
+    ≡ dictionary_step (dictionary_state s) e) × StaysUnder IsDictionaryUnder s after × StaysUnder DictionaryAddsUnder s after)
     (λ s (dictionary : IndexMap (List ℕ) ListEntry HashSeed). (dictionary_tree dictionary.entries
     ≡ complete (dictionary_state s)) × ((seed : HashSeed) → IsDictionaryUnder seed s
     → DictionaryHasSeed seed dictionary)) version dictionary_field t from)

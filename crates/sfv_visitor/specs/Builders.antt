@@ -3,7 +3,7 @@ use Rattle.std.specs.Prelude.{◌≡◌, ⊤, MatchOption}
 use Rattle.std.specs.Prelude.{ℕ, List, [], ◌∷◌, ◌++◌, Bool, true, false, ◌&&◌, ◌||◌, Option, Some, None, is_none, option_map}
 use Rattle.std.specs.Prelude.{bytes_eq}
 use Rattle.std.specs.Map.{lookup}
-use Rattle.indexmap.specs.IndexMap.{insert_entry}
+use Rattle.indexmap.specs.IndexMap.{hasher_of, insert_entry}
 use Rattle.sfv_spec.specs.Values.{BareValue, RawItem, RawInnerList, RawMember, item, inner_list}
 use Rattle.sfv_spec.specs.Events.{TreeEvent, entry, keyed_entry, begins_item, begins_inner_list}
 use Rattle.sfv_spec.specs.Events.{bare_item, parameter, parameters_end, inner_list_end}
@@ -151,6 +151,10 @@ list_takes_memory s e = false
 abbrev pub list_state : ListBuilder → ListState
 list_state b = (list_tree b.list.items, option_map member_state b.member)
 
+-- the builder adds maps under this seed, and the current member hashes under it
+abbrev pub ListAddsUnder : HashSeed → ListBuilder → Type 0
+ListAddsUnder seed b = (b.seed ≡ seed) × MatchOption b.member ⊤ (HasSeedSoFar seed)
+
 -- the builder adds maps under this seed, and those that it has hash under it
 abbrev pub IsListUnder : HashSeed → ListBuilder → Type 0
 IsListUnder seed b = (b.seed ≡ seed) × ListHasSeed seed b.list.items × MatchOption b.member ⊤ (HasSeedSoFar seed)
@@ -179,6 +183,10 @@ dictionary_takes_memory s e = false
 -- the state of a builder, with the dictionary so far
 abbrev pub dictionary_state : DictionaryBuilder → DictionaryState
 dictionary_state b = (dictionary_tree b.dictionary.entries, option_map (λ m. (m.0, member_state m.1)) b.member)
+
+-- the dictionary hashes under this seed, and so does the current member
+abbrev pub DictionaryAddsUnder : HashSeed → DictionaryBuilder → Type 0
+DictionaryAddsUnder seed b = (hasher_of b.dictionary ≡ seed) × MatchOption b.member ⊤ (λ p. HasSeedSoFar seed p.1)
 
 -- the dictionary, its members and the current member hash under this seed
 abbrev pub IsDictionaryUnder : HashSeed → DictionaryBuilder → Type 0

@@ -28,7 +28,7 @@ use Rattle.sfv_visitor.specs.Builders.{dictionary_state}
 use Rattle.sfv_tree.specs.declared.parsed.ListEntry.{ListEntry}
 use Rattle.sfv_visitor.specs.declared.visitor.dictionary_builder.DictionaryBuilder.{DictionaryBuilder}
 use Rattle.sfv.proofs.Relations.{Answers}
-use Rattle.sfv_visitor.specs.Builders.{IsDictionaryUnder, StaysUnder}
+use Rattle.sfv_visitor.specs.Builders.{DictionaryAddsUnder, IsDictionaryUnder, StaysUnder}
 use Rattle.sfv_tree.specs.declared.hash_seed.HashSeed.{HashSeed}
 use Rattle.sfv_tree.specs.Seeds.{DictionaryHasSeed}
 use Rattle.sfv.proofs.built.Seeded.{answer_seeded, runs_weaker}
@@ -71,6 +71,7 @@ Places s e after = dictionary_state after ≡ dictionary_step (dictionary_state 
 
 abbrev Steps : DictionaryBuilder → TreeEvent → DictionaryBuilder → Type 0
 Steps s e after = (dictionary_state after ≡ dictionary_step (dictionary_state s) e) × StaysUnder IsDictionaryUnder s after
+    × StaysUnder DictionaryAddsUnder s after
 
 abbrev Ends : DictionaryBuilder → IndexMap (List ℕ) ListEntry HashSeed → Type 0
 Ends s dictionary = (dictionary_tree dictionary.entries ≡ complete (dictionary_state s))

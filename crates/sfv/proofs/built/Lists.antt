@@ -21,7 +21,7 @@ use Rattle.sfv_visitor.specs.Builders.{settle, list_step, complete, list_state}
 use Rattle.sfv_tree.specs.declared.parsed.ListEntry.{ListEntry}
 use Rattle.sfv_visitor.specs.declared.visitor.list_builder.ListBuilder.{ListBuilder}
 use Rattle.sfv.proofs.Relations.{Answers}
-use Rattle.sfv_visitor.specs.Builders.{IsListUnder, StaysUnder}
+use Rattle.sfv_visitor.specs.Builders.{ListAddsUnder, IsListUnder, StaysUnder}
 use Rattle.sfv_tree.specs.declared.hash_seed.HashSeed.{HashSeed}
 use Rattle.sfv_tree.specs.Seeds.{ListHasSeed}
 use Rattle.sfv.proofs.built.Seeded.{answer_seeded, runs_weaker}
@@ -33,6 +33,7 @@ Places s e after = list_state after ≡ list_step (list_state s) e
 
 abbrev Steps : ListBuilder → TreeEvent → ListBuilder → Type 0
 Steps s e after = (list_state after ≡ list_step (list_state s) e) × StaysUnder IsListUnder s after
+    × StaysUnder ListAddsUnder s after
 
 abbrev Ends : ListBuilder → Vec ListEntry Global → Type 0
 Ends s list = (list_tree list.items ≡ complete (list_state s))

@@ -11,7 +11,7 @@ ghost use Rattle.sfv_text.specs.CheckedTexts.{text_of};
 ghost use Rattle.sfv_visitor.specs.Events.{event_of, is_moved};
 ghost use Rattle.sfv_visitor.specs.Builders.{complete, dictionary_step, dictionary_state};
 ghost use Rattle.sfv_visitor.specs.Builders.{dictionary_takes_memory};
-ghost use Rattle.sfv_visitor.specs.Builders.{IsDictionaryUnder, StaysUnder};
+ghost use Rattle.sfv_visitor.specs.Builders.{DictionaryAddsUnder, IsDictionaryUnder, StaysUnder};
 
 use crate::visitor::member::{Member, Step};
 use crate::visitor::{Event, Visitor};
@@ -41,6 +41,7 @@ impl DictionaryBuilder {
     pub fn new(dictionary: Dictionary) -> DictionaryBuilder
         ensures state { dictionary_state result ≡ (dictionary_tree dictionary.entries, None) }
         ensures seed { DictionaryHasSeed (hasher_of dictionary) dictionary → IsDictionaryUnder (hasher_of dictionary) result }
+        ensures adds { DictionaryAddsUnder (hasher_of dictionary) result }
     {
         DictionaryBuilder {
             dictionary,
@@ -57,6 +58,7 @@ impl DictionaryBuilder {
         ensures state { OnOk result (dictionary_state self.new
             ≡ dictionary_step (dictionary_state self.old) (tree.parameter (text_of key.entry) (input_value value.entry))) }
         ensures seed { OnOk result (StaysUnder IsDictionaryUnder self.old self.new) }
+        ensures adds { OnOk result (StaysUnder DictionaryAddsUnder self.old self.new) }
         ensures out_of_memory { OnErr result (IsTrue (dictionary_takes_memory (dictionary_state self.old)
             (tree.parameter (text_of key.entry) (input_value value.entry)))) }
     {
@@ -75,6 +77,7 @@ impl DictionaryBuilder {
             (IsTrue (dictionary_takes_memory (dictionary_state self.old) (event_of event.entry))) }
         ensures copied { OnErr result (is_moved event.entry ≡ false) }
         ensures seed { OnOk result (StaysUnder IsDictionaryUnder self.old self.new) }
+        ensures adds { OnOk result (StaysUnder DictionaryAddsUnder self.old self.new) }
     {
         let (alloc, seed) = (*self.dictionary.allocator(), *self.dictionary.hasher());
         match (self.member.take(), event) {
@@ -108,7 +111,8 @@ impl<'de> Visitor<'de> for DictionaryBuilder {
     type Error = OutOfMemory;
 
     ghost takes = { λ s event after.
-        (dictionary_state after ≡ dictionary_step (dictionary_state s) event) × StaysUnder IsDictionaryUnder s after };
+        (dictionary_state after ≡ dictionary_step (dictionary_state s) event) × StaysUnder IsDictionaryUnder s after
+        × StaysUnder DictionaryAddsUnder s after };
 
     ghost fails = { λ s event fault. IsTrue (dictionary_takes_memory (dictionary_state s) event) };
 

@@ -9,7 +9,7 @@ ghost use Rattle.sfv_spec.specs.Events as tree;
 ghost use Rattle.sfv_text.specs.CheckedTexts.{text_of};
 ghost use Rattle.sfv_visitor.specs.Events.{event_of, is_moved};
 ghost use Rattle.sfv_visitor.specs.Builders.{complete, list_step, list_state, list_takes_memory};
-ghost use Rattle.sfv_visitor.specs.Builders.{IsListUnder, StaysUnder};
+ghost use Rattle.sfv_visitor.specs.Builders.{ListAddsUnder, IsListUnder, StaysUnder};
 
 use crate::visitor::member::{Member, Step};
 use crate::visitor::{Event, Visitor};
@@ -41,6 +41,7 @@ impl ListBuilder {
     pub fn new(list: List, seed: HashSeed) -> ListBuilder
         ensures state { list_state result ≡ (list_tree list.items, None) }
         ensures seed { ListHasSeed seed list.items → IsListUnder seed result }
+        ensures adds { ListAddsUnder seed result }
     {
         ListBuilder {
             list,
@@ -58,6 +59,7 @@ impl ListBuilder {
         ensures state { OnOk result (list_state self.new
             ≡ list_step (list_state self.old) (tree.parameter (text_of key.entry) (input_value value.entry))) }
         ensures seed { OnOk result (StaysUnder IsListUnder self.old self.new) }
+        ensures adds { OnOk result (StaysUnder ListAddsUnder self.old self.new) }
         ensures out_of_memory { OnErr result (IsTrue (list_takes_memory (list_state self.old)
             (tree.parameter (text_of key.entry) (input_value value.entry)))) }
     {
@@ -72,6 +74,7 @@ impl ListBuilder {
     fn step(&mut self, event: Event<'_>) -> Result<(), OutOfMemory>
         ensures state { OnOk result (list_state self.new ≡ list_step (list_state self.old) (event_of event.entry)) }
         ensures seed { OnOk result (StaysUnder IsListUnder self.old self.new) }
+        ensures adds { OnOk result (StaysUnder ListAddsUnder self.old self.new) }
         ensures out_of_memory { OnErr result (IsTrue (list_takes_memory (list_state self.old) (event_of event.entry))) }
         ensures copied { OnErr result (is_moved event.entry ≡ false) }
     {
@@ -100,7 +103,8 @@ impl<'de> Visitor<'de> for ListBuilder {
     type Error = OutOfMemory;
 
     ghost takes = { λ s event after.
-        (list_state after ≡ list_step (list_state s) event) × StaysUnder IsListUnder s after };
+        (list_state after ≡ list_step (list_state s) event) × StaysUnder IsListUnder s after
+        × StaysUnder ListAddsUnder s after };
 
     ghost fails = { λ s event fault. IsTrue (list_takes_memory (list_state s) event) };
 

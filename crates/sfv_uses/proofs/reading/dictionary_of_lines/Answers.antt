@@ -8,7 +8,7 @@ use Rattle.sfv.specs.Types.{HashSeed, DictionaryBuilder, ListEntry}
 use Rattle.sfv.specs.Maps.{IndexMap}
 use Rattle.sfv.specs.Seeds.{DictionaryHasSeed}
 use Rattle.sfv.proofs.Callers.{dictionary_in_lines, dictionary_after, dictionary_seeded, read_is_value}
-use Rattle.sfv.specs.Builders.{dictionary_state, dictionary_step, complete, IsDictionaryUnder, StaysUnder}
+use Rattle.sfv.specs.Builders.{dictionary_state, dictionary_step, complete, DictionaryAddsUnder, IsDictionaryUnder, StaysUnder}
 use Rattle.sfv_uses.proofs.Uses.{second_fails}
 use Rattle.sfv_uses.proofs.reading.dictionary_of_lines.Goals as goal
 
@@ -41,7 +41,7 @@ returns-clause-rejected c =
     let read : IsParsedAs Rfc9651 dictionary_field c.args.first.now (dictionary_tree c.in_ok-held.held.entries) =
     rw (c.with_hash_seed-parser.ensures, c.new.ensures) at c.in_ok-held.ensures.read in
     second_fails dictionary_field (λ (s : DictionaryBuilder) e after.
-    (dictionary_state after ≡ dictionary_step (dictionary_state s) e) × StaysUnder IsDictionaryUnder s after)
+    (dictionary_state after ≡ dictionary_step (dictionary_state s) e) × StaysUnder IsDictionaryUnder s after × StaysUnder DictionaryAddsUnder s after)
     (λ s (dictionary : IndexMap (List ℕ) ListEntry HashSeed). (dictionary_tree dictionary.entries
     ≡ complete (dictionary_state s)) × ((seed : HashSeed) → IsDictionaryUnder seed s
     → DictionaryHasSeed seed dictionary)) c.args.first.now c.args.second.now

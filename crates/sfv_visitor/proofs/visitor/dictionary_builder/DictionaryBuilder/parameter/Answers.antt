@@ -10,3 +10,10 @@ returns-in_ok-parameter-clause-seed c = λ seed h.
     let before : HasSeedSoFar seed c.in-Some.member =
     subst (λ (o : Option (List ℕ × Member)). MatchOption o ⊤ (λ p. HasSeedSoFar seed p.1)) held h.1 in
     (h.0, c.in_ok-parameter.ensures.seed seed before)
+
+pub returns-in_ok-parameter-clause-adds : goal.returns-in_ok-parameter-clause-adds
+returns-in_ok-parameter-clause-adds c = λ seed h.
+    let held : c.args.self.now.member ≡ Some (c.in-Some.field-0-0, c.in-Some.member) = search rules in
+    let before : HasSeedSoFar seed c.in-Some.member =
+    subst (λ (o : Option (List ℕ × Member)). MatchOption o ⊤ (λ p. HasSeedSoFar seed p.1)) held h.1 in
+    (h.0, c.in_ok-parameter.ensures.seed seed before)

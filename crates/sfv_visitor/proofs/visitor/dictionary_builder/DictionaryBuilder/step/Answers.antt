@@ -60,3 +60,12 @@ returns-in_ok-insert-in-Ended-clause-seed c = λ seed h.
       ),
       rw c.take.ensures.after tt,
     )
+
+pub returns-after-event-clause-adds : goal.returns-after-event-clause-adds
+returns-after-event-clause-adds c = elim c.match-event.branch [
+  | in-None-KeyedEntry+in_ok-to_owned-in-None-KeyedEntry w ↦ rw (w.result-is, w.self-is) (λ seed h. (h.0, tt))
+  | in-None-default w ↦ rw (w.result-is, w.self-is, c.take.ensures.after) (λ seed h. (h.0, tt))
+]
+
+pub returns-in_ok-insert-in-Ended-clause-adds : goal.returns-in_ok-insert-in-Ended-clause-adds
+returns-in_ok-insert-in-Ended-clause-adds c = λ seed h. (c.insert.ensures.hasher ∙ h.0, rw c.take.ensures.after tt)

@@ -10,3 +10,10 @@ returns-in_ok-parameter-clause-seed c = λ seed h.
     let before : HasSeedSoFar seed c.in-Some.member =
     subst (λ (o : Option Member). MatchOption o ⊤ (HasSeedSoFar seed)) held h.2 in
     (h.0, h.1, c.in_ok-parameter.ensures.seed seed before)
+
+pub returns-in_ok-parameter-clause-adds : goal.returns-in_ok-parameter-clause-adds
+returns-in_ok-parameter-clause-adds c = λ seed h.
+    let held : c.args.self.now.member ≡ Some c.in-Some.member = search rules in
+    let before : HasSeedSoFar seed c.in-Some.member =
+    subst (λ (o : Option Member). MatchOption o ⊤ (HasSeedSoFar seed)) held h.1 in
+    (h.0, c.in_ok-parameter.ensures.seed seed before)

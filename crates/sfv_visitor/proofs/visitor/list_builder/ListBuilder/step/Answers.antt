@@ -42,3 +42,12 @@ returns-in_ok-push-in-Ended-clause-seed c = λ seed h.
       rw c.in_ok-push-in-Ended.ensures.items (all_push (MemberHasSeed seed) _ _ member h.1),
       rw c.take.ensures.after tt,
     )
+
+pub returns-after-event-clause-adds : goal.returns-after-event-clause-adds
+returns-after-event-clause-adds c = elim c.match-event.branch [
+  | in-None-Entry w ↦ rw (w.result-is, w.self-is) (λ seed h. (h.0, tt))
+  | in-None-default w ↦ rw (w.result-is, w.self-is, c.take.ensures.after) (λ seed h. (h.0, tt))
+]
+
+pub returns-in_ok-push-in-Ended-clause-adds : goal.returns-in_ok-push-in-Ended-clause-adds
+returns-in_ok-push-in-Ended-clause-adds c = λ seed h. (h.0, rw c.take.ensures.after tt)
