@@ -31,7 +31,7 @@ use Rattle.sfv_base.specs.declared.error.Error.{Error}
 use Rattle.sfv_base.specs.Errors.{index_of, kind_of, out_of_memory}
 use Rattle.sfv_tree.specs.Trees.{list_tree, dictionary_tree}
 use Rattle.sfv_visitor.specs.Builders.{complete, list_state, list_step, dictionary_state}
-use Rattle.sfv_visitor.specs.Builders.{ListAddsUnder, IsListUnder, DictionaryAddsUnder, IsDictionaryUnder, StaysUnder}
+use Rattle.sfv_visitor.specs.Builders.{KeepsListSeed, KeepsDictionarySeed}
 use Rattle.sfv_tree.specs.Seeds.{ListHasSeed, DictionaryHasSeed}
 use Rattle.sfv_tree.specs.declared.hash_seed.HashSeed.{HashSeed}
 use Rattle.sfv_visitor.specs.Builders.{dictionary_step}
@@ -98,8 +98,8 @@ pub use Rattle.sfv.proofs.Expected.{expect_answers, expect_fails, expect_first, 
 pub use Rattle.sfv.proofs.visits.First.{begins_with_its}
 -- what the builders answer is the value of the text
 pub use Rattle.sfv.proofs.built.Items.{built as item_built, built_fails as item_built_fails, item_seeded}
-pub use Rattle.sfv.proofs.built.Lists.{built_list as list_built, list_seeded}
-pub use Rattle.sfv.proofs.built.Dictionaries.{built_dictionary as dictionary_built, dictionary_seeded}
+pub use Rattle.sfv.proofs.built.Lists.{built_list as list_built, list_adds, list_seeded, no_list_held}
+pub use Rattle.sfv.proofs.built.Dictionaries.{built_dictionary as dictionary_built, dictionary_adds, dictionary_seeded, no_entry_held}
 
 -- the member of a key in a dictionary that was read is the last of the text, its parameters ordered
 pub member_read : (version : Version) (t : List ℕ) (value : List (List ℕ × RawMember)) (key : List ℕ)
@@ -242,8 +242,7 @@ located_error version kind t e index (inr h) here =
 pub list_after : {E : Type 0} (version : Version) (t : List ℕ) (held : List RawMember) (from : ListBuilder)
     (r : Result (Vec ListEntry Global) E) → list_state from ≡ (held, None)
     → IfOk r (Answers (λ (s : ListBuilder) e after. (list_state after ≡ list_step (list_state s) e)
-    × StaysUnder IsListUnder s after × StaysUnder ListAddsUnder s after) (λ s (list : Vec ListEntry Global). (list_tree list.items ≡ complete (list_state s))
-    × ((seed : HashSeed) → IsListUnder seed s → ListHasSeed seed list.items)) version list_field t from)
+    × KeepsListSeed s after) (λ s (list : Vec ListEntry Global). list ≡ s.list) version list_field t from)
     → IfOk r (λ list. (raw : List RawMember) × IsFieldText version list_field raw t
     × (list_tree list.items ≡ held ++ ordered list_field raw))
 list_after version t held from r here = IfOk-weaker r _ _ (λ list h.
@@ -254,10 +253,8 @@ pub dictionary_after : {E : Type 0} (version : Version) (t : List ℕ) (held : L
     (from : DictionaryBuilder) (r : Result (IndexMap (List ℕ) ListEntry HashSeed) E) → ordered dictionary_field held ≡ held
     → dictionary_state from ≡ (held, None)
     → IfOk r (Answers (λ (s : DictionaryBuilder) e after. (dictionary_state after
-    ≡ dictionary_step (dictionary_state s) e) × StaysUnder IsDictionaryUnder s after × StaysUnder DictionaryAddsUnder s after)
-    (λ s (dictionary : IndexMap (List ℕ) ListEntry HashSeed). (dictionary_tree dictionary.entries
-    ≡ complete (dictionary_state s)) × ((seed : HashSeed) → IsDictionaryUnder seed s
-    → DictionaryHasSeed seed dictionary)) version dictionary_field t from)
+    ≡ dictionary_step (dictionary_state s) e) × KeepsDictionarySeed s after)
+    (λ s (dictionary : IndexMap (List ℕ) ListEntry HashSeed). dictionary ≡ s.dictionary) version dictionary_field t from)
     → IfOk r (λ dictionary. (raw : List (List ℕ × RawMember)) × IsFieldText version dictionary_field raw t
     × (dictionary_tree dictionary.entries ≡ ordered dictionary_field (held ++ raw)))
 dictionary_after version t held from r own here = IfOk-weaker r _ _ (λ dictionary h.

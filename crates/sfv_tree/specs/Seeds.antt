@@ -31,3 +31,7 @@ EntriesHaveSeed seed entries = All (λ p. MemberHasSeed seed p.1) entries
 -- the dictionary and the parameters of all members hash under this seed
 abbrev pub DictionaryHasSeed : HashSeed → IndexMap (List ℕ) ListEntry HashSeed → Type 0
 DictionaryHasSeed seed d = (hasher_of d ≡ seed) × EntriesHaveSeed seed d.entries
+
+-- the copy hashes under each seed that the value hashes under
+abbrev pub KeepsSeed : {A : Type 0} → (HashSeed → A → Type 0) → A → A → Type 0
+KeepsSeed has value copy = (seed : HashSeed) → has seed value → has seed copy

@@ -1,12 +1,12 @@
 -- The values of parameters, items, inner lists, lists and dictionaries.
-use Rattle.std.specs.Prelude.{ℕ, List, map, Option, option_map, option_copied}
+use Rattle.std.specs.Prelude.{◌≡◌, ℕ, List, [], false, map, Option, option_map, option_copied}
 use Rattle.std.specs.Borrow.{Bor}
 use Rattle.std.specs.declared.alloc.Global.{Global}
 use Rattle.std.specs.declared.vec.Vec.{Vec}
 use Rattle.std.specs.declared.string.String.{String}
 use Rattle.sfv_spec.specs.Values.{BareValue, RawParameters, RawItem, RawInnerList, RawMember, item, inner_list}
 use Rattle.sfv_bare.specs.declared.bare.GenericBareItem.{GenericBareItem}
-use Rattle.sfv_bare.specs.BareItems.{bare_value}
+use Rattle.sfv_bare.specs.BareItems.{bare_value, holds_bytes}
 use Rattle.sfv_tree.specs.declared.parsed.Item.{Item}
 use Rattle.sfv_tree.specs.declared.parsed.InnerList.{InnerList}
 use Rattle.sfv_tree.specs.declared.parsed.ListEntry.{ListEntry}
@@ -32,6 +32,11 @@ inner_list_tree l = record { items = map item_tree l.items.items; parameters = p
 abbrev pub member_tree : ListEntry → RawMember
 member_tree (entries.Item i) = item (item_tree i)
 member_tree (entries.InnerList l) = inner_list (inner_list_tree l)
+
+-- A copy needs no memory: of an item without text, bytes and parameters, and of an empty inner list without parameters.
+abbrev pub NeedsNoMemory : RawMember → Type 0
+NeedsNoMemory (item i) = (holds_bytes i.bare ≡ false) × (i.parameters ≡ [])
+NeedsNoMemory (inner_list l) = (l.items ≡ []) × (l.parameters ≡ [])
 
 -- the value of the members of a list, in order
 abbrev pub list_tree : List ListEntry → List RawMember

@@ -1,14 +1,17 @@
 //! Lists, dictionaries, inner lists, parameters and items (RFC 9651, sections 3.1 to 3.3).
 
-ghost use Rattle.std.specs.Prelude.{◌≡◌, ◌+◌, ◌<◌, ◌≤◌, [], IsOk, IfOk, OnOk, OnErr, None, map, bytes_eq};
+ghost use Rattle.std.specs.Prelude.{◌≡◌, ◌≢◌, ◌+◌, ◌<◌, ◌≤◌, [], IsOk, IfOk, IfErr, OnOk, OnErr, None, All, map, bytes_eq};
 ghost use Rattle.std.specs.Prelude.{option_copied};
 ghost use Rattle.indexmap.specs.IndexMap.{get, hasher_of, insert_entry, spare, IsUnique};
 ghost use Rattle.sfv_spec.specs.Ordered.{last_of};
 ghost use Rattle.sfv_bare.specs.BareItems.{bare_value};
 ghost use Rattle.sfv_text.specs.CheckedTexts.{text_of};
+ghost use Rattle.sfv_spec.specs.Values.{item, inner_list};
 ghost use Rattle.sfv_tree.specs.HashSeeds.{library_seed};
+ghost use Rattle.sfv_tree.specs.Seeds.{ItemHasSeed, InnerListHasSeed, MemberHasSeed, KeepsSeed};
+ghost use Rattle.sfv_tree.specs.declared.hash_seed.HashSeed.{HashSeed};
 ghost use Rattle.sfv_tree.specs.Trees.{item_tree, pairs_tree, inner_list_tree};
-ghost use Rattle.sfv_tree.specs.Trees.{member_tree, dictionary_tree, found_member, found_value};
+ghost use Rattle.sfv_tree.specs.Trees.{member_tree, dictionary_tree, found_member, found_value, NeedsNoMemory};
 ghost use Rattle.sfv_tree.specs.declared.parsed.ListEntry.TheVariants as entries;
 
 use crate::hash_seed::HashSeed;
@@ -25,7 +28,8 @@ pub type Parameters = IndexMap<Key, BareItem, HashSeed>;
 /// An item (RFC 9651, section 3.3): a bare item with its parameters.
 ///
 /// Two items are equal if their bare items are equal and each key has equal values in both, in any order. A clone has
-/// the same bare item, and the same parameters in the same order.
+/// the same bare item, and the same parameters in the same order and under the same seed. Memory runs out only if there
+/// is a text, a byte sequence or a parameter to copy.
 #[derive(Debug, PartialEq, Drop)]
 pub struct Item {
     /// The bare item.
@@ -58,16 +62,35 @@ impl Item {
     }
 }
 
-// Clones the parameters, in the same order.
-fn copy_params(params: &Parameters) -> Result<Parameters, AllocError>
-    ensures { IfOk result (λ copy. pairs_tree copy.entries ≡ pairs_tree params.now.entries) }
+// Inserts a clone of a parameter.
+fn insert_clone(params: &mut Parameters, key: &Key, value: &BareItem) -> Result<(), AllocError>
+    ensures entries { OnOk result (pairs_tree params.new.entries
+        ≡ insert_entry bytes_eq (pairs_tree params.old.entries) key.now (bare_value value.now)) }
+    ensures seed { hasher_of params.new ≡ hasher_of params.old }
 {
-    let copy = params.clone()?;
+    params.insert(key.clone()?, value.clone()?)?;
+    Ok(())
+}
+
+// Clones the parameters, in the same order and under the same seed. The contract of the map's own `clone` says nothing
+// about the seed.
+fn copy_params(params: &Parameters) -> Result<Parameters, AllocError>
+    ensures tree { IfOk result (λ copy. pairs_tree copy.entries ≡ pairs_tree params.now.entries) }
+    ensures seed { IfOk result (λ copy. hasher_of copy ≡ hasher_of params.now) }
+    ensures out_of_memory { IfErr result (λ _. pairs_tree params.now.entries ≢ []) }
+{
+    let (alloc, seed) = (*params.allocator(), *params.hasher());
+    let mut copy = Parameters::with_capacity_and_hasher(alloc, params.len(), seed)?;
+    for (key, value) in params.iter() {
+        insert_clone(&mut copy, key, value)?;
+    }
     Ok(copy)
 }
 
 impl Clone for Item {
-    ghost is_clone = { λ item copy. item_tree copy ≡ item_tree item };
+    ghost is_clone = { λ item copy. (item_tree copy ≡ item_tree item) × KeepsSeed ItemHasSeed item copy };
+
+    ghost is_infallible = { λ i. NeedsNoMemory (item (item_tree i)) };
 
     fn clone(&self) -> Result<Item, AllocError> {
         let value = self.bare_item.clone()?;
@@ -78,6 +101,8 @@ impl Clone for Item {
 
 /// An inner list (RFC 9651, section 3.1.1): items in order, with their parameters, and the parameters of the inner
 /// list.
+///
+/// A clone has the same items and parameters, under the same seed. The clone of an empty one does not allocate.
 #[derive(Debug, PartialEq, Drop)]
 pub struct InnerList {
     /// The items.
@@ -117,16 +142,25 @@ impl InnerList {
     }
 }
 
-// Clones the items, in the same order.
+// Clones the items, in the same order and under the same seed.
 fn copy_items(items: &Vec<Item>) -> Result<Vec<Item>, AllocError>
-    ensures { IfOk result (λ copy. map item_tree copy.items ≡ map item_tree items.now.items) }
+    ensures tree { IfOk result (λ copy. map item_tree copy.items ≡ map item_tree items.now.items) }
+    ensures seed { IfOk result (λ copy. (seed : HashSeed) → All (ItemHasSeed seed) items.now.items
+        → All (ItemHasSeed seed) copy.items) }
+    ensures out_of_memory { IfErr result (λ _. map item_tree items.now.items ≢ []) }
 {
+    if items.is_empty() {
+        return Ok(Vec::new(*items.allocator()));
+    }
     let copy = items.clone()?;
     Ok(copy)
 }
 
 impl Clone for InnerList {
-    ghost is_clone = { λ list copy. inner_list_tree copy ≡ inner_list_tree list };
+    ghost is_clone = { λ list copy. (inner_list_tree copy ≡ inner_list_tree list)
+        × KeepsSeed InnerListHasSeed list copy };
+
+    ghost is_infallible = { λ list. NeedsNoMemory (inner_list (inner_list_tree list)) };
 
     fn clone(&self) -> Result<InnerList, AllocError> {
         let items = copy_items(&self.items)?;
@@ -135,6 +169,8 @@ impl Clone for InnerList {
 }
 
 /// A member of a list (RFC 9651, section 3.1) or a dictionary (section 3.2): an item or an inner list.
+///
+/// A clone is a clone of the item or of the inner list.
 #[derive(Debug, PartialEq, Drop)]
 pub enum ListEntry {
     /// An item.
@@ -166,7 +202,9 @@ impl From<InnerList> for ListEntry {
 }
 
 impl Clone for ListEntry {
-    ghost is_clone = { λ member copy. member_tree copy ≡ member_tree member };
+    ghost is_clone = { λ member copy. (member_tree copy ≡ member_tree member) × KeepsSeed MemberHasSeed member copy };
+
+    ghost is_infallible = { λ member. NeedsNoMemory (member_tree member) };
 
     fn clone(&self) -> Result<ListEntry, AllocError> {
         match self {

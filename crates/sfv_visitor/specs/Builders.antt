@@ -1,7 +1,8 @@
 -- The steps of the builders of owned trees.
-use Rattle.std.specs.Prelude.{◌≡◌, ⊤, MatchOption}
+use Rattle.std.specs.Prelude.{◌≡◌, ◌⊎◌, ⊤, MatchOption}
 use Rattle.std.specs.Prelude.{ℕ, List, [], ◌∷◌, ◌++◌, Bool, true, false, ◌&&◌, ◌||◌, Option, Some, None, is_none, option_map}
 use Rattle.std.specs.Prelude.{bytes_eq}
+use Rattle.std.specs.List.{All, Contains}
 use Rattle.std.specs.Map.{lookup}
 use Rattle.indexmap.specs.IndexMap.{hasher_of, insert_entry}
 use Rattle.sfv_spec.specs.Values.{BareValue, RawItem, RawInnerList, RawMember, item, inner_list}
@@ -9,7 +10,7 @@ use Rattle.sfv_spec.specs.Events.{TreeEvent, entry, keyed_entry, begins_item, be
 use Rattle.sfv_spec.specs.Events.{bare_item, parameter, parameters_end, inner_list_end}
 use Rattle.sfv_bare.specs.BareItems.{is_text}
 use Rattle.sfv_tree.specs.Trees.{item_tree, inner_list_tree, member_tree, list_tree, dictionary_tree}
-use Rattle.sfv_tree.specs.Seeds.{ItemHasSeed, InnerListHasSeed, MemberHasSeed, ListHasSeed, DictionaryHasSeed}
+use Rattle.sfv_tree.specs.Seeds.{ItemHasSeed, InnerListHasSeed, MemberHasSeed}
 use Rattle.sfv_tree.specs.declared.hash_seed.HashSeed.{HashSeed}
 use Rattle.sfv_visitor.specs.declared.visitor.item_builder.ItemBuilder.{ItemBuilder}
 use Rattle.sfv_visitor.specs.declared.visitor.list_builder.ListBuilder.{ListBuilder}
@@ -120,8 +121,12 @@ abbrev pub IsItemUnder : HashSeed → ItemBuilder → Type 0
 IsItemUnder seed b = (b.seed ≡ seed) × StepHasSeed seed b.item
 
 -- `after` is under each seed that `s` is under
-abbrev pub StaysUnder : {B : Type 0} → (HashSeed → B → Type 0) → B → B → Type 0
-StaysUnder is_under s after = (seed : HashSeed) → is_under seed s → is_under seed after
+abbrev pub KeepsItemSeed : ItemBuilder → ItemBuilder → Type 0
+KeepsItemSeed s after = (seed : HashSeed) → IsItemUnder seed s → IsItemUnder seed after
+
+-- each element was there before, or `P` holds of it
+abbrev pub AddsTo : {A : Type 0} → (A → Type 0) → List A → List A → Type 0
+AddsTo P before after = All (λ x. Contains before x ⊎ P x) after
 
 -- the complete members of a state
 abbrev pub complete : {A B : Type 0} → A × B → A
@@ -155,9 +160,10 @@ list_state b = (list_tree b.list.items, option_map member_state b.member)
 abbrev pub ListAddsUnder : HashSeed → ListBuilder → Type 0
 ListAddsUnder seed b = (b.seed ≡ seed) × MatchOption b.member ⊤ (HasSeedSoFar seed)
 
--- the builder adds maps under this seed, and those that it has hash under it
-abbrev pub IsListUnder : HashSeed → ListBuilder → Type 0
-IsListUnder seed b = (b.seed ≡ seed) × ListHasSeed seed b.list.items × MatchOption b.member ⊤ (HasSeedSoFar seed)
+-- `after` adds maps under each seed that `s` does. Each member was there before, or hashes under that seed.
+abbrev pub KeepsListSeed : ListBuilder → ListBuilder → Type 0
+KeepsListSeed s after = (seed : HashSeed) → ListAddsUnder seed s
+    → ListAddsUnder seed after × AddsTo (MemberHasSeed seed) s.list.items after.list.items
 
 -- the state of a dictionary's builder: the complete members, and the current member, if there is one, with their keys
 abbrev pub DictionaryState : Type 0
@@ -188,6 +194,7 @@ dictionary_state b = (dictionary_tree b.dictionary.entries, option_map (λ m. (m
 abbrev pub DictionaryAddsUnder : HashSeed → DictionaryBuilder → Type 0
 DictionaryAddsUnder seed b = (hasher_of b.dictionary ≡ seed) × MatchOption b.member ⊤ (λ p. HasSeedSoFar seed p.1)
 
--- the dictionary, its members and the current member hash under this seed
-abbrev pub IsDictionaryUnder : HashSeed → DictionaryBuilder → Type 0
-IsDictionaryUnder seed b = DictionaryHasSeed seed b.dictionary × MatchOption b.member ⊤ (λ p. HasSeedSoFar seed p.1)
+-- `after` adds maps under each seed that `s` does. Each member was there before, or hashes under that seed.
+abbrev pub KeepsDictionarySeed : DictionaryBuilder → DictionaryBuilder → Type 0
+KeepsDictionarySeed s after = (seed : HashSeed) → DictionaryAddsUnder seed s → DictionaryAddsUnder seed after
+    × AddsTo (λ p. MemberHasSeed seed p.1) s.dictionary.entries after.dictionary.entries

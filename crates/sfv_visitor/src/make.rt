@@ -3,7 +3,7 @@
 ghost use Rattle.std.specs.Prelude.{◌≡◌, [], None};
 ghost use Rattle.sfv_tree.specs.declared.hash_seed.HashSeed.{HashSeed};
 ghost use Rattle.sfv_visitor.specs.Builders.{item_state, item_head, list_state, dictionary_state};
-ghost use Rattle.sfv_visitor.specs.Builders.{IsItemUnder, IsListUnder, IsDictionaryUnder};
+ghost use Rattle.sfv_visitor.specs.Builders.{IsItemUnder, ListAddsUnder, DictionaryAddsUnder};
 ghost use Rattle.sfv_visitor.specs.ProvidedVisitors.{item_kept};
 
 use crate::expect_item::{ExpectItem, ExpectedItem};
@@ -77,7 +77,7 @@ impl<'de, T: ExpectedItem<'de>> MakeItemVisitor<'de> for T {
 impl<'de> MakeListVisitor<'de> for List {
     type Visitor = ListBuilder;
 
-    ghost is_made = { λ seed visitor. (list_state visitor ≡ ([], None)) × IsListUnder seed visitor };
+    ghost is_made = { λ seed visitor. (list_state visitor ≡ ([], None)) × ListAddsUnder seed visitor };
 
     fn make_list_visitor(alloc: Global, seed: HashSeed) -> ListBuilder {
         ListBuilder::new(List::new(alloc), seed)
@@ -87,7 +87,7 @@ impl<'de> MakeListVisitor<'de> for List {
 impl<'de> MakeDictionaryVisitor<'de> for Dictionary {
     type Visitor = DictionaryBuilder;
 
-    ghost is_made = { λ seed visitor. (dictionary_state visitor ≡ ([], None)) × IsDictionaryUnder seed visitor };
+    ghost is_made = { λ seed visitor. (dictionary_state visitor ≡ ([], None)) × DictionaryAddsUnder seed visitor };
 
     fn make_dictionary_visitor(alloc: Global, seed: HashSeed) -> DictionaryBuilder {
         DictionaryBuilder::new(Dictionary::with_hasher(alloc, seed))

@@ -4,6 +4,7 @@ use Rattle.std.proofs.Common.{◌≡◌, ℕ, Bool, true, false, List, [], ◌�
 use Rattle.std.proofs.Common.{append_assoc}
 use Rattle.std.specs.Prelude.{bytes_eq, fold, Option, Some, None, option_map, unwrap_or}
 use Rattle.std.proofs.lemmas.List.{append-nil, map-append}
+use Rattle.std.proofs.lemmas.List.Elements.{All-nil, All-same}
 use Rattle.std.proofs.lemmas.List.Sums.{fold-append}
 use Rattle.indexmap.specs.IndexMap.{IndexMap}
 use Rattle.sfv_spec.specs.Values.{RawMember}
@@ -20,7 +21,7 @@ use Rattle.sfv_spec.proofs.Collapse.{collapse-push, collapse-distinct}
 use Rattle.sfv_spec.proofs.Last.{over, last_of-over}
 use Rattle.sfv_spec.proofs.Distinct.{ordered_same}
 use Rattle.sfv_spec.proofs.Runs.{runs_fold}
-use Rattle.sfv_tree.specs.Trees.{dictionary_tree}
+use Rattle.sfv_tree.specs.Trees.{member_tree, dictionary_tree}
 use Rattle.sfv_visitor.specs.Builders.{MemberState, begun, item_head, item_parameters, inner_items, inner_head}
 use Rattle.sfv_visitor.specs.Builders.{inner_parameters, list_parameters, ended, member_step, DictionaryState}
 use Rattle.sfv_visitor.specs.Builders.{settle_pair, dictionary_step, complete}
@@ -28,10 +29,11 @@ use Rattle.sfv_visitor.specs.Builders.{dictionary_state}
 use Rattle.sfv_tree.specs.declared.parsed.ListEntry.{ListEntry}
 use Rattle.sfv_visitor.specs.declared.visitor.dictionary_builder.DictionaryBuilder.{DictionaryBuilder}
 use Rattle.sfv.proofs.Relations.{Answers}
-use Rattle.sfv_visitor.specs.Builders.{DictionaryAddsUnder, IsDictionaryUnder, StaysUnder}
+use Rattle.sfv_visitor.specs.Builders.{DictionaryAddsUnder, KeepsDictionarySeed, AddsTo}
 use Rattle.sfv_tree.specs.declared.hash_seed.HashSeed.{HashSeed}
-use Rattle.sfv_tree.specs.Seeds.{DictionaryHasSeed}
-use Rattle.sfv.proofs.built.Seeded.{answer_seeded, runs_weaker}
+use Rattle.sfv_tree.specs.Seeds.{MemberHasSeed, EntriesHaveSeed, DictionaryHasSeed}
+use Rattle.sfv_visitor.proofs.Seeded.{adds_all}
+use Rattle.sfv.proofs.built.Seeded.{map_none, runs_add, runs_stay, runs_weaker}
 use Rattle.sfv.proofs.built.Items.{insert_entry-entered}
 use Rattle.sfv.proofs.built.Members.{IsOpen, member_built}
 
@@ -70,12 +72,10 @@ abbrev Places : DictionaryBuilder → TreeEvent → DictionaryBuilder → Type 0
 Places s e after = dictionary_state after ≡ dictionary_step (dictionary_state s) e
 
 abbrev Steps : DictionaryBuilder → TreeEvent → DictionaryBuilder → Type 0
-Steps s e after = (dictionary_state after ≡ dictionary_step (dictionary_state s) e) × StaysUnder IsDictionaryUnder s after
-    × StaysUnder DictionaryAddsUnder s after
+Steps s e after = (dictionary_state after ≡ dictionary_step (dictionary_state s) e) × KeepsDictionarySeed s after
 
 abbrev Ends : DictionaryBuilder → IndexMap (List ℕ) ListEntry HashSeed → Type 0
-Ends s dictionary = (dictionary_tree dictionary.entries ≡ complete (dictionary_state s))
-    × ((seed : HashSeed) → IsDictionaryUnder seed s → DictionaryHasSeed seed dictionary)
+Ends s dictionary = dictionary ≡ s.dictionary
 
 -- no member is current
 abbrev pub between_pairs : List (List ℕ × RawMember) → DictionaryState
@@ -146,8 +146,8 @@ pub built_dictionary_after : (version : Version) (t : List ℕ) (held : List (Li
 built_dictionary_after version t held from dictionary distinct here h =
     let whole : dictionary_state h.holds.0 ≡ between_pairs (collapse (held ++ ordered_pairs h.raw)) =
     dictionary_built held h.raw from h.holds.0 distinct here h.holds.1 in
-    let there : dictionary_tree dictionary.entries ≡ collapse (held ++ ordered_pairs h.raw) = h.holds.2.0
-    ∙ ap complete whole in (
+    let there : dictionary_tree dictionary.entries ≡ collapse (held ++ ordered_pairs h.raw) = ap
+    (λ (d : IndexMap (List ℕ) ListEntry HashSeed). dictionary_tree d.entries) h.holds.2 ∙ ap complete whole in (
       h.raw,
       h.accepted,
       h.only,
@@ -165,9 +165,31 @@ built_dictionary version t from dictionary here h =
     let whole = built_dictionary_after version t [] from dictionary refl here h in
     record { raw = whole.0; accepted = whole.1; only = whole.2; holds = whole.4 (refl, tt) }
 
--- what was built is under the builder's seed
+-- each member was in the builder before the field, or hashes under its seed
+pub dictionary_adds : (version : Version) (t : List ℕ) (from : DictionaryBuilder)
+    (dictionary : IndexMap (List ℕ) ListEntry HashSeed) (seed : HashSeed) → DictionaryAddsUnder seed from
+    → Answers Steps Ends version dictionary_field t from dictionary
+    → AddsTo (λ (p : List ℕ × ListEntry). MemberHasSeed seed p.1) from.dictionary.entries dictionary.entries
+dictionary_adds version t from dictionary seed start h = rw h.holds.2
+    (runs_add DictionaryAddsUnder Steps (λ s. s.dictionary.entries) (λ seed (p : List ℕ × ListEntry). MemberHasSeed seed p.1)
+    (λ s e t k. k.1) (events dictionary_field h.raw) from h.holds.0 h.holds.1 seed start)
+
+-- if the members that were there hash under the seed, all do
 pub dictionary_seeded : (version : Version) (t : List ℕ) (from : DictionaryBuilder)
-    (dictionary : IndexMap (List ℕ) ListEntry HashSeed) (seed : HashSeed) → IsDictionaryUnder seed from
+    (dictionary : IndexMap (List ℕ) ListEntry HashSeed) (seed : HashSeed)
+    → EntriesHaveSeed seed from.dictionary.entries → DictionaryAddsUnder seed from
     → Answers Steps Ends version dictionary_field t from dictionary → DictionaryHasSeed seed dictionary
-dictionary_seeded version t from dictionary seed start h = answer_seeded IsDictionaryUnder Steps (λ s e t k. k.1) Ends
-    DictionaryHasSeed (λ s out k. k.1) version dictionary_field t from dictionary seed start h
+dictionary_seeded version t from dictionary seed held start h =
+    let last : DictionaryAddsUnder seed h.holds.0 = runs_stay DictionaryAddsUnder Steps (λ s e t k seed j. (k.1 seed j).0)
+    (events dictionary_field h.raw) from h.holds.0 h.holds.1 seed start in (
+      rw h.holds.2 last.0,
+      adds_all (λ (p : List ℕ × ListEntry). MemberHasSeed seed p.1) from.dictionary.entries dictionary.entries held
+          (dictionary_adds version t from dictionary seed start h),
+    )
+
+-- no member was there
+pub no_entry_held : (from : DictionaryBuilder) (seed : HashSeed) → dictionary_state from ≡ between_pairs []
+    → EntriesHaveSeed seed from.dictionary.entries
+no_entry_held from seed here = All-same (λ (p : List ℕ × ListEntry). MemberHasSeed seed p.1) from.dictionary.entries []
+    (map_none (λ (p : List ℕ × ListEntry). (p.0, member_tree p.1)) from.dictionary.entries (ap complete here))
+    (All-nil (λ (p : List ℕ × ListEntry). MemberHasSeed seed p.1))

@@ -13,7 +13,7 @@ use Rattle.std.specs.List.{FoldsTo}
 use Rattle.sfv_spec.proofs.Collapse.{entered, collapse-push}
 use Rattle.sfv_tree.specs.Trees.{item_tree}
 use Rattle.sfv_visitor.specs.Builders.{MemberState, item_head, item_parameters, ended, member_step, item_state, takes_memory}
-use Rattle.sfv_visitor.specs.Builders.{IsItemUnder, StaysUnder}
+use Rattle.sfv_visitor.specs.Builders.{IsItemUnder, KeepsItemSeed}
 use Rattle.sfv_base.specs.declared.error.ParseError.TheVariants.{Visitor}
 use Rattle.sfv_tree.specs.declared.hash_seed.HashSeed.{HashSeed}
 use Rattle.sfv_tree.specs.Seeds.{ItemHasSeed}
@@ -26,7 +26,7 @@ use Rattle.sfv.proofs.Relations.{Answers, FailsIn, HasVisitorError, item_failed}
 
 -- what the builder does with an event, and with the end
 abbrev Steps : ItemBuilder → TreeEvent → ItemBuilder → Type 0
-Steps s e after = (item_state after ≡ member_step (item_state s) e) × StaysUnder IsItemUnder s after
+Steps s e after = (item_state after ≡ member_step (item_state s) e) × KeepsItemSeed s after
 
 abbrev Ends : ItemBuilder → Item → Type 0
 Ends s out = (item_state s ≡ ended (item (item_tree out)))
@@ -99,5 +99,5 @@ built_fails version t from fault here h =
 -- what was built is under the builder's seed
 pub item_seeded : (version : Version) (t : List ℕ) (from : ItemBuilder) (item : Item) (seed : HashSeed)
     → IsItemUnder seed from → Answers Steps Ends version item_field t from item → ItemHasSeed seed item
-item_seeded version t from made seed start h = answer_seeded IsItemUnder Steps (λ s e t k. k.1) Ends ItemHasSeed
-    (λ s out k. k.1) version item_field t from made seed start h
+item_seeded version t from made seed start h = answer_seeded IsItemUnder Steps Ends ItemHasSeed
+    (λ s e t k. k.1) (λ s out k. k.1) version item_field t from made seed start h

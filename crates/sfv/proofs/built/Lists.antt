@@ -4,6 +4,7 @@ use Rattle.std.specs.Prelude.{Some, None, fold}
 use Rattle.std.specs.declared.alloc.Global.{Global}
 use Rattle.std.specs.declared.vec.Vec.{Vec}
 use Rattle.std.proofs.lemmas.List.{append-nil}
+use Rattle.std.proofs.lemmas.List.Elements.{All-nil, All-same}
 use Rattle.std.proofs.lemmas.List.Sums.{fold-append}
 use Rattle.sfv_spec.specs.Values.{RawMember}
 use Rattle.sfv_spec.specs.declared.field_kind.FieldKind.TheVariants.{List as list_field}
@@ -14,17 +15,18 @@ use Rattle.sfv_spec.specs.Ordered.{ordered, ordered_member}
 use Rattle.sfv_spec.specs.Statements.{IsParsedAs}
 use Rattle.std.specs.List.{FoldsTo}
 use Rattle.sfv_spec.proofs.Runs.{runs_fold}
-use Rattle.sfv_tree.specs.Trees.{list_tree}
+use Rattle.sfv_tree.specs.Trees.{member_tree, list_tree}
 use Rattle.sfv_visitor.specs.Builders.{MemberState, begun, item_head, item_parameters, inner_items, inner_head}
 use Rattle.sfv_visitor.specs.Builders.{inner_parameters, list_parameters, ended, member_step, ListState}
 use Rattle.sfv_visitor.specs.Builders.{settle, list_step, complete, list_state}
 use Rattle.sfv_tree.specs.declared.parsed.ListEntry.{ListEntry}
 use Rattle.sfv_visitor.specs.declared.visitor.list_builder.ListBuilder.{ListBuilder}
 use Rattle.sfv.proofs.Relations.{Answers}
-use Rattle.sfv_visitor.specs.Builders.{ListAddsUnder, IsListUnder, StaysUnder}
+use Rattle.sfv_visitor.specs.Builders.{ListAddsUnder, KeepsListSeed, AddsTo}
 use Rattle.sfv_tree.specs.declared.hash_seed.HashSeed.{HashSeed}
-use Rattle.sfv_tree.specs.Seeds.{ListHasSeed}
-use Rattle.sfv.proofs.built.Seeded.{answer_seeded, runs_weaker}
+use Rattle.sfv_tree.specs.Seeds.{MemberHasSeed, ListHasSeed}
+use Rattle.sfv_visitor.proofs.Seeded.{adds_all}
+use Rattle.sfv.proofs.built.Seeded.{map_none, runs_add, runs_weaker}
 use Rattle.sfv.proofs.built.Members.{IsOpen, member_built}
 
 -- what the builder does with an event, and with the end
@@ -32,12 +34,10 @@ abbrev Places : ListBuilder → TreeEvent → ListBuilder → Type 0
 Places s e after = list_state after ≡ list_step (list_state s) e
 
 abbrev Steps : ListBuilder → TreeEvent → ListBuilder → Type 0
-Steps s e after = (list_state after ≡ list_step (list_state s) e) × StaysUnder IsListUnder s after
-    × StaysUnder ListAddsUnder s after
+Steps s e after = (list_state after ≡ list_step (list_state s) e) × KeepsListSeed s after
 
 abbrev Ends : ListBuilder → Vec ListEntry Global → Type 0
-Ends s list = (list_tree list.items ≡ complete (list_state s))
-    × ((seed : HashSeed) → IsListUnder seed s → ListHasSeed seed list.items)
+Ends s list = list ≡ s.list
 
 -- no member is current
 abbrev pub between : List RawMember → ListState
@@ -83,7 +83,7 @@ pub built_list_after : (version : Version) (t : List ℕ) (held : List RawMember
 built_list_after version t held from list here h =
     let whole : list_state h.holds.0 ≡ between (held ++ ordered list_field h.raw) =
     list_built held h.raw from h.holds.0 here h.holds.1 in
-    (h.raw, h.accepted, h.only, h.holds.2.0 ∙ ap complete whole)
+    (h.raw, h.accepted, h.only, ap (λ (l : Vec ListEntry Global). list_tree l.items) h.holds.2 ∙ ap complete whole)
 
 -- what was built is the ordered list of the only tree
 pub built_list : (version : Version) (t : List ℕ) (from : ListBuilder) (list : Vec ListEntry Global)
@@ -93,9 +93,22 @@ built_list version t from list here h =
     let whole = built_list_after version t [] from list here h in
     record { raw = whole.0; accepted = whole.1; only = whole.2; holds = whole.3 }
 
--- what was built is under the builder's seed
+-- each member was in the builder before the field, or hashes under its seed
+pub list_adds : (version : Version) (t : List ℕ) (from : ListBuilder) (list : Vec ListEntry Global) (seed : HashSeed)
+    → ListAddsUnder seed from → Answers Steps Ends version list_field t from list
+    → AddsTo (MemberHasSeed seed) from.list.items list.items
+list_adds version t from list seed start h = rw h.holds.2
+    (runs_add ListAddsUnder Steps (λ s. s.list.items) MemberHasSeed (λ s e t k. k.1) (events list_field h.raw)
+    from h.holds.0 h.holds.1 seed start)
+
+-- if the members that were there hash under the seed, all do
 pub list_seeded : (version : Version) (t : List ℕ) (from : ListBuilder) (list : Vec ListEntry Global) (seed : HashSeed)
-    → IsListUnder seed from → Answers Steps Ends version list_field t from list → ListHasSeed seed list.items
-list_seeded version t from list seed start h = answer_seeded IsListUnder Steps (λ s e t k. k.1) Ends
-    (λ seed (list : Vec ListEntry Global). ListHasSeed seed list.items) (λ s out k. k.1) version list_field t from list seed
-    start h
+    → ListHasSeed seed from.list.items → ListAddsUnder seed from → Answers Steps Ends version list_field t from list
+    → ListHasSeed seed list.items
+list_seeded version t from list seed held start h =
+    adds_all (MemberHasSeed seed) from.list.items list.items held (list_adds version t from list seed start h)
+
+-- no member was there
+pub no_list_held : (from : ListBuilder) (seed : HashSeed) → list_state from ≡ between [] → ListHasSeed seed from.list.items
+no_list_held from seed here = All-same (MemberHasSeed seed) from.list.items []
+    (map_none member_tree from.list.items (ap complete here)) (All-nil (MemberHasSeed seed))

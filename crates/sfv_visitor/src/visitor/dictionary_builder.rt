@@ -2,16 +2,14 @@
 
 ghost use Rattle.std.specs.Prelude.{◌≡◌, ⊤, false, None, OnOk, OnErr, IsTrue};
 ghost use Rattle.indexmap.specs.IndexMap.{hasher_of};
-ghost use Rattle.sfv_tree.specs.Seeds.{DictionaryHasSeed};
 ghost use Rattle.sfv_tree.specs.Trees.{dictionary_tree};
-ghost use Rattle.sfv_tree.specs.declared.hash_seed.HashSeed.{HashSeed};
 ghost use Rattle.sfv_bare.specs.BareItems.{input_value};
 ghost use Rattle.sfv_spec.specs.Events as tree;
 ghost use Rattle.sfv_text.specs.CheckedTexts.{text_of};
 ghost use Rattle.sfv_visitor.specs.Events.{event_of, is_moved};
-ghost use Rattle.sfv_visitor.specs.Builders.{complete, dictionary_step, dictionary_state};
+ghost use Rattle.sfv_visitor.specs.Builders.{dictionary_step, dictionary_state};
 ghost use Rattle.sfv_visitor.specs.Builders.{dictionary_takes_memory};
-ghost use Rattle.sfv_visitor.specs.Builders.{DictionaryAddsUnder, IsDictionaryUnder, StaysUnder};
+ghost use Rattle.sfv_visitor.specs.Builders.{DictionaryAddsUnder, KeepsDictionarySeed};
 
 use crate::visitor::member::{Member, Step};
 use crate::visitor::{Event, Visitor};
@@ -40,8 +38,8 @@ impl DictionaryBuilder {
     /// lines of a field, pass the dictionary of the earlier lines.
     pub fn new(dictionary: Dictionary) -> DictionaryBuilder
         ensures state { dictionary_state result ≡ (dictionary_tree dictionary.entries, None) }
-        ensures seed { DictionaryHasSeed (hasher_of dictionary) dictionary → IsDictionaryUnder (hasher_of dictionary) result }
-        ensures adds { DictionaryAddsUnder (hasher_of dictionary) result }
+        ensures dictionary { result.dictionary ≡ dictionary }
+        ensures seed { DictionaryAddsUnder (hasher_of dictionary) result }
     {
         DictionaryBuilder {
             dictionary,
@@ -57,8 +55,7 @@ impl DictionaryBuilder {
     ) -> Result<(), OutOfMemory>
         ensures state { OnOk result (dictionary_state self.new
             ≡ dictionary_step (dictionary_state self.old) (tree.parameter (text_of key.entry) (input_value value.entry))) }
-        ensures seed { OnOk result (StaysUnder IsDictionaryUnder self.old self.new) }
-        ensures adds { OnOk result (StaysUnder DictionaryAddsUnder self.old self.new) }
+        ensures seed { OnOk result (KeepsDictionarySeed self.old self.new) }
         ensures out_of_memory { OnErr result (IsTrue (dictionary_takes_memory (dictionary_state self.old)
             (tree.parameter (text_of key.entry) (input_value value.entry)))) }
     {
@@ -76,8 +73,7 @@ impl DictionaryBuilder {
         ensures out_of_memory { OnErr result
             (IsTrue (dictionary_takes_memory (dictionary_state self.old) (event_of event.entry))) }
         ensures copied { OnErr result (is_moved event.entry ≡ false) }
-        ensures seed { OnOk result (StaysUnder IsDictionaryUnder self.old self.new) }
-        ensures adds { OnOk result (StaysUnder DictionaryAddsUnder self.old self.new) }
+        ensures seed { OnOk result (KeepsDictionarySeed self.old self.new) }
     {
         let (alloc, seed) = (*self.dictionary.allocator(), *self.dictionary.hasher());
         match (self.member.take(), event) {
@@ -111,15 +107,13 @@ impl<'de> Visitor<'de> for DictionaryBuilder {
     type Error = OutOfMemory;
 
     ghost takes = { λ s event after.
-        (dictionary_state after ≡ dictionary_step (dictionary_state s) event) × StaysUnder IsDictionaryUnder s after
-        × StaysUnder DictionaryAddsUnder s after };
+        (dictionary_state after ≡ dictionary_step (dictionary_state s) event) × KeepsDictionarySeed s after };
 
     ghost fails = { λ s event fault. IsTrue (dictionary_takes_memory (dictionary_state s) event) };
 
     ghost fails_read = { λ _ event _. is_moved event ≡ false };
 
-    ghost finishes = { λ s dictionary. (dictionary_tree dictionary.entries ≡ complete (dictionary_state s))
-        × ((seed : HashSeed) → IsDictionaryUnder seed s → DictionaryHasSeed seed dictionary) };
+    ghost finishes = { λ s dictionary. dictionary ≡ s.dictionary };
 
     ghost finish_fails = { λ _ _. ⊥ };
 

@@ -1,15 +1,13 @@
 //! The visitor that builds a list.
 
 ghost use Rattle.std.specs.Prelude.{◌≡◌, ⊤, false, None, OnOk, OnErr, IsTrue};
-ghost use Rattle.sfv_tree.specs.Seeds.{ListHasSeed};
 ghost use Rattle.sfv_tree.specs.Trees.{list_tree};
-ghost use Rattle.sfv_tree.specs.declared.hash_seed.HashSeed.{HashSeed};
 ghost use Rattle.sfv_bare.specs.BareItems.{input_value};
 ghost use Rattle.sfv_spec.specs.Events as tree;
 ghost use Rattle.sfv_text.specs.CheckedTexts.{text_of};
 ghost use Rattle.sfv_visitor.specs.Events.{event_of, is_moved};
-ghost use Rattle.sfv_visitor.specs.Builders.{complete, list_step, list_state, list_takes_memory};
-ghost use Rattle.sfv_visitor.specs.Builders.{ListAddsUnder, IsListUnder, StaysUnder};
+ghost use Rattle.sfv_visitor.specs.Builders.{list_step, list_state, list_takes_memory};
+ghost use Rattle.sfv_visitor.specs.Builders.{ListAddsUnder, KeepsListSeed};
 
 use crate::visitor::member::{Member, Step};
 use crate::visitor::{Event, Visitor};
@@ -40,8 +38,8 @@ impl ListBuilder {
     /// several lines of a field, pass the list of the earlier lines.
     pub fn new(list: List, seed: HashSeed) -> ListBuilder
         ensures state { list_state result ≡ (list_tree list.items, None) }
-        ensures seed { ListHasSeed seed list.items → IsListUnder seed result }
-        ensures adds { ListAddsUnder seed result }
+        ensures list { result.list ≡ list }
+        ensures seed { ListAddsUnder seed result }
     {
         ListBuilder {
             list,
@@ -58,8 +56,7 @@ impl ListBuilder {
     ) -> Result<(), OutOfMemory>
         ensures state { OnOk result (list_state self.new
             ≡ list_step (list_state self.old) (tree.parameter (text_of key.entry) (input_value value.entry))) }
-        ensures seed { OnOk result (StaysUnder IsListUnder self.old self.new) }
-        ensures adds { OnOk result (StaysUnder ListAddsUnder self.old self.new) }
+        ensures seed { OnOk result (KeepsListSeed self.old self.new) }
         ensures out_of_memory { OnErr result (IsTrue (list_takes_memory (list_state self.old)
             (tree.parameter (text_of key.entry) (input_value value.entry)))) }
     {
@@ -73,8 +70,7 @@ impl ListBuilder {
     #[inline(always)]
     fn step(&mut self, event: Event<'_>) -> Result<(), OutOfMemory>
         ensures state { OnOk result (list_state self.new ≡ list_step (list_state self.old) (event_of event.entry)) }
-        ensures seed { OnOk result (StaysUnder IsListUnder self.old self.new) }
-        ensures adds { OnOk result (StaysUnder ListAddsUnder self.old self.new) }
+        ensures seed { OnOk result (KeepsListSeed self.old self.new) }
         ensures out_of_memory { OnErr result (IsTrue (list_takes_memory (list_state self.old) (event_of event.entry))) }
         ensures copied { OnErr result (is_moved event.entry ≡ false) }
     {
@@ -103,15 +99,13 @@ impl<'de> Visitor<'de> for ListBuilder {
     type Error = OutOfMemory;
 
     ghost takes = { λ s event after.
-        (list_state after ≡ list_step (list_state s) event) × StaysUnder IsListUnder s after
-        × StaysUnder ListAddsUnder s after };
+        (list_state after ≡ list_step (list_state s) event) × KeepsListSeed s after };
 
     ghost fails = { λ s event fault. IsTrue (list_takes_memory (list_state s) event) };
 
     ghost fails_read = { λ _ event _. is_moved event ≡ false };
 
-    ghost finishes = { λ s list. (list_tree list.items ≡ complete (list_state s))
-        × ((seed : HashSeed) → IsListUnder seed s → ListHasSeed seed list.items) };
+    ghost finishes = { λ s list. list ≡ s.list };
 
     ghost finish_fails = { λ _ _. ⊥ };
 

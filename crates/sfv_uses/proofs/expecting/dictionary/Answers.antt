@@ -2,7 +2,7 @@ use Rattle.std.proofs.lemmas.Result.{IfOk-weaker}
 use Rattle.sfv.specs.Types.{dictionary_field}
 use Rattle.sfv.specs.Types.{Rfc9651}
 use Rattle.sfv.specs.HashSeeds.{library_seed}
-use Rattle.sfv.proofs.Callers.{made_visited, made_syntax, made_visitor, dictionary_seeded, dictionary_built}
+use Rattle.sfv.proofs.Callers.{made_visited, made_syntax, made_visitor, dictionary_seeded, dictionary_built, no_entry_held}
 use Rattle.sfv_uses.proofs.Uses.{read_failed}
 use Rattle.sfv_uses.proofs.expecting.dictionary.Goals as goal
 
@@ -13,7 +13,8 @@ returns-clause-read c = IfOk-weaker c.parse_dictionary.result _ _
 
 pub returns-clause-seed : goal.returns-clause-seed
 returns-clause-seed c = IfOk-weaker c.parse_dictionary.result _ _
-    (λ value h. dictionary_seeded Rfc9651 c.args.input.now h.0 value library_seed h.1.1 h.2)
+    (λ value h. dictionary_seeded Rfc9651 c.args.input.now h.0 value library_seed
+    (no_entry_held h.0 library_seed h.1.0) h.1.1 h.2)
     (made_visited _ (rw c.new.ensures at c.parse_dictionary.ensures))
 
 pub returns-clause-rejected : goal.returns-clause-rejected

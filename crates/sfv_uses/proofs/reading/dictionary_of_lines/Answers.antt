@@ -8,7 +8,7 @@ use Rattle.sfv.specs.Types.{HashSeed, DictionaryBuilder, ListEntry}
 use Rattle.sfv.specs.Maps.{IndexMap}
 use Rattle.sfv.specs.Seeds.{DictionaryHasSeed}
 use Rattle.sfv.proofs.Callers.{dictionary_in_lines, dictionary_after, dictionary_seeded, read_is_value}
-use Rattle.sfv.specs.Builders.{dictionary_state, dictionary_step, complete, DictionaryAddsUnder, IsDictionaryUnder, StaysUnder}
+use Rattle.sfv.specs.Builders.{dictionary_state, dictionary_step, KeepsDictionarySeed}
 use Rattle.sfv_uses.proofs.Uses.{second_fails}
 use Rattle.sfv_uses.proofs.reading.dictionary_of_lines.Goals as goal
 
@@ -34,16 +34,14 @@ returns-clause-seed c =
     let first : DictionaryHasSeed c.args.seed c.in_ok-held.held =
     rw c.with_hash_seed-parser.ensures at c.in_ok-held.ensures.seed in
     IfOk-weaker c.parse_dictionary_with_visitor.result _ _ (λ dictionary h. dictionary_seeded Rfc9651 c.args.second.now
-    c.new-builder.result dictionary c.args.seed (rw first.0 at c.new-builder.ensures.seed (refl, first.1)) h) second
+    c.new-builder.result dictionary c.args.seed (rw c.new-builder.ensures.dictionary first.1) (rw first.0 at c.new-builder.ensures.seed) h) second
 
 pub returns-clause-rejected : goal.returns-clause-rejected
 returns-clause-rejected c =
     let read : IsParsedAs Rfc9651 dictionary_field c.args.first.now (dictionary_tree c.in_ok-held.held.entries) =
     rw (c.with_hash_seed-parser.ensures, c.new.ensures) at c.in_ok-held.ensures.read in
     second_fails dictionary_field (λ (s : DictionaryBuilder) e after.
-    (dictionary_state after ≡ dictionary_step (dictionary_state s) e) × StaysUnder IsDictionaryUnder s after × StaysUnder DictionaryAddsUnder s after)
-    (λ s (dictionary : IndexMap (List ℕ) ListEntry HashSeed). (dictionary_tree dictionary.entries
-    ≡ complete (dictionary_state s)) × ((seed : HashSeed) → IsDictionaryUnder seed s
-    → DictionaryHasSeed seed dictionary)) c.args.first.now c.args.second.now
-    c.new-builder.result c.parse_dictionary_with_visitor.result (read.raw, read.accepted)
+    (dictionary_state after ≡ dictionary_step (dictionary_state s) e) × KeepsDictionarySeed s after)
+    (λ s (dictionary : IndexMap (List ℕ) ListEntry HashSeed). dictionary ≡ s.dictionary) c.args.first.now
+    c.args.second.now c.new-builder.result c.parse_dictionary_with_visitor.result (read.raw, read.accepted)
     (rw c.new-2.ensures at c.parse_dictionary_with_visitor.ensures.syntax)

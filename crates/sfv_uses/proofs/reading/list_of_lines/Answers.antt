@@ -7,8 +7,8 @@ use Rattle.sfv.specs.Types.{Rfc9651}
 use Rattle.sfv.specs.Statements.{IsParsedAs}
 use Rattle.sfv.specs.Trees.{list_tree}
 use Rattle.sfv.specs.Seeds.{ListHasSeed}
-use Rattle.sfv.specs.Builders.{list_state, list_step, complete, ListAddsUnder, IsListUnder, StaysUnder}
-use Rattle.sfv.specs.Types.{HashSeed, ListBuilder, ListEntry}
+use Rattle.sfv.specs.Builders.{list_state, list_step, KeepsListSeed}
+use Rattle.sfv.specs.Types.{ListBuilder, ListEntry}
 use Rattle.sfv.proofs.Callers.{list_in_lines, list_after, list_seeded}
 use Rattle.sfv_uses.proofs.Uses.{second_fails}
 use Rattle.sfv_uses.proofs.reading.list_of_lines.Goals as goal
@@ -34,14 +34,13 @@ returns-clause-seed c =
     rw c.with_hash_seed-parser.ensures at c.in_ok-held.ensures.seed in
     let same = rw c.with_hash_seed-parser.ensures at c.hash_seed.ensures in
     IfOk-weaker c.parse_list_with_visitor.result _ _ (λ list h. list_seeded Rfc9651 c.args.second.now c.new-builder.result list
-    c.args.seed (rw same at c.new-builder.ensures.seed first) h) second
+    c.args.seed (rw c.new-builder.ensures.list first) (rw same at c.new-builder.ensures.seed) h) second
 
 pub returns-clause-rejected : goal.returns-clause-rejected
 returns-clause-rejected c =
     let read : IsParsedAs Rfc9651 list_field c.args.first.now (list_tree c.in_ok-held.held.items) =
     rw (c.with_hash_seed-parser.ensures, c.new.ensures) at c.in_ok-held.ensures.read in
     second_fails list_field (λ (s : ListBuilder) e after. (list_state after ≡ list_step (list_state s) e)
-    × StaysUnder IsListUnder s after × StaysUnder ListAddsUnder s after) (λ s (list : Vec ListEntry Global). (list_tree list.items
-    ≡ complete (list_state s)) × ((seed : HashSeed) → IsListUnder seed s → ListHasSeed seed list.items))
+    × KeepsListSeed s after) (λ s (list : Vec ListEntry Global). list ≡ s.list)
     c.args.first.now c.args.second.now c.new-builder.result c.parse_list_with_visitor.result
     (read.raw, read.accepted) (rw c.new-2.ensures at c.parse_list_with_visitor.ensures.syntax)

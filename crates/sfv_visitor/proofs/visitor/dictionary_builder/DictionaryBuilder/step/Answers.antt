@@ -4,12 +4,13 @@ use Rattle.std.specs.Prelude.{⊤, Option, Some, MatchOption, IsTrue, bytes_eq}
 use Rattle.sfv_tree.proofs.Entered.{dictionary_tree-insert}
 use Rattle.sfv_tree.specs.Seeds.{MemberHasSeed}
 use Rattle.sfv_tree.specs.Trees.{member_tree}
+use Rattle.sfv_tree.specs.declared.parsed.ListEntry.{ListEntry}
 use Rattle.sfv_visitor.specs.Builders.{member_state, member_step, HasSeedSoFar, StepHasSeed}
 use Rattle.sfv_visitor.specs.Builders.{dictionary_state, dictionary_takes_memory, ended}
 use Rattle.sfv_visitor.specs.Events.{event_of, is_moved}
 use Rattle.sfv_visitor.specs.declared.visitor.member.Member.{Member}
 use Rattle.sfv_visitor.proofs.Members.{ends_here, not_moved, settles_pair, or_true}
-use Rattle.sfv_visitor.proofs.Seeded.{all_entered}
+use Rattle.sfv_visitor.proofs.Seeded.{adds_none, adds_entered}
 use Rattle.sfv_visitor.proofs.visitor.dictionary_builder.DictionaryBuilder.step.Goals as goal
 use Rattle.sfv_visitor.proofs.visitor.dictionary_builder.DictionaryBuilder.step.Goals.{in-None-KeyedEntry+in_ok-to_owned-in-None-KeyedEntry, in-None-default}
 
@@ -29,8 +30,10 @@ returns-in_err-insert-in-Ended-clause-copied c =
 
 pub returns-after-event-clause-seed : goal.returns-after-event-clause-seed
 returns-after-event-clause-seed c = elim c.match-event.branch [
-  | in-None-KeyedEntry+in_ok-to_owned-in-None-KeyedEntry w ↦ rw (w.result-is, w.self-is) (λ seed h. (h.0, tt))
-  | in-None-default w ↦ rw (w.result-is, w.self-is, c.take.ensures.after) (λ seed h. (h.0, tt))
+  | in-None-KeyedEntry+in_ok-to_owned-in-None-KeyedEntry w ↦ rw (w.result-is, w.self-is)
+      (λ seed h. ((h.0, tt), adds_none (λ (p : List ℕ × ListEntry). MemberHasSeed seed p.1) _))
+  | in-None-default w ↦ rw (w.result-is, w.self-is, c.take.ensures.after)
+      (λ seed h. ((h.0, tt), adds_none (λ (p : List ℕ × ListEntry). MemberHasSeed seed p.1) _))
 ]
 
 pub returns-in-Within-clause-state : goal.returns-in-Within-clause-state
@@ -52,20 +55,8 @@ returns-in_ok-insert-in-Ended-clause-seed c = λ seed h.
     let held : c.args.self.now.member ≡ Some (c.in-Some-default.key, c.in-Some-default.member) = search rules in
     let before : HasSeedSoFar seed c.in-Some-default.member =
     subst (λ (o : Option (List ℕ × Member)). MatchOption o ⊤ (λ p. HasSeedSoFar seed p.1)) held h.1 in
-    let stays = rw (c.hasher.ensures, h.0.0) at c.in_ok-member-in-Some-default.ensures.seed in
+    let stays = rw (c.hasher.ensures, h.0) at c.in_ok-member-in-Some-default.ensures.seed in
     let member : MemberHasSeed seed c.in-Ended.member = subst (StepHasSeed seed) c.in-Ended.is (stays before) in (
-      (
-        c.insert.ensures.hasher ∙ h.0.0,
-        rw c.in_ok-insert-in-Ended.ensures.entries (all_entered bytes_eq (MemberHasSeed seed) _ _ _ member h.0.1),
-      ),
-      rw c.take.ensures.after tt,
+      (c.insert.ensures.hasher ∙ h.0, rw c.take.ensures.after tt),
+      rw c.in_ok-insert-in-Ended.ensures.entries (adds_entered bytes_eq (MemberHasSeed seed) _ _ _ member),
     )
-
-pub returns-after-event-clause-adds : goal.returns-after-event-clause-adds
-returns-after-event-clause-adds c = elim c.match-event.branch [
-  | in-None-KeyedEntry+in_ok-to_owned-in-None-KeyedEntry w ↦ rw (w.result-is, w.self-is) (λ seed h. (h.0, tt))
-  | in-None-default w ↦ rw (w.result-is, w.self-is, c.take.ensures.after) (λ seed h. (h.0, tt))
-]
-
-pub returns-in_ok-insert-in-Ended-clause-adds : goal.returns-in_ok-insert-in-Ended-clause-adds
-returns-in_ok-insert-in-Ended-clause-adds c = λ seed h. (c.insert.ensures.hasher ∙ h.0, rw c.take.ensures.after tt)

@@ -7,7 +7,7 @@ use Rattle.sfv_visitor.specs.Builders.{list_state, list_takes_memory, ended}
 use Rattle.sfv_visitor.specs.Events.{event_of, is_moved}
 use Rattle.sfv_visitor.specs.declared.visitor.member.Member.{Member}
 use Rattle.sfv_visitor.proofs.Members.{ends_here, not_moved, or_true}
-use Rattle.sfv_visitor.proofs.Seeded.{all_push}
+use Rattle.sfv_visitor.proofs.Seeded.{adds_none, adds_push}
 use Rattle.sfv_visitor.proofs.visitor.list_builder.ListBuilder.step.Goals as goal
 use Rattle.sfv_visitor.proofs.visitor.list_builder.ListBuilder.step.Goals.{in-None-Entry, in-None-default}
 
@@ -27,27 +27,18 @@ returns-in_err-push-in-Ended-clause-copied c =
 
 pub returns-after-event-clause-seed : goal.returns-after-event-clause-seed
 returns-after-event-clause-seed c = elim c.match-event.branch [
-  | in-None-Entry w ↦ rw (w.result-is, w.self-is) (λ seed h. (h.0, h.1, tt))
-  | in-None-default w ↦ rw (w.result-is, w.self-is, c.take.ensures.after) (λ seed h. (h.0, h.1, tt))
+  | in-None-Entry w ↦ rw (w.result-is, w.self-is) (λ seed h. ((h.0, tt), adds_none (MemberHasSeed seed) _))
+  | in-None-default w ↦ rw (w.result-is, w.self-is, c.take.ensures.after)
+      (λ seed h. ((h.0, tt), adds_none (MemberHasSeed seed) _))
 ]
 
 pub returns-in_ok-push-in-Ended-clause-seed : goal.returns-in_ok-push-in-Ended-clause-seed
 returns-in_ok-push-in-Ended-clause-seed c = λ seed h.
     let held : c.args.self.now.member ≡ Some c.in-Some-default.member = search rules in
     let before : HasSeedSoFar seed c.in-Some-default.member =
-    subst (λ (o : Option Member). MatchOption o ⊤ (HasSeedSoFar seed)) held h.2 in
+    subst (λ (o : Option Member). MatchOption o ⊤ (HasSeedSoFar seed)) held h.1 in
     let member : MemberHasSeed seed c.in-Ended.member =
     subst (StepHasSeed seed) c.in-Ended.is (rw h.0 at c.in_ok-member-in-Some-default.ensures.seed before) in (
-      h.0,
-      rw c.in_ok-push-in-Ended.ensures.items (all_push (MemberHasSeed seed) _ _ member h.1),
-      rw c.take.ensures.after tt,
+      (h.0, rw c.take.ensures.after tt),
+      rw c.in_ok-push-in-Ended.ensures.items (adds_push (MemberHasSeed seed) _ _ member),
     )
-
-pub returns-after-event-clause-adds : goal.returns-after-event-clause-adds
-returns-after-event-clause-adds c = elim c.match-event.branch [
-  | in-None-Entry w ↦ rw (w.result-is, w.self-is) (λ seed h. (h.0, tt))
-  | in-None-default w ↦ rw (w.result-is, w.self-is, c.take.ensures.after) (λ seed h. (h.0, tt))
-]
-
-pub returns-in_ok-push-in-Ended-clause-adds : goal.returns-in_ok-push-in-Ended-clause-adds
-returns-in_ok-push-in-Ended-clause-adds c = λ seed h. (h.0, rw c.take.ensures.after tt)
