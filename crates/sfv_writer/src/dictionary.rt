@@ -6,10 +6,11 @@ ghost use Rattle.sfv_spec.specs.declared.field_kind.FieldKind.TheVariants.{Dicti
 ghost use Rattle.sfv_spec.specs.Canonical.{canonical};
 ghost use Rattle.sfv_spec.specs.Statements.{IsValue};
 ghost use Rattle.sfv_tree.specs.Trees.{dictionary_tree};
-ghost use Rattle.sfv_writer.specs.Written.{AsksForRoom, Appends, IsSerialized};
+ghost use Rattle.sfv_writer.specs.Written.{AsksForRoom, Appends, AppendsOrKeeps, IsSerialized};
 
 use crate::capacity::text_for_members;
 use crate::element::serialize_each;
+use crate::output::truncate_to;
 use crate::serialize_error::expect_out_of_memory;
 use sfv_base::error::OutOfMemory;
 use sfv_spec::version::Version;
@@ -53,4 +54,29 @@ pub fn dictionary_text(
     let mut text = text_for_members(dictionary.len(), alloc);
     serialize_dictionary(dictionary, &mut text)?;
     Ok(Some(text))
+}
+
+/// Appends a dictionary (RFC 9651, section 4.1.2). An empty dictionary appends nothing. After an error, `text` is
+/// unchanged.
+///
+/// # Errors
+///
+/// Returns `OutOfMemory` if memory runs out, which happens only if `text` lacks the capacity for the whole dictionary.
+#[tactic(auto, using(crate::proofs::Written::cut_to))]
+pub fn append_dictionary<A: Allocator>(
+    dictionary: &Dictionary,
+    text: &mut StdString<A>,
+) -> Result<(), OutOfMemory>
+    ensures text { AppendsOrKeeps text.old text.new
+        (canonical dictionary_field (dictionary_tree dictionary.now.entries)) result }
+    ensures room { AsksForRoom text.old text.new
+        (canonical dictionary_field (dictionary_tree dictionary.now.entries)) result }
+    ensures value { OnOk result (IsValue dictionary_field (dictionary_tree dictionary.now.entries)) }
+{
+    let len = text.len();
+    if let Err(error) = serialize_dictionary(dictionary, text) {
+        truncate_to(len, text);
+        return Err(error);
+    }
+    Ok(())
 }

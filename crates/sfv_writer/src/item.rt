@@ -16,7 +16,7 @@ ghost use Rattle.sfv_spec.specs.Values.{AllFit};
 ghost use Rattle.sfv_bare.specs.BareItems.{ref_value, bare_value};
 ghost use Rattle.sfv_text.specs.CheckedTexts.{text_of};
 ghost use Rattle.sfv_tree.specs.Trees.{pairs_tree, item_tree};
-ghost use Rattle.sfv_writer.specs.Written.{AsksForRoom, Appends, Extends, param_text};
+ghost use Rattle.sfv_writer.specs.Written.{AsksForRoom, Appends, AppendsOrKeeps, Extends, param_text};
 ghost use Rattle.sfv_writer.specs.Pairs.{lent_pairs, pair_values};
 ghost use Rattle.sfv_writer.specs.Versions.{FailsAmong, FailsFrom, LacksAmong, StopsEarly, AppendsParameters, parameter_pairs};
 
@@ -314,4 +314,23 @@ pub fn item_text(item: &Item, alloc: Global) -> Result<StdString, OutOfMemory>
     let mut text = text_for_item(item.params.len(), alloc);
     serialize_item(item, &mut text)?;
     Ok(text)
+}
+
+/// Appends an item (RFC 9651, section 4.1.3). After an error, `text` is unchanged.
+///
+/// # Errors
+///
+/// Returns `OutOfMemory` if memory runs out, which happens only if `text` lacks the capacity for the whole item.
+#[tactic(auto, using(crate::proofs::Written::cut_to))]
+pub fn append_item<A: Allocator>(item: &Item, text: &mut StdString<A>) -> Result<(), OutOfMemory>
+    ensures text { AppendsOrKeeps text.old text.new (item_text (item_tree item.now)) result }
+    ensures room { AsksForRoom text.old text.new (item_text (item_tree item.now)) result }
+    ensures value { OnOk result (IsValue item_field (item_tree item.now)) }
+{
+    let len = text.len();
+    if let Err(error) = serialize_item(item, text) {
+        truncate_to(len, text);
+        return Err(error);
+    }
+    Ok(())
 }

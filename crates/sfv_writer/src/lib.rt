@@ -18,8 +18,8 @@ pub mod serialize_error;
 mod string;
 pub mod version_check;
 
-pub use dictionary::dictionary_text;
-pub use item::{item_text, serialize_item};
-pub use list::list_text;
+pub use dictionary::{append_dictionary, dictionary_text};
+pub use item::{append_item, item_text, serialize_item};
+pub use list::{append_list, list_text};
 pub use serialize_error::SerializeError;
 pub use version_check::{check_dictionary, check_item, check_list};

@@ -6,10 +6,11 @@ ghost use Rattle.sfv_spec.specs.declared.field_kind.FieldKind.TheVariants.{List 
 ghost use Rattle.sfv_spec.specs.Canonical.{canonical};
 ghost use Rattle.sfv_spec.specs.Statements.{IsValue};
 ghost use Rattle.sfv_tree.specs.Trees.{list_tree};
-ghost use Rattle.sfv_writer.specs.Written.{AsksForRoom, Appends, IsSerialized};
+ghost use Rattle.sfv_writer.specs.Written.{AsksForRoom, Appends, AppendsOrKeeps, IsSerialized};
 
 use crate::capacity::text_for_members;
 use crate::element::serialize_each;
+use crate::output::truncate_to;
 use crate::serialize_error::expect_out_of_memory;
 use sfv_base::error::OutOfMemory;
 use sfv_spec::version::Version;
@@ -47,4 +48,23 @@ pub fn list_text(list: &List, alloc: Global) -> Result<Option<StdString>, OutOfM
     let mut text = text_for_members(list.len(), alloc);
     serialize_list(list, &mut text)?;
     Ok(Some(text))
+}
+
+/// Appends a list (RFC 9651, section 4.1.1). An empty list appends nothing. After an error, `text` is unchanged.
+///
+/// # Errors
+///
+/// Returns `OutOfMemory` if memory runs out, which happens only if `text` lacks the capacity for the whole list.
+#[tactic(auto, using(crate::proofs::Written::cut_to))]
+pub fn append_list<A: Allocator>(list: &List, text: &mut StdString<A>) -> Result<(), OutOfMemory>
+    ensures text { AppendsOrKeeps text.old text.new (canonical list_field (list_tree list.now.items)) result }
+    ensures room { AsksForRoom text.old text.new (canonical list_field (list_tree list.now.items)) result }
+    ensures value { OnOk result (IsValue list_field (list_tree list.now.items)) }
+{
+    let len = text.len();
+    if let Err(error) = serialize_list(list, text) {
+        truncate_to(len, text);
+        return Err(error);
+    }
+    Ok(())
 }
