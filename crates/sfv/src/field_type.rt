@@ -1,6 +1,6 @@
 //! The field types: items, lists and dictionaries.
 
-ghost use Rattle.std.specs.Prelude.{◌≡◌, ℕ, List, Option, Some, option_map, IfOk, IfErr, string_bytes};
+ghost use Rattle.std.specs.Prelude.{◌≡◌, ◌≤◌, ◌↔◌, ℕ, List, Option, Some, option_map, IfOk, IfErr, OnOk, IsTrue, string_bytes, string_capacity};
 ghost use Rattle.std.proofs.Common.{ap};
 ghost use Rattle.std.specs.declared.alloc.Global.{Global as Heap};
 ghost use Rattle.std.specs.declared.string.String.{String as Text};
@@ -14,7 +14,9 @@ ghost use Rattle.sfv_spec.specs.Statements.{IsParsedAs, IsSerializedAs};
 ghost use Rattle.sfv_tree.specs.Trees.{item_tree, list_tree, dictionary_tree};
 ghost use Rattle.sfv_tree.specs.Seeds.{ItemHasSeed, ListHasSeed, DictionaryHasSeed};
 ghost use Rattle.sfv_tree.specs.declared.hash_seed.HashSeed.{HashSeed};
-ghost use Rattle.sfv_writer.specs.Versions.{ChecksVersionFirst};
+ghost use Rattle.sfv_spec.specs.Canonical.{canonical};
+ghost use Rattle.sfv_writer.specs.Versions.{ChecksVersionFirst, OnOutOfMemory};
+ghost use Rattle.sfv_writer.specs.Written.{AppendsOrKeeps, LacksRoom};
 ghost use Rattle.sfv.specs.Parsers.{input_of, version_of, IsParseError};
 ghost use Rattle.sfv.specs.Memory.{NeedsMoreThanSpaces};
 
@@ -26,7 +28,8 @@ use sfv_base::error::{Error, OutOfMemory};
 use sfv_spec::version::Version;
 use sfv_tree::parsed::{Dictionary, Item, List};
 use sfv_writer::{
-    SerializeError, check_dictionary, check_item, check_list, dictionary_text, item_text, list_text,
+    SerializeError, append_dictionary, append_item, append_list, check_dictionary, check_item,
+    check_list, dictionary_text, item_text, list_text,
 };
 use std::alloc::Global;
 use std::string::String as StdString;
@@ -99,6 +102,24 @@ pub trait FieldType: sealed::Sealed + Drop {
         ensures unsupported { ChecksVersionFirst version (bare_values kind (tree self.now)) result }
         ensures failed { IfErr result (λ _. HasMember kind (tree self.now)) };
 
+    /// Appends the canonical text to `text`, if `version` has every value (RFC 9651, section 4.1).
+    ///
+    /// Returns `true` if the text is not empty. An empty list or dictionary has no text, and nothing is appended. The
+    /// appended text parses back to the same value under `version`. No memory is requested if `text` has the capacity.
+    ///
+    /// # Errors
+    ///
+    /// Returns `Unsupported` with the kind of the first value, in the order of the text, that `version` lacks. Returns
+    /// `OutOfMemory` if memory runs out, which happens only if `text` lacks the capacity. After an error, the text is
+    /// unchanged.
+    fn append_to(&self, version: Version, text: &mut StdString) -> Result<bool, SerializeError>
+        ensures text { AppendsOrKeeps text.old text.new (canonical kind (tree self.now)) result }
+        ensures room { OnOutOfMemory result (LacksRoom text.old (canonical kind (tree self.now))) }
+        ensures stays { string_capacity text.old ≤ string_capacity text.new }
+        ensures has_member { IfOk result (λ any. IsTrue any ↔ HasMember kind (tree self.now)) }
+        ensures unsupported { ChecksVersionFirst version (bare_values kind (tree self.now)) result }
+        ensures read_back { OnOk result (IsParsedAs version kind (canonical kind (tree self.now)) (tree self.now)) };
+
     ghost into_written: { (result : Self.SerializeResult) (text : Option (Text Heap))
         → Self.SerializeResult.converts result text → option_map string_bytes text ≡ written result };
 }
@@ -129,6 +150,11 @@ impl FieldType for Item {
         check_item(version, self)?;
         let text = self.serialize(alloc)?;
         Ok(text)
+    }
+
+    fn append_to(&self, version: Version, text: &mut StdString) -> Result<bool, SerializeError> {
+        append_item(version, self, text)?;
+        Ok(true)
     }
 }
 
@@ -163,6 +189,11 @@ impl FieldType for List {
         let text = self.serialize(alloc)?;
         Ok(text)
     }
+
+    fn append_to(&self, version: Version, text: &mut StdString) -> Result<bool, SerializeError> {
+        append_list(version, self, text)?;
+        Ok(!self.is_empty())
+    }
 }
 
 impl FieldType for Dictionary {
@@ -195,5 +226,10 @@ impl FieldType for Dictionary {
         check_dictionary(version, self)?;
         let text = self.serialize(alloc)?;
         Ok(text)
+    }
+
+    fn append_to(&self, version: Version, text: &mut StdString) -> Result<bool, SerializeError> {
+        append_dictionary(version, self, text)?;
+        Ok(!self.is_empty())
     }
 }

@@ -1,17 +1,19 @@
 //! Serialization of dictionaries (RFC 9651, section 4.1.2).
 
-ghost use Rattle.std.specs.Prelude.{OnOk, IfOk, IfErr};
-ghost use Rattle.sfv_spec.specs.Values.{HasMember};
+ghost use Rattle.std.specs.Prelude.{◌≤◌, OnOk, IfOk, IfErr, string_capacity};
+ghost use Rattle.sfv_spec.specs.Values.{HasMember, bare_values};
 ghost use Rattle.sfv_spec.specs.declared.field_kind.FieldKind.TheVariants.{Dictionary as dictionary_field};
 ghost use Rattle.sfv_spec.specs.Canonical.{canonical};
 ghost use Rattle.sfv_spec.specs.Statements.{IsValue};
 ghost use Rattle.sfv_tree.specs.Trees.{dictionary_tree};
-ghost use Rattle.sfv_writer.specs.Written.{AsksForRoom, Appends, AppendsOrKeeps, IsSerialized};
+ghost use Rattle.sfv_writer.specs.Written.{AsksForRoom, Appends, AppendsOrKeeps, LacksRoom, IsSerialized};
+ghost use Rattle.sfv_writer.specs.Versions.{ChecksVersionFirst, OnOutOfMemory};
 
 use crate::capacity::text_for_members;
 use crate::element::serialize_each;
 use crate::output::truncate_to;
-use crate::serialize_error::expect_out_of_memory;
+use crate::serialize_error::{SerializeError, expect_out_of_memory};
+use crate::version_check::check_dictionary;
 use sfv_base::error::OutOfMemory;
 use sfv_spec::version::Version;
 use sfv_tree::parsed::Dictionary;
@@ -56,27 +58,30 @@ pub fn dictionary_text(
     Ok(Some(text))
 }
 
-/// Appends a dictionary (RFC 9651, section 4.1.2). An empty dictionary appends nothing. After an error, `text` is
+/// Appends a dictionary (RFC 9651, section 4.1.2), if `version` has every value. An empty dictionary appends nothing. After an error, `text` is
 /// unchanged.
 ///
 /// # Errors
 ///
-/// Returns `OutOfMemory` if memory runs out, which happens only if `text` lacks the capacity for the whole dictionary.
-#[tactic(auto, using(crate::proofs::Written::cut_to))]
+/// Returns `SerializeError::Unsupported` with the kind of the first value that `version` lacks. Returns `OutOfMemory`
+/// if memory runs out, which happens only if `text` lacks the capacity for the whole dictionary.
+#[tactic(auto, using(crate::proofs::Written::cut_to, crate::proofs::Looks::look_fails, crate::proofs::Looks::memory_fails))]
 pub fn append_dictionary<A: Allocator>(
+    version: Version,
     dictionary: &Dictionary,
     text: &mut StdString<A>,
-) -> Result<(), OutOfMemory>
-    ensures text { AppendsOrKeeps text.old text.new
-        (canonical dictionary_field (dictionary_tree dictionary.now.entries)) result }
-    ensures room { AsksForRoom text.old text.new
-        (canonical dictionary_field (dictionary_tree dictionary.now.entries)) result }
+) -> Result<(), SerializeError>
+    ensures text { AppendsOrKeeps text.old text.new (canonical dictionary_field (dictionary_tree dictionary.now.entries)) result }
+    ensures room { OnOutOfMemory result (LacksRoom text.old (canonical dictionary_field (dictionary_tree dictionary.now.entries))) }
+    ensures stays { string_capacity text.old ≤ string_capacity text.new }
+    ensures unsupported { ChecksVersionFirst version (bare_values dictionary_field (dictionary_tree dictionary.now.entries)) result }
     ensures value { OnOk result (IsValue dictionary_field (dictionary_tree dictionary.now.entries)) }
 {
+    check_dictionary(version, dictionary)?;
     let len = text.len();
     if let Err(error) = serialize_dictionary(dictionary, text) {
         truncate_to(len, text);
-        return Err(error);
+        return Err(SerializeError::from(error));
     }
     Ok(())
 }

@@ -4,7 +4,7 @@ ghost use Rattle.std.specs.Prelude.{◌≡◌, [], ◌∷◌, ◌++◌, List, tr
 ghost use Rattle.std.specs.Prelude.{◌≤◌, Some, IfOk, string_capacity};
 ghost use Rattle.std.specs.Iterator.{IsFinite, Drains};
 ghost use Rattle.sfv_spec.specs.Classes.{is_key, is_token};
-ghost use Rattle.sfv_spec.specs.Values.{IsBareValue, AreParameters, boolean};
+ghost use Rattle.sfv_spec.specs.Values.{IsBareValue, AreParameters, boolean, item_values};
 ghost use Rattle.sfv_spec.specs.declared.field_kind.FieldKind.TheVariants.{Item as item_field};
 ghost use Rattle.sfv_spec.proofs.Repeats.{no_repeats};
 ghost use Rattle.sfv_spec.proofs.Marks.{keys};
@@ -16,9 +16,9 @@ ghost use Rattle.sfv_spec.specs.Values.{AllFit};
 ghost use Rattle.sfv_bare.specs.BareItems.{ref_value, bare_value};
 ghost use Rattle.sfv_text.specs.CheckedTexts.{text_of};
 ghost use Rattle.sfv_tree.specs.Trees.{pairs_tree, item_tree};
-ghost use Rattle.sfv_writer.specs.Written.{AsksForRoom, Appends, AppendsOrKeeps, Extends, param_text};
+ghost use Rattle.sfv_writer.specs.Written.{AsksForRoom, Appends, AppendsOrKeeps, LacksRoom, Extends, param_text};
 ghost use Rattle.sfv_writer.specs.Pairs.{lent_pairs, pair_values};
-ghost use Rattle.sfv_writer.specs.Versions.{FailsAmong, FailsFrom, LacksAmong, StopsEarly, AppendsParameters, parameter_pairs};
+ghost use Rattle.sfv_writer.specs.Versions.{ChecksVersionFirst, OnOutOfMemory, FailsAmong, FailsFrom, LacksAmong, StopsEarly, AppendsParameters, parameter_pairs};
 
 use crate::byte_sequence::serialize_byte_sequence;
 use crate::capacity::text_for_item;
@@ -27,7 +27,7 @@ use crate::number::{serialize_date, serialize_decimal, serialize_integer};
 use crate::output::truncate_to;
 use crate::serialize_error::{SerializeError, expect_out_of_memory};
 use crate::string::serialize_string;
-use crate::version_check::check_bare_item;
+use crate::version_check::{check_bare_item, check_item};
 use sfv_bare::bare::{BareItem, GenericBareItem, RefBareItem};
 use sfv_base::error::OutOfMemory;
 use sfv_spec::version::Version;
@@ -316,21 +316,30 @@ pub fn item_text(item: &Item, alloc: Global) -> Result<StdString, OutOfMemory>
     Ok(text)
 }
 
-/// Appends an item (RFC 9651, section 4.1.3). After an error, `text` is unchanged.
+/// Appends an item (RFC 9651, section 4.1.3), if `version` has every value. After an error, `text` is
+/// unchanged.
 ///
 /// # Errors
 ///
-/// Returns `OutOfMemory` if memory runs out, which happens only if `text` lacks the capacity for the whole item.
-#[tactic(auto, using(crate::proofs::Written::cut_to))]
-pub fn append_item<A: Allocator>(item: &Item, text: &mut StdString<A>) -> Result<(), OutOfMemory>
+/// Returns `SerializeError::Unsupported` with the kind of the first value that `version` lacks. Returns `OutOfMemory`
+/// if memory runs out, which happens only if `text` lacks the capacity for the whole item.
+#[tactic(auto, using(crate::proofs::Written::cut_to, crate::proofs::Looks::look_fails, crate::proofs::Looks::memory_fails))]
+pub fn append_item<A: Allocator>(
+    version: Version,
+    item: &Item,
+    text: &mut StdString<A>,
+) -> Result<(), SerializeError>
     ensures text { AppendsOrKeeps text.old text.new (item_text (item_tree item.now)) result }
-    ensures room { AsksForRoom text.old text.new (item_text (item_tree item.now)) result }
+    ensures room { OnOutOfMemory result (LacksRoom text.old (item_text (item_tree item.now))) }
+    ensures stays { string_capacity text.old ≤ string_capacity text.new }
+    ensures unsupported { ChecksVersionFirst version (item_values (item_tree item.now)) result }
     ensures value { OnOk result (IsValue item_field (item_tree item.now)) }
 {
+    check_item(version, item)?;
     let len = text.len();
     if let Err(error) = serialize_item(item, text) {
         truncate_to(len, text);
-        return Err(error);
+        return Err(SerializeError::from(error));
     }
     Ok(())
 }

@@ -1,17 +1,19 @@
 //! Serialization of lists (RFC 9651, section 4.1.1).
 
-ghost use Rattle.std.specs.Prelude.{OnOk, IfOk, IfErr};
-ghost use Rattle.sfv_spec.specs.Values.{HasMember};
+ghost use Rattle.std.specs.Prelude.{◌≤◌, OnOk, IfOk, IfErr, string_capacity};
+ghost use Rattle.sfv_spec.specs.Values.{HasMember, bare_values};
 ghost use Rattle.sfv_spec.specs.declared.field_kind.FieldKind.TheVariants.{List as list_field};
 ghost use Rattle.sfv_spec.specs.Canonical.{canonical};
 ghost use Rattle.sfv_spec.specs.Statements.{IsValue};
 ghost use Rattle.sfv_tree.specs.Trees.{list_tree};
-ghost use Rattle.sfv_writer.specs.Written.{AsksForRoom, Appends, AppendsOrKeeps, IsSerialized};
+ghost use Rattle.sfv_writer.specs.Written.{AsksForRoom, Appends, AppendsOrKeeps, LacksRoom, IsSerialized};
+ghost use Rattle.sfv_writer.specs.Versions.{ChecksVersionFirst, OnOutOfMemory};
 
 use crate::capacity::text_for_members;
 use crate::element::serialize_each;
 use crate::output::truncate_to;
-use crate::serialize_error::expect_out_of_memory;
+use crate::serialize_error::{SerializeError, expect_out_of_memory};
+use crate::version_check::check_list;
 use sfv_base::error::OutOfMemory;
 use sfv_spec::version::Version;
 use sfv_tree::parsed::List;
@@ -50,21 +52,30 @@ pub fn list_text(list: &List, alloc: Global) -> Result<Option<StdString>, OutOfM
     Ok(Some(text))
 }
 
-/// Appends a list (RFC 9651, section 4.1.1). An empty list appends nothing. After an error, `text` is unchanged.
+/// Appends a list (RFC 9651, section 4.1.1), if `version` has every value. An empty list appends nothing. After an error, `text` is
+/// unchanged.
 ///
 /// # Errors
 ///
-/// Returns `OutOfMemory` if memory runs out, which happens only if `text` lacks the capacity for the whole list.
-#[tactic(auto, using(crate::proofs::Written::cut_to))]
-pub fn append_list<A: Allocator>(list: &List, text: &mut StdString<A>) -> Result<(), OutOfMemory>
+/// Returns `SerializeError::Unsupported` with the kind of the first value that `version` lacks. Returns `OutOfMemory`
+/// if memory runs out, which happens only if `text` lacks the capacity for the whole list.
+#[tactic(auto, using(crate::proofs::Written::cut_to, crate::proofs::Looks::look_fails, crate::proofs::Looks::memory_fails))]
+pub fn append_list<A: Allocator>(
+    version: Version,
+    list: &List,
+    text: &mut StdString<A>,
+) -> Result<(), SerializeError>
     ensures text { AppendsOrKeeps text.old text.new (canonical list_field (list_tree list.now.items)) result }
-    ensures room { AsksForRoom text.old text.new (canonical list_field (list_tree list.now.items)) result }
+    ensures room { OnOutOfMemory result (LacksRoom text.old (canonical list_field (list_tree list.now.items))) }
+    ensures stays { string_capacity text.old ≤ string_capacity text.new }
+    ensures unsupported { ChecksVersionFirst version (bare_values list_field (list_tree list.now.items)) result }
     ensures value { OnOk result (IsValue list_field (list_tree list.now.items)) }
 {
+    check_list(version, list)?;
     let len = text.len();
     if let Err(error) = serialize_list(list, text) {
         truncate_to(len, text);
-        return Err(error);
+        return Err(SerializeError::from(error));
     }
     Ok(())
 }
