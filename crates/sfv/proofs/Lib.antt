@@ -10,4 +10,5 @@ pub mod LastRead
 pub mod Fields
 pub mod Lines
 mod Beginnings
+mod Emptiness
 pub mod Callers

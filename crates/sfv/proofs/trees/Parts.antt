@@ -223,4 +223,5 @@ pub entered_seed : (seed : HashSeed) (old new : List (List ℕ × ListEntry)) (k
     → new ≡ insert_entry bytes_eq old key m → MemberHasSeed seed m → EntriesHaveSeed seed old
     → EntriesHaveSeed seed new
 entered_seed seed old new key m add one h =
-    subst (EntriesHaveSeed seed) (sym add) (all_entered bytes_eq (MemberHasSeed seed) old key m one h)
+    subst (EntriesHaveSeed seed) (sym add) (all_entered bytes_eq
+    (λ (p : List ℕ × ListEntry). MemberHasSeed seed p.1) old key m (λ k. one) h)
