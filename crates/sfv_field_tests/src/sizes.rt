@@ -115,11 +115,27 @@ fn is_wanted(text: Option<String>, wanted: &str) -> bool {
     }
 }
 
+/// Returns `true` if this text is appended to another one, which has exactly the room for it.
+fn is_appended<T: FieldType>(
+    alloc: Global,
+    version: Version,
+    value: &T,
+    text: &str,
+) -> Option<bool> {
+    let mut all = String::with_capacity(alloc, text.len() + 1).ok()?;
+    all.push('-').ok()?;
+    let any = value.append_to(version, &mut all).ok()?;
+    let fits = all.capacity() == text.len() + 1;
+    Some(fits && any != text.is_empty() && all.as_str().strip_prefix('-') == Some(text))
+}
+
 /// Returns `true` if the value is serialized to this text, for RFC 9651 and for this version.
 fn is_serialized<T: FieldType>(alloc: Global, version: Version, value: &T, text: &str) -> bool {
     match (value.serialize(alloc), value.serialize_for(alloc, version)) {
         (Ok(newer), Ok(written)) => {
-            is_wanted(newer.into(), text) && is_wanted(written.into(), text)
+            is_wanted(newer.into(), text)
+                && is_wanted(written.into(), text)
+                && is_appended(alloc, version, value, text) == Some(true)
         }
         _ => false,
     }

@@ -3,8 +3,8 @@
 use crate::common::{has_text, is_text, value};
 use sfv::visitor::BareItemType;
 use sfv::{
-    Dictionary, Error, FieldType, ItemSerializer, List, ListSerializer, Parser, SerializeError,
-    Version,
+    Dictionary, Error, FieldType, Item, ItemSerializer, List, ListSerializer, Parser,
+    SerializeError, Version,
 };
 use std::alloc::Global;
 
@@ -57,6 +57,33 @@ fn fields_are_refused_at_their_first_value_that_the_version_lacks(rt: HostRuntim
             "{input}"
         );
     }
+}
+
+/// Returns `true` if appending a field to a text fails as `serialize_for` does, and the text stays.
+fn is_left_by_field<T: FieldType>(alloc: Global, input: &str) -> Option<bool> {
+    let value = Parser::new(input.as_bytes()).parse::<T>(alloc).ok()?;
+    let mut text = String::from_str(alloc, "-").ok()?;
+    let capacity = text.capacity();
+    let error = value.append_to(Version::Rfc8941, &mut text).err();
+    let refusal = value.serialize_for(alloc, Version::Rfc8941).err();
+    let stays = text.as_str() == "-" && text.capacity() == capacity;
+    Some(error.is_some() && error == refusal && stays)
+}
+
+#[test]
+fn a_field_that_the_version_lacks_is_not_appended(rt: HostRuntime) {
+    let alloc = rt.alloc();
+    let mut all = true;
+    for &item in &["@1", "1;a=%\"q\""] {
+        all &= is_left_by_field::<Item>(alloc, item) == Some(true);
+    }
+    for &list in &["1, @2", "(1 2;x=@1)"] {
+        all &= is_left_by_field::<List>(alloc, list) == Some(true);
+    }
+    for &dictionary in &["a=1, b=(@2)", "a=1, b;x=@1"] {
+        all &= is_left_by_field::<Dictionary>(alloc, dictionary) == Some(true);
+    }
+    assert!(rt; all);
 }
 
 /// Returns `true` if a failed item leaves the text unchanged.

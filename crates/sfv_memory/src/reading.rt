@@ -43,12 +43,18 @@ pub fn read<T: FieldType>(alloc: Global, input: &[u8]) -> Result<Option<String>,
     Ok(value.serialize(alloc)?.into())
 }
 
-/// Parses a field from its canonical text, and serializes it for RFC 8941.
+/// Parses a field from its canonical text, serializes it for RFC 8941, and appends it to a text, which stays empty after
+/// an error.
 pub fn write_for<T: FieldType>(alloc: Global, input: &str) -> Result<bool, Error> {
     let value = Parser::new(input.as_bytes()).parse::<T>(alloc)?;
-    match value.serialize_for(alloc, Version::Rfc8941) {
-        Ok(text) => Ok(has_text(text.into(), input)),
-        Err(error) => refused_if(error == SerializeError::OutOfMemory),
+    let is_written = match value.serialize_for(alloc, Version::Rfc8941) {
+        Ok(text) => has_text(text.into(), input),
+        Err(error) => return refused_if(error == SerializeError::OutOfMemory),
+    };
+    let mut all = String::new(alloc);
+    match value.append_to(Version::Rfc8941, &mut all) {
+        Ok(_) => Ok(is_written && all.as_str() == input),
+        Err(error) => refused_if(error == SerializeError::OutOfMemory && all.is_empty()),
     }
 }
 
