@@ -60,8 +60,14 @@ use Rattle.sfv.proofs.visits.Passed.{passes_spaces, Passing-key}
 pub next_after : (version : Version) (read : ReadBareItem) (t r q : List ℕ) → Passes t r → IsNextValue version read r q
     → IsNextValue version read t q
 next_after version read t r q h n =
-    let all = passes_then t r (n.1 ++ q) h (n.0, n.2 ∙ append_assoc n.0 n.1 q, n.3) in
-    (all.0, n.1, all.1 ∙ sym (append_assoc all.0 n.1 q), all.2, n.4)
+    let all = passes_then t r (n.at ++ q) h (n.gap, n.text ∙ append_assoc n.gap n.at q, n.quiet) in
+    record {
+      gap = all.0;
+      at = n.at;
+      text = all.1 ∙ sym (append_assoc all.0 n.at q);
+      quiet = all.2;
+      means = n.means;
+    }
 
 -- a bare item that was just consumed
 pub bare_next : (read : ReadBareItem) (before after : Cursor)
@@ -69,11 +75,24 @@ pub bare_next : (read : ReadBareItem) (before after : Cursor)
     → IsBorrowedUnlessEscaped read before after → IsNextValue (version before) read (rest before) (rest after)
 bare_next read before after here lent =
     let exact = bare_is_exact.0 (version before) (rest before) (input_value read) (rest after) here in
-    ([], exact.front, exact.text, refl, (inl exact.means, lent_front read before after exact.front exact.text lent))
+    record {
+      gap = [];
+      at = exact.front;
+      text = exact.text;
+      quiet = refl;
+      means = (inl exact.means, lent_front read before after exact.front exact.text lent);
+    }
 
 -- the value true without a text
-pub true_next : (version : Version) (t r : List ℕ) → r ≡ t → IsNextValue version (bare.Boolean true) t r
-true_next version t r h = ([], [], sym h, refl, (inr (refl, refl), tt))
+pub true_next : (version : Version) (t r : List ℕ) → TakesIf (byte equals_sign) false t r
+    → IsNextValue version (bare.Boolean true) t r
+true_next version t r takes = record {
+  gap = [];
+  at = [];
+  text = sym takes.0;
+  quiet = refl;
+  means = (inr (refl, refl), tt);
+}
 
 -- a bare item after an equals sign
 pub value_next : (before middle after : Cursor) (result : Result ReadBareItem Error) → kept middle ≡ kept before
@@ -110,7 +129,8 @@ module _ {S : Type 0} (takes : S → TreeEvent → S → Type 0) (takes_read : S
   step_item : (version : Version) (read : ReadBareItem) (from to : S) (t r : List ℕ) → IsNextValue version read t r
       → takes from (bare_item (input_value read)) to → takes_read from (event.BareItem read) to
       → Next version (from, t) (bare_item (input_value read)) (to, r)
-  step_item version read from to t r next taken taken_read = (event.BareItem read, refl, taken, taken_read, next)
+  step_item version read from to t r n taken taken_read =
+      (event.BareItem read, refl, taken, taken_read, (n.gap, n.at, n.text, n.quiet, n.means))
 
   -- by a cursor that has kept its parser
   kept_events : {A : Type 0} (parts : A → List TreeEvent) (f : Version → Reader A) (middle after : Cursor)
@@ -162,18 +182,20 @@ module _ {S : Type 0} (takes : S → TreeEvent → S → Type 0) (takes_read : S
       → takes middle (event_of (event.Parameter p.key p.value)) to
       → takes_read middle (event.Parameter p.key p.value) to
       → IsNextValue version' p.value now r → ReadParameters version start r from to
-  read_more version version' start now r p from middle to same h parsed taken taken_read next t pass = let k = h t pass in (
-    r,
-    passes_none r,
-    visited_more (Next version) version start now r (text_of p.key) (input_value p.value) (from, t) (middle, k.0)
-        (to, r) k.2 parsed (
-          event.Parameter p.key p.value,
-          refl,
-          taken,
-          taken_read,
-          next_after version p.value k.0 now r k.1 (subst (λ v. IsNextValue v p.value now r) same next),
-        ),
-  )
+  read_more version version' start now r p from middle to same h parsed taken taken_read next t pass =
+      let k = h t pass in
+      let n = next_after version p.value k.0 now r k.1 (subst (λ v. IsNextValue v p.value now r) same next) in (
+        r,
+        passes_none r,
+        visited_more (Next version) version start now r (text_of p.key) (input_value p.value) (from, t) (middle, k.0)
+            (to, r) k.2 parsed (
+              event.Parameter p.key p.value,
+              refl,
+              taken,
+              taken_read,
+              (n.gap, n.at, n.text, n.quiet, n.means),
+            ),
+      )
 
   -- after the last parameter
   pub end_reads : {E : Type 0} (before after : Cursor) (now : List ℕ) (from middle to : S)
@@ -344,8 +366,7 @@ module _ {S : Type 0} (takes : S → TreeEvent → S → Type 0) (takes_read : S
         true_visits (Next (version before)) Never (version before) (rest before) (rest between) (from, t) (middle, t)
             (next, t) (to, k.0) (kept before) after (Ok tt) m
             (step (version before) event.Item from middle t refl taken taken_read)
-            (step_item (version before) (bare.Boolean true) middle next t t (true_next (version before) t t refl)
-            bare_taken bare_read)
+            (event.BareItem (bare.Boolean true), refl, bare_taken, bare_read, ([], [], refl, refl, (inr (refl, refl), tt)))
             (kept_events parameters_events parameters_at between after (next, t) (to, k.0) (kept before) same k.2),
       )) h
 

@@ -16,8 +16,12 @@ abbrev pub Passes : List ℕ → List ℕ → Type 0
 Passes t r = (s : List ℕ) × (t ≡ s ++ r) × HasNoQuote s
 
 -- the text of the value comes next in `t`, and `r` follows it
-abbrev pub IsNextValue : Version → ReadBareItem → List ℕ → List ℕ → Type 0
-IsNextValue version read t r = (gap at : List ℕ) × (t ≡ gap ++ at ++ r) × HasNoQuote gap × IsReadAs version read at
+pub record IsNextValue (version : Version) (read : ReadBareItem) (t r : List ℕ) : Type 0 where
+  pub gap : List ℕ
+  pub at : List ℕ
+  pub text : t ≡ gap ++ at ++ r
+  pub quiet : HasNoQuote gap
+  pub means : IsReadAs version read at
 
 -- the same for the text of an event
 abbrev pub IsNextEvent : Version → Event → List ℕ → List ℕ → Type 0

@@ -27,7 +27,7 @@ impl<'de> Cursor<'de> {
 
     /// Parses the value of a parameter after its key. Without `=`, the value is true.
     #[inline(always)]
-    #[tactic(auto, using(crate::proofs::reads::Steps::value_steps))]
+    #[tactic(auto, using(crate::proofs::reads::Steps::value_steps, crate::proofs::visits::AsRead::true_next))]
     fn parameter_value(&mut self) -> Result<BareItemFromInput<'de>, Error>
         ensures read { ReadsOrOutOfMemory input_value self.old self.new result (value_at (version self.old)) }
         ensures next { IfOk result (λ item. IsNextValue (version self.old) item (rest self.old) (rest self.new)) }
