@@ -42,7 +42,7 @@ use Rattle.sfv_base.specs.declared.error.ParseError.{ParseError}
 use Rattle.sfv_visitor.specs.declared.visitor.Visitor.{Ghosts as Visitor}
 use Rattle.sfv.specs.declared.parser.Parser.{Parser}
 use Rattle.sfv.specs.Parsers.{IsParseError, IsAnswerBy, IsSyntaxErrorBy, IsVisitorErrorBy, ReceivesFirstBy, ReceivesBorrowedBy}
-use Rattle.sfv.specs.Parsers.{ReadsBy, ReadsItemBy}
+use Rattle.sfv.specs.Parsers.{ReceivesAsReadBy, ReadsBy, ReadsItemBy}
 use Rattle.sfv.specs.parser.Visits.{ReturnsAfter}
 use Rattle.sfv.proofs.built.Items.{insert_entry-entered}
 use Rattle.sfv.proofs.built.Lists.{built_list_after}
@@ -90,7 +90,7 @@ pub use Rattle.sfv.proofs.LastRead.{on_ok, fold_entries, IsIdle, member_passed, 
 pub use Rattle.sfv.proofs.Fields.{of_pushed, state_kept, parameters_kept, written_is_read}
 pub use Rattle.sfv.proofs.Fields.{last_set, idle_by, list_read, member_looked, answer_read, fits_unless, fits_either}
 -- how parsing with a visitor ends: the lemmas are stated in this
-pub use Rattle.sfv.proofs.Relations.{Answers, FailsIn, HasSyntax, HasVisitorError, HasFirst, HasBorrowed}
+pub use Rattle.sfv.proofs.Relations.{Answers, FailsIn, HasSyntax, HasVisitorError, HasFirst, HasBorrowed, HasEventsRead}
 pub use Rattle.sfv.proofs.Relations.{WithSomeVisitor, accepted_or_not, item_failed, fails_somewhere}
 -- what a visitor that expects one bare item says of the field
 pub use Rattle.sfv.proofs.Expected.{expect_answers, expect_fails, expect_first, expect_only, expect_read}
@@ -184,6 +184,9 @@ module _ {S O E : Type 0} {v : Visitor S O E} {p : Parser} {kind : FieldKind} {M
     (r : Result O (ParseError E)) where
   pub made_visited : WithSomeVisitor Made (ReadsBy v p kind) r → IfOk r (WithSomeVisitor Made (IsAnswerBy v p kind))
   made_visited h = IfOk-weaker r _ _ (λ out k. (h.0, h.1, k)) h.2.visited
+
+  pub made_read : WithSomeVisitor Made (ReadsBy v p kind) r → IfOk r (WithSomeVisitor Made (ReceivesAsReadBy v p kind))
+  made_read h = IfOk-weaker r _ _ (λ out k. (h.0, h.1, k)) h.2.as_read
 
   pub made_syntax : WithSomeVisitor Made (ReadsBy v p kind) r → IfErr r (WithSomeVisitor Made (IsSyntaxErrorBy v p kind))
   made_syntax h = IfErr-weaker r _ _ (λ e k. (h.0, h.1, k)) h.2.syntax

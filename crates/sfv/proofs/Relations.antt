@@ -1,7 +1,7 @@
 -- The ends of parsing with a visitor, for its relations, a version and a text. Lemmas for callers are stated in these. A
 -- clause says the same of a visitor and a parser.
 use Rattle.std.proofs.Common.{◌≡◌, ℕ, List, [], ◌∷◌, ◌++◌, take, Some, Result, Ok, Err, refl, sym, subst, inl, inr, arith}
-use Rattle.std.specs.Prelude.{⊤, ◌⊎◌}
+use Rattle.std.specs.Prelude.{⊤, ◌⊎◌, map}
 use Rattle.std.specs.List.{FoldsTo, Contains}
 use Rattle.std.proofs.lemmas.List.Elements.{Contains-append_right}
 use Rattle.sfv_spec.specs.Values.{RawField, RawItem, BareValue, RawParameters, IsFieldValue}
@@ -18,12 +18,13 @@ use Rattle.sfv_base.specs.Errors.{error_of, out_of_memory}
 use Rattle.sfv_bare.specs.BareItems.{input_value}
 use Rattle.sfv_visitor.specs.declared.visitor.Event.{Event}
 use Rattle.sfv_visitor.specs.declared.visitor.Event.TheVariants as event
+use Rattle.sfv_visitor.specs.Events.{event_of}
 use Rattle.sfv_visitor.specs.ProvidedVisitors.{ReadBareItem}
 use Rattle.sfv_spec.proofs.Valid.{accepted_is_value_lem}
 use Rattle.sfv_reading.specs.Reader.{Fault}
 use Rattle.sfv_reading.specs.Fields.{read_field}
 use Rattle.sfv_reading.proofs.Theorems.{read_is_accepted}
-use Rattle.sfv.specs.Parsers.{IsParseError, IsBorrowedIfPlain}
+use Rattle.sfv.specs.Parsers.{IsParseError, IsBorrowedIfPlain, AreReadFrom}
 use Rattle.sfv.specs.parser.Visits.{ReturnsAfter}
 
 -- `P` holds of `x` and of some visitor as it is made
@@ -83,6 +84,13 @@ HasBorrowed {S} takes takes_read finishes version t from out = (read : ReadBareI
     × (stands : BeginsWithLongest version (input_value read) t) × IsBorrowedIfPlain read stands.first.front
     × (s : S) × takes_read from (event.BareItem read) s
     × ReturnsAfter takes finishes s (parameters_events parameters) out
+
+-- the events as read, and the result
+abbrev pub HasEventsRead : {S O : Type 0} → (S → TreeEvent → S → Type 0) → (S → Event → S → Type 0) → (S → O → Type 0)
+    → Version → FieldKind → List ℕ → S → O → Type 0
+HasEventsRead {S} takes takes_read finishes version kind t from out = HasField version kind t (λ raw. (es : List Event)
+    × (map event_of es ≡ events kind raw) × AreReadFrom version es t
+    × (last : S) × FoldsTo (λ s e to. takes s (event_of e) to × takes_read s e to) from es last × finishes last out)
 
 -- a text is accepted or it isn't: so a visitor's error on a dictionary or a list is one on an accepted text
 pub accepted_or_not : (version : Version) (kind : FieldKind) (t : List ℕ)

@@ -8,4 +8,3 @@ pub mod Blocks
 pub mod Escapes
 pub mod Errors
 pub mod Delimiters
-pub mod Borrowed

@@ -9,3 +9,5 @@ pub mod Fields
 pub mod First
 pub mod Whole
 pub mod Lent
+pub mod Passed
+pub mod AsRead

@@ -1,16 +1,16 @@
 -- The input and the results of a parser.
-use Rattle.std.specs.Prelude.{◌≡◌, ◌≤◌, ⊤, ℕ, List, [], ◌∷◌, ◌++◌, codes, length, take, Some, Result, ◌⊎◌, IfOk, IfErr}
-use Rattle.std.specs.Prelude.{◌↔◌, ◌==◌, IsTrue, not}
+use Rattle.std.specs.Prelude.{◌≡◌, ◌≤◌, ⊤, ℕ, true, List, [], ◌∷◌, ◌++◌, codes, length, map, take, Some, Result, ◌⊎◌}
+use Rattle.std.specs.Prelude.{◌↔◌, ◌==◌, IfOk, IfErr, IsTrue, not}
 use Rattle.std.specs.List.{FoldsTo}
 use Rattle.std.specs.Borrow.{Bor}
 use Rattle.sfv_spec.specs.Values.{RawField}
 use Rattle.sfv_spec.specs.declared.field_kind.FieldKind.{FieldKind}
 use Rattle.sfv_spec.specs.declared.field_kind.FieldKind.TheVariants.{Item as item_field}
 use Rattle.sfv_spec.specs.declared.version.Version.{Version}
-use Rattle.sfv_spec.specs.Values.{BareValue, RawParameters, RawItem, IsFieldValue}
+use Rattle.sfv_spec.specs.Values.{BareValue, boolean, RawParameters, RawItem, IsFieldValue}
 use Rattle.sfv_spec.specs.Ascii.{byte}
 use Rattle.sfv_spec.specs.Texts.{RunOf}
-use Rattle.sfv_spec.specs.Grammar.{IsFieldText, IsAccepted, BeginsWithLongest, BeginsWithComplete, HasField}
+use Rattle.sfv_spec.specs.Grammar.{IsBareText, IsFieldText, IsAccepted, BeginsWithLongest, BeginsWithComplete, HasField}
 use Rattle.sfv_spec.specs.Reach.{IsReach}
 use Rattle.sfv_spec.specs.Events.{TreeEvent, bare_item, parameters_events, item_events, events}
 use Rattle.sfv_spec.specs.Visiting.{BeginsEventsAfter}
@@ -24,8 +24,10 @@ use Rattle.sfv_base.specs.Errors.{error_of, out_of_memory}
 use Rattle.sfv_bare.specs.BareItems.{input_value, is_borrowed_string, is_borrowed_text}
 use Rattle.sfv_bare.specs.declared.bare.GenericBareItem.TheVariants as bare
 use Rattle.sfv_tree.specs.declared.hash_seed.HashSeed.{HashSeed}
+use Rattle.sfv_visitor.specs.declared.visitor.Event.{Event}
 use Rattle.sfv_visitor.specs.declared.visitor.Event.TheVariants as event
 use Rattle.sfv_visitor.specs.declared.visitor.Visitor.{Ghosts as Visitor}
+use Rattle.sfv_visitor.specs.Events.{event_of}
 use Rattle.sfv_visitor.specs.ProvidedVisitors.{ReadBareItem}
 use Rattle.sfv.specs.declared.parser.Parser.{Parser}
 use Rattle.sfv.specs.Memory.{NeedsMark}
@@ -67,6 +69,27 @@ IsBorrowedIfPlain (bare.String text) t = IsTrue (is_borrowed_string text) ↔ Is
 IsBorrowedIfPlain (bare.DisplayString text) t = IsTrue (is_borrowed_text text) ↔ IsPlainDisplay t
 IsBorrowedIfPlain item t = ⊤
 
+-- `t` is the text of this value, which is borrowed if and only if it has no escape there. True may have no text.
+abbrev pub IsReadAs : Version → ReadBareItem → List ℕ → Type 0
+IsReadAs version read t = (IsBareText version (input_value read) t ⊎ ((input_value read ≡ boolean true) × (t ≡ [])))
+    × IsBorrowedIfPlain read t
+
+-- the same for the value of an event; an event without a value has no text
+abbrev pub IsEventText : Version → Event → List ℕ → Type 0
+IsEventText version (event.BareItem read) t = IsReadAs version read t
+IsEventText version (event.Parameter key read) t = IsReadAs version read t
+IsEventText version e t = t ≡ []
+
+-- a text without a double quote
+abbrev pub HasNoQuote : List ℕ → Type 0
+HasNoQuote = RunOf (λ c. not (c == byte "\""))
+
+-- The texts of these events are in `t`, in this order. No double quote is outside them.
+abbrev pub AreReadFrom : Version → List Event → List ℕ → Type 0
+AreReadFrom version [] t = HasNoQuote t
+AreReadFrom version (e ∷ es) t = (gap at rest : List ℕ) × (t ≡ gap ++ at ++ rest) × HasNoQuote gap
+    × IsEventText version e at × AreReadFrom version es rest
+
 -- what a visitor in the state `from` does
 module _ {S O E : Type 0} (v : Visitor S O E) (from : S) where
   -- The visitor receives these events in order and returns this result.
@@ -89,6 +112,13 @@ module _ {S O E : Type 0} (v : Visitor S O E) (p : Parser) (kind : FieldKind) (f
   -- The input is exactly one field, and the visitor returns this result for its events.
   abbrev pub IsAnswerBy : O → Type 0
   IsAnswerBy out = IsAnswerOf v from (version_of p) kind (input_of p) out
+
+  -- The input is exactly one field. The visitor received its events as read from the input, and returned this result.
+  abbrev pub ReceivesAsReadBy : O → Type 0
+  ReceivesAsReadBy out = HasField (version_of p) kind (input_of p) (λ raw. (es : List Event)
+      × (map event_of es ≡ events kind raw) × AreReadFrom (version_of p) es (input_of p)
+      × (last : S) × FoldsTo (λ s e to. v.takes s (event_of e) to × v.takes_read s e to) from es last
+      × v.finishes last out)
 
   -- A syntax error is one that `parse` returns. One for characters after an item comes after the visitor has finished.
   abbrev pub IsSyntaxErrorBy : ParseError E → Type 0
@@ -145,11 +175,12 @@ module _ {S O E : Type 0} (v : Visitor S O E) (p : Parser) (from : S) where
       × (at : BeginsWithLongest (version_of p) (input_value read) (input_of p)) × IsBorrowedIfPlain read at.first.front
       × (s : S) × v.takes_read from (event.BareItem read) s × Returns v s (parameters_events parameters) out
 
--- The clauses of `parse_.._with_visitor` for one visitor: its result, a syntax error, the events before that, its own
--- error, and the texts for which memory is allocated.
+-- The clauses of `parse_.._with_visitor` for one visitor: its result, the events as read, a syntax error, the events
+-- before that, its own error, and the texts for which memory is allocated.
 pub record ReadsBy {S O E : Type 0} (v : Visitor S O E) (p : Parser) (kind : FieldKind) (from : S)
     (result : Result O (ParseError E)) : Type 0 where
   pub visited : IfOk result (IsAnswerBy v p kind from)
+  pub as_read : IfOk result (ReceivesAsReadBy v p kind from)
   pub syntax : IfErr result (IsSyntaxErrorBy v p kind from)
   pub before_error : IfErr result (ReceivesBeforeErrorBy v p kind from)
   pub visitor : IfErr result (IsVisitorErrorBy v p kind from)

@@ -5,4 +5,5 @@ pub mod Base64
 pub mod Quoted
 pub mod Members
 pub mod Visits
+pub mod AsRead
 pub mod Trees

@@ -52,7 +52,7 @@ pub struct Parser<'de> {
 impl<'de> Parser<'de> {
     ghost use Rattle.sfv.specs.Parsers.{parser_of, input_of, version_of, IsParseError, IsAnswerBy, IsSyntaxErrorBy};
     ghost use Rattle.sfv.specs.Parsers.{ReceivesBeforeErrorBy, IsVisitorErrorBy, ReceivesFirstBy, ReceivesBorrowedBy};
-    ghost use Rattle.sfv.specs.Parsers.{ReadsBy, ReadsItemBy};
+    ghost use Rattle.sfv.specs.Parsers.{ReceivesAsReadBy, ReadsBy, ReadsItemBy};
     ghost use Rattle.sfv.specs.Memory.{NeedsMark, NeedsMoreThanSpaces};
 
     /// Creates a parser for `input` under RFC 9651, with the library's hash seed.
@@ -183,6 +183,7 @@ impl<'de> Parser<'de> {
     ) -> Result<V::Out, ParseError<V::Error>>
         requires { V.is_ready visitor }
         ensures visited { IfOk result (IsAnswerBy V.Visitor self.entry item_field visitor) }
+        ensures as_read { IfOk result (ReceivesAsReadBy V.Visitor self.entry item_field visitor) }
         ensures syntax { IfErr result (IsSyntaxErrorBy V.Visitor self.entry item_field visitor) }
         ensures before_error { IfErr result (ReceivesBeforeErrorBy V.Visitor self.entry item_field visitor) }
         ensures visitor { IfErr result (IsVisitorErrorBy V.Visitor self.entry item_field visitor) }
@@ -210,6 +211,7 @@ impl<'de> Parser<'de> {
     ) -> Result<V::Out, ParseError<V::Error>>
         requires { V.is_ready visitor }
         ensures visited { IfOk result (IsAnswerBy V.Visitor self.entry list_field visitor) }
+        ensures as_read { IfOk result (ReceivesAsReadBy V.Visitor self.entry list_field visitor) }
         ensures syntax { IfErr result (IsSyntaxErrorBy V.Visitor self.entry list_field visitor) }
         ensures before_error { IfErr result (ReceivesBeforeErrorBy V.Visitor self.entry list_field visitor) }
         ensures visitor { IfErr result (IsVisitorErrorBy V.Visitor self.entry list_field visitor) }
@@ -236,6 +238,7 @@ impl<'de> Parser<'de> {
     ) -> Result<V::Out, ParseError<V::Error>>
         requires { V.is_ready visitor }
         ensures visited { IfOk result (IsAnswerBy V.Visitor self.entry dictionary_field visitor) }
+        ensures as_read { IfOk result (ReceivesAsReadBy V.Visitor self.entry dictionary_field visitor) }
         ensures syntax { IfErr result (IsSyntaxErrorBy V.Visitor self.entry dictionary_field visitor) }
         ensures before_error { IfErr result (ReceivesBeforeErrorBy V.Visitor self.entry dictionary_field visitor) }
         ensures visitor { IfErr result (IsVisitorErrorBy V.Visitor self.entry dictionary_field visitor) }

@@ -5,10 +5,8 @@ use Rattle.std.specs.declared.alloc.Global.{Global}
 use Rattle.std.specs.declared.vec.Vec.{Vec}
 use Rattle.std.specs.declared.string.String as std_string
 use Rattle.std.specs.declared.borrow.CowStr.{CowStr}
-use Rattle.sfv_spec.proofs.Marks.{percent_sign, backslash, double_quote, equals_sign}
-use Rattle.sfv_spec.proofs.Marks.{semicolon}
+use Rattle.sfv_spec.proofs.Marks.{percent_sign, backslash, double_quote}
 use Rattle.sfv_spec.specs.Texts.{RunOf}
-use Rattle.sfv_spec.specs.Grammar.{Spaces}
 use Rattle.sfv_spec.specs.Classes.{is_lower_hexadecimal}
 use Rattle.std.specs.Char.{digit_value as hexadecimal_value}
 use Rattle.sfv_base.specs.declared.error.Error.{Error}
@@ -16,7 +14,6 @@ use Rattle.sfv_spec.specs.declared.error_kind.ErrorKind.{ErrorKind}
 use Rattle.sfv_spec.specs.declared.error_kind.ErrorKind.TheVariants.{UnterminatedString, InvalidStringCharacter}
 use Rattle.sfv_spec.specs.declared.error_kind.ErrorKind.TheVariants.{UnterminatedDisplayString}
 use Rattle.sfv_spec.specs.declared.error_kind.ErrorKind.TheVariants.{InvalidDisplayStringCharacter}
-use Rattle.sfv_text.specs.CheckedTexts.{text_of}
 use Rattle.sfv_text.specs.TokenText.{TokenRef}
 use Rattle.sfv_bare.specs.declared.bare.GenericBareItem.{GenericBareItem}
 use Rattle.sfv_bare.specs.declared.bare.GenericBareItem.TheVariants as bare
@@ -25,7 +22,6 @@ use Rattle.sfv_bare.specs.BareItems.{is_borrowed_string, is_borrowed_text}
 use Rattle.sfv_reading.specs.Reader.{Answer, Reader}
 use Rattle.sfv_reading.specs.Quoted.{after_bytes, string_from, outside, percent, digit, pieces_from}
 use Rattle.sfv.specs.declared.parser.cursor.Cursor.{Cursor}
-use Rattle.sfv.specs.declared.parser.item.ReadParameter.{ReadParameter}
 use Rattle.sfv.specs.declared.parser.quoted.QuotedBytes.{QuotedBytes}
 use Rattle.sfv.specs.declared.parser.quoted.QuotedBytes.TheVariants as quoted
 use Rattle.sfv.specs.parser.Cursor.{kept, input, rest, IsFaultOf}
@@ -90,17 +86,6 @@ IsBorrowedUpTo item t left = ⊤
 abbrev pub IsBorrowedUnlessEscaped : GenericBareItem StringFromInput (Vec ℕ Global) TokenRef (CowStr Global) → Cursor
     → Cursor → Type 0
 IsBorrowedUnlessEscaped item before after = IsBorrowedUpTo item (rest before) (rest after)
-
--- the same after an equals sign, if `t` begins with one
-abbrev pub IsBorrowedValue : GenericBareItem StringFromInput (Vec ℕ Global) TokenRef (CowStr Global) → List ℕ → List ℕ
-    → Type 0
-IsBorrowedValue item t left = (q : List ℕ) → t ≡ equals_sign ∷ q → IsBorrowedUpTo item q left
-
--- The value of a parameter, after the semicolon, spaces and its key. A string or display string is borrowed from the
--- input if and only if it has no escape there.
-abbrev pub IsBorrowedParameter : ReadParameter → List ℕ → List ℕ → Type 0
-IsBorrowedParameter p t left = (s r : List ℕ) × (t ≡ semicolon ∷ (s ++ (text_of p.key ++ r))) × Spaces s
-    × IsBorrowedValue p.value r left
 
 -- the rest of an escape after its mark was consumed, and it denotes this byte; or the error is the reader's fault
 abbrev pub ReadsEscape : Bool → Cursor → Cursor → Result ℕ Error → Type 0

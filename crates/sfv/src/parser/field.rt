@@ -3,7 +3,7 @@
 ghost use Rattle.std.specs.Prelude.{IfOk, IfErr};
 ghost use Rattle.sfv_spec.specs.declared.field_kind.FieldKind.TheVariants.{Item as item_field};
 ghost use Rattle.sfv.specs.parser.Members.{field_of};
-ghost use Rattle.sfv.specs.Parsers.{input_of, version_of, ReceivesBorrowedBy};
+ghost use Rattle.sfv.specs.Parsers.{input_of, version_of, ReceivesAsReadBy, ReceivesBorrowedBy};
 ghost use Rattle.sfv.specs.parser.Visits.{VisitsField, TookFirst};
 
 use crate::parser::Parser;
@@ -24,6 +24,7 @@ pub(crate) fn parse_item_field<'de, V: Visitor<'de>>(
     requires { V.is_ready visitor }
     ensures visited { VisitsField V.takes V.fails V.finishes V.finish_fails
         (version_of parser.entry) item_field (input_of parser.entry) visitor result }
+    ensures as_read { IfOk result (ReceivesAsReadBy V.Visitor parser.entry item_field visitor) }
     ensures taken_first { IfErr result (TookFirst V.takes (version_of parser.entry) (input_of parser.entry) visitor) }
     ensures borrowed_if_plain { IfOk result (ReceivesBorrowedBy V.Visitor parser.entry visitor) }
 {
@@ -47,8 +48,9 @@ pub(crate) fn parse_members_field<'de, M: Member<'de, V>, V: Visitor<'de>>(
     mut visitor: V,
 ) -> Result<V::Out, ParseError<V::Error>>
     requires { V.is_ready visitor }
-    ensures { VisitsField V.takes V.fails V.finishes V.finish_fails
+    ensures visited { VisitsField V.takes V.fails V.finishes V.finish_fails
         (version_of parser.entry) (field_of M.keyed) (input_of parser.entry) visitor result }
+    ensures as_read { IfOk result (ReceivesAsReadBy V.Visitor parser.entry (field_of M.keyed) visitor) }
 {
     Cursor::new(parser, alloc).members::<M, V>(&mut visitor)?;
     finish(visitor)

@@ -1,10 +1,11 @@
 //! Parsing of items and parameters (RFC 9651, sections 4.2.3 and 4.2.3.2).
 
-ghost use Rattle.std.specs.Prelude.{option_map, OnOk, IfOk, IfErr, IfSome};
+ghost use Rattle.std.specs.Prelude.{◌≡◌, option_map, OnOk, IfOk, IfErr, MatchOption};
 ghost use Rattle.sfv_spec.specs.Events.{parameters_events, item_events};
 ghost use Rattle.sfv_bare.specs.BareItems.{input_value};
 ghost use Rattle.sfv_reading.specs.Items.{value_at, parameter_at, parameters_at, item_at};
 ghost use Rattle.sfv.specs.parser.Cursor.{version, rest, ReadsOrOutOfMemory};
+ghost use Rattle.sfv.specs.parser.AsRead.{IsNextValue, ReadsEvents};
 ghost use Rattle.sfv.specs.parser.Visits.{Visits, TakesAsRead, TookBare};
 
 use crate::parser::cursor::Cursor;
@@ -23,14 +24,13 @@ pub(crate) struct ReadParameter<'de> {
 
 impl<'de> Cursor<'de> {
     ghost use Rattle.sfv.specs.parser.Values.{read_pair};
-    ghost use Rattle.sfv.specs.parser.Quoted.{IsBorrowedValue, IsBorrowedParameter};
 
     /// Parses the value of a parameter after its key. Without `=`, the value is true.
     #[inline(always)]
-    #[tactic(auto, using(crate::proofs::reads::Steps::value_steps))]
+    #[tactic(auto, using(crate::proofs::reads::Steps::value_steps, crate::proofs::visits::AsRead::true_next))]
     fn parameter_value(&mut self) -> Result<BareItemFromInput<'de>, Error>
         ensures read { ReadsOrOutOfMemory input_value self.old self.new result (value_at (version self.old)) }
-        ensures borrowed { IfOk result (λ item. IsBorrowedValue item (rest self.old) (rest self.new)) }
+        ensures next { IfOk result (λ item. IsNextValue (version self.old) item (rest self.old) (rest self.new)) }
     {
         if self.take_if(b'=') {
             self.bare_item()
@@ -46,8 +46,8 @@ impl<'de> Cursor<'de> {
     pub(super) fn parameter(&mut self) -> Result<Option<ReadParameter<'de>>, Error>
         ensures read { ReadsOrOutOfMemory (option_map read_pair) self.old self.new result
             (parameter_at (version self.old)) }
-        ensures borrowed { IfOk result (λ parameter.
-            IfSome parameter (λ p. IsBorrowedParameter p (rest self.old) (rest self.new))) }
+        ensures next { IfOk result (λ parameter. MatchOption parameter (rest self.new ≡ rest self.old)
+            (λ p. IsNextValue (version self.old) p.value (rest self.old) (rest self.new))) }
     {
         if !self.take_if(b';') {
             return Ok(None);
@@ -68,6 +68,8 @@ impl<'de> Cursor<'de> {
         ensures ready { OnOk result (V.is_ready visitor.new) }
         ensures visited { Visits V.takes V.fails parameters_events self.old self.new visitor.old visitor.new
             result parameters_at }
+        ensures as_read { OnOk result (ReadsEvents V.takes V.takes_read parameters_events self.old self.new
+            visitor.old visitor.new parameters_at) }
     {
         while let Some(parameter) = self.parameter()? {
             visit(visitor, Event::Parameter(parameter.key, parameter.value))?;
@@ -85,6 +87,8 @@ impl<'de> Cursor<'de> {
         ensures ready { OnOk result (V.is_ready visitor.new) }
         ensures visited { Visits V.takes V.fails parameters_events self.old self.new visitor.old visitor.new
             result parameters_at }
+        ensures as_read { OnOk result (ReadsEvents V.takes V.takes_read parameters_events self.old self.new
+            visitor.old visitor.new parameters_at) }
     {
         // Most items have no parameters. This path avoids the stack frame of the loop.
         if !self.next_is(b';') {
@@ -102,6 +106,8 @@ impl<'de> Cursor<'de> {
         requires { V.is_ready visitor.old }
         ensures ready { OnOk result (V.is_ready visitor.new) }
         ensures visited { Visits V.takes V.fails item_events self.old self.new visitor.old visitor.new result item_at }
+        ensures as_read { OnOk result (ReadsEvents V.takes V.takes_read item_events self.old self.new
+            visitor.old visitor.new item_at) }
         ensures taken_first { IfErr result (TookBare V.takes (version self.old) (rest self.old) visitor.old) }
         ensures borrowed_if_plain { OnOk result (TakesAsRead V.takes V.takes_read self.old self.new visitor.old visitor.new) }
     {

@@ -7,6 +7,7 @@ ghost use Rattle.sfv_reading.specs.Fields.{members_at};
 ghost use Rattle.sfv.specs.parser.Cursor.{rest, Reads};
 ghost use Rattle.sfv.specs.parser.Members.{item_delimiter_at, member_delimiter_at, after_begin, member_parts, one_member_at};
 ghost use Rattle.sfv.specs.parser.Visits.{Visits};
+ghost use Rattle.sfv.specs.parser.AsRead.{ReadsEvents};
 
 use crate::parser::cursor::Cursor;
 use crate::parser::visit::visit;
@@ -21,6 +22,8 @@ impl<'de> Cursor<'de> {
         ensures ready { OnOk result (V.is_ready visitor.new) }
         ensures visited { Visits V.takes V.fails inner_item_events self.old self.new visitor.old visitor.new
             result inner_item_at }
+        ensures as_read { OnOk result (ReadsEvents V.takes V.takes_read inner_item_events self.old self.new
+            visitor.old visitor.new inner_item_at) }
     {
         visit(visitor, Event::Item)?;
         self.item(visitor)
@@ -53,6 +56,8 @@ impl<'de> Cursor<'de> {
         ensures ready { OnOk result (V.is_ready visitor.new) }
         ensures visited { Visits V.takes V.fails (λ items. flat_map inner_item_events items)
             self.old self.new visitor.old visitor.new result inner_items_at }
+        ensures as_read { OnOk result (ReadsEvents V.takes V.takes_read (λ items. flat_map inner_item_events items)
+            self.old self.new visitor.old visitor.new inner_items_at) }
     {
         if self.peek().is_none() {
             let error = self.error(ErrorKind::UnterminatedInnerList);
@@ -76,6 +81,8 @@ impl<'de> Cursor<'de> {
         ensures ready { OnOk result (V.is_ready visitor.new) }
         ensures visited { Visits V.takes V.fails after_begin self.old self.new visitor.old visitor.new
             result inner_at }
+        ensures as_read { OnOk result (ReadsEvents V.takes V.takes_read after_begin self.old self.new
+            visitor.old visitor.new inner_at) }
     {
         self.inner_items(visitor)?;
         visit(visitor, Event::InnerListEnd)?;
@@ -92,6 +99,8 @@ impl<'de> Cursor<'de> {
         ensures ready { OnOk result (V.is_ready visitor.new) }
         ensures visited { Visits V.takes V.fails member_events self.old self.new visitor.old visitor.new
             result member_at }
+        ensures as_read { OnOk result (ReadsEvents V.takes V.takes_read member_events self.old self.new
+            visitor.old visitor.new member_at) }
     {
         if self.take_if(b'(') {
             visit(visitor, Event::InnerList)?;
@@ -131,6 +140,8 @@ impl<'de> Cursor<'de> {
         ensures ready { OnOk result (V.is_ready visitor.new) }
         ensures visited { Visits V.takes V.fails member_events self.old self.new visitor.old visitor.new
             result member_value_at }
+        ensures as_read { OnOk result (ReadsEvents V.takes V.takes_read member_events self.old self.new
+            visitor.old visitor.new member_value_at) }
     {
         if self.take_if(b'=') {
             return self.member(visitor);
@@ -150,6 +161,9 @@ impl<'de> Cursor<'de> {
         ensures visited { Visits V.takes V.fails (λ members. flat_map (member_parts M.keyed) members) self.old self.new
             visitor.old visitor.new result
             (λ version. members_at (member_parts M.keyed) (one_member_at M.keyed version)) }
+        ensures as_read { OnOk result (ReadsEvents V.takes V.takes_read
+            (λ members. flat_map (member_parts M.keyed) members) self.old self.new visitor.old visitor.new
+            (λ version. members_at (member_parts M.keyed) (one_member_at M.keyed version))) }
         ensures end { OnOk result (rest self.new ≡ []) }
     {
         self.skip_sp();
@@ -174,7 +188,9 @@ pub(super) trait Member<'de, V: Visitor<'de>> {
         ensures ready { OnOk result (V.is_ready visitor.new) }
         ensures visited { Visits V.takes V.fails (member_parts keyed) cursor.old cursor.new
             visitor.old visitor.new result
-            (one_member_at keyed) };
+            (one_member_at keyed) }
+        ensures as_read { OnOk result (ReadsEvents V.takes V.takes_read (member_parts keyed) cursor.old cursor.new
+            visitor.old visitor.new (one_member_at keyed)) };
 }
 
 /// A member of a list. The visitor receives its first event before the member is parsed.

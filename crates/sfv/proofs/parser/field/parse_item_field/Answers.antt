@@ -13,6 +13,7 @@ use Rattle.sfv.proofs.visits.Lent.{lent_front, answered_as_read}
 use Rattle.sfv.proofs.visits.First.{visitor_failed, after_spaces, item_taken}
 use Rattle.sfv.proofs.visits.Fields.{item_fails, finish_failed, finished_at, took_whole}
 use Rattle.sfv.proofs.reads.Errors.{left_with}
+use Rattle.sfv.proofs.visits.AsRead.{item_field_read}
 use Rattle.sfv.proofs.parser.field.parse_item_field.Goals as goal
 
 pub returns-in_err-item-clause-visited : goal.returns-in_err-item-clause-visited
@@ -111,3 +112,12 @@ returns-clause-borrowed_if_plain g c =
     (field_done _ _ _ _ _ _ _ _ skipped whole c.skip_sp-2.ensures.skipped.1
     (rw (← c.peek.ensures) (sym c.is_some.ensures ∙ c.if-is_some.false)))
     h.7 h.8 c.in_ok-out.ensures.answered
+
+pub returns-clause-as_read : goal.returns-clause-as_read
+returns-clause-as_read g c =
+    let skipped : span is_space (input_of c.args.parser) ≡ Ok (c.skip_sp.ensures.skipped.0, rest c.skip_sp.new.self) =
+    rw (← c.new-cursor.ensures.rest) c.skip_sp.ensures.skipped.1 in
+    item_field_read g.V.Visitor c.args.parser c.args.alloc c.skip_sp.new.self c.item.new.self _ _ _ c.args.visitor
+    c.item.new.visitor c.in_ok-out.out (c.skip_sp.ensures.kept ∙ c.new-cursor.ensures.kept) skipped
+    c.in_ok-item.ensures.as_read c.skip_sp-2.ensures.skipped.1
+    (rw (← c.peek.ensures) (sym c.is_some.ensures ∙ c.if-is_some.false)) c.in_ok-out.ensures.answered

@@ -1,4 +1,4 @@
-use Rattle.std.proofs.Common.{◌≡◌, ◌∙◌, false, ap, not, refl, []}
+use Rattle.std.proofs.Common.{◌≡◌, ◌∙◌, true, false, ap, not, refl, []}
 use Rattle.std.specs.Prelude.{is_some}
 use Rattle.sfv_reading.specs.Reader.{first}
 use Rattle.sfv.specs.parser.Cursor.{rest}
@@ -6,6 +6,10 @@ use Rattle.sfv.proofs.visits.Taken.{no_items_visited}
 use Rattle.sfv.proofs.reads.Delimiters.{items_closed, items_first}
 use Rattle.sfv.proofs.visits.Loops.{begun, shorter, first_fails, more, ended, delimiter_fails, one_fails, items_loop}
 use Rattle.sfv.proofs.reads.Errors.{left_with}
+use Rattle.sfv_reading.specs.Reader.{byte}
+use Rattle.sfv_spec.proofs.Marks.{right_parenthesis}
+use Rattle.sfv.proofs.visits.AsRead.{begun_reads, more_reads, ended_reads}
+use Rattle.sfv.proofs.visits.Passed.{passes_then, passes_spaces, passes_if, Passing-item_delimiter}
 use Rattle.sfv.proofs.parser.cursor.Cursor.inner_items.Goals as goal
 
 pub returns-in_err-inner_item-clause-visited : goal.returns-in_err-inner_item-clause-visited
@@ -28,6 +32,15 @@ loop-self-init g c = record {
         c.take_if.ensures.kept
             ∙ c.skip_sp.ensures.kept,
       ) c.in_ok-inner_item.ensures.visited;
+  as_read = begun_reads g.V.Visitor.takes g.V.Visitor.takes_read items_loop c.args.self.now _ c.take_if.new.self
+      c.inner_item.new.self c.args.visitor.now c.inner_item.new.visitor
+      (passes_then _ _ _ (passes_spaces _ _ _ c.skip_sp.ensures.skipped.1)
+      (passes_if (byte right_parenthesis) false _ _ refl c.if-take_if.ensures.takes)) (
+        items_first _ _ _ _ _ (rw (← c.peek.ensures) (c.is_none.ensures
+            ∙ ap not c.if-is_none.false)) c.skip_sp.ensures.skipped.1 c.if-take_if.ensures.takes,
+        c.take_if.ensures.kept
+            ∙ c.skip_sp.ensures.kept,
+      ) c.in_ok-inner_item.ensures.as_read;
 }
 
 pub returns-in_err-consume_item_delimiter-clause-visited : goal.returns-in_err-consume_item_delimiter-clause-visited
@@ -50,6 +63,10 @@ loop-self-preserved g c =
       visited = more g.V.Visitor.takes g.V.Visitor.fails items_loop c.args.self.now _ c.loop-self.self
           c.consume_item_delimiter.new.self c.inner_item-in-loop-self.new.self _ _ _ c.loop-self.invariant.visited
           wanted c.in_ok-inner_item-2.ensures.visited;
+      as_read = more_reads g.V.Visitor.takes g.V.Visitor.takes_read items_loop c.args.self.now _ c.loop-self.self
+          c.consume_item_delimiter.new.self c.inner_item-in-loop-self.new.self c.args.visitor.now c.loop-self.visitor
+          c.inner_item-in-loop-self.new.visitor Passing-item_delimiter c.loop-self.invariant.as_read wanted
+          c.in_ok-inner_item-2.ensures.as_read;
     }
 
 pub returns-in_err-inner_item-2-clause-visited : goal.returns-in_err-inner_item-2-clause-visited
@@ -79,4 +96,26 @@ returns-then-take_if-clause-visited g c = (
   refl,
   c.take_if.ensures.kept
       ∙ c.skip_sp.ensures.kept,
+)
+
+pub returns-clause-as_read : goal.returns-clause-as_read
+returns-clause-as_read g c =
+    let wanted = rw c.if-branch.false at c.in_ok-consume_item_delimiter.ensures in
+    ended_reads g.V.Visitor.takes g.V.Visitor.takes_read items_loop c.args.self.now _ c.loop-self.self
+    c.consume_item_delimiter.new.self c.args.visitor.now c.loop-self.visitor Passing-item_delimiter
+    c.loop-self.invariant.as_read wanted
+
+pub returns-then-take_if-clause-as_read : goal.returns-then-take_if-clause-as_read
+returns-then-take_if-clause-as_read g c t pass = (
+  t,
+  passes_then t _ _ pass (passes_then _ _ _ (passes_spaces _ _ _ c.skip_sp.ensures.skipped.1)
+      (passes_if (byte right_parenthesis) true _ _ refl c.if-take_if.ensures.takes)),
+  (
+    [],
+    items_closed _ _ _ _ _ (rw (← c.peek.ensures) (c.is_none.ensures
+        ∙ ap not c.if-is_none.false)) c.skip_sp.ensures.skipped.1 c.if-take_if.ensures.takes,
+    refl,
+    c.take_if.ensures.kept
+        ∙ c.skip_sp.ensures.kept,
+  ),
 )

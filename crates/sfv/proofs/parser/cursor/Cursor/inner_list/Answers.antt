@@ -4,6 +4,7 @@ use Rattle.sfv.specs.parser.Cursor.{kept, version}
 use Rattle.sfv.proofs.visits.InnerLists.{items_fail, end_fails, inner_list_visits}
 use Rattle.sfv.proofs.visits.Parts.{kept_visits}
 use Rattle.sfv.proofs.reads.Errors.{left_with}
+use Rattle.sfv.proofs.visits.AsRead.{inner_list_reads}
 use Rattle.sfv.proofs.parser.cursor.Cursor.inner_list.Goals as goal
 
 pub returns-in_err-inner_items-clause-visited : goal.returns-in_err-inner_items-clause-visited
@@ -24,3 +25,10 @@ returns-clause-visited g c =
     c.parameters.new.visitor _ c.parameters.new.self c.parameters.result read.1 read.2 c.in_ok-visit.ensures.taken
     (kept_visits g.V.Visitor.takes g.V.Visitor.fails parameters_events parameters_at c.inner_items.new.self
     c.parameters.new.self c.visit.new.visitor c.parameters.new.visitor _ _ read.3 c.parameters.ensures.visited)
+
+pub returns-clause-as_read : goal.returns-clause-as_read
+returns-clause-as_read g c =
+    inner_list_reads g.V.Visitor.takes g.V.Visitor.takes_read c.args.self.now c.inner_items.new.self c.parameters.new.self
+    c.args.visitor.now c.inner_items.new.visitor c.visit.new.visitor c.parameters.new.visitor c.parameters.result
+    c.in_ok-inner_items.ensures.visited.3 c.in_ok-inner_items.ensures.as_read c.in_ok-visit.ensures.taken
+    c.in_ok-visit.ensures.taken_read c.parameters.ensures.as_read

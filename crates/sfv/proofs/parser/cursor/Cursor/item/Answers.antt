@@ -5,6 +5,7 @@ use Rattle.sfv.proofs.visits.Parameters.{of_visitor, bare_failed, bare_faulty, i
 use Rattle.sfv.proofs.visits.Parts.{kept_visits}
 use Rattle.sfv.proofs.visits.Lent.{item_as_read}
 use Rattle.sfv.proofs.reads.Errors.{left_with}
+use Rattle.sfv.proofs.visits.AsRead.{item_reads}
 use Rattle.sfv.proofs.parser.cursor.Cursor.item.Goals as goal
 
 pub returns-in_err-bare_item-clause-visited : goal.returns-in_err-bare_item-clause-visited
@@ -33,3 +34,10 @@ returns-clause-borrowed_if_plain g c =
     c.parameters.new.self c.in_ok-bare_item.bare_item c.args.visitor.now c.visit.new.visitor c.parameters.new.visitor
     c.parameters.result c.in_ok-bare_item.ensures.read.1 c.in_ok-bare_item.ensures.read.0
     c.in_ok-bare_item.ensures.borrowed c.in_ok-visit.ensures.taken_read c.parameters.ensures.visited
+
+pub returns-clause-as_read : goal.returns-clause-as_read
+returns-clause-as_read g c =
+    item_reads g.V.Visitor.takes g.V.Visitor.takes_read c.args.self.now c.bare_item.new.self c.parameters.new.self
+    c.in_ok-bare_item.bare_item c.args.visitor.now c.visit.new.visitor c.parameters.new.visitor c.parameters.result
+    c.in_ok-bare_item.ensures.read.1 c.in_ok-bare_item.ensures.read.0 c.in_ok-bare_item.ensures.borrowed
+    c.in_ok-visit.ensures.taken c.in_ok-visit.ensures.taken_read c.parameters.ensures.as_read

@@ -5,6 +5,7 @@ use Rattle.sfv.specs.parser.Cursor.{kept, version}
 use Rattle.sfv.proofs.visits.Keyed.{value_visits, true_begin_fails, true_bare_fails, true_visits}
 use Rattle.sfv.proofs.visits.Parts.{kept_visits}
 use Rattle.sfv.proofs.reads.Errors.{left_with}
+use Rattle.sfv.proofs.visits.AsRead.{value_reads, true_reads}
 use Rattle.sfv.proofs.parser.cursor.Cursor.member_value.Goals as goal
 
 pub returns-then-take_if-clause-visited : goal.returns-then-take_if-clause-visited
@@ -34,3 +35,16 @@ returns-clause-visited g c =
     (kept_visits g.V.Visitor.takes g.V.Visitor.fails parameters_events parameters_at c.take_if.new.self
     c.parameters.new.self c.visit-2.new.visitor c.parameters.new.visitor _ _ c.take_if.ensures.kept
     c.parameters.ensures.visited)
+
+pub returns-then-take_if-clause-as_read : goal.returns-then-take_if-clause-as_read
+returns-then-take_if-clause-as_read g c =
+    value_reads g.V.Visitor.takes g.V.Visitor.takes_read c.args.self.now c.take_if.new.self c.member.new.self
+    c.args.visitor.now c.member.new.visitor c.member.result c.take_if.ensures.kept c.if-take_if.ensures.takes
+    c.member.ensures.as_read
+
+pub returns-clause-as_read : goal.returns-clause-as_read
+returns-clause-as_read g c =
+    true_reads g.V.Visitor.takes g.V.Visitor.takes_read c.args.self.now c.take_if.new.self c.parameters.new.self
+    c.args.visitor.now c.visit.new.visitor c.visit-2.new.visitor c.parameters.new.visitor c.parameters.result
+    c.take_if.ensures.kept c.if-take_if.ensures.takes c.in_ok-visit.ensures.taken c.in_ok-visit.ensures.taken_read
+    c.in_ok-visit-2.ensures.taken c.in_ok-visit-2.ensures.taken_read c.parameters.ensures.as_read

@@ -4,6 +4,8 @@ use Rattle.sfv.specs.parser.Members.{member_parts, one_member_at}
 use Rattle.sfv.proofs.reads.Delimiters.{at_end, members_none, members_first, ends_there}
 use Rattle.sfv.proofs.visits.Loops.{begun, shorter, first_fails, more, ended, delimiter_fails, one_fails, members_loop}
 use Rattle.sfv.proofs.reads.Errors.{left_with}
+use Rattle.sfv.proofs.visits.AsRead.{begun_reads, more_reads, ended_reads}
+use Rattle.sfv.proofs.visits.Passed.{passes_then, passes_spaces, Passing-member_delimiter}
 use Rattle.sfv.proofs.parser.cursor.Cursor.members.Goals as goal
 
 pub returns-in_err-consume-clause-visited : goal.returns-in_err-consume-clause-visited
@@ -25,6 +27,14 @@ loop-self-init g c = record {
             (rw (← c.peek.ensures) (c.is_none.ensures ∙ ap not c.if-is_none.false)),
         c.skip_sp.ensures.kept,
       ) c.in_ok-consume.ensures.visited;
+  as_read = begun_reads g.V.Visitor.takes g.V.Visitor.takes_read (members_loop g.M.Member.keyed) c.args.self.now _
+      c.skip_sp.new.self c.consume.new.cursor c.args.visitor.now c.consume.new.visitor
+      (passes_spaces _ _ _ c.skip_sp.ensures.skipped.1) (
+        members_first (member_parts g.M.Member.keyed)
+            (one_member_at g.M.Member.keyed (version c.args.self.now)) _ _ _ c.skip_sp.ensures.skipped.1
+            (rw (← c.peek.ensures) (c.is_none.ensures ∙ ap not c.if-is_none.false)),
+        c.skip_sp.ensures.kept,
+      ) c.in_ok-consume.ensures.as_read;
 }
 
 pub returns-in_err-consume_comma-clause-visited : goal.returns-in_err-consume_comma-clause-visited
@@ -47,6 +57,10 @@ loop-self-preserved g c =
       visited = more g.V.Visitor.takes g.V.Visitor.fails (members_loop g.M.Member.keyed) c.args.self.now _
           c.loop-self.self c.consume_comma.new.self c.consume-in-loop-self.new.cursor _ _ _
           c.loop-self.invariant.visited wanted c.in_ok-consume-2.ensures.visited;
+      as_read = more_reads g.V.Visitor.takes g.V.Visitor.takes_read (members_loop g.M.Member.keyed) c.args.self.now _
+          c.loop-self.self c.consume_comma.new.self c.consume-in-loop-self.new.cursor c.args.visitor.now
+          c.loop-self.visitor c.consume-in-loop-self.new.visitor Passing-member_delimiter
+          c.loop-self.invariant.as_read wanted c.in_ok-consume-2.ensures.as_read;
     }
 
 pub returns-in_err-consume-2-clause-visited : goal.returns-in_err-consume-2-clause-visited
@@ -76,3 +90,23 @@ returns-then-is_none-clause-end g c = at_end _ (rw (← c.peek.ensures) (c.is_no
 
 pub returns-clause-end : goal.returns-clause-end
 returns-clause-end g c = let wanted = rw c.if-branch.false at c.in_ok-consume_comma.ensures in ends_there _ _ wanted.0
+
+pub returns-clause-as_read : goal.returns-clause-as_read
+returns-clause-as_read g c =
+    let wanted = rw c.if-branch.false at c.in_ok-consume_comma.ensures in
+    ended_reads g.V.Visitor.takes g.V.Visitor.takes_read (members_loop g.M.Member.keyed) c.args.self.now _ c.loop-self.self
+    c.consume_comma.new.self c.args.visitor.now c.loop-self.visitor Passing-member_delimiter
+    c.loop-self.invariant.as_read wanted
+
+pub returns-then-is_none-clause-as_read : goal.returns-then-is_none-clause-as_read
+returns-then-is_none-clause-as_read g c t pass = (
+  t,
+  passes_then t _ _ pass (passes_spaces _ _ _ c.skip_sp.ensures.skipped.1),
+  (
+    [],
+    members_none (member_parts g.M.Member.keyed) (one_member_at g.M.Member.keyed (version c.args.self.now)) _ _ _
+        c.skip_sp.ensures.skipped.1 (rw (← c.peek.ensures) (c.is_none.ensures ∙ ap not c.if-is_none.true)),
+    refl,
+    c.skip_sp.ensures.kept,
+  ),
+)

@@ -1,8 +1,9 @@
-use Rattle.std.proofs.Common.{◌∙◌}
+use Rattle.std.proofs.Common.{◌∙◌, ap}
 use Rattle.sfv_reading.specs.Items.{key_at, value_at}
 use Rattle.sfv.proofs.reads.Errors.{left_with, kept_reads, ErrorOf-fault, ErrorOf-part}
 use Rattle.sfv.proofs.reads.Steps.{parameter_is, parameter_keyed, parameter_some}
-use Rattle.sfv.proofs.reads.Borrowed.{borrowed_parameter}
+use Rattle.sfv.specs.parser.Cursor.{kept_version}
+use Rattle.sfv.proofs.visits.AsRead.{parameter_next}
 use Rattle.sfv.proofs.parser.cursor.Cursor.parameter.Goals as goal
 
 pub returns-in_err-key-clause-read : goal.returns-in_err-key-clause-read
@@ -27,6 +28,8 @@ returns-clause-read c =
       c.in_ok-value.ensures.read.1 ∙ same,
     )
 
-pub returns-clause-borrowed : goal.returns-clause-borrowed
-returns-clause-borrowed c = borrowed_parameter (record { key = c.in_ok-key.key; value = c.in_ok-value.value }) _ _ _ _ _ _ c.if-not-take_if.ensures.takes c.skip_sp.ensures.skipped.1
-    c.in_ok-key.ensures.taken c.in_ok-value.ensures.borrowed
+pub returns-clause-next : goal.returns-clause-next
+returns-clause-next c =
+    parameter_next _ _ c.in_ok-value.value _ _ _ _ _ _ _
+    (ap kept_version (c.in_ok-key.ensures.read.1 ∙ c.skip_sp.ensures.kept ∙ c.take_if.ensures.kept))
+    c.if-not-take_if.ensures.takes c.skip_sp.ensures.skipped.1 c.in_ok-key.ensures.read.0 c.in_ok-value.ensures.next
