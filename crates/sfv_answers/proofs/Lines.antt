@@ -15,7 +15,9 @@ use Rattle.sfv.specs.Versions.{IsSerializeError}
 use Rattle.sfv.specs.Types.{SerializeError}
 use Rattle.sfv_answers.specs.declared.answer.ToolFault.{ToolFault}
 use Rattle.sfv_answers.specs.declared.answer.ToolFault.TheVariants as faults
-use Rattle.sfv_answers.specs.Answers.{text_or_empty, IsAnswer, IsToolFault}
+use Rattle.sfv_answers.specs.Answers.{text_or_empty, without_newline, IsAnswer, IsToolFault, IsPriorityFault}
+use Rattle.sfv.specs.Types.serialize_errors as errors
+use Rattle.sfv_fields.specs.Priority.{PriorityValue, IsPriorityOf}
 
 -- nothing is written of a field without members
 empty_text : (kind : FieldKind) (value : RawField kind) → ¬ HasMember kind value → [] ≡ canonical kind value
@@ -49,3 +51,10 @@ pub write_fails : (reading writing : Version) (kind : FieldKind) (t : List ℕ) 
     → IfErr r (IsToolFault reading writing kind t)
 write_fails reading writing kind t value r e exit parsed h =
     let p = err_from_is_err_and r exit in rw (p.1, p.2) (value, parsed, h)
+
+-- what was read of a priority isn't written
+pub priority_unwritten : (version : Version) (input : List ℕ) (value : PriorityValue) (r : Result (String Global) ToolFault)
+    → IsErrAnd r (λ f. f ≡ faults.Write errors.OutOfMemory) → IsPriorityOf version (without_newline input) value
+    → IfErr r (IsPriorityFault version input)
+priority_unwritten version input value r exit read =
+    let p = err_from_is_err_and r exit in rw (p.1, p.2) (refl, value, read)

@@ -1,5 +1,6 @@
 -- The requests of the program, and the results of a run.
-use Rattle.std.specs.Prelude.{◌≡◌, ℕ, List, [], ◌∷◌, ◌⊎◌, Option, IfSome, codes}
+use Rattle.std.specs.Prelude.{◌≡◌, ⊤, ℕ, List, [], ◌∷◌, ◌⊎◌, Option, IfSome, codes}
+use Rattle.std.specs.Int.{from_le_bytes, w64}
 use Rattle.std.specs.Io.KnownBytes.{Keeps, Appends}
 use Rattle.sfv.specs.Types.{Version}
 use Rattle.sfv.specs.Types.{item_field, list_field, dictionary_field}
@@ -7,7 +8,10 @@ use Rattle.sfv.specs.Types.versions as version
 use Rattle.sfv.specs.Types.{FieldKind}
 use Rattle.sfv_answers.specs.declared.run.Request.{Request}
 use Rattle.sfv_answers.specs.declared.run.Request.TheVariants as request
-use Rattle.sfv_answers.specs.Answers.{IsAnswerTo, IsPriorityAnswer}
+use Rattle.sfv.specs.HashSeeds.{seed_of}
+use Rattle.sfv.specs.Types.{HashSeed}
+use Rattle.sfv_answers.specs.declared.answer.ToolFault.{ToolFault}
+use Rattle.sfv_answers.specs.Answers.{IsAnswerTo, IsFaultFor, IsPriorityAnswer, IsPriorityFault}
 
 -- the argument for a field type
 abbrev pub field_word : FieldKind → List ℕ
@@ -42,6 +46,20 @@ Names words (request.Priority version) = NamesPriority words version
 abbrev pub IsAnswerFor : Request → List ℕ → List ℕ → Type 0
 IsAnswerFor (request.Field field reading writing) input text = IsAnswerTo field reading writing input text
 IsAnswerFor (request.Priority version) input text = IsPriorityAnswer version input text
+
+-- the error of the request for this input
+abbrev pub IsFaultOf : Request → List ℕ → ToolFault → Type 0
+IsFaultOf (request.Field field reading writing) input fault = IsFaultFor field reading writing input fault
+IsFaultOf (request.Priority version) input fault = IsPriorityFault version input fault
+
+-- the request names a field type, not the Priority field
+abbrev pub NamesFieldType : Request → Type 0
+NamesFieldType (request.Field field reading writing) = ⊤
+NamesFieldType (request.Priority version) = ⊥
+
+-- the seed of eight bytes, as a little-endian number
+abbrev pub seed_of_bytes : List ℕ → HashSeed
+seed_of_bytes bytes = seed_of (from_le_bytes w64 bytes)
 
 -- A successful run: the output is appended, and nothing is written to the errors.
 pub record IsAnswered (request : Request) (input output output' errors errors' : Option (List ℕ)) : Type 0 where

@@ -105,7 +105,7 @@ fn parse_as<T: FieldType>(
 }
 
 /// Parses the input as a field of type `T` under the version `reading`. Returns its canonical text under the version
-/// `writing`, and a newline.
+/// `writing`, and a newline. Each map of the parsed value hashes under `seed`.
 fn answer_as<T: FieldType>(
     alloc: Global,
     seed: HashSeed,
@@ -116,6 +116,8 @@ fn answer_as<T: FieldType>(
     ensures accepted { IfOk result (λ text.
         IsAnswer reading writing T.kind input.now (string_bytes text)) }
     ensures failed { IfErr result (IsToolFault reading writing T.kind input.now) }
+    ensures seed { IfOk result (λ _. (value : _) × T.has_seed seed value
+        × IsParsedAs reading T.kind input.now (T.tree value)) }
 {
     let value = parse_as::<T>(alloc, seed, reading, input)?;
     let text = value.serialize_for(alloc, writing)?;

@@ -1,15 +1,19 @@
 //! A run of the program `sfv_tool`.
 
-ghost use Rattle.std.specs.Prelude.{◌≡◌, ◌≤◌, ◌↔◌, IfSome, IfNone, IfOk, OnOk, IsTrue, map, string_bytes};
+ghost use Rattle.std.specs.Prelude.{◌≡◌, ◌≢◌, ◌≤◌, ◌↔◌, IfSome, IfNone, IfOk, IfErr, OnOk, OnErr, IsTrue, map};
+ghost use Rattle.std.specs.Prelude.{codes, string_bytes};
 ghost use Rattle.std.specs.Io.KnownBytes.{Appends};
 ghost use Rattle.sfv_answers.specs.Runs.{Names, NamesNothing, Requests, IsAnswered, IsFailed, field_word, version_word};
-ghost use Rattle.sfv_answers.specs.Runs.{IsAnswerFor, NamesPriority, NamesNoField, NamesNoPriority, priority_word};
+ghost use Rattle.std.specs.IoError.{error_kind};
+ghost use Rattle.std.specs.declared.io.ErrorKind.TheVariants as kinds;
+ghost use Rattle.sfv_answers.specs.Runs.{IsAnswerFor, IsFaultOf, NamesPriority, NamesNoField, NamesNoPriority};
+ghost use Rattle.sfv_answers.specs.Runs.{priority_word, seed_of_bytes, NamesFieldType};
 
 use crate::answer::{ToolFault, answer, answer_priority};
 use sfv::{FieldKind, HashSeed, Version};
 use std::alloc::Global;
 use std::io;
-use std::io::{Read, Write};
+use std::io::{ErrorKind, Read, Write};
 use std::random::RandomSource;
 
 /// The exit status after the result is written.
@@ -113,14 +117,15 @@ fn requested(args: &[String]) -> Option<Request>
     field_requested(args)
 }
 
-/// Returns the result of a command for the input. Maps are built under `seed`.
+/// Returns the result of a command for the input. The maps of a field are built under `seed`.
 fn answer_to(
     alloc: Global,
     seed: HashSeed,
     request: Request,
     input: &[u8],
 ) -> Result<String, ToolFault>
-    ensures { IfOk result (λ text. IsAnswerFor request input.now (string_bytes text)) }
+    ensures accepted { IfOk result (λ text. IsAnswerFor request input.now (string_bytes text)) }
+    ensures failed { IfErr result (IsFaultOf request input.now) }
 {
     match request {
         Request::Field {
@@ -140,6 +145,18 @@ fn print<W: Write>(text: &str, output: &mut W) -> io::Result<()>
     output.flush()
 }
 
+/// Returns the message for a failed read of the input.
+fn read_message(error: &io::Error) -> &'static str
+    ensures memory { error_kind error.now ≡ kinds.OutOfMemory → result.now ≡ codes "error: out of memory\n" }
+    ensures other { error_kind error.now ≢ kinds.OutOfMemory → result.now ≡ codes "error: cannot read input\n" }
+{
+    if error.kind() == ErrorKind::OutOfMemory {
+        "error: out of memory\n"
+    } else {
+        "error: cannot read input\n"
+    }
+}
+
 /// Reads all of `input`, and writes the result to `output`, or an error to `errors`. Returns the exit status.
 fn convert<R: Read, W: Write, E: Write>(
     alloc: Global,
@@ -156,8 +173,8 @@ fn convert<R: Read, W: Write, E: Write>(
     ensures status { result ≤ FAILED }
 {
     let mut bytes = Vec::new(alloc);
-    if input.read_to_end(&mut bytes).is_err() {
-        let _ = errors.write_all(b"error: cannot read input\n");
+    if let Err(error) = input.read_to_end(&mut bytes) {
+        let _ = errors.write_all(read_message(&error).as_bytes());
         return FAILED;
     }
     match answer_to(alloc, seed, request, bytes.as_slice()) {
@@ -213,16 +230,40 @@ pub fn run<R: Read, W: Write, E: Write>(
     convert(alloc, seed, request, input, output, errors)
 }
 
-/// Returns a random hash seed.
-fn random_seed(random: &impl RandomSource) -> io::Result<HashSeed> {
-    let mut bytes = [0; 8];
-    random.fill_bytes(&mut bytes)?;
-    Ok(HashSeed::new(u64::from_le_bytes(bytes)))
+/// Returns the hash seed of these bytes, as a little-endian number.
+fn seed_of_bytes(bytes: [u8; 8]) -> HashSeed
+    ensures { result ≡ seed_of_bytes bytes }
+{
+    HashSeed::new(u64::from_le_bytes(bytes))
 }
 
-/// Does the same as `run`, under a random seed. Wrong arguments take no random bytes.
+/// Returns a random hash seed: the next eight bytes of the source, as a little-endian number.
 ///
-/// Returns the exit status of `run`, or `FAILED` if there are no random bytes. `input` and `output` are then unchanged.
+/// # Errors
+///
+/// Returns the error of `RandomSource::fill_bytes`.
+pub fn random_seed<S: RandomSource>(random: &S) -> io::Result<HashSeed> {
+    let mut bytes = [0; 8];
+    random.fill_bytes(&mut bytes)?;
+    Ok(seed_of_bytes(bytes))
+}
+
+/// Returns the hash seed for a command. A field has maps, and takes a random seed. The Priority field has none, and
+/// takes no random bytes.
+fn seed_for<S: RandomSource>(random: &S, request: Request) -> io::Result<HashSeed>
+    ensures failed { OnErr result (NamesFieldType request) }
+{
+    match request {
+        Request::Field { .. } => random_seed(random),
+        Request::Priority(_) => Ok(HashSeed::default()),
+    }
+}
+
+/// Does the same as `run`. The maps of a field are built under a random seed. The Priority field and wrong arguments
+/// take no random bytes.
+///
+/// Returns the exit status of `run`, or `FAILED` if there are no random bytes for a field. `input` and `output` are then
+/// unchanged.
 pub fn run_with_random_seed<S: RandomSource, R: Read, W: Write, E: Write>(
     alloc: Global,
     random: &S,
@@ -243,7 +284,7 @@ pub fn run_with_random_seed<S: RandomSource, R: Read, W: Write, E: Write>(
     let Some(request) = requested(args) else {
         return print_usage(errors);
     };
-    let Ok(seed) = random_seed(random) else {
+    let Ok(seed) = seed_for(random, request) else {
         let _ = errors.write_all(b"error: no random seed\n");
         return FAILED;
     };

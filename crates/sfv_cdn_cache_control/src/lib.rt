@@ -2,7 +2,7 @@
 #![tactic(auto)]
 
 ghost use Rattle.std.specs.Prelude.{◌≡◌, IfOk, IfErr, option_map, codes};
-ghost use Rattle.sfv_field.specs.Field.{integer_of, dictionary_field, last_of, IsParseError};
+ghost use Rattle.sfv_field.specs.Field.{integer_of, dictionary_field, last_of, IsParseError, NeedsMark};
 ghost use Rattle.sfv_cdn_cache_control.specs.MaxAge.{age_of, IsMaxAgeOf};
 
 use sfv::{BareItemFromInput, Error, Integer, KeyRef, Version};
@@ -49,12 +49,14 @@ impl<'de> DictionaryReader<'de> for MaxAge {
 ///
 /// # Errors
 ///
-/// Returns the error of `Parser::parse` if the input is not a dictionary, or if memory runs out.
-#[tactic(auto, unfolding(sfv_field::specs::Field::last_of))]
+/// Returns the error of `Parser::parse` if the input is not a dictionary, or if memory runs out. Memory runs out only if
+/// the input contains a backslash, a percent sign or a colon.
+#[tactic(auto, using(sfv_field::proofs::Memory::mark_needed), unfolding(sfv_field::specs::Field::last_of))]
 pub fn max_age(alloc: Global, input: &[u8], version: Version) -> Result<Option<Integer>, Error>
     ensures read { IfOk result (λ found.
         IsMaxAgeOf version input.now (option_map integer_of found)) }
     ensures rejected { IfErr result (IsParseError version dictionary_field input.now) }
+    ensures memory { IfErr result (NeedsMark input.now) }
 {
     let read = read_dictionary(alloc, input, version, MaxAge { seconds: None })?;
     Ok(read.seconds)

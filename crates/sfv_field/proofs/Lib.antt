@@ -3,3 +3,4 @@ mod Runs
 pub mod ListSteps
 pub mod DictionarySteps
 pub mod Found
+pub mod Memory

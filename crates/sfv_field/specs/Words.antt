@@ -1,11 +1,14 @@
 -- Definitions for readers: the head of a member, its parameters, and a pair that is put into a map.
-use Rattle.std.specs.Prelude.{ℕ, List, [], ◌∷◌, ◌++◌}
+use Rattle.std.specs.Prelude.{◌≡◌, ℕ, List, [], ◌∷◌, ◌++◌, ◌⊎◌}
 use Rattle.sfv_spec.specs.Values.{RawField, BareValue, RawItem, RawParameters, RawMember, item}
 use Rattle.sfv_spec.specs.declared.field_kind.FieldKind.{FieldKind}
 use Rattle.sfv_spec.specs.declared.version.Version.{Version}
 use Rattle.sfv_spec.specs.Values.{inner_list}
 use Rattle.sfv_spec.specs.Ordered.{collapse}
 use Rattle.sfv_spec.specs.Statements.{IsParsedAs}
+use Rattle.sfv_base.specs.declared.error.Error.{Error}
+use Rattle.sfv_base.specs.Errors.{out_of_memory}
+use Rattle.sfv.specs.Memory.{HoldsMark}
 
 -- the item with this bare item and these parameters
 abbrev pub raw_item : BareValue → RawParameters → RawItem
@@ -37,6 +40,14 @@ put ps k v = collapse (ps ++ (k, v) ∷ [])
 -- the text parses to a field, and the reader's state is the state after its value
 abbrev pub IsReadBy : {R : Type 0} → Version → (kind : FieldKind) → (R → RawField kind → Type 0) → List ℕ → R → Type 0
 IsReadBy version kind reads t found = (value : RawField kind) × IsParsedAs version kind t value × reads found value
+
+-- the error is out of memory only if the text contains a backslash, a percent sign or a colon
+abbrev pub NeedsMark : List ℕ → Error → Type 0
+NeedsMark t e = e ≡ out_of_memory → HoldsMark t
+
+-- the same, or if a reader may run out of memory
+abbrev pub NeedsMarkUnless : Type 0 → List ℕ → Error → Type 0
+NeedsMarkUnless may_fail t e = e ≡ out_of_memory → HoldsMark t ⊎ may_fail
 
 -- the items with one more, which has no parameters yet
 abbrev pub AddsItem : {R : Type 0} → (R → List RawItem → Type 0) → R → R → BareValue → Type 0

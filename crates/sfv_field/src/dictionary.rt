@@ -89,7 +89,7 @@ impl<
 
     ghost takes = { DictionaryTakes I.reads R.text R.reads };
 
-    ghost fails = { λ _ _ _. ⊤ };
+    ghost fails = { λ _ _ _. I.may_fail };
 
     ghost finishes = { λ s found. found ≡ s.reader };
 

@@ -1,6 +1,6 @@
 //! Readers of the items of an inner list.
 
-ghost use Rattle.std.specs.Prelude.{⊤, List, [], OnOk};
+ghost use Rattle.std.specs.Prelude.{⊤, List, [], OnOk, OnErr};
 ghost use Rattle.sfv_spec.specs.Values.{RawItem};
 ghost use Rattle.sfv_text.specs.CheckedTexts.{text_of};
 ghost use Rattle.sfv_bare.specs.BareItems.{input_value};
@@ -16,6 +16,9 @@ pub trait InnerListReader<'de>: Drop {
     /// `reads reader items`: `reader` is the state after these items. Their parameters have no repeated key.
     ghost reads: { Self → List RawItem → Type 0 };
 
+    /// `item` or `parameter` may run out of memory. Default: they may.
+    ghost may_fail: { Type 0 } = { ⊤ };
+
     /// Returns the reader before any item.
     fn new(alloc: Global) -> Self
         ensures { reads result [] };
@@ -26,7 +29,8 @@ pub trait InnerListReader<'de>: Drop {
     ///
     /// Returns `OutOfMemory` if memory runs out, which ends the parsing.
     fn item(&mut self, item: BareItemFromInput<'de>) -> Result<(), OutOfMemory>
-        ensures { OnOk result (AddsItem reads self.old self.new (input_value item.entry)) };
+        ensures read { OnOk result (AddsItem reads self.old self.new (input_value item.entry)) }
+        ensures memory { OnErr result may_fail };
 
     /// Receives a parameter of the last item. It replaces an earlier one with the same key.
     ///
@@ -38,8 +42,9 @@ pub trait InnerListReader<'de>: Drop {
         key: KeyRef<'de>,
         value: BareItemFromInput<'de>,
     ) -> Result<(), OutOfMemory>
-        ensures { OnOk result
-            (AddsItemParameter reads self.old self.new (text_of key.entry) (input_value value.entry)) };
+        ensures read { OnOk result
+            (AddsItemParameter reads self.old self.new (text_of key.entry) (input_value value.entry)) }
+        ensures memory { OnErr result may_fail };
 }
 
 /// A reader that ignores the items of an inner list.
@@ -48,6 +53,8 @@ pub struct IgnoredItems;
 
 impl<'de> InnerListReader<'de> for IgnoredItems {
     ghost reads = { λ _ _. ⊤ };
+
+    ghost may_fail = { ⊥ };
 
     fn new(_alloc: Global) -> IgnoredItems {
         IgnoredItems

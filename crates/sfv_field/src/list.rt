@@ -1,6 +1,6 @@
 //! Readers of lists.
 
-ghost use Rattle.std.specs.Prelude.{◌≡◌, ⊤, None, List, [], OnOk};
+ghost use Rattle.std.specs.Prelude.{◌≡◌, ◌⊎◌, ⊤, None, List, [], OnOk, OnErr};
 ghost use Rattle.sfv_spec.specs.Values.{RawItem, RawParameters, RawMember};
 ghost use Rattle.sfv_text.specs.CheckedTexts.{text_of};
 ghost use Rattle.sfv_bare.specs.BareItems.{input_value};
@@ -31,6 +31,9 @@ pub trait ListReader<'de>: Drop {
     /// `reads reader members`: `reader` is the state after these members.
     ghost reads: { Self → List RawMember → Type 0 };
 
+    /// `member` may run out of memory. Default: it may.
+    ghost may_fail: { Type 0 } = { ⊤ };
+
     /// Receives the bare item of a member that is an item.
     fn item(item: BareItemFromInput<'de>) -> Self::Member
         ensures { keeps result (of_item (input_value item.entry)) [] };
@@ -49,7 +52,8 @@ pub trait ListReader<'de>: Drop {
     ///
     /// Returns `OutOfMemory` if memory runs out, which ends the parsing.
     fn member(&mut self, member: Self::Member) -> Result<(), OutOfMemory>
-        ensures { OnOk result (AddsMember reads keeps self.old self.new member) };
+        ensures read { OnOk result (AddsMember reads keeps self.old self.new member) }
+        ensures memory { OnErr result may_fail };
 }
 
 /// A visitor that passes the parts of a list to a reader.
@@ -88,7 +92,7 @@ impl<'de, M: Drop, I: InnerListReader<'de>, R: ListReader<'de, Member = M, Items
 
     ghost takes = { ListTakes I.reads R.keeps R.reads };
 
-    ghost fails = { λ _ _ _. ⊤ };
+    ghost fails = { λ _ _ _. I.may_fail ⊎ R.may_fail };
 
     ghost finishes = { λ s found. found ≡ s.reader };
 

@@ -1,10 +1,10 @@
 //! Parsing with a reader.
 
-ghost use Rattle.std.specs.Prelude.{◌≡◌, [], IfOk, IfErr};
+ghost use Rattle.std.specs.Prelude.{◌≡◌, ◌⊎◌, [], IfOk, IfErr};
 ghost use Rattle.sfv_spec.specs.declared.field_kind.FieldKind.TheVariants.{List as list_field};
 ghost use Rattle.sfv_spec.specs.declared.field_kind.FieldKind.TheVariants.{Dictionary as dictionary_field};
 ghost use Rattle.sfv.specs.Parsers.{IsParseError};
-ghost use Rattle.sfv_field.specs.Words.{IsReadBy};
+ghost use Rattle.sfv_field.specs.Words.{IsReadBy, NeedsMarkUnless};
 
 use crate::dictionary::{DictionaryReader, DictionaryVisitor};
 use crate::list::{ListReader, ListVisitor};
@@ -17,7 +17,8 @@ use std::alloc::Global;
 ///
 /// # Errors
 ///
-/// Returns the error of `Parser::parse` if the input is not a list, or if memory runs out.
+/// Returns the error of `Parser::parse` if the input is not a list, or if memory runs out. Unless the reader runs out of
+/// memory, this happens only if the input contains a backslash, a percent sign or a colon.
 pub fn read_list<'de, R: ListReader<'de>>(
     alloc: Global,
     input: &'de [u8],
@@ -27,6 +28,7 @@ pub fn read_list<'de, R: ListReader<'de>>(
     requires { R.reads reader [] }
     ensures read { IfOk result (IsReadBy version list_field R.reads input.now) }
     ensures rejected { IfErr result (IsParseError version list_field input.now) }
+    ensures memory { IfErr result (NeedsMarkUnless (R.Items.may_fail ⊎ R.may_fail) input.now) }
 {
     let parser = Parser::new(input).with_version(version);
     match parser.parse_list_with_visitor(alloc, ListVisitor::new(alloc, reader)) {
@@ -42,7 +44,8 @@ pub fn read_list<'de, R: ListReader<'de>>(
 ///
 /// # Errors
 ///
-/// Returns the error of `Parser::parse` if the input is not a dictionary, or if memory runs out.
+/// Returns the error of `Parser::parse` if the input is not a dictionary, or if memory runs out. Unless the reader runs
+/// out of memory, this happens only if the input contains a backslash, a percent sign or a colon.
 pub fn read_dictionary<'de, R: DictionaryReader<'de>>(
     alloc: Global,
     input: &'de [u8],
@@ -52,6 +55,7 @@ pub fn read_dictionary<'de, R: DictionaryReader<'de>>(
     requires { R.reads reader [] }
     ensures read { IfOk result (IsReadBy version dictionary_field R.reads input.now) }
     ensures rejected { IfErr result (IsParseError version dictionary_field input.now) }
+    ensures memory { IfErr result (NeedsMarkUnless R.Items.may_fail input.now) }
 {
     let parser = Parser::new(input).with_version(version);
     match parser.parse_dictionary_with_visitor(alloc, DictionaryVisitor::new(alloc, reader)) {

@@ -1,5 +1,5 @@
 -- The digests of members: of a text, of what was read of it, and of what is written.
-use Rattle.std.proofs.Common.{◌≡◌, ℕ, List, refl, sym, ap, ◌∙◌, inl, inr}
+use Rattle.std.proofs.Common.{◌≡◌, ℕ, List, refl, sym, ap, ◌∙◌, subst, inl, inr}
 use Rattle.std.specs.Prelude.{Option, Some, None, option_map, Result, Ok, Err, IfOk, IfErr, IfSome, string_bytes}
 use Rattle.std.specs.declared.alloc.Global.{Global}
 use Rattle.std.specs.declared.string.String.{String}
@@ -12,7 +12,13 @@ use Rattle.sfv.proofs.Callers.{last_of-ordered}
 use Rattle.sfv_fields.specs.ContentDigests.{Members, sha_256_key, sha_512_key, bytes_in, last_bytes, Digests, digests_in}
 use Rattle.sfv_fields.specs.ContentDigests.{AreDigests, HasWrongType, IsDictionary, IsContentDigest, HasDigests}
 use Rattle.sfv_fields.specs.ContentDigests.{IsDigestError, ReturnsDigests, digest_members}
-use Rattle.sfv_fields.specs.DigestSteps.{GivesDigests}
+use Rattle.sfv_fields.specs.ContentDigests.{NeedsMarkFor}
+use Rattle.sfv_field.specs.Field.{IsReadBy, NeedsMarkUnless}
+use Rattle.sfv_field.proofs.Memory.{mark_needed}
+use Rattle.sfv.specs.Types.{Error}
+use Rattle.sfv_fields.specs.DigestSteps.{Held, held_of, held_value, HoldsDigests, HoldsWrongType, GivesDigests}
+use Rattle.sfv_fields.specs.declared.content_digest.DigestError.TheVariants as errors
+use Rattle.sfv_fields.specs.declared.content_digest.reading.LastMembers.{LastMembers}
 use Rattle.sfv_fields.specs.declared.content_digest.ContentDigest.{ContentDigest}
 use Rattle.sfv_fields.specs.declared.content_digest.DigestError.{DigestError}
 
@@ -74,22 +80,45 @@ module _ (text : List ℕ) (value : Members) (parsed : IsParsedAs Rfc9651 dictio
   are_read : (d : Digests) → IsContentDigest text d → AreDigests parsed.raw d
   are_read d h = rw (parsed.only h.members h.accepted) at h.holds
 
-  pub digests_read : (r : Result ContentDigest DigestError) → GivesDigests value r → IfOk r (HasDigests text)
-  digests_read (Ok digest) h = of_text _ (are (digests_in digest) h)
-  digests_read (Err e) h = tt
+-- the text parses to a dictionary with these last members
+abbrev IsHeld : List ℕ → LastMembers → Type 0
+IsHeld text found = IsReadBy Rfc9651 dictionary_field (λ (f : LastMembers) (ms : Members). held_value f ≡ held_of ms) text found
 
-  pub digests_failed : (r : Result ContentDigest DigestError) → GivesDigests value r → IfErr r (IsDigestError text)
-  digests_failed (Ok digest) h = tt
-  digests_failed (Err e) (inl h) = rw h (inl refl)
-  digests_failed (Err e) (inr h) = rw h.0 (of_text HasWrongType (wrong h.1))
+module _ (text : List ℕ) (found : LastMembers) (h : IsHeld text found) where
+  kept_are : (d : Digests) → HoldsDigests (held_value found) d → AreDigests h.0 d
+  kept_are d holds = let same = subst (λ (held : Held). HoldsDigests held d) h.2 holds in
+      record { sha_256 = same.0; sha_512 = same.1 }
 
-  pub digests_returned : (r : Result ContentDigest DigestError) → GivesDigests value r → ReturnsDigests text r
-  digests_returned (Ok digest) h d is =
-      one_AreDigests parsed.raw (digests_in digest) d (are (digests_in digest) h) (are_read d is)
-  digests_returned (Err e) (inl h) d is = h
-  digests_returned (Err e) (inr h) d is = absurd (right_members parsed.raw d (are_read d is) (wrong h.1))
+  kept_wrong : HoldsWrongType (held_value found) → HasWrongType h.0
+  kept_wrong holds = subst HoldsWrongType h.2 holds
 
-pub ruleset reading = (digests_read, digests_failed, digests_returned)
+  pub digests_read : (r : Result ContentDigest DigestError) → GivesDigests (held_value found) r → IfOk r (HasDigests text)
+  digests_read (Ok digest) g = let d = digests_in digest in
+      of_text text h.0 h.1 _ (are text h.0 h.1 d (kept_are d g))
+  digests_read (Err e) g = tt
+
+  pub digests_failed : (r : Result ContentDigest DigestError) → GivesDigests (held_value found) r
+      → IfErr r (IsDigestError text)
+  digests_failed (Ok digest) g = tt
+  digests_failed (Err e) g = rw g.0 (of_text text h.0 h.1 HasWrongType (wrong text h.0 h.1 (kept_wrong g.1)))
+
+  pub digests_memory : (r : Result ContentDigest DigestError) → GivesDigests (held_value found) r
+      → IfErr r (NeedsMarkFor text)
+  digests_memory (Ok digest) g = tt
+  digests_memory (Err e) g = rw g.0 tt
+
+  pub digests_returned : (r : Result ContentDigest DigestError) → GivesDigests (held_value found) r
+      → ReturnsDigests text r
+  digests_returned (Ok digest) g d is = let own = digests_in digest in
+      one_AreDigests h.1.raw own d (are text h.0 h.1 own (kept_are own g)) (are_read text h.0 h.1 d is)
+  digests_returned (Err e) g d is =
+      absurd (right_members h.1.raw d (are_read text h.0 h.1 d is) (wrong text h.0 h.1 (kept_wrong g.1)))
+
+-- an error of the reading
+pub error_memory : (text : List ℕ) (e : Error) → NeedsMarkUnless ⊥ text e → NeedsMarkFor text (errors.Field e)
+error_memory text e h = mark_needed text e h
+
+pub ruleset reading = (digests_read, digests_failed, digests_memory, digests_returned, error_memory)
 
 -- digests are those of their own members
 AreDigests-members : (d : Digests) → AreDigests (digest_members d) d

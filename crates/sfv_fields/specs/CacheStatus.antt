@@ -1,13 +1,20 @@
--- The Cache-Status field (RFC 9211, section 2): a List. Each member is an item that names a cache.
-use Rattle.std.specs.Prelude.{◌≡◌, ℕ, ℤ, List, Bool, false, Option, Some, None, option_map, fold, codes, if◌then◌else◌}
+-- The Cache-Status field (RFC 9211, section 2): a List. Each member is a String or a Token that names a cache.
+use Rattle.std.specs.Prelude.{◌≡◌, ℕ, ℤ, List, Bool, true, false, ◌&&◌, Option, Some, None, option_map, fold, codes}
+use Rattle.std.specs.Prelude.{if◌then◌else◌}
 use Rattle.std.specs.Option.{option_or}
-use Rattle.sfv.specs.Values.{BareValue, integer, boolean, RawMember, item, inner_list}
+use Rattle.sfv.specs.Values.{BareValue, integer, string, token, boolean, RawMember, item, inner_list}
 use Rattle.sfv.specs.Types.{list_field}
 use Rattle.sfv.specs.Types.{Version}
 use Rattle.sfv.specs.Ordered.{last_of}
 use Rattle.sfv.specs.NumberValues.{integer_of}
 use Rattle.sfv.specs.Statements.{IsParsedAs}
 use Rattle.sfv_fields.specs.declared.cache_status.Hit.{Hit}
+
+-- a String or a Token names a cache
+abbrev pub names_cache : BareValue → Bool
+names_cache (string s) = true
+names_cache (token t) = true
+names_cache b = false
 
 -- the value is the Boolean true
 abbrev pub is_true : Option BareValue → Bool
@@ -18,10 +25,11 @@ abbrev pub integer_in : Option BareValue → Option ℤ
 integer_in (Some (integer z)) = Some z
 integer_in v = None
 
--- the `ttl` of a member with a hit, if there is one (section 2.1)
+-- the `ttl` of a member that names a cache with a hit (sections 2.1 and 2.3)
 abbrev pub hit_of : RawMember → Option (Option ℤ)
 hit_of (item i) =
-    if is_true (last_of (codes "hit") i.parameters) then Some (integer_in (last_of (codes "ttl") i.parameters)) else None
+    if names_cache i.bare && is_true (last_of (codes "hit") i.parameters)
+    then Some (integer_in (last_of (codes "ttl") i.parameters)) else None
 hit_of (inner_list l) = None
 
 -- the last hit of a list

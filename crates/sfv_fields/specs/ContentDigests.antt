@@ -1,6 +1,6 @@
 -- The Content-Digest field (RFC 9530, section 2): a Dictionary. A key names a hash algorithm, and its value is the
 -- digest by this algorithm, as a Byte Sequence.
-use Rattle.std.specs.Prelude.{◌≡◌, ℕ, List, [], ◌∷◌, ◌++◌, ◌⊎◌, codes, Option, Some, None, option_map}
+use Rattle.std.specs.Prelude.{◌≡◌, ⊤, ℕ, List, [], ◌∷◌, ◌++◌, ◌⊎◌, codes, Option, Some, None, option_map}
 use Rattle.std.specs.Prelude.{Result, MatchResult, MatchOption}
 use Rattle.std.specs.declared.alloc.Global.{Global}
 use Rattle.std.specs.declared.vec.Vec.{Vec}
@@ -11,6 +11,7 @@ use Rattle.sfv.specs.Grammar.{IsFieldText}
 use Rattle.sfv.specs.Ordered.{last_of}
 use Rattle.sfv.specs.Errors.{out_of_memory}
 use Rattle.sfv.specs.Parsers.{IsParseError}
+use Rattle.sfv_field.specs.Field.{NeedsMark}
 use Rattle.sfv_fields.specs.declared.content_digest.ContentDigest.{ContentDigest}
 use Rattle.sfv_fields.specs.declared.content_digest.DigestError.{DigestError}
 use Rattle.sfv_fields.specs.declared.content_digest.DigestError.TheVariants as errors
@@ -82,6 +83,11 @@ HasDigests text digest = IsContentDigest text (digests_in digest)
 abbrev pub IsDigestError : List ℕ → DigestError → Type 0
 IsDigestError text (errors.Field e) = IsParseError Rfc9651 dictionary_field text e
 IsDigestError text errors.WrongType = IsDictionary text HasWrongType
+
+-- the error is out of memory only if the text contains a backslash, a percent sign or a colon
+abbrev pub NeedsMarkFor : List ℕ → DigestError → Type 0
+NeedsMarkFor text (errors.Field e) = NeedsMark text e
+NeedsMarkFor text errors.WrongType = ⊤
 
 -- if the text has digests, these are returned, unless memory ran out
 abbrev pub ReturnsDigests : List ℕ → Result ContentDigest DigestError → Type 0

@@ -2,10 +2,12 @@
 //! user.
 
 ghost use Rattle.std.specs.Prelude.{◌≡◌, Some, IfOk, IfErr, option_map};
-ghost use Rattle.sfv_field.specs.Field.{list_field, ref_value, integer_of, IsParseError};
-ghost use Rattle.sfv_fields.specs.CacheStatus.{is_true, integer_in, hit_value, last_hit_of, IsLastHitOf};
+ghost use Rattle.sfv_field.specs.Field.{list_field, ref_value, integer_of, IsParseError, NeedsMark};
+ghost use Rattle.sfv_fields.specs.CacheStatus.{names_cache, is_true, integer_in, hit_value, last_hit_of, IsLastHitOf};
 
-use sfv::{BareItemFromInput, Error, Integer, KeyRef, OutOfMemory, RefBareItem, Version};
+use sfv::{
+    BareItemFromInput, Error, GenericBareItem, Integer, KeyRef, OutOfMemory, RefBareItem, Version,
+};
 use sfv_field::{IgnoredItems, ListReader, read_list};
 use std::alloc::Global;
 
@@ -14,6 +16,16 @@ use std::alloc::Global;
 pub struct Hit {
     /// The remaining seconds of freshness, if the cache states them.
     pub ttl: Option<Integer>,
+}
+
+// Returns `true` if a bare item names a cache: a String or a Token.
+fn names_cache(value: RefBareItem<'_>) -> bool
+    ensures { result ≡ names_cache (ref_value value.entry) }
+{
+    matches!(
+        value,
+        GenericBareItem::String(_) | GenericBareItem::Token(_)
+    )
 }
 
 // Returns `true` if a bare item is the Boolean true.
@@ -33,7 +45,7 @@ fn integer_in_item(value: RefBareItem<'_>) -> Option<Integer>
 /// The state of one member.
 #[derive(Clone, Copy, Debug)]
 struct Cache {
-    is_item: bool,
+    is_named: bool,
     hit: bool,
     ttl: Option<Integer>,
 }
@@ -56,9 +68,11 @@ impl<'de> ListReader<'de> for LastHit {
 
     ghost reads = { λ s members. hit_value s.found ≡ last_hit_of members };
 
-    fn item(_item: BareItemFromInput<'de>) -> Cache {
+    ghost may_fail = { ⊥ };
+
+    fn item(item: BareItemFromInput<'de>) -> Cache {
         Cache {
-            is_item: true,
+            is_named: names_cache(item.as_ref_item()),
             hit: false,
             ttl: None,
         }
@@ -66,7 +80,7 @@ impl<'de> ListReader<'de> for LastHit {
 
     fn inner_list(_items: IgnoredItems) -> Cache {
         Cache {
-            is_item: false,
+            is_named: false,
             hit: false,
             ttl: None,
         }
@@ -81,21 +95,26 @@ impl<'de> ListReader<'de> for LastHit {
     }
 
     fn member(&mut self, member: Cache) -> Result<(), OutOfMemory> {
-        if member.is_item && member.hit {
+        if member.is_named && member.hit {
             self.found = Some(Hit { ttl: member.ttl });
         }
         Ok(())
     }
 }
 
-/// Returns the last hit of a Cache-Status field, or `None` if no cache had the response.
+/// Returns the last hit of a Cache-Status field (RFC 9211, section 2.1), or `None` if no cache had the response.
+///
+/// Only a String or a Token names a cache. Ignores members with another bare item, and inner lists.
 ///
 /// # Errors
 ///
-/// Returns the error of `Parser::parse` if the input is not a list, or if memory runs out.
+/// Returns the error of `Parser::parse` if the input is not a list, or if memory runs out. Memory runs out only if the
+/// input contains a backslash, a percent sign or a colon.
+#[tactic(auto, using(sfv_field::proofs::Memory::mark_needed_of_list))]
 pub fn last_hit(alloc: Global, input: &[u8], version: Version) -> Result<Option<Hit>, Error>
     ensures read { IfOk result (λ found. IsLastHitOf version input.now (hit_value found)) }
     ensures rejected { IfErr result (IsParseError version list_field input.now) }
+    ensures memory { IfErr result (NeedsMark input.now) }
 {
     let read = read_list(alloc, input, version, LastHit { found: None })?;
     Ok(read.found)

@@ -1,23 +1,25 @@
 //! The Content-Digest field: digests of a content, by hash algorithm (RFC 9530, section 2).
 
 ghost use Rattle.std.specs.Prelude.{◌≡◌, ◌≢◌, ◌↔◌, None, IfOk, IfErr, IfSome, OnOk, OnErr};
-ghost use Rattle.std.specs.Prelude.{option_copied, string_bytes};
+ghost use Rattle.std.specs.Prelude.{string_bytes};
 ghost use Rattle.sfv.specs.Types.{dictionary_field};
 ghost use Rattle.sfv.specs.Written.{IsSerialized};
 ghost use Rattle.sfv.specs.Errors.{out_of_memory};
 ghost use Rattle.sfv.specs.CheckedTexts.{text_of};
 ghost use Rattle.sfv.specs.Trees.{member_tree, dictionary_tree};
-ghost use Rattle.sfv_fields.specs.ContentDigests.{bytes_in, last_bytes, digest_bytes, digests_in, no_digests};
-ghost use Rattle.sfv_fields.specs.ContentDigests.{HasDigests, IsDigestError, ReturnsDigests, AreSameDigests};
+ghost use Rattle.sfv_fields.specs.ContentDigests.{digest_bytes, digests_in, no_digests, HasDigests, AreSameDigests};
 ghost use Rattle.sfv_fields.specs.ContentDigests.{bytes_member, digest_members};
-ghost use Rattle.sfv_fields.specs.DigestSteps.{GivesDigest, GivesDigests, entered};
+ghost use Rattle.sfv_fields.specs.DigestSteps.{entered};
 ghost use Rattle.sfv_fields.specs.declared.content_digest.DigestError.TheVariants as errors;
 
+mod reading;
+
+pub use reading::read;
 use sfv::{
-    BareItem, Dictionary, Error, FieldType, Item, KeyRef, ListEntry, OutOfMemory, Parser,
-    find_entry, insert_entry, key_ref,
+    BareItem, Dictionary, Error, FieldType, Item, KeyRef, ListEntry, OutOfMemory, insert_entry,
+    key_ref,
 };
-use std::alloc::{AllocError, Global};
+use std::alloc::Global;
 
 /// The digests of a content, for the two supported algorithms.
 #[derive(Debug, Drop)]
@@ -51,68 +53,6 @@ impl From<OutOfMemory> for DigestError {
     fn from(error: OutOfMemory) -> DigestError {
         DigestError::Field(Error::from(error))
     }
-}
-
-impl From<AllocError> for DigestError {
-    ghost from_gives = { λ _ result. result ≡ errors.Field out_of_memory };
-
-    fn from(error: AllocError) -> DigestError {
-        DigestError::Field(Error::from(error))
-    }
-}
-
-// Returns the bytes of a member, or `None` if it is not a byte sequence.
-fn bytes_of(member: &ListEntry) -> Option<&[u8]>
-    ensures { option_copied result ≡ bytes_in (member_tree member.now) }
-{
-    match member {
-        ListEntry::Item(item) => item.bare_item.as_byte_sequence(),
-        ListEntry::InnerList(_) => None,
-    }
-}
-
-// Copies the digest of an algorithm, if there is one.
-fn digest_of(
-    alloc: Global,
-    dictionary: &Dictionary,
-    algorithm: KeyRef<'_>,
-) -> Result<Option<Vec<u8>>, DigestError>
-    ensures { GivesDigest (last_bytes (text_of algorithm.entry) (dictionary_tree dictionary.now.entries)) result }
-{
-    let Some(member) = find_entry(dictionary, algorithm) else {
-        return Ok(None);
-    };
-    let Some(bytes) = bytes_of(member) else {
-        return Err(DigestError::WrongType);
-    };
-    let digest = bytes.to_vec(alloc)?;
-    Ok(Some(digest))
-}
-
-// Copies the digests of a dictionary.
-fn digests_of(alloc: Global, dictionary: &Dictionary) -> Result<ContentDigest, DigestError>
-    ensures { GivesDigests (dictionary_tree dictionary.now.entries) result }
-{
-    let sha_256 = digest_of(alloc, dictionary, key_ref("sha-256"))?;
-    let sha_512 = digest_of(alloc, dictionary, key_ref("sha-512"))?;
-    Ok(ContentDigest { sha_256, sha_512 })
-}
-
-/// Parses a Content-Digest field (RFC 9530, section 2). For a repeated algorithm, the last digest counts. Ignores
-/// parameters and other algorithms.
-///
-/// # Errors
-///
-/// Returns `Field` with the error of `Parser::parse` if the input is not a dictionary, or if memory runs out. Returns
-/// `WrongType` if it is a dictionary, but the last member of an algorithm is not a byte sequence.
-#[tactic(auto, using(crate::proofs::Digests::reading))]
-pub fn read(alloc: Global, input: &[u8]) -> Result<ContentDigest, DigestError>
-    ensures read { IfOk result (HasDigests input.now) }
-    ensures failed { IfErr result (IsDigestError input.now) }
-    ensures returned { ReturnsDigests input.now result }
-{
-    let dictionary = Parser::new(input).parse::<Dictionary>(alloc)?;
-    digests_of(alloc, &dictionary)
 }
 
 // Returns the member for a digest, without parameters.
@@ -173,10 +113,11 @@ pub fn write(alloc: Global, digest: &ContentDigest) -> Result<Option<String>, Ou
 ///
 /// # Errors
 ///
-/// Returns `Field` with the kind `OutOfMemory` if memory runs out. There is no other error.
+/// Returns `Field` with the kind `OutOfMemory` if memory runs out, which requires a digest. There is no other error.
 pub fn reread(alloc: Global, digest: &ContentDigest) -> Result<Option<ContentDigest>, DigestError>
     ensures same { IfOk result (AreSameDigests digest.now) }
     ensures failed { IfErr result (λ error. error ≡ errors.Field out_of_memory) }
+    ensures memory { OnErr result (digests_in digest.now ≢ no_digests) }
 {
     let Some(text) = write(alloc, digest)? else {
         return Ok(None);

@@ -1,16 +1,20 @@
 -- The text of an intermediary.
 use Rattle.std.specs.Prelude.{ℕ, List, [], ◌∷◌, Some, codes, pos}
-use Rattle.sfv_field.specs.Field.{Version, list_field, BareValue, integer, token, RawMember, item, canonical}
+use Rattle.sfv_field.specs.Field.{Version, list_field, BareValue, integer, token, RawItem, RawMember, item, canonical}
 use Rattle.sfv_field.specs.Field.{text_of as token_text}
 use Rattle.sfv.specs.TokenText.{TokenRef}
 use Rattle.sfv_proxy_status.specs.ProxyStatus.{ProxyValue, IsLastProxyOf, name_value}
 use Rattle.sfv_proxy_status.specs.declared.reading.Name.{Name}
 
-abbrev pub written_members : BareValue → List ℕ → ℕ → List RawMember
-written_members name error status = item (record {
+-- the item that is written
+abbrev pub written_item : BareValue → List ℕ → ℕ → RawItem
+written_item name error status = record {
   bare = name;
   parameters = (codes "error", token error) ∷ (codes "received-status", integer (pos status)) ∷ [];
-}) ∷ []
+}
+
+abbrev pub written_members : BareValue → List ℕ → ℕ → List RawMember
+written_members name error status = item (written_item name error status) ∷ []
 
 abbrev pub proxy_text : BareValue → List ℕ → ℕ → List ℕ
 proxy_text name error status = canonical list_field (written_members name error status)
@@ -24,6 +28,9 @@ IsReadAsProxy name error status =
     (version : Version) → IsLastProxyOf version (proxy_text name error status) (Some (written_proxy name error status))
 
 -- the same for Rust values
+abbrev pub item_of : Name → TokenRef → ℕ → RawItem
+item_of name error status = written_item (name_value name) (token_text error) status
+
 abbrev pub text_of : Name → TokenRef → ℕ → List ℕ
 text_of name error status = proxy_text (name_value name) (token_text error) status
 

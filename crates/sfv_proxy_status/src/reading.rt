@@ -1,7 +1,7 @@
 //! Parsing of the last member, without a list.
 
 ghost use Rattle.std.specs.Prelude.{◌≡◌, IfOk, IfErr, option_map, bytes_eq, codes, if◌then◌else◌};
-ghost use Rattle.sfv_field.specs.Field.{list_field, input_value, IsParseError, text_of};
+ghost use Rattle.sfv_field.specs.Field.{list_field, input_value, IsParseError, NeedsMark, text_of};
 ghost use Rattle.sfv_proxy_status.specs.ProxyStatus.{name_in, error_in, status_in, name_value, proxy_value};
 ghost use Rattle.sfv_proxy_status.specs.ProxyStatus.{last_proxy_of, IsLastProxyOf};
 
@@ -114,6 +114,8 @@ impl<'de> ListReader<'de> for LastProxy<'de> {
 
     ghost reads = { λ s members. option_map proxy_value s.found ≡ last_proxy_of members };
 
+    ghost may_fail = { ⊥ };
+
     fn item(item: BareItemFromInput<'de>) -> Member<'de> {
         Member {
             name: name_of(item),
@@ -158,7 +160,9 @@ impl<'de> ListReader<'de> for LastProxy<'de> {
 ///
 /// # Errors
 ///
-/// Returns the error of `Parser::parse` if the input is not a list, or if memory runs out.
+/// Returns the error of `Parser::parse` if the input is not a list, or if memory runs out. Memory runs out only if the
+/// input contains a backslash, a percent sign or a colon.
+#[tactic(auto, using(sfv_field::proofs::Memory::mark_needed_of_list))]
 pub fn last_proxy<'a>(
     alloc: Global,
     input: &'a [u8],
@@ -166,6 +170,7 @@ pub fn last_proxy<'a>(
 ) -> Result<Option<Proxy<'a>>, Error>
     ensures read { IfOk result (λ found. IsLastProxyOf version input.now (option_map proxy_value found)) }
     ensures rejected { IfErr result (IsParseError version list_field input.now) }
+    ensures memory { IfErr result (NeedsMark input.now) }
 {
     let read = read_list(alloc, input, version, LastProxy { found: None })?;
     Ok(read.found)

@@ -1,14 +1,18 @@
 //! Serialization of one member.
 
-ghost use Rattle.std.specs.Prelude.{◌≡◌, ◌≤◌, IfOk, OnOk};
-ghost use Rattle.sfv_field.specs.Field.{ref_value, described_list, AppendsOrKeeps, text_of as token_text};
+ghost use Rattle.std.specs.Prelude.{◌≡◌, ◌≤◌, OnOk};
+ghost use Rattle.sfv.specs.Canonical.{item_text};
+ghost use Rattle.sfv.specs.Values.{IsItem};
+ghost use Rattle.sfv.specs.Written.{Appends, AppendsOrKeeps, AsksForRoom};
+ghost use Rattle.sfv_field.specs.Field.{ref_value, text_of as token_text};
 ghost use Rattle.sfv_proxy_status.specs.ProxyStatus.{name_value};
-ghost use Rattle.sfv_proxy_status.specs.Writing.{written_members, text_of, IsReadAs};
+ghost use Rattle.sfv_proxy_status.specs.Writing.{written_item, text_of, IsReadAs};
 
 use crate::reading::Name;
-use sfv::script::{ItemCalls, MemberCalls, ParamCall, run_list};
-use sfv::{GenericBareItem, OutOfMemory, RefBareItem, TokenRef, key_ref};
-use std::alloc::Global;
+use sfv::{
+    GenericBareItem, ItemSerializer, OutOfMemory, RefBareItem, SerializeError, TokenRef, key_ref,
+};
+use sfv_writer::output::truncate_to;
 
 // Returns the bare item of a name.
 fn name_item<'a>(name: &'a Name<'_>) -> RefBareItem<'a>
@@ -20,49 +24,57 @@ fn name_item<'a>(name: &'a Name<'_>) -> RefBareItem<'a>
     }
 }
 
-// Returns the calls that write the member.
-fn calls_of<'a>(
-    alloc: Global,
-    name: &'a Name<'_>,
-    error: TokenRef<'a>,
+// Appends the member, whose text is that of an item. If memory runs out, the text can end with a part of it.
+fn append_item(
+    text: &mut String,
+    name: RefBareItem<'_>,
+    error: TokenRef<'_>,
     received_status: u16,
-) -> Result<Vec<MemberCalls<'a>>, OutOfMemory>
-    ensures { IfOk result (λ calls. described_list calls.items
-        ≡ written_members (name_value name.now) (token_text error.entry) received_status) }
+) -> Result<(), SerializeError>
+    ensures text { Appends text.old text.new
+        (item_text (written_item (ref_value name.entry) (token_text error.entry) received_status)) result }
+    ensures room { AsksForRoom text.old text.new
+        (item_text (written_item (ref_value name.entry) (token_text error.entry) received_status)) result }
+    ensures value { OnOk result
+        (IsItem (written_item (ref_value name.entry) (token_text error.entry) received_status)) }
 {
-    let mut params = Vec::new(alloc);
-    params.push(ParamCall {
-        key: key_ref("error"),
-        value: GenericBareItem::Token(error),
-    })?;
-    params.push(ParamCall {
-        key: key_ref("received-status"),
-        value: GenericBareItem::from(received_status),
-    })?;
-    let mut calls = Vec::new(alloc);
-    calls.push(MemberCalls::Item(ItemCalls {
-        value: name_item(name),
-        params,
-    }))?;
-    Ok(calls)
+    let params = ItemSerializer::with_buffer(text).bare_item(name)?;
+    let params = params.parameter(key_ref("error"), GenericBareItem::Token(error))?;
+    let status = GenericBareItem::from(received_status);
+    params
+        .parameter(key_ref("received-status"), status)?
+        .finish();
+    Ok(())
 }
 
 /// Appends a member to `text`. It parses back to the same intermediary under both versions.
 ///
+/// Allocates only for `text`.
+///
 /// # Errors
 ///
-/// Returns `OutOfMemory` if memory runs out. The text is then unchanged.
+/// Returns `OutOfMemory` if memory runs out, which happens only if `text` has no room for the member. `text` is then
+/// unchanged.
+#[tactic(auto, using(sfv_writer::proofs::Written::cut_to))]
 pub fn write_proxy(
     text: &mut String,
     name: &Name<'_>,
     error: TokenRef<'_>,
     received_status: u16,
-) -> Result<bool, OutOfMemory>
+) -> Result<(), OutOfMemory>
     requires least { 100 ≤ received_status }
     requires most { received_status ≤ 599 }
     ensures text { AppendsOrKeeps text.old text.new (text_of name.now error.entry received_status) result }
+    ensures room { AsksForRoom text.old text.new (text_of name.now error.entry received_status) result }
     ensures read_back { OnOk result (IsReadAs name.now error.entry received_status) }
 {
-    let calls = calls_of(*text.allocator(), name, error, received_status)?;
-    run_list(text, calls.as_slice())
+    let len = text.len();
+    match append_item(text, name_item(name), error, received_status) {
+        Ok(()) => Ok(()),
+        // RFC 9651 has every value, so memory ran out.
+        Err(_) => {
+            truncate_to(len, text);
+            Err(OutOfMemory)
+        }
+    }
 }

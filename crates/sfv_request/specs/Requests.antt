@@ -1,5 +1,5 @@
 -- A field of a request, from the bytes of its head. `httparse` defines a head (RFC 9112).
-use Rattle.std.specs.Prelude.{◌≡◌, ◌≢◌, ◌⊎◌, ℕ, List, Bool, Option, Some, None, map, filter, codes}
+use Rattle.std.specs.Prelude.{◌≡◌, ◌≢◌, ℕ, List, [], Bool, Option, Some, None, map, filter, codes}
 use Rattle.std.specs.Str.{str_eq_ignore_ascii_case}
 use Rattle.httparse.specs.Grammar.{Field, field_value, RequestHead, ReadsRequest, NeverHasRequest}
 use Rattle.httparse.specs.Spans.{RequestOverflows, RequestExceeds}
@@ -41,17 +41,18 @@ pub record IsHeadFault (room : ℕ) (input : List ℕ) (error : Error) : Type 0 
   pub invalid : error ≢ TooManyHeaders → NeverHasRequest input
   pub too_many : error ≡ TooManyHeaders → RequestExceeds room input
 
--- an error of the head, or out of memory
-abbrev pub IsFieldFault : ℕ → List ℕ → RequestFault → Type 0
-IsFieldFault room input (faults.Head error) = IsHeadFault room input error
-IsFieldFault room input (faults.Field error) = error ≡ out_of_memory
+-- an error of the head; or out of memory, for a field whose text is not empty
+abbrev pub IsFieldFault : List ℕ → ℕ → List ℕ → RequestFault → Type 0
+IsFieldFault name room input (faults.Head error) = IsHeadFault room input error
+IsFieldFault name room input (faults.Field error) =
+    (error ≡ out_of_memory) × (text : List ℕ) × IsRequestField name input text × (text ≢ [])
 
--- an error of the head, an error of the field, or out of memory
+-- an error of the head; or an error of the field, which is out of memory only if its text is not empty
 abbrev pub IsRequestFault : Version → ℕ → List ℕ → RequestFault → Type 0
 IsRequestFault version room input (faults.Head error) = IsHeadFault room input error
 IsRequestFault version room input (faults.Field error) =
-    (error ≡ out_of_memory) ⊎ ((text : List ℕ) × IsRequestField (codes "priority") input text
-    × IsParseError version dictionary_field text error)
+    (text : List ℕ) × IsRequestField (codes "priority") input text
+    × IsParseError version dictionary_field text error × (error ≡ out_of_memory → text ≢ [])
 
 -- the printed text of an error; for an error of the head it is not stated
 abbrev pub printed : RequestFault → Option (List ℕ)

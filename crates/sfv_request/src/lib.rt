@@ -30,7 +30,7 @@ use std::alloc::Global;
 /// # Errors
 ///
 /// Returns `Head` if the input does not begin with the head of a request, or if the head has more fields than
-/// `headers`. Returns `Field` if memory runs out.
+/// `headers`. Returns `Field` if memory runs out, which requires a text that is not empty.
 pub fn request_field(
     alloc: Global,
     name: &str,
@@ -40,7 +40,7 @@ pub fn request_field(
     ensures text { IfComplete result (λ text. IsRequestField name.now input.now text.items) }
     ensures partial { OnPartial result (HasNoRequest input.now) }
     ensures unfinished { OnPartial result (MayBecomeRequest input.now) }
-    ensures failed { IfErr result (IsFieldFault (length headers.old) input.now) }
+    ensures failed { IfErr result (IsFieldFault name.now (length headers.old) input.now) }
 {
     match parse_request(input, headers)? {
         Status::Complete(head) => {
@@ -57,7 +57,7 @@ pub fn request_field(
 /// # Errors
 ///
 /// Returns the errors of `request_field`, and `Field` with the error of `Parser::parse` if the joined lines are not a
-/// dictionary.
+/// dictionary. Memory runs out only if they are not empty.
 pub fn request_priority(
     alloc: Global,
     version: Version,

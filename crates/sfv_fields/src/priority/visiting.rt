@@ -1,7 +1,7 @@
 //! Parsing of the Priority field without a map.
 
 ghost use Rattle.std.specs.Prelude.{◌≡◌, IfOk, IfErr};
-ghost use Rattle.sfv_field.specs.Field.{dictionary_field, IsParseError};
+ghost use Rattle.sfv_field.specs.Field.{dictionary_field, IsParseError, NeedsMark};
 ghost use Rattle.sfv_fields.specs.Priority.{value_of, priority, IsPriorityOf};
 
 use crate::priority::value::Priority;
@@ -63,11 +63,13 @@ impl<'de> DictionaryReader<'de> for Priority {
 ///
 /// # Errors
 ///
-/// Returns the error of `Parser::parse` if the input is not a dictionary, or if memory runs out.
-#[tactic(auto, unfolding(sfv_field::specs::Field::last_of))]
+/// Returns the error of `Parser::parse` if the input is not a dictionary, or if memory runs out. Memory runs out only if
+/// the input contains a backslash, a percent sign or a colon.
+#[tactic(auto, using(sfv_field::proofs::Memory::marks_needed), unfolding(sfv_field::specs::Field::last_of))]
 pub fn read_priority(alloc: Global, input: &[u8], version: Version) -> Result<Priority, Error>
     ensures read { IfOk result (λ found. IsPriorityOf version input.now (value_of found)) }
     ensures rejected { IfErr result (IsParseError version dictionary_field input.now) }
+    ensures memory { IfErr result (NeedsMark input.now) }
 {
     read_dictionary(alloc, input, version, Priority::default())
 }

@@ -22,3 +22,6 @@ returns-clause-accepted g c =
     answered c.args.reading c.args.writing g.T.FieldType.kind c.args.input.now (g.T.FieldType.tree c.in_ok-value.value) c.into.result _
     c.in_ok-value.ensures.read c.in_ok-text.ensures.unsupported
     (serialized_line c.args.writing g.T.FieldType.kind _ c.into.result text) c.in_ok-line.ensures.line
+
+pub returns-clause-seed : goal.returns-clause-seed
+returns-clause-seed g c = (c.in_ok-value.value, c.in_ok-value.ensures.seed, c.in_ok-value.ensures.read)
