@@ -1,25 +1,42 @@
 //! The capacity of parsed and built lists, inner lists, dictionaries and parameters.
 
-use crate::common::repeated;
-use sfv::visitor::{DictionaryBuilder, ListBuilder};
+use crate::common::{counted, repeated};
+use sfv::visitor::{DictionaryBuilder, ItemBuilder, ListBuilder};
 use sfv::{Dictionary, Item, List, ListEntry, Parameters, Parser};
 use std::alloc::Global;
 use std::fmt::Write;
 use std::test::Fail;
 
-/// Returns `true` if at most half of the memory for elements is unused, or if it is for `least` elements.
-fn is_tight(capacity: usize, len: usize, least: usize) -> bool {
-    capacity <= least || capacity.div_ceil(2) <= len
+/// The capacities that a vector takes while elements are appended one by one, and those of a map.
+const VECTOR: &[usize] = &[
+    0, 4, 8, 16, 32, 64, 128, 256, 512, 1_024, 2_048, 4_096, 8_192, 16_384,
+];
+
+const MAP: &[usize] = &[
+    0, 9, 18, 36, 72, 144, 288, 576, 1_152, 2_304, 4_608, 9_216, 18_432,
+];
+
+/// Returns `true` if the capacity is the least of these that holds so many elements.
+fn is_least(capacity: usize, len: usize, capacities: &[usize]) -> bool {
+    for &least in capacities {
+        if len <= least {
+            return capacity == least;
+        }
+    }
+    false
 }
 
 /// Returns `true` if parameters have no unused memory after 4,000 other members and items, and keep it before.
 fn is_fit(params: &Parameters, place: usize) -> bool {
-    (params.capacity() == params.len()) == (place >= 4_000)
+    if place >= 4_000 {
+        return params.capacity() == params.len();
+    }
+    is_least(params.capacity(), params.len(), MAP)
 }
 
 // `count` members come before the inner list.
 fn are_items_fit(items: &Vec<Item>, count: usize) -> bool {
-    let mut holds = is_tight(items.capacity(), items.len(), 4);
+    let mut holds = is_least(items.capacity(), items.len(), VECTOR);
     for (place, item) in items.iter().enumerate() {
         holds &= is_fit(&item.params, count.saturating_add(place));
     }
@@ -35,7 +52,7 @@ fn is_member_fit(member: &ListEntry, place: usize) -> bool {
 }
 
 fn is_list_fit(list: &List, count: usize) -> bool {
-    let mut holds = list.len() == count && is_tight(list.capacity(), count, 4);
+    let mut holds = list.len() == count && is_least(list.capacity(), count, VECTOR);
     for (place, member) in list.iter().enumerate() {
         holds &= is_member_fit(member, place);
     }
@@ -43,11 +60,31 @@ fn is_list_fit(list: &List, count: usize) -> bool {
 }
 
 fn is_dictionary_fit(dictionary: &Dictionary, count: usize) -> bool {
-    let mut holds = dictionary.len() == count && is_tight(dictionary.capacity(), count, 9);
+    let mut holds = dictionary.len() == count && is_least(dictionary.capacity(), count, MAP);
     for (place, (_, member)) in dictionary.iter().enumerate() {
         holds &= is_member_fit(member, place);
     }
     holds
+}
+
+/// Returns `true` if `parse` and the builder both make an item with this many parameters, with the right capacities,
+/// and that a clone has no more.
+fn is_item_fit(alloc: Global, input: &str, count: usize) -> bool {
+    let parser = Parser::new(input.as_bytes());
+    let builder = ItemBuilder::new(alloc, parser.hash_seed());
+    let Ok(built) = parser.parse_item_with_visitor(alloc, builder) else {
+        return false;
+    };
+    let Ok(parsed) = parser.parse::<Item>(alloc) else {
+        return false;
+    };
+    let Ok(copy) = parsed.clone() else {
+        return false;
+    };
+    parsed.params.len() == count
+        && is_fit(&parsed.params, 0)
+        && is_fit(&built.params, 0)
+        && copy.params.capacity() <= parsed.params.capacity()
 }
 
 /// Returns `true` if `parse` and the builder both make a list of this many members, with the right capacities.
@@ -120,6 +157,41 @@ fn dictionaries_have_little_unused_memory(rt: HostRuntime) -> Result<(), Fail> {
         holds &= are_dictionaries_fit(alloc, lists.as_str(), count);
         let inner = repeated(alloc, "k=(a;b;c", " a;b", count - 1, ");b;c")?;
         holds &= are_dictionaries_fit(alloc, inner.as_str(), 1);
+    }
+    assert!(rt; holds);
+    Ok(())
+}
+
+// Without parameters, with one and with many, in a list, an inner list and a dictionary of up to 4,003 members.
+#[test]
+fn parameters_have_little_unused_memory(rt: HostRuntime) -> Result<(), Fail> {
+    let alloc = rt.alloc();
+    let many = counted(alloc, "", ";k", "", "", 73)?;
+    let end = format!(in alloc; ", (){many}, (a{many} b){many}, a{many}")?;
+    let mut holds = true;
+    for &count in &[1, 3_997, 3_998, 3_999, 4_000, 4_001] {
+        let list = repeated(alloc, "a", ", ()", count - 1, end.as_str())?;
+        holds &= are_lists_fit(alloc, list.as_str(), count + 3);
+        let inner = format!(in alloc; " a{many} b{many} c;d){many}")?;
+        let inner = repeated(alloc, "(a", " a", count - 1, inner.as_str())?;
+        holds &= are_lists_fit(alloc, inner.as_str(), 1);
+        let mut entries = members(alloc, "", count)?;
+        entries.push_str(", l=()")?;
+        entries.push_str(many.as_str())?;
+        entries.push_str(", m=(a;b c);d, n;e")?;
+        holds &= are_dictionaries_fit(alloc, entries.as_str(), count + 3);
+    }
+    assert!(rt; holds);
+    Ok(())
+}
+
+#[test]
+fn items_have_little_unused_memory(rt: HostRuntime) -> Result<(), Fail> {
+    let alloc = rt.alloc();
+    let mut holds = true;
+    for &count in &[0, 1, 9, 10, 18, 19, 36, 37, 1_000, 4_001] {
+        let item = counted(alloc, "a", ";k", "", "", count)?;
+        holds &= is_item_fit(alloc, item.as_str(), count);
     }
     assert!(rt; holds);
     Ok(())

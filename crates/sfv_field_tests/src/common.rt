@@ -2,6 +2,8 @@
 
 use sfv::{Date, Dictionary, FieldType, Integer, Item, List, Parser, RefBareItem, token_ref};
 use std::alloc::{AllocError, Global};
+use std::fmt::Write;
+use std::test::Fail;
 
 /// Returns `true` if the text is `wanted`.
 pub fn is_text(text: &str, wanted: &str) -> bool {
@@ -42,6 +44,26 @@ pub fn repeated(
     let mut all = String::from_str(alloc, front)?;
     for _ in 0..times {
         all.push_str(text)?;
+    }
+    all.push_str(end)?;
+    Ok(all)
+}
+
+/// Returns this many numbered parts, each after `front`, with a separator between neighbours.
+pub fn counted(
+    alloc: Global,
+    begin: &str,
+    front: &str,
+    separator: &str,
+    end: &str,
+    count: usize,
+) -> Result<String, Fail> {
+    let mut all = String::from_str(alloc, begin)?;
+    for number in 0..count {
+        if number > 0 {
+            all.push_str(separator)?;
+        }
+        write!(all, "{front}{number}")?;
     }
     all.push_str(end)?;
     Ok(all)

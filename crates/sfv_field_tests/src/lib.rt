@@ -7,6 +7,8 @@ mod capacity;
 #[cfg(test)]
 mod common;
 #[cfg(test)]
+mod kept;
+#[cfg(test)]
 mod long;
 #[cfg(test)]
 mod memory;

@@ -1,35 +1,14 @@
 //! Long fields, and long texts in the buffer of a serializer.
 
-use crate::common::{gives, has_text, is_text, repeated};
+use crate::common::{counted, gives, has_text, is_text, repeated};
 use sfv::visitor::ListBuilder;
 use sfv::{BareItem, FieldType, Item, List, ListEntry, ListSerializer, Parser, RefBareItem};
 use std::alloc::Global;
-use std::fmt::Write;
 use std::test::Fail;
 
 /// Returns `true` if the input is the canonical text of its item, list or dictionary.
 fn gives_itself(alloc: Global, field: &str, input: &str) -> bool {
     gives(alloc, field, input, input)
-}
-
-/// Returns this many numbered parts, each after `front`, with a separator between neighbours.
-fn counted(
-    alloc: Global,
-    begin: &str,
-    front: &str,
-    separator: &str,
-    end: &str,
-    count: u32,
-) -> Result<String, Fail> {
-    let mut all = String::from_str(alloc, begin)?;
-    for number in 0..count {
-        if number > 0 {
-            all.push_str(separator)?;
-        }
-        write!(all, "{front}{number}")?;
-    }
-    all.push_str(end)?;
-    Ok(all)
 }
 
 // 33,333 times `a\"`, and then `a`, between quotes: 100,002 bytes.

@@ -71,7 +71,7 @@ const PLACES: &[(&str, &str)] = &[
 const KEYS: &[(&str, &str)] = &[("item", "1;$"), ("list", "();$=?0"), ("dict", "$;$=2")];
 
 /// Returns the text of a field with this text in the place of each `$`.
-fn filled(alloc: Global, place: &str, text: &str) -> Result<String, Fail> {
+pub fn filled(alloc: Global, place: &str, text: &str) -> Result<String, Fail> {
     let mut all = String::new(alloc);
     for (number, part) in place.split('$').enumerate() {
         if number > 0 {
@@ -152,7 +152,7 @@ fn param_calls(alloc: Global, params: &Parameters) -> Option<Vec<ParamCall<'_>>>
 }
 
 /// Returns the calls that write an item.
-fn item_calls(alloc: Global, item: &Item) -> Option<ItemCalls<'_>> {
+pub fn item_calls(alloc: Global, item: &Item) -> Option<ItemCalls<'_>> {
     Some(ItemCalls {
         value: item.bare_item.as_ref_item(),
         params: param_calls(alloc, &item.params)?,
@@ -160,7 +160,7 @@ fn item_calls(alloc: Global, item: &Item) -> Option<ItemCalls<'_>> {
 }
 
 /// Returns the calls that write a member.
-fn member_calls(alloc: Global, member: &ListEntry) -> Option<MemberCalls<'_>> {
+pub fn member_calls(alloc: Global, member: &ListEntry) -> Option<MemberCalls<'_>> {
     match member {
         ListEntry::Item(item) => Some(MemberCalls::Item(item_calls(alloc, item)?)),
         ListEntry::InnerList(list) => {

@@ -11,7 +11,7 @@ use Rattle.sfv_text.specs.CheckedTexts.{text_of}
 use Rattle.sfv_text.specs.StringText.{StringRef}
 use Rattle.sfv_text.specs.TokenText.{TokenRef}
 use Rattle.sfv_tree.specs.Trees.{OwnedBareItem}
-use Rattle.sfv_writer.specs.Versions.{PartKind, parts_text, TakesAll, StopsEarly, parameter_pairs}
+use Rattle.sfv_writer.specs.Versions.{OnUnsupported, PartKind, parts_text, TakesAll, StopsEarly, parameter_pairs}
 use Rattle.sfv_writer.specs.Written.{Extends, IsTruncatedTo, LacksRoom, separator_before, is_first_after}
 use Rattle.sfv_writer.specs.declared.serialize_error.SerializeError.{SerializeError}
 use Rattle.sfv_serializer.specs.declared.item_serializer.ItemSerializer.{ItemSerializer}
@@ -42,6 +42,13 @@ abbrev pub TextAfterErr : {E : Type 0} → MutBor Text → Result (ParameterSeri
 TextAfterErr lent result =
     RestsIfErr text_row lent (λ p. (params_sink p).ghost_name) result
     (λ last. (string_bytes last ≡ string_bytes lent.now) × (string_capacity lent.now ≤ string_capacity last))
+
+-- The same for a call that writes one value. After `Unsupported`, the capacity is unchanged, too.
+abbrev pub TextAfterOneErr : MutBor Text → Result (ParameterSerializer Text) SerializeError → Fml
+TextAfterOneErr lent result =
+    RestsIfErr text_row lent (λ p. (params_sink p).ghost_name) result
+    (λ last. (string_bytes last ≡ string_bytes lent.now) × (string_capacity lent.now ≤ string_capacity last)
+    × OnUnsupported result (last ≡ lent.now))
 
 -- this text is appended to the borrowed text, which has no less room, and which `p` writes to
 abbrev pub ContinuesText : MutBor Text → List ℕ → ParameterSerializer Text → Type 0
@@ -106,6 +113,10 @@ module _ {W : Type 0} (w : Sink W) where
   -- nothing changes, but there may be more room
   abbrev pub KeepsSequence : {K : Type 0} → Parts W K → Parts W K → Type 0
   KeepsSequence s t = Becomes (string_bytes (w.text t.sink) ≡ string_bytes (w.text s.sink)) s.is_first s t
+
+  -- the same after an error of a call that writes one value; after `Unsupported`, the capacity is unchanged, too
+  abbrev pub KeepsAfterOne : {K T : Type 0} → Result T SerializeError → Parts W K → Parts W K → Type 0
+  KeepsAfterOne result s t = KeepsSequence s t × OnUnsupported result (t ≡ s)
 
   -- this text is appended, and `is_first` says whether no part is written then
   abbrev pub HasAppended : {K : Type 0} → Parts W K → Parts W K → List ℕ → Bool → Type 0

@@ -8,7 +8,7 @@ ghost use Rattle.sfv_spec.specs.Values.{IsBareValue};
 ghost use Rattle.sfv_bare.specs.BareItems.{ref_value};
 ghost use Rattle.sfv_text.specs.CheckedTexts.{text_of};
 ghost use Rattle.sfv_writer.specs.Versions.{OnOutOfMemory, ChecksVersionFirst, dictionary_members};
-ghost use Rattle.sfv_serializer.specs.Serializers.{KeepsSequence};
+ghost use Rattle.sfv_serializer.specs.Serializers.{KeepsSequence, KeepsAfterOne};
 ghost use Rattle.sfv_serializer.specs.Serializers.{sequence_version, params_sink, params_version};
 ghost use Rattle.sfv_serializer.specs.Serializers.{sequence_sink};
 ghost use Rattle.sfv_serializer.specs.Serializers.{WritesAll, FailsToWrite, AfterErrInner, AfterErr, HasAppendedItem, HasAppendedOpening, BeginsAfter, LacksNext, keyed};
@@ -50,7 +50,7 @@ impl<W: Sink> SequenceSerializer<W, DictMembers> {
         name: KeyRef<'_>,
         value: RefBareItem<'_>,
     ) -> Result<ParameterSerializer<'_, DictSerializer<W>>, SerializeError>
-        ensures* kept { sem 𝓛 (AfterErr W.row dict_row (KeepsSequence W.Sink) self.entry result) }
+        ensures* kept { sem 𝓛 (AfterErr W.row dict_row (KeepsAfterOne W.Sink result) self.entry result) }
         ensures lent { IfOk result (λ p. (params_sink p).ghost_name ≡ self.entry.ghost_name) }
         ensures version { IfOk result (λ p. params_version p ≡ sequence_version self.old) }
         ensures unsupported { ChecksVersionFirst (sequence_version self.old) (ref_value value.entry ∷ []) result }

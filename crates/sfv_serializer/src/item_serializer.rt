@@ -8,7 +8,7 @@ ghost use Rattle.sfv_spec.specs.Canonical.{bare_text};
 ghost use Rattle.sfv_bare.specs.BareItems.{ref_value};
 ghost use Rattle.sfv_writer.specs.Written.{LacksRoom};
 ghost use Rattle.sfv_writer.specs.Versions.{OnOutOfMemory, ChecksVersionFirst};
-ghost use Rattle.sfv_serializer.specs.Serializers.{TextAfterErr, ContinuesText, item_buffer, params_sink, item_version, params_version};
+ghost use Rattle.sfv_serializer.specs.Serializers.{TextAfterOneErr, ContinuesText, item_buffer, params_sink, item_version, params_version};
 
 use crate::fragment::{BareItemFragment, append};
 use crate::parameter_serializer::ParameterSerializer;
@@ -64,7 +64,7 @@ impl<'a> ItemSerializer<'a> {
         self,
         bare_item: RefBareItem<'_>,
     ) -> Result<ParameterSerializer<'a, StdString>, SerializeError>
-        ensures* kept { sem 𝓛 (TextAfterErr (item_buffer self.entry) result) }
+        ensures* kept { sem 𝓛 (TextAfterOneErr (item_buffer self.entry) result) }
         ensures lent { IfOk result (λ p. (params_sink p).ghost_name ≡ (item_buffer self.entry).ghost_name) }
         ensures version { IfOk result (λ p. params_version p ≡ item_version self.entry) }
         ensures unsupported { ChecksVersionFirst (item_version self.entry) (ref_value bare_item.entry ∷ []) result }

@@ -9,9 +9,9 @@ ghost use Rattle.sfv_bare.specs.BareItems.{ref_value};
 ghost use Rattle.sfv_text.specs.CheckedTexts.{text_of};
 ghost use Rattle.sfv_writer.specs.Written.{LacksRoom};
 ghost use Rattle.sfv_writer.specs.Versions.{OnOutOfMemory, ChecksVersionFirst};
-ghost use Rattle.sfv_serializer.specs.Serializers.{TextAfterErr, ContinuesText, params_sink, params_version};
+ghost use Rattle.sfv_serializer.specs.Serializers.{TextAfterErr, TextAfterOneErr, ContinuesText, params_sink, params_version};
 ghost use Rattle.sfv_serializer.specs.Serializers.{WritesParameters, FailsToWriteParameters, AfterErr, Continues, params_text, param};
-ghost use Rattle.sfv_serializer.specs.Serializers.{KeepsSequence};
+ghost use Rattle.sfv_serializer.specs.Serializers.{KeepsSequence, KeepsAfterOne};
 
 use crate::fragment::{KeyValue, Parameter, append};
 use crate::sequence::SequenceSerializer;
@@ -72,7 +72,7 @@ impl<'s> ParameterSerializer<'s, StdString> {
         name: KeyRef<'_>,
         value: RefBareItem<'_>,
     ) -> Result<ParameterSerializer<'s, StdString>, SerializeError>
-        ensures* kept { sem 𝓛 (TextAfterErr (params_sink self.entry) result) }
+        ensures* kept { sem 𝓛 (TextAfterOneErr (params_sink self.entry) result) }
         ensures lent { IfOk result (λ p. (params_sink p).ghost_name ≡ (params_sink self.entry).ghost_name) }
         ensures version { IfOk result (λ p. params_version p ≡ params_version self.entry) }
         ensures text { IfOk result (ContinuesText (params_sink self.entry) (param name.entry value.entry)) }
@@ -128,7 +128,7 @@ impl<'s, W: Sink, K> ParameterSerializer<'s, SequenceSerializer<W, K>> {
         name: KeyRef<'_>,
         value: RefBareItem<'_>,
     ) -> Result<ParameterSerializer<'s, SequenceSerializer<W, K>>, SerializeError>
-        ensures* kept { sem 𝓛 (AfterErr W.row K.row (KeepsSequence W.Sink) (params_sink self.entry) result) }
+        ensures* kept { sem 𝓛 (AfterErr W.row K.row (KeepsAfterOne W.Sink result) (params_sink self.entry) result) }
         ensures lent { IfOk result (λ p. (params_sink p).ghost_name ≡ (params_sink self.entry).ghost_name) }
         ensures version { IfOk result (λ p. params_version p ≡ params_version self.entry) }
         ensures text { IfOk result (Continues W.Sink (params_sink self.entry) (param name.entry value.entry)) }

@@ -19,7 +19,7 @@ ghost use Rattle.sfv_serializer.specs.ScriptSteps.{added_text_of_pair, ended_tex
 ghost use Rattle.sfv_spec.specs.Canonical.{canonical, item_text, dictionary_member_text};
 ghost use Rattle.sfv_text.specs.CheckedTexts.{text_of};
 ghost use Rattle.sfv_writer.specs.Written.{Appends, AppendsOrKeeps, AsksForRoom, LacksRoom, IsReadBack, separator_before, with_separators, is_first_after};
-ghost use Rattle.sfv_writer.specs.Versions.{OnOutOfMemory, ChecksVersionFirst};
+ghost use Rattle.sfv_writer.specs.Versions.{OnOutOfMemory, OnUnsupported, ChecksVersionFirst};
 ghost use Rattle.sfv_writer.specs.declared.serialize_error.SerializeError.TheVariants as errors;
 ghost use Rattle.sfv_serializer.specs.Serializers.{lent_sequence, HasAppended, HasAppendedNext, GrowsSequence, sequence_sink, is_empty_so_far};
 ghost use Rattle.sfv_serializer.specs.Serializers.{sequence_version, sequence_sink};
@@ -431,6 +431,7 @@ pub fn run_item_for(
     ensures stays { string_capacity text.old ≤ string_capacity text.new }
     ensures value { OnOk result (IsFieldValue item_field (item_of_calls calls.now)) }
     ensures unsupported { ChecksVersionFirst version (bare_values item_field (item_of_calls calls.now)) result }
+    ensures untouched { OnUnsupported result (text.new ≡ text.old) }
     ensures read_back { OnOk result (IsReadBack version item_field (item_of_calls calls.now)) }
 {
     check_item_calls(version, calls)?;
@@ -458,6 +459,7 @@ pub fn run_list_for(
     ensures has_member { IfOk result (λ any. IsTrue any ↔ HasMember list_field (described_list calls.now)) }
     ensures value { OnOk result (IsFieldValue list_field (described_list calls.now)) }
     ensures unsupported { ChecksVersionFirst version (bare_values list_field (map member_of_calls calls.now)) result }
+    ensures untouched { OnUnsupported result (text.new ≡ text.old) }
     ensures read_back { OnOk result (IsReadBack version list_field (described_list calls.now)) }
     ensures some { OnErr result (0 < length calls.now) }
 {
@@ -488,6 +490,7 @@ pub fn run_dict_for(
         ↔ HasMember dictionary_field (described_dictionary calls.now)) }
     ensures value { OnOk result (IsFieldValue dictionary_field (described_dictionary calls.now)) }
     ensures unsupported { ChecksVersionFirst version (bare_values dictionary_field (map entry_of_calls calls.now)) result }
+    ensures untouched { OnUnsupported result (text.new ≡ text.old) }
     ensures read_back { OnOk result (IsReadBack version dictionary_field (described_dictionary calls.now)) }
     ensures some { OnErr result (0 < length calls.now) }
 {

@@ -11,7 +11,7 @@ ghost use Rattle.sfv_spec.specs.declared.version.Version.TheVariants.{Rfc9651};
 ghost use Rattle.sfv_spec.specs.Canonical.{bare_text};
 ghost use Rattle.sfv_bare.specs.BareItems.{ref_value};
 ghost use Rattle.sfv_writer.specs.Versions.{OnOutOfMemory, ChecksVersionFirst};
-ghost use Rattle.sfv_serializer.specs.Serializers.{IsSameSequence, KeepsSequence, HasAppendedNext, sequence_sink};
+ghost use Rattle.sfv_serializer.specs.Serializers.{IsSameSequence, KeepsSequence, KeepsAfterOne, HasAppendedNext, sequence_sink};
 ghost use Rattle.sfv_serializer.specs.Serializers.{sequence_version, is_empty_so_far, params_sink, params_version};
 ghost use Rattle.sfv_serializer.specs.Serializers.{WritesAll, FailsToWrite, AfterErrInner, AfterErr, HasAppendedItem, HasAppendedOpening, BeginsAfter, LacksNext};
 ghost use Rattle.sfv_serializer.specs.Serializers.{sequence_sink};
@@ -186,7 +186,7 @@ impl<W: Sink, K: Keyless> SequenceSerializer<W, K> {
         &mut self,
         bare_item: RefBareItem<'_>,
     ) -> Result<ParameterSerializer<'_, SequenceSerializer<W, K>>, SerializeError>
-        ensures* kept { sem 𝓛 (AfterErr W.row K.row (KeepsSequence W.Sink) self.entry result) }
+        ensures* kept { sem 𝓛 (AfterErr W.row K.row (KeepsAfterOne W.Sink result) self.entry result) }
         ensures lent { IfOk result (λ p. (params_sink p).ghost_name ≡ self.entry.ghost_name) }
         ensures version { IfOk result (λ p. params_version p ≡ sequence_version self.old) }
         ensures unsupported { ChecksVersionFirst (sequence_version self.old) (ref_value bare_item.entry ∷ []) result }

@@ -13,6 +13,7 @@ use Rattle.sfv_spec.specs.declared.version.Version.{Version}
 use Rattle.sfv_spec.specs.Values.{fits_bare, AllFit}
 use Rattle.sfv_bare.specs.BareItems.{bare_value}
 use Rattle.sfv_bare.specs.Kinds.{kind_text, kind_of_value}
+use Rattle.sfv_bare.specs.declared.bare.BareItemType.{BareItemType}
 use Rattle.sfv_tree.specs.Trees.{OwnedBareItem, item_tree, member_tree}
 use Rattle.sfv_tree.specs.declared.parsed.Item.{Item}
 use Rattle.sfv_tree.specs.declared.parsed.ListEntry.{ListEntry}
@@ -47,6 +48,10 @@ ChecksVersionFirst version values result =
 -- if memory runs out, this holds
 abbrev pub OnOutOfMemory : {T : Type 0} → Result T SerializeError → Type 0 → Type 0
 OnOutOfMemory result P = MatchResult result (λ _. ⊤) (λ e. e ≡ errors.OutOfMemory → P)
+
+-- if the version lacks a value, this holds
+abbrev pub OnUnsupported : {T : Type 0} → Result T SerializeError → Type 0 → Type 0
+OnUnsupported result P = MatchResult result (λ _. ⊤) (λ e. (kind : BareItemType) → e ≡ errors.Unsupported kind → P)
 
 -- The error of a call that checks each element of an iterator before it allocates. The iterator yielded at least one
 -- element, and the error is for the elements so far. The iterator is not called again.

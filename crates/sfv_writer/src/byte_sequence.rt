@@ -100,11 +100,11 @@ pub(crate) fn serialize_byte_sequence<A: Allocator>(
     value: &[u8],
     output: &mut String<A>,
 ) -> Result<(), OutOfMemory>
-    ensures text { Appends output.old output.new (bare_text (byte_sequence value.now)) result }
+    ensures text { AppendsOrKeeps output.old output.new (bare_text (byte_sequence value.now)) result }
     ensures room { AsksForRoom output.old output.new (bare_text (byte_sequence value.now)) result }
     ensures bytes { RunOf is_byte value.now }
 {
-    // Room for the whole text at once: otherwise, a small buffer would grow several times.
+    // Room for the whole text at once: otherwise, a small buffer would grow several times. No later call fails.
     output.reserve(value.len().div_ceil(3) * 4 + 2)?;
     output.push(':')?;
     serialize_base64(value, output)?;

@@ -4,8 +4,9 @@ ghost use Rattle.std.specs.Prelude.{◌≡◌, ◌<◌, true};
 ghost use Rattle.sfv_spec.specs.Values.{display_string};
 ghost use Rattle.sfv_spec.specs.Canonical.{bare_text};
 ghost use Rattle.std.specs.Char.{digit_char};
-ghost use Rattle.sfv_writer.specs.Written.{AsksForRoom, Appends};
+ghost use Rattle.sfv_writer.specs.Written.{AsksForRoom, Appends, AppendsOrKeeps};
 
+use crate::output::truncate_to;
 use crate::quoted::{Escaping, serialize_inside};
 use sfv_base::error::OutOfMemory;
 use sfv_base::runs::{PlainInDisplayString, RunClass, split_run, split_whole_run};
@@ -53,17 +54,32 @@ impl Escaping for DisplayEscaping {
     }
 }
 
-#[inline(never)]
+/// Appends a display string: its inside between the opening and the quote.
+#[inline(always)]
 #[tactic(auto, using(sfv_bare::proofs::Bytes::run_of_bytes))]
-pub(crate) fn serialize_display_string<A: Allocator>(
-    value: &str,
-    output: &mut String<A>,
-) -> Result<(), OutOfMemory>
+fn serialize_quoted<A: Allocator>(value: &str, output: &mut String<A>) -> Result<(), OutOfMemory>
     ensures text { Appends output.old output.new (bare_text (display_string value.now)) result }
     ensures room { AsksForRoom output.old output.new (bare_text (display_string value.now)) result }
 {
     output.push_str("%\"")?;
     serialize_inside::<DisplayEscaping, A>(value.as_bytes(), output)?;
     output.push('"')?;
+    Ok(())
+}
+
+#[inline(never)]
+#[tactic(auto, using(crate::proofs::Written::cut_to))]
+pub(crate) fn serialize_display_string<A: Allocator>(
+    value: &str,
+    output: &mut String<A>,
+) -> Result<(), OutOfMemory>
+    ensures text { AppendsOrKeeps output.old output.new (bare_text (display_string value.now)) result }
+    ensures room { AsksForRoom output.old output.new (bare_text (display_string value.now)) result }
+{
+    let len = output.len();
+    if let Err(error) = serialize_quoted(value, output) {
+        truncate_to(len, output);
+        return Err(error);
+    }
     Ok(())
 }

@@ -42,12 +42,12 @@ use std::string::String as StdString;
 ///
 /// # Errors
 ///
-/// Returns `OutOfMemory` if memory runs out. The old text is then still a prefix of `output`.
+/// Returns `OutOfMemory` if memory runs out. `output` is then unchanged.
 pub fn serialize_key<A: Allocator>(
     key: KeyRef<'_>,
     output: &mut StdString<A>,
 ) -> Result<(), OutOfMemory>
-    ensures text { Appends output.old output.new (text_of key.entry) result }
+    ensures text { AppendsOrKeeps output.old output.new (text_of key.entry) result }
     ensures room { AsksForRoom output.old output.new (text_of key.entry) result }
     ensures key { IsTrue (is_key (text_of key.entry)) }
 {
@@ -59,13 +59,13 @@ pub fn serialize_key<A: Allocator>(
 ///
 /// # Errors
 ///
-/// Returns `OutOfMemory` if memory runs out. The old text is then still a prefix of `output`.
+/// Returns `OutOfMemory` if memory runs out. `output` is then unchanged.
 #[inline(always)]
 pub fn serialize_token<A: Allocator>(
     value: TokenRef<'_>,
     output: &mut StdString<A>,
 ) -> Result<(), OutOfMemory>
-    ensures text { Appends output.old output.new (text_of value.entry) result }
+    ensures text { AppendsOrKeeps output.old output.new (text_of value.entry) result }
     ensures room { AsksForRoom output.old output.new (text_of value.entry) result }
     ensures token { IsTrue (is_token (text_of value.entry)) }
 {
@@ -75,7 +75,7 @@ pub fn serialize_token<A: Allocator>(
 
 #[inline(never)]
 fn serialize_bool<A: Allocator>(value: bool, output: &mut StdString<A>) -> Result<(), OutOfMemory>
-    ensures text { Appends output.old output.new (boolean_text value) result }
+    ensures text { AppendsOrKeeps output.old output.new (boolean_text value) result }
     ensures room { AsksForRoom output.old output.new (boolean_text value) result }
 {
     output.push_str(if value { "?1" } else { "?0" })?;
@@ -86,7 +86,7 @@ fn serialize_bool<A: Allocator>(value: bool, output: &mut StdString<A>) -> Resul
 ///
 /// # Errors
 ///
-/// Returns `OutOfMemory` if memory runs out. The old text is then still a prefix of `output`.
+/// Returns `OutOfMemory` if memory runs out. `output` is then unchanged.
 // Only a token is written inline: its bytes are copied. The other kinds are calls, so an item does not pay for
 // registers and stack that only they need. An inner list of 10,000 tokens takes 1.0 times the instructions of the Rust
 // crate, instead of 1.7.
@@ -95,7 +95,7 @@ pub fn serialize_bare_item<A: Allocator>(
     value: RefBareItem<'_>,
     output: &mut StdString<A>,
 ) -> Result<(), OutOfMemory>
-    ensures text { Appends output.old output.new (bare_text (ref_value value.entry)) result }
+    ensures text { AppendsOrKeeps output.old output.new (bare_text (ref_value value.entry)) result }
     ensures room { AsksForRoom output.old output.new (bare_text (ref_value value.entry)) result }
     ensures value { IsBareValue (ref_value value.entry) }
 {

@@ -5,8 +5,9 @@ ghost use Rattle.std.specs.Fmt.{signed_decimal};
 ghost use Rattle.sfv_spec.specs.Values.{IsInRange};
 ghost use Rattle.sfv_spec.specs.Canonical.{fraction_digits, decimal_text};
 ghost use Rattle.sfv_base.specs.Numbers.{integer_of, thousandths_of, seconds_of};
-ghost use Rattle.sfv_writer.specs.Written.{AsksForRoom, Appends};
+ghost use Rattle.sfv_writer.specs.Written.{AsksForRoom, Appends, AppendsOrKeeps};
 
+use crate::output::truncate_to;
 use itoa::Buffer;
 use sfv_base::date::Date;
 use sfv_base::decimal::Decimal;
@@ -31,7 +32,7 @@ fn serialize_one_digit<A: Allocator>(
     output: &mut StdString<A>,
 ) -> Result<(), OutOfMemory>
     requires { value < 10 }
-    ensures text { Appends output.old output.new ((0x30 + value) ∷ []) result }
+    ensures text { AppendsOrKeeps output.old output.new ((0x30 + value) ∷ []) result }
     ensures room { AsksForRoom output.old output.new ((0x30 + value) ∷ []) result }
 {
     output.push(digit(value))?;
@@ -45,7 +46,7 @@ fn serialize_two_digits<A: Allocator>(
     output: &mut StdString<A>,
 ) -> Result<(), OutOfMemory>
     requires { value < 100 }
-    ensures text { Appends output.old output.new ((0x30 + value / 10) ∷ (0x30 + value % 10) ∷ []) result }
+    ensures text { AppendsOrKeeps output.old output.new ((0x30 + value / 10) ∷ (0x30 + value % 10) ∷ []) result }
     ensures room { AsksForRoom output.old output.new ((0x30 + value / 10) ∷ (0x30 + value % 10) ∷ []) result }
 {
     output.reserve(2)?;
@@ -61,7 +62,7 @@ fn serialize_three_digits<A: Allocator>(
     output: &mut StdString<A>,
 ) -> Result<(), OutOfMemory>
     requires { value < 1000 }
-    ensures text { Appends output.old output.new
+    ensures text { AppendsOrKeeps output.old output.new
         ((0x30 + value / 100) ∷ (0x30 + value / 10 % 10) ∷ (0x30 + value % 10) ∷ []) result }
     ensures room { AsksForRoom output.old output.new
         ((0x30 + value / 100) ∷ (0x30 + value / 10 % 10) ∷ (0x30 + value % 10) ∷ []) result }
@@ -79,7 +80,7 @@ fn serialize_negative<A: Allocator>(
     value: i64,
     output: &mut StdString<A>,
 ) -> Result<(), OutOfMemory>
-    ensures text { Appends output.old output.new (signed_decimal value) result }
+    ensures text { AppendsOrKeeps output.old output.new (signed_decimal value) result }
     ensures room { AsksForRoom output.old output.new (signed_decimal value) result }
 {
     let mut buffer = Buffer::new();
@@ -90,7 +91,7 @@ fn serialize_negative<A: Allocator>(
 /// Appends the decimal digits of a number of any length.
 #[inline(never)]
 fn serialize_long<A: Allocator>(value: u64, output: &mut StdString<A>) -> Result<(), OutOfMemory>
-    ensures text { Appends output.old output.new (decimal value) result }
+    ensures text { AppendsOrKeeps output.old output.new (decimal value) result }
     ensures room { AsksForRoom output.old output.new (decimal value) result }
 {
     let mut buffer = Buffer::new();
@@ -103,7 +104,7 @@ fn serialize_long<A: Allocator>(value: u64, output: &mut StdString<A>) -> Result
 #[tactic(auto, using(crate::proofs::Decimals::short_steps))]
 fn serialize_short<A: Allocator>(value: u64, output: &mut StdString<A>) -> Result<(), OutOfMemory>
     requires { value < 1000 }
-    ensures text { Appends output.old output.new (decimal value) result }
+    ensures text { AppendsOrKeeps output.old output.new (decimal value) result }
     ensures room { AsksForRoom output.old output.new (decimal value) result }
 {
     if value < 10 {
@@ -119,7 +120,7 @@ fn serialize_short<A: Allocator>(value: u64, output: &mut StdString<A>) -> Resul
 // Up to three digits are appended one at a time, which takes fewer instructions than a buffer and its copy.
 #[inline(always)]
 fn serialize_natural<A: Allocator>(value: u64, output: &mut StdString<A>) -> Result<(), OutOfMemory>
-    ensures text { Appends output.old output.new (decimal value) result }
+    ensures text { AppendsOrKeeps output.old output.new (decimal value) result }
     ensures room { AsksForRoom output.old output.new (decimal value) result }
 {
     if value < 1000 {
@@ -133,7 +134,7 @@ pub(crate) fn serialize_integer<A: Allocator>(
     value: Integer,
     output: &mut StdString<A>,
 ) -> Result<(), OutOfMemory>
-    ensures text { Appends output.old output.new (signed_decimal (integer_of value)) result }
+    ensures text { AppendsOrKeeps output.old output.new (signed_decimal (integer_of value)) result }
     ensures room { AsksForRoom output.old output.new (signed_decimal (integer_of value)) result }
     ensures range { IsInRange (integer_of value) }
 {
@@ -149,12 +150,17 @@ pub(crate) fn serialize_date<A: Allocator>(
     value: Date,
     output: &mut StdString<A>,
 ) -> Result<(), OutOfMemory>
-    ensures text { Appends output.old output.new (codes "@" ++ signed_decimal (seconds_of value)) result }
+    ensures text { AppendsOrKeeps output.old output.new (codes "@" ++ signed_decimal (seconds_of value)) result }
     ensures room { AsksForRoom output.old output.new (codes "@" ++ signed_decimal (seconds_of value)) result }
     ensures range { IsInRange (seconds_of value) }
 {
+    let len = output.len();
     output.push('@')?;
-    serialize_integer(value.unix_seconds(), output)
+    if let Err(error) = serialize_integer(value.unix_seconds(), output) {
+        truncate_to(len, output);
+        return Err(error);
+    }
+    Ok(())
 }
 
 /// Appends one to three digits of a fraction, without trailing zeros except a single `0`.
@@ -179,8 +185,9 @@ fn serialize_fraction<A: Allocator>(
     Ok(())
 }
 
-#[inline(never)]
-pub(crate) fn serialize_decimal<A: Allocator>(
+/// Appends the parts of a decimal.
+#[inline(always)]
+fn serialize_decimal_parts<A: Allocator>(
     value: Decimal,
     output: &mut StdString<A>,
 ) -> Result<(), OutOfMemory>
@@ -196,4 +203,22 @@ pub(crate) fn serialize_decimal<A: Allocator>(
     serialize_natural(magnitude / 1000, output)?;
     output.push('.')?;
     serialize_fraction(magnitude % 1000, output)
+}
+
+#[inline(never)]
+#[tactic(auto, using(crate::proofs::Written::cut_to))]
+pub(crate) fn serialize_decimal<A: Allocator>(
+    value: Decimal,
+    output: &mut StdString<A>,
+) -> Result<(), OutOfMemory>
+    ensures text { AppendsOrKeeps output.old output.new (decimal_text (thousandths_of value)) result }
+    ensures room { AsksForRoom output.old output.new (decimal_text (thousandths_of value)) result }
+    ensures range { IsInRange (thousandths_of value) }
+{
+    let len = output.len();
+    if let Err(error) = serialize_decimal_parts(value, output) {
+        truncate_to(len, output);
+        return Err(error);
+    }
+    Ok(())
 }

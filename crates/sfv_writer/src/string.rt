@@ -4,8 +4,9 @@ ghost use Rattle.std.specs.Prelude.{false};
 ghost use Rattle.sfv_spec.specs.Values.{string};
 ghost use Rattle.sfv_spec.specs.Canonical.{bare_text};
 ghost use Rattle.sfv_text.specs.CheckedTexts.{text_of};
-ghost use Rattle.sfv_writer.specs.Written.{AsksForRoom, Appends};
+ghost use Rattle.sfv_writer.specs.Written.{AsksForRoom, Appends, AppendsOrKeeps};
 
+use crate::output::truncate_to;
 use crate::quoted::{Escaping, serialize_inside};
 use sfv_base::error::OutOfMemory;
 use sfv_base::runs::{PlainInString, split_run, split_whole_run};
@@ -41,8 +42,9 @@ impl Escaping for StringEscaping {
     }
 }
 
-#[inline(never)]
-pub(crate) fn serialize_string<A: Allocator>(
+/// Appends a string: its inside between quotes.
+#[inline(always)]
+fn serialize_quoted<A: Allocator>(
     value: StringRef<'_>,
     output: &mut String<A>,
 ) -> Result<(), OutOfMemory>
@@ -52,5 +54,22 @@ pub(crate) fn serialize_string<A: Allocator>(
     output.push('"')?;
     serialize_inside::<StringEscaping, A>(value.as_str().as_bytes(), output)?;
     output.push('"')?;
+    Ok(())
+}
+
+#[inline(never)]
+#[tactic(auto, using(crate::proofs::Written::cut_to))]
+pub(crate) fn serialize_string<A: Allocator>(
+    value: StringRef<'_>,
+    output: &mut String<A>,
+) -> Result<(), OutOfMemory>
+    ensures text { AppendsOrKeeps output.old output.new (bare_text (string (text_of value.entry))) result }
+    ensures room { AsksForRoom output.old output.new (bare_text (string (text_of value.entry))) result }
+{
+    let len = output.len();
+    if let Err(error) = serialize_quoted(value, output) {
+        truncate_to(len, output);
+        return Err(error);
+    }
     Ok(())
 }

@@ -47,7 +47,7 @@ returns-in-Err-parameter-clause-out_of_memory g c =
     c.in_ok-ending.ending.sink.now _ _ grown c.in_ok-ending.ensures.text in
     let so_far = more_grown s again sequence c.in_ok-ending.ending.sink.now c.loop-call.ending.sink.now _ _
     ended c.loop-call.invariant.1 in
-    let kept = of_error _ _ _ c.in-Err-parameter.is c.parameter.follows.holds-at-none in
+    let kept = (of_error _ _ _ c.in-Err-parameter.is c.parameter.follows.holds-at-none).0 in
     kept_grown s again sequence c.loop-call.ending.sink.now c.parameter.follows.lender-at-none _ _ so_far kept
     (search rules) (search rules)
 

@@ -14,7 +14,7 @@ use Rattle.sfv_serializer.proofs.script.write_keyless_item.Goals as goal
 pub returns-in-Err-clause-out_of_memory : goal.returns-in-Err-clause-out_of_memory
 returns-in-Err-clause-out_of_memory g c =
     kept_grows g.W.Sink c.args.sequence.now c.bare_item.follows.lender-at-none
-    (of_error _ _ _ c.in-Err.is c.bare_item.follows.holds-at-none)
+    (of_error _ _ _ c.in-Err.is c.bare_item.follows.holds-at-none).0
 
 pub loop-call-init : goal.loop-call-init
 loop-call-init g c =
@@ -44,7 +44,7 @@ returns-in-Err-parameter-clause-out_of_memory g c =
     let s = g.W.Sink in
     let last = c.loop-call.params.sink.now in
     let so_far = grows s c.args.sequence.now last _ _ c.loop-call.invariant.1 in
-    let kept = of_error _ _ _ c.in-Err-parameter.is c.parameter.follows.holds-at-none in
+    let kept = (of_error _ _ _ c.in-Err-parameter.is c.parameter.follows.holds-at-none).0 in
     kept_grown s g.met.W.Sink.same_again c.args.sequence.now last c.parameter.follows.lender-at-none _ _ so_far kept
     (search rules) (search rules)
 

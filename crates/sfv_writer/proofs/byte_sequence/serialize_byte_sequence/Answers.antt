@@ -51,3 +51,37 @@ returns-in_err-reserve-clause-room g c =
       text_len bytes,
       length-append (base64_text bytes) (58 ∷ []),
     ))
+
+pub returns-in_err-serialize_base64-clause-text : goal.returns-in_err-serialize_base64-clause-text
+returns-in_err-serialize_base64-clause-text g c =
+    let bytes = c.args.value.now in
+    absurd (omega (
+      arith,
+      c.in_ok-reserve.ensures.ok,
+      c.div_ceil.ensures,
+      text_len bytes,
+      c.in_ok-push.ensures.len,
+      c.in_ok-push.ensures.ascii_len,
+      c.in_ok-push.ensures.capacity,
+      c.in_err-serialize_base64.ensures.room.1,
+    ))
+
+pub returns-in_err-push-2-clause-text : goal.returns-in_err-push-2-clause-text
+returns-in_err-push-2-clause-text g c =
+    let bytes = c.args.value.now in
+    absurd (omega (
+      arith,
+      c.in_ok-reserve.ensures.ok,
+      c.div_ceil.ensures,
+      text_len bytes,
+      c.in_ok-push.ensures.len,
+      c.in_ok-push.ensures.ascii_len,
+      c.in_ok-push.ensures.capacity,
+      c.in_ok-serialize_base64.ensures.room.0,
+      ap (length {A = ℕ}) c.in_ok-serialize_base64.ensures.text,
+      c.serialize_base64.new.output.bytes.ok.0,
+      c.push.new.self.bytes.ok.0,
+      length-append (string_bytes c.push.new.self) (base64_text bytes),
+      c.in_err-push-2.ensures.full,
+      c.in_err-push-2.ensures.ascii_len,
+    ))

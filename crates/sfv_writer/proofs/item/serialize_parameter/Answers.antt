@@ -2,7 +2,7 @@ use Rattle.std.proofs.Common.{codes, string_bytes, subst, lit<}
 use Rattle.sfv_spec.specs.Canonical.{value_text}
 use Rattle.sfv_writer.specs.Written.{Appends, param_text}
 use Rattle.sfv_bare.specs.BareItems.{bare_value}
-use Rattle.sfv_writer.proofs.Appended.{put, after, stops}
+use Rattle.sfv_writer.proofs.Appended.{put, after, stops, unchanged}
 use Rattle.sfv_writer.proofs.item.serialize_parameter.Goals as goal
 
 pub returns-clause-text : goal.returns-clause-text
@@ -19,4 +19,4 @@ returns-in_err-serialize_key-clause-text g c =
     c.from_residual-in_err-serialize_key.result c.from_residual-in_err-serialize_key.ensures.0
     (put (string_bytes c.args.output.now) _ (codes ";") _ c.in_ok-push.ensures.bytes
     (c.in_ok-push.ensures.ascii (lit< tt)))
-    c.in_err-serialize_key.ensures.text
+    (unchanged _ _ c.in_err-serialize_key.ensures.text)

@@ -6,7 +6,7 @@ use Rattle.sfv_spec.specs.Canonical.{string_piece, bare_text}
 use Rattle.sfv_spec.specs.Values.{string}
 use Rattle.sfv_text.specs.CheckedTexts.{text_of as string_text}
 use Rattle.sfv_writer.proofs.Appended.{put, next, between, unchanged, stops}
-use Rattle.sfv_writer.proofs.string.serialize_string.Goals as goal
+use Rattle.sfv_writer.proofs.string.serialize_quoted.Goals as goal
 
 pub serialize_inside-requires : goal.serialize_inside-requires
 serialize_inside-requires g c =

@@ -8,8 +8,8 @@ use Rattle.sfv_spec.specs.Canonical.{decimal_text}
 use Rattle.sfv_writer.specs.Written.{Extends}
 use Rattle.sfv_writer.proofs.Appended.{next, unchanged, stops}
 use Rattle.sfv_writer.proofs.Decimals.{same_number, minus_of, front_of, decimal_parts}
-use Rattle.sfv_writer.proofs.number.serialize_decimal.Goals.{then-value-lt0+in_ok-push, else-value-lt0}
-use Rattle.sfv_writer.proofs.number.serialize_decimal.Goals as goal
+use Rattle.sfv_writer.proofs.number.serialize_decimal_parts.Goals.{then-value-lt0+in_ok-push, else-value-lt0}
+use Rattle.sfv_writer.proofs.number.serialize_decimal_parts.Goals as goal
 
 pub returns-clause-text : goal.returns-clause-text
 returns-clause-text g c =
@@ -36,7 +36,7 @@ returns-in_err-serialize_natural-clause-text g c =
     stops old front.0 _ _ (decimal_text (thousandths_of c.args.value))
     c.from_residual-in_err-serialize_natural.result c.from_residual-in_err-serialize_natural.ensures.0
     front.1
-    c.in_err-serialize_natural.ensures.text
+    (unchanged _ _ c.in_err-serialize_natural.ensures.text)
 
 pub returns-in_err-push-2-clause-text : goal.returns-in_err-push-2-clause-text
 returns-in_err-push-2-clause-text g c =

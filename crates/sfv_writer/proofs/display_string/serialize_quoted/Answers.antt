@@ -5,7 +5,7 @@ use Rattle.sfv_spec.specs.Values.{is_byte, display_string}
 use Rattle.sfv_spec.specs.Canonical.{display_piece, bare_text}
 use Rattle.sfv_bare.proofs.Bytes.{run_of_bytes}
 use Rattle.sfv_writer.proofs.Appended.{put, next, between, unchanged, stops}
-use Rattle.sfv_writer.proofs.display_string.serialize_display_string.Goals as goal
+use Rattle.sfv_writer.proofs.display_string.serialize_quoted.Goals as goal
 
 pub serialize_inside-requires : goal.serialize_inside-requires
 serialize_inside-requires g c =
