@@ -1,11 +1,8 @@
 -- Texts for which a reading asks for memory.
-use Rattle.std.proofs.Common.{◌≡◌, ℕ, false, List, ◌∷◌, Result, Ok, Err, subst, arith}
+use Rattle.std.proofs.Common.{◌≡◌, ℕ, List, ◌∷◌, Result, Ok, Err, arith}
 use Rattle.std.specs.Prelude.{IfErr}
 use Rattle.std.specs.List.{Contains}
-use Rattle.std.proofs.lemmas.Bool.{true≢false}
 use Rattle.std.proofs.lemmas.List.Elements.{Contains-get_or}
-use Rattle.sfv_spec.proofs.Marks.{space}
-use Rattle.sfv_spec.proofs.Marks.{is_space}
 use Rattle.sfv_spec.specs.declared.field_kind.FieldKind.{FieldKind}
 use Rattle.sfv_spec.specs.declared.version.Version.{Version}
 use Rattle.sfv_spec.specs.Events.{TreeEvent}
@@ -19,11 +16,6 @@ use Rattle.sfv.specs.parser.Visits.{VisitsField}
 
 pub first_in : (c : ℕ) (t : List ℕ) → Contains (c ∷ t) c
 first_in c t = Contains-get_or (c ∷ t) 0 0 (omega arith)
-
--- ---- texts with more than spaces
-
-pub other_than_space : (c : ℕ) → is_space c ≡ false → ¬ (c ≡ space)
-other_than_space c h same = true≢false (subst (λ (x : ℕ). is_space x ≡ false) same h)
 
 -- ---- a reading with a visitor
 

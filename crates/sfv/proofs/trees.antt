@@ -5,3 +5,4 @@ pub mod Parts
 pub mod Errors
 pub mod Fields
 pub mod Items
+pub mod Needs

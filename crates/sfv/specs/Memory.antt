@@ -1,7 +1,10 @@
 -- The texts for which the parser allocates memory.
-use Rattle.std.specs.Prelude.{◌≡◌, ⊤, ℕ, List, ◌⊎◌}
+use Rattle.std.specs.Prelude.{◌≡◌, ⊤, ℕ, List, ◌⊎◌, Bool, ◌||◌, ◌==◌, not, IsTrue}
 use Rattle.std.specs.List.{Contains}
 use Rattle.sfv_spec.specs.Ascii.{byte}
+use Rattle.sfv_spec.specs.Classes.{is_token_start}
+use Rattle.sfv_spec.specs.declared.field_kind.FieldKind.{FieldKind}
+use Rattle.sfv_spec.specs.declared.field_kind.FieldKind.TheVariants.{Item as item_field}
 use Rattle.sfv_base.specs.declared.error.Error.{Error}
 use Rattle.sfv_spec.specs.declared.error_kind.ErrorKind.TheVariants.{OutOfMemory}
 use Rattle.sfv_base.specs.declared.error.ParseError.{ParseError}
@@ -12,18 +15,25 @@ use Rattle.sfv_base.specs.Errors.{kind_of, out_of_memory}
 abbrev pub HoldsMark : List ℕ → Type 0
 HoldsMark t = Contains t (byte "\\") ⊎ (Contains t (byte "%") ⊎ Contains t (byte ":"))
 
--- the text contains a byte other than a space
-abbrev pub HasMoreThanSpaces : List ℕ → Type 0
-HasMoreThanSpaces t = (c : ℕ) × Contains t c × ¬ (c ≡ byte " ")
+-- A field without such a byte needs no memory: an item is a number, a boolean or a date without parameters; a list or a
+-- dictionary is empty.
+abbrev pub may_need_memory : FieldKind → ℕ → Bool
+may_need_memory item_field c = is_token_start c || c == byte "\"" || c == byte "\\" || c == byte "%" || c == byte ":"
+    || c == byte ";"
+may_need_memory kind c = not (c == byte " ")
+
+-- the text contains such a byte
+abbrev pub MayNeedMemory : FieldKind → List ℕ → Type 0
+MayNeedMemory kind t = (c : ℕ) × Contains t c × IsTrue (may_need_memory kind c)
 
 -- the error is out of memory only if the text contains such a byte
 abbrev pub NeedsMark : {E : Type 0} → List ℕ → ParseError E → Type 0
 NeedsMark t (parse_errors.Syntax e) = e ≡ out_of_memory → HoldsMark t
 NeedsMark t (parse_errors.Visitor fault) = ⊤
 
--- the error is out of memory only if the text contains more than spaces
-abbrev pub NeedsMoreThanSpaces : List ℕ → Error → Type 0
-NeedsMoreThanSpaces t e = e ≡ out_of_memory → HasMoreThanSpaces t
+-- the error is out of memory only if the field may need memory
+abbrev pub NeedsMemory : FieldKind → List ℕ → Error → Type 0
+NeedsMemory kind t e = e ≡ out_of_memory → MayNeedMemory kind t
 
 -- the error is out of memory, and the text contains such a byte
 abbrev pub IsRefusal : List ℕ → Error → Type 0

@@ -18,7 +18,7 @@ ghost use Rattle.sfv_spec.specs.Canonical.{canonical};
 ghost use Rattle.sfv_writer.specs.Versions.{ChecksVersionFirst, OnOutOfMemory};
 ghost use Rattle.sfv_writer.specs.Written.{AppendsOrKeeps, LacksRoom};
 ghost use Rattle.sfv.specs.Parsers.{input_of, version_of, IsParseError};
-ghost use Rattle.sfv.specs.Memory.{NeedsMoreThanSpaces};
+ghost use Rattle.sfv.specs.Memory.{NeedsMemory};
 
 use crate::parser::{
     Parser, expect_dictionary_start, expect_item_start, expect_list_start, parse_dictionary,
@@ -70,7 +70,7 @@ pub trait FieldType: sealed::Sealed + Drop {
             IsParsedAs (version_of parser.entry) kind (input_of parser.entry) (tree value)) }
         ensures seed { IfOk result (has_seed parser.entry.seed) }
         ensures rejected { IfErr result (IsParseError (version_of parser.entry) kind (input_of parser.entry)) }
-        ensures memory { IfErr result (NeedsMoreThanSpaces (input_of parser.entry)) };
+        ensures memory { IfErr result (NeedsMemory kind (input_of parser.entry)) };
 
     /// Returns the canonical text (RFC 9651, section 4.1), allocated from `alloc`.
     ///

@@ -53,7 +53,7 @@ impl<'de> Parser<'de> {
     ghost use Rattle.sfv.specs.Parsers.{parser_of, input_of, version_of, IsParseError, IsAnswerBy, IsSyntaxErrorBy};
     ghost use Rattle.sfv.specs.Parsers.{ReceivesBeforeErrorBy, IsVisitorErrorBy, ReceivesFirstBy, ReceivesBorrowedBy};
     ghost use Rattle.sfv.specs.Parsers.{ReceivesAsReadBy, ReadsBy, ReadsItemBy};
-    ghost use Rattle.sfv.specs.Memory.{NeedsMark, NeedsMoreThanSpaces};
+    ghost use Rattle.sfv.specs.Memory.{NeedsMark, NeedsMemory};
 
     /// Creates a parser for `input` under RFC 9651, with the library's hash seed.
     pub fn new(input: &'de [u8]) -> Parser<'de>
@@ -108,7 +108,7 @@ impl<'de> Parser<'de> {
             (λ value. IsParsedAs (version_of self.entry) T.kind (input_of self.entry) (T.tree value)) }
         ensures seed { IfOk result (T.has_seed self.entry.seed) }
         ensures rejected { IfErr result (IsParseError (version_of self.entry) T.kind (input_of self.entry)) }
-        ensures memory { IfErr result (NeedsMoreThanSpaces (input_of self.entry)) }
+        ensures memory { IfErr result (NeedsMemory T.kind (input_of self.entry)) }
     {
         T::parse(alloc, self)
     }

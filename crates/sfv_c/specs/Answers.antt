@@ -7,7 +7,7 @@ use Rattle.sfv.specs.Grammar.{IsAccepted}
 use Rattle.sfv.specs.Values.{bare_values}
 use Rattle.sfv.specs.Statements.{IsParsedAs, IsSerializedAs}
 use Rattle.sfv.specs.Parsers.{IsParseError}
-use Rattle.sfv.specs.Memory.{HoldsMark, NeedsMoreThanSpaces}
+use Rattle.sfv.specs.Memory.{HoldsMark, NeedsMemory}
 use Rattle.sfv.specs.Messages.{message_of}
 use Rattle.sfv.specs.Errors.{kind_of, index_of, out_of_memory}
 use Rattle.sfv.specs.Versions.{IsSerializeError}
@@ -78,9 +78,9 @@ pub record IsPut (reading writing : Version) (kind : FieldKind) (input old new :
   pub put : PutsText text old new w
 
 -- The input is rejected by the one version, or the other lacks a value of it. Parsing allocates only if the input
--- contains more than spaces, and writing only if there is a member.
+-- may need memory (`MayNeedMemory`), and writing only if there is a member.
 abbrev pub IsFault : Version → Version → FieldKind → List ℕ → CallFault → Type 0
-IsFault reading writing kind input (faults.Read e) = IsParseError reading kind input e × NeedsMoreThanSpaces input e
+IsFault reading writing kind input (faults.Read e) = IsParseError reading kind input e × NeedsMemory kind input e
 IsFault reading writing kind input (faults.Write e) = (value : RawField kind) × IsParsedAs reading kind input value
     × HasMember kind value × IsSerializeError writing (bare_values kind value) e
 IsFault reading writing kind input (faults.Rows n) = ⊥

@@ -1,6 +1,6 @@
 -- Whole lists and dictionaries that are built.
 use Rattle.std.proofs.Common.{◌≡◌, ℕ, true, false, List, [], ◌∷◌, ◌++◌, map, Ok, Err, refl, sym, ap, ◌∙◌, inl, inr}
-use Rattle.std.specs.Prelude.{⊤, Result, bytes_eq, flat_map, is_some, cond}
+use Rattle.std.specs.Prelude.{⊤, Result, bytes_eq, flat_map, is_some, cond, not}
 use Rattle.std.specs.declared.alloc.Global.{Global}
 use Rattle.std.proofs.lemmas.Bool.{cases_Bool}
 use Rattle.std.proofs.lemmas.List.{map-append}
@@ -31,9 +31,9 @@ use Rattle.sfv.specs.parser.Cursor.{kept, kept_input, kept_version, version, res
 use Rattle.sfv.specs.parser.Trees.{Builds, FailsAs, ordered_pairs}
 use Rattle.sfv.proofs.trees.Errors.{Any, NoMemory, as_answer}
 use Rattle.sfv.specs.parser.Visits.{VisitsAnswer}
-use Rattle.sfv.specs.Memory.{HasMoreThanSpaces}
+use Rattle.sfv.specs.Memory.{MayNeedMemory}
 use Rattle.sfv.specs.Parsers.{IsParseError}
-use Rattle.sfv.proofs.Memory.{first_in, other_than_space}
+use Rattle.sfv.proofs.Memory.{first_in}
 use Rattle.sfv.proofs.Parsed.{parsed, parse_error}
 use Rattle.sfv.proofs.built.Items.{insert_entry-entered}
 use Rattle.sfv.proofs.built.Dictionaries.{collapse-over}
@@ -113,7 +113,7 @@ dictionary_rejected version k after e h = parse_error version dictionary_field (
     (members_fail Any NoMemory Answers Ends true version k tt tt after (Syntax e) h).0
 
 -- a byte after the spaces is another one
-pub more_after : (t s q : List ℕ) → span is_space t ≡ Ok (s, q) → is_some (first q) ≡ true → HasMoreThanSpaces t
+pub more_after : (t s q : List ℕ) → span is_space t ≡ Ok (s, q) → is_some (first q) ≡ true → MayNeedMemory list_field t
 unfolding span give
 more_after [] s q e some =
     let here : List ℕ × List ℕ = ([], []) in
@@ -129,12 +129,12 @@ more_after (c ∷ t) s q e some = elim (cases_Bool (is_space c)) [
       let rest : and_then (span is_space t) (λ cs. give (c ∷ cs)) ≡ Ok (s, q) =
       sym (ap (λ b. cond b (and_then (span is_space t) (λ cs. give (c ∷ cs))) (Ok ([], c ∷ t))) space) ∙ e in
       on (λ s q e some. more_after t s q e some) (span is_space t) refl rest
-  | inr other ↦ (c, first_in c t, other_than_space c other)
+  | inr other ↦ (c, first_in c t, ap not other)
 ]
   where
-    on : ((s q : List ℕ) → span is_space t ≡ Ok (s, q) → is_some (first q) ≡ true → HasMoreThanSpaces t)
+    on : ((s q : List ℕ) → span is_space t ≡ Ok (s, q) → is_some (first q) ≡ true → MayNeedMemory list_field t)
         → (a : Answer (List ℕ)) → span is_space t ≡ a → and_then a (λ cs. give (c ∷ cs)) ≡ Ok (s, q)
-        → HasMoreThanSpaces (c ∷ t)
+        → MayNeedMemory list_field (c ∷ t)
     on again (Ok x) here h =
         let here_is : List ℕ × List ℕ = (c ∷ x.0, x.1) in
         let there : List ℕ × List ℕ = (s, q) in

@@ -24,30 +24,16 @@ use Rattle.sfv.specs.declared.parser.Parser.{Parser}
 use Rattle.sfv.specs.declared.parser.cursor.Cursor.{Cursor}
 use Rattle.sfv.specs.parser.Cursor.{kept, kept_input, kept_version, version, rest, IsErrorOf}
 use Rattle.sfv.specs.parser.Trees.{FailsAs}
-use Rattle.sfv.specs.Memory.{HoldsMark, HasMoreThanSpaces, NeedsMoreThanSpaces}
+use Rattle.sfv.specs.Memory.{HoldsMark, MayNeedMemory, NeedsMemory}
 use Rattle.sfv.specs.Parsers.{IsParseError}
-use Rattle.sfv.proofs.Memory.{other_than_space}
 use Rattle.sfv.proofs.Parsed.{parsed, parse_error}
 use Rattle.sfv.proofs.reads.Errors.{kept_reads, ErrorOf-same}
-use Rattle.sfv.proofs.trees.Fields.{more_after}
 use Rattle.sfv.proofs.visits.Whole.{field_error, field_trailing_error, field_done}
 
--- no item is read of nothing
-item_none : (version : Version) → item_at version [] ≡ Err (at_reach ExpectedStartOfBareItem [])
-unfolding item_at bare_at token_at bind branch ahead fail
-item_none version = refl
-
-some_read : (version : Version) (q : List ℕ) (e : TreeEvent) → Contains (visited item_events (item_at version q)) e
-    → is_some (first q) ≡ true
-some_read version [] e h =
-    let none = subst (λ a. Contains (visited item_events a) e) (item_none version) h in
-    absurd (let lt = none.1 in omega arith)
-some_read version (c ∷ q) e h = refl
-
-marked : (t : List ℕ) → HoldsMark t → HasMoreThanSpaces t
-marked t (inl h) = (backslash, h, other_than_space backslash refl)
-marked t (inr (inl h)) = (percent_sign, h, other_than_space percent_sign refl)
-marked t (inr (inr h)) = (colon, h, other_than_space colon refl)
+marked : (t : List ℕ) → HoldsMark t → MayNeedMemory item_field t
+marked t (inl h) = (backslash, h, refl)
+marked t (inr (inl h)) = (percent_sign, h, refl)
+marked t (inr (inr h)) = (colon, h, refl)
 
 -- from the start of the input, after its spaces
 module _ (start before : Cursor) (k : Parser × Global) (s : List ℕ) (same : kept before ≡ k)
@@ -63,18 +49,12 @@ module _ (start before : Cursor) (k : Parser × Global) (s : List ℕ) (same : k
       (h.syntax e refl)))
 
   pub item_syntax_memory : (e : Error) → FailsAs item_events before (Syntax e) item_at
-      → NeedsMoreThanSpaces (kept_input k) e
+      → NeedsMemory item_field (kept_input k) e
   item_syntax_memory e h out =
       let i = ErrorOf-same (kept before) k e item_at (rest before) (item_at (kept_version k) (rest before)) same refl
       (h.syntax e refl) in
       marked (kept_input k)
       (subst (λ (e : Error). IsErrorOf (kept_input k) e (item_at (kept_version k) (rest before))) out i).1
-
-  pub item_memory : (m : OutOfMemory) → FailsAs item_events before (Visitor m) item_at
-      → HasMoreThanSpaces (kept_input k)
-  item_memory m h =
-      let w = h.memory m refl in
-      more_after (kept_input k) s (rest before) skipped (some_read (version before) (rest before) w.0 w.1)
 
   module _ (between after : Cursor) (raw : RawItem) (spaces : List ℕ)
       (read : item_at (version before) (rest before) ≡ Ok (raw, rest between))

@@ -18,6 +18,8 @@ use Rattle.sfv_reading.specs.Reader.{Reader, visited}
 use Rattle.sfv.specs.declared.parser.cursor.Cursor.{Cursor}
 use Rattle.sfv.specs.declared.parser.tree.Head.{Head}
 use Rattle.sfv.specs.declared.parser.tree.Head.TheVariants as heads
+use Rattle.sfv_spec.specs.declared.field_kind.FieldKind.TheVariants.{Item as item_field}
+use Rattle.sfv.specs.Memory.{MayNeedMemory}
 use Rattle.sfv.specs.parser.Cursor.{kept, input, version, rest, IsErrorOf}
 
 -- At these events memory may run out: a key or a text is copied, or a map or a list grows.
@@ -35,6 +37,10 @@ pub record FailsAs {Y : Type 0} (parts : Y → List TreeEvent) (before : Cursor)
   pub syntax : (e : Error) → error ≡ Syntax e → IsErrorOf (input before) e (reader (version before) (rest before))
   pub memory : (m : OutOfMemory) → error ≡ Visitor m
       → (e : TreeEvent) × Contains (visited parts (reader (version before) (rest before))) e × TakesMemory e
+
+-- the error is out of memory only if an item with this text may need memory; for a syntax error, `FailsAs` says it
+abbrev pub NeedsText : List ℕ → ParseError OutOfMemory → Type 0
+NeedsText t error = (m : OutOfMemory) → error ≡ Visitor m → MayNeedMemory item_field t
 
 -- The result of a parsing function that returns a tree. `Ok`: the reader returns a value and this rest, and the result,
 -- seen through `view`, is that value with each key once.

@@ -1,15 +1,17 @@
 //! Parsing of bare items (RFC 9651, sections 4.2.3.1 and 4.2.5 to 4.2.10).
 
-ghost use Rattle.std.specs.Prelude.{◌≡◌, true, IfOk};
+ghost use Rattle.std.specs.Prelude.{◌≡◌, true, IfOk, IsTrue};
 ghost use Rattle.sfv_spec.proofs.Marks.{double_quote, percent_sign, colon};
 ghost use Rattle.sfv_spec.proofs.Marks.{question_mark, at_sign};
 ghost use Rattle.sfv_spec.specs.Values.{boolean, date};
+ghost use Rattle.sfv_spec.specs.declared.field_kind.FieldKind.TheVariants.{Item as item_field};
 ghost use Rattle.sfv_spec.specs.declared.version.Version.TheVariants.{Rfc9651};
 ghost use Rattle.sfv_base.specs.Numbers.{seconds_of};
-ghost use Rattle.sfv_bare.specs.BareItems.{input_value};
+ghost use Rattle.sfv_bare.specs.BareItems.{input_value, is_borrowed};
 ghost use Rattle.sfv_reading.specs.Reader.{byte};
 ghost use Rattle.sfv_reading.specs.Bare.{is_number_start, boolean_at, date_at, token_at, bare_at};
-ghost use Rattle.sfv.specs.parser.Cursor.{version, rest, Reads, ReadsOrOutOfMemory, NextIs};
+ghost use Rattle.sfv.specs.parser.Cursor.{input, version, rest, Reads, ReadsOrOutOfMemory, NextIs};
+ghost use Rattle.sfv.specs.Memory.{MayNeedMemory};
 ghost use Rattle.sfv.specs.parser.Quoted.{IsBorrowedUnlessEscaped};
 
 use crate::parser::cursor::Cursor;
@@ -53,16 +55,19 @@ impl<'de> Cursor<'de> {
         requires { NextIs (byte question_mark) true (rest self.old) }
         ensures read { ReadsOrOutOfMemory input_value self.old self.new result (bare_at (version self.old)) }
         ensures borrowed { IfOk result (λ item. IsBorrowedUnlessEscaped item self.old self.new) }
+        ensures memory { IfOk result (λ item. IsTrue (is_borrowed item) → MayNeedMemory item_field (input self.old)) }
     {
         self.skip();
         Ok(GenericBareItem::Boolean(self.boolean()?))
     }
 
     #[inline(never)]
+    #[tactic(auto, using(crate::proofs::trees::Needs::quote_next))]
     fn string_item(&mut self) -> Result<BareItemFromInput<'de>, Error>
         requires { NextIs (byte double_quote) true (rest self.old) }
         ensures read { ReadsOrOutOfMemory input_value self.old self.new result (bare_at (version self.old)) }
         ensures borrowed { IfOk result (λ item. IsBorrowedUnlessEscaped item self.old self.new) }
+        ensures memory { IfOk result (λ item. IsTrue (is_borrowed item) → MayNeedMemory item_field (input self.old)) }
     {
         self.skip();
         Ok(GenericBareItem::String(self.string()?))
@@ -73,6 +78,7 @@ impl<'de> Cursor<'de> {
         requires { NextIs (byte colon) true (rest self.old) }
         ensures read { ReadsOrOutOfMemory input_value self.old self.new result (bare_at (version self.old)) }
         ensures borrowed { IfOk result (λ item. IsBorrowedUnlessEscaped item self.old self.new) }
+        ensures memory { IfOk result (λ item. IsTrue (is_borrowed item) → MayNeedMemory item_field (input self.old)) }
     {
         self.skip();
         Ok(GenericBareItem::ByteSequence(self.byte_sequence()?))
@@ -85,6 +91,7 @@ impl<'de> Cursor<'de> {
         requires { NextIs (byte at_sign) true (rest self.old) }
         ensures read { ReadsOrOutOfMemory input_value self.old self.new result (bare_at (version self.old)) }
         ensures borrowed { IfOk result (λ item. IsBorrowedUnlessEscaped item self.old self.new) }
+        ensures memory { IfOk result (λ item. IsTrue (is_borrowed item) → MayNeedMemory item_field (input self.old)) }
     {
         match self.parser.version {
             Version::Rfc8941 => Err(self.error(ErrorKind::Rfc8941Date)),
@@ -94,11 +101,12 @@ impl<'de> Cursor<'de> {
 
     /// Parses a display string as a bare item. RFC 8941 has no display strings.
     #[inline(never)]
-    #[tactic(auto, using(crate::proofs::reads::Steps::older_steps))]
+    #[tactic(auto, using(crate::proofs::reads::Steps::older_steps, crate::proofs::trees::Needs::percent_next))]
     fn display_string_item(&mut self) -> Result<BareItemFromInput<'de>, Error>
         requires { NextIs (byte percent_sign) true (rest self.old) }
         ensures read { ReadsOrOutOfMemory input_value self.old self.new result (bare_at (version self.old)) }
         ensures borrowed { IfOk result (λ item. IsBorrowedUnlessEscaped item self.old self.new) }
+        ensures memory { IfOk result (λ item. IsTrue (is_borrowed item) → MayNeedMemory item_field (input self.old)) }
     {
         match self.parser.version {
             Version::Rfc8941 => Err(self.error(ErrorKind::Rfc8941DisplayString)),
@@ -111,6 +119,7 @@ impl<'de> Cursor<'de> {
         requires { NextIs is_number_start true (rest self.old) }
         ensures read { ReadsOrOutOfMemory input_value self.old self.new result (bare_at (version self.old)) }
         ensures borrowed { IfOk result (λ item. IsBorrowedUnlessEscaped item self.old self.new) }
+        ensures memory { IfOk result (λ item. IsTrue (is_borrowed item) → MayNeedMemory item_field (input self.old)) }
     {
         Ok(match self.number()? {
             Number::Integer(value) => GenericBareItem::Integer(value),
@@ -124,6 +133,7 @@ impl<'de> Cursor<'de> {
         requires { bare_at (version self.old) (rest self.old) ≡ token_at (rest self.old) }
         ensures read { ReadsOrOutOfMemory input_value self.old self.new result (bare_at (version self.old)) }
         ensures borrowed { IfOk result (λ item. IsBorrowedUnlessEscaped item self.old self.new) }
+        ensures memory { IfOk result (λ item. IsTrue (is_borrowed item) → MayNeedMemory item_field (input self.old)) }
     {
         Ok(GenericBareItem::Token(self.token()?))
     }
@@ -143,6 +153,7 @@ impl<'de> Cursor<'de> {
     pub(crate) fn bare_item(&mut self) -> Result<BareItemFromInput<'de>, Error>
         ensures read { ReadsOrOutOfMemory input_value self.old self.new result (bare_at (version self.old)) }
         ensures borrowed { IfOk result (λ item. IsBorrowedUnlessEscaped item self.old self.new) }
+        ensures memory { IfOk result (λ item. IsTrue (is_borrowed item) → MayNeedMemory item_field (input self.old)) }
     {
         // Each kind except a number is parsed in its own function, so a call reserves stack only for the kind it
         // parses.

@@ -5,7 +5,7 @@ ghost use Rattle.sfv_spec.specs.declared.field_kind.FieldKind.TheVariants.{Item 
 ghost use Rattle.sfv_spec.specs.declared.field_kind.FieldKind.TheVariants.{Dictionary as dictionary_field};
 ghost use Rattle.sfv_reading.specs.Bare.{bare_at};
 ghost use Rattle.sfv.specs.Parsers.{input_of, version_of, IsParseError};
-ghost use Rattle.sfv.specs.Memory.{NeedsMoreThanSpaces};
+ghost use Rattle.sfv.specs.Memory.{NeedsMemory};
 ghost use Rattle.sfv.specs.parser.Cursor.{version, input, rest, IsFaultOf};
 
 use crate::parser::Parser;
@@ -37,7 +37,7 @@ impl Cursor<'_> {
 #[inline(always)]
 pub(crate) fn expect_item_start(parser: Parser<'_>, alloc: Global) -> Result<(), Error>
     ensures rejected { IfErr result (IsParseError (version_of parser.entry) item_field (input_of parser.entry)) }
-    ensures memory { IfErr result (NeedsMoreThanSpaces (input_of parser.entry)) }
+    ensures memory { IfErr result (NeedsMemory item_field (input_of parser.entry)) }
 {
     let mut cursor = Cursor::new(parser, alloc);
     cursor.skip_sp();
@@ -48,7 +48,7 @@ pub(crate) fn expect_item_start(parser: Parser<'_>, alloc: Global) -> Result<(),
 #[inline(always)]
 pub(crate) fn expect_list_start(parser: Parser<'_>, alloc: Global) -> Result<(), Error>
     ensures rejected { IfErr result (IsParseError (version_of parser.entry) list_field (input_of parser.entry)) }
-    ensures memory { IfErr result (NeedsMoreThanSpaces (input_of parser.entry)) }
+    ensures memory { IfErr result (NeedsMemory list_field (input_of parser.entry)) }
 {
     let mut cursor = Cursor::new(parser, alloc);
     cursor.skip_sp();
@@ -65,7 +65,7 @@ pub(crate) fn expect_list_start(parser: Parser<'_>, alloc: Global) -> Result<(),
 #[inline(always)]
 pub(crate) fn expect_dictionary_start(parser: Parser<'_>, alloc: Global) -> Result<(), Error>
     ensures rejected { IfErr result (IsParseError (version_of parser.entry) dictionary_field (input_of parser.entry)) }
-    ensures memory { IfErr result (NeedsMoreThanSpaces (input_of parser.entry)) }
+    ensures memory { IfErr result (NeedsMemory dictionary_field (input_of parser.entry)) }
 {
     let mut cursor = Cursor::new(parser, alloc);
     cursor.skip_sp();

@@ -25,11 +25,11 @@ ghost use Rattle.sfv_reading.specs.Bare.{bare_at};
 ghost use Rattle.sfv_reading.specs.Items.{parameters_at, item_at};
 ghost use Rattle.sfv_reading.specs.Members.{inner_item_at, inner_items_at, inner_at, member_at, member_value_at, entry_at, keyed_at};
 ghost use Rattle.sfv_reading.specs.Fields.{members_at};
-ghost use Rattle.sfv.specs.Memory.{HasMoreThanSpaces, NeedsMoreThanSpaces};
+ghost use Rattle.sfv.specs.Memory.{MayNeedMemory, NeedsMemory};
 ghost use Rattle.sfv.specs.Parsers.{input_of, version_of, IsParseError};
-ghost use Rattle.sfv.specs.parser.Cursor.{version, rest, Reads};
+ghost use Rattle.sfv.specs.parser.Cursor.{input, version, rest, Reads};
 ghost use Rattle.sfv.specs.parser.Members.{after_begin};
-ghost use Rattle.sfv.specs.parser.Trees.{Builds, FailsAs, HeadHasSeed, head_tree, ordered_pairs};
+ghost use Rattle.sfv.specs.parser.Trees.{Builds, FailsAs, NeedsText, HeadHasSeed, head_tree, ordered_pairs};
 ghost use Rattle.sfv.specs.parser.Visits.{IsOfVisitor};
 
 use crate::parser::Parser;
@@ -192,6 +192,7 @@ impl<'de> Cursor<'de> {
         requires { params.old.entries ≡ [] }
         ensures tree { Builds (λ _. pairs_tree params.new.entries) collapse parameters_events
             self.old self.new result parameters_at }
+        ensures memory { OnErr result (MayNeedMemory item_field (input self.old)) }
         ensures seed { hasher_of params.new ≡ hasher_of params.old }
     {
         if self.next_is(b';') {
@@ -205,6 +206,7 @@ impl<'de> Cursor<'de> {
     fn owned_bare_item(&mut self) -> Result<BareItem, ParseError<OutOfMemory>>
         ensures read { IfOk result (λ value. Reads bare_value self.old self.new (Ok value) (bare_at (version self.old))) }
         ensures failed { IfErr result (λ error. FailsAs item_events self.old error item_at) }
+        ensures memory { IfErr result (NeedsText (input self.old)) }
     {
         let bare_item = self.bare_item()?;
         own(bare_item, self.alloc)
@@ -220,6 +222,7 @@ impl<'de> Cursor<'de> {
         requires { params.old.entries ≡ [] }
         ensures tree { Builds (λ bare_item. item_with bare_item params.new.entries) ordered_item item_events
             self.old self.new result item_at }
+        ensures memory { IfErr result (NeedsText (input self.old)) }
         ensures seed { hasher_of params.new ≡ hasher_of params.old }
     {
         let bare_item = self.owned_bare_item()?;
@@ -400,7 +403,7 @@ impl<'de> Cursor<'de> {
             (λ version. members_at entry_events (entry_at version)) }
         ensures end { OnOk result (rest self.new ≡ []) }
         ensures seed { IfOk result (λ list. ListHasSeed self.old.parser.seed list.items) }
-        ensures memory { OnErr result (HasMoreThanSpaces (rest self.old)) }
+        ensures memory { OnErr result (MayNeedMemory list_field (rest self.old)) }
     {
         let mut list = List::new(self.alloc);
         self.skip_sp();
@@ -421,7 +424,7 @@ impl<'de> Cursor<'de> {
             (λ version. members_at keyed_events (keyed_at version)) }
         ensures end { OnOk result (rest self.new ≡ []) }
         ensures seed { IfOk result (DictionaryHasSeed self.old.parser.seed) }
-        ensures memory { OnErr result (HasMoreThanSpaces (rest self.old)) }
+        ensures memory { OnErr result (MayNeedMemory dictionary_field (rest self.old)) }
     {
         let mut dictionary = Dictionary::with_hasher(self.alloc, self.parser.seed);
         self.skip_sp();
@@ -447,7 +450,7 @@ pub(crate) fn parse_item(parser: Parser<'_>, alloc: Global) -> Result<Item, Erro
         IsParsedAs (version_of parser.entry) item_field (input_of parser.entry) (item_tree item)) }
     ensures seed { IfOk result (ItemHasSeed parser.entry.seed) }
     ensures rejected { IfErr result (IsParseError (version_of parser.entry) item_field (input_of parser.entry)) }
-    ensures memory { IfErr result (NeedsMoreThanSpaces (input_of parser.entry)) }
+    ensures memory { IfErr result (NeedsMemory item_field (input_of parser.entry)) }
 {
     let mut cursor = Cursor::new(parser, alloc);
     cursor.skip_sp();
@@ -476,7 +479,7 @@ pub(crate) fn parse_list(parser: Parser<'_>, alloc: Global) -> Result<List, Erro
         IsParsedAs (version_of parser.entry) list_field (input_of parser.entry) (list_tree list.items)) }
     ensures seed { IfOk result (λ list. ListHasSeed parser.entry.seed list.items) }
     ensures rejected { IfErr result (IsParseError (version_of parser.entry) list_field (input_of parser.entry)) }
-    ensures memory { IfErr result (NeedsMoreThanSpaces (input_of parser.entry)) }
+    ensures memory { IfErr result (NeedsMemory list_field (input_of parser.entry)) }
 {
     let mut cursor = Cursor::new(parser, alloc);
     match cursor.tree_list() {
@@ -497,7 +500,7 @@ pub(crate) fn parse_dictionary(parser: Parser<'_>, alloc: Global) -> Result<Dict
         (input_of parser.entry) (dictionary_tree dictionary.entries)) }
     ensures seed { IfOk result (DictionaryHasSeed parser.entry.seed) }
     ensures rejected { IfErr result (IsParseError (version_of parser.entry) dictionary_field (input_of parser.entry)) }
-    ensures memory { IfErr result (NeedsMoreThanSpaces (input_of parser.entry)) }
+    ensures memory { IfErr result (NeedsMemory dictionary_field (input_of parser.entry)) }
 {
     let mut cursor = Cursor::new(parser, alloc);
     match cursor.tree_dictionary() {

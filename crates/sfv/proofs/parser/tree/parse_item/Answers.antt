@@ -1,7 +1,12 @@
-use Rattle.std.proofs.Common.{◌∙◌, sym, ap}
+use Rattle.std.proofs.Common.{◌∙◌, sym, ap, subst}
+use Rattle.std.specs.declared.alloc.Global.{Global}
 use Rattle.indexmap.specs.IndexMap.{hasher_of}
 use Rattle.sfv_tree.specs.Trees.{item_tree}
-use Rattle.sfv.proofs.trees.Items.{item_rejected, item_syntax_memory, item_memory, item_trailing, item_read}
+use Rattle.sfv.proofs.trees.Items.{item_rejected, item_syntax_memory, item_trailing, item_read}
+use Rattle.sfv_spec.specs.declared.field_kind.FieldKind.TheVariants.{Item as item_field}
+use Rattle.sfv.specs.declared.parser.Parser.{Parser}
+use Rattle.sfv.specs.Memory.{MayNeedMemory}
+use Rattle.sfv.specs.parser.Cursor.{kept_input}
 use Rattle.sfv.proofs.parser.tree.parse_item.Goals as goal
 
 pub returns-in-Err-Syntax-clause-rejected : goal.returns-in-Err-Syntax-clause-rejected
@@ -18,9 +23,9 @@ returns-in-Err-Syntax-clause-memory c =
     (rw c.in-Err-Syntax.field-0-is at c.in-Err-Syntax.ensures.tree))
 
 pub returns-clause-memory : goal.returns-clause-memory
-returns-clause-memory c _ = item_memory c.new-cursor.result c.skip_sp.new.self (c.args.parser, c.args.alloc) _
-    (c.skip_sp.ensures.kept ∙ c.new-cursor.ensures.kept) c.new-cursor.ensures.rest c.skip_sp.ensures.skipped.1
-    c.in-Err-Visitor.error (rw c.in-Err-Visitor.field-0-is at c.in-Err-Visitor.ensures.tree)
+returns-clause-memory c _ = subst (λ (k : Parser × Global). MayNeedMemory item_field (kept_input k))
+    (c.skip_sp.ensures.kept ∙ c.new-cursor.ensures.kept)
+    (c.in-Err-Visitor.ensures.memory c.in-Err-Visitor.error c.in-Err-Visitor.field-0-is)
 
 pub returns-then-is_some-clause-rejected : goal.returns-then-is_some-clause-rejected
 returns-then-is_some-clause-rejected c =

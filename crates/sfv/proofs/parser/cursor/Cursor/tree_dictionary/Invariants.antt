@@ -1,11 +1,12 @@
 use Rattle.std.proofs.Common.{◌≡◌, true, length}
 use Rattle.indexmap.specs.IndexMap.{hasher_of}
+use Rattle.sfv_spec.specs.declared.field_kind.FieldKind.TheVariants.{Dictionary as dictionary_field}
 use Rattle.sfv_spec.specs.Events.{keyed_events}
 use Rattle.sfv_tree.specs.Trees.{dictionary_tree}
 use Rattle.sfv_tree.specs.Seeds.{EntriesHaveSeed}
 use Rattle.sfv_reading.specs.Members.{keyed_at}
 use Rattle.sfv_reading.specs.Fields.{members_at}
-use Rattle.sfv.specs.Memory.{HasMoreThanSpaces}
+use Rattle.sfv.specs.Memory.{MayNeedMemory}
 use Rattle.sfv.specs.parser.Cursor.{version, rest}
 use Rattle.sfv.proofs.visits.Loops.{members_loop}
 use Rattle.sfv.proofs.trees.Loops.{BuiltSoFar}
@@ -19,7 +20,7 @@ invariant-loop-dictionary l = record {
       (dictionary_tree l.dictionary.entries);
   hasher : hasher_of l.dictionary ≡ l.fn.self.parser.seed;
   seed : EntriesHaveSeed l.fn.self.parser.seed l.dictionary.entries;
-  more : HasMoreThanSpaces (rest l.fn.self);
+  more : MayNeedMemory dictionary_field (rest l.fn.self);
 }
 
 abbrev pub decreases-loop-dictionary : goal.decreases-loop-dictionary

@@ -1,11 +1,12 @@
 use Rattle.std.proofs.Common.{false, length, map}
+use Rattle.sfv_spec.specs.declared.field_kind.FieldKind.TheVariants.{List as list_field}
 use Rattle.sfv_spec.specs.Events.{entry_events}
 use Rattle.sfv_spec.specs.Ordered.{ordered_member}
 use Rattle.sfv_tree.specs.Trees.{list_tree}
 use Rattle.sfv_tree.specs.Seeds.{ListHasSeed}
 use Rattle.sfv_reading.specs.Members.{entry_at}
 use Rattle.sfv_reading.specs.Fields.{members_at}
-use Rattle.sfv.specs.Memory.{HasMoreThanSpaces}
+use Rattle.sfv.specs.Memory.{MayNeedMemory}
 use Rattle.sfv.specs.parser.Cursor.{version, rest}
 use Rattle.sfv.proofs.visits.Loops.{members_loop}
 use Rattle.sfv.proofs.trees.Loops.{BuiltSoFar}
@@ -16,7 +17,7 @@ invariant-loop-list l = record {
   built : BuiltSoFar (members_loop false) (map ordered_member) l.fn.self
       (members_at entry_events (entry_at (version l.fn.self)) (rest l.fn.self)) l.self (list_tree l.list.items);
   seed : ListHasSeed l.fn.self.parser.seed l.list.items;
-  more : HasMoreThanSpaces (rest l.fn.self);
+  more : MayNeedMemory list_field (rest l.fn.self);
 }
 
 abbrev pub decreases-loop-list : goal.decreases-loop-list

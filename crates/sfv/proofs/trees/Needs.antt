@@ -1,0 +1,47 @@
+-- Texts for whose item memory may be needed.
+use Rattle.std.proofs.Common.{◌≡◌, ℕ, Bool, true, false, List, [], ◌∷◌, ◌++◌, Ok, drop, take, refl, sym, subst, ap, inl, inr}
+use Rattle.std.proofs.Math.Bool.{or-true}
+use Rattle.std.specs.Prelude.{IsTrue, ◌||◌}
+use Rattle.std.specs.List.{Contains}
+use Rattle.std.proofs.lemmas.Bool.{cases_Bool}
+use Rattle.std.proofs.lemmas.List.{take-append-drop}
+use Rattle.std.proofs.lemmas.List.Elements.{Contains-append_right}
+use Rattle.sfv_spec.proofs.Marks.{double_quote, percent_sign, semicolon}
+use Rattle.sfv_spec.specs.Classes.{is_token_start}
+use Rattle.sfv_spec.specs.Values.{BareValue}
+use Rattle.sfv_spec.specs.declared.field_kind.FieldKind.TheVariants.{Item as item_field}
+use Rattle.sfv_reading.specs.Reader.{byte, branch, fail}
+use Rattle.sfv_reading.specs.Bare.{token_at}
+use Rattle.sfv.specs.Memory.{may_need_memory, MayNeedMemory}
+use Rattle.sfv.specs.parser.Cursor.{input, rest, NextIs}
+use Rattle.sfv.specs.declared.parser.cursor.Cursor.{Cursor}
+use Rattle.sfv.proofs.Memory.{first_in}
+
+-- the next byte is in the input
+next_needs : (class : ℕ → Bool) → ((b : ℕ) → class b ≡ true → IsTrue (may_need_memory item_field b)) → (c : Cursor)
+    → NextIs class true (rest c) → MayNeedMemory item_field (input c)
+next_needs class may c h =
+    let here : Contains (rest c) h.0 = subst (λ (t : List ℕ). Contains t h.0) (sym h.2) (first_in h.0 h.1) in
+    let there : Contains (take c.index (input c) ++ rest c) h.0 =
+    Contains-append_right (take c.index (input c)) (rest c) h.0 here in
+    (h.0, subst (λ (t : List ℕ). Contains t h.0) (take-append-drop c.index (input c)) there, may h.0 h.3)
+
+pub quote_next : (c : Cursor) → NextIs (byte double_quote) true (rest c) → MayNeedMemory item_field (input c)
+quote_next = next_needs (byte double_quote) (λ b e. rw (e, or-true (is_token_start b)) refl)
+
+pub percent_next : (c : Cursor) → NextIs (byte percent_sign) true (rest c) → MayNeedMemory item_field (input c)
+percent_next = next_needs (byte percent_sign) (λ b e. rw (e, or-true _) refl)
+
+pub semicolon_next : (c : Cursor) → NextIs (byte semicolon) true (rest c) → MayNeedMemory item_field (input c)
+semicolon_next = next_needs (byte semicolon) (λ b e. rw (e, or-true _) refl)
+
+token_first : (t : List ℕ) (x : BareValue × List ℕ) → token_at t ≡ Ok x → NextIs is_token_start true t
+unfolding token_at branch fail
+token_first [] x h = absurd cc
+token_first (c ∷ t) x h = elim (cases_Bool (is_token_start c)) [
+  | inl yes ↦ (c, t, refl, yes)
+  | inr no ↦ absurd (let none = rw no at h in cc)
+]
+
+pub token_next : (c : Cursor) (x : BareValue × List ℕ) → token_at (rest c) ≡ Ok x → MayNeedMemory item_field (input c)
+token_next c x h = next_needs is_token_start (λ b e. rw e refl) c (token_first (rest c) x h)
