@@ -1,9 +1,8 @@
 -- Texts for whose item memory may be needed.
-use Rattle.std.proofs.Common.{◌≡◌, ℕ, Bool, true, false, List, [], ◌∷◌, ◌++◌, Ok, drop, take, refl, sym, subst, ap, inl, inr}
+use Rattle.std.proofs.Common.{◌≡◌, ℕ, Bool, true, false, List, [], ◌∷◌, ◌++◌, Ok, drop, take, refl, sym, subst}
 use Rattle.std.proofs.Math.Bool.{or-true}
 use Rattle.std.specs.Prelude.{IsTrue, ◌||◌}
 use Rattle.std.specs.List.{Contains}
-use Rattle.std.proofs.lemmas.Bool.{cases_Bool}
 use Rattle.std.proofs.lemmas.List.{take-append-drop}
 use Rattle.std.proofs.lemmas.List.Elements.{Contains-append_right}
 use Rattle.sfv_spec.proofs.Marks.{double_quote, percent_sign, semicolon}
@@ -38,10 +37,11 @@ semicolon_next = next_needs (byte semicolon) (λ b e. rw (e, or-true _) refl)
 token_first : (t : List ℕ) (x : BareValue × List ℕ) → token_at t ≡ Ok x → NextIs is_token_start true t
 unfolding token_at branch fail
 token_first [] x h = absurd cc
-token_first (c ∷ t) x h = elim (cases_Bool (is_token_start c)) [
-  | inl yes ↦ (c, t, refl, yes)
-  | inr no ↦ absurd (let none = rw no at h in cc)
-]
+token_first (c ∷ t) x h = go (is_token_start c) refl
+  where
+    go : (b : Bool) → is_token_start c ≡ b → NextIs is_token_start true (c ∷ t)
+    go true e = (c, t, refl, e)
+    go false e = absurd (let none = rw e at h in cc)
 
 pub token_next : (c : Cursor) (x : BareValue × List ℕ) → token_at (rest c) ≡ Ok x → MayNeedMemory item_field (input c)
 token_next c x h = next_needs is_token_start (λ b e. rw e refl) c (token_first (rest c) x h)
