@@ -1,5 +1,6 @@
 //! The Cache-Status field: its last hit.
 
+use crate::common::repeated;
 use sfv::{ErrorKind, Version};
 use sfv_fields::cache_status::last_hit;
 use std::alloc::Global;
@@ -39,9 +40,39 @@ fn last_hits_are_found(rt: HostRuntime) {
         ("(a; hit); hit; ttl=1", None),
         ("a; hit, (b; ttl=1); ttl=2", Some(None)),
         ("a; hit; ttl=\"\\\"\"", Some(None)),
+        ("a;hit", Some(None)),
+        ("\"a\";hit", Some(None)),
+        ("\"\\\"\";hit;ttl=1", Some(Some(1))),
+        ("(a);hit", None),
+        ("1;hit", None),
+        ("1.0;hit", None),
+        ("?1;hit", None),
+        (":aGk=:;hit", None),
+        ("@1;hit", None),
+        ("%\"a\";hit", None),
+        ("a;hit;ttl=1, 1;hit;ttl=2", Some(Some(1))),
     ];
     for &(input, expected) in rows {
         assert!(rt; has_hit(rt.alloc(), input, expected));
+    }
+}
+
+// Returns `true` if the field of repeated parts has this last hit.
+fn has_hit_after(alloc: Global, field: (&str, &str, &str), times: u32, ttl: i64) -> bool {
+    let (first, part, last) = field;
+    match repeated(alloc, first, part, times, last) {
+        Some(field) => has_hit(alloc, field.as_str(), Some(Some(ttl))),
+        None => false,
+    }
+}
+
+#[test]
+fn long_fields_are_read_to_the_end(rt: HostRuntime) {
+    let alloc = rt.alloc();
+    for &times in &[255, 300, 70_000] {
+        assert!(rt; has_hit_after(alloc, ("a", ";p", ";hit;ttl=7"), times, 7));
+        assert!(rt; has_hit_after(alloc, ("", "a;hit, ", "b;hit;ttl=7"), times, 7));
+        assert!(rt; has_hit_after(alloc, ("a;hit;ttl=7", ", (b;x c);hit", ""), times, 7));
     }
 }
 

@@ -1,6 +1,6 @@
 //! The Content-Digest field.
 
-use crate::common::has_text;
+use crate::common::{has_text, repeated};
 use sfv::{Error, ErrorKind};
 use sfv_fields::content_digest::{ContentDigest, DigestError, read, reread, write};
 use std::alloc::Global;
@@ -66,6 +66,29 @@ fn faults_have_their_error(rt: HostRuntime) {
     }
     let fault = Error::at(ErrorKind::InvalidByteSequence, 10);
     assert!(rt; has_fault(rt.alloc(), "sha-256=:A?:", fault));
+}
+
+/// Returns `true` if the field of repeated parts has a SHA-512 digest of three bytes, and no other.
+fn has_last(alloc: Global, field: (&str, &str, &str), times: u32) -> bool {
+    let (first, part, last) = field;
+    let Some(field) = repeated(alloc, first, part, times, last) else {
+        return false;
+    };
+    match read(alloc, field.as_str().as_bytes()) {
+        Ok(digest) => match &digest.sha_512 {
+            Some(bytes) => digest.sha_256.is_none() & (bytes.as_slice() == b"abc".as_slice()),
+            None => false,
+        },
+        Err(_) => false,
+    }
+}
+
+#[test]
+fn long_fields_are_read_to_the_end(rt: HostRuntime) {
+    for &times in &[255, 300, 70_000] {
+        assert!(rt; has_last(rt.alloc(), ("", "sha-512=1, ", "sha-512=:YWJj:"), times));
+        assert!(rt; has_last(rt.alloc(), ("sha-512=:YWJj:", ";p", ", md5=:AA==:"), times));
+    }
 }
 
 /// Returns the text of the digests of the field.

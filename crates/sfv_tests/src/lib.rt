@@ -16,6 +16,8 @@ mod given;
 #[cfg(test)]
 mod priority;
 #[cfg(test)]
+mod proxy_status;
+#[cfg(test)]
 mod readers;
 #[cfg(test)]
 mod requests;

@@ -1,5 +1,6 @@
 //! The Priority field, with and without a tree, and its text.
 
+use crate::common::repeated;
 use sfv::{Dictionary, Parser, Version};
 use sfv_answers::priority::{Priority, priority_from_dictionary, read_priority, write_priority};
 use std::alloc::Global;
@@ -101,4 +102,26 @@ fn priorities_are_read_and_written(rt: HostRuntime) {
         );
     }
     assert!(rt; Priority::new(3, false) == Priority::default());
+}
+
+/// Returns `true` if the field of repeated parts has this urgency and flag under both versions.
+fn is_read_after(alloc: Global, field: (&str, &str, &str), times: u32, wanted: (u8, bool)) -> bool {
+    let (first, part, last) = field;
+    match repeated(alloc, first, part, times, last) {
+        Some(field) => {
+            is_read(alloc, Version::Rfc8941, field.as_str(), wanted)
+                && is_read(alloc, Version::Rfc9651, field.as_str(), wanted)
+        }
+        None => false,
+    }
+}
+
+#[test]
+fn long_fields_are_read_to_the_end(rt: HostRuntime) {
+    let alloc = rt.alloc();
+    for &times in &[255, 300, 70_000] {
+        assert!(rt; is_read_after(alloc, ("", "u=1, ", "u=5, i"), times, (5, true)));
+        assert!(rt; is_read_after(alloc, ("u=6, i", ", a", ""), times, (6, true)));
+        assert!(rt; is_read_after(alloc, ("u=1", ";x=9", ", i"), times, (1, true)));
+    }
 }

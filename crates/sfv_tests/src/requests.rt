@@ -93,6 +93,43 @@ fn lines_are_joined(rt: HostRuntime) {
     }
 }
 
+/// The head of a request with `lines` lines of the field `a`, and the text of the field.
+fn long_head(alloc: Global, lines: u8) -> Option<(Vec<u8>, Vec<u8>)> {
+    let mut head = b"GET / HTTP/1.1\r\n".to_vec(alloc).ok()?;
+    let mut text = Vec::new(alloc);
+    for line in 0..lines {
+        let digit = b'0' + line % 10;
+        head.extend_from_slice(b"a: ").ok()?;
+        head.push(digit).ok()?;
+        head.extend_from_slice(b"\r\nb: x\r\n").ok()?;
+        if line > 0 {
+            text.extend_from_slice(b", ").ok()?;
+        }
+        text.push(digit).ok()?;
+    }
+    head.extend_from_slice(b"\r\n").ok()?;
+    Some((head, text))
+}
+
+// Returns `true` if the field of a head with this number of lines is complete.
+fn is_joined(alloc: Global, lines: u8) -> bool {
+    let Some((head, text)) = long_head(alloc, lines) else {
+        return false;
+    };
+    let mut headers = [EMPTY_HEADER_SPAN; 256];
+    match request_field(alloc, "a", head.as_slice(), &mut headers) {
+        Ok(Status::Complete(found)) => found == text,
+        _ => false,
+    }
+}
+
+#[test]
+fn many_lines_are_joined(rt: HostRuntime) {
+    for &lines in &[0, 1, 32, 63, 64, 65, 100, 128] {
+        assert!(rt; is_joined(rt.alloc(), lines), "{lines}");
+    }
+}
+
 #[test]
 fn heads_may_be_none(rt: HostRuntime) {
     let alloc = rt.alloc();

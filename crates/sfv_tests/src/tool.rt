@@ -1,22 +1,25 @@
 //! Runs of the program `sfv_tool` over memory.
 
 use sfv::HashSeed;
-use sfv_answers::run::{run, run_with_random_seed};
+use sfv_answers::run::{random_seed, run, run_with_random_seed};
 use std::alloc::Global;
+use std::cell::Cell;
+use std::hash::{BuildHasher, Hasher};
 use std::io;
-use std::io::{Read, Write};
+use std::io::{ErrorKind, Read, Write};
 use std::random::RandomSource;
 
-/// A reader that fails after its bytes.
+/// A reader that fails after its bytes, with an error of this kind.
 #[derive(Drop)]
 struct Broken<'a> {
     left: &'a [u8],
+    kind: ErrorKind,
 }
 
 impl Read for Broken<'_> {
     fn read(&mut self, buf: &mut [u8]) -> io::Result<usize> {
         if self.left.is_empty() {
-            return Err(io::Error::from(io::ErrorKind::BrokenPipe));
+            return Err(io::Error::from(self.kind));
         }
         self.left.read(buf)
     }
@@ -237,13 +240,12 @@ fn other_arguments_have_the_usage(rt: HostRuntime) {
     }
 }
 
-/// Returns `true` if a run over this input, with errors into memory, ends with this error.
-fn is_unreadable<R: Read>(alloc: Global, input: &mut R) -> bool {
+/// Returns `true` if a run over an input that fails with this kind ends with this error.
+fn is_unreadable(alloc: Global, args: &str, kind: ErrorKind, error: &str) -> bool {
+    let mut input = Broken { left: b"1;a", kind };
     let (mut output, mut errors) = (Vec::new(alloc), Vec::new(alloc));
-    let status = status_of(alloc, "item 9651", input, &mut output, &mut errors);
-    status == Some(1)
-        && output.is_empty()
-        && errors.as_slice() == b"error: cannot read input\n".as_slice()
+    let status = status_of(alloc, args, &mut input, &mut output, &mut errors);
+    status == Some(1) && output.is_empty() && errors.as_slice() == error.as_bytes()
 }
 
 /// Returns `true` if a run over this output reports that it cannot be written, with status 1.
@@ -270,11 +272,26 @@ fn status_with_full_errors(alloc: Global, args: &str) -> Option<u8> {
 #[test]
 fn readers_and_writers_may_fail(rt: HostRuntime) {
     let alloc = rt.alloc();
-    assert!(rt; is_unreadable(alloc, &mut Broken { left: b"1;a" }));
     assert!(rt; is_unwritable(alloc, &mut Full));
     assert!(rt; is_unwritable(alloc, &mut Unflushed));
     assert!(rt; status_with_full_errors(alloc, "item 9651") == Some(1));
     assert!(rt; status_with_full_errors(alloc, "") == Some(2));
+}
+
+// A failed allocation while the input is read is reported as such.
+#[test]
+fn failed_reads_have_their_error(rt: HostRuntime) {
+    let unread = "error: cannot read input\n";
+    let rows = &[
+        (ErrorKind::BrokenPipe, unread),
+        (ErrorKind::Other, unread),
+        (ErrorKind::OutOfMemory, "error: out of memory\n"),
+    ];
+    for &(kind, error) in rows {
+        for &args in &["item 9651", "dict 8941", "priority 9651"] {
+            assert!(rt; is_unreadable(rt.alloc(), args, kind, error), "{args}");
+        }
+    }
 }
 
 /// A source of random bytes that has none.
@@ -286,12 +303,20 @@ impl RandomSource for NoRandomBytes {
     }
 }
 
-/// A source of random bytes that are all zero.
-struct Zeros;
+/// A source of the bytes 1, 2, 3, .. for each call, which counts its calls.
+#[derive(Drop)]
+struct Counted {
+    calls: Cell<u32>,
+}
 
-impl RandomSource for Zeros {
+impl RandomSource for Counted {
     fn fill_bytes(&self, buf: &mut [u8]) -> io::Result<()> {
-        buf.fill(0);
+        self.calls.set(self.calls.get().wrapping_add(1));
+        let mut next = 1u8;
+        for byte in buf {
+            *byte = next;
+            next = next.wrapping_add(1);
+        }
         Ok(())
     }
 }
@@ -321,14 +346,45 @@ fn ends_under<S: RandomSource>(
         && status == wanted.2
 }
 
-// Wrong arguments have the usage, with and without random bytes.
+/// Returns the number of calls of the source in a run that writes exactly these texts, and has this status.
+fn calls_of(alloc: Global, args: &str, wanted: (&str, &str, u8)) -> Option<u32> {
+    let random = Counted {
+        calls: Cell::new(0),
+    };
+    if ends_under(alloc, &random, args, wanted) {
+        Some(random.calls.get())
+    } else {
+        None
+    }
+}
+
+// Wrong arguments have the usage, and `priority` has its result, with and without random bytes.
 #[test]
-fn only_right_arguments_take_random_bytes(rt: HostRuntime) {
+fn only_fields_take_random_bytes(rt: HostRuntime) {
     let alloc = rt.alloc();
     let usage = ("", USAGE, 2);
     let no_seed = ("", "error: no random seed\n", 1);
     assert!(rt; ends_under(alloc, &NoRandomBytes, "dict", usage));
     assert!(rt; ends_under(alloc, &NoRandomBytes, "dict 9651", no_seed));
-    assert!(rt; ends_under(alloc, &Zeros, "dict", usage));
-    assert!(rt; ends_under(alloc, &Zeros, "dict 9651", ("a=2\n", "", 0)));
+    assert!(rt; ends_under(alloc, &NoRandomBytes, "priority 9651", ("\n", "", 0)));
+    assert!(rt; calls_of(alloc, "dict", usage) == Some(0));
+    assert!(rt; calls_of(alloc, "priority 9651", ("\n", "", 0)) == Some(0));
+    assert!(rt; calls_of(alloc, "dict 9651", ("a=2\n", "", 0)) == Some(1));
+}
+
+// The seed is that of the source's bytes: another number has another hash of no key.
+#[test]
+fn seeds_are_the_bytes_of_the_source(rt: HostRuntime) {
+    let random = Counted {
+        calls: Cell::new(0),
+    };
+    let Ok(seed) = random_seed(&random) else {
+        panic!(rt; "no seed");
+    };
+    let hash = seed.build_hasher().finish();
+    assert!(rt; hash == HashSeed::new(0x0807_0605_0403_0201).build_hasher().finish());
+    assert!(rt; hash != HashSeed::new(0x0102_0304_0506_0708).build_hasher().finish());
+    assert!(rt; hash != HashSeed::default().build_hasher().finish());
+    assert!(rt; random.calls.get() == 1);
+    assert!(rt; random_seed(&NoRandomBytes).is_err());
 }
