@@ -15,7 +15,7 @@ ghost use Rattle.sfv_tree.specs.Trees.{item_tree, list_tree, dictionary_tree};
 ghost use Rattle.sfv_tree.specs.Seeds.{ItemHasSeed, ListHasSeed, DictionaryHasSeed};
 ghost use Rattle.sfv_tree.specs.declared.hash_seed.HashSeed.{HashSeed};
 ghost use Rattle.sfv_spec.specs.Canonical.{canonical};
-ghost use Rattle.sfv_writer.specs.Versions.{ChecksVersionFirst, OnOutOfMemory};
+ghost use Rattle.sfv_writer.specs.Versions.{ChecksVersionFirst, OnOutOfMemory, OnUnsupported};
 ghost use Rattle.sfv_writer.specs.Written.{AppendsOrKeeps, LacksRoom};
 ghost use Rattle.sfv.specs.Parsers.{input_of, version_of, IsParseError};
 ghost use Rattle.sfv.specs.Memory.{NeedsMemory};
@@ -118,6 +118,7 @@ pub trait FieldType: sealed::Sealed + Drop {
         ensures stays { string_capacity text.old ≤ string_capacity text.new }
         ensures has_member { IfOk result (λ any. IsTrue any ↔ HasMember kind (tree self.now)) }
         ensures unsupported { ChecksVersionFirst version (bare_values kind (tree self.now)) result }
+        ensures untouched { OnUnsupported result (text.new ≡ text.old) }
         ensures read_back { OnOk result (IsParsedAs version kind (canonical kind (tree self.now)) (tree self.now)) };
 
     ghost into_written: { (result : Self.SerializeResult) (text : Option (Text Heap))

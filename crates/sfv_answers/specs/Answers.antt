@@ -14,7 +14,7 @@ use Rattle.sfv.specs.Errors.{error_text}
 use Rattle.sfv.specs.Parsers.{IsParseError}
 use Rattle.sfv.specs.Versions.{IsSerializeError, serialize_error_text}
 use Rattle.sfv.specs.Types.serialize_errors as serialize_errors
-use Rattle.sfv_fields.specs.Priority.{PriorityValue, priority_text, IsPriorityOf, NeedsMark}
+use Rattle.sfv_fields.specs.Priority.{PriorityValue, priority_text, IsPriorityOf, ErrorNeedsMark}
 use Rattle.sfv_answers.specs.declared.answer.ToolFault.{ToolFault}
 use Rattle.sfv_answers.specs.declared.answer.ToolFault.TheVariants as faults
 
@@ -65,6 +65,6 @@ pub record IsPriorityAnswer (version : Version) (input text : List ℕ) : Type 0
 -- percent sign or a colon; while it is written, only after it was parsed.
 abbrev pub IsPriorityFault : Version → List ℕ → ToolFault → Type 0
 IsPriorityFault version input (faults.Read error) =
-    IsParseError version dictionary_field (without_newline input) error × NeedsMark (without_newline input) error
+    IsParseError version dictionary_field (without_newline input) error × ErrorNeedsMark (without_newline input) error
 IsPriorityFault version input (faults.Write error) = (error ≡ serialize_errors.OutOfMemory)
     × (value : PriorityValue) × IsPriorityOf version (without_newline input) value

@@ -2,7 +2,7 @@
 #![tactic(auto)]
 
 ghost use Rattle.std.specs.Prelude.{◌≡◌, IfOk, IfErr, option_map, codes};
-ghost use Rattle.sfv_field.specs.Field.{integer_of, dictionary_field, last_of, IsParseError, NeedsMark};
+ghost use Rattle.sfv_field.specs.Field.{integer_of, dictionary_field, last_of, IsParseError, ErrorNeedsMark};
 ghost use Rattle.sfv_cdn_cache_control.specs.MaxAge.{age_of, IsMaxAgeOf};
 
 use sfv::{BareItemFromInput, Error, Integer, KeyRef, Version};
@@ -56,7 +56,7 @@ pub fn max_age(alloc: Global, input: &[u8], version: Version) -> Result<Option<I
     ensures read { IfOk result (λ found.
         IsMaxAgeOf version input.now (option_map integer_of found)) }
     ensures rejected { IfErr result (IsParseError version dictionary_field input.now) }
-    ensures memory { IfErr result (NeedsMark input.now) }
+    ensures memory { IfErr result (ErrorNeedsMark input.now) }
 {
     let read = read_dictionary(alloc, input, version, MaxAge { seconds: None })?;
     Ok(read.seconds)

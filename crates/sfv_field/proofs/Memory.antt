@@ -9,7 +9,7 @@ use Rattle.sfv_base.specs.declared.error.Error.{Error}
 use Rattle.sfv_base.specs.declared.error.ParseError.{ParseError}
 use Rattle.sfv_base.specs.declared.error.ParseError.TheVariants.{Visitor}
 use Rattle.sfv.proofs.Callers.{FailsIn, HasVisitorError, accepted_or_not}
-use Rattle.sfv_field.specs.Words.{NeedsMark, NeedsMarkUnless}
+use Rattle.sfv_field.specs.Words.{ErrorNeedsMark, NeedsMarkUnless}
 
 module _ {S E : Type 0} (may_fail : Type 0) (takes : S → TreeEvent → S → Type 0) (from : S) where
   -- an error at some event, and none at the end
@@ -38,25 +38,25 @@ module _ {S E : Type 0} (may_fail : Type 0) (takes : S → TreeEvent → S → T
       (subst (λ (r : Result O (ParseError E)). IfErr r (HasVisitorError takes MayFail Never version kind t from)) is h)
 
 -- out of memory in the parser, and in the reader
-pub of_syntax : (may_fail : Type 0) (t : List ℕ) (e : Error) → NeedsMark t e → NeedsMarkUnless may_fail t e
+pub of_syntax : (may_fail : Type 0) (t : List ℕ) (e : Error) → ErrorNeedsMark t e → NeedsMarkUnless may_fail t e
 of_syntax may_fail t e h = λ same. inl (h same)
 
 pub of_reader : (may_fail : Type 0) (t : List ℕ) (e : Error) → may_fail → NeedsMarkUnless may_fail t e
 of_reader may_fail t e h = λ same. inr h
 
 -- a reader that never runs out of memory
-pub mark_needed : (t : List ℕ) (e : Error) → NeedsMarkUnless ⊥ t e → NeedsMark t e
+pub mark_needed : (t : List ℕ) (e : Error) → NeedsMarkUnless ⊥ t e → ErrorNeedsMark t e
 mark_needed t e h = λ same. elim (h same) [
   | inl mark ↦ mark
   | inr none ↦ absurd none
 ]
 
-pub marks_needed : {T : Type 0} (r : Result T Error) (t : List ℕ) → IfErr r (NeedsMarkUnless ⊥ t) → IfErr r (NeedsMark t)
+pub marks_needed : {T : Type 0} (r : Result T Error) (t : List ℕ) → IfErr r (NeedsMarkUnless ⊥ t) → IfErr r (ErrorNeedsMark t)
 marks_needed (Ok x) t h = tt
 marks_needed (Err e) t h = mark_needed t e h
 
 -- a reader of lists that doesn't, nor the one of its items
-pub mark_needed_of_list : (t : List ℕ) (e : Error) → NeedsMarkUnless (⊥ ⊎ ⊥) t e → NeedsMark t e
+pub mark_needed_of_list : (t : List ℕ) (e : Error) → NeedsMarkUnless (⊥ ⊎ ⊥) t e → ErrorNeedsMark t e
 mark_needed_of_list t e h = λ same. elim (h same) [
   | inl mark ↦ mark
   | inr (inl none) ↦ absurd none

@@ -17,4 +17,4 @@ pub use Rattle.sfv.specs.Field.{item_of_calls, member_of_calls, described_list, 
 pub use Rattle.sfv.specs.Field.{AppendsOrKeeps, IsSerialized}
 -- members and their parts
 pub use Rattle.sfv_field.specs.Words.{Head, of_item, of_inner_list, member_of, head_of, parameters_of, raw_item, put}
-pub use Rattle.sfv_field.specs.Words.{IsReadBy, NeedsMark, NeedsMarkUnless}
+pub use Rattle.sfv_field.specs.Words.{IsReadBy, ErrorNeedsMark, NeedsMarkUnless}

@@ -42,8 +42,8 @@ abbrev pub IsReadBy : {R : Type 0} → Version → (kind : FieldKind) → (R →
 IsReadBy version kind reads t found = (value : RawField kind) × IsParsedAs version kind t value × reads found value
 
 -- the error is out of memory only if the text contains a backslash, a percent sign or a colon
-abbrev pub NeedsMark : List ℕ → Error → Type 0
-NeedsMark t e = e ≡ out_of_memory → HoldsMark t
+abbrev pub ErrorNeedsMark : List ℕ → Error → Type 0
+ErrorNeedsMark t e = e ≡ out_of_memory → HoldsMark t
 
 -- the same, or if a reader may run out of memory
 abbrev pub NeedsMarkUnless : Type 0 → List ℕ → Error → Type 0

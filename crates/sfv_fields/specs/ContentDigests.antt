@@ -11,7 +11,7 @@ use Rattle.sfv.specs.Grammar.{IsFieldText}
 use Rattle.sfv.specs.Ordered.{last_of}
 use Rattle.sfv.specs.Errors.{out_of_memory}
 use Rattle.sfv.specs.Parsers.{IsParseError}
-use Rattle.sfv_field.specs.Field.{NeedsMark}
+use Rattle.sfv_field.specs.Field.{ErrorNeedsMark}
 use Rattle.sfv_fields.specs.declared.content_digest.ContentDigest.{ContentDigest}
 use Rattle.sfv_fields.specs.declared.content_digest.DigestError.{DigestError}
 use Rattle.sfv_fields.specs.declared.content_digest.DigestError.TheVariants as errors
@@ -86,7 +86,7 @@ IsDigestError text errors.WrongType = IsDictionary text HasWrongType
 
 -- the error is out of memory only if the text contains a backslash, a percent sign or a colon
 abbrev pub NeedsMarkFor : List ℕ → DigestError → Type 0
-NeedsMarkFor text (errors.Field e) = NeedsMark text e
+NeedsMarkFor text (errors.Field e) = ErrorNeedsMark text e
 NeedsMarkFor text errors.WrongType = ⊤
 
 -- if the text has digests, these are returned, unless memory ran out

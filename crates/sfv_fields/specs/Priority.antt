@@ -8,7 +8,7 @@ use Rattle.sfv.specs.Types.{dictionary_field}
 use Rattle.sfv.specs.Types.{Version}
 use Rattle.sfv.specs.Ordered.{last_of}
 use Rattle.sfv.specs.Statements.{IsParsedAs}
-pub use Rattle.sfv_field.specs.Field.{NeedsMark}
+pub use Rattle.sfv_field.specs.Field.{ErrorNeedsMark}
 use Rattle.sfv_fields.specs.declared.priority.value.Priority.{Priority}
 
 -- an Integer from 0 to 7, otherwise 3

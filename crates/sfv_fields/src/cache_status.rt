@@ -2,7 +2,7 @@
 //! user.
 
 ghost use Rattle.std.specs.Prelude.{◌≡◌, Some, IfOk, IfErr, option_map};
-ghost use Rattle.sfv_field.specs.Field.{list_field, ref_value, integer_of, IsParseError, NeedsMark};
+ghost use Rattle.sfv_field.specs.Field.{list_field, ref_value, integer_of, IsParseError, ErrorNeedsMark};
 ghost use Rattle.sfv_fields.specs.CacheStatus.{names_cache, is_true, integer_in, hit_value, last_hit_of, IsLastHitOf};
 
 use sfv::{
@@ -114,7 +114,7 @@ impl<'de> ListReader<'de> for LastHit {
 pub fn last_hit(alloc: Global, input: &[u8], version: Version) -> Result<Option<Hit>, Error>
     ensures read { IfOk result (λ found. IsLastHitOf version input.now (hit_value found)) }
     ensures rejected { IfErr result (IsParseError version list_field input.now) }
-    ensures memory { IfErr result (NeedsMark input.now) }
+    ensures memory { IfErr result (ErrorNeedsMark input.now) }
 {
     let read = read_list(alloc, input, version, LastHit { found: None })?;
     Ok(read.found)

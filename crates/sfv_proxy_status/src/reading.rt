@@ -1,7 +1,7 @@
 //! Parsing of the last member, without a list.
 
 ghost use Rattle.std.specs.Prelude.{◌≡◌, IfOk, IfErr, option_map, bytes_eq, codes, if◌then◌else◌};
-ghost use Rattle.sfv_field.specs.Field.{list_field, input_value, IsParseError, NeedsMark, text_of};
+ghost use Rattle.sfv_field.specs.Field.{list_field, input_value, IsParseError, ErrorNeedsMark, text_of};
 ghost use Rattle.sfv_proxy_status.specs.ProxyStatus.{name_in, error_in, status_in, name_value, proxy_value};
 ghost use Rattle.sfv_proxy_status.specs.ProxyStatus.{last_proxy_of, IsLastProxyOf};
 
@@ -170,7 +170,7 @@ pub fn last_proxy<'a>(
 ) -> Result<Option<Proxy<'a>>, Error>
     ensures read { IfOk result (λ found. IsLastProxyOf version input.now (option_map proxy_value found)) }
     ensures rejected { IfErr result (IsParseError version list_field input.now) }
-    ensures memory { IfErr result (NeedsMark input.now) }
+    ensures memory { IfErr result (ErrorNeedsMark input.now) }
 {
     let read = read_list(alloc, input, version, LastProxy { found: None })?;
     Ok(read.found)

@@ -1,13 +1,13 @@
 //! Serialization of dictionaries (RFC 9651, section 4.1.2).
 
-ghost use Rattle.std.specs.Prelude.{◌≤◌, OnOk, IfOk, IfErr, string_capacity};
+ghost use Rattle.std.specs.Prelude.{◌≡◌, ◌≤◌, OnOk, IfOk, IfErr, string_capacity};
 ghost use Rattle.sfv_spec.specs.Values.{HasMember, bare_values};
 ghost use Rattle.sfv_spec.specs.declared.field_kind.FieldKind.TheVariants.{Dictionary as dictionary_field};
 ghost use Rattle.sfv_spec.specs.Canonical.{canonical};
 ghost use Rattle.sfv_spec.specs.Statements.{IsValue};
 ghost use Rattle.sfv_tree.specs.Trees.{dictionary_tree};
 ghost use Rattle.sfv_writer.specs.Written.{AsksForRoom, Appends, AppendsOrKeeps, LacksRoom, IsSerialized};
-ghost use Rattle.sfv_writer.specs.Versions.{ChecksVersionFirst, OnOutOfMemory};
+ghost use Rattle.sfv_writer.specs.Versions.{ChecksVersionFirst, OnOutOfMemory, OnUnsupported};
 
 use crate::capacity::text_for_members;
 use crate::element::serialize_each;
@@ -58,8 +58,8 @@ pub fn dictionary_text(
     Ok(Some(text))
 }
 
-/// Appends a dictionary (RFC 9651, section 4.1.2), if `version` has every value. An empty dictionary appends nothing. After an error, `text` is
-/// unchanged.
+/// Appends a dictionary (RFC 9651, section 4.1.2), if `version` has every value. An empty dictionary appends nothing.
+/// After an error, `text` is unchanged.
 ///
 /// # Errors
 ///
@@ -71,10 +71,14 @@ pub fn append_dictionary<A: Allocator>(
     dictionary: &Dictionary,
     text: &mut StdString<A>,
 ) -> Result<(), SerializeError>
-    ensures text { AppendsOrKeeps text.old text.new (canonical dictionary_field (dictionary_tree dictionary.now.entries)) result }
-    ensures room { OnOutOfMemory result (LacksRoom text.old (canonical dictionary_field (dictionary_tree dictionary.now.entries))) }
+    ensures text { AppendsOrKeeps text.old text.new
+        (canonical dictionary_field (dictionary_tree dictionary.now.entries)) result }
+    ensures room { OnOutOfMemory result
+        (LacksRoom text.old (canonical dictionary_field (dictionary_tree dictionary.now.entries))) }
     ensures stays { string_capacity text.old ≤ string_capacity text.new }
-    ensures unsupported { ChecksVersionFirst version (bare_values dictionary_field (dictionary_tree dictionary.now.entries)) result }
+    ensures unsupported { ChecksVersionFirst version
+        (bare_values dictionary_field (dictionary_tree dictionary.now.entries)) result }
+    ensures untouched { OnUnsupported result (text.new ≡ text.old) }
     ensures value { OnOk result (IsValue dictionary_field (dictionary_tree dictionary.now.entries)) }
 {
     check_dictionary(version, dictionary)?;

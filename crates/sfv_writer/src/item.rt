@@ -18,7 +18,7 @@ ghost use Rattle.sfv_text.specs.CheckedTexts.{text_of};
 ghost use Rattle.sfv_tree.specs.Trees.{pairs_tree, item_tree};
 ghost use Rattle.sfv_writer.specs.Written.{AsksForRoom, Appends, AppendsOrKeeps, LacksRoom, Extends, param_text};
 ghost use Rattle.sfv_writer.specs.Pairs.{lent_pairs, pair_values};
-ghost use Rattle.sfv_writer.specs.Versions.{ChecksVersionFirst, OnOutOfMemory, FailsAmong, FailsFrom, LacksAmong, StopsEarly, AppendsParameters, parameter_pairs};
+ghost use Rattle.sfv_writer.specs.Versions.{ChecksVersionFirst, OnOutOfMemory, OnUnsupported, FailsAmong, FailsFrom, LacksAmong, StopsEarly, AppendsParameters, parameter_pairs};
 
 use crate::byte_sequence::serialize_byte_sequence;
 use crate::capacity::text_for_item;
@@ -333,6 +333,7 @@ pub fn append_item<A: Allocator>(
     ensures room { OnOutOfMemory result (LacksRoom text.old (item_text (item_tree item.now))) }
     ensures stays { string_capacity text.old ≤ string_capacity text.new }
     ensures unsupported { ChecksVersionFirst version (item_values (item_tree item.now)) result }
+    ensures untouched { OnUnsupported result (text.new ≡ text.old) }
     ensures value { OnOk result (IsValue item_field (item_tree item.now)) }
 {
     check_item(version, item)?;

@@ -1,13 +1,13 @@
 //! Serialization of lists (RFC 9651, section 4.1.1).
 
-ghost use Rattle.std.specs.Prelude.{◌≤◌, OnOk, IfOk, IfErr, string_capacity};
+ghost use Rattle.std.specs.Prelude.{◌≡◌, ◌≤◌, OnOk, IfOk, IfErr, string_capacity};
 ghost use Rattle.sfv_spec.specs.Values.{HasMember, bare_values};
 ghost use Rattle.sfv_spec.specs.declared.field_kind.FieldKind.TheVariants.{List as list_field};
 ghost use Rattle.sfv_spec.specs.Canonical.{canonical};
 ghost use Rattle.sfv_spec.specs.Statements.{IsValue};
 ghost use Rattle.sfv_tree.specs.Trees.{list_tree};
 ghost use Rattle.sfv_writer.specs.Written.{AsksForRoom, Appends, AppendsOrKeeps, LacksRoom, IsSerialized};
-ghost use Rattle.sfv_writer.specs.Versions.{ChecksVersionFirst, OnOutOfMemory};
+ghost use Rattle.sfv_writer.specs.Versions.{ChecksVersionFirst, OnOutOfMemory, OnUnsupported};
 
 use crate::capacity::text_for_members;
 use crate::element::serialize_each;
@@ -52,8 +52,8 @@ pub fn list_text(list: &List, alloc: Global) -> Result<Option<StdString>, OutOfM
     Ok(Some(text))
 }
 
-/// Appends a list (RFC 9651, section 4.1.1), if `version` has every value. An empty list appends nothing. After an error, `text` is
-/// unchanged.
+/// Appends a list (RFC 9651, section 4.1.1), if `version` has every value. An empty list appends nothing. After an
+/// error, `text` is unchanged.
 ///
 /// # Errors
 ///
@@ -69,6 +69,7 @@ pub fn append_list<A: Allocator>(
     ensures room { OnOutOfMemory result (LacksRoom text.old (canonical list_field (list_tree list.now.items))) }
     ensures stays { string_capacity text.old ≤ string_capacity text.new }
     ensures unsupported { ChecksVersionFirst version (bare_values list_field (list_tree list.now.items)) result }
+    ensures untouched { OnUnsupported result (text.new ≡ text.old) }
     ensures value { OnOk result (IsValue list_field (list_tree list.now.items)) }
 {
     check_list(version, list)?;

@@ -1,7 +1,7 @@
 //! Parsing of the Priority field without a map.
 
 ghost use Rattle.std.specs.Prelude.{◌≡◌, IfOk, IfErr};
-ghost use Rattle.sfv_field.specs.Field.{dictionary_field, IsParseError, NeedsMark};
+ghost use Rattle.sfv_field.specs.Field.{dictionary_field, IsParseError, ErrorNeedsMark};
 ghost use Rattle.sfv_fields.specs.Priority.{value_of, priority, IsPriorityOf};
 
 use crate::priority::value::Priority;
@@ -69,7 +69,7 @@ impl<'de> DictionaryReader<'de> for Priority {
 pub fn read_priority(alloc: Global, input: &[u8], version: Version) -> Result<Priority, Error>
     ensures read { IfOk result (λ found. IsPriorityOf version input.now (value_of found)) }
     ensures rejected { IfErr result (IsParseError version dictionary_field input.now) }
-    ensures memory { IfErr result (NeedsMark input.now) }
+    ensures memory { IfErr result (ErrorNeedsMark input.now) }
 {
     read_dictionary(alloc, input, version, Priority::default())
 }
