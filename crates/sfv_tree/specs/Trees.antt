@@ -33,7 +33,8 @@ abbrev pub member_tree : ListEntry → RawMember
 member_tree (entries.Item i) = item (item_tree i)
 member_tree (entries.InnerList l) = inner_list (inner_list_tree l)
 
--- A copy needs no memory: of an item without text, bytes and parameters, and of an empty inner list without parameters.
+-- A copy of this value needs no memory. An item has no text, no bytes and no parameters; an inner list has no items and
+-- no parameters.
 abbrev pub NeedsNoMemory : RawMember → Type 0
 NeedsNoMemory (item i) = (holds_bytes i.bare ≡ false) × (i.parameters ≡ [])
 NeedsNoMemory (inner_list l) = (l.items ≡ []) × (l.parameters ≡ [])
