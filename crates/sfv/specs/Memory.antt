@@ -22,18 +22,14 @@ may_need_memory item_field c = is_token_start c || c == byte "\"" || c == byte "
     || c == byte ";"
 may_need_memory kind c = not (c == byte " ")
 
--- the text contains such a byte
-abbrev pub MayNeedMemory : FieldKind → List ℕ → Type 0
-MayNeedMemory kind t = (c : ℕ) × Contains t c × IsTrue (may_need_memory kind c)
-
 -- the error is out of memory only if the text contains such a byte
 abbrev pub NeedsMark : {E : Type 0} → List ℕ → ParseError E → Type 0
 NeedsMark t (parse_errors.Syntax e) = e ≡ out_of_memory → HoldsMark t
 NeedsMark t (parse_errors.Visitor fault) = ⊤
 
--- the error is out of memory only if the field may need memory
+-- the error is out of memory only if the text contains such a byte
 abbrev pub NeedsMemory : FieldKind → List ℕ → Error → Type 0
-NeedsMemory kind t e = e ≡ out_of_memory → MayNeedMemory kind t
+NeedsMemory kind t e = e ≡ out_of_memory → (c : ℕ) × Contains t c × IsTrue (may_need_memory kind c)
 
 -- the error is out of memory, and the text contains such a byte
 abbrev pub IsRefusal : List ℕ → Error → Type 0

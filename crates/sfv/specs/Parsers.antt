@@ -80,15 +80,11 @@ IsEventText version (event.BareItem read) t = IsReadAs version read t
 IsEventText version (event.Parameter key read) t = IsReadAs version read t
 IsEventText version e t = t ≡ []
 
--- a text without a double quote
-abbrev pub HasNoQuote : List ℕ → Type 0
-HasNoQuote = RunOf (λ c. not (c == byte "\""))
-
 -- The texts of these events are in `t`, in this order. No double quote is outside them.
 abbrev pub AreReadFrom : Version → List Event → List ℕ → Type 0
-AreReadFrom version [] t = HasNoQuote t
-AreReadFrom version (e ∷ es) t = (gap at rest : List ℕ) × (t ≡ gap ++ at ++ rest) × HasNoQuote gap
-    × IsEventText version e at × AreReadFrom version es rest
+AreReadFrom version [] t = RunOf (λ c. not (c == byte "\"")) t
+AreReadFrom version (e ∷ es) t = (gap at rest : List ℕ) × (t ≡ gap ++ at ++ rest)
+    × RunOf (λ c. not (c == byte "\"")) gap × IsEventText version e at × AreReadFrom version es rest
 
 -- what a visitor in the state `from` does
 module _ {S O E : Type 0} (v : Visitor S O E) (from : S) where

@@ -77,8 +77,8 @@ pub record IsPut (reading writing : Version) (kind : FieldKind) (input old new :
   pub serialized : IsSerializedAs writing kind value text
   pub put : PutsText text old new w
 
--- The input is rejected by the one version, or the other lacks a value of it. Parsing allocates only if the input
--- may need memory (`MayNeedMemory`), and writing only if there is a member.
+-- The input is rejected by the one version, or the other lacks a value of it. Parsing runs out of memory only if the
+-- input may need it (`NeedsMemory`), and writing only if there is a member.
 abbrev pub IsFault : Version → Version → FieldKind → List ℕ → CallFault → Type 0
 IsFault reading writing kind input (faults.Read e) = IsParseError reading kind input e × NeedsMemory kind input e
 IsFault reading writing kind input (faults.Write e) = (value : RawField kind) × IsParsedAs reading kind input value

@@ -99,13 +99,12 @@ step_state (steps.Ended m) = ended (member_tree m)
 
 -- the parameters in the member so far hash under this seed
 abbrev pub HasSeedSoFar : HashSeed → Member → Type 0
-HasSeedSoFar seed members.Begun = ⊤
-HasSeedSoFar seed members.ItemHead = ⊤
 HasSeedSoFar seed (members.ItemParams i) = ItemHasSeed seed i
 HasSeedSoFar seed (members.Items l) = InnerListHasSeed seed l
 HasSeedSoFar seed (members.InnerHead l) = InnerListHasSeed seed l
 HasSeedSoFar seed (members.InnerParams l i) = InnerListHasSeed seed l × ItemHasSeed seed i
 HasSeedSoFar seed (members.ListParams l) = InnerListHasSeed seed l
+HasSeedSoFar seed p = ⊤
 
 -- the same for a member that is complete or not
 abbrev pub StepHasSeed : HashSeed → Step → Type 0
@@ -120,13 +119,14 @@ item_state b = step_state b.item
 abbrev pub IsItemUnder : HashSeed → ItemBuilder → Type 0
 IsItemUnder seed b = (b.seed ≡ seed) × StepHasSeed seed b.item
 
--- `after` is under each seed that `s` is under
-abbrev pub KeepsItemSeed : ItemBuilder → ItemBuilder → Type 0
-KeepsItemSeed s after = (seed : HashSeed) → IsItemUnder seed s → IsItemUnder seed after
-
 -- each element was there before, or `P` holds of it
 abbrev pub AddsTo : {A : Type 0} → (A → Type 0) → List A → List A → Type 0
 AddsTo P before after = All (λ x. Contains before x ⊎ P x) after
+
+-- `after` adds maps under each seed that `s` does. Each member was there before, or hashes under that seed.
+abbrev pub AddsUnder : {B A : Type 0} → (HashSeed → B → Type 0) → (B → List A) → (HashSeed → A → Type 0) → B → B → Type 0
+AddsUnder adds members has s after = (seed : HashSeed) → adds seed s
+    → adds seed after × AddsTo (has seed) (members s) (members after)
 
 -- the complete members of a state
 abbrev pub complete : {A B : Type 0} → A × B → A
@@ -160,11 +160,6 @@ list_state b = (list_tree b.list.items, option_map member_state b.member)
 abbrev pub ListAddsUnder : HashSeed → ListBuilder → Type 0
 ListAddsUnder seed b = (b.seed ≡ seed) × MatchOption b.member ⊤ (HasSeedSoFar seed)
 
--- `after` adds maps under each seed that `s` does. Each member was there before, or hashes under that seed.
-abbrev pub KeepsListSeed : ListBuilder → ListBuilder → Type 0
-KeepsListSeed s after = (seed : HashSeed) → ListAddsUnder seed s
-    → ListAddsUnder seed after × AddsTo (MemberHasSeed seed) s.list.items after.list.items
-
 -- the state of a dictionary's builder: the complete members, and the current member, if there is one, with their keys
 abbrev pub DictionaryState : Type 0
 DictionaryState = List (List ℕ × RawMember) × Option (List ℕ × MemberState)
@@ -193,8 +188,3 @@ dictionary_state b = (dictionary_tree b.dictionary.entries, option_map (λ m. (m
 -- the dictionary hashes under this seed, and so does the current member
 abbrev pub DictionaryAddsUnder : HashSeed → DictionaryBuilder → Type 0
 DictionaryAddsUnder seed b = (hasher_of b.dictionary ≡ seed) × MatchOption b.member ⊤ (λ p. HasSeedSoFar seed p.1)
-
--- `after` adds maps under each seed that `s` does. Each member was there before, or hashes under that seed.
-abbrev pub KeepsDictionarySeed : DictionaryBuilder → DictionaryBuilder → Type 0
-KeepsDictionarySeed s after = (seed : HashSeed) → DictionaryAddsUnder seed s → DictionaryAddsUnder seed after
-    × AddsTo (λ p. MemberHasSeed seed p.1) s.dictionary.entries after.dictionary.entries

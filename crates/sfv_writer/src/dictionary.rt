@@ -5,7 +5,7 @@ ghost use Rattle.sfv_spec.specs.Values.{HasMember, bare_values};
 ghost use Rattle.sfv_spec.specs.declared.field_kind.FieldKind.TheVariants.{Dictionary as dictionary_field};
 ghost use Rattle.sfv_spec.specs.Canonical.{canonical};
 ghost use Rattle.sfv_spec.specs.Statements.{IsValue};
-ghost use Rattle.sfv_tree.specs.Trees.{dictionary_tree};
+ghost use Rattle.sfv_tree.specs.Trees.{dictionary_tree, dictionary_tree as tree};
 ghost use Rattle.sfv_writer.specs.Written.{AsksForRoom, Appends, AppendsOrKeeps, LacksRoom, IsSerialized};
 ghost use Rattle.sfv_writer.specs.Versions.{ChecksVersionFirst, OnOutOfMemory, OnUnsupported};
 
@@ -72,14 +72,14 @@ pub fn append_dictionary<A: Allocator>(
     text: &mut StdString<A>,
 ) -> Result<(), SerializeError>
     ensures text { AppendsOrKeeps text.old text.new
-        (canonical dictionary_field (dictionary_tree dictionary.now.entries)) result }
+        (canonical dictionary_field (tree dictionary.now.entries)) result }
     ensures room { OnOutOfMemory result
-        (LacksRoom text.old (canonical dictionary_field (dictionary_tree dictionary.now.entries))) }
+        (LacksRoom text.old (canonical dictionary_field (tree dictionary.now.entries))) }
     ensures stays { string_capacity text.old ≤ string_capacity text.new }
     ensures unsupported { ChecksVersionFirst version
-        (bare_values dictionary_field (dictionary_tree dictionary.now.entries)) result }
+        (bare_values dictionary_field (tree dictionary.now.entries)) result }
     ensures untouched { OnUnsupported result (text.new ≡ text.old) }
-    ensures value { OnOk result (IsValue dictionary_field (dictionary_tree dictionary.now.entries)) }
+    ensures value { OnOk result (IsValue dictionary_field (tree dictionary.now.entries)) }
 {
     check_dictionary(version, dictionary)?;
     let len = text.len();

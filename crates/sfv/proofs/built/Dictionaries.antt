@@ -29,7 +29,7 @@ use Rattle.sfv_visitor.specs.Builders.{dictionary_state}
 use Rattle.sfv_tree.specs.declared.parsed.ListEntry.{ListEntry}
 use Rattle.sfv_visitor.specs.declared.visitor.dictionary_builder.DictionaryBuilder.{DictionaryBuilder}
 use Rattle.sfv.proofs.Relations.{Answers}
-use Rattle.sfv_visitor.specs.Builders.{DictionaryAddsUnder, KeepsDictionarySeed, AddsTo}
+use Rattle.sfv_visitor.specs.Builders.{DictionaryAddsUnder, AddsUnder, AddsTo}
 use Rattle.sfv_tree.specs.declared.hash_seed.HashSeed.{HashSeed}
 use Rattle.sfv_tree.specs.Seeds.{MemberHasSeed, EntriesHaveSeed, DictionaryHasSeed}
 use Rattle.sfv_visitor.proofs.Seeded.{adds_all}
@@ -72,7 +72,9 @@ abbrev Places : DictionaryBuilder → TreeEvent → DictionaryBuilder → Type 0
 Places s e after = dictionary_state after ≡ dictionary_step (dictionary_state s) e
 
 abbrev Steps : DictionaryBuilder → TreeEvent → DictionaryBuilder → Type 0
-Steps s e after = (dictionary_state after ≡ dictionary_step (dictionary_state s) e) × KeepsDictionarySeed s after
+Steps s e after = (dictionary_state after ≡ dictionary_step (dictionary_state s) e)
+    × AddsUnder DictionaryAddsUnder (λ (b : DictionaryBuilder). b.dictionary.entries)
+    (λ seed (p : List ℕ × ListEntry). MemberHasSeed seed p.1) s after
 
 abbrev Ends : DictionaryBuilder → IndexMap (List ℕ) ListEntry HashSeed → Type 0
 Ends s dictionary = dictionary ≡ s.dictionary

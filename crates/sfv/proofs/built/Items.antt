@@ -13,10 +13,10 @@ use Rattle.std.specs.List.{FoldsTo}
 use Rattle.sfv_spec.proofs.Collapse.{entered, collapse-push}
 use Rattle.sfv_tree.specs.Trees.{item_tree}
 use Rattle.sfv_visitor.specs.Builders.{MemberState, item_head, item_parameters, ended, member_step, item_state, takes_memory}
-use Rattle.sfv_visitor.specs.Builders.{IsItemUnder, KeepsItemSeed}
+use Rattle.sfv_visitor.specs.Builders.{IsItemUnder}
 use Rattle.sfv_base.specs.declared.error.ParseError.TheVariants.{Visitor}
 use Rattle.sfv_tree.specs.declared.hash_seed.HashSeed.{HashSeed}
-use Rattle.sfv_tree.specs.Seeds.{ItemHasSeed}
+use Rattle.sfv_tree.specs.Seeds.{ItemHasSeed, KeepsSeed}
 use Rattle.sfv.proofs.built.Seeded.{answer_seeded}
 use Rattle.sfv_visitor.specs.declared.visitor.ItemFault.{ItemFault}
 use Rattle.sfv_visitor.specs.declared.visitor.ItemFault.TheVariants as faults
@@ -26,7 +26,7 @@ use Rattle.sfv.proofs.Relations.{Answers, FailsIn, HasVisitorError, item_failed}
 
 -- what the builder does with an event, and with the end
 abbrev Steps : ItemBuilder → TreeEvent → ItemBuilder → Type 0
-Steps s e after = (item_state after ≡ member_step (item_state s) e) × KeepsItemSeed s after
+Steps s e after = (item_state after ≡ member_step (item_state s) e) × KeepsSeed IsItemUnder s after
 
 abbrev Ends : ItemBuilder → Item → Type 0
 Ends s out = (item_state s ≡ ended (item (item_tree out)))

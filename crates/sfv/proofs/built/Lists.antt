@@ -22,7 +22,7 @@ use Rattle.sfv_visitor.specs.Builders.{settle, list_step, complete, list_state}
 use Rattle.sfv_tree.specs.declared.parsed.ListEntry.{ListEntry}
 use Rattle.sfv_visitor.specs.declared.visitor.list_builder.ListBuilder.{ListBuilder}
 use Rattle.sfv.proofs.Relations.{Answers}
-use Rattle.sfv_visitor.specs.Builders.{ListAddsUnder, KeepsListSeed, AddsTo}
+use Rattle.sfv_visitor.specs.Builders.{ListAddsUnder, AddsUnder, AddsTo}
 use Rattle.sfv_tree.specs.declared.hash_seed.HashSeed.{HashSeed}
 use Rattle.sfv_tree.specs.Seeds.{MemberHasSeed, ListHasSeed}
 use Rattle.sfv_visitor.proofs.Seeded.{adds_all}
@@ -34,7 +34,8 @@ abbrev Places : ListBuilder → TreeEvent → ListBuilder → Type 0
 Places s e after = list_state after ≡ list_step (list_state s) e
 
 abbrev Steps : ListBuilder → TreeEvent → ListBuilder → Type 0
-Steps s e after = (list_state after ≡ list_step (list_state s) e) × KeepsListSeed s after
+Steps s e after = (list_state after ≡ list_step (list_state s) e)
+    × AddsUnder ListAddsUnder (λ (b : ListBuilder). b.list.items) MemberHasSeed s after
 
 abbrev Ends : ListBuilder → Vec ListEntry Global → Type 0
 Ends s list = list ≡ s.list

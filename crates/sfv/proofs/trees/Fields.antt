@@ -31,7 +31,7 @@ use Rattle.sfv.specs.parser.Cursor.{kept, kept_input, kept_version, version, res
 use Rattle.sfv.specs.parser.Trees.{Builds, FailsAs, ordered_pairs}
 use Rattle.sfv.proofs.trees.Errors.{Any, NoMemory, as_answer}
 use Rattle.sfv.specs.parser.Visits.{VisitsAnswer}
-use Rattle.sfv.specs.Memory.{MayNeedMemory}
+use Rattle.sfv.specs.parser.Cursor.{MayNeedMemory}
 use Rattle.sfv.specs.Parsers.{IsParseError}
 use Rattle.sfv.proofs.Memory.{first_in}
 use Rattle.sfv.proofs.Parsed.{parsed, parse_error}

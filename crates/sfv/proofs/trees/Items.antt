@@ -24,7 +24,8 @@ use Rattle.sfv.specs.declared.parser.Parser.{Parser}
 use Rattle.sfv.specs.declared.parser.cursor.Cursor.{Cursor}
 use Rattle.sfv.specs.parser.Cursor.{kept, kept_input, kept_version, version, rest, IsErrorOf}
 use Rattle.sfv.specs.parser.Trees.{FailsAs}
-use Rattle.sfv.specs.Memory.{HoldsMark, MayNeedMemory, NeedsMemory}
+use Rattle.sfv.specs.Memory.{HoldsMark, NeedsMemory}
+use Rattle.sfv.specs.parser.Cursor.{MayNeedMemory}
 use Rattle.sfv.specs.Parsers.{IsParseError}
 use Rattle.sfv.proofs.Parsed.{parsed, parse_error}
 use Rattle.sfv.proofs.reads.Errors.{kept_reads, ErrorOf-same}

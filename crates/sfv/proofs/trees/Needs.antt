@@ -11,7 +11,8 @@ use Rattle.sfv_spec.specs.Values.{BareValue}
 use Rattle.sfv_spec.specs.declared.field_kind.FieldKind.TheVariants.{Item as item_field}
 use Rattle.sfv_reading.specs.Reader.{byte, branch, fail}
 use Rattle.sfv_reading.specs.Bare.{token_at}
-use Rattle.sfv.specs.Memory.{may_need_memory, MayNeedMemory}
+use Rattle.sfv.specs.Memory.{may_need_memory}
+use Rattle.sfv.specs.parser.Cursor.{MayNeedMemory}
 use Rattle.sfv.specs.parser.Cursor.{input, rest, NextIs}
 use Rattle.sfv.specs.declared.parser.cursor.Cursor.{Cursor}
 use Rattle.sfv.proofs.Memory.{first_in}

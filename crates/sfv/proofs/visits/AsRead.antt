@@ -35,8 +35,8 @@ use Rattle.sfv_reading.proofs.Theorems.{read_is_accepted}
 use Rattle.sfv.specs.declared.parser.Parser.{Parser}
 use Rattle.sfv.specs.declared.parser.cursor.Cursor.{Cursor}
 use Rattle.sfv.specs.declared.parser.item.ReadParameter.{ReadParameter}
-use Rattle.sfv.specs.Parsers.{version_of, input_of, HasNoQuote, AreReadFrom, IsEventText, ReceivesAsReadBy}
-use Rattle.sfv.specs.parser.AsRead.{Passes, IsNextValue, TakesNext, Never, ReadsEvents}
+use Rattle.sfv.specs.Parsers.{version_of, input_of, AreReadFrom, IsEventText, ReceivesAsReadBy}
+use Rattle.sfv.specs.parser.AsRead.{HasNoQuote, Passes, IsNextValue, TakesNext, Never, ReadsEvents}
 use Rattle.sfv.specs.parser.Cursor.{kept, kept_version, version, rest, ReadsOrOutOfMemory, TakesIf}
 use Rattle.sfv.specs.parser.Members.{after_begin, member_parts, one_member_at, field_of}
 use Rattle.sfv.specs.parser.Quoted.{IsBorrowedUnlessEscaped}

@@ -1,5 +1,7 @@
 -- The events that a visitor receives as read, with the text from which each is read.
-use Rattle.std.specs.Prelude.{◌≡◌, ℕ, List, ◌++◌, Ok}
+use Rattle.std.specs.Prelude.{◌≡◌, ◌==◌, not, ℕ, List, ◌++◌, Ok}
+use Rattle.sfv_spec.specs.Ascii.{byte}
+use Rattle.sfv_spec.specs.Texts.{RunOf}
 use Rattle.sfv_spec.specs.declared.version.Version.{Version}
 use Rattle.sfv_spec.specs.Events.{TreeEvent}
 use Rattle.sfv_visitor.specs.declared.visitor.Event.{Event}
@@ -7,9 +9,13 @@ use Rattle.sfv_visitor.specs.Events.{event_of}
 use Rattle.sfv_visitor.specs.ProvidedVisitors.{ReadBareItem}
 use Rattle.sfv_reading.specs.Reader.{Reader}
 use Rattle.sfv.specs.declared.parser.cursor.Cursor.{Cursor}
-use Rattle.sfv.specs.Parsers.{IsReadAs, IsEventText, HasNoQuote}
+use Rattle.sfv.specs.Parsers.{IsReadAs, IsEventText}
 use Rattle.sfv.specs.parser.Cursor.{version, rest}
 use Rattle.sfv.specs.parser.Visits.{Visits}
+
+-- a text without a double quote
+abbrev pub HasNoQuote : List ℕ → Type 0
+HasNoQuote = RunOf (λ c. not (c == byte "\""))
 
 -- the bytes of `t` before its end `r` have no double quote
 abbrev pub Passes : List ℕ → List ℕ → Type 0

@@ -1,6 +1,9 @@
 -- The state of a cursor, and the results of parsing functions.
-use Rattle.std.specs.Prelude.{◌≡◌, ℕ, ◌≤◌, Bool, true, false, List, ◌∷◌, length, drop, Result, Ok, Err, MatchOption}
+use Rattle.std.specs.Prelude.{◌≡◌, ℕ, ◌≤◌, Bool, true, false, IsTrue, List, ◌∷◌, length, drop, Result, Ok, Err}
+use Rattle.std.specs.Prelude.{MatchOption}
+use Rattle.std.specs.List.{Contains}
 use Rattle.std.specs.declared.alloc.Global.{Global}
+use Rattle.sfv_spec.specs.declared.field_kind.FieldKind.{FieldKind}
 use Rattle.sfv_spec.specs.declared.version.Version.{Version}
 use Rattle.sfv_base.specs.declared.error.Error.{Error}
 use Rattle.sfv_spec.specs.declared.error_kind.ErrorKind.{ErrorKind}
@@ -8,7 +11,7 @@ use Rattle.sfv_base.specs.Errors.{kind_of, index_of}
 use Rattle.sfv_reading.specs.Reader.{Fault, Answer, Reader, Apart}
 use Rattle.sfv.specs.declared.parser.Parser.{Parser}
 use Rattle.sfv.specs.declared.parser.cursor.Cursor.{Cursor}
-use Rattle.sfv.specs.Memory.{IsRefusal}
+use Rattle.sfv.specs.Memory.{may_need_memory, IsRefusal}
 
 -- the parts of a cursor that no parsing function changes: the parser and the allocator
 abbrev pub kept : Cursor → Parser × Global
@@ -30,6 +33,10 @@ version c = kept_version (kept c)
 -- the input from the next byte on
 abbrev pub rest : Cursor → List ℕ
 rest c = drop c.index (input c)
+
+-- the text contains a byte for which memory may be needed
+abbrev pub MayNeedMemory : FieldKind → List ℕ → Type 0
+MayNeedMemory kind t = (c : ℕ) × Contains t c × IsTrue (may_need_memory kind c)
 
 -- a reader's result in terms of the code: for a fault, the kind of error, and the input from the fault on
 abbrev pub located : {A : Type 0} → Answer A → Result (A × List ℕ) (ErrorKind × List ℕ)

@@ -19,7 +19,7 @@ use Rattle.sfv.specs.declared.parser.cursor.Cursor.{Cursor}
 use Rattle.sfv.specs.declared.parser.tree.Head.{Head}
 use Rattle.sfv.specs.declared.parser.tree.Head.TheVariants as heads
 use Rattle.sfv_spec.specs.declared.field_kind.FieldKind.TheVariants.{Item as item_field}
-use Rattle.sfv.specs.Memory.{MayNeedMemory}
+use Rattle.sfv.specs.parser.Cursor.{MayNeedMemory}
 use Rattle.sfv.specs.parser.Cursor.{kept, input, version, rest, IsErrorOf}
 
 -- At these events memory may run out: a key or a text is copied, or a map or a list grows.

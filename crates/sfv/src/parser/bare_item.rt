@@ -11,7 +11,7 @@ ghost use Rattle.sfv_bare.specs.BareItems.{input_value, is_borrowed};
 ghost use Rattle.sfv_reading.specs.Reader.{byte};
 ghost use Rattle.sfv_reading.specs.Bare.{is_number_start, boolean_at, date_at, token_at, bare_at};
 ghost use Rattle.sfv.specs.parser.Cursor.{input, version, rest, Reads, ReadsOrOutOfMemory, NextIs};
-ghost use Rattle.sfv.specs.Memory.{MayNeedMemory};
+ghost use Rattle.sfv.specs.parser.Cursor.{MayNeedMemory};
 ghost use Rattle.sfv.specs.parser.Quoted.{IsBorrowedUnlessEscaped};
 
 use crate::parser::cursor::Cursor;

@@ -2,12 +2,12 @@
 
 ghost use Rattle.std.specs.Prelude.{◌≡◌, false, OnOk, OnErr, IsTrue};
 ghost use Rattle.sfv_spec.specs.Values.{RawItem, item};
-ghost use Rattle.sfv_tree.specs.Seeds.{ItemHasSeed};
+ghost use Rattle.sfv_tree.specs.Seeds.{ItemHasSeed, KeepsSeed};
 ghost use Rattle.sfv_tree.specs.Trees.{item_tree};
 ghost use Rattle.sfv_tree.specs.declared.hash_seed.HashSeed.{HashSeed};
 ghost use Rattle.sfv_visitor.specs.Events.{event_of, is_moved};
 ghost use Rattle.sfv_visitor.specs.Builders.{item_head, ended, member_step, item_state, takes_memory};
-ghost use Rattle.sfv_visitor.specs.Builders.{IsItemUnder, KeepsItemSeed};
+ghost use Rattle.sfv_visitor.specs.Builders.{IsItemUnder};
 ghost use Rattle.sfv_visitor.specs.declared.visitor.ItemFault.TheVariants as faults;
 
 use crate::visitor::member::{Member, Step};
@@ -48,7 +48,7 @@ impl ItemBuilder {
         ensures state { OnOk result (item_state self.new ≡ member_step (item_state self.old) (event_of event.entry)) }
         ensures out_of_memory { OnErr result (IsTrue (takes_memory (item_state self.old) (event_of event.entry))) }
         ensures copied { OnErr result (is_moved event.entry ≡ false) }
-        ensures seed { OnOk result (KeepsItemSeed self.old self.new) }
+        ensures seed { OnOk result (KeepsSeed IsItemUnder self.old self.new) }
     {
         match mem::replace(&mut self.item, Step::Within(Member::ItemHead)) {
             Step::Within(item) => self.item = item.step(self.alloc, self.seed, 0, event)?,
@@ -64,7 +64,7 @@ impl<'de> Visitor<'de> for ItemBuilder {
     type Error = ItemFault;
 
     ghost takes = { λ s event after.
-        (item_state after ≡ member_step (item_state s) event) × KeepsItemSeed s after };
+        (item_state after ≡ member_step (item_state s) event) × KeepsSeed IsItemUnder s after };
 
     ghost fails = { λ s event fault. (fault ≡ faults.OutOfMemory) × IsTrue (takes_memory (item_state s) event) };
 

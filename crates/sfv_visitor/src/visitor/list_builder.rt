@@ -1,13 +1,14 @@
 //! The visitor that builds a list.
 
 ghost use Rattle.std.specs.Prelude.{◌≡◌, ⊤, false, None, OnOk, OnErr, IsTrue};
+ghost use Rattle.sfv_tree.specs.Seeds.{MemberHasSeed};
 ghost use Rattle.sfv_tree.specs.Trees.{list_tree};
 ghost use Rattle.sfv_bare.specs.BareItems.{input_value};
 ghost use Rattle.sfv_spec.specs.Events as tree;
 ghost use Rattle.sfv_text.specs.CheckedTexts.{text_of};
 ghost use Rattle.sfv_visitor.specs.Events.{event_of, is_moved};
 ghost use Rattle.sfv_visitor.specs.Builders.{list_step, list_state, list_takes_memory};
-ghost use Rattle.sfv_visitor.specs.Builders.{ListAddsUnder, KeepsListSeed};
+ghost use Rattle.sfv_visitor.specs.Builders.{ListAddsUnder, AddsUnder};
 
 use crate::visitor::member::{Member, Step};
 use crate::visitor::{Event, Visitor};
@@ -56,7 +57,8 @@ impl ListBuilder {
     ) -> Result<(), OutOfMemory>
         ensures state { OnOk result (list_state self.new
             ≡ list_step (list_state self.old) (tree.parameter (text_of key.entry) (input_value value.entry))) }
-        ensures seed { OnOk result (KeepsListSeed self.old self.new) }
+        ensures seed { OnOk result
+            (AddsUnder ListAddsUnder (λ b. b.list.items) MemberHasSeed self.old self.new) }
         ensures out_of_memory { OnErr result (IsTrue (list_takes_memory (list_state self.old)
             (tree.parameter (text_of key.entry) (input_value value.entry)))) }
     {
@@ -70,7 +72,8 @@ impl ListBuilder {
     #[inline(always)]
     fn step(&mut self, event: Event<'_>) -> Result<(), OutOfMemory>
         ensures state { OnOk result (list_state self.new ≡ list_step (list_state self.old) (event_of event.entry)) }
-        ensures seed { OnOk result (KeepsListSeed self.old self.new) }
+        ensures seed { OnOk result
+            (AddsUnder ListAddsUnder (λ b. b.list.items) MemberHasSeed self.old self.new) }
         ensures out_of_memory { OnErr result (IsTrue (list_takes_memory (list_state self.old) (event_of event.entry))) }
         ensures copied { OnErr result (is_moved event.entry ≡ false) }
     {
@@ -99,7 +102,8 @@ impl<'de> Visitor<'de> for ListBuilder {
     type Error = OutOfMemory;
 
     ghost takes = { λ s event after.
-        (list_state after ≡ list_step (list_state s) event) × KeepsListSeed s after };
+        (list_state after ≡ list_step (list_state s) event)
+        × AddsUnder ListAddsUnder (λ b. b.list.items) MemberHasSeed s after };
 
     ghost fails = { λ s event fault. IsTrue (list_takes_memory (list_state s) event) };
 

@@ -6,7 +6,7 @@ use Rattle.sfv_tree.specs.Trees.{list_tree}
 use Rattle.sfv_tree.specs.Seeds.{ListHasSeed}
 use Rattle.sfv_reading.specs.Members.{entry_at}
 use Rattle.sfv_reading.specs.Fields.{members_at}
-use Rattle.sfv.specs.Memory.{MayNeedMemory}
+use Rattle.sfv.specs.parser.Cursor.{MayNeedMemory}
 use Rattle.sfv.specs.parser.Cursor.{version, rest}
 use Rattle.sfv.proofs.visits.Loops.{members_loop}
 use Rattle.sfv.proofs.trees.Loops.{BuiltSoFar}
