@@ -8,15 +8,15 @@ use Rattle.sfv_spec.specs.declared.field_kind.FieldKind.{FieldKind}
 use Rattle.sfv_spec.specs.declared.field_kind.FieldKind.TheVariants.{Item as item_field, List as list_field}
 use Rattle.sfv_spec.specs.declared.field_kind.FieldKind.TheVariants.{Dictionary as dictionary_field}
 use Rattle.sfv_spec.specs.declared.version.Version.{Version}
-use Rattle.sfv_spec.specs.Values.{BareValue, boolean, RawParameters, RawItem, IsFieldValue}
+use Rattle.sfv_spec.specs.Values.{BareValue, boolean, RawParameters, RawItem, item, IsFieldValue}
 use Rattle.sfv_spec.specs.Ascii.{byte}
 use Rattle.sfv_spec.specs.Texts.{RunOf, ◌⨾◌, IsJoining, begins_with}
 use Rattle.sfv_spec.specs.Classes.{is_key_inner}
-use Rattle.sfv_spec.specs.Grammar.{Spaces, Comma, IsBareText, IsKeyText, IsValueText, IsMemberText}
+use Rattle.sfv_spec.specs.Grammar.{Spaces, Comma, IsBareText, IsKeyText, IsItemText, IsMemberText}
 use Rattle.sfv_spec.specs.Grammar.{IsDictionaryMemberText, IsFieldText, IsEnded, IsAccepted}
 use Rattle.sfv_spec.specs.Grammar.{BeginsWithLongest, BeginsWithComplete, HasField}
 use Rattle.sfv_spec.specs.Reach.{IsReach}
-use Rattle.sfv_spec.specs.Events.{TreeEvent, entry, keyed_entry, begins_item, bare_item}
+use Rattle.sfv_spec.specs.Events.{TreeEvent, entry, keyed_entry, begins_item, bare_item, parameter}
 use Rattle.sfv_spec.specs.Events.{parameters_events, item_events, events}
 use Rattle.sfv_spec.specs.Visiting.{BeginsEventsAfter}
 use Rattle.sfv_spec.specs.Faults.{IsFaultAt}
@@ -72,7 +72,7 @@ IsPlainDisplay t = (s : List ℕ) × (t ≡ byte "%" ∷ byte "\"" ∷ s) × Run
 abbrev pub IsBorrowedIfPlain : ReadBareItem → List ℕ → Type 0
 IsBorrowedIfPlain (bare.String text) t = IsTrue (is_borrowed_string text) ↔ IsPlainString t
 IsBorrowedIfPlain (bare.DisplayString text) t = IsTrue (is_borrowed_text text) ↔ IsPlainDisplay t
-IsBorrowedIfPlain item t = ⊤
+IsBorrowedIfPlain read t = ⊤
 
 -- `t` is the text of this value, which is borrowed if and only if it has no escape there. True may have no text.
 abbrev pub IsReadAs : Version → ReadBareItem → List ℕ → Type 0
@@ -101,20 +101,24 @@ IsBeforeMember version item_field i t = ⊥
 IsBeforeMember version list_field ms t = (Spaces ⨾ IsJoining (λ m. IsMemberText version m ⨾ Comma) ms) t
 IsBeforeMember version dictionary_field ms t = (Spaces ⨾ IsJoining (λ m. IsDictionaryMemberText version m ⨾ Comma) ms) t
 
+-- the events of an item before the end of its parameters
+abbrev pub open_events : RawItem → List TreeEvent
+open_events i = begins_item ∷ bare_item i.bare ∷ map (λ p. parameter p.0 p.1) i.parameters
+
 -- At the start of `t`, a member begins with these events, whatever follows.
 pub data BeginsMember (version : Version) (t : List ℕ) : FieldKind → List TreeEvent → Type 0 where
   -- a list member: the text is not empty, and does not begin with SP or a tab
   list_member : IsTrue (begins_with (λ c. not (c == byte " " || c == byte "\t")) t)
       → BeginsMember version t list_field (entry ∷ [])
-  -- a list member with a bare item that has ended
-  list_item : (value : BareValue) → (IsBareText version value ⨾ IsEnded) t
-      → BeginsMember version t list_field (entry ∷ begins_item ∷ bare_item value ∷ [])
+  -- a list member that begins with this item, which has ended or goes on with more parameters
+  list_item : (i : RawItem) → (IsItemText version i ⨾ IsEnded) t
+      → BeginsMember version t list_field (entry ∷ open_events i)
   -- a dictionary member with a key that has ended
   dictionary_key : (key : List ℕ) → (IsKeyText key ⨾ (λ more. IsFalse (begins_with is_key_inner more))) t
       → BeginsMember version t dictionary_field (keyed_entry key ∷ [])
-  -- a dictionary member with a bare item that has ended; without "=", it is true
-  dictionary_item : (key : List ℕ) (value : BareValue) → (IsKeyText key ⨾ IsValueText version value ⨾ IsEnded) t
-      → BeginsMember version t dictionary_field (keyed_entry key ∷ begins_item ∷ bare_item value ∷ [])
+  -- a dictionary member with this key and this item, in the same way
+  dictionary_item : (key : List ℕ) (i : RawItem) → (IsDictionaryMemberText version (key, item i) ⨾ IsEnded) t
+      → BeginsMember version t dictionary_field (keyed_entry key ∷ open_events i)
 
 -- what a visitor in the state `from` does
 module _ {S O E : Type 0} (v : Visitor S O E) (from : S) where
@@ -193,7 +197,8 @@ module _ {S O E : Type 0} (v : Visitor S O E) (p : Parser) (from : S) where
   abbrev pub ReceivesFirstBy : ParseError E → Type 0
   ReceivesFirstBy (parse_errors.Syntax e) = (e ≡ out_of_memory) ⊎ ((value : BareValue)
       → BeginsWithComplete (version_of p) value (input_of p) → (s : S) × v.takes from (bare_item value) s)
-  ReceivesFirstBy (parse_errors.Visitor error) = (raw : RawItem) × BeginsWithLongest (version_of p) raw.bare (input_of p)
+  ReceivesFirstBy (parse_errors.Visitor error) = (raw : RawItem)
+      × BeginsWithLongest (version_of p) raw.bare (input_of p)
       × ((value : BareValue) → BeginsWithComplete (version_of p) value (input_of p) → raw.bare ≡ value)
       × FailsOn v from (item_events raw) ⊤ error
 

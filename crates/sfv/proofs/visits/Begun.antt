@@ -3,42 +3,45 @@ use Rattle.std.proofs.Common.{◌≡◌, ℕ, ◌≤◌, eqb, true, false, List,
 use Rattle.std.proofs.Common.{ap, subst, ◌∙◌, append_assoc, arith, inl, inr}
 use Rattle.std.proofs.lemmas.List.{append-nil}
 use Rattle.std.proofs.lemmas.Bool.{or_parts, and_parts, or_cases, eqb-true, not-true, true≢false}
-use Rattle.std.specs.Prelude.{Bool, IsTrue, IsFalse, flat_map, codes, not, ◌==◌}
+use Rattle.std.specs.Prelude.{Bool, IsTrue, IsFalse, map, flat_map, ◌||◌, codes, not, ◌==◌}
 use Rattle.std.specs.List.{list_all}
-use Rattle.sfv_reading.specs.Bare.{bare_at}
-use Rattle.sfv_spec.proofs.Marks.{comma, tab, equals_sign, left_parenthesis, true_with}
+use Rattle.sfv_spec.proofs.Marks.{comma, tab, equals_sign, semicolon, left_parenthesis, true_with}
 use Rattle.sfv_spec.proofs.Marks.{is_space, is_space_or_tab}
 use Rattle.sfv_spec.specs.Texts.{RunOf, begins_with, ◌⨾◌, IsJoining}
-use Rattle.sfv_spec.specs.Classes.{is_key_inner, is_one_of}
-use Rattle.sfv_spec.specs.Values.{BareValue, boolean, RawParameters, RawItem, RawMember, item, RawField}
+use Rattle.sfv_spec.specs.Classes.{is_key_inner, is_token_inner, is_one_of}
+use Rattle.sfv_spec.specs.Values.{BareValue, boolean, RawParameters, RawItem, RawMember, item, inner_list, RawField}
 use Rattle.sfv_spec.specs.declared.field_kind.FieldKind.{FieldKind}
 use Rattle.sfv_spec.specs.declared.field_kind.FieldKind.TheVariants.{Item as item_field, List as list_field}
 use Rattle.sfv_spec.specs.declared.field_kind.FieldKind.TheVariants.{Dictionary as dictionary_field}
 use Rattle.sfv_spec.specs.declared.version.Version.{Version}
-use Rattle.sfv_spec.specs.Grammar.{Spaces, Comma, IsKeyText, IsValueText, IsBareText, IsParameterText, IsEnded}
+use Rattle.sfv_spec.specs.Grammar.{Spaces, Comma, IsKeyText, IsValueText, IsParameterText, IsEnded}
 use Rattle.sfv_spec.specs.Grammar.{IsItemText, IsMemberText, IsDictionaryMemberText}
-use Rattle.sfv_spec.specs.Events.{TreeEvent, entry, keyed_entry, begins_item, bare_item, parameters_events, item_events}
+use Rattle.sfv_spec.specs.Grammar.{IsParametersText, IsMemberValueText}
+use Rattle.sfv_spec.specs.Events.{TreeEvent, entry, keyed_entry, begins_item, bare_item, parameter, parameters_end}
+use Rattle.sfv_spec.specs.Events.{parameters_events, item_events}
 use Rattle.sfv_spec.specs.Events.{member_events, entry_events, keyed_events, events}
 use Rattle.sfv_spec.proofs.Settled.{joining-nil, joining-cons}
 use Rattle.sfv_reading.specs.Reader.{Answer, Reader, Apart, visited, and_then, give, ◌>>=◌, bind, led}
-use Rattle.sfv_reading.specs.Reader.{led_answer, many, go_on, one_and_more, byte}
-use Rattle.sfv_reading.specs.Items.{parameters_at, item_of, item_at}
+use Rattle.sfv_reading.specs.Reader.{led_answer, many, go_on, one_and_more}
+use Rattle.sfv_reading.specs.Items.{value_at, parameter_at, parameter_event, parameters_at, item_of, item_at}
 use Rattle.sfv_reading.specs.Members.{member_at, entry_at, member_value_at, keyed_at}
 use Rattle.sfv_reading.specs.Fields.{next_at, members_at, whole_field_at}
-use Rattle.sfv_reading.proofs.sound.Combinators.{Begins, Reads, Goes, begins_after, run_head}
+use Rattle.sfv_reading.proofs.sound.Combinators.{Begins, Reads, Goes, begins_after, begins_longer, run_head}
+use Rattle.sfv_reading.proofs.sound.Items.{Consumes-parameter}
 use Rattle.sfv_reading.proofs.sound.Many.{many_is}
 use Rattle.sfv_reading.proofs.sound.Separated.{Consumes-next, comma_complete}
-use Rattle.sfv_reading.proofs.complete.Combinators.{Apart-nil, Apart-cons, branch_past, branch_take, ahead_take}
-use Rattle.sfv_reading.proofs.complete.Combinators.{ahead_any, bind_complete, span_complete}
+use Rattle.sfv_reading.proofs.complete.Combinators.{Apart-nil, Apart-cons, Apart-part, branch_past, branch_take}
+use Rattle.sfv_reading.proofs.complete.Combinators.{ahead_take, ahead_any, bind_complete, span_complete}
 use Rattle.sfv_reading.proofs.complete.Bare.{bare_complete}
-use Rattle.sfv_reading.proofs.complete.Items.{lengthens_item, blank_ends, key_complete, item_no}
+use Rattle.sfv_reading.proofs.complete.Items.{lengthens, lengthens_item, blank_ends, key_complete, item_no}
+use Rattle.sfv_reading.proofs.complete.Items.{key_apart, equals_apart}
 use Rattle.sfv_reading.proofs.texts.Joining.{joining_none}
-use Rattle.sfv_reading.proofs.Exact.{ended_apart}
 use Rattle.sfv_reading.proofs.complete.Fields.{comma_ends}
 use Rattle.sfv_reading.proofs.complete.Members.{entry_complete, entry_fresh, keyed_complete, keyed_fresh}
 use Rattle.sfv_reading.proofs.sound.Members.{Sound-entry, Sound-keyed}
 use Rattle.sfv_reading.proofs.visits.Early.{begins_all, begins_trans}
-use Rattle.sfv.specs.Parsers.{IsBeforeMember, BeginsMember, list_member, list_item, dictionary_key, dictionary_item}
+use Rattle.sfv.specs.Parsers.{open_events, IsBeforeMember, BeginsMember}
+use Rattle.sfv.specs.Parsers.{list_member, list_item, dictionary_key, dictionary_item}
 
 -- a comma may stand after a member
 comma_apart : (b q : List ℕ) → RunOf is_space_or_tab b → Apart lengthens_item (b ++ comma ∷ q)
@@ -52,6 +55,13 @@ comma_text : (c y : List ℕ) (h : Comma c) → c ++ y ≡ h.front ++ comma ∷ 
 comma_text c y h =
     ap (λ (l : List ℕ). l ++ y) (h.text ∙ ap (λ (l : List ℕ). h.front ++ l) (h.second.text
     ∙ ap (λ (l : List ℕ). l ++ h.second.back) h.second.first)) ∙ append_assoc h.front (comma ∷ h.second.back) y
+
+put_events : {A : Type 0} (parts : A → List TreeEvent) (m : A) (a : Answer (List A))
+    → visited (λ ms. flat_map parts ms) (led_answer (parts m) (and_then a (λ vs. give (m ∷ vs))))
+    ≡ parts m ++ visited (λ ms. flat_map parts ms) a
+unfolding give
+put_events parts m (Ok x) = refl
+put_events parts m (Err e) = refl
 
 module _ {A : Type 0} (P : A → List ℕ → Type 0) (parts : A → List TreeEvent) (one : Reader A)
     (reads : Reads one P (Goes P parts)) (again : (m : A) (t q : List ℕ) → P m t → Apart lengthens_item q
@@ -92,12 +102,6 @@ module _ {A : Type 0} (P : A → List ℕ → Type 0) (parts : A → List TreeEv
       many_is parts (next_at one) (Consumes-next P parts one reads) (c ++ y)
       ∙ ap (λ a. and_then a (go_on parts More)) (next_is c y h none some) ∙ another (one y)
 
-  put_events : (m : A) (a : Answer (List A))
-      → visited All (led_answer (parts m) (and_then a (λ vs. give (m ∷ vs)))) ≡ parts m ++ visited All a
-  unfolding give
-  put_events m (Ok x) = refl
-  put_events m (Err e) = refl
-
   member_read : (m : A) (t q : List ℕ) → P m t → Apart lengthens_item q
       → Members (t ++ q) ≡ led (parts m) (More >>= λ vs. give (m ∷ vs)) q
   member_read m t q h f = bind_complete _ _ _ _ _ (again m t q h f)
@@ -105,7 +109,7 @@ module _ {A : Type 0} (P : A → List ℕ → Type 0) (parts : A → List TreeEv
   member_events_first : (m : A) (t q : List ℕ) → P m t → Apart lengthens_item q
       → visited All (Members (t ++ q)) ≡ parts m ++ visited All (More q)
   unfolding bind led
-  member_events_first m t q h f = ap (visited All) (member_read m t q h f) ∙ put_events m (More q)
+  member_events_first m t q h f = ap (visited All) (member_read m t q h f) ∙ put_events parts m (More q)
 
   -- members with a comma after each
   abbrev Each : List A → List ℕ → Type 0
@@ -134,7 +138,8 @@ module _ {A : Type 0} (P : A → List ℕ → Type 0) (parts : A → List TreeEv
       ap (λ (l : List ℕ). l ++ rest) (j.text ∙ ap (λ (l : List ℕ). l ++ j.back) j.first.text) ∙ simp append_assoc in
       let on = fresh_after ms j.back rest j.second none some in
       let ends : Apart lengthens_item (j.first.back ++ y) =
-      subst (Apart lengthens_item) (sym (comma_text j.first.back y c)) (comma_apart c.front (c.second.back ++ y) c.first) in
+      subst (Apart lengthens_item) (sym (comma_text j.first.back y c))
+      (comma_apart c.front (c.second.back ++ y) c.first) in
       ap (λ (l : List ℕ). visited All (Members l)) all
       ∙ member_events_first m j.first.front (j.first.back ++ y) j.first.first ends
       ∙ ap (λ a. parts m ++ visited All a) (after_comma j.first.back y c on.0 on.1)
@@ -148,12 +153,13 @@ module _ {A : Type 0} (P : A → List ℕ → Type 0) (parts : A → List TreeEv
     where
       on : (a : Answer A) → Begins (visited All (and_then a (λ v. led (parts v) (More >>= λ vs. give (v ∷ vs)))))
           (visited parts a)
-      on (Ok x) = (visited All (More x.1), put_events x.0 (More x.1))
+      on (Ok x) = (visited All (More x.1), put_events parts x.0 (More x.1))
       on (Err e) = ([], sym (append-nil e.events))
 
   -- after these members, the next one begins with what its reader tells
   pub members_begun : (ms : List A) (front rest : List ℕ) → (Spaces ⨾ Each ms) front → Apart is_space_or_tab rest
-      → 1 ≤ length rest → Begins (visited All (members_at parts one (front ++ rest))) (All ms ++ visited parts (one rest))
+      → 1 ≤ length rest
+      → Begins (visited All (members_at parts one (front ++ rest))) (All ms ++ visited parts (one rest))
   unfolding members_at
   members_begun ms front rest h none some =
       let on = fresh_after ms h.back rest h.second none some in
@@ -180,18 +186,19 @@ entry_told : (version : Version) (t : List ℕ)
 unfolding entry_at led
 entry_told version t = led_events (entry ∷ []) entry_events member_events (member_at version t) (λ m. refl)
 
--- a dictionary member does once its key is read
 key_read : (version : Version) (key t q : List ℕ) → IsKeyText key t → Apart is_key_inner q
     → keyed_at version (t ++ q)
     ≡ led (keyed_entry key ∷ []) (member_value_at version >>= λ m. give (key, m)) q
 unfolding keyed_at
 key_read version key t q k h = bind_complete _ _ _ _ _ (key_complete key t q k h)
 
+-- a dictionary member does once its key is read
 keyed_told : (version : Version) (key t q : List ℕ) → IsKeyText key t → Apart is_key_inner q
     → visited keyed_events (keyed_at version (t ++ q))
     ≡ keyed_entry key ∷ visited member_events (member_value_at version q)
 unfolding led bind give
-keyed_told version key t q k h = ap (visited keyed_events) (key_read version key t q k h) ∙ on (member_value_at version q)
+keyed_told version key t q k h =
+    ap (visited keyed_events) (key_read version key t q k h) ∙ on (member_value_at version q)
   where
     on : (a : Answer RawMember)
         → visited keyed_events (led_answer (keyed_entry key ∷ []) (and_then a (λ m. give (key, m))))
@@ -199,45 +206,7 @@ keyed_told version key t q k h = ap (visited keyed_events) (key_read version key
     on (Ok x) = refl
     on (Err e) = refl
 
--- an item begins with its bare item
-pub item_begins : (version : Version) (t q : List ℕ) (value : BareValue) → bare_at version t ≡ Ok (value, q)
-    → (more : List TreeEvent) × (visited item_events (item_at version t) ≡ bare_item value ∷ more)
-unfolding item_at led bind give
-item_begins version t q value read = on (parameters_at version q) refl
-  where
-    on : (a : Answer RawParameters) → parameters_at version q ≡ a
-        → (more : List TreeEvent) × (visited item_events (item_at version t) ≡ bare_item value ∷ more)
-    on (Ok x) e = (parameters_events x.0, rw (read, e) refl)
-    on (Err f) e = (f.events, rw (read, e) refl)
-
--- a bare item is the text of an item
-item_of_bare : (version : Version) (value : BareValue) (t : List ℕ) → IsBareText version value t
-    → IsItemText version (item_of value []) t
-item_of_bare version value t means = record {
-  front = t;
-  back = [];
-  text = sym (append-nil t);
-  first = means;
-  second = joining_none (IsParameterText version);
-}
-
--- an item tells of itself, and of its bare item
-bare_told : (version : Version) (value : BareValue) (t q : List ℕ) → IsBareText version value t → IsEnded q
-    → Begins (visited member_events (member_at version (t ++ q))) (begins_item ∷ bare_item value ∷ [])
-unfolding member_at led bind give
-bare_told version value t q means ended =
-    let none = item_no left_parenthesis version (item_of value []) t q refl (item_of_bare version value t means) in
-    let begun = item_begins version (t ++ q) q value (bare_complete version value t q means (ended_apart q ended)) in (
-      begun.0,
-      ap (visited member_events) (branch_past _ _ _ (t ++ q) none) ∙ on (item_at version (t ++ q))
-          ∙ ap (λ (l : List TreeEvent). begins_item ∷ l) begun.1,
-    )
-  where
-    on : (a : Answer RawItem)
-        → visited member_events (led_answer (begins_item ∷ []) (and_then a (λ i. give (item i))))
-        ≡ begins_item ∷ visited item_events a
-    on (Ok x) = refl
-    on (Err e) = refl
+-- ---- parameters
 
 none_of : (class : ℕ → Bool) (bytes : List ℕ) (c : ℕ) → list_all (λ b. not (class b)) bytes ≡ true
     → is_one_of bytes c ≡ true → class c ≡ false
@@ -255,62 +224,9 @@ ended_of : (class : ℕ → Bool) (q : List ℕ) → list_all (λ b. not (class 
 ended_of class [] none ended = Apart-nil class
 ended_of class (c ∷ q) none ended = Apart-cons class c q (none_of class (codes "; \t,)") c none ended)
 
--- so does a dictionary member, whose bare item may be left out
-value_told : (version : Version) (value : BareValue) (t q : List ℕ) → IsValueText version value t → IsEnded q
-    → Begins (visited member_events (member_value_at version (t ++ q))) (begins_item ∷ bare_item value ∷ [])
-unfolding member_value_at led bind give
-value_told version value t q (inl none) ended =
-    subst (λ (t : List ℕ). Begins (visited member_events (member_value_at version (t ++ q)))
-    (begins_item ∷ bare_item value ∷ [])) (sym none.1)
-    (subst (λ (value : BareValue). Begins (visited member_events (member_value_at version q))
-    (begins_item ∷ bare_item value ∷ [])) (sym none.0)
-    (subst (λ a. Begins (visited member_events a) (begins_item ∷ bare_item (boolean true) ∷ []))
-    (sym (branch_past _ _ _ q (ended_of (byte equals_sign) q refl ended))) (on (parameters_at version q))))
-  where
-    on : (a : Answer RawParameters) → Begins (visited member_events
-        (led_answer (begins_item ∷ bare_item (boolean true) ∷ []) (and_then a (λ ps. give (true_with ps)))))
-        (begins_item ∷ bare_item (boolean true) ∷ [])
-    on (Ok x) = (parameters_events x.0, refl)
-    on (Err e) = (e.events, refl)
-value_told version value t q (inr h) ended =
-    let all : t ++ q ≡ equals_sign ∷ (h.back ++ q) =
-    ap (λ (l : List ℕ). l ++ q) (h.text ∙ ap (λ (l : List ℕ). l ++ h.back) h.first) in
-    subst (λ a. Begins (visited member_events a) (begins_item ∷ bare_item value ∷ []))
-    (sym (ap (member_value_at version) all ∙ branch_take _ _ _ equals_sign (h.back ++ q) refl))
-    (bare_told version value h.back q h.second ended)
-
--- ---- of a whole field
-
--- a text that begins with no blank is not empty
-some_fresh : (t : List ℕ) → IsTrue (begins_with (λ c. not (is_space_or_tab c)) t)
-    → Apart is_space_or_tab t × (1 ≤ length t)
-some_fresh [] h = absurd (true≢false (sym h))
-some_fresh (c ∷ t) h = (Apart-cons is_space_or_tab c t (not-true (is_space_or_tab c) h), omega arith)
-
-apart_of : (class : ℕ → Bool) (t : List ℕ) → IsFalse (begins_with class t) → Apart class t
-apart_of class [] h = Apart-nil class
-apart_of class (c ∷ t) h = Apart-cons class c t h
-
-list_begun : (version : Version) (ms : List RawMember) (front rest : List ℕ) (first : List TreeEvent)
-    → IsBeforeMember version list_field ms front → Apart is_space_or_tab rest × (1 ≤ length rest)
-    → Begins (visited entry_events (entry_at version rest)) first
-    → Begins (visited (events list_field) (whole_field_at version list_field (front ++ rest))) (events list_field ms ++ first)
-unfolding whole_field_at
-list_begun version ms front rest first h fresh b =
-    begins_trans _ _ _ (members_begun (IsMemberText version) entry_events (entry_at version) (Sound-entry version)
-    (entry_complete version) (entry_fresh version) ms front rest h fresh.0 fresh.1)
-    (begins_after (events list_field ms) (visited entry_events (entry_at version rest)) first b)
-
-dictionary_begun : (version : Version) (ms : List (List ℕ × RawMember)) (front rest : List ℕ) (first : List TreeEvent)
-    → IsBeforeMember version dictionary_field ms front → Apart is_space_or_tab rest × (1 ≤ length rest)
-    → Begins (visited keyed_events (keyed_at version rest)) first
-    → Begins (visited (events dictionary_field) (whole_field_at version dictionary_field (front ++ rest)))
-    (events dictionary_field ms ++ first)
-unfolding whole_field_at
-dictionary_begun version ms front rest first h fresh b =
-    begins_trans _ _ _ (members_begun (IsDictionaryMemberText version) keyed_events (keyed_at version)
-    (Sound-keyed version) (keyed_complete version) (keyed_fresh version) ms front rest h fresh.0 fresh.1)
-    (begins_after (events dictionary_field ms) (visited keyed_events (keyed_at version rest)) first b)
+token_apart : (q : List ℕ) → Apart lengthens q → Apart is_token_inner q
+token_apart q h = Apart-part is_token_inner lengthens q
+    (λ c e. (or_parts (is_token_inner c) (is_key_inner c || eqb c equals_sign) e).0) h
 
 -- a dictionary member of this key, with nothing after it
 true_of_key : (version : Version) (key t : List ℕ) → IsKeyText key t
@@ -331,6 +247,208 @@ value_apart version value t q (inr v) h =
     subst (λ (l : List ℕ). Apart is_key_inner (l ++ q)) (sym (v.text ∙ ap (λ (l : List ℕ). l ++ v.back) v.first))
     (Apart-cons is_key_inner equals_sign (v.back ++ q) refl)
 
+value_read : (version : Version) (value : BareValue) (t q : List ℕ) → IsValueText version value t → Apart lengthens q
+    → value_at version (t ++ q) ≡ Ok (value, q)
+unfolding value_at give
+value_read version value t q (inl none) h = ap (λ (l : List ℕ). value_at version (l ++ q)) none.1
+    ∙ branch_past _ _ _ q (equals_apart q h) ∙ ap (λ (v : BareValue). Ok (v, q)) (sym none.0)
+value_read version value t q (inr v) h =
+    let all : t ++ q ≡ equals_sign ∷ (v.back ++ q) =
+    ap (λ (l : List ℕ). l ++ q) (v.text ∙ ap (λ (l : List ℕ). l ++ v.back) v.first) in
+    ap (value_at version) all ∙ branch_take _ _ _ equals_sign (v.back ++ q) refl
+    ∙ bare_complete version value v.back q v.second (token_apart q h)
+
+parameter_read : (version : Version) (p : List ℕ × BareValue) (t q : List ℕ) → IsParameterText version p t
+    → Apart lengthens q → (parameter_at version (t ++ q) ≡ Ok (Some p, q)) × Apart lengthens (t ++ q)
+unfolding parameter_at give
+parameter_read version p t q i h =
+    let s = i.second in
+    let k = s.second in
+    let all : t ++ q ≡ semicolon ∷ (s.front ++ (k.front ++ (k.back ++ q))) =
+    ap (λ (l : List ℕ). l ++ q) (i.text ∙ ap (λ (l : List ℕ). l ++ i.back) i.first
+    ∙ ap (λ (l : List ℕ). semicolon ∷ l) (s.text ∙ ap (λ (l : List ℕ). s.front ++ l) k.text)) ∙ simp append_assoc in
+    let member = true_of_key version p.0 k.front k.first in
+    let fresh = keyed_fresh version (p.0, true_with []) k.front (k.back ++ q) member in (
+      ap (parameter_at version) all ∙ branch_take _ _ _ semicolon (s.front ++ (k.front ++ (k.back ++ q))) refl
+          ∙ bind_complete _ _ _ _ _ (span_complete is_space s.front (k.front ++ (k.back ++ q)) s.first
+          (no_space _ fresh.0))
+          ∙ bind_complete _ _ _ _ _ (key_complete p.0 k.front (k.back ++ q) k.first
+          (value_apart version p.1 k.back q k.second (key_apart q h)))
+          ∙ bind_complete _ _ _ _ _ (value_read version p.1 k.back q k.second h),
+      subst (Apart lengthens) (sym all) (Apart-cons lengthens semicolon _ refl),
+    )
+
+abbrev Given : RawParameters → List TreeEvent
+Given ps = flat_map parameter_event ps
+
+abbrev Pairs : RawParameters → List TreeEvent
+Pairs ps = map (λ p. parameter p.0 p.1) ps
+
+given_is : (ps : RawParameters) → Given ps ≡ Pairs ps
+given_is [] = refl
+given_is (p ∷ ps) = ap (λ (l : List TreeEvent). parameter p.0 p.1 ∷ l) (given_is ps)
+
+one_more : (version : Version) (p : List ℕ × BareValue) (t q : List ℕ) → parameter_at version t ≡ Ok (Some p, q)
+    → visited Given (parameters_at version t) ≡ parameter_event p ++ visited Given (parameters_at version q)
+unfolding parameters_at bind led
+one_more version p t q e =
+    ap (visited Given) (many_is parameter_event (parameter_at version) (Consumes-parameter version) t
+    ∙ ap (λ a. and_then a (go_on parameter_event (many parameter_event (parameter_at version)))) e)
+    ∙ put_events parameter_event p (many parameter_event (parameter_at version) q)
+
+-- parameters, whatever comes of those after them
+parameters_told : (version : Version) (ps : RawParameters) (t q : List ℕ) → IsParametersText version ps t
+    → Apart lengthens q → Begins (visited Given (parameters_at version (t ++ q))) (Given ps) × Apart lengthens (t ++ q)
+parameters_told version [] t q i h =
+    (begins_all _, subst (λ (l : List ℕ). Apart lengthens (l ++ q)) (sym (joining-nil i)) h)
+parameters_told version (p ∷ ps) t q i h =
+    let j = joining-cons i in
+    let more = parameters_told version ps j.back q j.second h in
+    let one = parameter_read version p j.front (j.back ++ q) j.first more.1 in
+    let all : t ++ q ≡ j.front ++ (j.back ++ q) =
+    ap (λ (l : List ℕ). l ++ q) j.text ∙ append_assoc j.front j.back q in (
+      subst (λ (l : List ℕ). Begins (visited Given (parameters_at version l)) (Given (p ∷ ps))) (sym all)
+          (subst (λ (l : List TreeEvent). Begins l (Given (p ∷ ps)))
+          (sym (one_more version p (j.front ++ (j.back ++ q)) (j.back ++ q) one.0))
+          (begins_after (parameter_event p) _ (Given ps) more.0)),
+      subst (Apart lengthens) (sym all) one.1,
+    )
+
+-- parameters, with these events before them
+given_after : (es : List TreeEvent) (ps : RawParameters) (a : Answer RawParameters)
+    → Begins (visited Given a) (Given ps)
+    → Begins (visited (λ qs. es ++ parameters_events qs) (led_answer es a)) (es ++ Pairs ps)
+given_after es ps (Ok x) b =
+    begins_after es (parameters_events x.0) (Pairs ps)
+    (subst (λ (l : List TreeEvent). Begins (parameters_events x.0) l) (given_is ps)
+    (begins_longer (Pairs x.0) (Given ps) (parameters_end ∷ [])
+    (subst (λ (l : List TreeEvent). Begins l (Given ps)) (given_is x.0) b)))
+given_after es ps (Err e) b =
+    begins_after es e.events (Pairs ps)
+    (subst (λ (l : List TreeEvent). Begins e.events l) (given_is ps) b)
+
+-- ---- items
+
+item_read : (version : Version) (i : RawItem) (t q : List ℕ) (h : IsItemText version i t)
+    → Apart is_token_inner (h.back ++ q)
+    → item_at version (t ++ q)
+    ≡ led (bare_item i.bare ∷ []) (parameters_at version >>= λ ps. give (item_of i.bare ps)) (h.back ++ q)
+unfolding item_at
+item_read version i t q h f =
+    ap (item_at version) (ap (λ (l : List ℕ). l ++ q) h.text ∙ append_assoc h.front h.back q)
+    ∙ bind_complete _ _ _ _ _ (bare_complete version i.bare h.front (h.back ++ q) h.first f)
+
+-- an item tells of its bare item and of these parameters, whatever comes of those after them
+item_told : (version : Version) (i : RawItem) (t q : List ℕ) → IsItemText version i t → IsEnded q
+    → Begins (visited item_events (item_at version (t ++ q))) (bare_item i.bare ∷ Pairs i.parameters)
+unfolding led bind give
+item_told version i t q h ended =
+    let ps = parameters_told version i.parameters h.back q h.second (ended_of lengthens q refl ended) in
+    subst (λ a. Begins (visited item_events a) (bare_item i.bare ∷ Pairs i.parameters))
+    (sym (item_read version i t q h (token_apart (h.back ++ q) ps.1)))
+    (on (parameters_at version (h.back ++ q)) (given_after (bare_item i.bare ∷ []) i.parameters _ ps.0))
+  where
+    on : (a : Answer RawParameters)
+        → Begins (visited (λ qs. (bare_item i.bare ∷ []) ++ parameters_events qs)
+        (led_answer (bare_item i.bare ∷ []) a))
+        (bare_item i.bare ∷ Pairs i.parameters)
+        → Begins (visited item_events
+        (led_answer (bare_item i.bare ∷ []) (and_then a (λ ps. give (item_of i.bare ps)))))
+        (bare_item i.bare ∷ Pairs i.parameters)
+    on (Ok x) b = b
+    on (Err e) b = b
+
+-- a member tells of its item first
+member_told : (version : Version) (i : RawItem) (t q : List ℕ) → IsItemText version i t → IsEnded q
+    → Begins (visited member_events (member_at version (t ++ q))) (open_events i)
+unfolding member_at led bind give
+member_told version i t q h ended =
+    let told = item_told version i t q h ended in (
+      told.0,
+      ap (visited member_events) (branch_past _ _ _ (t ++ q) (item_no left_parenthesis version i t q refl h))
+          ∙ on (item_at version (t ++ q)) ∙ ap (λ (l : List TreeEvent). begins_item ∷ l) told.1,
+    )
+  where
+    on : (a : Answer RawItem)
+        → visited member_events (led_answer (begins_item ∷ []) (and_then a (λ i. give (item i))))
+        ≡ begins_item ∷ visited item_events a
+    on (Ok x) = refl
+    on (Err e) = refl
+
+-- what an item has told, of a member
+abbrev open_of : RawMember → List TreeEvent
+open_of (item i) = open_events i
+open_of (inner_list l) = []
+
+-- so does a dictionary member after its key, where the bare item may be left out
+value_told : (version : Version) (i : RawItem) (t q : List ℕ) → IsMemberValueText version (item i) t → IsEnded q
+    → Begins (visited member_events (member_value_at version (t ++ q))) (open_events i) × Apart is_key_inner (t ++ q)
+unfolding member_value_at led bind give
+value_told version i t q (inl h) ended =
+    let all : t ++ q ≡ equals_sign ∷ (h.back ++ q) =
+    ap (λ (l : List ℕ). l ++ q) (h.text ∙ ap (λ (l : List ℕ). l ++ h.back) h.first) in (
+      subst (λ a. Begins (visited member_events a) (open_events i))
+          (sym (ap (member_value_at version) all ∙ branch_take _ _ _ equals_sign (h.back ++ q) refl))
+          (member_told version i h.back q h.second ended),
+      subst (Apart is_key_inner) (sym all) (Apart-cons is_key_inner equals_sign (h.back ++ q) refl),
+    )
+value_told version i t q (inr h) ended =
+    let ps = parameters_told version h.0 t q h.2 (ended_of lengthens q refl ended) in
+    let is : open_events i ≡ begins_item ∷ bare_item (boolean true) ∷ Pairs h.0 = ap open_of h.1 in (
+      subst (λ a. Begins (visited member_events a) (open_events i))
+          (sym (branch_past _ _ _ (t ++ q) (equals_apart (t ++ q) ps.1)))
+          (subst (λ (l : List TreeEvent). Begins (visited member_events
+          (led_answer (begins_item ∷ bare_item (boolean true) ∷ [])
+          (and_then (parameters_at version (t ++ q)) (λ ps. give (true_with ps))))) l) (sym is)
+          (on h.0 (parameters_at version (t ++ q))
+          (given_after (begins_item ∷ bare_item (boolean true) ∷ []) h.0 _ ps.0))),
+      key_apart (t ++ q) ps.1,
+    )
+  where
+    on : (ps : RawParameters) (a : Answer RawParameters)
+        → Begins (visited (λ qs. (begins_item ∷ bare_item (boolean true) ∷ []) ++ parameters_events qs)
+        (led_answer (begins_item ∷ bare_item (boolean true) ∷ []) a))
+        (begins_item ∷ bare_item (boolean true) ∷ Pairs ps)
+        → Begins (visited member_events (led_answer (begins_item ∷ bare_item (boolean true) ∷ [])
+        (and_then a (λ ps. give (true_with ps)))))
+        (begins_item ∷ bare_item (boolean true) ∷ Pairs ps)
+    on ps (Ok x) b = b
+    on ps (Err e) b = b
+
+-- ---- of a whole field
+
+-- a text that begins with no blank is not empty
+some_fresh : (t : List ℕ) → IsTrue (begins_with (λ c. not (is_space_or_tab c)) t)
+    → Apart is_space_or_tab t × (1 ≤ length t)
+some_fresh [] h = absurd (true≢false (sym h))
+some_fresh (c ∷ t) h = (Apart-cons is_space_or_tab c t (not-true (is_space_or_tab c) h), omega arith)
+
+apart_of : (class : ℕ → Bool) (t : List ℕ) → IsFalse (begins_with class t) → Apart class t
+apart_of class [] h = Apart-nil class
+apart_of class (c ∷ t) h = Apart-cons class c t h
+
+list_begun : (version : Version) (ms : List RawMember) (front rest : List ℕ) (first : List TreeEvent)
+    → IsBeforeMember version list_field ms front → Apart is_space_or_tab rest × (1 ≤ length rest)
+    → Begins (visited entry_events (entry_at version rest)) first
+    → Begins (visited (events list_field) (whole_field_at version list_field (front ++ rest)))
+    (events list_field ms ++ first)
+unfolding whole_field_at
+list_begun version ms front rest first h fresh b =
+    begins_trans _ _ _ (members_begun (IsMemberText version) entry_events (entry_at version) (Sound-entry version)
+    (entry_complete version) (entry_fresh version) ms front rest h fresh.0 fresh.1)
+    (begins_after (events list_field ms) (visited entry_events (entry_at version rest)) first b)
+
+dictionary_begun : (version : Version) (ms : List (List ℕ × RawMember)) (front rest : List ℕ) (first : List TreeEvent)
+    → IsBeforeMember version dictionary_field ms front → Apart is_space_or_tab rest × (1 ≤ length rest)
+    → Begins (visited keyed_events (keyed_at version rest)) first
+    → Begins (visited (events dictionary_field) (whole_field_at version dictionary_field (front ++ rest)))
+    (events dictionary_field ms ++ first)
+unfolding whole_field_at
+dictionary_begun version ms front rest first h fresh b =
+    begins_trans _ _ _ (members_begun (IsDictionaryMemberText version) keyed_events (keyed_at version)
+    (Sound-keyed version) (keyed_complete version) (keyed_fresh version) ms front rest h fresh.0 fresh.1)
+    (begins_after (events dictionary_field ms) (visited keyed_events (keyed_at version rest)) first b)
+
 keyed_begins : (version : Version) (key t q : List ℕ) (first : List TreeEvent) → IsKeyText key t → Apart is_key_inner q
     → Begins (visited member_events (member_value_at version q)) first
     → Begins (visited keyed_events (keyed_at version (t ++ q))) (keyed_entry key ∷ first)
@@ -350,31 +468,25 @@ visited_begun version item_field i front rest first h member = absurd h
 visited_begun version list_field ms front rest first h (list_member fresh) =
     list_begun version ms front rest (entry ∷ []) h (some_fresh rest fresh)
     (entry_begins version rest [] (begins_all _))
-visited_begun version list_field ms front rest first h (list_item value b) =
-    list_begun version ms front rest (entry ∷ begins_item ∷ bare_item value ∷ []) h
+visited_begun version list_field ms front rest first h (list_item i b) =
+    list_begun version ms front rest (entry ∷ open_events i) h
     (subst (λ (l : List ℕ). Apart is_space_or_tab l × (1 ≤ length l)) (sym b.text)
-    (entry_fresh version (item (item_of value [])) b.front b.back (item_of_bare version value b.front b.first)))
-    (subst (λ (l : List ℕ). Begins (visited entry_events (entry_at version l))
-    (entry ∷ begins_item ∷ bare_item value ∷ [])) (sym b.text)
-    (entry_begins version (b.front ++ b.back) (begins_item ∷ bare_item value ∷ [])
-    (bare_told version value b.front b.back b.first b.second)))
+    (entry_fresh version (item i) b.front b.back b.first))
+    (subst (λ (l : List ℕ). Begins (visited entry_events (entry_at version l)) (entry ∷ open_events i)) (sym b.text)
+    (entry_begins version (b.front ++ b.back) (open_events i) (member_told version i b.front b.back b.first b.second)))
 visited_begun version dictionary_field ms front rest first h (dictionary_key key b) =
     dictionary_begun version ms front rest (keyed_entry key ∷ []) h
     (subst (λ (l : List ℕ). Apart is_space_or_tab l × (1 ≤ length l)) (sym b.text)
     (keyed_fresh version (key, true_with []) b.front b.back (true_of_key version key b.front b.first)))
     (subst (λ (l : List ℕ). Begins (visited keyed_events (keyed_at version l)) (keyed_entry key ∷ [])) (sym b.text)
     (keyed_begins version key b.front b.back [] b.first (apart_of is_key_inner b.back b.second) (begins_all _)))
-visited_begun version dictionary_field ms front rest first h (dictionary_item key value b) =
-    let v = b.second in
-    let after : Apart is_key_inner b.back =
-    subst (Apart is_key_inner) (sym v.text) (value_apart version value v.front v.back v.first
-    (ended_of is_key_inner v.back refl v.second)) in
-    dictionary_begun version ms front rest (keyed_entry key ∷ begins_item ∷ bare_item value ∷ []) h
+visited_begun version dictionary_field ms front rest first h (dictionary_item key i b) =
+    let m = b.first in
+    let told = value_told version i m.back b.back m.second b.second in
+    let all : rest ≡ m.front ++ (m.back ++ b.back) =
+    b.text ∙ ap (λ (l : List ℕ). l ++ b.back) m.text ∙ append_assoc m.front m.back b.back in
+    dictionary_begun version ms front rest (keyed_entry key ∷ open_events i) h
     (subst (λ (l : List ℕ). Apart is_space_or_tab l × (1 ≤ length l)) (sym b.text)
-    (keyed_fresh version (key, true_with []) b.front b.back (true_of_key version key b.front b.first)))
-    (subst (λ (l : List ℕ). Begins (visited keyed_events (keyed_at version l))
-    (keyed_entry key ∷ begins_item ∷ bare_item value ∷ [])) (sym b.text)
-    (keyed_begins version key b.front b.back (begins_item ∷ bare_item value ∷ []) b.first after
-    (subst (λ (l : List ℕ). Begins (visited member_events (member_value_at version l))
-    (begins_item ∷ bare_item value ∷ [])) (sym v.text)
-    (value_told version value v.front v.back v.first v.second))))
+    (keyed_fresh version (key, item i) b.front b.back m))
+    (subst (λ (l : List ℕ). Begins (visited keyed_events (keyed_at version l)) (keyed_entry key ∷ open_events i))
+    (sym all) (keyed_begins version key m.front (m.back ++ b.back) (open_events i) m.first told.1 told.0))

@@ -5,7 +5,7 @@ use Rattle.std.specs.Prelude.{IfErr}
 use Rattle.std.proofs.lemmas.Bool.{cases_Bool}
 use Rattle.std.proofs.lemmas.List.{append-nil}
 use Rattle.sfv_spec.proofs.Marks.{is_space}
-use Rattle.sfv_spec.specs.Values.{BareValue, RawItem}
+use Rattle.sfv_spec.specs.Values.{BareValue, RawItem, RawParameters}
 use Rattle.sfv_spec.specs.declared.field_kind.FieldKind.TheVariants.{Item as item_field}
 use Rattle.sfv_spec.specs.declared.version.Version.{Version}
 use Rattle.sfv_spec.specs.Texts.{RunOf}
@@ -16,9 +16,9 @@ use Rattle.sfv_base.specs.declared.error.Error.{Error}
 use Rattle.sfv_base.specs.Errors.{index_of}
 use Rattle.sfv_base.specs.declared.error.ParseError.{ParseError}
 use Rattle.sfv_base.specs.declared.error.ParseError.TheVariants.{Syntax, Visitor}
-use Rattle.sfv_reading.specs.Reader.{Answer, Fault, bind, span, visited}
+use Rattle.sfv_reading.specs.Reader.{Answer, Fault, bind, give, led, span, visited}
 use Rattle.sfv_reading.specs.Bare.{bare_at}
-use Rattle.sfv_reading.specs.Items.{item_at}
+use Rattle.sfv_reading.specs.Items.{parameters_at, item_at}
 use Rattle.sfv_reading.specs.Fields.{whole_field_at}
 use Rattle.sfv_reading.specs.Judgements.{Reached}
 use Rattle.sfv_reading.proofs.sound.Bare.{BareGoes, Sound-bare}
@@ -31,7 +31,6 @@ use Rattle.sfv.specs.declared.parser.Parser.{Parser}
 use Rattle.sfv.specs.parser.Visits.{IsOfVisitor, VisitsField, TookBare, TookFirst}
 use Rattle.sfv.specs.Parsers.{version_of, input_of, IsParseError, ReceivesFirstBy}
 use Rattle.sfv.proofs.Parsed.{parse_error}
-use Rattle.sfv.proofs.visits.Begun.{item_begins}
 use Rattle.sfv.proofs.visits.Fields.{whole_visited, whole_accepted}
 
 -- ---- what was taken before an error
@@ -61,6 +60,17 @@ after_spaces {S} {E} takes version there t s r from error same skipped h z w oth
     subst (λ (l : List ℕ). TookBare {E = E} takes version l from error) (same_rest
     (span is_space t) s z r w skipped other)
     (subst (λ (here : Version). TookBare {E = E} takes here r from error) same h)
+
+-- the item begins with it
+item_begins : (version : Version) (t q : List ℕ) (value : BareValue) → bare_at version t ≡ Ok (value, q)
+    → (more : List TreeEvent) × (visited item_events (item_at version t) ≡ bare_item value ∷ more)
+unfolding item_at led bind give
+item_begins version t q value read = on (parameters_at version q) refl
+  where
+    on : (a : Answer RawParameters) → parameters_at version q ≡ a
+        → (more : List TreeEvent) × (visited item_events (item_at version t) ≡ bare_item value ∷ more)
+    on (Ok x) e = (parameters_events x.0, rw (read, e) refl)
+    on (Err f) e = (f.events, rw (read, e) refl)
 
 same_head : (a b : BareValue) (xs ys : List TreeEvent) → bare_item a ∷ xs ≡ bare_item b ∷ ys → a ≡ b
 same_head a b xs ys h = cc
