@@ -5,6 +5,7 @@ pub mod Loops
 pub mod InnerLists
 pub mod Keyed
 pub mod Parameters
+pub mod Begun
 pub mod Fields
 pub mod First
 pub mod Whole

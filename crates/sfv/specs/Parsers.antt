@@ -1,18 +1,23 @@
 -- The input and the results of a parser.
 use Rattle.std.specs.Prelude.{◌≡◌, ◌≤◌, ⊤, ℕ, true, List, [], ◌∷◌, ◌++◌, codes, length, map, take, Some, Result, ◌⊎◌}
-use Rattle.std.specs.Prelude.{◌↔◌, ◌==◌, IfOk, IfErr, IsTrue, not}
+use Rattle.std.specs.Prelude.{◌↔◌, ◌==◌, ◌||◌, IfOk, IfErr, IsTrue, IsFalse, not}
 use Rattle.std.specs.List.{FoldsTo}
 use Rattle.std.specs.Borrow.{Bor}
 use Rattle.sfv_spec.specs.Values.{RawField}
 use Rattle.sfv_spec.specs.declared.field_kind.FieldKind.{FieldKind}
-use Rattle.sfv_spec.specs.declared.field_kind.FieldKind.TheVariants.{Item as item_field}
+use Rattle.sfv_spec.specs.declared.field_kind.FieldKind.TheVariants.{Item as item_field, List as list_field}
+use Rattle.sfv_spec.specs.declared.field_kind.FieldKind.TheVariants.{Dictionary as dictionary_field}
 use Rattle.sfv_spec.specs.declared.version.Version.{Version}
-use Rattle.sfv_spec.specs.Values.{BareValue, boolean, RawParameters, RawItem, IsFieldValue}
+use Rattle.sfv_spec.specs.Values.{BareValue, boolean, RawParameters, RawItem, item, IsFieldValue}
 use Rattle.sfv_spec.specs.Ascii.{byte}
-use Rattle.sfv_spec.specs.Texts.{RunOf}
-use Rattle.sfv_spec.specs.Grammar.{IsBareText, IsFieldText, IsAccepted, BeginsWithLongest, BeginsWithComplete, HasField}
+use Rattle.sfv_spec.specs.Texts.{RunOf, ◌⨾◌, IsJoining, begins_with}
+use Rattle.sfv_spec.specs.Classes.{is_key_inner}
+use Rattle.sfv_spec.specs.Grammar.{Spaces, Comma, IsBareText, IsKeyText, IsItemText, IsMemberText}
+use Rattle.sfv_spec.specs.Grammar.{IsDictionaryMemberText, IsFieldText, IsEnded, IsAccepted}
+use Rattle.sfv_spec.specs.Grammar.{BeginsWithLongest, BeginsWithComplete, HasField}
 use Rattle.sfv_spec.specs.Reach.{IsReach}
-use Rattle.sfv_spec.specs.Events.{TreeEvent, bare_item, parameters_events, item_events, events}
+use Rattle.sfv_spec.specs.Events.{TreeEvent, entry, keyed_entry, begins_item, bare_item, parameter}
+use Rattle.sfv_spec.specs.Events.{parameters_events, item_events, events}
 use Rattle.sfv_spec.specs.Visiting.{BeginsEventsAfter}
 use Rattle.sfv_spec.specs.Faults.{IsFaultAt}
 use Rattle.sfv_spec.specs.declared.error_kind.ErrorKind.{ErrorKind}
@@ -67,7 +72,7 @@ IsPlainDisplay t = (s : List ℕ) × (t ≡ byte "%" ∷ byte "\"" ∷ s) × Run
 abbrev pub IsBorrowedIfPlain : ReadBareItem → List ℕ → Type 0
 IsBorrowedIfPlain (bare.String text) t = IsTrue (is_borrowed_string text) ↔ IsPlainString t
 IsBorrowedIfPlain (bare.DisplayString text) t = IsTrue (is_borrowed_text text) ↔ IsPlainDisplay t
-IsBorrowedIfPlain item t = ⊤
+IsBorrowedIfPlain read t = ⊤
 
 -- `t` is the text of this value, which is borrowed if and only if it has no escape there. True may have no text.
 abbrev pub IsReadAs : Version → ReadBareItem → List ℕ → Type 0
@@ -85,6 +90,31 @@ abbrev pub AreReadFrom : Version → List Event → List ℕ → Type 0
 AreReadFrom version [] t = RunOf (λ c. not (c == byte "\"")) t
 AreReadFrom version (e ∷ es) t = (gap at rest : List ℕ) × (t ≡ gap ++ at ++ rest)
     × RunOf (λ c. not (c == byte "\"")) gap × IsEventText version e at × AreReadFrom version es rest
+
+-- the text before one more member: *SP, and these members with OWS "," OWS after each
+abbrev pub IsBeforeMember : Version → (kind : FieldKind) → RawField kind → List ℕ → Type 0
+IsBeforeMember version item_field i t = ⊥
+IsBeforeMember version list_field ms t = (Spaces ⨾ IsJoining (λ m. IsMemberText version m ⨾ Comma) ms) t
+IsBeforeMember version dictionary_field ms t = (Spaces ⨾ IsJoining (λ m. IsDictionaryMemberText version m ⨾ Comma) ms) t
+
+-- the events of an item before the end of its parameters
+abbrev pub open_events : RawItem → List TreeEvent
+open_events i = begins_item ∷ bare_item i.bare ∷ map (λ p. parameter p.0 p.1) i.parameters
+
+-- At the start of `t`, a member begins with these events, whatever follows.
+pub data BeginsMember (version : Version) (t : List ℕ) : FieldKind → List TreeEvent → Type 0 where
+  -- a list member: the text is not empty, and does not begin with SP or a tab
+  list_member : IsTrue (begins_with (λ c. not (c == byte " " || c == byte "\t")) t)
+      → BeginsMember version t list_field (entry ∷ [])
+  -- a list member that begins with this item, which has ended or goes on with more parameters
+  list_item : (i : RawItem) → (IsItemText version i ⨾ IsEnded) t
+      → BeginsMember version t list_field (entry ∷ open_events i)
+  -- a dictionary member with a key that has ended
+  dictionary_key : (key : List ℕ) → (IsKeyText key ⨾ (λ more. IsFalse (begins_with is_key_inner more))) t
+      → BeginsMember version t dictionary_field (keyed_entry key ∷ [])
+  -- a dictionary member with this key and this item, in the same way
+  dictionary_item : (key : List ℕ) (i : RawItem) → (IsDictionaryMemberText version (key, item i) ⨾ IsEnded) t
+      → BeginsMember version t dictionary_field (keyed_entry key ∷ open_events i)
 
 -- what a visitor in the state `from` does
 module _ {S O E : Type 0} (v : Visitor S O E) (from : S) where
@@ -124,7 +154,8 @@ module _ {S O E : Type 0} (v : Visitor S O E) (p : Parser) (kind : FieldKind) (f
   IsSyntaxErrorBy (parse_errors.Visitor error) = ⊤
 
   -- The visitor received these events. On a rejected text, they begin the events of some field that begins with the
-  -- bytes before the reach. If a field is followed by a comma in the text, all events of that field are among them.
+  -- bytes before the reach. If a field is followed by a comma in the text, all events of that field are among them. If
+  -- a member begins after other members, so are its first events, directly after the events of those members.
   pub record ReceivesUpTo : Type 0 where
     pub es : List TreeEvent
     pub to : S
@@ -133,6 +164,9 @@ module _ {S O E : Type 0} (v : Visitor S O E) (p : Parser) (kind : FieldKind) (f
         → BeginsEventsAfter (version_of p) kind (take n (input_of p)) es
     pub whole : (raw : RawField kind) (front rest : List ℕ) → input_of p ≡ front ++ codes "," ++ rest
         → IsFieldText (version_of p) kind raw front → (others : List TreeEvent) × (es ≡ events kind raw ++ others)
+    pub begun : (raw : RawField kind) (front rest : List ℕ) (first : List TreeEvent) → input_of p ≡ front ++ rest
+        → IsBeforeMember (version_of p) kind raw front → BeginsMember (version_of p) rest kind first
+        → (others : List TreeEvent) × (es ≡ events kind raw ++ first ++ others)
 
   -- A syntax error comes only after the visitor has received the events before it.
   abbrev pub ReceivesBeforeErrorBy : ParseError E → Type 0
@@ -159,7 +193,8 @@ module _ {S O E : Type 0} (v : Visitor S O E) (p : Parser) (from : S) where
   abbrev pub ReceivesFirstBy : ParseError E → Type 0
   ReceivesFirstBy (parse_errors.Syntax e) = (e ≡ out_of_memory) ⊎ ((value : BareValue)
       → BeginsWithComplete (version_of p) value (input_of p) → (s : S) × v.takes from (bare_item value) s)
-  ReceivesFirstBy (parse_errors.Visitor error) = (raw : RawItem) × BeginsWithLongest (version_of p) raw.bare (input_of p)
+  ReceivesFirstBy (parse_errors.Visitor error) = (raw : RawItem)
+      × BeginsWithLongest (version_of p) raw.bare (input_of p)
       × ((value : BareValue) → BeginsWithComplete (version_of p) value (input_of p) → raw.bare ≡ value)
       × FailsOn v from (item_events raw) ⊤ error
 

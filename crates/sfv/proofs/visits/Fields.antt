@@ -47,10 +47,11 @@ use Rattle.sfv_visitor.specs.declared.visitor.Visitor.{Ghosts}
 use Rattle.sfv.specs.parser.Visits.{VisitsAnswer, IsOfVisitor, VisitsField, IsFinishedAt, IsAskedThere, ReturnsAfter}
 use Rattle.sfv.specs.parser.Visits.{TookAllOf, TookAll}
 use Rattle.sfv.specs.Parsers.{version_of, input_of, IsParseError, FailsOn, IsAnswerOf, IsAnswerBy, IsSyntaxErrorBy}
-use Rattle.sfv.specs.Parsers.{ReceivesUpTo, ReceivesBeforeErrorBy, IsVisitorErrorBy}
+use Rattle.sfv.specs.Parsers.{IsBeforeMember, BeginsMember, ReceivesUpTo, ReceivesBeforeErrorBy, IsVisitorErrorBy}
 use Rattle.sfv.proofs.visits.Whole.{spaced, field_error, ending_located}
 use Rattle.sfv.proofs.Parsed.{located_fault, parse_error}
 use Rattle.sfv.proofs.reads.Delimiters.{span_total}
+use Rattle.sfv.proofs.visits.Begun.{visited_begun}
 use Rattle.sfv.specs.Memory.{IsRefusal}
 
 whole_is : (version : Version) (t s r : List ℕ) → span is_space t ≡ Ok (s, r)
@@ -496,6 +497,14 @@ module _ {S O E : Type 0} (v : Ghosts S O E) (p : Parser) (kind : FieldKind) (fr
           let b = visited_before version kind raw front rest accepted in
           (b.0, ap (λ (l : List ℕ). visited (events kind) (whole_field_at version kind l)) all ∙ b.1)
 
+      begun : (raw : RawField kind) (front rest : List ℕ) (first : List TreeEvent) → t ≡ front ++ rest
+          → IsBeforeMember version kind raw front → BeginsMember version rest kind first
+          → (others : List TreeEvent)
+          × (visited (events kind) (whole_field_at version kind t) ≡ events kind raw ++ first ++ others)
+      begun raw front rest first text h member =
+          let b = visited_begun version kind raw front rest first h member in
+          (b.0, ap (λ (l : List ℕ). visited (events kind) (whole_field_at version kind l)) text ∙ b.1)
+
       on : IsParseError version kind t e → (e ≡ out_of_memory) ⊎ ReceivesUpTo v p kind from
       on (inl same) = inl same
       on (inr s) =
@@ -506,6 +515,7 @@ module _ {S O E : Type 0} (v : Ghosts S O E) (p : Parser) (kind : FieldKind) (fr
             taken = took.1;
             begins = λ n reach. visited_reach version kind t s.rejected n reach;
             whole = before;
+            begun = begun;
           })
 
   pub visits_failure : (r : Result O (ParseError E)) → Visits r → IfErr r (IsVisitorErrorBy v p kind from)
