@@ -1,8 +1,8 @@
 -- The texts for which the parser allocates memory.
-use Rattle.std.specs.Prelude.{◌≡◌, ⊤, ℕ, List, ◌⊎◌, Bool, ◌||◌, ◌==◌, not, IsTrue}
+use Rattle.std.specs.Prelude.{◌≡◌, ⊤, ℕ, List, ◌⊎◌, Bool, ◌||◌, ◌==◌, not, IsTrue, codes}
 use Rattle.std.specs.List.{Contains}
 use Rattle.sfv_spec.specs.Ascii.{byte}
-use Rattle.sfv_spec.specs.Classes.{is_token_start}
+use Rattle.sfv_spec.specs.Classes.{is_token_start, is_one_of}
 use Rattle.sfv_spec.specs.declared.field_kind.FieldKind.{FieldKind}
 use Rattle.sfv_spec.specs.declared.field_kind.FieldKind.TheVariants.{Item as item_field}
 use Rattle.sfv_base.specs.declared.error.Error.{Error}
@@ -18,8 +18,7 @@ HoldsMark t = Contains t (byte "\\") ⊎ (Contains t (byte "%") ⊎ Contains t (
 -- A field without such a byte needs no memory: an item is a number, a boolean or a date without parameters; a list or a
 -- dictionary is empty.
 abbrev pub may_need_memory : FieldKind → ℕ → Bool
-may_need_memory item_field c = is_token_start c || c == byte "\"" || c == byte "\\" || c == byte "%" || c == byte ":"
-    || c == byte ";"
+may_need_memory item_field c = is_token_start c || is_one_of (codes "\"\\%:;") c
 may_need_memory kind c = not (c == byte " ")
 
 -- the error is out of memory only if the text contains such a byte

@@ -5,7 +5,6 @@ use Rattle.std.specs.List.{Contains}
 use Rattle.indexmap.specs.IndexMap.{insert_entry}
 use Rattle.std.proofs.lemmas.List.Elements.{All-append, All-cons, All-nil, All-head, All-tail, All-weaker, All-contains}
 use Rattle.std.proofs.lemmas.List.Elements.{All-contains_itself}
-use Rattle.sfv_visitor.specs.Builders.{AddsTo}
 
 -- one more stands last
 pub all_push : {X : Type 0} (P : X → Type 0) (xs : List X) (x : X) → P x → All P xs → All P (xs ++ x ∷ [])
@@ -20,6 +19,10 @@ all_entered {K} {V} eq P (e ∷ es) k v p h = on (eq k e.0) (all_entered eq P es
     on : (b : Bool) → All P (insert_entry eq es k v) → All P (cond b ((e.0, v) ∷ es) (e ∷ insert_entry eq es k v))
     on true more = All-cons P (e.0, v) es (p e.0) (All-tail P e es h)
     on false more = All-cons P e (insert_entry eq es k v) (All-head P e es h) more
+
+-- each element was there before, or `P` holds of it
+abbrev pub AddsTo : {A : Type 0} → (A → Type 0) → List A → List A → Type 0
+AddsTo P before after = All (λ x. Contains before x ⊎ P x) after
 
 module _ {X : Type 0} (P : X → Type 0) where
   -- nothing is added

@@ -119,14 +119,10 @@ item_state b = step_state b.item
 abbrev pub IsItemUnder : HashSeed → ItemBuilder → Type 0
 IsItemUnder seed b = (b.seed ≡ seed) × StepHasSeed seed b.item
 
--- each element was there before, or `P` holds of it
-abbrev pub AddsTo : {A : Type 0} → (A → Type 0) → List A → List A → Type 0
-AddsTo P before after = All (λ x. Contains before x ⊎ P x) after
-
 -- `after` adds maps under each seed that `s` does. Each member was there before, or hashes under that seed.
 abbrev pub AddsUnder : {B A : Type 0} → (HashSeed → B → Type 0) → (B → List A) → (HashSeed → A → Type 0) → B → B → Type 0
 AddsUnder adds members has s after = (seed : HashSeed) → adds seed s
-    → adds seed after × AddsTo (has seed) (members s) (members after)
+    → adds seed after × All (λ m. Contains (members s) m ⊎ has seed m) (members after)
 
 -- the complete members of a state
 abbrev pub complete : {A B : Type 0} → A × B → A

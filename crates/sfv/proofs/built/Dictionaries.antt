@@ -29,10 +29,10 @@ use Rattle.sfv_visitor.specs.Builders.{dictionary_state}
 use Rattle.sfv_tree.specs.declared.parsed.ListEntry.{ListEntry}
 use Rattle.sfv_visitor.specs.declared.visitor.dictionary_builder.DictionaryBuilder.{DictionaryBuilder}
 use Rattle.sfv.proofs.Relations.{Answers}
-use Rattle.sfv_visitor.specs.Builders.{DictionaryAddsUnder, AddsUnder, AddsTo}
+use Rattle.sfv_visitor.specs.Builders.{DictionaryAddsUnder, AddsUnder}
 use Rattle.sfv_tree.specs.declared.hash_seed.HashSeed.{HashSeed}
 use Rattle.sfv_tree.specs.Seeds.{MemberHasSeed, EntriesHaveSeed, DictionaryHasSeed}
-use Rattle.sfv_visitor.proofs.Seeded.{adds_all}
+use Rattle.sfv_visitor.proofs.Seeded.{AddsTo, adds_all}
 use Rattle.sfv.proofs.built.Seeded.{map_none, runs_add, runs_stay, runs_weaker}
 use Rattle.sfv.proofs.built.Items.{insert_entry-entered}
 use Rattle.sfv.proofs.built.Members.{IsOpen, member_built}

@@ -22,10 +22,10 @@ use Rattle.sfv_visitor.specs.Builders.{settle, list_step, complete, list_state}
 use Rattle.sfv_tree.specs.declared.parsed.ListEntry.{ListEntry}
 use Rattle.sfv_visitor.specs.declared.visitor.list_builder.ListBuilder.{ListBuilder}
 use Rattle.sfv.proofs.Relations.{Answers}
-use Rattle.sfv_visitor.specs.Builders.{ListAddsUnder, AddsUnder, AddsTo}
+use Rattle.sfv_visitor.specs.Builders.{ListAddsUnder, AddsUnder}
 use Rattle.sfv_tree.specs.declared.hash_seed.HashSeed.{HashSeed}
 use Rattle.sfv_tree.specs.Seeds.{MemberHasSeed, ListHasSeed}
-use Rattle.sfv_visitor.proofs.Seeded.{adds_all}
+use Rattle.sfv_visitor.proofs.Seeded.{AddsTo, adds_all}
 use Rattle.sfv.proofs.built.Seeded.{map_none, runs_add, runs_weaker}
 use Rattle.sfv.proofs.built.Members.{IsOpen, member_built}
 

@@ -5,8 +5,7 @@ use Rattle.sfv_spec.specs.declared.version.Version.{Version}
 use Rattle.sfv_spec.specs.Events.{TreeEvent}
 use Rattle.std.specs.List.{FoldsTo}
 use Rattle.sfv_tree.specs.declared.hash_seed.HashSeed.{HashSeed}
-use Rattle.sfv_visitor.specs.Builders.{AddsTo}
-use Rattle.sfv_visitor.proofs.Seeded.{adds_none, adds_more}
+use Rattle.sfv_visitor.proofs.Seeded.{AddsTo, adds_none, adds_more}
 use Rattle.sfv.proofs.Relations.{Answers}
 
 -- events that are taken are taken in a weaker sense

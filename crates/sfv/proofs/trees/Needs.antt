@@ -1,6 +1,5 @@
 -- Texts for whose item memory may be needed.
-use Rattle.std.proofs.Common.{◌≡◌, ℕ, Bool, true, false, List, [], ◌∷◌, ◌++◌, Ok, drop, take, refl, sym, subst}
-use Rattle.std.proofs.Math.Bool.{or-true}
+use Rattle.std.proofs.Common.{eqb-true, ◌≡◌, ℕ, Bool, true, false, List, [], ◌∷◌, ◌++◌, Ok, drop, take, refl, sym, subst}
 use Rattle.std.specs.Prelude.{IsTrue, ◌||◌}
 use Rattle.std.specs.List.{Contains}
 use Rattle.std.proofs.lemmas.List.{take-append-drop}
@@ -26,14 +25,19 @@ next_needs class may c h =
     Contains-append_right (take c.index (input c)) (rest c) h.0 here in
     (h.0, subst (λ (t : List ℕ). Contains t h.0) (take-append-drop c.index (input c)) there, may h.0 h.3)
 
+-- the same for one byte
+one_needs : (x : ℕ) → may_need_memory item_field x ≡ true → (b : ℕ) → byte x b ≡ true
+    → IsTrue (may_need_memory item_field b)
+one_needs x may b e = subst (λ (c : ℕ). IsTrue (may_need_memory item_field c)) (sym (eqb-true b x e)) may
+
 pub quote_next : (c : Cursor) → NextIs (byte double_quote) true (rest c) → MayNeedMemory item_field (input c)
-quote_next = next_needs (byte double_quote) (λ b e. rw (e, or-true (is_token_start b)) refl)
+quote_next = next_needs (byte double_quote) (one_needs double_quote refl)
 
 pub percent_next : (c : Cursor) → NextIs (byte percent_sign) true (rest c) → MayNeedMemory item_field (input c)
-percent_next = next_needs (byte percent_sign) (λ b e. rw (e, or-true _) refl)
+percent_next = next_needs (byte percent_sign) (one_needs percent_sign refl)
 
 pub semicolon_next : (c : Cursor) → NextIs (byte semicolon) true (rest c) → MayNeedMemory item_field (input c)
-semicolon_next = next_needs (byte semicolon) (λ b e. rw (e, or-true _) refl)
+semicolon_next = next_needs (byte semicolon) (one_needs semicolon refl)
 
 token_first : (t : List ℕ) (x : BareValue × List ℕ) → token_at t ≡ Ok x → NextIs is_token_start true t
 unfolding token_at branch fail
