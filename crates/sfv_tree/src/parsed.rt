@@ -84,6 +84,8 @@ fn copy_params(params: &Parameters) -> Result<Parameters, AllocError>
     for (key, value) in params.iter() {
         insert_clone(&mut copy, key, value)?;
     }
+    // At its first entry, a map allocates room for nine.
+    copy.shrink_to_fit();
     Ok(copy)
 }
 

@@ -24,7 +24,7 @@ returns-in_err-insert_clone-clause-out_of_memory c =
     let same = rw c.in-Some.ensures.steps at c.loop-key.invariant.2 none in cc same in search rules
 
 pub returns-clause-tree : goal.returns-clause-tree
-returns-clause-tree c = rw c.in-None.ensures.steps.0 at c.loop-key.invariant.0
+returns-clause-tree c = rw c.shrink_to_fit.ensures.entries (rw c.in-None.ensures.steps.0 at c.loop-key.invariant.0)
 
 pub returns-clause-seed : goal.returns-clause-seed
-returns-clause-seed c = c.loop-key.invariant.1
+returns-clause-seed c = c.shrink_to_fit.ensures.hasher ∙ c.loop-key.invariant.1
