@@ -41,7 +41,8 @@ use Rattle.sfv_visitor.specs.declared.visitor.dictionary_builder.DictionaryBuild
 use Rattle.sfv_base.specs.declared.error.ParseError.{ParseError}
 use Rattle.sfv_visitor.specs.declared.visitor.Visitor.{Ghosts as Visitor}
 use Rattle.sfv.specs.declared.parser.Parser.{Parser}
-use Rattle.sfv.specs.Parsers.{IsParseError, IsAnswerBy, IsSyntaxErrorBy, IsVisitorErrorBy, ReceivesFirstBy, ReceivesBorrowedBy}
+use Rattle.sfv.specs.Parsers.{version_of, input_of}
+use Rattle.sfv.specs.Parsers.{IsParseError, IsAnswerBy, IsSyntaxErrorBy, IsVisitorErrorBy, ReceivesFirstBy}
 use Rattle.sfv.specs.Parsers.{ReceivesAsReadBy, ReadsBy, ReadsItemBy}
 use Rattle.sfv.specs.parser.Visits.{ReturnsAfter}
 use Rattle.sfv.proofs.built.Items.{insert_entry-entered}
@@ -91,6 +92,7 @@ pub use Rattle.sfv.proofs.Fields.{of_pushed, state_kept, parameters_kept, writte
 pub use Rattle.sfv.proofs.Fields.{last_set, idle_by, list_read, member_looked, answer_read, fits_unless, fits_either}
 -- how parsing with a visitor ends: the lemmas are stated in this
 pub use Rattle.sfv.proofs.Relations.{Answers, FailsIn, HasSyntax, HasVisitorError, HasFirst, HasBorrowed, HasEventsRead}
+pub use Rattle.sfv.proofs.visits.Lent.{first_as_read}
 pub use Rattle.sfv.proofs.Relations.{WithSomeVisitor, accepted_or_not, item_failed, fails_somewhere}
 -- what a visitor that expects one bare item says of the field
 pub use Rattle.sfv.proofs.Expected.{expect_answers, expect_fails, expect_first, expect_only, expect_read}
@@ -202,8 +204,11 @@ module _ {S O E : Type 0} {v : Visitor S O E} {p : Parser} {Made : S → Type 0}
   pub made_first : WithSomeVisitor Made (ReadsItemBy v p) r → IfErr r (WithSomeVisitor Made (ReceivesFirstBy v p))
   made_first h = IfErr-weaker r _ _ (λ e k. (h.0, h.1, k)) h.2.first
 
-  pub made_lent : WithSomeVisitor Made (ReadsItemBy v p) r → IfOk r (WithSomeVisitor Made (ReceivesBorrowedBy v p))
-  made_lent h = IfOk-weaker r _ _ (λ out k. (h.0, h.1, k)) h.2.borrowed_if_plain
+  -- the bare item of the field was received as parsed, borrowed unless it has escapes
+  pub made_lent : WithSomeVisitor Made (ReadsItemBy v p) r
+      → IfOk r (WithSomeVisitor Made (HasBorrowed v.takes v.takes_read v.finishes (version_of p) (input_of p)))
+  made_lent h = IfOk-weaker r _ _ (λ out k. (h.0, h.1,
+      first_as_read v.takes v.takes_read v.finishes (version_of p) (input_of p) h.0 out k)) h.2.all.as_read
 
 -- of an accepted text an error is want of memory
 pub accepted_error : (version : Version) (kind : FieldKind) (t : List ℕ) (raw : RawField kind) (e : Error)

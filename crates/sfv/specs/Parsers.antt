@@ -1,5 +1,5 @@
 -- The input and the results of a parser.
-use Rattle.std.specs.Prelude.{◌≡◌, ◌≤◌, ⊤, ℕ, true, List, [], ◌∷◌, ◌++◌, codes, length, map, take, Some, Result, ◌⊎◌}
+use Rattle.std.specs.Prelude.{◌≡◌, ◌≤◌, ⊤, ℕ, true, List, [], ◌∷◌, ◌++◌, codes, length, map, take, drop, Some, Result, ◌⊎◌}
 use Rattle.std.specs.Prelude.{◌↔◌, ◌==◌, ◌||◌, IfOk, IfErr, IsTrue, IsFalse, not}
 use Rattle.std.specs.List.{FoldsTo}
 use Rattle.std.specs.Borrow.{Bor}
@@ -8,7 +8,7 @@ use Rattle.sfv_spec.specs.declared.field_kind.FieldKind.{FieldKind}
 use Rattle.sfv_spec.specs.declared.field_kind.FieldKind.TheVariants.{Item as item_field, List as list_field}
 use Rattle.sfv_spec.specs.declared.field_kind.FieldKind.TheVariants.{Dictionary as dictionary_field}
 use Rattle.sfv_spec.specs.declared.version.Version.{Version}
-use Rattle.sfv_spec.specs.Values.{BareValue, boolean, RawParameters, RawItem, item, IsFieldValue}
+use Rattle.sfv_spec.specs.Values.{BareValue, boolean, RawItem, item, IsFieldValue}
 use Rattle.sfv_spec.specs.Ascii.{byte}
 use Rattle.sfv_spec.specs.Texts.{RunOf, ◌⨾◌, IsJoining, begins_with}
 use Rattle.sfv_spec.specs.Classes.{is_key_inner}
@@ -17,7 +17,7 @@ use Rattle.sfv_spec.specs.Grammar.{IsDictionaryMemberText, IsFieldText, IsEnded,
 use Rattle.sfv_spec.specs.Grammar.{BeginsWithLongest, BeginsWithComplete, HasField}
 use Rattle.sfv_spec.specs.Reach.{IsReach}
 use Rattle.sfv_spec.specs.Events.{TreeEvent, entry, keyed_entry, begins_item, bare_item, parameter}
-use Rattle.sfv_spec.specs.Events.{parameters_events, item_events, events}
+use Rattle.sfv_spec.specs.Events.{item_events, events}
 use Rattle.sfv_spec.specs.Visiting.{BeginsEventsAfter}
 use Rattle.sfv_spec.specs.Faults.{IsFaultAt}
 use Rattle.sfv_spec.specs.declared.error_kind.ErrorKind.{ErrorKind}
@@ -61,17 +61,12 @@ pub record IsSyntaxError (version : Version) (kind : FieldKind) (t : List ℕ) (
 abbrev pub IsParseError : Version → FieldKind → List ℕ → Error → Type 0
 IsParseError version kind t e = (e ≡ out_of_memory) ⊎ IsSyntaxError version kind t e
 
--- a string without an escape begins here; a display string without an escape does
-abbrev pub IsPlainString : List ℕ → Type 0
-IsPlainString t = (s : List ℕ) × (t ≡ byte "\"" ∷ s) × RunOf (λ c. not (c == byte "\\")) s
-
-abbrev pub IsPlainDisplay : List ℕ → Type 0
-IsPlainDisplay t = (s : List ℕ) × (t ≡ byte "%" ∷ byte "\"" ∷ s) × RunOf (λ c. not (c == byte "%")) s
-
--- A parsed string or display string is borrowed from the text if and only if it has no escape there.
+-- `t` is the text of this bare item. A string is borrowed from it if and only if it contains no backslash; a display
+-- string, if and only if it contains no percent sign but its first byte.
 abbrev pub IsBorrowedIfPlain : ReadBareItem → List ℕ → Type 0
-IsBorrowedIfPlain (bare.String text) t = IsTrue (is_borrowed_string text) ↔ IsPlainString t
-IsBorrowedIfPlain (bare.DisplayString text) t = IsTrue (is_borrowed_text text) ↔ IsPlainDisplay t
+IsBorrowedIfPlain (bare.String text) t = IsTrue (is_borrowed_string text) ↔ RunOf (λ c. not (c == byte "\\")) t
+IsBorrowedIfPlain (bare.DisplayString text) t =
+    IsTrue (is_borrowed_text text) ↔ RunOf (λ c. not (c == byte "%")) (drop 1 t)
 IsBorrowedIfPlain read t = ⊤
 
 -- `t` is the text of this value, which is borrowed if and only if it has no escape there. True may have no text.
@@ -129,15 +124,11 @@ module _ {S O E : Type 0} (v : Visitor S O E) (from : S) where
       × (es ≡ before ++ e ∷ after) × FoldsTo v.takes from before s × v.fails s e error)
       ⊎ (may_finish × (last : S) × FoldsTo v.takes from es last × v.finish_fails last error)
 
-  -- The text is exactly one field, and the visitor returns this result for its events.
-  abbrev pub IsAnswerOf : Version → FieldKind → List ℕ → O → Type 0
-  IsAnswerOf version kind t out = HasField version kind t (λ raw. Returns (events kind raw) out)
-
 -- how the parser's call for this type of field ends, with this visitor in the state `from`
 module _ {S O E : Type 0} (v : Visitor S O E) (p : Parser) (kind : FieldKind) (from : S) where
   -- The input is exactly one field, and the visitor returns this result for its events.
   abbrev pub IsAnswerBy : O → Type 0
-  IsAnswerBy out = IsAnswerOf v from (version_of p) kind (input_of p) out
+  IsAnswerBy out = HasField (version_of p) kind (input_of p) (λ raw. Returns v from (events kind raw) out)
 
   -- The input is exactly one field. The visitor received its events as read from the input, and returned this result.
   abbrev pub ReceivesAsReadBy : O → Type 0
@@ -149,8 +140,8 @@ module _ {S O E : Type 0} (v : Visitor S O E) (p : Parser) (kind : FieldKind) (f
   -- A syntax error is one that `parse` returns. One for characters after an item comes after the visitor has finished.
   abbrev pub IsSyntaxErrorBy : ParseError E → Type 0
   IsSyntaxErrorBy (parse_errors.Syntax e) = IsParseError (version_of p) kind (input_of p) e × ((n : ℕ)
-      → e ≡ error_of TrailingCharactersAfterParsedValue (Some n)
-      → (out : O) × IsAnswerOf v from (version_of p) kind (take n (input_of p)) out)
+      → e ≡ error_of TrailingCharactersAfterParsedValue (Some n) → (out : O)
+      × HasField (version_of p) kind (take n (input_of p)) (λ raw. Returns v from (events kind raw) out))
   IsSyntaxErrorBy (parse_errors.Visitor error) = ⊤
 
   -- The visitor received these events. On a rejected text, they begin the events of some field that begins with the
@@ -198,14 +189,6 @@ module _ {S O E : Type 0} (v : Visitor S O E) (p : Parser) (from : S) where
       × ((value : BareValue) → BeginsWithComplete (version_of p) value (input_of p) → raw.bare ≡ value)
       × FailsOn v from (item_events raw) ⊤ error
 
-  -- The text is an item. The visitor received its bare item as parsed, borrowed unless it has escapes, and returned
-  -- this result after the parameters.
-  abbrev pub ReceivesBorrowedBy : O → Type 0
-  ReceivesBorrowedBy out = (read : ReadBareItem) × (parameters : RawParameters)
-      × IsFieldText (version_of p) item_field (record { bare = input_value read; parameters = parameters }) (input_of p)
-      × (at : BeginsWithLongest (version_of p) (input_value read) (input_of p)) × IsBorrowedIfPlain read at.first.front
-      × (s : S) × v.takes_read from (event.BareItem read) s × Returns v s (parameters_events parameters) out
-
 -- The clauses of `parse_.._with_visitor` for one visitor: its result, the events as read, a syntax error, the events
 -- before that, its own error, and the texts for which memory is allocated.
 pub record ReadsBy {S O E : Type 0} (v : Visitor S O E) (p : Parser) (kind : FieldKind) (from : S)
@@ -217,9 +200,8 @@ pub record ReadsBy {S O E : Type 0} (v : Visitor S O E) (p : Parser) (kind : Fie
   pub visitor : IfErr result (IsVisitorErrorBy v p kind from)
   pub memory : IfErr result (NeedsMark (input_of p))
 
--- The same for an item. In addition, the visitor receives the bare item first, and as parsed.
+-- The same for an item. In addition, the visitor receives the bare item first.
 pub record ReadsItemBy {S O E : Type 0} (v : Visitor S O E) (p : Parser) (from : S) (result : Result O (ParseError E))
     : Type 0 where
   pub all : ReadsBy v p item_field from result
   pub first : IfErr result (ReceivesFirstBy v p from)
-  pub borrowed_if_plain : IfOk result (ReceivesBorrowedBy v p from)

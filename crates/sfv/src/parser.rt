@@ -51,7 +51,7 @@ pub struct Parser<'de> {
 
 impl<'de> Parser<'de> {
     ghost use Rattle.sfv.specs.Parsers.{parser_of, input_of, version_of, IsParseError, IsAnswerBy, IsSyntaxErrorBy};
-    ghost use Rattle.sfv.specs.Parsers.{ReceivesBeforeErrorBy, IsVisitorErrorBy, ReceivesFirstBy, ReceivesBorrowedBy};
+    ghost use Rattle.sfv.specs.Parsers.{ReceivesBeforeErrorBy, IsVisitorErrorBy, ReceivesFirstBy};
     ghost use Rattle.sfv.specs.Parsers.{ReceivesAsReadBy, ReadsBy, ReadsItemBy};
     ghost use Rattle.sfv.specs.Memory.{NeedsMark, NeedsMemory};
 
@@ -189,7 +189,6 @@ impl<'de> Parser<'de> {
         ensures visitor { IfErr result (IsVisitorErrorBy V.Visitor self.entry item_field visitor) }
         ensures memory { IfErr result (NeedsMark (input_of self.entry)) }
         ensures first { IfErr result (ReceivesFirstBy V.Visitor self.entry visitor) }
-        ensures borrowed_if_plain { IfOk result (ReceivesBorrowedBy V.Visitor self.entry visitor) }
     {
         parse_item_field(self, alloc, visitor)
     }

@@ -68,7 +68,7 @@ fn is_dictionary_fit(dictionary: &Dictionary, count: usize) -> bool {
 }
 
 /// Returns `true` if `parse` and the builder both make an item with this many parameters, with the right capacities,
-/// and that a clone has no more.
+/// and if a clone has no unused memory.
 fn is_item_fit(alloc: Global, input: &str, count: usize) -> bool {
     let parser = Parser::new(input.as_bytes());
     let builder = ItemBuilder::new(alloc, parser.hash_seed());
@@ -84,7 +84,7 @@ fn is_item_fit(alloc: Global, input: &str, count: usize) -> bool {
     parsed.params.len() == count
         && is_fit(&parsed.params, 0)
         && is_fit(&built.params, 0)
-        && copy.params.capacity() <= parsed.params.capacity()
+        && copy.params.capacity() == count
 }
 
 /// Returns `true` if `parse` and the builder both make a list of this many members, with the right capacities.

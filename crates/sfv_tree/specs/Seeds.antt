@@ -24,13 +24,9 @@ MemberHasSeed seed (entries.InnerList l) = InnerListHasSeed seed l
 abbrev pub ListHasSeed : HashSeed → List ListEntry → Type 0
 ListHasSeed seed members = All (MemberHasSeed seed) members
 
--- the parameters of all members hash under this seed
-abbrev pub EntriesHaveSeed : HashSeed → List (List ℕ × ListEntry) → Type 0
-EntriesHaveSeed seed entries = All (λ p. MemberHasSeed seed p.1) entries
-
 -- the dictionary and the parameters of all members hash under this seed
 abbrev pub DictionaryHasSeed : HashSeed → IndexMap (List ℕ) ListEntry HashSeed → Type 0
-DictionaryHasSeed seed d = (hasher_of d ≡ seed) × EntriesHaveSeed seed d.entries
+DictionaryHasSeed seed d = (hasher_of d ≡ seed) × All (λ p. MemberHasSeed seed p.1) d.entries
 
 -- the copy hashes under each seed that the value hashes under
 abbrev pub KeepsSeed : {A : Type 0} → (HashSeed → A → Type 0) → A → A → Type 0

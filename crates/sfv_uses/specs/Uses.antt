@@ -1,10 +1,12 @@
 -- The results of the examples.
 use Rattle.std.specs.Prelude.{◌≡◌, ◌⊎◌, ℕ, ℤ, ◌+◌, ◌<◌, ◌≤◌, List, [], ◌∷◌, ◌++◌, length, Option, Some, None, codes}
-use Rattle.std.specs.Prelude.{Result, MatchResult, IsTrue, ◌↔◌, option_map, string_bytes}
+use Rattle.std.specs.Prelude.{Result, MatchResult, IsTrue, ◌↔◌, ◌==◌, not, option_map, string_bytes}
 use Rattle.std.specs.Borrow.{Bor}
 use Rattle.std.specs.declared.alloc.Global.{Global}
 use Rattle.std.specs.declared.string.String.{String}
 use Rattle.std.specs.List.{repeat}
+use Rattle.sfv.specs.Ascii.{byte}
+use Rattle.sfv.specs.Texts.{RunOf}
 use Rattle.sfv.specs.Values.{BareValue, integer}
 use Rattle.sfv.specs.Types.{FieldKind, item_field, list_field, dictionary_field}
 use Rattle.sfv.specs.Types.{Rfc9651}
@@ -24,7 +26,7 @@ use Rattle.sfv.specs.Trees.{OwnedBareItem}
 use Rattle.sfv.specs.Events.{TreeEvent, keyed_entry}
 use Rattle.sfv.specs.Types.{ParseError, OutOfMemory}
 use Rattle.sfv.specs.Types.parse_errors.{Syntax, Visitor}
-use Rattle.sfv.specs.Parsers.{IsParseError, IsPlainString}
+use Rattle.sfv.specs.Parsers.{IsParseError}
 use Rattle.sfv_uses.specs.declared.visiting.TooMany.{TooMany}
 use Rattle.sfv.specs.Faults.{IsFaultAt}
 use Rattle.sfv.specs.Types.{ErrorKind}
@@ -168,7 +170,7 @@ RefusesOther value result =
 -- the string comes first in the text, and is borrowed from it if and only if it has no escape there
 abbrev pub IsLentString : StringFromInput → List ℕ → Type 0
 IsLentString text t = (stands : BeginsWithLongest Rfc9651 (string (read_text text)) t)
-    × (IsTrue (is_borrowed_string text) ↔ IsPlainString stands.first.front)
+    × (IsTrue (is_borrowed_string text) ↔ RunOf (λ c. not (c == byte "\\")) stands.first.front)
 
 -- the text parses to an item: its integer, or the default for another kind
 abbrev pub HasIntegerOr : ℤ → List ℕ → ℤ → Type 0

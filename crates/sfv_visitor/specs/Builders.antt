@@ -40,14 +40,6 @@ pub data MemberState : Type 0 where
 abbrev pub plain_item : BareValue → RawItem
 plain_item value = record { bare = value; parameters = [] }
 
--- the inner list with this item appended
-abbrev pub adds : RawInnerList → RawItem → RawInnerList
-adds l i = record { items = l.items ++ i ∷ []; parameters = l.parameters }
-
--- the inner list with this parameter inserted
-abbrev pub enters_list : RawInnerList → List ℕ → BareValue → RawInnerList
-enters_list l key value = record { items = l.items; parameters = insert_entry bytes_eq l.parameters key value }
-
 -- the state after an event; every other event changes nothing
 abbrev pub member_step : MemberState → TreeEvent → MemberState
 member_step begun begins_item = item_head
@@ -59,8 +51,10 @@ member_step (inner_items l) begins_item = inner_head l
 member_step (inner_items l) inner_list_end = list_parameters l
 member_step (inner_head l) (bare_item value) = inner_parameters l (plain_item value)
 member_step (inner_parameters l i) (parameter key value) = inner_parameters l (enters i key value)
-member_step (inner_parameters l i) parameters_end = inner_items (adds l i)
-member_step (list_parameters l) (parameter key value) = list_parameters (enters_list l key value)
+member_step (inner_parameters l i) parameters_end =
+    inner_items (record { items = l.items ++ i ∷ []; parameters = l.parameters })
+member_step (list_parameters l) (parameter key value) =
+    list_parameters (record { items = l.items; parameters = insert_entry bytes_eq l.parameters key value })
 member_step (list_parameters l) parameters_end = ended (inner_list l)
 member_step p e = p
 
@@ -128,28 +122,25 @@ AddsUnder adds members has s after = (seed : HashSeed) → adds seed s
 abbrev pub complete : {A B : Type 0} → A × B → A
 complete s = s.0
 
--- the state of a list's builder: the complete members, and the current member, if there is one
-abbrev pub ListState : Type 0
-ListState = List RawMember × Option MemberState
-
--- a member that has ended is appended to the list
-abbrev pub settle : List RawMember → MemberState → ListState
+-- The state of a list's builder is the complete members, and the current member, if there is one. A member that has ended
+-- is appended to the list.
+abbrev pub settle : List RawMember → MemberState → List RawMember × Option MemberState
 settle ms (ended m) = (ms ++ m ∷ [], None)
 settle ms p = (ms, Some p)
 
 -- the state after an event; every other event changes nothing
-abbrev pub list_step : ListState → TreeEvent → ListState
+abbrev pub list_step : List RawMember × Option MemberState → TreeEvent → List RawMember × Option MemberState
 list_step (ms, Some p) e = settle ms (member_step p e)
 list_step (ms, None) entry = (ms, Some begun)
 list_step s e = s
 
 -- the event allocates here: within the member, or because the member ends and goes into the list
-abbrev pub list_takes_memory : ListState → TreeEvent → Bool
+abbrev pub list_takes_memory : List RawMember × Option MemberState → TreeEvent → Bool
 list_takes_memory (ms, Some p) e = takes_memory p e || ends p e
 list_takes_memory s e = false
 
 -- the state of a builder, with the list so far
-abbrev pub list_state : ListBuilder → ListState
+abbrev pub list_state : ListBuilder → List RawMember × Option MemberState
 list_state b = (list_tree b.list.items, option_map member_state b.member)
 
 -- the builder adds maps under this seed, and the current member hashes under it

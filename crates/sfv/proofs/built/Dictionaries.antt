@@ -31,7 +31,7 @@ use Rattle.sfv_visitor.specs.declared.visitor.dictionary_builder.DictionaryBuild
 use Rattle.sfv.proofs.Relations.{Answers}
 use Rattle.sfv_visitor.specs.Builders.{DictionaryAddsUnder, AddsUnder}
 use Rattle.sfv_tree.specs.declared.hash_seed.HashSeed.{HashSeed}
-use Rattle.sfv_tree.specs.Seeds.{MemberHasSeed, EntriesHaveSeed, DictionaryHasSeed}
+use Rattle.sfv_tree.specs.Seeds.{MemberHasSeed, DictionaryHasSeed}
 use Rattle.sfv_visitor.proofs.Seeded.{AddsTo, adds_all}
 use Rattle.sfv.proofs.built.Seeded.{map_none, runs_add, runs_stay, runs_weaker}
 use Rattle.sfv.proofs.built.Items.{insert_entry-entered}
@@ -179,7 +179,7 @@ dictionary_adds version t from dictionary seed start h = rw h.holds.2
 -- if the members that were there hash under the seed, all do
 pub dictionary_seeded : (version : Version) (t : List ℕ) (from : DictionaryBuilder)
     (dictionary : IndexMap (List ℕ) ListEntry HashSeed) (seed : HashSeed)
-    → EntriesHaveSeed seed from.dictionary.entries → DictionaryAddsUnder seed from
+    → All (λ (p : List ℕ × ListEntry). MemberHasSeed seed p.1) from.dictionary.entries → DictionaryAddsUnder seed from
     → Answers Steps Ends version dictionary_field t from dictionary → DictionaryHasSeed seed dictionary
 dictionary_seeded version t from dictionary seed held start h =
     let last : DictionaryAddsUnder seed h.holds.0 = runs_stay DictionaryAddsUnder Steps (λ s e t k seed j. (k.1 seed j).0)
@@ -191,7 +191,7 @@ dictionary_seeded version t from dictionary seed held start h =
 
 -- no member was there
 pub no_entry_held : (from : DictionaryBuilder) (seed : HashSeed) → dictionary_state from ≡ between_pairs []
-    → EntriesHaveSeed seed from.dictionary.entries
+    → All (λ (p : List ℕ × ListEntry). MemberHasSeed seed p.1) from.dictionary.entries
 no_entry_held from seed here = All-same (λ (p : List ℕ × ListEntry). MemberHasSeed seed p.1) from.dictionary.entries []
     (map_none (λ (p : List ℕ × ListEntry). (p.0, member_tree p.1)) from.dictionary.entries (ap complete here))
     (All-nil (λ (p : List ℕ × ListEntry). MemberHasSeed seed p.1))

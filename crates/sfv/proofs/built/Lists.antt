@@ -17,7 +17,7 @@ use Rattle.std.specs.List.{FoldsTo}
 use Rattle.sfv_spec.proofs.Runs.{runs_fold}
 use Rattle.sfv_tree.specs.Trees.{member_tree, list_tree}
 use Rattle.sfv_visitor.specs.Builders.{MemberState, begun, item_head, item_parameters, inner_items, inner_head}
-use Rattle.sfv_visitor.specs.Builders.{inner_parameters, list_parameters, ended, member_step, ListState}
+use Rattle.sfv_visitor.specs.Builders.{inner_parameters, list_parameters, ended, member_step}
 use Rattle.sfv_visitor.specs.Builders.{settle, list_step, complete, list_state}
 use Rattle.sfv_tree.specs.declared.parsed.ListEntry.{ListEntry}
 use Rattle.sfv_visitor.specs.declared.visitor.list_builder.ListBuilder.{ListBuilder}
@@ -41,6 +41,10 @@ abbrev Ends : ListBuilder → Vec ListEntry Global → Type 0
 Ends s list = list ≡ s.list
 
 -- no member is current
+-- the state of a list's builder
+abbrev pub ListState : Type 0
+ListState = List RawMember × Option MemberState
+
 abbrev pub between : List RawMember → ListState
 between ms = (ms, None)
 

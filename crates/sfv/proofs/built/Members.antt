@@ -9,7 +9,7 @@ use Rattle.sfv_spec.specs.Events.{item_events, member_events}
 use Rattle.sfv_spec.specs.Ordered.{collapse, ordered_item, ordered_member}
 use Rattle.sfv_spec.proofs.Collapse.{collapse-push}
 use Rattle.sfv_visitor.specs.Builders.{MemberState, begun, item_head, item_parameters, inner_items, inner_head}
-use Rattle.sfv_visitor.specs.Builders.{inner_parameters, list_parameters, ended, adds, member_step}
+use Rattle.sfv_visitor.specs.Builders.{inner_parameters, list_parameters, ended, member_step}
 use Rattle.sfv.proofs.built.Items.{insert_entry-entered, with_bare}
 
 -- a member that has not ended
@@ -58,6 +58,10 @@ item_goes i = (
   parameters_go (λ ps. item_parameters (with_bare i.bare ps))
       (λ ps. ended (item (with_bare i.bare ps))) (λ ps. tt) (λ ps k v. refl) (λ ps. refl) i.parameters [],
 )
+
+-- the inner list with this item appended
+abbrev adds : RawInnerList → RawItem → RawInnerList
+adds l i = record { items = l.items ++ i ∷ []; parameters = l.parameters }
 
 inner_item_goes : (l : RawInnerList) (i : RawItem)
     → Goes (inner_head l) (item_events i) (inner_items (adds l (ordered_item i)))

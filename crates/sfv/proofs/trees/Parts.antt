@@ -23,7 +23,7 @@ use Rattle.sfv_reading.proofs.sound.Many.{starts, is_done}
 use Rattle.sfv_reading.proofs.sound.Items.{Consumes-parameter}
 use Rattle.sfv.specs.declared.parser.cursor.Cursor.{Cursor}
 use Rattle.sfv.specs.parser.Cursor.{kept, version, rest, Reads, TakesIf}
-use Rattle.sfv.specs.parser.Trees.{Builds, FailsAs}
+use Rattle.sfv.specs.parser.Trees.{Builds, FailsAs, EntriesHaveSeed}
 use Rattle.sfv.specs.parser.Visits.{IsOfVisitor}
 use Rattle.sfv.proofs.trees.Errors.{Any, NoMemory, as_answer, as_fault, borrowed_text}
 use Rattle.sfv.proofs.reads.Steps.{branch_true, item_some}
@@ -31,7 +31,7 @@ use Rattle.sfv.proofs.visits.InnerLists.{member_list, member_item}
 use Rattle.sfv_bare.specs.BareItems.{bare_value, input_value, is_borrowed}
 use Rattle.sfv_visitor.specs.ProvidedVisitors.{ReadBareItem}
 use Rattle.sfv_tree.specs.Trees.{OwnedBareItem, pairs_tree, item_tree, member_tree, list_tree, dictionary_tree}
-use Rattle.sfv_tree.specs.Seeds.{ItemHasSeed, MemberHasSeed, ListHasSeed, EntriesHaveSeed}
+use Rattle.sfv_tree.specs.Seeds.{ItemHasSeed, MemberHasSeed, ListHasSeed}
 use Rattle.sfv_tree.specs.declared.hash_seed.HashSeed.{HashSeed}
 use Rattle.sfv_tree.proofs.Entered.{dictionary_tree-insert}
 use Rattle.sfv_visitor.proofs.Seeded.{all_push, all_entered}

@@ -80,7 +80,7 @@ bare_next read before after here lent =
       at = exact.front;
       text = exact.text;
       quiet = refl;
-      means = (inl exact.means, lent_front read before after exact.front exact.text lent);
+      means = (inl exact.means, lent_front (version before) read before after exact.front exact.text exact.means lent);
     }
 
 -- the value true without a text

@@ -46,7 +46,7 @@ use Rattle.sfv.specs.parser.Members.{MemberValue, member_parts, one_member_at, f
 use Rattle.sfv_visitor.specs.declared.visitor.Visitor.{Ghosts}
 use Rattle.sfv.specs.parser.Visits.{VisitsAnswer, IsOfVisitor, VisitsField, IsFinishedAt, IsAskedThere, ReturnsAfter}
 use Rattle.sfv.specs.parser.Visits.{TookAllOf, TookAll}
-use Rattle.sfv.specs.Parsers.{version_of, input_of, IsParseError, FailsOn, IsAnswerOf, IsAnswerBy, IsSyntaxErrorBy}
+use Rattle.sfv.specs.Parsers.{version_of, input_of, IsParseError, FailsOn, Returns, IsAnswerBy, IsSyntaxErrorBy}
 use Rattle.sfv.specs.Parsers.{IsBeforeMember, BeginsMember, ReceivesUpTo, ReceivesBeforeErrorBy, IsVisitorErrorBy}
 use Rattle.sfv.proofs.visits.Whole.{spaced, field_error, ending_located}
 use Rattle.sfv.proofs.Parsed.{located_fault, parse_error}
@@ -454,7 +454,7 @@ module _ {S O E : Type 0} (v : Ghosts S O E) (p : Parser) (kind : FieldKind) (fr
   visits_answer (Err e) h = tt
 
   in_front : (index : ℕ) → Visits (Err (Syntax (error_of TrailingCharactersAfterParsedValue (Some index))))
-      → (out : O) × IsAnswerOf v from version kind (take index t) out
+      → (out : O) × HasField version kind (take index t) (λ raw. Returns v from (events kind raw) out)
   in_front index h =
       let f = located_fault (read_field version kind t) _ _ h.0.0 in
       let before = read_before version kind t f.0 f.1 (trailing_kind f.0.kind f.2) in

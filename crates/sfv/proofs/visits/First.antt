@@ -112,7 +112,7 @@ item_is_quiet version r f e =
     rw e quiet
 
 -- what is visited first of an item's text is a bare item that stands first in it
-visited_first : (version : Version) (t : List ℕ) (e : TreeEvent) (es : List TreeEvent)
+pub visited_first : (version : Version) (t : List ℕ) (e : TreeEvent) (es : List TreeEvent)
     → visited (events item_field) (whole_field_at version item_field t) ≡ e ∷ es
     → (value : BareValue) × (e ≡ bare_item value) × BeginsWithLongest version value t
 visited_first version t e es h =

@@ -1,106 +1,180 @@
--- What a visitor was told of an item's bare item as it was read.
-use Rattle.std.proofs.Common.{◌≡◌, ℕ, List, ◌∷◌, ◌++◌, Result, Ok, Err, sym, ap, subst, ◌∙◌, append_assoc}
-use Rattle.std.specs.Prelude.{OnOk}
+-- The text of a bare item that a visitor received as it was parsed.
+use Rattle.std.proofs.Common.{◌≡◌, ℕ, List, [], ◌∷◌, ◌++◌, map, drop, Ok, refl, sym, ap, subst, ◌∙◌}
+use Rattle.std.proofs.Common.{append_assoc, Bool, inl, inr}
+use Rattle.std.specs.Prelude.{not, ◌==◌, cow_str_bytes}
 use Rattle.std.proofs.lemmas.List.{append_cancel_right}
-use Rattle.sfv_spec.proofs.Marks.{double_quote, percent_sign}
-use Rattle.sfv_spec.proofs.Marks.{is_space}
+use Rattle.std.specs.List.{FoldsTo}
+use Rattle.sfv_spec.specs.Ascii.{byte}
+use Rattle.sfv_spec.proofs.Marks.{double_quote, percent_sign, is_space}
 use Rattle.sfv_spec.specs.Texts.{RunOf}
-use Rattle.sfv_spec.specs.Values.{RawParameters}
+use Rattle.sfv_spec.specs.Values.{BareValue, RawItem, boolean}
+use Rattle.sfv_spec.specs.Grammar.{IsBareText, IsFieldText, BeginsWithLongest}
 use Rattle.sfv_spec.specs.declared.field_kind.FieldKind.TheVariants.{Item as item_field}
 use Rattle.sfv_spec.specs.declared.version.Version.{Version}
-use Rattle.sfv_spec.specs.Events.{TreeEvent, parameters_events}
-use Rattle.std.specs.List.{FoldsTo}
-use Rattle.sfv_base.specs.declared.error.ParseError.{ParseError}
-use Rattle.sfv_bare.specs.BareItems.{input_value}
+use Rattle.sfv_spec.specs.Events.{TreeEvent, bare_item, parameters_events, item_events, events}
+use Rattle.sfv_bare.specs.BareItems.{input_value, read_text}
 use Rattle.sfv_bare.specs.declared.bare.GenericBareItem.TheVariants as bare
 use Rattle.sfv_visitor.specs.declared.visitor.Event.{Event}
 use Rattle.sfv_visitor.specs.declared.visitor.Event.TheVariants as event
+use Rattle.sfv_visitor.specs.Events.{event_of}
 use Rattle.sfv_visitor.specs.ProvidedVisitors.{ReadBareItem}
-use Rattle.sfv_reading.specs.Reader.{span}
-use Rattle.sfv_reading.specs.Bare.{bare_at}
-use Rattle.sfv_reading.specs.Items.{item_of, parameters_at}
-use Rattle.sfv_reading.specs.Fields.{read_field}
-use Rattle.sfv_reading.proofs.sound.Combinators.{Steady-span}
-use Rattle.sfv_reading.proofs.Exact.{bare_is_exact}
-use Rattle.sfv_reading.proofs.First.{longest_read}
-use Rattle.sfv_reading.proofs.Theorems.{read_is_accepted}
+use Rattle.sfv_reading.specs.Reader.{Answer, Apart, span, visited}
+use Rattle.sfv_reading.specs.Fields.{whole_field_at}
+use Rattle.sfv_reading.specs.Quoted.{string_at, display_at}
+use Rattle.sfv_reading.proofs.complete.Combinators.{span_complete, Apart-cons}
+use Rattle.sfv_reading.proofs.complete.Quoted.{string_complete, display_complete}
 use Rattle.sfv.specs.declared.parser.cursor.Cursor.{Cursor}
-use Rattle.sfv.specs.parser.Cursor.{kept, version, rest}
+use Rattle.sfv.specs.parser.Cursor.{rest}
+use Rattle.sfv.specs.parser.AsRead.{HasNoQuote}
 use Rattle.sfv.specs.parser.Quoted.{IsBorrowedUnlessEscaped}
-use Rattle.sfv.specs.parser.Visits.{Visits, TakesAsRead}
-use Rattle.sfv.specs.Parsers.{IsBorrowedIfPlain}
-use Rattle.sfv.proofs.Relations.{HasBorrowed}
-use Rattle.sfv.proofs.reads.Steps.{item_some}
-use Rattle.sfv.proofs.visits.Parts.{kept_visits}
-use Rattle.sfv.proofs.visits.First.{same_rest}
+use Rattle.sfv.specs.Parsers.{IsBorrowedIfPlain, IsReadAs, AreReadFrom}
+use Rattle.sfv.proofs.Relations.{HasBorrowed, HasEventsRead}
+use Rattle.sfv.proofs.visits.Fields.{whole_accepted}
+use Rattle.sfv.proofs.visits.First.{visited_first, same_rest}
+use Rattle.sfv.proofs.visits.Passed.{run_apart, both_apart}
+
+abbrev no_quote_byte : ℕ → Bool
+no_quote_byte c = not (c == byte "\"")
+
+-- no percent sign after the first byte
+abbrev IsPlainAfterFirst : List ℕ → Type 0
+IsPlainAfterFirst l = RunOf (λ c. not (c == byte "%")) (drop 1 l)
 
 -- in the text that was taken
-pub lent_front : (item : ReadBareItem) (before after : Cursor) (front : List ℕ) → rest before ≡ front ++ rest after
+pub lent_front : (version : Version) (item : ReadBareItem) (before after : Cursor) (front : List ℕ)
+    → rest before ≡ front ++ rest after → IsBareText version (input_value item) front
     → IsBorrowedUnlessEscaped item before after → IsBorrowedIfPlain item front
-lent_front (bare.String text) before after front split h = (
-  λ b. let m = h.0 b in
-      (m.0, append_cancel_right front (double_quote ∷ m.0) (rest after) (sym split ∙ m.1), m.2),
-  λ p. h.1 (p.0, split ∙ ap (λ (l : List ℕ). l ++ rest after) p.1, p.2),
-)
-lent_front (bare.DisplayString text) before after front split h = (
-  λ b. let m = h.0 b in
-      (m.0, append_cancel_right front (percent_sign ∷ double_quote ∷ m.0) (rest after) (sym split ∙ m.1), m.2),
-  λ p. h.1 (p.0, split ∙ ap (λ (l : List ℕ). l ++ rest after) p.1, p.2),
-)
-lent_front item before after front split h = tt
-
--- the bare item was taken, and then the parameters
-pub item_as_read : {S E : Type 0} (takes : S → TreeEvent → S → Type 0) (fails : S → TreeEvent → E → Type 0) (takes_read : S
-    → Event → S → Type 0) (before between after : Cursor) (item : ReadBareItem) (from middle to : S)
-    (r : Result (Unit {0}) (ParseError E)) → kept between ≡ kept before
-    → bare_at (version before) (rest before) ≡ Ok (input_value item, rest between)
-    → IsBorrowedUnlessEscaped item before between → takes_read from (event.BareItem item) middle
-    → Visits takes fails parameters_events between after middle to r parameters_at
-    → OnOk r (TakesAsRead takes takes_read before after from to)
-item_as_read takes fails takes_read before between after item from middle to (Ok u) same here lent taken h =
-    let k = kept_visits takes fails parameters_events parameters_at between after middle to (kept before) (Ok u) same h in (
-      item,
-      between,
-      k.0,
-      middle,
-      here,
-      lent,
-      item_some (version before) (rest before) (rest between) (rest after) (input_value item) k.0 here k.1,
-      taken,
-      k.2,
+lent_front version (bare.String text) before after front split means h =
+    let whole : front ≡ double_quote ∷ means.back = means.text ∙ ap (λ (l : List ℕ). l ++ means.back) means.first in (
+      λ b. let m = h.0 b in
+          let same : front ≡ double_quote ∷ m.0 = append_cancel_right front (double_quote ∷ m.0) (rest after) (sym split ∙ m.1) in
+          subst (RunOf (λ c. not (c == byte "\\"))) (sym same) m.2,
+      λ p. h.1 (means.back, split ∙ ap (λ (l : List ℕ). l ++ rest after) whole,
+          subst (RunOf (λ c. not (c == byte "\\"))) whole p),
     )
-item_as_read takes fails takes_read before between after item from middle to (Err e) same here lent taken h = tt
-
--- an item was read after spaces
-pub answered_as_read : {S O : Type 0} (takes : S → TreeEvent → S → Type 0) (takes_read : S → Event → S
-    → Type 0) (finishes : S → O → Type 0) (version : Version) (t s r q : List ℕ) (item : ReadBareItem) (ps : RawParameters)
-    (from middle last : S) (out : O) → span is_space t ≡ Ok (s, r)
-    → bare_at version r ≡ Ok (input_value item, q)
-    → ((front : List ℕ) → r ≡ front ++ q → IsBorrowedIfPlain item front)
-    → read_field version item_field t ≡ Ok (item_of (input_value item) ps)
-    → takes_read from (event.BareItem item) middle → FoldsTo takes middle (parameters_events ps) last
-    → finishes last out → HasBorrowed takes takes_read finishes version t from out
-answered_as_read takes takes_read finishes version t s r q item ps from middle last out skipped here lent read taken ran answered =
-    let spaces = (Steady-span is_space).steady t in
-    let same : spaces.2 ≡ r = same_rest (span is_space t) spaces.1 s spaces.2 r spaces.3 skipped in
-    let parts : t ≡ spaces.0 ++ r = subst (λ (l : List ℕ). t ≡ spaces.0 ++ l) same spaces.4 in
-    let exact = bare_is_exact.0 version r (input_value item) q here in (
-      item,
-      ps,
-      (read_is_accepted version item_field t (item_of (input_value item) ps)).0 read,
-      record {
-        first = record {
-          spaces = spaces.0;
-          front = exact.front;
-          rest = q;
-          text = parts ∙ ap (λ (l : List ℕ). spaces.0 ++ l) exact.text ∙ sym (append_assoc spaces.0 exact.front q);
-          blank = subst (RunOf is_space) (sym spaces.5.0) spaces.5.1;
-          means = exact.means;
-        };
-        longest = longest_read version r (input_value item) q exact;
-      },
-      lent exact.front exact.text,
-      middle,
-      taken,
-      (last, ran, answered),
+lent_front version (bare.DisplayString text) before after front split means h =
+    let whole : front ≡ percent_sign ∷ double_quote ∷ means.1.back =
+    means.1.text ∙ ap (λ (l : List ℕ). l ++ means.1.back) means.1.first in (
+      λ b. let m = h.0 b in
+          let same : front ≡ percent_sign ∷ double_quote ∷ m.0 =
+          append_cancel_right front (percent_sign ∷ double_quote ∷ m.0) (rest after) (sym split ∙ m.1) in
+          subst (λ (l : List ℕ). IsPlainAfterFirst l) (sym same) m.2,
+      λ p. h.1 (means.1.back, split ∙ ap (λ (l : List ℕ). l ++ rest after) whole,
+          subst (λ (l : List ℕ). IsPlainAfterFirst l) whole p),
     )
+lent_front version item before after front split means h = tt
+
+-- ---- the first text of the events of an item
+
+-- two texts without a quote, and a quote after each
+same_quote : (a b x y : List ℕ) → HasNoQuote a → HasNoQuote b → a ++ double_quote ∷ x ≡ b ++ double_quote ∷ y → x ≡ y
+same_quote a b x y h k e =
+    let stops : (z : List ℕ) → Apart no_quote_byte (double_quote ∷ z) = λ z. Apart-cons no_quote_byte double_quote z refl in
+    let same : double_quote ∷ x ≡ double_quote ∷ y =
+    same_rest (span no_quote_byte (b ++ double_quote ∷ y)) a b (double_quote ∷ x) (double_quote ∷ y)
+    (ap (span no_quote_byte) (sym e) ∙ span_complete no_quote_byte a (double_quote ∷ x) h (stops x))
+    (span_complete no_quote_byte b (double_quote ∷ y) k (stops y)) in
+    cc
+
+-- two quoted texts of one value, the first of a text: they are one text
+same_quoted : (reads : List ℕ → Answer (List ℕ)) (opening s a b u v x y : List ℕ) → HasNoQuote opening
+    → HasNoQuote a → HasNoQuote b → reads (u ++ x) ≡ Ok (s, x) → reads (v ++ y) ≡ Ok (s, y)
+    → a ++ (opening ++ double_quote ∷ u) ++ x ≡ b ++ (opening ++ double_quote ∷ v) ++ y → u ≡ v
+same_quoted reads opening s a b u v x y quiet h k m n e =
+    let grouped : (c w z : List ℕ) → c ++ (opening ++ double_quote ∷ w) ++ z ≡ (c ++ opening) ++ double_quote ∷ (w ++ z) =
+    λ c w z. append_assoc c (opening ++ double_quote ∷ w) z
+    ∙ ap (λ (l : List ℕ). c ++ l) (append_assoc opening (double_quote ∷ w) z)
+    ∙ sym (append_assoc c opening (double_quote ∷ (w ++ z))) in
+    let tails : u ++ x ≡ v ++ y = same_quote (a ++ opening) (b ++ opening) (u ++ x) (v ++ y)
+    (both_apart a opening h quiet) (both_apart b opening k quiet) (sym (grouped a u x) ∙ e ∙ grouped b v y) in
+    let ends : x ≡ y = same_rest (reads (v ++ y)) s s x y (ap reads (sym tails) ∙ m) n in
+    append_cancel_right u v y (ap (λ (l : List ℕ). u ++ l) (sym ends) ∙ tails)
+
+-- two texts of one bare item, the first of a text
+same_at : (version : Version) (read : ReadBareItem) (a b at front x y : List ℕ) → HasNoQuote a → HasNoQuote b
+    → IsBareText version (input_value read) at → IsBareText version (input_value read) front
+    → a ++ at ++ x ≡ b ++ front ++ y → IsBorrowedIfPlain read at → IsBorrowedIfPlain read front
+same_at version (bare.String text) a b at front x y h k m n e plain =
+    let left : at ≡ double_quote ∷ m.back = m.text ∙ ap (λ (l : List ℕ). l ++ m.back) m.first in
+    let right : front ≡ double_quote ∷ n.back = n.text ∙ ap (λ (l : List ℕ). l ++ n.back) n.first in
+    let s = read_text text in
+    let same : m.back ≡ n.back = same_quoted string_at [] s a b m.back n.back x y refl h k
+    (string_complete s m.back x m.second) (string_complete s n.back y n.second)
+    (sym (ap (λ (l : List ℕ). a ++ l ++ x) left) ∙ e ∙ ap (λ (l : List ℕ). b ++ l ++ y) right) in
+    subst (IsBorrowedIfPlain (bare.String text)) (left ∙ ap (λ (l : List ℕ). double_quote ∷ l) same ∙ sym right) plain
+same_at version (bare.DisplayString text) a b at front x y h k m n e plain =
+    let left : at ≡ percent_sign ∷ double_quote ∷ m.1.back = m.1.text ∙ ap (λ (l : List ℕ). l ++ m.1.back) m.1.first in
+    let right : front ≡ percent_sign ∷ double_quote ∷ n.1.back = n.1.text ∙ ap (λ (l : List ℕ). l ++ n.1.back) n.1.first in
+    let s = cow_str_bytes text in
+    let same : m.1.back ≡ n.1.back = same_quoted display_at (percent_sign ∷ []) s a b m.1.back n.1.back x y refl h k
+    (display_complete s m.1.back x m.1.second) (display_complete s n.1.back y n.1.second)
+    (sym (ap (λ (l : List ℕ). a ++ l ++ x) left) ∙ e ∙ ap (λ (l : List ℕ). b ++ l ++ y) right) in
+    subst (IsBorrowedIfPlain (bare.DisplayString text))
+    (left ∙ ap (λ (l : List ℕ). percent_sign ∷ double_quote ∷ l) same ∙ sym right) plain
+same_at version read a b at front x y h k m n e plain = tt
+
+-- the same, where the first text is that of the value as it was read; true may have none
+same_read : (version : Version) (read : ReadBareItem) (a b at front x y : List ℕ) → HasNoQuote a → HasNoQuote b
+    → IsReadAs version read at → IsBareText version (input_value read) front → a ++ at ++ x ≡ b ++ front ++ y
+    → IsBorrowedIfPlain read front
+same_read version read a b at front x y h k (inl m, plain) n e = same_at version read a b at front x y h k m n e plain
+same_read version (bare.String text) a b at front x y h k (inr m, plain) n e = absurd (let no = m.0 in cc)
+same_read version (bare.DisplayString text) a b at front x y h k (inr m, plain) n e = absurd (let no = m.0 in cc)
+same_read version read a b at front x y h k (inr m, plain) n e = tt
+
+-- an accepted item begins with its bare item
+accepted_begins : (version : Version) (t : List ℕ) (raw : RawItem) → IsFieldText version item_field raw t
+    → BeginsWithLongest version raw.bare t
+accepted_begins version t raw accepted =
+    let first = visited_first version t (bare_item raw.bare) (parameters_events raw.parameters)
+    (ap (visited (events item_field)) (whole_accepted version item_field t raw accepted)) in
+    let same : first.0 ≡ raw.bare = let e = first.1 in cc in
+    subst (λ (v : BareValue). BeginsWithLongest version v t) same first.2
+
+-- the events in the definitions
+folded : {S : Type 0} (takes : S → TreeEvent → S → Type 0) (takes_read : S → Event → S → Type 0) (es : List Event)
+    (from to : S) → FoldsTo (λ s e to. takes s (event_of e) to × takes_read s e to) from es to
+    → FoldsTo takes from (map event_of es) to
+folded takes takes_read [] from to h = h
+folded takes takes_read (e ∷ es) from to h = (h.0, h.1.0, folded takes takes_read es h.0 to h.2)
+
+-- The visitor received the bare item of the field as parsed. It is borrowed unless its text has an escape.
+pub first_as_read : {S O : Type 0} (takes : S → TreeEvent → S → Type 0) (takes_read : S → Event → S → Type 0)
+    (finishes : S → O → Type 0) (version : Version) (t : List ℕ) (from : S) (out : O)
+    → HasEventsRead takes takes_read finishes version item_field t from out
+    → HasBorrowed takes takes_read finishes version t from out
+first_as_read {S} {O} takes takes_read finishes version t from out h =
+    on h.holds.0 h.holds.1 h.holds.2 h.holds.3 h.holds.4 h.holds.5
+  where
+    raw : RawItem
+    raw = h.raw
+
+    on : (es : List Event) → map event_of es ≡ item_events raw → AreReadFrom version es t → (last : S)
+        → FoldsTo (λ s e to. takes s (event_of e) to × takes_read s e to) from es last → finishes last out
+        → HasBorrowed takes takes_read finishes version t from out
+    on [] e k last folds ends = absurd cc
+    on (event.BareItem read ∷ es) e k last folds ends =
+        let same : input_value read ≡ raw.bare = cc in
+        let rest_same : map event_of es ≡ parameters_events raw.parameters = cc in
+        let begins = subst (λ (v : BareValue). BeginsWithLongest version v t) (sym same)
+        (accepted_begins version t raw h.accepted) in
+        let f = begins.first in (
+          read,
+          raw.parameters,
+          subst (λ (v : BareValue). IsFieldText version item_field (record { bare = v; parameters = raw.parameters }) t)
+              (sym same) h.accepted,
+          begins,
+          same_read version read k.0 f.spaces k.1 f.front k.2 f.rest k.4 (run_apart is_space f.spaces refl f.blank) k.5
+              f.means (sym k.3 ∙ f.text),
+          folds.0,
+          folds.1.1,
+          (last, subst (λ (es : List TreeEvent). FoldsTo takes folds.0 es last) rest_same
+              (folded takes takes_read es folds.0 last folds.2), ends),
+        )
+    on (event.Entry ∷ es) e k last folds ends = absurd cc
+    on (event.KeyedEntry key ∷ es) e k last folds ends = absurd cc
+    on (event.Item ∷ es) e k last folds ends = absurd cc
+    on (event.InnerList ∷ es) e k last folds ends = absurd cc
+    on (event.Parameter key read ∷ es) e k last folds ends = absurd cc
+    on (event.ParametersEnd ∷ es) e k last folds ends = absurd cc
+    on (event.InnerListEnd ∷ es) e k last folds ends = absurd cc

@@ -26,13 +26,13 @@ no_quote class c apart h = on (c == double_quote) refl
     on true e = absurd (true≢false (sym h ∙ ap class (eqb-true c double_quote e) ∙ apart))
     on false e = refl
 
-run_apart : (class : ℕ → Bool) (s : List ℕ) → class double_quote ≡ false → RunOf class s → HasNoQuote s
+pub run_apart : (class : ℕ → Bool) (s : List ℕ) → class double_quote ≡ false → RunOf class s → HasNoQuote s
 run_apart class [] apart h = refl
 run_apart class (c ∷ s) apart h =
     run_cons (λ c. not (c == double_quote)) c s (no_quote class c apart (run_head class c s h))
     (run_apart class s apart (run_tail class c s h))
 
-both_apart : (a b : List ℕ) → HasNoQuote a → HasNoQuote b → HasNoQuote (a ++ b)
+pub both_apart : (a b : List ℕ) → HasNoQuote a → HasNoQuote b → HasNoQuote (a ++ b)
 both_apart a b h k = list_all-append (λ c. not (c == double_quote)) a b
     ∙ and_from (list_all (λ c. not (c == double_quote)) a) (list_all (λ c. not (c == double_quote)) b) h k
 

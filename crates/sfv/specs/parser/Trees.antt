@@ -12,7 +12,8 @@ use Rattle.sfv_base.specs.declared.error.OutOfMemory.{OutOfMemory}
 use Rattle.sfv_bare.specs.BareItems.{is_text}
 use Rattle.sfv_tree.specs.Trees.{OwnedBareItem}
 use Rattle.sfv_tree.proofs.Words.{item_with, inner_list_with}
-use Rattle.sfv_tree.specs.Seeds.{ItemHasSeed}
+use Rattle.sfv_tree.specs.Seeds.{ItemHasSeed, MemberHasSeed}
+use Rattle.sfv_tree.specs.declared.parsed.ListEntry.{ListEntry}
 use Rattle.sfv_tree.specs.declared.hash_seed.HashSeed.{HashSeed}
 use Rattle.sfv_reading.specs.Reader.{Reader, visited}
 use Rattle.sfv.specs.declared.parser.cursor.Cursor.{Cursor}
@@ -64,3 +65,7 @@ head_tree (heads.InnerList items) params = inner_list (inner_list_with items.ite
 abbrev pub HeadHasSeed : HashSeed → Head → Type 0
 HeadHasSeed seed (heads.Item value) = ⊤
 HeadHasSeed seed (heads.InnerList items) = All (ItemHasSeed seed) items.items
+
+-- the parameters of all members hash under this seed
+abbrev pub EntriesHaveSeed : HashSeed → List (List ℕ × ListEntry) → Type 0
+EntriesHaveSeed seed entries = All (λ p. MemberHasSeed seed p.1) entries

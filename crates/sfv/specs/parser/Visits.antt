@@ -7,8 +7,7 @@ use Rattle.sfv_spec.specs.declared.field_kind.FieldKind.{FieldKind}
 use Rattle.sfv_spec.specs.declared.field_kind.FieldKind.TheVariants.{Item as item_field, List as list_field}
 use Rattle.sfv_spec.specs.declared.field_kind.FieldKind.TheVariants.{Dictionary as dictionary_field}
 use Rattle.sfv_spec.specs.declared.version.Version.{Version}
-use Rattle.sfv_spec.specs.Values.{RawParameters}
-use Rattle.sfv_spec.specs.Events.{TreeEvent, bare_item, parameters_events, events}
+use Rattle.sfv_spec.specs.Events.{TreeEvent, bare_item, events}
 use Rattle.std.specs.List.{FoldsTo}
 use Rattle.sfv_base.specs.declared.error.Error.{Error}
 use Rattle.sfv_base.specs.declared.error.ParseError.{ParseError}
@@ -22,12 +21,6 @@ use Rattle.sfv.specs.declared.parser.Parser.{Parser}
 use Rattle.sfv.specs.declared.parser.cursor.Cursor.{Cursor}
 use Rattle.sfv.specs.parser.Cursor.{kept, kept_input, version, rest, IsErrorOf}
 use Rattle.sfv.specs.parser.Cursor.{located_whole}
-use Rattle.sfv.specs.parser.Quoted.{IsBorrowedUnlessEscaped}
-use Rattle.sfv_reading.specs.Items.{item_of, item_at}
-use Rattle.sfv_bare.specs.BareItems.{input_value}
-use Rattle.sfv_visitor.specs.declared.visitor.Event.{Event}
-use Rattle.sfv_visitor.specs.declared.visitor.Event.TheVariants as event
-use Rattle.sfv_visitor.specs.ProvidedVisitors.{ReadBareItem}
 use Rattle.sfv.specs.Memory.{IsRefusal}
 
 -- the visitor receives these events and returns this result
@@ -56,17 +49,6 @@ abbrev pub Visits : {A S E : Type 0} → (S → TreeEvent → S → Type 0) → 
     → (A → List TreeEvent) → Cursor → Cursor → S → S → Result (Unit {0}) (ParseError E) → (Version → Reader A) → Type 0
 Visits takes fails parts before after from to result reader =
     VisitsAnswer takes fails parts (kept before) after from to result (reader (version before) (rest before))
-
--- An item was parsed. The visitor received its bare item as parsed, borrowed or owned, and then its parameters.
-abbrev pub TakesAsRead : {S : Type 0} → (S → TreeEvent → S → Type 0) → (S → Event → S → Type 0) → Cursor → Cursor → S → S
-    → Type 0
-TakesAsRead {S} takes takes_read before after from to =
-    (item : ReadBareItem) × (between : Cursor) × (parameters : RawParameters) × (middle : S)
-    × (bare_at (version before) (rest before) ≡ Ok (input_value item, rest between))
-    × IsBorrowedUnlessEscaped item before between
-    × (item_at (version before) (rest before) ≡ Ok (item_of (input_value item) parameters, rest after))
-    × takes_read from (event.BareItem item) middle
-    × FoldsTo takes middle (parameters_events parameters) to
 
 -- the error is the visitor's, and `is` holds of it
 abbrev pub IsOfVisitor : {E : Type 0} → (E → Type 0) → ParseError E → Type 0

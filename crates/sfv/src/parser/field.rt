@@ -3,7 +3,7 @@
 ghost use Rattle.std.specs.Prelude.{IfOk, IfErr};
 ghost use Rattle.sfv_spec.specs.declared.field_kind.FieldKind.TheVariants.{Item as item_field};
 ghost use Rattle.sfv.specs.parser.Members.{field_of};
-ghost use Rattle.sfv.specs.Parsers.{input_of, version_of, ReceivesAsReadBy, ReceivesBorrowedBy};
+ghost use Rattle.sfv.specs.Parsers.{input_of, version_of, ReceivesAsReadBy};
 ghost use Rattle.sfv.specs.parser.Visits.{VisitsField, TookFirst};
 
 use crate::parser::Parser;
@@ -26,7 +26,6 @@ pub(crate) fn parse_item_field<'de, V: Visitor<'de>>(
         (version_of parser.entry) item_field (input_of parser.entry) visitor result }
     ensures as_read { IfOk result (ReceivesAsReadBy V.Visitor parser.entry item_field visitor) }
     ensures taken_first { IfErr result (TookFirst V.takes (version_of parser.entry) (input_of parser.entry) visitor) }
-    ensures borrowed_if_plain { IfOk result (ReceivesBorrowedBy V.Visitor parser.entry visitor) }
 {
     let mut cursor = Cursor::new(parser, alloc);
     cursor.skip_sp();

@@ -6,7 +6,7 @@ ghost use Rattle.sfv_bare.specs.BareItems.{input_value};
 ghost use Rattle.sfv_reading.specs.Items.{value_at, parameter_at, parameters_at, item_at};
 ghost use Rattle.sfv.specs.parser.Cursor.{version, rest, ReadsOrOutOfMemory};
 ghost use Rattle.sfv.specs.parser.AsRead.{IsNextValue, ReadsEvents};
-ghost use Rattle.sfv.specs.parser.Visits.{Visits, TakesAsRead, TookBare};
+ghost use Rattle.sfv.specs.parser.Visits.{Visits, TookBare};
 
 use crate::parser::cursor::Cursor;
 use crate::parser::visit::visit;
@@ -109,7 +109,6 @@ impl<'de> Cursor<'de> {
         ensures as_read { OnOk result (ReadsEvents V.takes V.takes_read item_events self.old self.new
             visitor.old visitor.new item_at) }
         ensures taken_first { IfErr result (TookBare V.takes (version self.old) (rest self.old) visitor.old) }
-        ensures borrowed_if_plain { OnOk result (TakesAsRead V.takes V.takes_read self.old self.new visitor.old visitor.new) }
     {
         let bare_item = self.bare_item()?;
         visit(visitor, Event::BareItem(bare_item))?;

@@ -18,7 +18,7 @@ ghost use Rattle.sfv_text.specs.CheckedTexts.{text_of};
 ghost use Rattle.sfv_tree.specs.Trees.{pairs_tree, item_tree, member_tree, list_tree};
 ghost use Rattle.sfv_tree.proofs.Words.{item_with, inner_list_with};
 ghost use Rattle.sfv_tree.specs.Trees.{dictionary_tree};
-ghost use Rattle.sfv_tree.specs.Seeds.{ItemHasSeed, MemberHasSeed, ListHasSeed, EntriesHaveSeed};
+ghost use Rattle.sfv_tree.specs.Seeds.{ItemHasSeed, MemberHasSeed, ListHasSeed};
 ghost use Rattle.sfv_tree.specs.Seeds.{DictionaryHasSeed};
 ghost use Rattle.sfv_tree.specs.declared.hash_seed.HashSeed.{HashSeed};
 ghost use Rattle.sfv_reading.specs.Bare.{bare_at};
@@ -31,6 +31,7 @@ ghost use Rattle.sfv.specs.Parsers.{input_of, version_of, IsParseError};
 ghost use Rattle.sfv.specs.parser.Cursor.{input, version, rest, Reads};
 ghost use Rattle.sfv.specs.parser.Members.{after_begin};
 ghost use Rattle.sfv.specs.parser.Trees.{Builds, FailsAs, NeedsText, HeadHasSeed, head_tree, ordered_pairs};
+ghost use Rattle.sfv.specs.parser.Trees.{EntriesHaveSeed};
 ghost use Rattle.sfv.specs.parser.Visits.{IsOfVisitor};
 
 use crate::parser::Parser;

@@ -9,7 +9,6 @@ use Rattle.sfv.specs.parser.Cursor.{rest, version, kept_version}
 use Rattle.sfv.specs.Parsers.{input_of, version_of}
 use Rattle.sfv.proofs.visits.Whole.{field_trailing_error, field_done}
 use Rattle.sfv.proofs.visits.Parts.{kept_visits}
-use Rattle.sfv.proofs.visits.Lent.{lent_front, answered_as_read}
 use Rattle.sfv.proofs.visits.First.{visitor_failed, after_spaces, item_taken}
 use Rattle.sfv.proofs.visits.Fields.{item_fails, finish_failed, finished_at, took_whole}
 use Rattle.sfv.proofs.reads.Errors.{left_with}
@@ -95,23 +94,6 @@ returns-then-is_some-clause-taken_first g c =
     ∙ c.new-cursor.ensures.kept) c.in_ok-item.ensures.visited in
     item_taken g.V.Visitor.takes g.V.Visitor.fails (version_of c.args.parser) (input_of c.args.parser) _ _ _
     c.args.visitor c.item.new.visitor read.0 c.error-error.result skipped read.1 read.2
-
-pub returns-clause-borrowed_if_plain : goal.returns-clause-borrowed_if_plain
-returns-clause-borrowed_if_plain g c =
-    let here = rest c.skip_sp.new.self in
-    let skipped : span is_space (input_of c.args.parser) ≡ Ok (c.skip_sp.ensures.skipped.0, here) =
-    rw (← c.new-cursor.ensures.rest) c.skip_sp.ensures.skipped.1 in
-    let h = c.in_ok-item.ensures.borrowed_if_plain in
-    let same : version c.skip_sp.new.self ≡ version_of c.args.parser =
-    ap kept_version (c.skip_sp.ensures.kept ∙ c.new-cursor.ensures.kept) in
-    let bare = subst (λ e. bare_at e here ≡ Ok (input_value h.0, rest h.1)) same h.4 in
-    let whole = subst (λ e. item_at e here ≡ Ok (item_of (input_value h.0) h.2, rest c.item.new.self)) same h.6 in
-    answered_as_read g.V.Visitor.takes g.V.Visitor.takes_read g.V.Visitor.finishes (version_of c.args.parser)
-    (input_of c.args.parser) c.skip_sp.ensures.skipped.0 here (rest h.1) h.0 h.2 c.args.visitor h.3 c.item.new.visitor
-    c.in_ok-out.out skipped bare (λ front split. lent_front h.0 c.skip_sp.new.self h.1 front split h.5)
-    (field_done _ _ _ _ _ _ _ _ skipped whole c.skip_sp-2.ensures.skipped.1
-    (rw (← c.peek.ensures) (sym c.is_some.ensures ∙ c.if-is_some.false)))
-    h.7 h.8 c.in_ok-out.ensures.answered
 
 pub returns-clause-as_read : goal.returns-clause-as_read
 returns-clause-as_read g c =

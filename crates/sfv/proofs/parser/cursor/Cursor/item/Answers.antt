@@ -3,7 +3,6 @@ use Rattle.sfv_reading.specs.Items.{parameters_at}
 use Rattle.sfv.specs.parser.Cursor.{kept, version, rest, input}
 use Rattle.sfv.proofs.visits.Parameters.{of_visitor, bare_failed, bare_faulty, item_visits}
 use Rattle.sfv.proofs.visits.Parts.{kept_visits}
-use Rattle.sfv.proofs.visits.Lent.{item_as_read}
 use Rattle.sfv.proofs.reads.Errors.{left_with}
 use Rattle.sfv.proofs.visits.AsRead.{item_reads}
 use Rattle.sfv.proofs.parser.cursor.Cursor.item.Goals as goal
@@ -27,13 +26,6 @@ returns-clause-visited g c =
     (kept_visits g.V.Visitor.takes g.V.Visitor.fails parameters_events parameters_at c.bare_item.new.self
     c.parameters.new.self c.visit.new.visitor c.parameters.new.visitor _ _ c.in_ok-bare_item.ensures.read.1
     c.parameters.ensures.visited)
-
-pub returns-clause-borrowed_if_plain : goal.returns-clause-borrowed_if_plain
-returns-clause-borrowed_if_plain g c =
-    item_as_read g.V.Visitor.takes g.V.Visitor.fails g.V.Visitor.takes_read c.args.self.now c.bare_item.new.self
-    c.parameters.new.self c.in_ok-bare_item.bare_item c.args.visitor.now c.visit.new.visitor c.parameters.new.visitor
-    c.parameters.result c.in_ok-bare_item.ensures.read.1 c.in_ok-bare_item.ensures.read.0
-    c.in_ok-bare_item.ensures.borrowed c.in_ok-visit.ensures.taken_read c.parameters.ensures.visited
 
 pub returns-clause-as_read : goal.returns-clause-as_read
 returns-clause-as_read g c =

@@ -5,7 +5,8 @@ use Rattle.std.proofs.Common.{ℕ, List}
 use Rattle.std.proofs.lemmas.List.Elements.{All-nil}
 use Rattle.sfv_spec.specs.Events.{keyed_events}
 use Rattle.sfv_tree.specs.Trees.{dictionary_tree}
-use Rattle.sfv_tree.specs.Seeds.{MemberHasSeed, EntriesHaveSeed}
+use Rattle.sfv_tree.specs.Seeds.{MemberHasSeed}
+use Rattle.sfv.specs.parser.Trees.{EntriesHaveSeed}
 use Rattle.sfv_tree.specs.declared.parsed.ListEntry.{ListEntry}
 use Rattle.sfv_reading.specs.Members.{keyed_at}
 use Rattle.sfv.specs.parser.Cursor.{version, rest}

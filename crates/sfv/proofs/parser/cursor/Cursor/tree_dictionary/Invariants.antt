@@ -3,7 +3,7 @@ use Rattle.indexmap.specs.IndexMap.{hasher_of}
 use Rattle.sfv_spec.specs.declared.field_kind.FieldKind.TheVariants.{Dictionary as dictionary_field}
 use Rattle.sfv_spec.specs.Events.{keyed_events}
 use Rattle.sfv_tree.specs.Trees.{dictionary_tree}
-use Rattle.sfv_tree.specs.Seeds.{EntriesHaveSeed}
+use Rattle.sfv.specs.parser.Trees.{EntriesHaveSeed}
 use Rattle.sfv_reading.specs.Members.{keyed_at}
 use Rattle.sfv_reading.specs.Fields.{members_at}
 use Rattle.sfv.specs.parser.Cursor.{MayNeedMemory}
