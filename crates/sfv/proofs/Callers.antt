@@ -30,7 +30,7 @@ use Rattle.sfv_spec.specs.declared.error_kind.ErrorKind.{ErrorKind}
 use Rattle.sfv_base.specs.declared.error.Error.{Error}
 use Rattle.sfv_base.specs.Errors.{index_of, kind_of, out_of_memory}
 use Rattle.sfv_tree.specs.Trees.{list_tree, dictionary_tree}
-use Rattle.sfv_visitor.specs.Builders.{complete, list_state, list_step, dictionary_state}
+use Rattle.sfv_visitor.specs.Builders.{list_state, list_step, dictionary_state}
 use Rattle.sfv_visitor.specs.Builders.{ListAddsUnder, DictionaryAddsUnder, AddsUnder}
 use Rattle.sfv_tree.specs.Seeds.{MemberHasSeed}
 use Rattle.sfv_tree.specs.declared.hash_seed.HashSeed.{HashSeed}

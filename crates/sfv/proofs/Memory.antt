@@ -1,5 +1,5 @@
 -- Texts for which a reading asks for memory.
-use Rattle.std.proofs.Common.{◌≡◌, ℕ, List, ◌∷◌, Result, Ok, Err, subst, arith}
+use Rattle.std.proofs.Common.{ℕ, List, ◌∷◌, Result, Ok, Err, subst, arith}
 use Rattle.std.specs.Prelude.{IfErr}
 use Rattle.std.specs.List.{Contains}
 use Rattle.std.proofs.lemmas.List.Elements.{Contains-get_or}

@@ -1,6 +1,6 @@
 -- The builder of a dictionary: after all events of a tree each key that it was given or that stands in the tree is
 -- there once, at its first place, with its last member.
-use Rattle.std.proofs.Common.{◌≡◌, ℕ, Bool, true, false, List, [], ◌∷◌, ◌++◌, map, refl, sym, ap, ◌∙◌}
+use Rattle.std.proofs.Common.{◌≡◌, ℕ, Bool, true, false, List, [], ◌∷◌, ◌++◌, map, refl, sym, ap, ◌∙◌, All}
 use Rattle.std.proofs.Common.{append_assoc}
 use Rattle.std.specs.Prelude.{bytes_eq, fold, Option, Some, None, option_map, unwrap_or}
 use Rattle.std.proofs.lemmas.List.{append-nil, map-append}

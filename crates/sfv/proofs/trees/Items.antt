@@ -1,24 +1,19 @@
 -- Whole items that are built.
-use Rattle.std.proofs.Common.{◌≡◌, ℕ, true, false, List, [], ◌∷◌, Some, Ok, Err, refl, subst, ◌∙◌, inl, inr, arith}
+use Rattle.std.proofs.Common.{◌≡◌, ℕ, true, false, List, Some, Ok, refl, subst, ◌∙◌, inl, inr}
 use Rattle.std.specs.Prelude.{is_some}
-use Rattle.std.specs.List.{Contains}
 use Rattle.std.specs.declared.alloc.Global.{Global}
 use Rattle.sfv_spec.proofs.Marks.{backslash, percent_sign, colon}
 use Rattle.sfv_spec.proofs.Marks.{is_space}
 use Rattle.sfv_spec.specs.Values.{RawItem}
-use Rattle.sfv_spec.specs.Events.{TreeEvent, item_events}
+use Rattle.sfv_spec.specs.Events.{item_events}
 use Rattle.sfv_spec.specs.Ordered.{ordered_item}
 use Rattle.sfv_spec.specs.Statements.{IsParsedAs}
 use Rattle.sfv_spec.specs.declared.field_kind.FieldKind.TheVariants.{Item as item_field}
-use Rattle.sfv_spec.specs.declared.version.Version.{Version}
 use Rattle.sfv_spec.specs.declared.error_kind.ErrorKind.TheVariants.{TrailingCharactersAfterParsedValue}
-use Rattle.sfv_spec.specs.declared.error_kind.ErrorKind.TheVariants.{ExpectedStartOfBareItem}
 use Rattle.sfv_base.specs.declared.error.Error.{Error}
-use Rattle.sfv_base.specs.declared.error.ParseError.TheVariants.{Syntax, Visitor}
-use Rattle.sfv_base.specs.declared.error.OutOfMemory.{OutOfMemory}
+use Rattle.sfv_base.specs.declared.error.ParseError.TheVariants.{Syntax}
 use Rattle.sfv_base.specs.Errors.{error_of}
-use Rattle.sfv_reading.specs.Reader.{first, span, visited, at_reach, bind, branch, ahead, fail}
-use Rattle.sfv_reading.specs.Bare.{bare_at, token_at}
+use Rattle.sfv_reading.specs.Reader.{first, span}
 use Rattle.sfv_reading.specs.Items.{item_at}
 use Rattle.sfv.specs.declared.parser.Parser.{Parser}
 use Rattle.sfv.specs.declared.parser.cursor.Cursor.{Cursor}

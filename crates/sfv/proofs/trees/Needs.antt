@@ -1,6 +1,6 @@
 -- Texts for whose item memory may be needed.
-use Rattle.std.proofs.Common.{eqb-true, ◌≡◌, ℕ, Bool, true, false, List, [], ◌∷◌, ◌++◌, Ok, drop, take, refl, sym, subst}
-use Rattle.std.specs.Prelude.{IsTrue, ◌||◌}
+use Rattle.std.proofs.Common.{eqb-true, ◌≡◌, ℕ, Bool, true, false, List, [], ◌∷◌, ◌++◌, Ok, take, refl, sym, subst}
+use Rattle.std.specs.Prelude.{IsTrue}
 use Rattle.std.specs.List.{Contains}
 use Rattle.std.proofs.lemmas.List.{take-append-drop}
 use Rattle.std.proofs.lemmas.List.Elements.{Contains-append_right}

@@ -14,7 +14,7 @@ use Rattle.sfv_spec.specs.declared.version.Version.{Version}
 use Rattle.sfv_spec.specs.Values.{IsFieldValue}
 use Rattle.sfv_spec.specs.declared.error_kind.ErrorKind.{ErrorKind}
 use Rattle.sfv_spec.specs.declared.error_kind.ErrorKind.TheVariants.{TrailingCharactersAfterParsedValue}
-use Rattle.sfv_spec.specs.Grammar.{IsFieldText, IsAccepted}
+use Rattle.sfv_spec.specs.Grammar.{IsFieldText, IsAccepted, HasField}
 use Rattle.sfv_spec.specs.Reach.{IsReach}
 use Rattle.sfv_spec.specs.Events.{TreeEvent, events, item_events}
 use Rattle.std.specs.List.{FoldsTo}

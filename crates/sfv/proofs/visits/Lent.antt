@@ -1,13 +1,14 @@
 -- The text of a bare item that a visitor received as it was parsed.
 use Rattle.std.proofs.Common.{◌≡◌, ℕ, List, [], ◌∷◌, ◌++◌, map, drop, Ok, refl, sym, ap, subst, ◌∙◌}
 use Rattle.std.proofs.Common.{append_assoc, Bool, inl, inr}
-use Rattle.std.specs.Prelude.{not, ◌==◌, cow_str_bytes}
+use Rattle.std.specs.Prelude.{not, ◌==◌}
+use Rattle.std.specs.Cow.{cow_str_bytes}
 use Rattle.std.proofs.lemmas.List.{append_cancel_right}
 use Rattle.std.specs.List.{FoldsTo}
 use Rattle.sfv_spec.specs.Ascii.{byte}
 use Rattle.sfv_spec.proofs.Marks.{double_quote, percent_sign, is_space}
 use Rattle.sfv_spec.specs.Texts.{RunOf}
-use Rattle.sfv_spec.specs.Values.{BareValue, RawItem, boolean}
+use Rattle.sfv_spec.specs.Values.{BareValue, RawItem}
 use Rattle.sfv_spec.specs.Grammar.{IsBareText, IsFieldText, BeginsWithLongest}
 use Rattle.sfv_spec.specs.declared.field_kind.FieldKind.TheVariants.{Item as item_field}
 use Rattle.sfv_spec.specs.declared.version.Version.{Version}
@@ -19,7 +20,6 @@ use Rattle.sfv_visitor.specs.declared.visitor.Event.TheVariants as event
 use Rattle.sfv_visitor.specs.Events.{event_of}
 use Rattle.sfv_visitor.specs.ProvidedVisitors.{ReadBareItem}
 use Rattle.sfv_reading.specs.Reader.{Answer, Apart, span, visited}
-use Rattle.sfv_reading.specs.Fields.{whole_field_at}
 use Rattle.sfv_reading.specs.Quoted.{string_at, display_at}
 use Rattle.sfv_reading.proofs.complete.Combinators.{span_complete, Apart-cons}
 use Rattle.sfv_reading.proofs.complete.Quoted.{string_complete, display_complete}
