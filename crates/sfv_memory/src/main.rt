@@ -7,7 +7,7 @@
 //! The call that meets the failure returns that memory ran out, with its arguments as its contract states, or it can do
 //! without the allocation and returns its usual result. Each other call returns its usual result. The program prints
 //! which of these happened, or that the calls make fewer allocations. The status is 1 if a call returns another result.
-//! `docs/check-memory.sh` fails each allocation in turn.
+//! `checks/check-memory.sh` fails each allocation in turn.
 #![tactic(auto)]
 
 mod calls;

@@ -1,5 +1,5 @@
 #!/bin/sh
-# Usage: docs/check-own-repository.sh [FOLDER]
+# Usage: checks/check-own-repository.sh [FOLDER]
 # Creates a repository that uses the library, and checks its crate, the smallest field crate. The ten crates of the
 # library are copied without their must-fail edits, with their lines of `crates.txt`. The repository stays in FOLDER,
 # which must be absent or empty. Without FOLDER it is in a temporary folder, and removed.

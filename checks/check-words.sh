@@ -60,7 +60,7 @@ awk -F '`' '{ for (i = 2; i <= NF; i += 2) print $i }' "$page" | grep -oE '[A-Za
 
 comm -23 "$room/claimed" "$room/named" >"$room/missing"
 # The part of the page that is made from the specs.
-sh docs/words.sh check || exit 1
+sh checks/words.sh check || exit 1
 
 if [ -s "$room/missing" ] || ! [ -s "$room/public" ]; then
     echo "$page doesn't name these words:"

@@ -1,5 +1,5 @@
 #!/bin/sh
-# Usage: docs/check-memory.sh
+# Usage: checks/check-memory.sh
 # Makes the calls of `sfv_memory` once for each memory request that they make, and fails this request. Prints for each
 # call how many of its requests make it run out of memory, and how many requests the calls can do without. The status
 # is 1 if a call answers otherwise, faults or hangs, and 2 if the program does not run. It needs `rt`, but no C
