@@ -1,5 +1,5 @@
--- Lemmas for callers, who cite them from here: from what is found in a value to the text, from what a visitor did to the
--- field, and from what was written to what is read.
+-- Lemmas for callers. They lead from a value to the text, from a visitor's run to the field, and from a written text to
+-- its parsed value. Callers cite them from here.
 use Rattle.std.proofs.Common.{◌≡◌, ℕ, List, [], ◌∷◌, ◌++◌, true, cond, Result, Ok, Err, refl, sym, ◌∙◌, ap, subst}
 use Rattle.std.proofs.Common.{inl, inr}
 use Rattle.std.specs.Prelude.{fold}
@@ -48,68 +48,107 @@ use Rattle.sfv.specs.parser.Visits.{ReturnsAfter}
 use Rattle.sfv.proofs.built.Items.{insert_entry-entered}
 use Rattle.sfv.proofs.built.Lists.{built_list_after}
 use Rattle.sfv.proofs.built.Dictionaries.{built_dictionary_after}
--- the last pair of a key: split off, looked up, and its value changed
+-- The last pair of a key: `IsLast` splits the pairs there (`last_of-split`, `split-last_of`). `none-last_of`: the key
+-- has no pair. `lookup-last_of`: without repeated keys, the last pair is the first. `last_of-over`: a function of each
+-- value.
 pub use Rattle.sfv_spec.proofs.Last.{IsLast, last_of-split, split-last_of, none-last_of, lookup-last_of, last_of-over}
+-- the last pair of a key in the ordered value is the last pair in the text; a key without a pair has none
 pub use Rattle.sfv_spec.proofs.Last.{last_of-ordered}
 pub use Rattle.sfv_spec.proofs.Collapse.{last_of-collapse, last_of-absent}
--- the value of two lines is the value of the joined lines
+-- if each of two lines has a member, their value is the value of the lines joined by a comma and a space
 pub use Rattle.sfv.proofs.Lines.{list_in_lines, dictionary_in_lines}
--- an insertion, seen as the pairs
+-- the pairs of a dictionary or of parameters after an insertion
 pub use Rattle.sfv_tree.proofs.Entered.{dictionary_tree-insert, pairs_tree-insert}
--- what an accessor of a bare item returns, as the content of the value
+-- The result of an accessor of a bare item, as the content of its value. `integer_part` says it of `as_integer`,
+-- whatever type owns the texts.
 pub use Rattle.sfv_bare.proofs.Parts.{decimal_part, integer_part, boolean_part, date_part, display_string_part}
--- the pairs that an iterator over a map lends
+-- an iterator over all parameters of a map writes the text of these parameters
 pub use Rattle.sfv_writer.proofs.Lacks.{parameters_all}
--- what is written of a field is read as its ordered value, repeated keys too, and what is written of a value as itself,
--- by each version that has all that it holds: RFC 9651 has all
--- a value is its own ordered value, so no key occurs twice in it, and the other way round
+-- A field without repeated keys (`IsOrdered`) is its own ordered value, and a field that is its own ordered value has
+-- none. `ordered_again`: the ordered value is its own.
 pub use Rattle.sfv_spec.proofs.Repeats.{IsOrdered}
 pub use Rattle.sfv_spec.proofs.Distinct.{ordered_same, same_ordered, ordered_again}
--- the old member or value of an insertion is the last of its key
+-- the old member or value that an insertion returns is the last of its key
 pub use Rattle.sfv_tree.proofs.Distinct.{entered_member, entered_value}
+-- The canonical text of a field parses to its ordered value, and the text of a value to itself, under each version that
+-- has its values. `serialized_is_value`: a serialized value is in its range and class, and its version has it.
 pub use Rattle.sfv_writer.proofs.ReadBack.{read_back, value_read_back, serialized_is_value}
--- the first value that a version lacks, among more values
+-- the first value that a version lacks, with more values after it, or values that the version has before it
 pub use Rattle.sfv_writer.proofs.Looks.{names_front, names_after}
+-- RFC 9651 has every value
 pub use Rattle.sfv_spec.proofs.Fields.{all_fit_newer}
+-- a value that RFC 8941 has, written canonically, parses back under both versions
 pub use Rattle.sfv.proofs.LastRead.{read_back_either}
--- an inner list that is taken away again, and what a text holds after what was written to it
+-- An abandoned inner list leaves the list's text and state unchanged (`taken_away`). `kept_as` and `more_as` carry the
+-- state of a serializer over the end of a borrow. `written_after` joins texts, `no_less` two steps of a capacity.
 pub use Rattle.sfv_serializer.proofs.Scripts.{taken_away, kept_as, more_as, written_after, no_less}
+-- the text of a whole inner list, without a key and after one, from the texts of the calls that wrote it
 pub use Rattle.sfv_serializer.proofs.Scripts.{inner_list_ended, named_list_ended}
+-- the text after one more call
 pub use Rattle.sfv_serializer.proofs.Steps.{more_after}
--- room: after the calls before, and for the elements of a slice or a map; under RFC 9651 a call fails only for lack of it
+-- Room. `len_of`: the length of a text. No room after added text means no room for both (`room_after`), and no room for
+-- a part means no room for the whole (`room_before`).
 pub use Rattle.sfv_writer.proofs.Room.{len_of, room_after, room_before}
+-- no room for some elements of an iterator means no room for all: for parameters of a map, and in general
 pub use Rattle.sfv_writer.proofs.Lacks.{parameters_lack, front_lacks}
+-- the elements that an iterator over a map or a slice has returned are the first ones
 pub use Rattle.sfv_writer.proofs.Lent.{pairs_front, members_front, entries_front}
+-- under RFC 9651, a call with an iterator fails only if memory runs out
 pub use Rattle.sfv_writer.proofs.Elements.{newer_stops}
--- what a visitor did with the events of a field
+-- If each event is a step of a view, a visitor's run is a fold over the events (`runs_fold`). `keys_in_events`: the
+-- keys in the events of a dictionary are its keys, repeated ones included. `entries_in_events`: a list has one entry a
+-- member.
 pub use Rattle.sfv_spec.proofs.Runs.{runs_fold, key_in, entry_in, keys_in_events, entries_in_events}
--- what is kept of a field by the last of each key
+-- `last_kept`: if pairs of other keys change nothing and each pair of the key sets a value, the last pair gives the
+-- final value. A fold over the events of a dictionary or of parameters goes member by member. `idle_within`: a state
+-- that no event within a member changes is unchanged after such events.
 pub use Rattle.sfv_spec.proofs.Kept.{last_kept, fold_members, fold_parameters, idle_within}
+-- the events of a member are inside it
 pub use Rattle.sfv_spec.proofs.Runs.{IsInside, member_inside}
+-- `fold_entries`: a fold over the events of a list goes member by member. An idle state is unchanged after a whole
+-- member, after the rest of an item after its bare item, and after the rest of an inner list after its start.
+-- `last_read`: the final value comes from the last member of the key in the ordered dictionary. `on_ok`: a fact holds
+-- on success.
 pub use Rattle.sfv.proofs.LastRead.{on_ok, fold_entries, IsIdle, member_passed, item_passed, inner_list_passed, last_read}
--- from a visitor's result to the clause of a field crate in one step
+-- The state after parameters, if each step leads to the state of one parameter more (`parameters_kept`, `state_kept`).
+-- A function of a key's last pair, after one more pair (`of_pushed`). `written_is_read`: the text of calls for an
+-- ordered value parses back under both versions, if RFC 8941 has the value.
 pub use Rattle.sfv.proofs.Fields.{of_pushed, state_kept, parameters_kept, written_is_read}
+-- A part of the state after a list is a fold over the ordered list (`list_read`). After a dictionary, it comes from the
+-- key's last member in the ordered dictionary (`member_looked`); `last_set` says it of pairs. `idle_by`: a state that
+-- six kinds of events do not change is idle. `answer_read`: from the visitor's result to a clause on the parsed value.
+-- RFC 8941 has every value except dates and display strings (`fits_unless`); both versions have its values
+-- (`fits_either`).
 pub use Rattle.sfv.proofs.Fields.{last_set, idle_by, list_read, member_looked, answer_read, fits_unless, fits_either}
--- how parsing with a visitor ends: the lemmas are stated in this
+-- The clauses of `parse_.._with_visitor` for given relations (`takes`, `fails`, ..), a version and a text. Lemmas on a
+-- visitor are stated in these.
 pub use Rattle.sfv.proofs.Relations.{Answers, FailsIn, HasSyntax, HasVisitorError, HasFirst, HasBorrowed, HasEventsRead}
+-- the bare item of an accepted item is borrowed unless its text has an escape
 pub use Rattle.sfv.proofs.visits.Lent.{first_as_read}
+-- A relation holds for some visitor of the type. Every text is accepted or not (`accepted_or_not`). A visitor's error
+-- on an item is one on some item (`item_failed`). It comes at some event, or at the end (`fails_somewhere`).
 pub use Rattle.sfv.proofs.Relations.{WithSomeVisitor, accepted_or_not, item_failed, fails_somewhere}
--- what a visitor that expects one bare item says of the field
+-- `ExpectItem`: its result is the bare item of the field. It fails at a bare item of another kind, whatever follows
+-- (`expect_first`), or for memory, and nowhere else (`expect_only`). `expect_read`: the result is the bare item as
+-- read.
 pub use Rattle.sfv.proofs.Expected.{expect_answers, expect_fails, expect_first, expect_only, expect_read}
--- an accepted item has the bare item that stands first in its text
+-- the bare item of an accepted item is the first in its text
 pub use Rattle.sfv.proofs.visits.First.{begins_with_its}
--- what the builders answer is the value of the text
+-- The builder of an item returns the parsed value; its error is out of memory. All maps of the item hash under the
+-- builder's seed (`item_seeded`).
 pub use Rattle.sfv.proofs.built.Items.{built as item_built, built_fails as item_built_fails, item_seeded}
+-- The builder of a list or dictionary returns the parsed value, if it held no member. Each member was passed to the
+-- builder, or hashes under its seed (`list_adds`). If the passed members hash under the seed, all do (`list_seeded`).
 pub use Rattle.sfv.proofs.built.Lists.{built_list as list_built, list_adds, list_seeded, no_list_held}
 pub use Rattle.sfv.proofs.built.Dictionaries.{built_dictionary as dictionary_built, dictionary_adds, dictionary_seeded, no_entry_held}
 
--- the member of a key in a dictionary that was read is the last of the text, its parameters ordered
+-- the member of a key in a parsed dictionary is the last member of the key in the text, with ordered parameters
 pub member_read : (version : Version) (t : List ℕ) (value : List (List ℕ × RawMember)) (key : List ℕ)
     → (h : IsParsedAs version dictionary_field t value)
     → last_of key value ≡ option_map ordered_member (last_of key h.raw)
 member_read version t value key h = ap (last_of key) h.holds ∙ last_of-ordered key h.raw
 
--- a member that is entered is the last of its key, and those of other keys stay
+-- an inserted member is the last of its key, and members of other keys are unchanged
 pub last_of-insert : {A : Type 0} (j : List ℕ) (ps : List (List ℕ × A)) (k : List ℕ) (v : A)
     → no_repeats (keys ps) ≡ true → last_of j (insert_entry bytes_eq ps k v)
     ≡ cond (bytes_eq j k) (Some v) (last_of j ps)
@@ -119,7 +158,7 @@ last_of-insert {A} j ps k v distinct =
     ∙ ap (λ (qs : List (List ℕ × A)). entered qs k v) (sym same) ∙ sym (collapse-push ps k v))
     ∙ last_of-collapse j (ps ++ (k, v) ∷ []) ∙ last_of-push j ps k v
 
--- an accepted text is read as the ordered value of its field
+-- an accepted text parses to its ordered value
 pub parsed_as : (version : Version) (kind : FieldKind) (t : List ℕ) (raw : RawField kind)
     → IsFieldText version kind raw t → IsParsedAs version kind t (ordered kind raw)
 parsed_as version kind t raw accepted = record {
@@ -129,8 +168,8 @@ parsed_as version kind t raw accepted = record {
   holds = refl;
 }
 
--- If the visitor's view goes by steps and it fails only in `finish`, its error is a function of the value to which the
--- text parses. A syntax error is one of `parse`.
+-- If the visitor's view goes by steps and it fails only in `finish`, its error is a function of the parsed value. A
+-- syntax error is one of `parse`.
 module _ {V S F X : Type 0} {finish_fails : V → F → Type 0} {from : V} (view : V → S) (step : S → TreeEvent → S) (look : S → X) (shown : F → X)
     (kind : FieldKind) (of : RawField kind → X) (start : S) (members : ¬ (kind ≡ item_field))
     (finished : (s : V) (fault : F) → finish_fails s fault → shown fault ≡ look (view s))
@@ -170,7 +209,7 @@ module _ {V S F X : Type 0} {finish_fails : V → F → Type 0} {from : V} (view
         | inr n ↦ let some = (k.1 n).0 in absurd (never_early fault some.0 some.2)
       ]
 
--- what was read is a value: each part is in its range or class, and no key stands twice
+-- a parsed value is a value: each part is in its range or class, and no key is repeated
 pub read_is_value : (version : Version) (kind : FieldKind) (t : List ℕ) (value : RawField kind)
     → IsParsedAs version kind t value → IsValue kind value
 read_is_value version kind t value h = subst (IsValue kind) (sym h.holds)
@@ -181,7 +220,7 @@ pub one_value : (version : Version) (kind : FieldKind) (t : List ℕ) (a b : Raw
     → IsParsedAs version kind t b → a ≡ b
 one_value version kind t a b h k = h.holds ∙ ap (ordered kind) (k.only h.raw h.accepted) ∙ sym k.holds
 
--- what a reading with a visitor that a type makes returns, one fact at a time
+-- the facts of `parse_list` and `parse_dictionary` one at a time, for a visitor that the type makes
 module _ {S O E : Type 0} {v : Visitor S O E} {p : Parser} {kind : FieldKind} {Made : S → Type 0}
     (r : Result O (ParseError E)) where
   pub made_visited : WithSomeVisitor Made (ReadsBy v p kind) r → IfOk r (WithSomeVisitor Made (IsAnswerBy v p kind))
@@ -196,7 +235,7 @@ module _ {S O E : Type 0} {v : Visitor S O E} {p : Parser} {kind : FieldKind} {M
   pub made_visitor : WithSomeVisitor Made (ReadsBy v p kind) r → IfErr r (WithSomeVisitor Made (IsVisitorErrorBy v p kind))
   made_visitor h = IfErr-weaker r _ _ (λ e k. (h.0, h.1, k)) h.2.visitor
 
--- and of an item
+-- the facts of `parse_item` one at a time
 module _ {S O E : Type 0} {v : Visitor S O E} {p : Parser} {Made : S → Type 0} (r : Result O (ParseError E)) where
   pub made_item : WithSomeVisitor Made (ReadsItemBy v p) r → WithSomeVisitor Made (ReadsBy v p item_field) r
   made_item h = (h.0, h.1, h.2.all)
@@ -210,14 +249,14 @@ module _ {S O E : Type 0} {v : Visitor S O E} {p : Parser} {Made : S → Type 0}
   made_lent h = IfOk-weaker r _ _ (λ out k. (h.0, h.1,
       first_as_read v.takes v.takes_read v.finishes (version_of p) (input_of p) h.0 out k)) h.2.all.as_read
 
--- of an accepted text an error is want of memory
+-- on accepted input, an error is out of memory
 pub accepted_error : (version : Version) (kind : FieldKind) (t : List ℕ) (raw : RawField kind) (e : Error)
     → IsFieldText version kind raw t → IsParseError version kind t e → e ≡ out_of_memory
 accepted_error version kind t raw e accepted (inl same) = same
 accepted_error version kind t raw e accepted (inr h) = absurd (h.rejected (raw, accepted))
 
--- On an accepted text, a visitor returns its result for the events of the field, or memory runs out, or the visitor fails
--- on the field. So one that never fails returns a result unless memory runs out.
+-- On an accepted text, a visitor returns its result for the events of the field, or memory runs out, or the visitor
+-- fails on the field. So one that never fails returns a result unless memory runs out.
 pub never_fails : {S O E : Type 0} (takes : S → TreeEvent → S → Type 0) (fails : S → TreeEvent → E → Type 0)
     (finishes : S → O → Type 0) (finish_fails : S → E → Type 0) (version : Version) (kind : FieldKind) (t : List ℕ)
     (from : S) (raw : RawField kind) (result : Result O (ParseError E)) → IsFieldText version kind raw t
@@ -236,7 +275,7 @@ never_fails takes fails finishes finish_fails version kind t from raw (Err (pars
 never_fails takes fails finishes finish_fails version kind t from raw (Err (parse_errors.Visitor error)) accepted h k l P
     memory failed = failed error (l.0 raw accepted)
 
--- an error with an index is a fault of the text there
+-- an error with an index is the syntax error of the text at this index
 pub located_error : (version : Version) (kind : FieldKind) (t : List ℕ) (e : Error) (index : ℕ)
     → IsParseError version kind t e → index_of e ≡ Some index
     → (fault : ErrorKind) × (kind_of e ≡ fault) × IsFaultAt version kind t fault index
@@ -246,7 +285,7 @@ located_error version kind t e index (inr h) here =
     let place : h.index ≡ index = same_Some h.index index (sym (ap index_of h.error) ∙ here) in
     (h.fault, ap kind_of h.error, subst (IsFaultAt version kind t h.fault) place h.located)
 
--- a further line of a list: its members stand after those that the builder was given
+-- a further line of a list: its members follow the members that the builder held
 pub list_after : {E : Type 0} (version : Version) (t : List ℕ) (held : List RawMember) (from : ListBuilder)
     (r : Result (Vec ListEntry Global) E) → list_state from ≡ (held, None)
     → IfOk r (Answers (λ (s : ListBuilder) e after. (list_state after ≡ list_step (list_state s) e)
@@ -256,7 +295,7 @@ pub list_after : {E : Type 0} (version : Version) (t : List ℕ) (held : List Ra
 list_after version t held from r here = IfOk-weaker r _ _ (λ list h.
     let whole = built_list_after version t held from list here h in (whole.0, whole.1, whole.3))
 
--- a further line of a dictionary: as if its members stood after those that the builder was given
+-- a further line of a dictionary: the ordered value of the members that the builder held, and the members of the line
 pub dictionary_after : {E : Type 0} (version : Version) (t : List ℕ) (held : List (List ℕ × RawMember))
     (from : DictionaryBuilder) (r : Result (IndexMap (List ℕ) ListEntry HashSeed) E) → ordered dictionary_field held ≡ held
     → dictionary_state from ≡ (held, None)

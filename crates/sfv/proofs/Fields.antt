@@ -59,7 +59,7 @@ of_pushed {A} {X} of key pairs k v = ap of (last_of-push key pairs k v) ∙ with
     within false = refl
 
 -- If the elements so far determine the state, and each step leads to the state of one element more, the final state is
--- that of all elements.
+-- the state of all elements.
 pub state_kept : {A S : Type 0} (step : S → A → S) (state : List A → S)
     → ((xs : List A) (x : A) → step (state xs) x ≡ state (xs ++ x ∷ [])) → (xs : List A) → fold step (state []) xs ≡ state xs
 state_kept {A} {S} step state next xs = from [] xs
@@ -121,7 +121,7 @@ module _ {S : Type 0} (step : S → TreeEvent → S) where
       by_default None = refl
       by_default (Some m) = refl
 
--- If the visitor's view goes by steps, its result is a function of the value to which the text parses.
+-- If the visitor's view goes by steps, its result is a function of the parsed value.
 pub answer_read : {V S O X : Type 0} {finishes : V → O → Type 0} (view : V → S) (step : S → TreeEvent → S) (look : S → X)
     (shown : O → X) (kind : FieldKind) (of : RawField kind → X) (start : S)
     → ((s : V) (out : O) → finishes s out → shown out ≡ look (view s))

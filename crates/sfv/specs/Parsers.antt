@@ -41,14 +41,16 @@ use Rattle.sfv.specs.Memory.{NeedsMark}
 abbrev pub parser_of : Bor (List ℕ) → Version → HashSeed → Parser
 parser_of input version seed = record { input = input; version = version; seed = seed }
 
--- the input of a parser, and its version
+-- the input of a parser
 abbrev pub input_of : Parser → List ℕ
 input_of p = p.input.now
 
+-- the version of a parser
 abbrev pub version_of : Parser → Version
 version_of p = p.version
 
--- The text is rejected, and `e` has the kind and the index of its fault.
+-- The text is rejected, and `e` has the kind and the index of its fault. `rejected` and `within` follow from `located`
+-- by the law `FaultRejects`, and are there for the reader.
 pub record IsSyntaxError (version : Version) (kind : FieldKind) (t : List ℕ) (e : Error) : Type 0 where
   pub fault : ErrorKind
   pub index : ℕ
@@ -101,7 +103,7 @@ pub data BeginsMember (version : Version) (t : List ℕ) : FieldKind → List Tr
   -- a list member: the text is not empty, and does not begin with SP or a tab
   list_member : IsTrue (begins_with (λ c. not (c == byte " " || c == byte "\t")) t)
       → BeginsMember version t list_field (entry ∷ [])
-  -- a list member that begins with this item, which has ended or goes on with more parameters
+  -- a list member that begins with this item, which has ended or continues with more parameters
   list_item : (i : RawItem) → (IsItemText version i ⨾ IsEnded) t
       → BeginsMember version t list_field (entry ∷ open_events i)
   -- a dictionary member with a key that has ended
@@ -137,7 +139,8 @@ module _ {S O E : Type 0} (v : Visitor S O E) (p : Parser) (kind : FieldKind) (f
       × (last : S) × FoldsTo (λ s e to. v.takes s (event_of e) to × v.takes_read s e to) from es last
       × v.finishes last out)
 
-  -- A syntax error is one that `parse` returns. One for characters after an item comes after the visitor has finished.
+  -- A syntax error is one that `parse` returns. One for characters after a value comes after the visitor has finished,
+  -- and only for an item: no fault of a list or a dictionary has this kind.
   abbrev pub IsSyntaxErrorBy : ParseError E → Type 0
   IsSyntaxErrorBy (parse_errors.Syntax e) = IsParseError (version_of p) kind (input_of p) e × ((n : ℕ)
       → e ≡ error_of TrailingCharactersAfterParsedValue (Some n) → (out : O)
@@ -166,7 +169,8 @@ module _ {S O E : Type 0} (v : Visitor S O E) (p : Parser) (kind : FieldKind) (f
 
   -- On an accepted text, the visitor fails on its field. On a rejected text, it fails on some field, and on a field
   -- whose text begins with the bytes before the reach. There, it fails in `finish` only on an item: the latter is these
-  -- bytes.
+  -- bytes. For example, for the rejected list `1;`, the definition allows an error at the integer 1. It also allows one
+  -- at a later event such as the parameter `a=5`, because `1;a=5` begins with `1;`.
   abbrev pub IsVisitorErrorBy : ParseError E → Type 0
   IsVisitorErrorBy (parse_errors.Syntax e) = ⊤
   IsVisitorErrorBy (parse_errors.Visitor error) = ((raw : RawField kind)
@@ -189,8 +193,8 @@ module _ {S O E : Type 0} (v : Visitor S O E) (p : Parser) (from : S) where
       × ((value : BareValue) → BeginsWithComplete (version_of p) value (input_of p) → raw.bare ≡ value)
       × FailsOn v from (item_events raw) ⊤ error
 
--- The clauses of `parse_.._with_visitor` for one visitor: its result, the events as read, a syntax error, the events
--- before that, its own error, and the texts for which memory is allocated.
+-- The clauses of `parse_.._with_visitor` for one visitor. They describe its result, the events as read, a syntax error
+-- and the events before it, its own error, and the texts for which memory is allocated.
 pub record ReadsBy {S O E : Type 0} (v : Visitor S O E) (p : Parser) (kind : FieldKind) (from : S)
     (result : Result O (ParseError E)) : Type 0 where
   pub visited : IfOk result (IsAnswerBy v p kind from)

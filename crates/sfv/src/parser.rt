@@ -134,7 +134,7 @@ impl<'de> Parser<'de> {
 
     /// Parses the input as a list (RFC 9651, section 4.2), with the visitor of `T` and memory from `alloc`.
     ///
-    /// For `List`, this is `parse`.
+    /// For `List`, it returns the same value as `parse`, unless memory runs out.
     ///
     /// # Errors
     ///
@@ -151,7 +151,7 @@ impl<'de> Parser<'de> {
 
     /// Parses the input as a dictionary (RFC 9651, section 4.2), with the visitor of `T` and memory from `alloc`.
     ///
-    /// For `Dictionary`, this is `parse`.
+    /// For `Dictionary`, it returns the same value as `parse`, unless memory runs out.
     ///
     /// # Errors
     ///

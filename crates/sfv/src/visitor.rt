@@ -1,5 +1,5 @@
-//! Visitors, which receive the parts of a field during parsing, and the provided visitors. `Visitor` explains how to
-//! handle repeated keys.
+//! The trait `Visitor` and the provided visitors. A visitor receives the parts of a field during parsing. `Visitor`
+//! explains how to handle repeated keys.
 
 pub use sfv_visitor::expect_item::{ExpectItem, ExpectedItem};
 pub use sfv_visitor::ignored::Ignored;

@@ -13,7 +13,7 @@ IsSigned bits z = (neg_ℤ (pos (2 ^ (bits - 1))) ≤ℤ z) × (z <ℤ pos (2 ^ 
 abbrev pub IsUnsigned : ℕ → ℤ → Type 0
 IsUnsigned bits z = (pos 0 ≤ℤ z) × (z <ℤ pos (2 ^ bits))
 
--- at most twelve digits, as before the point of a decimal
+-- z has at most twelve digits, as the whole part of a Decimal (section 3.3.2)
 abbrev pub IsWhole : ℤ → Type 0
 IsWhole z = nat_abs z < 10 ^ 12
 
@@ -21,6 +21,6 @@ IsWhole z = nat_abs z < 10 ^ 12
 abbrev pub in_thousandths : ℤ → ℤ
 in_thousandths z = z *ℤ pos 1000
 
--- a value with this property if the number fits, otherwise the error that it is out of range
+-- r is a value with this property if the number fits, otherwise the error that it is out of range
 abbrev pub GivesIf : {A : Type 0} → Type 0 → (A → Type 0) → Result A Error → Type 0
 GivesIf fits Is r = MatchResult r (λ x. Is x × fits) (λ e. (e ≡ error_of OutOfRange None) × ¬ fits)

@@ -9,13 +9,15 @@ use Rattle.sfv_spec.specs.Messages.{message_of}
 abbrev pub error_of : ErrorKind → Option ℕ → Error
 error_of kind index = record { kind = kind; index = index }
 
+-- the kind of an error
 abbrev pub kind_of : Error → ErrorKind
 kind_of e = e.kind
 
+-- the index of an error in the input, if it has one
 abbrev pub index_of : Error → Option ℕ
 index_of e = e.index
 
--- out of memory
+-- the error that memory ran out; it has no index
 abbrev pub out_of_memory : Error
 out_of_memory = error_of kinds.OutOfMemory None
 

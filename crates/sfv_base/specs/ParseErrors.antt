@@ -4,7 +4,7 @@ use Rattle.sfv_base.specs.declared.error.ParseError.{ParseError}
 use Rattle.sfv_base.specs.declared.error.ParseError.TheVariants.{Syntax, Visitor}
 use Rattle.sfv_base.specs.Errors.{index_of, error_text}
 
--- the index of a syntax error
+-- the index of a syntax error; an error of a visitor has none
 abbrev pub parse_index : {E : Type 0} → ParseError E → Option ℕ
 parse_index (Syntax e) = index_of e
 parse_index (Visitor _) = None

@@ -1,4 +1,5 @@
-//! The base of structured fields (RFC 9651): errors, numbers, classes of bytes, and searches for the end of a run.
+//! The base of structured fields (RFC 9651): errors, numbers, and classes of bytes. It also has the searches for the
+//! end of a run of bytes.
 #![tactic(auto)]
 
 pub mod date;

@@ -12,13 +12,14 @@ use Rattle.sfv_spec.specs.Values.{byte_sequence}
 use Rattle.sfv_spec.specs.Base64.{IsBase64Text, symbols}
 use Rattle.sfv_spec.specs.Canonical.{bare_text}
 
--- an engine of `base64` with the standard alphabet, which accepts missing padding and spare bits of any value
+-- an engine of `base64` with the standard alphabet; it accepts missing padding and spare bits of any value
 pub record IsLenient (engine : GeneralPurpose) : Type 0 where
   pub alphabet : engine_symbols engine ≡ symbols
   pub padding : engine_padding engine ≡ byte "="
   pub config : IsConfig (engine_config engine) true true Indifferent
 
--- the canonical text of a byte sequence is what `base64` encodes, with the standard alphabet and padding, between colons
+-- The canonical text of a byte sequence is the output of `base64` with the standard alphabet and padding, between
+-- colons.
 abbrev pub WrittenAsEncoded : Type 0
 WrittenAsEncoded = (bytes : List ℕ)
     → bare_text (byte_sequence bytes) ≡ codes ":" ++ encode_of standard bytes ++ codes ":"
@@ -28,7 +29,7 @@ abbrev pub ParsedAsDecoded : Type 0
 ParsedAsDecoded = (engine : GeneralPurpose) → IsLenient engine → (content bytes : List ℕ) → IsBytes content
     → IsBase64Text bytes content ↔ (decode_of engine content ≡ Ok bytes)
 
--- what an error says of a content: no byte sequence has it, or memory ran out
+-- the error is out of memory, or no byte sequence has this content
 abbrev pub HasNoBytes : List ℕ → DecodeAllocError → Type 0
 HasNoBytes content (DecodeError error) = (bytes : List ℕ) → ¬ IsBase64Text bytes content
 HasNoBytes content OutOfMemory = ⊤

@@ -1,4 +1,5 @@
-//! Byte sequences and the crate `base64`: the library writes what `base64` encodes, and parses what it decodes.
+//! Byte sequences and the crate `base64`. The library writes the text that `base64` encodes. It parses a text to the
+//! bytes that `base64` decodes.
 #![tactic(auto)]
 
 ghost use Rattle.std.specs.Prelude.{◌≡◌, ◌++◌, IfErr, IfOk, codes};
@@ -16,7 +17,7 @@ use std::alloc::{AllocError, Global};
 #[cfg(test)]
 mod tests;
 
-/// The canonical text of a byte sequence is what `base64` encodes, with the standard alphabet and padding, between
+/// The canonical text of a byte sequence is the output of `base64` with the standard alphabet and padding, between
 /// colons.
 pub fn written_as_encoded()
     ensures { WrittenAsEncoded }
@@ -28,7 +29,7 @@ pub fn parsed_as_decoded()
     ensures { ParsedAsDecoded }
 {}
 
-/// Returns what `base64` encodes for these bytes: the library writes it between colons.
+/// Returns the text that `base64` encodes for these bytes. The library writes this text between colons.
 ///
 /// # Errors
 ///

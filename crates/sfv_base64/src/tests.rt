@@ -14,7 +14,7 @@ fn item_with(alloc: Global, content: &[u8]) -> Result<Vec<u8>, AllocError> {
     Ok(input)
 }
 
-/// Returns the bytes to which the library parses this item.
+/// Returns the bytes that the library parses from this item.
 fn parsed(alloc: Global, input: &[u8]) -> Option<Vec<u8>> {
     let item = Parser::new(input).parse::<Item>(alloc).ok()?;
     let Item { bare_item, .. } = item;
@@ -24,7 +24,7 @@ fn parsed(alloc: Global, input: &[u8]) -> Option<Vec<u8>> {
     }
 }
 
-/// Returns `true` if the library writes these bytes as `base64` encodes them, and both read them back.
+/// Returns `true` if the library writes these bytes as `base64` encodes them, and both parse them back.
 fn is_written_alike(alloc: Global, bytes: &[u8]) -> bool {
     let Ok(text) = encode(alloc, bytes) else {
         return false;

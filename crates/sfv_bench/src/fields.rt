@@ -25,8 +25,8 @@ impl Field {
         }
     }
 
-    /// Appends text: a random digit for `#`, a letter for `^`, a symbol of Base64 for `$`, and for `&` eight digits that
-    /// count the changes, and end with the number of the field.
+    /// Appends text: a random digit for `#`, a letter for `^`, a symbol of Base64 for `$`, and eight digits for `&`.
+    /// The eight digits count the changes, and end with the number of the field.
     pub fn push(
         &mut self,
         random: &mut Random,

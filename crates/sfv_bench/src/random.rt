@@ -35,7 +35,7 @@ impl Random {
         b'a' + (self.next() % 26) as u8
     }
 
-    /// Returns a letter, which is a symbol of Base64.
+    /// Returns a letter. It is a symbol of Base64.
     pub fn symbol(&mut self) -> u8 {
         let place = (self.next() % 26) as u8;
         if self.next() % 2 == 0 {

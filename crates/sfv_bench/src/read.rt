@@ -1,4 +1,4 @@
-//! Reading of fields without a tree.
+//! Parses fields without a tree.
 
 use crate::digest::Digest;
 use crate::fields::Field;
@@ -52,7 +52,7 @@ fn read_hit(alloc: Global, text: &[u8], digest: &mut Digest) -> Result<(), Error
     Ok(())
 }
 
-/// Reads a field with its reader, or with a visitor.
+/// Parses a field with its reader, or with a visitor.
 pub fn read(alloc: Global, shape: Shape, field: &Field, digest: &mut Digest) -> Result<(), Error> {
     let text = field.text.as_slice();
     match shape {

@@ -7,19 +7,19 @@ ghost use Rattle.sfv_c.specs.declared.answer.CallFault.TheVariants as faults;
 use crate::numbers::{number_of_kind, number_of_type};
 use sfv::{Error, SerializeError};
 
-/// What a call answers: whatever the status doesn't name is 0.
+/// The result of a call. Each part that the status does not use is 0.
 #[repr(C)]
 #[derive(Clone, Copy, Drop)]
 pub struct Answer {
-    /// What came of the call.
+    /// The status.
     pub status: u32,
-    /// The kind of the error, or that of the value that isn't supported.
+    /// The kind of the error, or the kind of the value that the version lacks.
     pub kind: u32,
-    /// Where the input is at fault, or which row.
+    /// The index of the syntax error in the input, or of the wrong row.
     pub index: usize,
-    /// The length of the text, or that which is wanted.
+    /// The length of the text, written or needed.
     pub length: usize,
-    /// The number of events, or that which is wanted.
+    /// The number of events, written or needed.
     pub events: usize,
 }
 
@@ -32,16 +32,16 @@ const NOTHING: u32 = 1;
 /// A buffer is too small.
 pub(crate) const TOO_SMALL: u32 = 2;
 
-/// The input is no such field.
+/// The input is rejected.
 const REFUSED: u32 = 3;
 
-/// Memory was refused.
+/// Memory ran out.
 const OUT_OF_MEMORY: u32 = 4;
 
-/// The version of writing doesn't have a value.
+/// The version to write for lacks a value.
 const UNSUPPORTED: u32 = 6;
 
-/// Rows are those of no field.
+/// No field has these rows.
 const NO_FIELD: u32 = 7;
 
 /// An argument names nothing.
@@ -53,7 +53,7 @@ pub(crate) const BAD_ARGUMENT: Answer = Answer {
     events: 0,
 };
 
-/// What was written into a buffer.
+/// The text that a call wrote into a buffer, if any.
 #[derive(Clone, Copy, Drop)]
 pub(crate) enum Written {
     /// A text of this length.
@@ -64,12 +64,12 @@ pub(crate) enum Written {
     TooSmall(usize),
 }
 
-/// Why nothing was written.
+/// The reason why a call wrote nothing.
 #[derive(Clone, Copy, Drop)]
 pub(crate) enum CallFault {
-    /// The input isn't read.
+    /// The input is rejected, or memory ran out.
     Read(Error),
-    /// What was read isn't written.
+    /// The value is not written.
     Write(SerializeError),
     /// The rows denote no field: the index of the first wrong row, or their number if more are needed.
     Rows(usize),
@@ -92,7 +92,7 @@ impl From<SerializeError> for CallFault {
 }
 
 impl Answer {
-    /// A status, and the kind that it names.
+    /// Returns the result with this status and kind.
     fn of_kind(status: u32, kind: u32) -> Answer
         ensures { result ≡ answer status kind 0 0 0 }
     {
@@ -105,7 +105,7 @@ impl Answer {
         }
     }
 
-    /// Sizes, and whether so much was written.
+    /// Returns the result with this status and these sizes.
     pub(crate) fn of_sizes(status: u32, length: usize, events: usize) -> Answer
         ensures { result ≡ answer status 0 0 length events }
     {
@@ -118,7 +118,7 @@ impl Answer {
         }
     }
 
-    /// What was written.
+    /// Returns the result of a call that wrote this.
     pub(crate) fn of_written(written: Written) -> Answer
         ensures { result ≡ written_answer written }
     {
@@ -129,7 +129,7 @@ impl Answer {
         }
     }
 
-    /// Refused, or out of memory.
+    /// Returns the result for an error of parsing.
     pub(crate) fn of_error(error: Error) -> Answer
         ensures { result ≡ refusal error }
     {
@@ -146,7 +146,7 @@ impl Answer {
         }
     }
 
-    /// The same, or a value that isn't supported.
+    /// Returns the result for a call that wrote nothing.
     pub(crate) fn of_fault(fault: CallFault) -> Answer
         ensures { result ≡ fault_answer fault }
     {
@@ -167,7 +167,7 @@ impl Answer {
     }
 }
 
-/// Puts a text at the beginning of the buffer.
+/// Writes a text to the start of the buffer, if it fits.
 pub(crate) fn put(text: &str, out: &mut [u8]) -> Written
     ensures { Puts text.now out.old out.new result }
 {
@@ -180,7 +180,7 @@ pub(crate) fn put(text: &str, out: &mut [u8]) -> Written
     Written::Text(length)
 }
 
-/// Puts a text, if there is one, at the beginning of the buffer.
+/// Writes a text, if there is one, to the start of the buffer, if it fits.
 pub(crate) fn put_text(text: Option<String>, out: &mut [u8]) -> Written
     ensures { PutsText (option_map string_bytes text) out.old out.new result }
 {

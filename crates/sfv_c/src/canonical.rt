@@ -1,4 +1,4 @@
-//! Canonical texts of what is read.
+//! Canonical texts of parsed fields.
 
 ghost use Rattle.std.specs.Prelude.{◌≡◌, IfOk, IfErr};
 ghost use Rattle.sfv.specs.Parsers.{input_of, version_of};
@@ -8,7 +8,7 @@ use crate::answer::{Answer, CallFault, Written, put_text};
 use sfv::{Dictionary, FieldKind, FieldType, Item, List, Parser, Version};
 use std::alloc::Global;
 
-/// Reads a field of the type `T`, and puts its canonical text for the version at the beginning of the buffer.
+/// Parses a field of type `T`, and writes its canonical text for the version to the start of the buffer.
 fn put_field<T: FieldType>(
     alloc: Global,
     parser: Parser<'_>,
@@ -26,7 +26,7 @@ fn put_field<T: FieldType>(
     Ok(put_text(text.into(), out))
 }
 
-/// Reads a field of this type, and puts its canonical text for the version at the beginning of the buffer.
+/// Parses a field of this type, and writes its canonical text for the version to the start of the buffer.
 pub(crate) fn canonical(
     alloc: Global,
     field: FieldKind,

@@ -1,4 +1,4 @@
-//! Readings that write nothing.
+//! Checks that write nothing.
 
 ghost use Rattle.sfv.specs.Parsers.{input_of, version_of};
 ghost use Rattle.sfv_c.specs.Answers.{IsCheck};
@@ -9,7 +9,7 @@ use sfv::visitor::Ignored;
 use sfv::{FieldKind, Parser};
 use std::alloc::Global;
 
-/// Tells whether the input is a field of this type.
+/// Checks that the input is a field of this type.
 pub(crate) fn check(alloc: Global, field: FieldKind, parser: Parser<'_>) -> Answer
     ensures { IsCheck (version_of parser.entry) field (input_of parser.entry) result }
 {

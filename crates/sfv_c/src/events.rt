@@ -1,4 +1,4 @@
-//! Events that a visitor writes into lent memory, as far as there is room.
+//! Events that a visitor writes into borrowed buffers, as far as they have room.
 
 ghost use Rattle.std.specs.Prelude.{◌≡◌, IfOk, IfErr};
 ghost use Rattle.sfv.specs.Parsers.{input_of, version_of};
@@ -14,14 +14,14 @@ use sfv::{Error, FieldKind, Parser};
 use std::alloc::Global;
 use std::convert::Infallible;
 
-/// How many events and bytes are wanted.
+/// The number of events and bytes of a field.
 #[derive(Clone, Copy, Drop)]
 struct Counts {
     events: usize,
     bytes: usize,
 }
 
-/// Rows and bytes in lent memory, and how many of either are wanted so far.
+/// Borrowed buffers for rows and bytes, and the numbers of both so far.
 #[derive(Drop)]
 struct RowBuffer<'a> {
     rows: &'a mut [Row],
@@ -47,7 +47,7 @@ impl<'a> RowBuffer<'a> {
         }
     }
 
-    /// Keeps bytes, if there is room.
+    /// Writes bytes, if they fit.
     fn keep_bytes(&mut self, text: &[u8])
         ensures { memory_of self.new ≡ keep_bytes (memory_of self.old) text.now }
     {
@@ -58,7 +58,7 @@ impl<'a> RowBuffer<'a> {
         self.used = end;
     }
 
-    /// Keeps a row, if there is room.
+    /// Writes a row, if it fits.
     fn keep_row(&mut self, row: Row)
         ensures { memory_of self.new ≡ keep_row (memory_of self.old) row }
     {
@@ -68,7 +68,7 @@ impl<'a> RowBuffer<'a> {
         self.count = self.count.saturating_add(1);
     }
 
-    /// Keeps the texts of an event and its row.
+    /// Writes the texts of an event and its row.
     fn keep(&mut self, parts: LentEvent<'_>)
         ensures { memory_of self.new ≡ keep_numbers (memory_of self.old) (lent_numbers parts.entry) }
     {
@@ -103,16 +103,16 @@ impl<'a, 'de> Visitor<'de> for RowBuffer<'a> {
     }
 }
 
-/// What a reading into lent memory comes to.
+/// The result of parsing into borrowed buffers.
 #[derive(Drop)]
 enum Visited<'a> {
-    /// The memory after the last event.
+    /// The buffers after the last event.
     Done(RowBuffer<'a>),
     /// An error.
     Failed(Error),
 }
 
-/// Reads a field of this type into lent memory.
+/// Parses a field of this type into borrowed buffers.
 fn visit<'a>(
     alloc: Global,
     field: FieldKind,
@@ -127,7 +127,7 @@ fn visit<'a>(
     }
 }
 
-/// Reads a field of this type into lent memory, and counts what is wanted.
+/// Parses a field of this type into borrowed buffers, and counts its events and bytes.
 fn count_events(
     alloc: Global,
     field: FieldKind,
@@ -149,7 +149,7 @@ fn count_events(
     }
 }
 
-/// Reads a field of this type, and writes its events into the buffers, as far as there is room.
+/// Parses a field of this type, and writes its events into the buffers as far as they have room.
 pub(crate) fn keep_events(
     alloc: Global,
     field: FieldKind,

@@ -1,4 +1,4 @@
-//! Events that are collected, and then put into lent memory, whole or not at all.
+//! Events that are collected, and then written into borrowed buffers completely or not at all.
 
 ghost use Rattle.std.specs.Prelude.{◌≡◌, ⊤, OnOk, IfOk, IfErr};
 ghost use Rattle.sfv.specs.Parsers.{input_of, version_of, IsParseError};
@@ -66,7 +66,7 @@ impl<'de> Visitor<'de> for Collector {
     }
 }
 
-/// Reads a field of this type, and collects its events.
+/// Parses a field of this type, and collects its events.
 fn collect_events(alloc: Global, field: FieldKind, parser: Parser<'_>) -> Result<Collector, Error>
     ensures accepted { IfOk result (λ c. AreEvents (version_of parser.entry) field
         (input_of parser.entry) (collected_of c)) }
@@ -80,7 +80,7 @@ fn collect_events(alloc: Global, field: FieldKind, parser: Parser<'_>) -> Result
     }
 }
 
-/// Puts what was collected into the buffers, if there is room for all of it.
+/// Copies the collected events into the buffers, if all of them fit.
 fn copy(collector: &Collector, rows: &mut [Row], bytes: &mut [u8]) -> Answer
     ensures { (rows.new, bytes.new, result) ≡ copied (collected_of collector.now) rows.old bytes.old }
 {
@@ -93,7 +93,7 @@ fn copy(collector: &Collector, rows: &mut [Row], bytes: &mut [u8]) -> Answer
     Answer::of_sizes(OK, length, events)
 }
 
-/// Reads a field of this type, and puts its events into the buffers, whole or not at all.
+/// Parses a field of this type, and writes all of its events into the buffers, or nothing.
 pub(crate) fn put_events(
     alloc: Global,
     field: FieldKind,

@@ -1,6 +1,6 @@
-//! Structured fields for callers in C: `include/sfv.h` says what each call does.
+//! Structured fields for callers in C. `include/sfv.h` describes each call, and `docs/C.md` shows how to use them.
 //!
-//! Types of fields, versions and kinds are numbers here, and any other number is a bad argument: no call has a condition.
+//! Field types, versions and kinds are numbers here. Any other number is a bad argument, so no call has a precondition.
 #![tactic(auto)]
 
 ghost use Rattle.std.specs.Prelude.{◌≡◌, None};
@@ -35,14 +35,15 @@ use crate::write::write;
 use sfv::{HashSeed, Parser};
 use std::alloc::Global;
 
-/// Reads the input as a field of this type under the one version, and puts its canonical text for the other at the
-/// beginning of the buffer. Maps are built under the seed of this number.
+/// Parses the input as a field of this type under `reading`, and writes its canonical text for `writing` to the start
+/// of `out`. Each map hashes under the seed of this number.
 ///
 /// # Errors
 ///
-/// Refused, with kind and index, or out of memory, as `Parser::parse` has it; unsupported, with the kind of the first
-/// value that the version of writing doesn't have; too small, with the length that is wanted; and nothing, of a list or
-/// a dictionary without members. The buffer is then as it was.
+/// Returns status 3 with kind and index, or status 4 if memory runs out, as for `Parser::parse`. Returns status 6, with
+/// the kind of the first value that `writing` lacks. Returns status 2, with the length of the text, if `out` is too
+/// small. Returns status 1 for a list or dictionary without members. Returns status 5 for a number that names no field
+/// type or version. `out` is then unchanged.
 #[unsafe(no_mangle)]
 pub extern "C" fn sfv_c_canonical(
     alloc: Global,
@@ -74,12 +75,13 @@ pub extern "C" fn sfv_c_canonical(
     canonical(alloc, field, parser, writing, out)
 }
 
-/// Tells whether the input is a field of this type under the version. Memory is asked for only where a backslash, a
-/// percent sign or a colon stands in the input.
+/// Returns status 0 if the input is a field of this type under the version.
 ///
 /// # Errors
 ///
-/// Refused, with kind and index, or out of memory, as `Parser::parse` has it.
+/// Returns status 3 with kind and index, as for `Parser::parse`. Returns status 4 if memory runs out. This happens only
+/// if the input contains a backslash, a percent sign or a colon. Returns status 5 for a number that names no field type
+/// or version.
 #[unsafe(no_mangle)]
 pub extern "C" fn sfv_c_check(alloc: Global, field: u32, version: u32, input: &[u8]) -> Answer
     ensures named { Names field version (λ k v. IsCheck v k input.now result) }
@@ -95,13 +97,13 @@ pub extern "C" fn sfv_c_check(alloc: Global, field: u32, version: u32, input: &[
     check(alloc, field, Parser::new(input).with_version(version))
 }
 
-/// Reads the input as a field of this type under the version, and writes its events into the buffers: as far as there is
-/// room for them. No map is built.
+/// Parses the input as a field of this type under the version, and writes its events into the buffers as far as they
+/// have room. Builds no map.
 ///
 /// # Errors
 ///
-/// Refused or out of memory, as `sfv_c_check` has it; too small, with the sizes that are wanted. The buffers then hold
-/// anything.
+/// Returns the errors of `sfv_c_check`. Returns status 2, with the sizes that all events need, if a buffer is too
+/// small. After an error the buffers can contain anything.
 #[unsafe(no_mangle)]
 pub extern "C" fn sfv_c_events(
     alloc: Global,
@@ -125,12 +127,14 @@ pub extern "C" fn sfv_c_events(
     keep_events(alloc, field, parser, rows, bytes)
 }
 
-/// Reads the input as a field of this type under the version, and puts its events into the buffers, whole or not at all.
+/// Parses the input as a field of this type under the version, and writes all of its events into the buffers, or
+/// nothing.
 ///
 /// # Errors
 ///
-/// Refused or out of memory, as `Parser::parse` has it; too small, with the sizes that are wanted. The buffers are then
-/// as they were.
+/// Returns status 3 with kind and index, or status 4 if memory runs out, as for `Parser::parse`. Returns status 2, with
+/// the sizes that all events need, if a buffer is too small. Returns status 5 for a number that names no field type or
+/// version. Both buffers are then unchanged.
 #[unsafe(no_mangle)]
 pub extern "C" fn sfv_c_events_whole(
     alloc: Global,
@@ -155,15 +159,16 @@ pub extern "C" fn sfv_c_events_whole(
     put_events(alloc, field, parser, rows, bytes)
 }
 
-/// Puts the canonical text for the version of the field of these rows, as `sfv_c_events_whole` writes them, at the
-/// beginning of the buffer: a repeated key each time.
+/// Writes the canonical text, for the version, of the field of these rows to the start of `out`. The rows are as
+/// `sfv_c_events_whole` writes them. A repeated key is written each time.
 ///
 /// # Errors
 ///
-/// No field, if the rows are those of no field of this type, with the index of the first that no field has there, or with
-/// their number, if more are wanted; unsupported, with the kind of the first value that the version doesn't have; out of
-/// memory, and only where the first two rows begin a field; too small, with the length that is wanted; and nothing, of a
-/// list or a dictionary without members. The buffer is then as it was.
+/// Returns status 7 if no field of this type has these rows. The index is the first row that no such field has there,
+/// or the number of rows if more must follow. Returns status 6, with the kind of the first value that the version
+/// lacks. Returns status 4 if memory runs out, only if the first two rows begin a field. Returns status 2, with the
+/// length of the text, if `out` is too small. Returns status 1 for a list or dictionary without members. Returns status
+/// 5 for a number that names no field type or version. `out` is then unchanged.
 #[unsafe(no_mangle)]
 pub extern "C" fn sfv_c_write(
     alloc: Global,
@@ -186,11 +191,12 @@ pub extern "C" fn sfv_c_write(
     write(alloc, field, version, rows, bytes, out)
 }
 
-/// Puts the text of the kind of error of this number at the beginning of the buffer.
+/// Writes the message of the error kind with this number to the start of `out`.
 ///
 /// # Errors
 ///
-/// Bad argument, where no kind has this number; too small, with the length that is wanted. The buffer is then as it was.
+/// Returns status 5 if no kind has this number. Returns status 2, with the length of the message, if `out` is too
+/// small. `out` is then unchanged.
 #[unsafe(no_mangle)]
 pub extern "C" fn sfv_c_message(kind: u32, out: &mut [u8]) -> Answer
     ensures { IsMessage kind out.old out.new result }

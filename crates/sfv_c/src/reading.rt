@@ -1,4 +1,4 @@
-//! Reading a field of a type that is a value.
+//! Parsing a field whose type is a value.
 
 ghost use Rattle.std.specs.Prelude.{◌≡◌, IfOk, IfErr};
 ghost use Rattle.sfv.specs.Memory.{NeedsMark};
@@ -10,7 +10,7 @@ use sfv::{Error, FieldKind, ParseError, Parser};
 use std::alloc::Global;
 use std::convert::Infallible;
 
-/// Reads the input as a field of this type with a visitor.
+/// Parses the input as a field of this type with a visitor.
 pub(crate) fn read<'de, V: Visitor<'de>>(
     alloc: Global,
     field: FieldKind,
@@ -29,7 +29,7 @@ pub(crate) fn read<'de, V: Visitor<'de>>(
     }
 }
 
-/// The error of a reading whose visitor has none.
+/// Returns the syntax error of parsing with a visitor that never fails.
 pub(crate) fn syntax_of(error: ParseError<Infallible>) -> Error
     ensures { parse_errors.Syntax result ≡ error }
 {

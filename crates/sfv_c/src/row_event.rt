@@ -41,7 +41,7 @@ fn boolean_in(value: Value<'_>) -> Option<bool>
     }
 }
 
-/// The same bytes: of a slice that is passed it is known that each is one.
+/// Returns the same bytes. Its clause says that each element is a byte.
 #[tactic(auto, using(crate::proofs::Bytes::run_of_bytes))]
 fn with_bytes_invariant(bytes: &[u8]) -> &[u8]
     ensures value { result.now ≡ bytes.now }
@@ -103,14 +103,14 @@ fn bare_item_in(value: Value<'_>) -> Option<RefBareItem<'_>>
     })
 }
 
-/// Whether there is no value.
+/// Returns `true` if there is no value.
 fn is_no_value(value: Value<'_>) -> bool
     ensures { IsTrue result ↔ (lent_value value.entry ≡ value_numbers None) }
 {
     value.kind == 0 && value.number == 0 && value.bytes.is_empty()
 }
 
-/// Whether these parts are this tag, without key and value.
+/// Returns `true` if these parts are this tag, without key and value.
 fn is_plain_in(parts: LentEvent<'_>, tag: u32) -> bool
     ensures { IsTrue result ↔ (lent_numbers parts.entry ≡ plain_numbers tag) }
 {
@@ -171,7 +171,7 @@ fn parts_at<'a>(row: &Row, bytes: &'a [u8]) -> Option<LentEvent<'a>>
     Some(LentEvent { tag, key, value })
 }
 
-/// Whether the row is that of the event with this tag, without key and value.
+/// Returns `true` if the row is an event with this tag, without key and value.
 pub(crate) fn is_plain(row: &Row, bytes: &[u8], tag: u32) -> bool
     ensures { IsTrue result ↔ IsRowOfNumbers bytes.now row.now (plain_numbers tag) }
 {

@@ -15,6 +15,8 @@ use sfv::KeyRef;
 use sfv::script::{ItemCalls, MemberCalls, ParamCall};
 use std::alloc::{AllocFailed, Global};
 
+// Rows are not decoded to events, not even one at a time: long lists take more instructions then.
+
 /// Why rows aren't read on.
 #[derive(Clone, Copy, Drop)]
 pub(crate) enum ParseStop {

@@ -14,7 +14,7 @@ use sfv::script::{run_dict_for, run_item_for, run_list_for};
 use sfv::{FieldKind, SerializeError, Version};
 use std::alloc::Global;
 
-/// Why so many rows are those of no field.
+/// Returns the reason why no field has these rows.
 fn fault_of(count: usize, stop: ParseStop) -> CallFault
     ensures { (version : Version) (kind : FieldKind) (rows : List Row) (bytes : List ℕ)
         → count ≡ length rows → IsStop bytes (beginning kind) rows stop → IsWriteFault version kind rows bytes result }

@@ -17,27 +17,33 @@ module _ {R M I : Type 0} (inner : I → List RawItem → Type 0) (keeps : M →
   abbrev pub Within : ListVisitor R M I → List RawItem → Type 0
   Within s xs = (i : I) × (s.items ≡ Some i) × inner i xs
 
+  -- A bare item: within an inner list, it is one more item without parameters. Otherwise it is the head of the member.
   abbrev pub TakesBareItem : ListVisitor R M I → BareValue → ListVisitor R M I → Type 0
   TakesBareItem s b after = (after.reader ≡ s.reader) × MatchOption s.items
       ((after.items ≡ None) × Keeps after (of_item b) [])
       (λ i. (xs : List RawItem) → inner i xs → Within after (xs ++ raw_item b [] ∷ []))
 
+  -- A parameter: within an inner list, it is one more parameter of the last item. Otherwise it is one of the member.
   abbrev pub TakesParameter : ListVisitor R M I → List ℕ → BareValue → ListVisitor R M I → Type 0
   TakesParameter s k v after = (after.reader ≡ s.reader) × MatchOption s.items
       ((after.items ≡ None) × ((head : Head) (ps : RawParameters) → Keeps s head ps → Keeps after head (put ps k v)))
       (λ i. (xs : List RawItem) (b : BareValue) (ps : RawParameters) → inner i (xs ++ raw_item b ps ∷ [])
       → Within after (xs ++ raw_item b (put ps k v) ∷ []))
 
+  -- The end of parameters: within an inner list, it changes nothing. Otherwise the member is complete, and goes to the
+  -- reader.
   abbrev pub TakesEnd : ListVisitor R M I → ListVisitor R M I → Type 0
   TakesEnd s after = MatchOption s.items
       ((after.items ≡ None) × ((m : RawMember) (ms : List RawMember) → Keeps s (head_of m) (parameters_of m)
       → reads s.reader ms → reads after.reader (ms ++ m ∷ [])))
       (λ i. after ≡ s)
 
+  -- the end of the items of an inner list, which are now the head of the member
   abbrev pub TakesItemsEnd : ListVisitor R M I → ListVisitor R M I → Type 0
   TakesItemsEnd s after = MatchOption s.items ⊤ (λ i. (after.reader ≡ s.reader) × (after.items ≡ None)
       × ((xs : List RawItem) → inner i xs → Keeps after (of_inner_list xs) []))
 
+  -- the step of the visitor of a list at each event; the start of a member or of an item changes nothing
   abbrev pub ListTakes : ListVisitor R M I → TreeEvent → ListVisitor R M I → Type 0
   ListTakes s begins_inner_list after = (after.reader ≡ s.reader) × Within after []
   ListTakes s (bare_item b) after = TakesBareItem s b after
@@ -58,13 +64,17 @@ module _ {R K I : Type 0} (inner : I → List RawItem → Type 0) (text : K → 
   abbrev pub Passes : DictionaryVisitor R K I → DictionaryVisitor R K I → Type 0
   Passes s after = (after.reader ≡ s.reader) × (after.key ≡ None) × (after.outer ≡ s.outer)
 
+  -- the start of a member: the visitor keeps its key, or the member is ignored
   abbrev pub TakesKey : DictionaryVisitor R K I → List ℕ → DictionaryVisitor R K I → Type 0
   TakesKey s k after = (after.reader ≡ s.reader) × MatchOption after.key (IsIgnored reads k) (λ key. text key ≡ k)
 
+  -- the start of an inner list: the visitor has no item yet, if the key matters
   abbrev pub TakesItems : DictionaryVisitor R K I → DictionaryVisitor R K I → Type 0
   TakesItems s after = (after.reader ≡ s.reader) × (after.key ≡ None) × (after.outer ≡ s.key)
       × MatchOption s.key ⊤ (λ key. WithinKey after [])
 
+  -- A bare item: if its key matters, the member with this key is now the item without parameters. Within an inner list,
+  -- it is one more item.
   abbrev pub TakesBare : DictionaryVisitor R K I → BareValue → DictionaryVisitor R K I → Type 0
   TakesBare s b after = MatchOption s.key
       (Passes s after × MatchOption s.items ⊤ (λ i. (xs : List RawItem) → inner i xs
@@ -72,6 +82,7 @@ module _ {R K I : Type 0} (inner : I → List RawItem → Type 0) (text : K → 
       (λ key. (after.key ≡ s.key) × ((ms : List (List ℕ × RawMember)) → reads s.reader ms
       → reads after.reader (put ms (text key) (member_of (of_item b) []))))
 
+  -- A parameter: if its key matters, the member has one more. Within an inner list, its last item has one more.
   abbrev pub TakesParam : DictionaryVisitor R K I → List ℕ → BareValue → DictionaryVisitor R K I → Type 0
   TakesParam s k v after = MatchOption s.key
       (Passes s after × MatchOption s.items ⊤ (λ i. (xs : List RawItem) (b : BareValue) (ps : RawParameters)
@@ -80,11 +91,13 @@ module _ {R K I : Type 0} (inner : I → List RawItem → Type 0) (text : K → 
       → reads s.reader (put ms (text key) (member_of head ps))
       → reads after.reader (put ms (text key) (member_of head (put ps k v)))))
 
+  -- the end of the items of an inner list: if its key matters, the member is now the inner list without parameters
   abbrev pub TakesEndOfItems : DictionaryVisitor R K I → DictionaryVisitor R K I → Type 0
   TakesEndOfItems s after = (after.key ≡ s.outer) × MatchOption s.outer (after.reader ≡ s.reader) (λ key.
       MatchOption s.items ⊤ (λ i. (ms : List (List ℕ × RawMember)) (xs : List RawItem) → inner i xs → reads s.reader ms
       → reads after.reader (put ms (text key) (member_of (of_inner_list xs) []))))
 
+  -- the step of the visitor of a dictionary at each event; the end of parameters changes nothing
   abbrev pub DictionaryTakes : DictionaryVisitor R K I → TreeEvent → DictionaryVisitor R K I → Type 0
   DictionaryTakes s (keyed_entry k) after = TakesKey s k after
   DictionaryTakes s begins_inner_list after = TakesItems s after

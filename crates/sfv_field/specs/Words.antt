@@ -14,9 +14,11 @@ use Rattle.sfv.specs.Memory.{HoldsMark}
 abbrev pub raw_item : BareValue → RawParameters → RawItem
 raw_item b ps = record { bare = b; parameters = ps }
 
--- the part of a member before its parameters: a bare item, or the items of an inner list
+-- the part of a member before its parameters
 pub data Head : Type 0 where
+  -- the bare item of an item
   of_item : BareValue → Head
+  -- the items of an inner list
   of_inner_list : List RawItem → Head
 
 -- the member with this head and these parameters
@@ -24,11 +26,12 @@ abbrev pub member_of : Head → RawParameters → RawMember
 member_of (of_item b) ps = item (raw_item b ps)
 member_of (of_inner_list xs) ps = inner_list (record { items = xs; parameters = ps })
 
--- the head of a member, and its parameters
+-- the head of a member
 abbrev pub head_of : RawMember → Head
 head_of (item i) = of_item i.bare
 head_of (inner_list l) = of_inner_list l.items
 
+-- the parameters of a member
 abbrev pub parameters_of : RawMember → RawParameters
 parameters_of (item i) = i.parameters
 parameters_of (inner_list l) = l.parameters

@@ -27,7 +27,7 @@ pub trait InnerListReader<'de>: Drop {
     ///
     /// # Errors
     ///
-    /// Returns `OutOfMemory` if memory runs out, which ends the parsing.
+    /// Returns `OutOfMemory` if memory runs out. Parsing then ends.
     fn item(&mut self, item: BareItemFromInput<'de>) -> Result<(), OutOfMemory>
         ensures read { OnOk result (AddsItem reads self.old self.new (input_value item.entry)) }
         ensures memory { OnErr result may_fail };
@@ -36,7 +36,7 @@ pub trait InnerListReader<'de>: Drop {
     ///
     /// # Errors
     ///
-    /// Returns `OutOfMemory` if memory runs out, which ends the parsing.
+    /// Returns `OutOfMemory` if memory runs out. Parsing then ends.
     fn parameter(
         &mut self,
         key: KeyRef<'de>,

@@ -1,5 +1,5 @@
-//! Readers, which parse a list or a dictionary without a tree. The author of a field states the meaning of a member,
-//! and needs no visitor.
+//! Readers of lists and dictionaries. A reader parses a field without a tree. The author of a field states the meaning
+//! of a member, and needs no visitor.
 #![tactic(auto)]
 
 mod dictionary;

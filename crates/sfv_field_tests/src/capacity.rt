@@ -7,7 +7,7 @@ use std::alloc::Global;
 use std::fmt::Write;
 use std::test::Fail;
 
-/// The capacities that a vector takes while elements are appended one by one, and those of a map.
+/// The capacities of a vector while elements are appended one by one, and the capacities of a map.
 const VECTOR: &[usize] = &[
     0, 4, 8, 16, 32, 64, 128, 256, 512, 1_024, 2_048, 4_096, 8_192, 16_384,
 ];

@@ -73,8 +73,8 @@ fn date<'a>(seconds: u8) -> RefBareItem<'a> {
     RefBareItem::from(Date::from_unix_seconds(Integer::from(seconds)))
 }
 
-/// Returns the value of a word: a date for `@`, perhaps with its seconds, true for `?`, false for `!`, no bytes for
-/// `:`, the token `x`, and otherwise a number.
+/// Returns the value of a word. It is a date for `@`, perhaps with its seconds, true for `?`, or false for `!`. It is
+/// no bytes for `:`, or the token `x`, and otherwise a number.
 pub fn value<'a>(word: &str) -> RefBareItem<'a> {
     match word {
         "@" => date(1),

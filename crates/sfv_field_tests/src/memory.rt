@@ -61,8 +61,8 @@ fn items_are_written_or_refused_and_the_old_text_stays(rt: HostRuntime) {
     }
 }
 
-/// Requests the first memory of a text on a heap of this size, and appends a short text. Returns whether the heap
-/// refused the request. Returns `None` if the heap is too small for the short text, too.
+/// Requests the first memory of a text on a heap of this size, and appends a short text. Returns whether the
+/// request failed. Returns `None` if the heap is too small for the short text, too.
 fn is_first_memory_refused(alloc: Global, size: usize) -> Option<bool> {
     let heap = LocalHeap::new(alloc, size).ok()?;
     let mut text = String::new(&heap);

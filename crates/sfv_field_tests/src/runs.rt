@@ -1,4 +1,4 @@
-//! Long runs of bytes of a class, which are tested block by block: where they end, and which bytes end them.
+//! Long runs of bytes of a class, tested block by block: where they end, and the bytes that end them.
 
 use sfv::visitor::Ignored;
 use sfv::{BareItemFromInput, GenericBareItem, Item, ParseError, Parser, StringFromInput};
@@ -32,8 +32,8 @@ fn fault_of(alloc: Global, input: &[u8]) -> Option<usize> {
     }
 }
 
-/// Kinds of runs: the text before the run, a wrong byte that ends it, the text after it, and the distance from that
-/// byte to the index of the error.
+/// Kinds of runs. Each has the text before the run, a wrong byte that ends it, and the text after it. The number is the
+/// distance from that byte to the index of the error.
 const RUNS: &[(&str, u8, &str, usize)] = &[
     ("\"", b'\\', "x\"", 1),
     ("%\"", b'%', "x\"", 1),
@@ -88,8 +88,8 @@ fn length_of_key(alloc: Global, input: &[u8]) -> Option<usize> {
     item.params.keys().next().map(|key| key.as_str().len())
 }
 
-/// Kinds of runs: the texts before and after the run, the length of the value if all 40 bytes are of its class, and the
-/// bytes of the class.
+/// Kinds of runs. Each has the texts before and after the run, and the bytes of the class. The number is the length of
+/// the value if all 40 bytes are of its class.
 const CLASSES: &[(&str, &str, usize, &str)] = &[
     (
         "\"",

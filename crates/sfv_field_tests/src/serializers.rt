@@ -147,8 +147,8 @@ fn put_named<W: Sink>(dict: &mut DictSerializer<W>, name: KeyRef<'_>, word: &str
     }
 }
 
-/// Returns `true` if the members of these words, each under the key before its `=`, are appended as this text,
-/// `has_member` says whether there is one, and `finish` returns the whole text if there is.
+/// Returns `true` if the members of these words, each under the key before its `=`, are appended as this text.
+/// Also, `has_member` must say whether there is one, and `finish` must return the whole text if there is.
 fn is_dictionary(alloc: Global, front: &str, words: &str, wanted: &str) -> bool {
     let Ok(mut text) = String::from_str(alloc, front) else {
         return false;

@@ -76,8 +76,8 @@ fn push_value<A: Allocator>(
     }
 }
 
-/// A visitor that writes each string and display string, and whether it is a slice of the input: a bare item after `=`,
-/// and the value of a parameter after `;`.
+/// A visitor that writes each string and display string, and whether it is a slice of the input. It writes a bare item
+/// after `=`, and the value of a parameter after `;`.
 #[derive(Drop)]
 struct Texts {
     text: String,

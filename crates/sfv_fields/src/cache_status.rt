@@ -1,5 +1,7 @@
 //! The Cache-Status field (RFC 9211): a list of the caches that handled a response. The last one is nearest to the
 //! user.
+//!
+//! `LastHit` is a `ListReader`. Its proofs need no file.
 
 ghost use Rattle.std.specs.Prelude.{◌≡◌, Some, IfOk, IfErr, option_map};
 ghost use Rattle.sfv_field.specs.Field.{list_field, ref_value, integer_of, IsParseError, ErrorNeedsMark};

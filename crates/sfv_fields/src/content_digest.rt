@@ -1,4 +1,8 @@
 //! The Content-Digest field: digests of a content, by hash algorithm (RFC 9530, section 2).
+//!
+//! The field is a dictionary with a byte sequence for each algorithm. The last member of an algorithm has its digest.
+//! The contracts of `read`, `write` and `reread` follow from the library's clauses by `proofs/Digests.antt`. `read`
+//! uses a `DictionaryReader`, and moves the bytes into the result.
 
 ghost use Rattle.std.specs.Prelude.{◌≡◌, ◌≢◌, ◌↔◌, None, IfOk, IfErr, IfSome, OnOk, OnErr};
 ghost use Rattle.std.specs.Prelude.{string_bytes};
@@ -98,7 +102,7 @@ fn dictionary_of(alloc: Global, digest: &ContentDigest) -> Result<Dictionary, Ou
 ///
 /// # Errors
 ///
-/// Returns `OutOfMemory` if memory runs out, which requires a digest.
+/// Returns `OutOfMemory` if memory runs out. Only a digest needs memory.
 pub fn write(alloc: Global, digest: &ContentDigest) -> Result<Option<String>, OutOfMemory>
     ensures text { IfOk result (IsSerialized dictionary_field (digest_members (digests_in digest.now))) }
     ensures read_back { IfOk result (λ text. IfSome text (λ text. HasDigests (string_bytes text) digest.now)) }
@@ -113,7 +117,7 @@ pub fn write(alloc: Global, digest: &ContentDigest) -> Result<Option<String>, Ou
 ///
 /// # Errors
 ///
-/// Returns `Field` with the kind `OutOfMemory` if memory runs out, which requires a digest. There is no other error.
+/// Returns `Field` with the kind `OutOfMemory` if memory runs out. Only a digest needs memory. There is no other error.
 pub fn reread(alloc: Global, digest: &ContentDigest) -> Result<Option<ContentDigest>, DigestError>
     ensures same { IfOk result (AreSameDigests digest.now) }
     ensures failed { IfErr result (λ error. error ≡ errors.Field out_of_memory) }

@@ -1,7 +1,11 @@
 //! The Priority field (RFC 9218): the urgency of a response, and whether it is processed incrementally.
 //!
-//! The field is a dictionary. The urgency is the member `u` if it is an Integer from 0 to 7, and otherwise 3. The
-//! member `i` is the flag if it is a Boolean, which is otherwise false. Parameters and other members are ignored.
+//! The field is a dictionary. The urgency is the member `u` if it is an Integer from 0 to 7, and otherwise 3. The flag
+//! is the member `i` if it is a Boolean, and otherwise false. Parameters and other members are ignored.
+//!
+//! `write_priority` reserves room for the whole text and then makes single calls. By the clause `room`, a call runs out
+//! of memory only if the text has no room for what it adds. By `text`, the capacity does not shrink. So no call fails
+//! after `reserve`, and the tactic proves it. By the lemma `read_back_either`, both versions parse the text back.
 
 ghost use Rattle.std.specs.Prelude.{◌≡◌, ◌≢◌, ◌≤◌, ◌↔◌, ◌++◌, [], false, length, codes, IfOk, OnOk, OnErr, IsTrue};
 ghost use Rattle.std.specs.Prelude.{option_copied, option_map};
@@ -147,7 +151,7 @@ fn text_len(priority: Priority) -> usize
 ///
 /// # Errors
 ///
-/// Returns `OutOfMemory` if memory runs out, which happens only if `text` has no room for the field. `text` is then
+/// Returns `OutOfMemory` if memory runs out. This happens only if `text` has no room for the field. `text` is then
 /// unchanged.
 pub fn write_priority(text: &mut String, priority: Priority) -> Result<bool, OutOfMemory>
     ensures text { AppendsOrKeeps text.old text.new (priority_text (value_of priority)) result }

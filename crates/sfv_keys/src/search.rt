@@ -18,10 +18,10 @@ fn key(number: u32) -> [u8; 6] {
     key
 }
 
-/// Returns the bits of a hash that decide where a map of this many keys begins its search.
+/// Returns the bits of a hash that determine the start of the search in a map of this many keys.
 ///
-/// They are the tag, which is the highest byte of 32 bits, and the first group, up to a stretch of 32 groups. The map
-/// has a group for nine keys. It searches group by group, past all earlier keys.
+/// They are the tag (the highest byte of 32 bits) and the first group, up to a stretch of 32 groups. The map has a
+/// group for nine keys. It searches group by group, past all earlier keys.
 fn place_mask(count: usize) -> u64 {
     let groups = (count as u64 / 9 + 1).next_power_of_two();
     0xff00_0000 | (groups - 1) & !31

@@ -56,7 +56,7 @@ pub enum Call {
     Items,
     /// Writes an item with its parameters, in a buffer with room for this text.
     Item(&'static str),
-    /// Writes a value after this text, in a buffer without more room, so that this text results.
+    /// Writes a value after the first text, in a buffer without more room. The result is the second text.
     Value(FieldKind, usize, &'static str, &'static str),
     /// Writes an inner list in a buffer without memory.
     FirstInnerList,

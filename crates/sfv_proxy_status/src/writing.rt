@@ -53,7 +53,7 @@ fn append_item(
 ///
 /// # Errors
 ///
-/// Returns `OutOfMemory` if memory runs out, which happens only if `text` has no room for the member. `text` is then
+/// Returns `OutOfMemory` if memory runs out. This happens only if `text` has no room for the member. `text` is then
 /// unchanged.
 #[tactic(auto, using(sfv_writer::proofs::Written::cut_to))]
 pub fn write_proxy(

@@ -1,5 +1,8 @@
 //! Structured fields from the bytes of a request's head (HTTP/1.1). `httparse` parses the head. The lines of a field
-//! are joined to one text (RFC 9110, section 5.2).
+//! are joined to one text (RFC 9110, sections 5.2 and 5.3).
+//!
+//! The clause `complete` of `httparse` relates the lines to its grammar (`ReadsRequest`). So the contracts here speak
+//! of the bytes of the head.
 #![tactic(auto)]
 
 pub mod fault;

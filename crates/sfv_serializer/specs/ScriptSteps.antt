@@ -26,11 +26,13 @@ pub data MemberSteps : Type 0 where
   written : RawMember → MemberSteps
   abandoned : List RawItem → MemberSteps
 
+-- the calls of a field of this type: of its item; of its members; or of its members with their keys
 abbrev pub StepsOf : FieldKind → Type 0
 StepsOf item_field = RawItem
 StepsOf list_field = List MemberSteps
 StepsOf dictionary_field = List (List ℕ × MemberSteps)
 
+-- the member that the calls write, or none if they abandon an inner list
 abbrev pub written_member : MemberSteps → Option RawMember
 written_member (written m) = Some m
 written_member (abandoned items) = None
@@ -41,6 +43,7 @@ described item_field i = i
 described list_field calls = filter_map written_member calls
 described dictionary_field calls = filter_map (λ c. option_map (λ m. (c.0, m)) (written_member c.1)) calls
 
+-- the member with all values of the calls; an abandoned inner list has no parameters
 abbrev pub supplied_member : MemberSteps → RawMember
 supplied_member (written m) = m
 supplied_member (abandoned items) = inner_list (record { items = items; parameters = [] })
@@ -75,34 +78,38 @@ list_calls members = map member_calls members
 abbrev pub dictionary_calls : List (KeyRef × MemberCalls) → StepsOf dictionary_field
 dictionary_calls members = map (λ m. (text_of m.0, member_calls m.1)) members
 
--- the field that the calls describe
+-- the list that the calls describe, repeated keys included
 abbrev pub list_described : List MemberCalls → RawField list_field
 list_described members = described list_field (list_calls members)
 
+-- the dictionary that the calls describe, repeated keys included
 abbrev pub dictionary_described : List (KeyRef × MemberCalls) → RawField dictionary_field
 dictionary_described members = described dictionary_field (dictionary_calls members)
 
--- the field of all values of the calls, abandoned inner lists included
+-- the list of all values of the calls, abandoned inner lists included
 abbrev pub supplied_list : List MemberCalls → RawField list_field
 supplied_list members = supplied list_field (list_calls members)
 
+-- the dictionary of all values of the calls, abandoned inner lists included
 abbrev pub supplied_dictionary : List (KeyRef × MemberCalls) → RawField dictionary_field
 supplied_dictionary members = supplied dictionary_field (dictionary_calls members)
 
--- the text that the calls of a member append; an abandoned inner list is not closed
+-- the text that the calls of a list member append; an abandoned inner list is not closed
 abbrev pub added_text : MemberSteps → List ℕ
 added_text (written m) = member_text m
 added_text (abandoned items) = codes "(" ++ joined (codes " ") (map item_text items)
 
+-- the text that the calls of a dictionary member append; an abandoned inner list is not closed
 abbrev pub added_text_of_pair : List ℕ × MemberSteps → List ℕ
 added_text_of_pair (key, written m) = dictionary_member_text (key, m)
 added_text_of_pair (key, abandoned items) = key ++ codes "=(" ++ joined (codes " ") (map item_text items)
 
--- the texts of the members before call number `n`, and the text that this call appends
+-- the texts of the list members before call number `n`, and the text that this call appends
 abbrev pub tried_list : List MemberCalls → ℕ → List (List ℕ)
 tried_list members n =
     map member_text (list_described (take n members)) ++ map added_text (list_calls (take 1 (drop n members)))
 
+-- the texts of the dictionary members before call number `n`, and the text that this call appends
 abbrev pub tried_dictionary : List (KeyRef × MemberCalls) → ℕ → List (List ℕ)
 tried_dictionary members n =
     map dictionary_member_text (dictionary_described (take n members))
@@ -112,10 +119,11 @@ tried_dictionary members n =
 abbrev pub LacksForTry : {Z : Type 0} → String Z → (ℕ → List (List ℕ)) → Type 0
 LacksForTry old tried = (n : ℕ) × LacksRoom old (joined (codes ", ") (tried n))
 
--- the text that the calls append, after other members or as the first of a list or a dictionary
+-- the text that the calls append, after other members or as the first members of a list
 abbrev pub list_text : Bool → StepsOf list_field → List ℕ
 list_text is_first calls = with_separators is_first (codes ", ") (map member_text (described list_field calls))
 
+-- the text that the calls append, after other members or as the first members of a dictionary
 abbrev pub dictionary_text : Bool → StepsOf dictionary_field → List ℕ
 dictionary_text is_first calls =
     with_separators is_first (codes ", ") (map dictionary_member_text (described dictionary_field calls))
@@ -127,11 +135,12 @@ module _ {W : Type 0} (w : Sink W) where
   WritesInner s t separator opening items parameters abandon = MatchBool abandon (KeepsSequence w s t)
       (HasAppendedNext w separator s t (ended_text opening items parameters) false)
 
-  -- the calls were performed: their text is appended
+  -- the calls of a list were performed: their text is appended
   abbrev pub WritesList : {K : Type 0} → SequenceSerializer W K → SequenceSerializer W K → StepsOf list_field → Type 0
   WritesList s t calls = HasAppended w s t (list_text s.is_first calls)
       (is_first_after s.is_first (described list_field calls))
 
+  -- the calls of a dictionary were performed: their text is appended
   abbrev pub WritesDictionary : {K : Type 0} → SequenceSerializer W K → SequenceSerializer W K → StepsOf dictionary_field → Type 0
   WritesDictionary s t calls = HasAppended w s t (dictionary_text s.is_first calls)
       (is_first_after s.is_first (described dictionary_field calls))

@@ -43,10 +43,11 @@ abbrev pub is_written : MemberCalls → Bool
 is_written (calls.InnerList items params abandon) = not abandon
 is_written c = true
 
--- the field that the calls describe, repeated keys included
+-- the list that the calls describe, repeated keys included, without the abandoned inner lists
 abbrev pub described_list : List MemberCalls → RawField list_field
 described_list members = map member_of_calls (filter is_written members)
 
+-- the dictionary that the calls describe, repeated keys included, without the abandoned inner lists
 abbrev pub described_dictionary : List (KeyRef × MemberCalls) → RawField dictionary_field
 described_dictionary members = map entry_of_calls (filter (λ m. is_written m.1) members)
 
@@ -57,9 +58,11 @@ LacksForCall old is_written text calls = (n : ℕ) × LacksRoom old (joined (cod
     (map text (filter is_written (take n calls))
     ++ map (λ c. if is_written c then text c else take (length (text c) - 1) (text c)) (take 1 (drop n calls))))
 
+-- the same for the calls of a list
 abbrev pub LacksForListCall : {Z : Type 0} → String Z → List MemberCalls → Type 0
 LacksForListCall old calls = LacksForCall old is_written (λ c. member_text (member_of_calls c)) calls
 
+-- the same for the calls of a dictionary
 abbrev pub LacksForEntryCall : {Z : Type 0} → String Z → List (KeyRef × MemberCalls) → Type 0
 LacksForEntryCall old calls =
     LacksForCall old (λ m. is_written m.1) (λ m. dictionary_member_text (entry_of_calls m)) calls

@@ -30,10 +30,11 @@ item_buffer s = s.buffer
 abbrev pub params_sink : {X : Type 0} → ParameterSerializer X → MutBor X
 params_sink s = s.sink
 
--- a serializer's version
+-- the version of an item's serializer
 abbrev pub item_version : ItemSerializer → Version
 item_version s = s.version
 
+-- the version of a parameter serializer
 abbrev pub params_version : {X : Type 0} → ParameterSerializer X → Version
 params_version s = s.version
 
@@ -67,10 +68,11 @@ param key value = codes ";" ++ keyed key value
 abbrev pub sequence_sink : {W K : Type 0} → SequenceSerializer W K → W
 sequence_sink s = s.sink
 
--- no part is written yet
+-- the serializer has written no part yet
 abbrev pub is_empty_so_far : {W K : Type 0} → SequenceSerializer W K → Bool
 is_empty_so_far s = s.is_first
 
+-- the version of a serializer of parts
 abbrev pub sequence_version : {W K : Type 0} → SequenceSerializer W K → Version
 sequence_version s = s.version
 

@@ -2,6 +2,6 @@
 use Rattle.std.specs.Prelude.{ℕ, codes, slice_index}
 use Prim.Native.String.{String}
 
--- the byte of a text of one character, as `b'*'` in Rust
+-- the byte of a text of one ASCII character, as `b'*'` in Rust
 abbrev pub byte : String → ℕ
 byte character = slice_index (codes character) 0

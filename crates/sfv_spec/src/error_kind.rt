@@ -1,4 +1,4 @@
-//! The kinds of what is wrong with an input.
+//! The kinds of errors.
 
 ghost use Rattle.std.specs.Prelude.{◌≡◌, Some};
 ghost use Rattle.sfv_spec.specs.Messages.{message_of};

@@ -1,4 +1,4 @@
-//! Tests of fields that a reader parses: the rows of a list, and a member of a dictionary.
+//! Tests of readers. They parse the rows of a list, and a member of a dictionary.
 
 use sfv::Version;
 use sfv_cdn_cache_control::max_age;

@@ -6,7 +6,7 @@ use Rattle.sfv_base.specs.declared.error.Error.{Error}
 use Rattle.sfv_spec.specs.declared.error_kind.ErrorKind.TheVariants.{Empty, InvalidCharacter}
 use Rattle.sfv_base.specs.Errors.{error_of}
 
--- the error is at the first byte outside its class
+-- the error is an invalid character at the first byte outside its class
 abbrev pub IsOutside : (ℕ → Bool) → (ℕ → Bool) → List ℕ → Error → Type 0
 IsOutside start inner t e = (i : ℕ) × (first_outside start inner t ≡ Some i) × (e ≡ error_of InvalidCharacter (Some i))
 

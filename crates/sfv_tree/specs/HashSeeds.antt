@@ -5,7 +5,7 @@ use Rattle.std.specs.Hash.FoldHasher as folding
 use Rattle.std.specs.List.{fold}
 use Rattle.sfv_tree.specs.declared.hash_seed.HashSeed.{HashSeed}
 
--- the library's seed, which is public
+-- the library's seed, a public constant
 abbrev pub library_seed : HashSeed
 library_seed = record { initial = folding.initial }
 

@@ -47,9 +47,10 @@ list_tree members = map member_tree members
 abbrev pub dictionary_tree : List (List ℕ × ListEntry) → List (List ℕ × RawMember)
 dictionary_tree entries = map (λ p. (p.0, member_tree p.1)) entries
 
--- the value that a look-up by key returned
+-- the value of the member that a look-up by key returned, if it found one
 abbrev pub found_member : Option (Bor ListEntry) → Option RawMember
 found_member found = option_map member_tree (option_copied found)
 
+-- the value of the parameter that a look-up by key returned, if it found one
 abbrev pub found_value : Option (Bor OwnedBareItem) → Option BareValue
 found_value found = option_map bare_value (option_copied found)

@@ -8,11 +8,11 @@ use std::hash::{BuildHasher, FoldHasher, Hasher};
 
 /// The seed of the hash maps in dictionaries and parameters.
 ///
-/// An attacker who knows the seed can choose colliding keys and make a map slow. A program that parses untrusted
-/// fields should choose one random seed at start, and keep it secret. `Default` is the library's seed, which is
-/// public.
+/// Against a known seed, an attacker can choose colliding keys and make a map slow. A program that parses untrusted
+/// fields should choose one random seed at start, and keep it secret. `Default` is the library's seed. It is public.
 ///
 /// The seed affects neither the order of the keys nor any text. Maps with different seeds compare as others.
+// With the seed, an attacker finds a colliding key in about 2^14 tries, and parsing then takes quadratic time.
 #[derive(Clone, Copy)]
 pub struct HashSeed {
     // The state of the hasher before a key: after the number, or initial for the library's seed.

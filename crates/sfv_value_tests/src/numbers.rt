@@ -76,7 +76,7 @@ fn constants_are_the_ends_of_the_ranges_and_zero(rt: HostRuntime) {
     assert!(rt; integers & decimals & dates);
 }
 
-/// Returns `true` if two values have this order, and are equal and have equal hashes if and only if the order is
+/// Returns `true` if two values have this order. They must be equal and have equal hashes if and only if the order is
 /// `Equal`.
 fn is_ordered<T: Ord + Hash>(a: &T, b: &T, order: Ordering) -> bool {
     let equal = order == Ordering::Equal;

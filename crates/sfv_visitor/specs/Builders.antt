@@ -20,20 +20,27 @@ use Rattle.sfv_visitor.specs.declared.visitor.member.Step.{Step}
 use Rattle.sfv_visitor.specs.declared.visitor.member.Step.TheVariants as steps
 use Rattle.sfv_visitor.specs.declared.visitor.dictionary_builder.DictionaryBuilder.{DictionaryBuilder}
 
--- the pairs after an insertion: an existing key keeps its place and gets the new value, and a new key goes last
+-- the item with one more parameter: an existing key keeps its place and gets the new value, and a new key goes last
 abbrev pub enters : RawItem → List ℕ → BareValue → RawItem
 enters i key value = record { bare = i.bare; parameters = insert_entry bytes_eq i.parameters key value }
 
--- The state within a member, with its parsed part: an item; or the items of an inner list so far and the current
--- item; or the whole inner list.
+-- the state within a member, with its parsed part
 pub data MemberState : Type 0 where
+  -- the member has begun; an item or an inner list follows
   begun : MemberState
+  -- an item has begun; its bare item follows
   item_head : MemberState
+  -- an item with its parameters so far
   item_parameters : RawItem → MemberState
+  -- an inner list with the items so far; an item or the end of the items follows
   inner_items : RawInnerList → MemberState
+  -- an inner list with the items so far, and one more item has begun; its bare item follows
   inner_head : RawInnerList → MemberState
+  -- an inner list with the items so far, and the current item with its parameters so far
   inner_parameters : RawInnerList → RawItem → MemberState
+  -- an inner list with all its items, and its parameters so far
   list_parameters : RawInnerList → MemberState
+  -- the whole member
   ended : RawMember → MemberState
 
 -- an item without parameters
@@ -122,8 +129,8 @@ AddsUnder adds members has s after = (seed : HashSeed) → adds seed s
 abbrev pub complete : {A B : Type 0} → A × B → A
 complete s = s.0
 
--- The state of a list's builder is the complete members, and the current member, if there is one. A member that has ended
--- is appended to the list.
+-- The state of a list's builder is the complete members, and the current member, if there is one. A member that has
+-- ended is appended to the list.
 abbrev pub settle : List RawMember → MemberState → List RawMember × Option MemberState
 settle ms (ended m) = (ms ++ m ∷ [], None)
 settle ms p = (ms, Some p)

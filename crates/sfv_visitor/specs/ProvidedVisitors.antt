@@ -28,10 +28,11 @@ ReadBareItem = GenericBareItem StringFromInput (Vec ℕ Global) TokenRef (CowStr
 abbrev pub OnRead : {S X : Type 0} → (S → Event → X → Type 0) → S → TreeEvent → X → Type 0
 OnRead R s e x = (read : Event) × (event_of read ≡ e) × R s read x
 
--- `ParameterVisitorWith`: the inner visitor, and the function to call after the last event
+-- `ParameterVisitorWith`: the inner visitor
 abbrev pub visitor_within : {V F A : Type 0} → ParameterVisitorWith V F A → V
 visitor_within s = s.visitor
 
+-- `ParameterVisitorWith`: the function to call after the last event
 abbrev pub function_after : {V F A : Type 0} → ParameterVisitorWith V F A → F
 function_after s = s.f
 
@@ -45,10 +46,11 @@ abbrev pub GivesAfter : {V F A R : Type 0} → (V → A → Type 0) → (F → A
     → Type 0
 GivesAfter {A = A} finishes gives s r = (out : A) × finishes (visitor_within s) out × gives (function_after s) out r
 
--- `ItemVisitorWith`: the function that waits for a bare item, and its result
+-- `ItemVisitorWith`: the function that waits for a bare item, until it is called
 abbrev pub function_waiting : {F T M : Type 0} → ItemVisitorWith F T M → Option F
 function_waiting s = s.f
 
+-- `ItemVisitorWith`: the result of the function, after it was called
 abbrev pub answer_kept : {F T M : Type 0} → ItemVisitorWith F T M → Option T
 answer_kept s = s.kept
 

@@ -75,11 +75,13 @@ LacksAmong {S} {A} steps from values version old text error = error ≡ errors.O
     → (taken : List A) × (rest : S) × Yields steps from taken rest × AllFit version (values taken)
     × LacksRoom old (text taken)
 
--- A kind of parts that calls take from an iterator: for each part, its text, the values that the version must have, and
--- whether it is in its range or class.
+-- a kind of parts that calls take from an iterator
 pub record PartKind (A : Type 0) : Type 1 where
+  -- the text of a part
   pub text : A → List ℕ
+  -- the bare values of a part, which the version must have
   pub values : A → List BareValue
+  -- the part is in its range or class; an item or a member also has no repeated keys
   pub is_valid : A → Type 0
 
 -- parts whose value `view` shows
@@ -87,17 +89,20 @@ abbrev pub parts_by : {A R : Type 0} → (A → R) → (R → List ℕ) → (R �
 parts_by view text values is_valid =
     record { text = λ a. text (view a); values = λ a. values (view a); is_valid = λ a. is_valid (view a) }
 
--- the items of an inner list; the members of a list; the members of a dictionary; parameters
+-- the items of an inner list
 abbrev pub inner_items : PartKind (Bor Item)
 inner_items = parts_by (λ i. item_tree i.now) item_text item_values (λ i. IsItem i × (ordered_item i ≡ i))
 
+-- the members of a list
 abbrev pub list_members : PartKind (Bor ListEntry)
 list_members = parts_by (λ m. member_tree m.now) member_text member_values (λ m. IsMember m × (ordered_member m ≡ m))
 
+-- the members of a dictionary, with their keys
 abbrev pub dictionary_members : PartKind (Bor (List ℕ) × Bor ListEntry)
 dictionary_members = parts_by (λ m. (m.0.now, member_tree m.1.now)) dictionary_member_text (λ m. member_values m.1)
     (λ m. (IsTrue (is_key m.0) × IsMember m.1) × (ordered_member m.1 ≡ m.1))
 
+-- parameters, with their keys
 abbrev pub parameter_pairs : PartKind (Bor (List ℕ) × Bor OwnedBareItem)
 parameter_pairs = parts_by {R = List ℕ × BareValue} (λ p. (p.0.now, bare_value p.1.now))
     (λ p. codes ";" ++ p.0 ++ value_text p.1) (λ p. p.1 ∷ []) (λ p. IsTrue (is_key p.0) × IsBareValue p.1)

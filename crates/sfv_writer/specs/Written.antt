@@ -27,22 +27,23 @@ abbrev pub AppendsOrKeeps : {Z T E : Type 0} → String Z → String Z → List 
 AppendsOrKeeps old new text result =
     MatchResult result (λ _. string_bytes new ≡ string_bytes old ++ text) (λ _. string_bytes new ≡ string_bytes old)
 
--- The buffer's capacity is too small for its text and the appended text.
+-- the buffer's capacity is too small for its text and the appended text
 abbrev pub LacksRoom : {Z : Type 0} → String Z → List ℕ → Type 0
 LacksRoom old text = string_capacity old < string_len old + length text
 
--- The capacity doesn't shrink, and an error comes only where the old capacity doesn't hold the added text.
+-- The capacity does not shrink, and an error comes only if the old capacity is too small for the added text.
 abbrev pub AsksForRoom : {Z T E : Type 0} → String Z → String Z → List ℕ → Result T E → Type 0
 AsksForRoom old new text result = (string_capacity old ≤ string_capacity new) × OnErr result (LacksRoom old text)
 
--- the text of a key with its value; the text of a parameter
+-- the text of a key with its value (sections 4.1.1.2 and 4.1.2)
 abbrev pub keyed_text : List ℕ → BareValue → List ℕ
 keyed_text key value = key ++ value_text value
 
+-- the text of a parameter (section 4.1.1.2)
 abbrev pub param_text : List ℕ → BareValue → List ℕ
 param_text key value = codes ";" ++ keyed_text key value
 
--- the serialization of a list or a dictionary under RFC 9651: nothing if it has no member
+-- the serialization of a field under RFC 9651: nothing if it has no member (section 4.1)
 abbrev pub IsSerialized : (kind : FieldKind) → RawField kind → Option (String Global) → Type 0
 IsSerialized kind value text = IsSerializedAs Rfc9651 kind value (option_map string_bytes text)
 

@@ -1,6 +1,6 @@
 //! The first capacity of a text: enough for most short texts, so they need one request for memory.
 //!
-//! A refused request is no error, because the text may need fewer bytes. Its capacity is then 0.
+//! A failed request is no error, because the text may need fewer bytes. Its capacity is then 0.
 
 ghost use Rattle.std.specs.Prelude.{◌≡◌, ◌<◌, ◌≤◌, ◌+◌, ◌*◌, ◌⊎◌, min, [], string_bytes, string_capacity};
 
@@ -19,7 +19,12 @@ fn text_with_capacity(capacity: usize, alloc: Global) -> StdString
     }
 }
 
-/// Creates an empty text for an item with this number of parameters, of which it counts at most 1,000.
+/// Creates an empty text for an item with this number of parameters. It counts at most 1,000 parameters.
+// 32 here and 64 below are the smallest multiples of 32 that suffice for at least 95 of 100 texts. The texts are the
+// different canonical texts of the inputs of `sfv_replay`: 160 items, 79 lists and 74 dictionaries. The capacity
+// suffices for 158, 76 and 71 of them. With 4 bytes for each part it suffices for 75 lists and 69 dictionaries. With 16
+// or 24 it suffices for no more items. An item with n parameters has at least 2n + 1 bytes, and n members have at least
+// 3n - 2. So the capacity is at most 4 times the length plus 28 for an item, and 3 times the length plus 70 otherwise.
 pub(crate) fn text_for_item(params: usize, alloc: Global) -> StdString
     ensures bytes { string_bytes result ≡ [] }
     ensures capacity { (string_capacity result ≡ 0) ⊎ (string_capacity result ≡ 32 + 8 * min params 1000) }
@@ -27,7 +32,7 @@ pub(crate) fn text_for_item(params: usize, alloc: Global) -> StdString
     text_with_capacity(32 + 8 * params.min(1000), alloc)
 }
 
-/// Creates an empty text for a list or a dictionary with this number of members, of which it counts at most 1,000.
+/// Creates an empty text for a list or a dictionary with this number of members. It counts at most 1,000 members.
 pub(crate) fn text_for_members(members: usize, alloc: Global) -> StdString
     ensures bytes { string_bytes result ≡ [] }
     ensures capacity { (string_capacity result ≡ 0) ⊎ (string_capacity result ≡ 64 + 8 * min members 1000) }
@@ -36,6 +41,8 @@ pub(crate) fn text_for_members(members: usize, alloc: Global) -> StdString
 }
 
 /// Requests memory for 128 bytes.
+// A serializer does not know how many parts follow. 128 bytes suffice for all 160 items, all 79 lists, and 73 of the 74
+// dictionaries.
 #[cold]
 #[inline(never)]
 fn request_first_memory<A: Allocator>(output: &mut StdString<A>)

@@ -17,16 +17,19 @@ use Rattle.sfv.specs.Memory.{may_need_memory, IsRefusal}
 abbrev pub kept : Cursor → Parser × Global
 kept c = (c.parser, c.alloc)
 
--- the input of a parser, and its version
+-- the input of a parser
 abbrev pub kept_input : Parser × Global → List ℕ
 kept_input k = k.0.input.now
 
+-- the version of a parser
 abbrev pub kept_version : Parser × Global → Version
 kept_version k = k.0.version
 
+-- the whole input of a cursor
 abbrev pub input : Cursor → List ℕ
 input c = kept_input (kept c)
 
+-- the version of a cursor
 abbrev pub version : Cursor → Version
 version c = kept_version (kept c)
 

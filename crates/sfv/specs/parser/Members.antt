@@ -33,6 +33,7 @@ abbrev pub member_parts : (keyed : Bool) → MemberValue keyed → List TreeEven
 member_parts true = keyed_events
 member_parts false = entry_events
 
+-- the reader of one member: with its key for a dictionary (`true`), without for a list (`false`)
 abbrev pub one_member_at : (keyed : Bool) → Version → Reader (MemberValue keyed)
 one_member_at true = keyed_at
 one_member_at false = entry_at

@@ -38,19 +38,22 @@ end_error_of true false = UnterminatedDisplayString
 end_error_of false true = InvalidStringCharacter
 end_error_of false false = UnterminatedString
 
--- the readers of the bytes up to the closing quote: outside an escape, and after the byte that opens one
+-- the reader of the bytes up to the closing quote, outside an escape
 abbrev pub inside : Bool → Reader (List ℕ)
 inside true = pieces_from outside
 inside false = string_from false
 
+-- the reader of the bytes up to the closing quote, after the byte that opens an escape
 abbrev pub after_mark : Bool → Reader (List ℕ)
 after_mark true = pieces_from percent
 after_mark false = string_from true
 
+-- the bytes of a parsed string or display string
 abbrev pub quoted_bytes : QuotedBytes → List ℕ
 quoted_bytes (quoted.Plain s) = s.now
 quoted_bytes (quoted.Unescaped v) = v.items
 
+-- the parsed bytes are borrowed from the input, because they contain no escape
 abbrev pub is_plain : QuotedBytes → Bool
 is_plain (quoted.Plain s) = true
 is_plain (quoted.Unescaped v) = false

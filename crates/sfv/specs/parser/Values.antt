@@ -24,10 +24,12 @@ pub record Spells (ds : List ℕ) (d : Digits) : Type 0 where
   pub value : place_value ds ≡ d.value
   pub below : d.value < 10 ^ d.count
 
+-- the value of a parsed number
 abbrev pub number_value_of : Number → BareValue
 number_value_of (number.Integer z) = integer (integer_of z)
 number_value_of (number.Decimal z) = decimal (thousandths_of z)
 
+-- the bytes of a vector
 abbrev pub vec_bytes : Vec ℕ Global → List ℕ
 vec_bytes v = v.items
 

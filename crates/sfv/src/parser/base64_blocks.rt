@@ -1,4 +1,4 @@
-//! Decodes 16 Base64 symbols at once, by vectors. The method is that of Wojciech Muła.
+//! Decodes 16 Base64 symbols at once, by vectors. The method is by Wojciech Muła.
 
 ghost use Rattle.std.specs.Prelude.{◌≡◌, map, nat_lt, take};
 ghost use Rattle.sfv_spec.specs.Texts.{RunOf};

@@ -107,6 +107,7 @@ impl Cursor<'_> {
         if count % 4 == 1 {
             return Err(Error::at(ErrorKind::InvalidByteSequence, self.index + end - 1));
         }
+        // The symbols are checked before memory is allocated. `base64` would test each again.
         let bytes = decode_symbols(self.alloc, &content[..count])?;
         self.index += end + 1;
         Ok(bytes)

@@ -13,6 +13,9 @@ use crate::parser::cursor::Cursor;
 use sfv_base::error::{Error, ErrorKind};
 use std::alloc::Global;
 
+// The test costs an accepted item about 20 instructions, and an accepted list or dictionary about 50. Without it, a
+// rejected list takes 286 instructions, and a rejected dictionary 235.
+
 impl Cursor<'_> {
     /// Fails if the next byte begins no bare item.
     #[inline(always)]

@@ -366,8 +366,10 @@ impl<'de> Cursor<'de> {
         ensures seed { OnOk result (ListHasSeed self.old.parser.seed list.old.items
             → ListHasSeed self.old.parser.seed list.new.items) }
     {
+        // A member without parameters is not written in place at once: a list of booleans would take 1.12 of the time.
         let mut params = Parameters::with_hasher(self.alloc, self.parser.seed);
         if self.take_if(b'(') {
+            // This branch is not a separate function: lists of empty inner lists would take 1.09 of the time.
             let items = self.tree_inner_list(&mut params, list.len())?;
             make_room(list)?;
             list.push_reserved(ListEntry::InnerList(InnerList::with_params(items, params)));
@@ -380,6 +382,7 @@ impl<'de> Cursor<'de> {
     }
 
     /// Parses a member of a dictionary, and inserts it into `dictionary`.
+    // Inlined: as a call it takes 100 more instructions.
     #[inline(always)]
     fn insert_member(&mut self, dictionary: &mut Dictionary) -> Result<(), ParseError<OutOfMemory>>
         ensures tree { Builds (λ _. dictionary_tree dictionary.new.entries)
