@@ -63,7 +63,7 @@ pub use Rattle.sfv_tree.proofs.Entered.{dictionary_tree-insert, pairs_tree-inser
 -- whatever type owns the texts.
 pub use Rattle.sfv_bare.proofs.Parts.{decimal_part, integer_part, boolean_part, date_part, display_string_part}
 -- an iterator over all parameters of a map writes the text of these parameters
-pub use Rattle.sfv_writer.proofs.Lacks.{parameters_all}
+pub use Rattle.sfv_writer.proofs.RoomOfIterators.{parameters_all}
 -- A field without repeated keys (`IsOrdered`) is its own ordered value, and a field that is its own ordered value has
 -- none. `ordered_again`: the ordered value is its own.
 pub use Rattle.sfv_spec.proofs.Repeats.{IsOrdered}
@@ -74,7 +74,7 @@ pub use Rattle.sfv_tree.proofs.Distinct.{entered_member, entered_value}
 -- has its values. `serialized_is_value`: a serialized value is in its range and class, and its version has it.
 pub use Rattle.sfv_writer.proofs.ReadBack.{read_back, value_read_back, serialized_is_value}
 -- the first value that a version lacks, with more values after it, or values that the version has before it
-pub use Rattle.sfv_writer.proofs.Looks.{names_front, names_after}
+pub use Rattle.sfv_writer.proofs.Checks.{names_front, names_after}
 -- RFC 9651 has every value
 pub use Rattle.sfv_spec.proofs.Fields.{all_fit_newer}
 -- a value that RFC 8941 has, written canonically, parses back under both versions
@@ -90,7 +90,7 @@ pub use Rattle.sfv_serializer.proofs.Steps.{more_after}
 -- a part means no room for the whole (`room_before`).
 pub use Rattle.sfv_writer.proofs.Room.{len_of, room_after, room_before}
 -- no room for some elements of an iterator means no room for all: for parameters of a map, and in general
-pub use Rattle.sfv_writer.proofs.Lacks.{parameters_lack, front_lacks}
+pub use Rattle.sfv_writer.proofs.RoomOfIterators.{parameters_lack, front_lacks}
 -- the elements that an iterator over a map or a slice has returned are the first ones
 pub use Rattle.sfv_writer.proofs.Lent.{pairs_front, members_front, entries_front}
 -- under RFC 9651, a call with an iterator fails only if memory runs out
@@ -124,7 +124,7 @@ pub use Rattle.sfv.proofs.Fields.{last_set, idle_by, list_read, member_looked, a
 -- visitor are stated in these.
 pub use Rattle.sfv.proofs.Relations.{Answers, FailsIn, HasSyntax, HasVisitorError, HasFirst, HasBorrowed, HasEventsRead}
 -- the bare item of an accepted item is borrowed unless its text has an escape
-pub use Rattle.sfv.proofs.visits.Lent.{first_as_read}
+pub use Rattle.sfv.proofs.visits.BorrowedBareItem.{first_as_read}
 -- A relation holds for some visitor of the type. Every text is accepted or not (`accepted_or_not`). A visitor's error
 -- on an item is one on some item (`item_failed`). It comes at some event, or at the end (`fails_somewhere`).
 pub use Rattle.sfv.proofs.Relations.{WithSomeVisitor, accepted_or_not, item_failed, fails_somewhere}

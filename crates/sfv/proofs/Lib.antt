@@ -9,6 +9,6 @@ pub mod Expected
 pub mod LastRead
 pub mod Fields
 pub mod Lines
-mod Beginnings
+mod FirstByteFaults
 mod Emptiness
 pub mod Callers

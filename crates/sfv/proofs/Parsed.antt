@@ -18,7 +18,7 @@ use Rattle.sfv_base.specs.Errors.{error_of, out_of_memory}
 use Rattle.sfv_reading.specs.Reader.{Fault}
 use Rattle.sfv_reading.specs.Fields.{read_field}
 use Rattle.sfv_reading.proofs.Theorems.{read_is_accepted}
-use Rattle.sfv_reading.proofs.Faults.{fault_is_at, fault_rejects}
+use Rattle.sfv_reading.proofs.FaultTable.{fault_is_at, fault_rejects}
 use Rattle.sfv.specs.parser.Cursor.{located_whole}
 use Rattle.sfv.specs.Parsers.{IsParseError}
 use Rattle.sfv.specs.Memory.{IsRefusal}

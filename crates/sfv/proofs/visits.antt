@@ -9,6 +9,6 @@ pub mod Begun
 pub mod Fields
 pub mod First
 pub mod Whole
-pub mod Lent
+pub mod BorrowedBareItem
 pub mod Passed
 pub mod AsRead

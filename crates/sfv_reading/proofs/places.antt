@@ -1,7 +1,7 @@
 -- Where in a field bare items and keys are read.
 pub mod Calls
-pub mod Walks
-pub mod Readers
-pub mod Wanted
-pub mod Read
+pub mod FaultsOfCalls
+pub mod CallsOfReaders
+pub mod CalledIsWanted
+pub mod WantedIsCalled
 pub mod OneWanted

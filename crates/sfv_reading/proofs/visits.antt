@@ -1,8 +1,8 @@
 -- What a visitor is given.
 pub mod Parts
 pub mod Fields
-pub mod Early
-pub mod Told
-pub mod Leaf
-pub mod Reached
-pub mod Before
+pub mod EventsBeforeRuleAlike
+pub mod EventsBeforeRule
+pub mod BareFaultOffReach
+pub mod EventsBeforeReach
+pub mod EventsBeforeComma

@@ -16,7 +16,7 @@ use Rattle.sfv_spec.specs.Values.{item_values, member_values}
 use Rattle.sfv_spec.proofs.Marks.{parameter_values}
 use Rattle.sfv_spec.proofs.Fields.{fit_append}
 use Rattle.sfv_writer.specs.declared.serialize_error.SerializeError.{SerializeError}
-use Rattle.sfv_writer.proofs.Looks.{names_front, looks_after, not_of_none, singles}
+use Rattle.sfv_writer.proofs.Checks.{names_front, looks_after, not_of_none, singles}
 use Rattle.sfv_serializer.specs.declared.script.ParamCall.{ParamCall}
 use Rattle.sfv_serializer.specs.declared.script.ItemCalls.{ItemCalls}
 use Rattle.sfv_serializer.specs.declared.script.MemberCalls.{MemberCalls}

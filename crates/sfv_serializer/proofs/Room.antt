@@ -18,10 +18,10 @@ use Rattle.sfv_writer.specs.Written.{LacksRoom, separator_before, with_separator
 use Rattle.sfv_writer.specs.Versions.{NamesFirstUnfit, IsSerializeError}
 use Rattle.sfv_writer.specs.declared.serialize_error.SerializeError.{SerializeError}
 use Rattle.sfv_writer.specs.declared.serialize_error.SerializeError.TheVariants as errors
-use Rattle.sfv_writer.proofs.Lacks.{row_len}
-use Rattle.sfv_writer.proofs.Looks.{split_at}
+use Rattle.sfv_writer.proofs.RoomOfIterators.{row_len}
+use Rattle.sfv_writer.proofs.Checks.{split_at}
 use Rattle.sfv_writer.proofs.Room.{len_of, room_after, room_before}
-use Rattle.sfv_writer.proofs.Rows.{IsLed, in_a_row_first}
+use Rattle.sfv_writer.proofs.Separated.{IsLed, in_a_row_first}
 use Rattle.sfv_serializer.specs.declared.script.ParamCall.{ParamCall}
 use Rattle.sfv_serializer.specs.declared.script.ItemCalls.{ItemCalls}
 use Rattle.sfv_serializer.specs.Scripts.{param_of_call, item_of_calls}

@@ -14,7 +14,7 @@ use Rattle.sfv_spec.specs.Canonical.{item_text, parameters_text, dictionary_memb
 use Rattle.sfv_bare.specs.BareItems.{ref_value}
 use Rattle.sfv_spec.specs.declared.version.Version.{Version}
 use Rattle.sfv_writer.specs.Written.{Extends, separator_before, with_separators, is_first_after}
-use Rattle.sfv_writer.proofs.Rows.{IsLed, mapped_more, is_first_after-false, in_a_row_first}
+use Rattle.sfv_writer.proofs.Separated.{IsLed, mapped_more, is_first_after-false, in_a_row_first}
 use Rattle.sfv_serializer.specs.declared.script.ItemCalls.{ItemCalls}
 use Rattle.sfv_serializer.specs.declared.script.ParamCall.{ParamCall}
 use Rattle.sfv_serializer.specs.declared.script.MemberCalls.{MemberCalls}

@@ -10,7 +10,7 @@ use Rattle.sfv_text.specs.CheckedTexts.{text_of as key_text}
 use Rattle.sfv_bare.specs.BareItems.{ref_value}
 use Rattle.sfv_writer.specs.Written.{param_text}
 use Rattle.sfv_writer.proofs.Parameters.{parameters_push, valid_push}
-use Rattle.sfv_writer.proofs.Rows.{mapped_more}
+use Rattle.sfv_writer.proofs.Separated.{mapped_more}
 use Rattle.sfv_serializer.specs.declared.script.ParamCall.{ParamCall}
 use Rattle.sfv_serializer.specs.Scripts.{param_of_call}
 use Rattle.sfv_serializer.specs.declared.sequence.SequenceSerializer.{SequenceSerializer}

@@ -286,7 +286,7 @@ fn write_list_members<W: Sink>(
 }
 
 /// Performs the calls of a list, and returns `true` if it has a member.
-#[tactic(auto, using(sfv_writer::proofs::Rows::in_a_row_first))]
+#[tactic(auto, using(sfv_writer::proofs::Separated::in_a_row_first))]
 fn write_list(text: &mut StdString, calls: &[MemberCalls<'_>]) -> Result<bool, OutOfMemory>
     ensures text { Appends text.old text.new (canonical list_field (list_described calls.now)) result }
     ensures room { OnErr result (LacksForTry text.old (tried_list calls.now)) }
@@ -321,7 +321,7 @@ fn write_dictionary_members<W: Sink>(
 }
 
 /// Performs the calls of a dictionary, and returns `true` if it has a member.
-#[tactic(auto, using(sfv_writer::proofs::Rows::in_a_row_first))]
+#[tactic(auto, using(sfv_writer::proofs::Separated::in_a_row_first))]
 fn write_dictionary(
     text: &mut StdString,
     calls: &[(KeyRef<'_>, MemberCalls<'_>)],

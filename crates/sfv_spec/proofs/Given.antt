@@ -61,13 +61,6 @@ found_after version (v ∷ vs) cs b f e =
     ap (λ (x : Bool). cond (not x) (Some v) (find (λ v. not (fits_bare version v)) (vs ++ cs))) f.0
     ∙ found_after version vs cs b f.1 e
 
--- where one doesn't fit, not all do
-pub unfit_not_fit : (version : Version) (values : List BareValue) (b : BareValue) → find (λ v. not (fits_bare version v)) values ≡ Some b
-    → ¬ AllFit version values
-unfit_not_fit version values b h fit =
-    let r = found_unfit version values b h in
-    let whole = fit_split version r.0 (b ∷ r.1) (subst (AllFit version) r.2 fit) in true≢false (sym whole.1.0 ∙ r.4)
-
 -- RFC 9651 has all of them
 pub newer_has_all : (values : List BareValue) (b : BareValue)
     → find (λ v. not (fits_bare Rfc9651 v)) values ≡ Some b → ⊥

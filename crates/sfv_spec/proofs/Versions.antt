@@ -14,10 +14,6 @@ use Rattle.sfv_spec.specs.Grammar.{IsItemText, AreInnerItemsText, IsMemberText, 
 use Rattle.sfv_spec.specs.Grammar.{IsDictionaryMemberText, AreMembersText}
 use Rattle.sfv_spec.specs.Statements.{NewerAccepts, OneReach}
 
--- one language within another
-pub Within : {A : Type 0} → (P Q : A → List ℕ → Type 0) → Type 0
-Within {A} P Q = (x : A) (t : List ℕ) → P x t → Q x t
-
 concatenation_within : {P Q P' Q' : List ℕ → Type 0} → ((t : List ℕ) → P t → P' t) → ((t : List ℕ) → Q t → Q' t)
     → (t : List ℕ) → (P ⨾ Q) t → (P' ⨾ Q') t
 concatenation_within f g t h = record {

@@ -13,7 +13,7 @@ use Rattle.sfv_spec.specs.declared.version.Version.{Version}
 use Rattle.sfv_spec.specs.declared.version.Version.TheVariants.{Rfc9651}
 use Rattle.sfv_bare.specs.BareItems.{bare_value}
 use Rattle.sfv_tree.specs.Trees.{OwnedBareItem}
-use Rattle.sfv_writer.proofs.Looks.{newer_fails, singles}
+use Rattle.sfv_writer.proofs.Checks.{newer_fails, singles}
 use Rattle.sfv_writer.specs.Pairs.{lent_pairs, pair_values}
 use Rattle.sfv_writer.specs.Versions.{PartKind, parts_text, StopsEarly, FailsAmong, LacksAmong, IsSerializeError}
 use Rattle.sfv_writer.specs.Versions.{AppendsParameters, parameter_pairs}

@@ -1,5 +1,5 @@
 pub mod Room
-pub mod Lacks
+pub mod RoomOfIterators
 pub mod Appended
 pub mod Parameters
 pub mod Encoded
@@ -7,9 +7,9 @@ pub mod Blocks
 pub mod ReadBack
 pub mod Decimals
 pub mod Written
-pub mod Looks
+pub mod Checks
 pub mod Lent
-pub mod Rows
-pub mod Drained
+pub mod Separated
+pub mod AllTaken
 pub mod Elements
 pub mod Words

@@ -65,7 +65,7 @@ pub fn dictionary_text(
 ///
 /// Returns `SerializeError::Unsupported` with the kind of the first value that `version` lacks. Returns `OutOfMemory`
 /// if memory runs out, which happens only if `text` lacks the capacity for the whole dictionary.
-#[tactic(auto, using(crate::proofs::Written::cut_to, crate::proofs::Looks::look_fails, crate::proofs::Looks::memory_fails))]
+#[tactic(auto, using(crate::proofs::Written::cut_to, crate::proofs::Checks::look_fails, crate::proofs::Checks::memory_fails))]
 pub fn append_dictionary<A: Allocator>(
     version: Version,
     dictionary: &Dictionary,

@@ -59,7 +59,7 @@ pub fn list_text(list: &List, alloc: Global) -> Result<Option<StdString>, OutOfM
 ///
 /// Returns `SerializeError::Unsupported` with the kind of the first value that `version` lacks. Returns `OutOfMemory`
 /// if memory runs out, which happens only if `text` lacks the capacity for the whole list.
-#[tactic(auto, using(crate::proofs::Written::cut_to, crate::proofs::Looks::look_fails, crate::proofs::Looks::memory_fails))]
+#[tactic(auto, using(crate::proofs::Written::cut_to, crate::proofs::Checks::look_fails, crate::proofs::Checks::memory_fails))]
 pub fn append_list<A: Allocator>(
     version: Version,
     list: &List,

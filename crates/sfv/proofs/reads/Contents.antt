@@ -17,7 +17,7 @@ use Rattle.sfv_reading.specs.Content.{most_padding, valid_from, fault_place, Has
 use Rattle.sfv_reading.proofs.base64.Shape.{Shape, is_equals, shape_valid, valid_local}
 use Rattle.sfv_reading.proofs.base64.Contents.{well_formed, gives_the_bytes, rejected_at, lone_symbol}
 use Rattle.sfv_reading.proofs.sound.ByteSequences.{symbols_apart, padding_apart, both_apart, no_colon}
-use Rattle.sfv_reading.proofs.rules.ByteSequences.{gives_value, gives_fault, gives_unclosed}
+use Rattle.sfv_reading.proofs.faults.ByteSequences.{gives_value, gives_fault, gives_unclosed}
 use Rattle.sfv_reading.specs.Content.{IsContentAt, IsBytesAt, IsInvalidAt}
 use Rattle.sfv.specs.parser.Cursor.{located}
 use Rattle.sfv.specs.parser.Base64.{IsSymbolRun, IsPaddingRun}

@@ -85,14 +85,3 @@ ErrorOf-part i j e f g t a same eq h = rw eq (on e.index
         ≡ Err (e.kind, drop index (kept_input j))) × (index ≤ length (kept_input j)))
     on None h = h
     on (Some n) h = (fault_bind (f (kept_version j)) g t _ _ h.0, h.1)
-
--- the whole is told as that part
-pub ErrorOf-located : {A : Type 0} (i : List ℕ) (e : Error) (a b : Answer A) → located a ≡ located b → IsErrorOf i e b
-    → IsErrorOf i e a
-ErrorOf-located i e a b eq = on e.index
-  where
-    on : (o : Option ℕ) → MatchOption o (IsRefusal i e) (λ index. (located b ≡ Err (e.kind, drop index i))
-        × (index ≤ length i)) → MatchOption o (IsRefusal i e) (λ index. (located a ≡ Err (e.kind, drop index i))
-        × (index ≤ length i))
-    on None h = h
-    on (Some n) h = (eq ∙ h.0, h.1)

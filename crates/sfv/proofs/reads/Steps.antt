@@ -442,17 +442,6 @@ pub item_is : (version : Version) (t : List ℕ) → item_at version t ≡ (bare
 unfolding item_at item_after
 item_is version t = refl
 
-located_led : {A : Type 0} (es : List TreeEvent) (a : Answer A) → located (led_answer es a) ≡ located a
-located_led es (Ok x) = refl
-located_led es (Err f) = refl
-
-pub item_located : (version : Version) (t r : List ℕ) (bare : BareValue) → bare_at version t ≡ Ok (bare, r)
-    → located (item_at version t) ≡ located ((parameters_at version >>= λ ps. give (item_of bare ps)) r)
-unfolding item_after led
-item_located version t r bare e = ap located (item_is version t
-    ∙ bind_complete (bare_at version) (item_after version) t r bare e)
-    ∙ located_led (bare_item bare ∷ []) ((parameters_at version >>= λ ps. give (item_of bare ps)) r)
-
 pub item_some : (version : Version) (t r q : List ℕ) (bare : BareValue) (ps : RawParameters)
     → bare_at version t ≡ Ok (bare, r) → parameters_at version r ≡ Ok (ps, q)
     → item_at version t ≡ Ok (item_of bare ps, q)

@@ -36,9 +36,6 @@ quote_next = next_needs (byte double_quote) (one_needs double_quote refl)
 pub percent_next : (c : Cursor) → NextIs (byte percent_sign) true (rest c) → MayNeedMemory item_field (input c)
 percent_next = next_needs (byte percent_sign) (one_needs percent_sign refl)
 
-pub semicolon_next : (c : Cursor) → NextIs (byte semicolon) true (rest c) → MayNeedMemory item_field (input c)
-semicolon_next = next_needs (byte semicolon) (one_needs semicolon refl)
-
 token_first : (t : List ℕ) (x : BareValue × List ℕ) → token_at t ≡ Ok x → NextIs is_token_start true t
 unfolding token_at branch fail
 token_first [] x h = absurd cc

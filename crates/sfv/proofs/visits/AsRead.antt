@@ -30,7 +30,7 @@ use Rattle.sfv_reading.specs.Bare.{bare_at}
 use Rattle.sfv_reading.specs.Items.{key_at, parameter_at, parameters_at, item_at}
 use Rattle.sfv_reading.specs.Members.{inner_items_at, inner_at, member_at, member_value_at, keyed_at}
 use Rattle.sfv_reading.specs.Fields.{members_at}
-use Rattle.sfv_reading.proofs.Exact.{bare_is_exact}
+use Rattle.sfv_reading.proofs.LongestBareItem.{bare_is_exact}
 use Rattle.sfv_reading.proofs.Theorems.{read_is_accepted}
 use Rattle.sfv.specs.declared.parser.Parser.{Parser}
 use Rattle.sfv.specs.declared.parser.cursor.Cursor.{Cursor}
@@ -44,7 +44,7 @@ use Rattle.sfv.specs.parser.Values.{read_pair}
 use Rattle.sfv.specs.parser.Visits.{Visits, VisitsAnswer, VisitsField}
 use Rattle.sfv.proofs.visits.InnerLists.{inner_list_visits, list_member_visits, item_member_visits}
 use Rattle.sfv.proofs.visits.Keyed.{value_visits, true_visits, keyed_visits}
-use Rattle.sfv.proofs.visits.Lent.{lent_front}
+use Rattle.sfv.proofs.visits.BorrowedBareItem.{lent_front}
 use Rattle.sfv.proofs.visits.Loops.{Loop, VisitedSoFar, Wants, IsFirst, begun, more, ended as loop_ended, all_events}
 use Rattle.sfv.proofs.visits.Parameters.{VisitedParameters, visited_none, visited_more, end_visits, item_visits}
 use Rattle.sfv.proofs.visits.Parts.{led_visits, start_visits}

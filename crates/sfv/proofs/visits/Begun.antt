@@ -39,7 +39,7 @@ use Rattle.sfv_reading.proofs.texts.Joining.{joining_none}
 use Rattle.sfv_reading.proofs.complete.Fields.{comma_ends}
 use Rattle.sfv_reading.proofs.complete.Members.{entry_complete, entry_fresh, keyed_complete, keyed_fresh}
 use Rattle.sfv_reading.proofs.sound.Members.{Sound-entry, Sound-keyed}
-use Rattle.sfv_reading.proofs.visits.Early.{begins_all, begins_trans}
+use Rattle.sfv_reading.proofs.visits.EventsBeforeRuleAlike.{begins_all, begins_trans}
 use Rattle.sfv.specs.Parsers.{open_events, IsBeforeMember, BeginsMember}
 use Rattle.sfv.specs.Parsers.{list_member, list_item, dictionary_key, dictionary_item}
 

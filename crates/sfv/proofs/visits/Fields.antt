@@ -34,10 +34,10 @@ use Rattle.sfv_reading.proofs.complete.Combinators.{bind_complete}
 use Rattle.sfv_reading.proofs.sound.Combinators.{Somewhere}
 use Rattle.sfv_reading.proofs.sound.Fields.{FieldGoes, Sound-field}
 use Rattle.sfv_reading.proofs.Theorems.{read_is_accepted, fault_is_placed}
-use Rattle.sfv_reading.proofs.Trailing.{read_before}
+use Rattle.sfv_reading.proofs.TrailingBytes.{read_before}
 use Rattle.sfv_reading.proofs.visits.Fields.{visited_begins}
-use Rattle.sfv_reading.proofs.visits.Reached.{visited_reach}
-use Rattle.sfv_reading.proofs.visits.Before.{visited_before}
+use Rattle.sfv_reading.proofs.visits.EventsBeforeReach.{visited_reach}
+use Rattle.sfv_reading.proofs.visits.EventsBeforeComma.{visited_before}
 use Rattle.sfv.specs.declared.parser.Parser.{Parser}
 use Rattle.sfv.specs.declared.parser.cursor.Cursor.{Cursor}
 use Rattle.sfv.specs.parser.Cursor.{kept_input, located, IsErrorOf}

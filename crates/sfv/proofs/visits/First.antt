@@ -23,8 +23,8 @@ use Rattle.sfv_reading.specs.Fields.{whole_field_at}
 use Rattle.sfv_reading.specs.Judgements.{Reached}
 use Rattle.sfv_reading.proofs.sound.Bare.{BareGoes, Sound-bare}
 use Rattle.sfv_reading.proofs.sound.Combinators.{Somewhere, IsSpan, Steady-span}
-use Rattle.sfv_reading.proofs.Exact.{bare_is_exact}
-use Rattle.sfv_reading.proofs.First.{first_bare, longest_read}
+use Rattle.sfv_reading.proofs.LongestBareItem.{bare_is_exact}
+use Rattle.sfv_reading.proofs.FirstBareItem.{first_bare, longest_read}
 use Rattle.sfv_reading.proofs.visits.Fields.{visited_begins}
 use Rattle.sfv_visitor.specs.declared.visitor.Visitor.{Ghosts}
 use Rattle.sfv.specs.declared.parser.Parser.{Parser}

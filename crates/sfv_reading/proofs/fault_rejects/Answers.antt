@@ -1,5 +1,5 @@
 use Rattle.sfv_reading.proofs.fault_rejects.Goals as goal
-use Rattle.sfv_reading.proofs.Faults.{fault_rejects}
+use Rattle.sfv_reading.proofs.FaultTable.{fault_rejects}
 
 pub returns : goal.returns
 returns c = fault_rejects

@@ -19,7 +19,7 @@ use Rattle.sfv_reading.proofs.quoted.Traces.{Ends, trace_of_string, trace_of_dis
 use Rattle.sfv_reading.proofs.quoted.Pieces.{past_string, past_display, quote_string, quote_display, string_stops}
 use Rattle.sfv_reading.proofs.quoted.Pieces.{display_stops, string_stops_whole, display_stops_whole}
 use Rattle.sfv_reading.proofs.complete.Quoted.{passes}
-use Rattle.sfv_reading.proofs.rules.Quoted.{display_fault}
+use Rattle.sfv_reading.proofs.faults.Quoted.{display_fault}
 
 -- a reading with the same front, and a rest that begins alike
 stays : (exact : Bool) (P : ℕ → List ℕ → Type 0) (Stops : ErrorKind → List ℕ → List ℕ → Type 0) (f : Reader (List ℕ))

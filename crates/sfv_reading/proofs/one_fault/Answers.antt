@@ -1,5 +1,5 @@
 use Rattle.sfv_reading.proofs.one_fault.Goals as goal
-use Rattle.sfv_reading.proofs.Faults.{one_fault}
+use Rattle.sfv_reading.proofs.FaultTable.{one_fault}
 
 pub returns : goal.returns
 returns c = one_fault

@@ -23,12 +23,12 @@ use Rattle.sfv_reading.specs.Items.{key_at}
 use Rattle.sfv_reading.specs.Fields.{whole_field_at, ending, read_field}
 use Rattle.sfv_reading.proofs.complete.Combinators.{Apart-cons}
 use Rattle.sfv_reading.proofs.complete.Fields.{spaces_end, comma_ends, item_field_complete}
-use Rattle.sfv_reading.proofs.rules.Commas.{comma_after, has_many}
-use Rattle.sfv_reading.proofs.rules.Longer.{not_longer}
+use Rattle.sfv_reading.proofs.faults.TrailingCommas.{comma_after, has_many}
+use Rattle.sfv_reading.proofs.faults.NothingAfterField.{not_longer}
 use Rattle.sfv_reading.proofs.places.Calls.{Calls}
 use Rattle.sfv_reading.proofs.places.Calls as calls
-use Rattle.sfv_reading.proofs.places.Wanted.{ends_faulty, not_accepted}
-use Rattle.sfv_reading.proofs.places.Read.{calls_wanted, calls_wanted_key}
+use Rattle.sfv_reading.proofs.places.CalledIsWanted.{ends_faulty, not_accepted}
+use Rattle.sfv_reading.proofs.places.WantedIsCalled.{calls_wanted, calls_wanted_key}
 
 -- what is wanted, by the fault of a comma that stands there
 abbrev by_comma : ErrorKind → ErrorKind

@@ -17,7 +17,7 @@ use Rattle.sfv_reading.specs.Quoted.{after_bytes, outside, pieces_from, after_pi
 use Rattle.sfv_reading.specs.Quoted.{DisplayStops, Traced}
 use Rattle.std.specs.Str.Lossy.{utf8_valid_len}
 use Rattle.sfv_reading.proofs.complete.Quoted.{passes}
-use Rattle.sfv_reading.proofs.rules.Quoted.{not_text}
+use Rattle.sfv_reading.proofs.faults.Quoted.{not_text}
 use Rattle.sfv_reading.proofs.texts.Ranges.{byte_at, string_utf8, run_weaker}
 use Rattle.sfv_reading.proofs.quoted.Traces.{Ends, trace_of_display}
 use Rattle.sfv_reading.proofs.quoted.Pieces.{past_display}

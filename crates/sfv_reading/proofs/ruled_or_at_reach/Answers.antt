@@ -1,5 +1,5 @@
 use Rattle.sfv_reading.proofs.ruled_or_at_reach.Goals as goal
-use Rattle.sfv_reading.proofs.Faults.{ruled_or_at_reach}
+use Rattle.sfv_reading.proofs.FaultTable.{ruled_or_at_reach}
 
 pub returns : goal.returns
 returns c = ruled_or_at_reach

@@ -26,7 +26,7 @@ use Rattle.sfv_reading.proofs.texts.Joining.{Joined, split_joined, joined_split}
 use Rattle.sfv_reading.proofs.sound.Many.{Step, Consumes, Consumes-from, Local-many, many_complete}
 use Rattle.sfv_reading.proofs.sound.Steps.{StepGoes, Sound-steps}
 use Rattle.sfv_reading.proofs.sound.Items.{as_it_stands}
-use Rattle.sfv_reading.proofs.rules.UpToFault.{after_twice, bind_met, led_met, many_met}
+use Rattle.sfv_reading.proofs.faults.PiecesToFault.{after_twice, bind_met, led_met, many_met}
 
 -- a comma, and what may stand after it
 abbrev pub IsComma : Unit {0} → List ℕ → Type 0

@@ -42,13 +42,6 @@ visited_first {A} {B} f g first parts more t h = on (f t) refl
     )
     on (Err e) i = ([], sym (append-nil e.events))
 
--- a loop: after the values of a front
-pub visited_in_front : {A : Type 0} (parts : A → List TreeEvent) (front : List A) (a : Answer (List A))
-    → visited (λ vs. flat_map parts vs) (in_front parts front a)
-    ≡ flat_map parts front ++ visited (λ vs. flat_map parts vs) a
-visited_in_front parts front (Ok x) = flat_map-append parts front x.0
-visited_in_front parts front (Err e) = refl
-
 -- a failure within a part is one of the whole
 pub failed_within : {A B S F : Type 0} (takes : S → TreeEvent → S → Type 0)
     (fails : S → TreeEvent → F → Type 0) (parts : A → List TreeEvent) (a : Answer A) (whole : B

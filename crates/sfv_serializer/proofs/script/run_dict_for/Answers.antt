@@ -1,5 +1,5 @@
 use Rattle.sfv_spec.specs.declared.field_kind.FieldKind.TheVariants.{Dictionary as dictionary_field}
-use Rattle.sfv_writer.proofs.Looks.{at_exit}
+use Rattle.sfv_writer.proofs.Checks.{at_exit}
 use Rattle.sfv_writer.proofs.ReadBack.{read_back}
 use Rattle.sfv_serializer.specs.Scripts.{described_dictionary}
 use Rattle.sfv_serializer.proofs.Described.{dictionary_fits}

@@ -1,5 +1,5 @@
 use Rattle.sfv_spec.specs.declared.field_kind.FieldKind.TheVariants.{List as list_field}
-use Rattle.sfv_writer.proofs.Looks.{at_exit}
+use Rattle.sfv_writer.proofs.Checks.{at_exit}
 use Rattle.sfv_writer.proofs.ReadBack.{read_back}
 use Rattle.sfv_serializer.specs.Scripts.{described_list}
 use Rattle.sfv_serializer.proofs.Described.{list_fits}

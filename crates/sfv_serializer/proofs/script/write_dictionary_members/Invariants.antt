@@ -5,7 +5,7 @@ use Rattle.sfv_spec.specs.Values.{IsMember}
 use Rattle.sfv_spec.specs.declared.field_kind.FieldKind.TheVariants.{Dictionary as dictionary_field}
 use Rattle.sfv_spec.specs.Canonical.{dictionary_member_text}
 use Rattle.sfv_serializer.specs.ScriptSteps.{described, dictionary_calls}
-use Rattle.sfv_writer.proofs.Rows.{IsLed}
+use Rattle.sfv_writer.proofs.Separated.{IsLed}
 use Rattle.sfv_serializer.specs.Serializers.{is_empty_so_far}
 use Rattle.sfv_serializer.proofs.script.write_dictionary_members.Given as goal
 

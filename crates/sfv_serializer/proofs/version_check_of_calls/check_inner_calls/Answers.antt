@@ -1,4 +1,4 @@
-use Rattle.sfv_writer.proofs.Looks.{at_exit}
+use Rattle.sfv_writer.proofs.Checks.{at_exit}
 use Rattle.sfv_serializer.proofs.Handed.{inner_names, abandoned_fit, ended_looks}
 use Rattle.sfv_serializer.proofs.version_check_of_calls.check_inner_calls.Goals as goal
 

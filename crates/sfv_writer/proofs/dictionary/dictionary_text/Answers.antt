@@ -5,7 +5,7 @@ use Rattle.sfv_spec.specs.Canonical.{canonical}
 use Rattle.sfv_tree.specs.Trees.{dictionary_tree}
 use Rattle.sfv_tree.proofs.Words.{entry_tree}
 use Rattle.sfv_writer.proofs.ReadBack.{written}
-use Rattle.sfv_writer.proofs.Rows.{first_of_some, first_of_none, anyway}
+use Rattle.sfv_writer.proofs.Separated.{first_of_some, first_of_none, anyway}
 use Rattle.sfv_writer.proofs.dictionary.dictionary_text.Goals as goal
 
 pub returns-then-is_empty-clause-text : goal.returns-then-is_empty-clause-text

@@ -13,11 +13,11 @@ use Rattle.sfv_tree.specs.Trees.{dictionary_tree}
 use Rattle.sfv_tree.proofs.Distinct.{members_distinct}
 use Rattle.sfv_writer.proofs.Words.{lent_dictionary_member}
 use Rattle.sfv_writer.specs.Versions.{dictionary_members}
-use Rattle.sfv_writer.proofs.Lacks.{front_lacks}
+use Rattle.sfv_writer.proofs.RoomOfIterators.{front_lacks}
 use Rattle.sfv_writer.proofs.Lent.{members_all, members_front}
-use Rattle.sfv_writer.proofs.Looks.{newer_fails}
-use Rattle.sfv_writer.proofs.Rows.{all_both}
-use Rattle.sfv_writer.proofs.Drained.{all_written}
+use Rattle.sfv_writer.proofs.Checks.{newer_fails}
+use Rattle.sfv_writer.proofs.Separated.{all_both}
+use Rattle.sfv_writer.proofs.AllTaken.{all_written}
 use Rattle.sfv_writer.proofs.dictionary.serialize_dictionary.Goals as goal
 
 pub expect_out_of_memory-requires : goal.expect_out_of_memory-requires

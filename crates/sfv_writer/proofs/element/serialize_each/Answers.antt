@@ -3,9 +3,9 @@ use Rattle.std.specs.List.{flat_map}
 use Rattle.std.specs.Iterator.{IsFinite, Yields}
 use Rattle.sfv_writer.specs.Written.{separator_before, with_separators}
 use Rattle.sfv_writer.proofs.Appended.{next, unchanged, stops_grown}
-use Rattle.sfv_writer.proofs.Lacks.{named_lacks, lacks_among, separator_lacks, part_lacks}
-use Rattle.sfv_writer.proofs.Looks.{each_more, fails_among, memory_among}
-use Rattle.sfv_writer.proofs.Rows.{in_a_row_more}
+use Rattle.sfv_writer.proofs.RoomOfIterators.{named_lacks, lacks_among, separator_lacks, part_lacks}
+use Rattle.sfv_writer.proofs.Checks.{each_more, fails_among, memory_among}
+use Rattle.sfv_writer.proofs.Separated.{in_a_row_more}
 use Rattle.sfv_writer.proofs.element.serialize_each.Goals as goal
 
 pub loop-element-preserved : goal.loop-element-preserved

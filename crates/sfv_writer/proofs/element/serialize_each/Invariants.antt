@@ -1,7 +1,7 @@
 use Rattle.std.proofs.Common.{◌≤◌, string_bytes, string_capacity}
 use Rattle.std.specs.List.{flat_map}
 use Rattle.sfv_spec.specs.Values.{AllFit}
-use Rattle.sfv_writer.proofs.Rows.{IsLed}
+use Rattle.sfv_writer.proofs.Separated.{IsLed}
 use Rattle.sfv_writer.proofs.element.serialize_each.Given as goal
 
 abbrev pub invariant-loop-element : goal.invariant-loop-element

@@ -3,8 +3,8 @@ use Rattle.indexmap.proofs.MapLemmas.{OnOk-map}
 use Rattle.sfv_spec.specs.Canonical.{parameters_text}
 use Rattle.sfv_writer.specs.Pairs.{lent_pairs, pair_values}
 use Rattle.sfv_writer.proofs.Elements.{params_appended, params_stop}
-use Rattle.sfv_writer.proofs.Lacks.{lacks_from_first}
-use Rattle.sfv_writer.proofs.Looks.{fails_from_first, drains_from_first}
+use Rattle.sfv_writer.proofs.RoomOfIterators.{lacks_from_first}
+use Rattle.sfv_writer.proofs.Checks.{fails_from_first, drains_from_first}
 use Rattle.sfv_writer.proofs.item.append_parameters.Goals as goal
 
 pub returns-clause-text : goal.returns-clause-text

@@ -6,8 +6,8 @@ use Rattle.std.specs.Iterator.{Yields}
 use Rattle.std.specs.Map.Iter.{TakesFirst, deref_pair}
 use Rattle.sfv_writer.specs.Pairs.{lent_pairs, pair_values}
 use Rattle.sfv_writer.proofs.Lent.{lent_all}
-use Rattle.sfv_writer.proofs.Lacks.{pairs_lack}
-use Rattle.sfv_writer.proofs.Looks.{newer_fails}
+use Rattle.sfv_writer.proofs.RoomOfIterators.{pairs_lack}
+use Rattle.sfv_writer.proofs.Checks.{newer_fails}
 use Rattle.sfv_writer.proofs.Parameters.{none_written, none_valid, none_repeated}
 use Rattle.sfv_writer.proofs.item.serialize_all_parameters.Goals as goal
 

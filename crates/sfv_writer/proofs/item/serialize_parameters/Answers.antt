@@ -6,8 +6,8 @@ use Rattle.sfv_spec.specs.Canonical.{parameters_text}
 use Rattle.sfv_writer.specs.Pairs.{lent_pairs, pair_values}
 use Rattle.sfv_writer.specs.Versions.{NamesFirstUnfit}
 use Rattle.sfv_writer.proofs.Appended.{unchanged, stops_grown}
-use Rattle.sfv_writer.proofs.Lacks.{named_lacks, lacks_among, one_lacks}
-use Rattle.sfv_writer.proofs.Looks.{fails_among, memory_among, singles}
+use Rattle.sfv_writer.proofs.RoomOfIterators.{named_lacks, lacks_among, one_lacks}
+use Rattle.sfv_writer.proofs.Checks.{fails_among, memory_among, singles}
 use Rattle.sfv_writer.proofs.Parameters.{text_more, valid_more, fit_more}
 use Rattle.sfv_writer.proofs.item.serialize_parameters.Goals as goal
 

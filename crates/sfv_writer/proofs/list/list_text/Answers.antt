@@ -4,7 +4,7 @@ use Rattle.sfv_spec.specs.declared.field_kind.FieldKind.TheVariants.{List as lis
 use Rattle.sfv_spec.specs.Canonical.{canonical}
 use Rattle.sfv_tree.specs.Trees.{member_tree, list_tree}
 use Rattle.sfv_writer.proofs.ReadBack.{written}
-use Rattle.sfv_writer.proofs.Rows.{first_of_some, first_of_none, anyway}
+use Rattle.sfv_writer.proofs.Separated.{first_of_some, first_of_none, anyway}
 use Rattle.sfv_writer.proofs.list.list_text.Goals as goal
 
 pub returns-then-is_empty-clause-text : goal.returns-then-is_empty-clause-text

@@ -11,10 +11,10 @@ use Rattle.sfv_tree.specs.Trees.{list_tree}
 use Rattle.sfv_writer.proofs.Words.{lent_list_member}
 use Rattle.sfv_writer.specs.Versions.{list_members}
 use Rattle.sfv_writer.proofs.Lent.{entries_all, entries_front}
-use Rattle.sfv_writer.proofs.Lacks.{front_lacks}
-use Rattle.sfv_writer.proofs.Looks.{newer_fails}
-use Rattle.sfv_writer.proofs.Rows.{all_both}
-use Rattle.sfv_writer.proofs.Drained.{all_written}
+use Rattle.sfv_writer.proofs.RoomOfIterators.{front_lacks}
+use Rattle.sfv_writer.proofs.Checks.{newer_fails}
+use Rattle.sfv_writer.proofs.Separated.{all_both}
+use Rattle.sfv_writer.proofs.AllTaken.{all_written}
 use Rattle.sfv_writer.proofs.list.serialize_list.Goals as goal
 
 pub expect_out_of_memory-requires : goal.expect_out_of_memory-requires

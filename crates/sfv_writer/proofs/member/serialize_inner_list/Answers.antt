@@ -7,7 +7,7 @@ use Rattle.sfv_spec.specs.Canonical.{item_text}
 use Rattle.sfv_spec.proofs.Distinct.{inner_list_own}
 use Rattle.sfv_tree.specs.Trees.{item_tree, inner_list_tree}
 use Rattle.sfv_writer.proofs.Appended.{put, after, between}
-use Rattle.sfv_writer.proofs.Rows.{all_both, parts_on_ok}
+use Rattle.sfv_writer.proofs.Separated.{all_both, parts_on_ok}
 use Rattle.sfv_writer.proofs.member.serialize_inner_list.Goals as goal
 
 pub returns-clause-text : goal.returns-clause-text

@@ -6,9 +6,9 @@ use Rattle.sfv_spec.specs.Ordered.{ordered_item}
 use Rattle.sfv_spec.specs.Canonical.{item_text}
 use Rattle.sfv_tree.specs.Trees.{item_tree}
 use Rattle.sfv_writer.proofs.Appended.{put, next, unchanged, stops}
-use Rattle.sfv_writer.proofs.Lacks.{first_lacks, space_lacks, item_lacks}
+use Rattle.sfv_writer.proofs.RoomOfIterators.{first_lacks, space_lacks, item_lacks}
 use Rattle.sfv_writer.proofs.Room.{refused}
-use Rattle.sfv_writer.proofs.Rows.{row_of_one, row_more, mapped_after, all_after}
+use Rattle.sfv_writer.proofs.Separated.{row_of_one, row_more, mapped_after, all_after}
 use Rattle.sfv_writer.proofs.member.serialize_items.Goals as goal
 
 pub loop-item-init : goal.loop-item-init

@@ -3,7 +3,7 @@ use Rattle.sfv_spec.specs.Values.{IsItem}
 use Rattle.sfv_spec.specs.Ordered.{ordered_item}
 use Rattle.sfv_spec.specs.Canonical.{item_text}
 use Rattle.sfv_tree.specs.Trees.{item_tree}
-use Rattle.sfv_writer.proofs.Rows.{IsRow}
+use Rattle.sfv_writer.proofs.Separated.{IsRow}
 use Rattle.sfv_writer.proofs.member.serialize_items.Given as goal
 
 abbrev pub invariant-loop-item : goal.invariant-loop-item

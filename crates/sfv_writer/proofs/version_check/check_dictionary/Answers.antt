@@ -7,7 +7,7 @@ use Rattle.sfv_tree.specs.Trees.{member_tree}
 use Rattle.sfv_tree.specs.declared.parsed.ListEntry.{ListEntry}
 use Rattle.sfv_writer.specs.Versions.{NamesFirstUnfit}
 use Rattle.sfv_spec.specs.Values.{member_values}
-use Rattle.sfv_writer.proofs.Looks.{at_exit, shown_stops, shown_all, entry_values}
+use Rattle.sfv_writer.proofs.Checks.{at_exit, shown_stops, shown_all, entry_values}
 use Rattle.sfv_writer.proofs.version_check.check_dictionary.Goals as goal
 
 pub returns-in_err-check_member : goal.returns-in_err-check_member

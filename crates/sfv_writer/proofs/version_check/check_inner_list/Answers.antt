@@ -5,7 +5,7 @@ use Rattle.sfv_tree.specs.Trees.{item_tree, pairs_tree}
 use Rattle.sfv_writer.specs.Versions.{NamesFirstUnfit}
 use Rattle.sfv_spec.specs.Values.{item_values}
 use Rattle.sfv_spec.proofs.Marks.{parameter_values}
-use Rattle.sfv_writer.proofs.Looks.{at_exit, names_front, looks_after}
+use Rattle.sfv_writer.proofs.Checks.{at_exit, names_front, looks_after}
 use Rattle.sfv_writer.proofs.version_check.check_inner_list.Goals as goal
 
 pub returns-in_err-check_items : goal.returns-in_err-check_items

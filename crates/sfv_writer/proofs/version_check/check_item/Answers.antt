@@ -4,7 +4,7 @@ use Rattle.sfv_bare.specs.BareItems.{bare_value}
 use Rattle.sfv_tree.specs.Trees.{pairs_tree}
 use Rattle.sfv_writer.specs.Versions.{NamesFirstUnfit}
 use Rattle.sfv_spec.proofs.Marks.{parameter_values}
-use Rattle.sfv_writer.proofs.Looks.{at_exit, names_front, looks_after}
+use Rattle.sfv_writer.proofs.Checks.{at_exit, names_front, looks_after}
 use Rattle.sfv_writer.proofs.version_check.check_item.Goals as goal
 
 pub returns-in_err-check_bare_item : goal.returns-in_err-check_bare_item

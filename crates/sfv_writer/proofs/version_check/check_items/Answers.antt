@@ -1,7 +1,7 @@
 use Rattle.std.proofs.Common.{◌<◌, length, rules}
 use Rattle.sfv_tree.specs.Trees.{item_tree}
 use Rattle.sfv_spec.specs.Values.{item_values}
-use Rattle.sfv_writer.proofs.Looks.{at_exit, slice_more, slice_stops}
+use Rattle.sfv_writer.proofs.Checks.{at_exit, slice_more, slice_stops}
 use Rattle.sfv_writer.proofs.version_check.check_items.Goals as goal
 
 pub loop-item-preserved : goal.loop-item-preserved

@@ -4,7 +4,7 @@ use Rattle.std.proofs.lemmas.List.{take_all}
 use Rattle.sfv_spec.specs.Values.{AllFit}
 use Rattle.sfv_tree.specs.Trees.{member_tree}
 use Rattle.sfv_spec.specs.Values.{member_values}
-use Rattle.sfv_writer.proofs.Looks.{at_exit, slice_more, slice_stops}
+use Rattle.sfv_writer.proofs.Checks.{at_exit, slice_more, slice_stops}
 use Rattle.sfv_writer.proofs.version_check.check_list.Goals as goal
 
 pub loop-member-preserved : goal.loop-member-preserved

@@ -6,7 +6,7 @@ use Rattle.sfv_spec.specs.Values.{AllFit}
 use Rattle.sfv_bare.specs.BareItems.{bare_value}
 use Rattle.sfv_tree.specs.Trees.{OwnedBareItem}
 use Rattle.sfv_writer.specs.Versions.{NamesFirstUnfit}
-use Rattle.sfv_writer.proofs.Looks.{at_exit, shown_stops, shown_all, param_values}
+use Rattle.sfv_writer.proofs.Checks.{at_exit, shown_stops, shown_all, param_values}
 use Rattle.sfv_writer.proofs.version_check.check_parameters.Goals as goal
 
 pub returns-in_err-check_bare_item : goal.returns-in_err-check_bare_item

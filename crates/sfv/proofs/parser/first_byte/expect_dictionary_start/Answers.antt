@@ -5,7 +5,7 @@ use Rattle.sfv.specs.Parsers.{input_of}
 use Rattle.sfv.specs.parser.Cursor.{rest}
 use Rattle.sfv.proofs.reads.Errors.{FaultOf-here}
 use Rattle.sfv.proofs.reads.Steps.{key_none}
-use Rattle.sfv.proofs.Beginnings.{no_dictionary}
+use Rattle.sfv.proofs.FirstByteFaults.{no_dictionary}
 use Rattle.sfv.proofs.parser.first_byte.expect_dictionary_start.Goals as goal
 
 pub returns-clause-rejected : goal.returns-clause-rejected

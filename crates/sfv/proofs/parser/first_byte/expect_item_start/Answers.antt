@@ -3,7 +3,7 @@ use Rattle.sfv_spec.proofs.Marks.{is_space}
 use Rattle.sfv_reading.specs.Reader.{span}
 use Rattle.sfv.specs.Parsers.{input_of}
 use Rattle.sfv.specs.parser.Cursor.{rest}
-use Rattle.sfv.proofs.Beginnings.{item_refused}
+use Rattle.sfv.proofs.FirstByteFaults.{item_refused}
 use Rattle.sfv.proofs.parser.first_byte.expect_item_start.Goals as goal
 
 pub returns-clause-rejected : goal.returns-clause-rejected

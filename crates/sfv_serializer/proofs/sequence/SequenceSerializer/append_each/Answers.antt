@@ -1,5 +1,5 @@
 use Rattle.std.proofs.Common.{◌≤◌, refl, sym, ap, subst, ◌∙◌, string_bytes, string_capacity}
-use Rattle.sfv_writer.proofs.Looks.{at_exit}
+use Rattle.sfv_writer.proofs.Checks.{at_exit}
 use Rattle.sfv_serializer.proofs.sequence.SequenceSerializer.append_each.Goals as goal
 
 pub returns-clause-text : goal.returns-clause-text

@@ -38,13 +38,13 @@ use Rattle.sfv_reading.proofs.base64.Contents.{longest_valid, rejected_at}
 use Rattle.sfv_reading.proofs.complete.Bare.{bare_boolean, bare_quote, bare_colon, bare_at_sign, bare_percent}
 use Rattle.sfv_reading.proofs.complete.Bare.{front, number_from}
 use Rattle.sfv_reading.proofs.sound.ByteSequences.{read_fault, fault_at}
-use Rattle.sfv_reading.proofs.rules.DisplayRules.{same_longest}
-use Rattle.sfv_reading.proofs.rules.Quoted.{string_faulty}
-use Rattle.sfv_reading.proofs.rules.UpToFault.{bind_met}
-use Rattle.sfv_reading.proofs.rules.Numbers.{next_of, NumberShape, no_digits, sixteen_digits, point_too_late}
-use Rattle.sfv_reading.proofs.rules.Numbers.{long_fraction, shape_read}
-use Rattle.sfv_reading.proofs.rules.NumberRows.{date_read}
-use Rattle.sfv_reading.proofs.rules.BareFaults.{boolean_fault, quote_fault}
+use Rattle.sfv_reading.proofs.faults.DisplayRuleIsFault.{same_longest}
+use Rattle.sfv_reading.proofs.faults.Quoted.{string_faulty}
+use Rattle.sfv_reading.proofs.faults.PiecesToFault.{bind_met}
+use Rattle.sfv_reading.proofs.faults.NumberShapes.{next_of, NumberShape, no_digits, sixteen_digits, point_too_late}
+use Rattle.sfv_reading.proofs.faults.NumberShapes.{long_fraction, shape_read}
+use Rattle.sfv_reading.proofs.faults.NumberFaultIsRow.{date_read}
+use Rattle.sfv_reading.proofs.faults.BareFaultIsRow.{boolean_fault, quote_fault}
 
 -- ---- numbers and Dates
 

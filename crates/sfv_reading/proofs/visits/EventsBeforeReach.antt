@@ -17,15 +17,15 @@ use Rattle.sfv_spec.specs.Visiting.{BeginsEventsAfter}
 use Rattle.sfv_reading.proofs.sound.Combinators.{Begins, Somewhere}
 use Rattle.sfv_reading.proofs.sound.Fields.{FieldGoes, Sound-field}
 use Rattle.sfv_reading.proofs.Theorems.{fault_is_placed, read_is_accepted}
-use Rattle.sfv_reading.proofs.visits.Leaf.{Early-bare}
+use Rattle.sfv_reading.proofs.visits.BareFaultOffReach.{Early-bare}
 use Rattle.sfv_reading.specs.Judgements.{Reached}
 use Rattle.sfv_spec.specs.declared.error_kind.ErrorKind.TheVariants.{TrailingCharactersAfterParsedValue}
 use Rattle.sfv_spec.proofs.Versions.{one_reach_lem}
 use Rattle.sfv_reading.proofs.complete.Fields.{field_complete}
 use Rattle.sfv_reading.proofs.places.Calls.{Stuck}
-use Rattle.sfv_reading.proofs.places.Wanted.{begins_stuck}
-use Rattle.sfv_reading.proofs.visits.Early.{Tells, Early}
-use Rattle.sfv_reading.proofs.visits.Told.{Early-field}
+use Rattle.sfv_reading.proofs.places.CalledIsWanted.{begins_stuck}
+use Rattle.sfv_reading.proofs.visits.EventsBeforeRuleAlike.{Tells, Early}
+use Rattle.sfv_reading.proofs.visits.EventsBeforeRule.{Early-field}
 
 -- es begins the events of a field whose text begins so
 pub record TellsFrom (version : Version) (kind : FieldKind) (u : List ℕ) (es : List TreeEvent) : Type 0 where

@@ -20,19 +20,19 @@ use Rattle.sfv_spec.specs.declared.error_kind.ErrorKind.TheVariants.{TooManyDigi
 use Rattle.sfv_spec.specs.declared.error_kind.ErrorKind.TheVariants.{UnterminatedByteSequence, InvalidByteSequence}
 use Rattle.sfv_spec.specs.Faults.{comma, point, decimal_date, long_decimal_date, open_bytes}
 use Rattle.sfv_spec.specs.Faults.{lone_symbol, display}
-use Rattle.sfv_reading.proofs.rules.Commas.{has_many}
+use Rattle.sfv_reading.proofs.faults.TrailingCommas.{has_many}
 use Rattle.sfv_reading.specs.Reader.{give, and_then, by_rule, Answer, placed}
 use Rattle.sfv_reading.specs.Bare.{bare_at}
 use Rattle.sfv_reading.specs.BareFaults.{IsFaultInBare, RuledIsGiven}
 use Rattle.sfv_reading.proofs.complete.Bare.{bare_percent, front}
-use Rattle.sfv_reading.proofs.rules.DisplayRules.{faults_ruled}
-use Rattle.sfv_reading.proofs.rules.Quoted.{display_faulty}
-use Rattle.sfv_reading.proofs.rules.Numbers.{no_fraction, long_fraction, a_decimal, shape_read}
-use Rattle.sfv_reading.proofs.rules.BareFaults.{quoted_read, display_short}
-use Rattle.sfv_reading.proofs.rules.BareRows.{date_given, number_given, bytes_given}
+use Rattle.sfv_reading.proofs.faults.DisplayRuleIsFault.{faults_ruled}
+use Rattle.sfv_reading.proofs.faults.Quoted.{display_faulty}
+use Rattle.sfv_reading.proofs.faults.NumberShapes.{no_fraction, long_fraction, a_decimal, shape_read}
+use Rattle.sfv_reading.proofs.faults.BareFaultIsRow.{quoted_read, display_short}
+use Rattle.sfv_reading.proofs.faults.BareRowIsFault.{date_given, number_given, bytes_given}
 use Rattle.sfv_reading.specs.Content.{valid_from, fault_place, HasNoColon}
 use Rattle.sfv_reading.proofs.base64.Lone.{is_left_over, symbols_of_run, leaves_one_over}
-use Rattle.sfv_reading.proofs.rules.ByteSequences.{no_colon_any}
+use Rattle.sfv_reading.proofs.faults.ByteSequences.{no_colon_any}
 use Rattle.sfv_reading.proofs.sound.ByteSequences.{read_unclosed, read_fault, symbols_apart}
 
 -- a fault by a rule, where a bare item is wanted

@@ -26,7 +26,7 @@ use Rattle.sfv_tree.specs.Trees.{OwnedBareItem, pairs_tree, member_tree, diction
 use Rattle.sfv_tree.specs.declared.parsed.ListEntry.{ListEntry}
 use Rattle.std.specs.Map.{values_of}
 use Rattle.sfv_spec.proofs.Given.{found_front, found_after, newer_has_all}
-use Rattle.sfv_writer.proofs.Rows.{mapped_more}
+use Rattle.sfv_writer.proofs.Separated.{mapped_more}
 use Rattle.sfv_writer.specs.Versions.{NamesFirstUnfit, ChecksVersion, ChecksVersionFirst, IsSerializeError, FailsAmong, FailsFrom}
 use Rattle.sfv_spec.specs.Values.{member_values}
 use Rattle.sfv_spec.proofs.Marks.{parameter_values}

@@ -28,13 +28,13 @@ use Rattle.sfv_reading.specs.Fields.{whole_field_at, ending, read_field}
 use Rattle.sfv_reading.proofs.sound.Combinators.{Somewhere, Steady-span}
 use Rattle.sfv_reading.proofs.sound.Fields.{FieldGoes, Sound-field}
 use Rattle.sfv_reading.proofs.complete.Combinators.{bind_complete}
-use Rattle.sfv_reading.proofs.rules.Combinators.{Rules, Rules-give, Rules-steady, Rules-led, Rules-branch, Rules-ahead}
-use Rattle.sfv_reading.proofs.rules.Combinators.{Rules-back, fault_at, fail_at}
-use Rattle.sfv_reading.proofs.rules.ByteSequences.{bytes_fault}
-use Rattle.sfv_reading.proofs.rules.Quoted.{string_fault, display_fault}
+use Rattle.sfv_reading.proofs.faults.Combinators.{Rules, Rules-give, Rules-steady, Rules-led, Rules-branch, Rules-ahead}
+use Rattle.sfv_reading.proofs.faults.Combinators.{Rules-back, fault_at, fail_at}
+use Rattle.sfv_reading.proofs.faults.ByteSequences.{bytes_fault}
+use Rattle.sfv_reading.proofs.faults.Quoted.{string_fault, display_fault}
 use Rattle.sfv_reading.proofs.places.Calls.{Leaf, bare, key, leaf_at, like_self}
-use Rattle.sfv_reading.proofs.places.Walks.{faulty, Met, Elsewhere, Found, called, elsewhere}
-use Rattle.sfv_reading.proofs.places.Readers.{Ever, walk-field}
+use Rattle.sfv_reading.proofs.places.FaultsOfCalls.{faulty, Met, Elsewhere, Found, called, elsewhere}
+use Rattle.sfv_reading.proofs.places.CallsOfReaders.{Ever, walk-field}
 
 -- any kind but these
 abbrev pub IsOther : ErrorKind → Type 0

@@ -14,7 +14,7 @@ use Rattle.sfv_reading.proofs.sound.Many.{Consumes, many_is}
 use Rattle.sfv_reading.proofs.sound.Steps.{step_events}
 use Rattle.sfv_reading.proofs.local.Combinators.{first_after, untaken, looks}
 use Rattle.sfv_reading.proofs.places.Calls.{Stuck, stuck_led, stuck_bind}
-use Rattle.sfv_reading.proofs.places.Readers.{stuck_give, stuck_then, stuck_after}
+use Rattle.sfv_reading.proofs.places.CallsOfReaders.{stuck_give, stuck_then, stuck_after}
 
 -- After before and one byte more, the events es were told, whatever follows; and something may follow.
 pub record Tells {A : Type 0} (f : Reader A) (parts : A → List TreeEvent) (t : List ℕ) (es : List TreeEvent) : Type 0 where

@@ -27,17 +27,17 @@ use Rattle.sfv_reading.specs.Fields.{whole_field_at, ending, read_field}
 use Rattle.sfv_reading.specs.Claims.{IsPlacedFault}
 use Rattle.sfv_reading.specs.Places.{IsOfBare, IsOfComma, IsOfWanted, IsOfOpenList, BareIsWanted}
 use Rattle.sfv_reading.proofs.Theorems.{read_is_accepted, fault_is_placed}
-use Rattle.sfv_reading.proofs.Trailing.{key_fault, comes_from}
+use Rattle.sfv_reading.proofs.TrailingBytes.{key_fault, comes_from}
 use Rattle.sfv_reading.proofs.sound.Combinators.{Somewhere}
 use Rattle.sfv_reading.proofs.sound.Fields.{FieldGoes, Sound-field}
-use Rattle.sfv_reading.proofs.rules.Tight.{IsTight, not_last}
-use Rattle.sfv_reading.proofs.rules.Standing.{Stands, IsLastComma}
-use Rattle.sfv_reading.proofs.rules.Commas.{not_item}
-use Rattle.sfv_reading.proofs.rules.Fields.{HasMembers, field_rules}
-use Rattle.sfv_reading.proofs.rules.Ends.{field_none}
+use Rattle.sfv_reading.proofs.faults.ItemEnds.{IsTight, not_last}
+use Rattle.sfv_reading.proofs.faults.BetweenInnerItems.{Stands, IsLastComma}
+use Rattle.sfv_reading.proofs.faults.TrailingCommas.{not_item}
+use Rattle.sfv_reading.proofs.faults.Fields.{HasMembers, field_rules}
+use Rattle.sfv_reading.proofs.faults.MembersToEnd.{field_none}
 use Rattle.sfv_reading.proofs.places.Calls.{bare, key, Stuck, Calls}
-use Rattle.sfv_reading.proofs.places.Walks.{faulty, Met, Elsewhere, Found, called, elsewhere}
-use Rattle.sfv_reading.proofs.places.Readers.{Ever}
+use Rattle.sfv_reading.proofs.places.FaultsOfCalls.{faulty, Met, Elsewhere, Found, called, elsewhere}
+use Rattle.sfv_reading.proofs.places.CallsOfReaders.{Ever}
 
 -- what stands in front of an exact fault begins an accepted text
 pub begins_to : (version : Version) (kind : FieldKind) (u r : List ℕ) (e : Fault)

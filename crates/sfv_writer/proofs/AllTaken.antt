@@ -6,7 +6,7 @@ use Rattle.std.specs.declared.string.String.{String}
 use Rattle.std.proofs.lemmas.Simd.{map-map}
 use Rattle.sfv_spec.specs.Texts.{joined}
 use Rattle.sfv_writer.specs.Written.{with_separators}
-use Rattle.sfv_writer.proofs.Rows.{in_a_row_first}
+use Rattle.sfv_writer.proofs.Separated.{in_a_row_first}
 
 -- what holds of what each lends holds of all that is lent
 lent_each : {A B : Type 0} (lent : A → B) (P : B → Type 0) (xs : List A) → AllByRecursion (λ x. P (lent x)) xs

@@ -24,8 +24,8 @@ use Rattle.sfv_reading.specs.Items.{key_at, item_of}
 use Rattle.sfv_reading.specs.Members.{inner_item_at, next_item_at, inner_items_at, inner_of, inner_at, member_at}
 use Rattle.sfv_reading.specs.Members.{entry_at}
 use Rattle.sfv_reading.specs.Members.{member_value_at, keyed_at}
-use Rattle.sfv_reading.proofs.Trailing.{IsOther, Shuns, Shuns-item, Shuns-key, Shuns-parameters, Shuns-led, Shuns-bind}
-use Rattle.sfv_reading.proofs.Trailing.{Shuns-give, Shuns-branch, Shuns-span}
+use Rattle.sfv_reading.proofs.TrailingBytes.{IsOther, Shuns, Shuns-item, Shuns-key, Shuns-parameters, Shuns-led, Shuns-bind}
+use Rattle.sfv_reading.proofs.TrailingBytes.{Shuns-give, Shuns-branch, Shuns-span}
 use Rattle.sfv_reading.proofs.sound.Combinators.{Steady-span, Sound-steady, IsSpan}
 use Rattle.sfv_reading.proofs.sound.Items.{Sound-key, parameter_of, true_value}
 use Rattle.sfv_reading.proofs.sound.Members.{IsClosed, IsNextItem, Sound-inner_item, Sound-next_item}
@@ -34,10 +34,10 @@ use Rattle.sfv_reading.proofs.sound.Members.{inner_text, given}
 use Rattle.sfv_reading.proofs.sound.Members.{Sound-member_value, keyed}
 use Rattle.sfv_reading.proofs.sound.Steps.{Sound-steps}
 use Rattle.sfv_reading.proofs.texts.Joining.{joining_none, joining_into, joining_push, joined_split}
-use Rattle.sfv_reading.proofs.rules.Combinators.{Rules, Rules-give, Rules-steady, Rules-led, Rules-bind, Rules-branch}
-use Rattle.sfv_reading.proofs.rules.Combinators.{Rules-ahead, Rules-any, Rules-weaker, fail_at}
-use Rattle.sfv_reading.proofs.rules.Many.{Rules-many}
-use Rattle.sfv_reading.proofs.rules.Tight.{IsTight, tight_after, item_tight, outer_space}
+use Rattle.sfv_reading.proofs.faults.Combinators.{Rules, Rules-give, Rules-steady, Rules-led, Rules-bind, Rules-branch}
+use Rattle.sfv_reading.proofs.faults.Combinators.{Rules-ahead, Rules-any, Rules-weaker, fail_at}
+use Rattle.sfv_reading.proofs.faults.Many.{Rules-many}
+use Rattle.sfv_reading.proofs.faults.ItemEnds.{IsTight, tight_after, item_tight, outer_space}
 
 -- front ends in an inner list, where a parenthesis can stand, and, after an item, a parameter too
 pub record IsOpen {A : Type 0} (P : A → List ℕ → Type 0) (k : ErrorKind) (t rest : List ℕ) : Type 0 where

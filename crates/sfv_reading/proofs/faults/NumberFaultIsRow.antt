@@ -27,9 +27,9 @@ use Rattle.sfv_spec.specs.Faults.{no_digit, no_number, long_integer, late_point,
 use Rattle.sfv_reading.specs.Reader.{Fault, Answer, byte, give, fail, and_then, bind, branch, back, at_start}
 use Rattle.sfv_reading.specs.Reader.{at_reach, by_rule, placed}
 use Rattle.sfv_reading.specs.Bare.{number_at, as_date, date_at, is_number_start}
-use Rattle.sfv_reading.proofs.rules.Numbers.{NumberShape, no_digits, sixteen_digits, point_too_late}
-use Rattle.sfv_reading.proofs.rules.Numbers.{no_fraction, long_fraction, a_decimal, an_integer, number_shape}
-use Rattle.sfv_reading.proofs.rules.Numbers.{shape_read}
+use Rattle.sfv_reading.proofs.faults.NumberShapes.{NumberShape, no_digits, sixteen_digits, point_too_late}
+use Rattle.sfv_reading.proofs.faults.NumberShapes.{no_fraction, long_fraction, a_decimal, an_integer, number_shape}
+use Rattle.sfv_reading.proofs.faults.NumberShapes.{shape_read}
 
 -- what the table says of a fault of the bare item that s begins with
 abbrev pub HasRow : Version → List ℕ → Fault → Type 0
@@ -67,10 +67,6 @@ pub begins_neither : (p q r : ℕ → Bool) (t : List ℕ) → ((c : ℕ) → r 
     → begins_with q t ≡ false → begins_with (λ c. p c || r c) t ≡ false
 begins_neither p q r [] f n m = refl
 begins_neither p q r (c ∷ t) f n m = or_from (p c) (r c) n (f c ∙ m)
-
--- how much stands in front of an end
-pub index_of : (whole a b : List ℕ) → whole ≡ a ++ b → length whole - length b ≡ length a
-index_of whole a b e = omega (arith, ap (length {A = ℕ}) e, length-append a b)
 
 -- ---- numbers
 

@@ -47,10 +47,10 @@ use Rattle.sfv_reading.specs.Places.{OpenListIsRead}
 use Rattle.sfv_reading.specs.Fields.{ending, read_field}
 use Rattle.sfv_spec.specs.Events.{events}
 use Rattle.sfv_spec.proofs.Bare.{is_bare_start}
-use Rattle.sfv_reading.proofs.rules.UpToFault.{bind_met, led_met, many_met}
-use Rattle.sfv_reading.proofs.rules.Tight.{IsTight, tight_after, not_last, outer_parenthesis, item_tight}
-use Rattle.sfv_reading.proofs.rules.Tight.{parameters_tight}
-use Rattle.sfv_reading.proofs.rules.Tight.{key_tight, tight_both}
+use Rattle.sfv_reading.proofs.faults.PiecesToFault.{bind_met, led_met, many_met}
+use Rattle.sfv_reading.proofs.faults.ItemEnds.{IsTight, tight_after, not_last, outer_parenthesis, item_tight}
+use Rattle.sfv_reading.proofs.faults.ItemEnds.{parameters_tight}
+use Rattle.sfv_reading.proofs.faults.ItemEnds.{key_tight, tight_both}
 
 pub record IsCut (e : Fault) : Type 0 where
   pub kind : e.kind ≡ UnterminatedInnerList

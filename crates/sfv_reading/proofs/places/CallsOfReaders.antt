@@ -49,11 +49,11 @@ use Rattle.sfv_reading.proofs.complete.Combinators.{Apart-cons, span_complete, b
 use Rattle.sfv_reading.proofs.complete.Combinators.{bind_complete}
 use Rattle.sfv_reading.proofs.complete.Combinators.{ahead_any}
 use Rattle.sfv_reading.proofs.places.Calls.{Leaf, bare, key, blocked, Stuck, stuck_led, stuck_bind}
-use Rattle.sfv_reading.proofs.places.Walks.{Mark, Met, Other, met_fail, met_give, Elsewhere, Never, Only, is_skipped}
-use Rattle.sfv_reading.proofs.places.Walks.{Skips, Walk, Walk-weaker, Walk-bare}
-use Rattle.sfv_reading.proofs.places.Walks.{Walk-key, Walk-give, Walk-fail, Walk-led, Walk-bind, Walk-skip}
-use Rattle.sfv_reading.proofs.places.Walks.{Walk-skip_some, Walk-branch}
-use Rattle.sfv_reading.proofs.places.Walks.{Walk-branch_never, Walk-any, Walk-ahead, Walk-many}
+use Rattle.sfv_reading.proofs.places.FaultsOfCalls.{Mark, Met, Other, met_fail, met_give, Elsewhere, Never, Only, is_skipped}
+use Rattle.sfv_reading.proofs.places.FaultsOfCalls.{Skips, Walk, Walk-weaker, Walk-bare}
+use Rattle.sfv_reading.proofs.places.FaultsOfCalls.{Walk-key, Walk-give, Walk-fail, Walk-led, Walk-bind, Walk-skip}
+use Rattle.sfv_reading.proofs.places.FaultsOfCalls.{Walk-skip_some, Walk-branch}
+use Rattle.sfv_reading.proofs.places.FaultsOfCalls.{Walk-branch_never, Walk-any, Walk-ahead, Walk-many}
 
 run_weaker : (class more : ℕ → Bool) → ((c : ℕ) → class c ≡ true → more c ≡ true) → (t : List ℕ) → RunOf class t
     → RunOf more t
@@ -244,11 +244,6 @@ module _ (version : Version) (mark : Mark) where
       let h : blocked bare c ≡ false = subst (λ (l : Leaf). blocked l c ≡ false) is free in
       (or_parts (eqb c left_parenthesis) (eqb c right_parenthesis)
       (or_parts (is_space_or_tab c) (eqb c left_parenthesis || eqb c right_parenthesis) h).1).0
-
-  -- no item begins with a parenthesis
-  barred-item : (r : List ℕ) → IsFault (item_at version (left_parenthesis ∷ r))
-  unfolding item_at bare_at token_at branch ahead fail bind
-  barred-item r = (_, refl)
 
   walk-another : Walk version mark (inner_item_at version >>= λ i. give (Some i)) (Only bare)
   walk-another = Walk-bind version mark (inner_item_at version) _ _ walk-inner_item (Local-inner_item version)

@@ -33,7 +33,7 @@ use Rattle.sfv_reading.proofs.complete.Items.{lengthens_item, blank_ends}
 use Rattle.sfv_reading.proofs.complete.Members.{entry_complete, entry_fresh, keyed_complete, keyed_fresh}
 use Rattle.sfv_reading.proofs.complete.Fields.{spaces_end, comma_ends, item_field_complete}
 use Rattle.sfv_reading.proofs.Theorems.{read_is_accepted}
-use Rattle.sfv_reading.proofs.rules.UpToFault.{bind_met}
+use Rattle.sfv_reading.proofs.faults.PiecesToFault.{bind_met}
 
 -- a type of field is a list or a dictionary unless it is an item
 pub not_item : (kind : FieldKind) → HasManyMembers kind → kind ≢ item_field

@@ -17,8 +17,8 @@ use Rattle.sfv_spec.specs.Faults.{DisplayFault, open_display, open_escape, wrong
 use Rattle.sfv_spec.specs.declared.error_kind.ErrorKind.{ErrorKind}
 use Rattle.sfv_reading.specs.Quoted.{IsDisplayFault}
 use Rattle.sfv_reading.proofs.sound.Quoted.{zip_more, concat_more}
-use Rattle.sfv_reading.proofs.rules.Numbers.{next_of}
-use Rattle.sfv_reading.proofs.rules.DisplayFaults.{after_drop}
+use Rattle.sfv_reading.proofs.faults.NumberShapes.{next_of}
+use Rattle.sfv_reading.proofs.faults.DisplayFaultIsRule.{after_drop}
 use Rattle.sfv_reading.proofs.texts.Utf8.{longest_text}
 
 -- two texts with a longest beginning of one kind, of one length

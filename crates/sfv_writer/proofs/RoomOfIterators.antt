@@ -24,10 +24,10 @@ use Rattle.sfv_writer.proofs.Elements.{text_as}
 use Rattle.sfv_writer.specs.declared.serialize_error.SerializeError.{SerializeError}
 use Rattle.sfv_writer.proofs.Appended.{next}
 use Rattle.sfv_writer.proofs.Lent.{lent_all, pairs_front}
-use Rattle.sfv_writer.proofs.Looks.{at_exit, split_at}
+use Rattle.sfv_writer.proofs.Checks.{at_exit, split_at}
 use Rattle.sfv_writer.proofs.Parameters.{parameters_push, lent_push}
 use Rattle.sfv_writer.proofs.Room.{len_of, room_after, room_before, room_shorter}
-use Rattle.sfv_writer.proofs.Rows.{IsLed, IsRow, in_a_row_first, in_a_row_push, is_first_after-false}
+use Rattle.sfv_writer.proofs.Separated.{IsLed, IsRow, in_a_row_first, in_a_row_push, is_first_after-false}
 
 -- ---- what an iterator gives
 

@@ -36,13 +36,13 @@ use Rattle.sfv_reading.proofs.local.Bare.{Local-bare}
 use Rattle.sfv_reading.proofs.local.Members.{Local-inner_item, Local-next_item, Local-items}
 use Rattle.sfv_reading.proofs.local.Members.{Local-entry, Local-keyed}
 use Rattle.sfv_reading.proofs.places.Calls.{Stuck, stuck_bind}
-use Rattle.sfv_reading.proofs.places.Walks.{Mark, eaten}
-use Rattle.sfv_reading.proofs.places.Readers.{stuck_give, stuck_then, stuck_after, stuck_value, stuck_parameters}
-use Rattle.sfv_reading.proofs.places.Readers.{stuck_next_items, stuck_next, stuck_space, stuck_last}
-use Rattle.sfv_reading.proofs.places.Readers.{stuck-member_value, Local-comma}
-use Rattle.sfv_reading.proofs.visits.Early.{Tells, Early, begins_all, Early-give, Early-fail, Early-span}
-use Rattle.sfv_reading.proofs.visits.Early.{tells_after, tells_second, Early-led, Early-bind, Early-then, Early-map, Early-led_map, Early-branch}
-use Rattle.sfv_reading.proofs.visits.Early.{Early-ahead, Early-many, Early-one_and_more, Early-more, Early-led_in}
+use Rattle.sfv_reading.proofs.places.FaultsOfCalls.{Mark, eaten}
+use Rattle.sfv_reading.proofs.places.CallsOfReaders.{stuck_give, stuck_then, stuck_after, stuck_value, stuck_parameters}
+use Rattle.sfv_reading.proofs.places.CallsOfReaders.{stuck_next_items, stuck_next, stuck_space, stuck_last}
+use Rattle.sfv_reading.proofs.places.CallsOfReaders.{stuck-member_value, Local-comma}
+use Rattle.sfv_reading.proofs.visits.EventsBeforeRuleAlike.{Tells, Early, begins_all, Early-give, Early-fail, Early-span}
+use Rattle.sfv_reading.proofs.visits.EventsBeforeRuleAlike.{tells_after, tells_second, Early-led, Early-bind, Early-then, Early-map, Early-led_map, Early-branch}
+use Rattle.sfv_reading.proofs.visits.EventsBeforeRuleAlike.{Early-ahead, Early-many, Early-one_and_more, Early-more, Early-led_in}
 
 some_mark : Mark
 some_mark = eaten true []

@@ -8,7 +8,7 @@ use Rattle.sfv_reading.specs.Judgements.{Reached, Sound}
 use Rattle.sfv_reading.specs.Reader.{Fault, Answer, Reader, after_events, and_then, give, bind, led, go_on, many}
 use Rattle.sfv_reading.proofs.texts.Joining.{joining_none, joining_push, events_push}
 use Rattle.sfv_reading.proofs.sound.Many.{Step, Consumes, put, many_is}
-use Rattle.sfv_reading.proofs.rules.Combinators.{Rules}
+use Rattle.sfv_reading.proofs.faults.Combinators.{Rules}
 
 module _ {A : Type 0} (P : A → List ℕ → Type 0) (E : List ℕ → Type 0)
     (W : List ℕ → List TreeEvent → Type 0) (T : List TreeEvent → Type 0) (parts : A

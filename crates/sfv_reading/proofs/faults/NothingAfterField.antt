@@ -32,9 +32,9 @@ use Rattle.sfv_reading.proofs.complete.Combinators.{Apart-cons}
 use Rattle.sfv_reading.proofs.complete.Items.{lengthens_item, blank_ends}
 use Rattle.sfv_reading.proofs.complete.Members.{inner_parts}
 use Rattle.sfv_reading.proofs.complete.Fields.{item_field_complete, field_complete}
-use Rattle.sfv_reading.proofs.rules.Standing.{parameter_a, item_longer}
-use Rattle.sfv_reading.proofs.rules.Cut.{joining_last}
-use Rattle.sfv_reading.proofs.rules.Commas.{met, byte_met, not_bracketed}
+use Rattle.sfv_reading.proofs.faults.BetweenInnerItems.{parameter_a, item_longer}
+use Rattle.sfv_reading.proofs.faults.InnerListCutOff.{joining_last}
+use Rattle.sfv_reading.proofs.faults.TrailingCommas.{met, byte_met, not_bracketed}
 
 -- ---- one more parameter
 

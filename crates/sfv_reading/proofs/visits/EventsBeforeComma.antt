@@ -16,9 +16,9 @@ use Rattle.sfv_reading.specs.Fields.{whole_field_at}
 use Rattle.sfv_reading.proofs.sound.Combinators.{Begins}
 use Rattle.sfv_reading.proofs.complete.Combinators.{Apart-cons}
 use Rattle.sfv_reading.proofs.complete.Fields.{spaces_end, comma_ends, item_field_complete}
-use Rattle.sfv_reading.proofs.rules.Commas.{comma_after}
-use Rattle.sfv_reading.proofs.visits.Leaf.{Early-bare}
-use Rattle.sfv_reading.proofs.visits.Told.{Early-field}
+use Rattle.sfv_reading.proofs.faults.TrailingCommas.{comma_after}
+use Rattle.sfv_reading.proofs.visits.BareFaultOffReach.{Early-bare}
+use Rattle.sfv_reading.proofs.visits.EventsBeforeRule.{Early-field}
 
 -- the members in front of a comma, whatever follows it
 visited_members : (version : Version) (kind : FieldKind) (raw : RawField kind) (t rest : List ℕ) → HasManyMembers kind

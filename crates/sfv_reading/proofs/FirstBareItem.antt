@@ -12,7 +12,7 @@ use Rattle.sfv_reading.specs.Reader.{span}
 use Rattle.sfv_reading.specs.Bare.{bare_at}
 use Rattle.sfv_reading.specs.Items.{item_of}
 use Rattle.sfv_reading.specs.Claims.{BeginsWithBare}
-use Rattle.sfv_reading.proofs.Exact.{ended_apart}
+use Rattle.sfv_reading.proofs.LongestBareItem.{ended_apart}
 use Rattle.sfv_reading.proofs.complete.Combinators.{span_complete}
 use Rattle.sfv_reading.proofs.complete.Bare.{bare_complete}
 use Rattle.sfv_reading.proofs.complete.Items.{item_no}

@@ -26,7 +26,7 @@ use Rattle.sfv_reading.specs.Bare.{token_at, bare_at}
 use Rattle.sfv_reading.specs.Items.{key_at}
 use Rattle.sfv_reading.specs.Fields.{whole_field_at, read_field}
 use Rattle.sfv_reading.specs.Places.{is_beginning, WantedBareIsRead}
-use Rattle.sfv_reading.proofs.rules.Insides.{mark_inside, asterisk_inside}
+use Rattle.sfv_reading.proofs.faults.InsideBareItem.{mark_inside, asterisk_inside}
 use Rattle.sfv_reading.proofs.sound.Combinators.{Somewhere, run_cons, run_head, run_tail}
 use Rattle.sfv_reading.proofs.sound.Bare.{BareGoes, Sound-bare}
 use Rattle.sfv_reading.proofs.sound.Items.{Sound-key}
@@ -35,9 +35,9 @@ use Rattle.sfv_reading.proofs.complete.Bare.{apart_from, bare_complete}
 use Rattle.sfv_reading.proofs.complete.Items.{key_complete}
 use Rattle.sfv_reading.proofs.complete.Fields.{field_complete}
 use Rattle.sfv_reading.proofs.places.Calls.{bare, key, blocked, Stuck, Follows, Calls}
-use Rattle.sfv_reading.proofs.places.Walks.{eaten, marked, Met, Found, called, elsewhere, run_has}
-use Rattle.sfv_reading.proofs.places.Readers.{Ever, walk-field}
-use Rattle.sfv_reading.proofs.places.Wanted.{wants_bare, ends_faulty, begins_stuck}
+use Rattle.sfv_reading.proofs.places.FaultsOfCalls.{eaten, marked, Met, Found, called, elsewhere, run_has}
+use Rattle.sfv_reading.proofs.places.CallsOfReaders.{Ever, walk-field}
+use Rattle.sfv_reading.proofs.places.CalledIsWanted.{wants_bare, ends_faulty, begins_stuck}
 
 -- ---- lists
 

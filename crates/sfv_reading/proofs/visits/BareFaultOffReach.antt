@@ -22,7 +22,7 @@ use Rattle.sfv_reading.specs.Quoted.{string_from}
 use Rattle.sfv_reading.proofs.sound.Combinators.{Somewhere, Begins}
 use Rattle.sfv_reading.proofs.sound.Bare.{BareGoes, Sound-bare}
 use Rattle.sfv_reading.proofs.places.Calls.{Stuck}
-use Rattle.sfv_reading.proofs.visits.Early.{Tells, Early, begins_all}
+use Rattle.sfv_reading.proofs.visits.EventsBeforeRuleAlike.{Tells, Early, begins_all}
 
 pub stuck_mark : (version : Version) → Stuck (bare_at version (63 ∷ 49 ∷ 0 ∷ []))
 unfolding bare_at boolean_at branch give

@@ -45,12 +45,12 @@ use Rattle.sfv_reading.proofs.complete.Bare.{bare_boolean, bare_quote, bare_colo
 use Rattle.sfv_reading.proofs.complete.Bare.{bare_number, first_byte}
 use Rattle.sfv_reading.proofs.sound.Combinators.{Steady-span}
 use Rattle.sfv_reading.proofs.sound.ByteSequences.{fault_at}
-use Rattle.sfv_reading.proofs.rules.ByteSequences.{bytes_fault}
-use Rattle.sfv_reading.proofs.rules.DisplayFaults.{ruled}
-use Rattle.sfv_reading.proofs.rules.Quoted.{string_fault, display_fault}
-use Rattle.sfv_reading.proofs.rules.Numbers.{none_apart, next_of}
-use Rattle.sfv_reading.proofs.rules.Numbers.{number_shape, shape_read}
-use Rattle.sfv_reading.proofs.rules.NumberRows.{HasRow, one_of, begins_same, number_row, date_row}
+use Rattle.sfv_reading.proofs.faults.ByteSequences.{bytes_fault}
+use Rattle.sfv_reading.proofs.faults.DisplayFaultIsRule.{ruled}
+use Rattle.sfv_reading.proofs.faults.Quoted.{string_fault, display_fault}
+use Rattle.sfv_reading.proofs.faults.NumberShapes.{none_apart, next_of}
+use Rattle.sfv_reading.proofs.faults.NumberShapes.{number_shape, shape_read}
+use Rattle.sfv_reading.proofs.faults.NumberFaultIsRow.{HasRow, one_of, begins_same, number_row, date_row}
 use Rattle.sfv_reading.proofs.base64.Lone.{left_over_is}
 
 -- ---- what each first byte leads to

@@ -22,13 +22,13 @@ use Rattle.sfv_reading.specs.Reader.{Fault, has_rule}
 use Rattle.sfv_reading.specs.Fields.{read_field}
 use Rattle.sfv_reading.specs.Places.{IsLike, IsOfBare}
 use Rattle.sfv_reading.proofs.Theorems.{read_is_accepted, fault_is_placed}
-use Rattle.sfv_reading.proofs.rules.Commas.{comma_row, not_item}
-use Rattle.sfv_reading.proofs.rules.BareFaults.{bare_fault_has_row}
-use Rattle.sfv_reading.proofs.rules.BareRows.{bare_row_is_given}
-use Rattle.sfv_reading.proofs.rules.RuledFaults.{ruled_is_given}
-use Rattle.sfv_reading.proofs.rules.Cut.{open_list_is_read}
-use Rattle.sfv_reading.proofs.places.Wanted.{bare_is_wanted}
-use Rattle.sfv_reading.proofs.places.Read.{wanted_bare_is_read}
+use Rattle.sfv_reading.proofs.faults.TrailingCommas.{comma_row, not_item}
+use Rattle.sfv_reading.proofs.faults.BareFaultIsRow.{bare_fault_has_row}
+use Rattle.sfv_reading.proofs.faults.BareRowIsFault.{bare_row_is_given}
+use Rattle.sfv_reading.proofs.faults.BareRuleIsFault.{ruled_is_given}
+use Rattle.sfv_reading.proofs.faults.InnerListCutOff.{open_list_is_read}
+use Rattle.sfv_reading.proofs.places.CalledIsWanted.{bare_is_wanted}
+use Rattle.sfv_reading.proofs.places.WantedIsCalled.{wanted_bare_is_read}
 use Rattle.sfv_reading.proofs.places.OneWanted.{one_wanted}
 
 -- ---- kinds

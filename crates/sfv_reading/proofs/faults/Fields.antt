@@ -26,12 +26,12 @@ use Rattle.sfv_reading.proofs.sound.Steps.{Sound-steps}
 use Rattle.sfv_reading.proofs.sound.Members.{Sound-entry, Sound-keyed}
 use Rattle.sfv_reading.proofs.sound.Separated.{IsComma, Sound-comma, IsNext, Sound-next, Consumes-next, dictionary_members_text}
 use Rattle.sfv_reading.proofs.sound.Separated.{next_member}
-use Rattle.sfv_reading.proofs.Trailing.{Shuns-item, Shuns-bind, Shuns-span, Shuns-give}
-use Rattle.sfv_reading.proofs.rules.Combinators.{Rules, Rules-give, Rules-steady, Rules-led, Rules-bind}
-use Rattle.sfv_reading.proofs.rules.Combinators.{Rules-branch, Rules-back, Rules-ahead, Rules-any, Rules-weaker}
-use Rattle.sfv_reading.proofs.rules.Combinators.{fail_at, no_fault, ahead_at}
-use Rattle.sfv_reading.proofs.rules.Many.{Rules-many}
-use Rattle.sfv_reading.proofs.rules.Standing.{Stands, HasNone, stands_within, Rules-other, entry_rules, keyed_rules}
+use Rattle.sfv_reading.proofs.TrailingBytes.{Shuns-item, Shuns-bind, Shuns-span, Shuns-give}
+use Rattle.sfv_reading.proofs.faults.Combinators.{Rules, Rules-give, Rules-steady, Rules-led, Rules-bind}
+use Rattle.sfv_reading.proofs.faults.Combinators.{Rules-branch, Rules-back, Rules-ahead, Rules-any, Rules-weaker}
+use Rattle.sfv_reading.proofs.faults.Combinators.{fail_at, no_fault, ahead_at}
+use Rattle.sfv_reading.proofs.faults.Many.{Rules-many}
+use Rattle.sfv_reading.proofs.faults.BetweenInnerItems.{Stands, HasNone, stands_within, Rules-other, entry_rules, keyed_rules}
 
 -- no member after the comma: the text ends
 comma_none : (r q : List ℕ) → comma_at (comma ∷ r) ≡ Ok (None, q) → RunOf is_space_or_tab r
