@@ -11,7 +11,7 @@ mod item_builder;
 mod list_builder;
 mod member;
 mod option;
-pub mod parameters;
+mod parameters;
 
 pub use dictionary_builder::DictionaryBuilder;
 pub use item_builder::ItemBuilder;

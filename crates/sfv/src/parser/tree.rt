@@ -41,8 +41,8 @@ use sfv_bare::bare::{BareItem, BareItemFromInput, GenericBareItem};
 use sfv_base::error::{Error, ErrorKind, OutOfMemory, ParseError};
 use sfv_text::key::Key;
 use sfv_text::key_ref::KeyRef;
+use sfv_tree::capacity::fit_after;
 use sfv_tree::parsed::{Dictionary, InnerList, Item, List, ListEntry, Parameters};
-use sfv_visitor::visitor::parameters::fit_after;
 use std::alloc::Global;
 
 /// A member without its parameters.

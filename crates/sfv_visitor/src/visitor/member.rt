@@ -12,10 +12,11 @@ ghost use Rattle.sfv_visitor.specs.Builders.{member_step, member_state, step_sta
 ghost use Rattle.sfv_visitor.specs.Builders.{HasSeedSoFar, StepHasSeed};
 
 use crate::visitor::Event;
-use crate::visitor::parameters::{fit_after, insert_parameter};
+use crate::visitor::parameters::insert_parameter;
 use sfv_bare::bare::BareItemFromInput;
 use sfv_base::error::OutOfMemory;
 use sfv_text::key_ref::KeyRef;
+use sfv_tree::capacity::fit_after;
 use sfv_tree::hash_seed::HashSeed;
 use sfv_tree::parsed::{InnerList, Item, ListEntry, Parameters};
 use std::alloc::Global;
