@@ -31,7 +31,7 @@ use Rattle.sfv_base.specs.declared.error.Error.{Error}
 use Rattle.sfv_base.specs.Errors.{index_of, kind_of, out_of_memory}
 use Rattle.sfv_tree.specs.Trees.{list_tree, dictionary_tree}
 use Rattle.sfv_visitor.specs.Builders.{list_state, list_step, dictionary_state}
-use Rattle.sfv_visitor.specs.Builders.{ListAddsUnder, DictionaryAddsUnder, AddsUnder}
+use Rattle.sfv_visitor.specs.Builders.{ListAdds, DictionaryAdds}
 use Rattle.sfv_tree.specs.Seeds.{MemberHasSeed}
 use Rattle.sfv_tree.specs.declared.hash_seed.HashSeed.{HashSeed}
 use Rattle.sfv_visitor.specs.Builders.{dictionary_step}
@@ -289,7 +289,7 @@ located_error version kind t e index (inr h) here =
 pub list_after : {E : Type 0} (version : Version) (t : List ℕ) (held : List RawMember) (from : ListBuilder)
     (r : Result (Vec ListEntry Global) E) → list_state from ≡ (held, None)
     → IfOk r (Answers (λ (s : ListBuilder) e after. (list_state after ≡ list_step (list_state s) e)
-    × AddsUnder ListAddsUnder (λ (b : ListBuilder). b.list.items) MemberHasSeed s after) (λ s (list : Vec ListEntry Global). list ≡ s.list) version list_field t from)
+    × ListAdds s after) (λ s (list : Vec ListEntry Global). list ≡ s.list) version list_field t from)
     → IfOk r (λ list. (raw : List RawMember) × IsFieldText version list_field raw t
     × (list_tree list.items ≡ held ++ ordered list_field raw))
 list_after version t held from r here = IfOk-weaker r _ _ (λ list h.
@@ -300,8 +300,7 @@ pub dictionary_after : {E : Type 0} (version : Version) (t : List ℕ) (held : L
     (from : DictionaryBuilder) (r : Result (IndexMap (List ℕ) ListEntry HashSeed) E) → ordered dictionary_field held ≡ held
     → dictionary_state from ≡ (held, None)
     → IfOk r (Answers (λ (s : DictionaryBuilder) e after. (dictionary_state after
-    ≡ dictionary_step (dictionary_state s) e) × AddsUnder DictionaryAddsUnder (λ (b : DictionaryBuilder). b.dictionary.entries)
-    (λ seed (p : List ℕ × ListEntry). MemberHasSeed seed p.1) s after)
+    ≡ dictionary_step (dictionary_state s) e) × DictionaryAdds s after)
     (λ s (dictionary : IndexMap (List ℕ) ListEntry HashSeed). dictionary ≡ s.dictionary) version dictionary_field t from)
     → IfOk r (λ dictionary. (raw : List (List ℕ × RawMember)) × IsFieldText version dictionary_field raw t
     × (dictionary_tree dictionary.entries ≡ ordered dictionary_field (held ++ raw)))

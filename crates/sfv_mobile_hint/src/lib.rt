@@ -20,7 +20,8 @@ pub enum HintError {
 ///
 /// # Errors
 ///
-/// Returns `Parse` with the error of `Parser::parse`, or `WrongType` for an item that is not a Boolean.
+/// Returns `Parse` with the error of `Parser::parse`, or `WrongType` for an item that is not a Boolean. Memory runs out
+/// only as in `Parser::parse`.
 pub fn is_mobile(alloc: Global, input: &[u8]) -> Result<bool, HintError>
     ensures read { IfOk result (IsMobileHint input.now) }
     ensures failed { IfErr result (IsHintError input.now) }

@@ -2,7 +2,9 @@
 use Rattle.std.specs.Prelude.{◌≡◌, ◌≢◌, ℕ, List, [], Bool, Option, Some, None, map, filter, codes}
 use Rattle.std.specs.Str.{str_eq_ignore_ascii_case}
 use Rattle.httparse.specs.Grammar.{Field, field_value, RequestHead, ReadsRequest, NeverHasRequest}
-use Rattle.httparse.specs.Spans.{RequestOverflows, RequestExceeds}
+use Rattle.httparse.specs.Spans.{RequestOverflows, RequestExceeds, IsRequestWithin, IsRequestOf}
+use Rattle.httparse.specs.declared.spans.HeaderSpan.{HeaderSpan}
+use Rattle.httparse.specs.declared.spans.RequestSpans.{RequestSpans}
 use Rattle.httparse.specs.declared.Error.{Error}
 use Rattle.httparse.specs.declared.Error.TheVariants.{TooManyHeaders}
 use Rattle.sfv.specs.Texts.{joined}
@@ -27,6 +29,10 @@ field_text name fields = joined (codes ", ") (map field_value (filter (is_named 
 abbrev pub IsRequestField : List ℕ → List ℕ → List ℕ → Type 0
 IsRequestField name input text =
     (head : RequestHead) × (rest : List ℕ) × ReadsRequest input head rest × (text ≡ field_text name head.fields)
+
+-- the front of `headers` has the fields of the head of this request
+abbrev pub HoldsHead : List ℕ → List HeaderSpan → Type 0
+HoldsHead input headers = (head : RequestSpans) × IsRequestWithin input headers head × IsRequestOf input headers head
 
 -- the field `priority` of the request parses to this priority
 abbrev pub IsRequestPriority : Version → List ℕ → PriorityValue → Type 0

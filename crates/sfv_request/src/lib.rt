@@ -13,6 +13,7 @@ ghost use Rattle.httparse.specs.Grammar.{HasNoRequest, MayBecomeRequest};
 ghost use Rattle.httparse.specs.Outcome.{IfComplete, OnPartial};
 ghost use Rattle.sfv_fields.specs.Priority.{value_of};
 ghost use Rattle.sfv_request.specs.Requests.{IsRequestField, IsFieldFault, IsRequestPriority, IsRequestFault};
+ghost use Rattle.sfv_request.specs.Requests.{HoldsHead};
 
 pub use crate::fault::RequestFault;
 use crate::lines::joined_lines;
@@ -25,7 +26,7 @@ use std::alloc::Global;
 /// Returns the text of the field `name` of a request: the values of its lines, joined by a comma and a space.
 ///
 /// The values have no white space around them. The case of the name is ignored. The text is empty if the head has no
-/// such line. `headers` receives the fields of the head.
+/// such line. The front of `headers` receives the fields of the head.
 ///
 /// Returns `Partial` if the head is incomplete: more bytes can complete it, or the input ends in the request target,
 /// whose bytes are checked at its end.
@@ -43,6 +44,7 @@ pub fn request_field(
     ensures text { IfComplete result (λ text. IsRequestField name.now input.now text.items) }
     ensures partial { OnPartial result (HasNoRequest input.now) }
     ensures unfinished { OnPartial result (MayBecomeRequest input.now) }
+    ensures headers { IfComplete result (λ _. HoldsHead input.now headers.new) }
     ensures failed { IfErr result (IsFieldFault name.now (length headers.old) input.now) }
 {
     match parse_request(input, headers)? {
@@ -70,6 +72,7 @@ pub fn request_priority(
     ensures read { IfComplete result (λ found. IsRequestPriority version input.now (value_of found)) }
     ensures partial { OnPartial result (HasNoRequest input.now) }
     ensures unfinished { OnPartial result (MayBecomeRequest input.now) }
+    ensures headers { IfComplete result (λ _. HoldsHead input.now headers.new) }
     ensures failed { IfErr result (IsRequestFault version (length headers.old) input.now) }
 {
     match request_field(alloc, "priority", input, headers)? {

@@ -1,11 +1,8 @@
 -- Parameters and items that are copied one by one keep their value.
 use Rattle.std.proofs.Common.{◌≡◌, ℕ, List, [], ◌∷◌, map, refl}
-use Rattle.std.specs.List.{All, AllZip}
-use Rattle.std.proofs.lemmas.List.Elements.{All-cons, All-head, All-tail}
+use Rattle.std.specs.List.{AllZip}
 use Rattle.sfv_bare.specs.BareItems.{bare_value}
 use Rattle.sfv_tree.specs.Trees.{OwnedBareItem, pairs_tree}
-use Rattle.sfv_tree.specs.Seeds.{KeepsSeed}
-use Rattle.sfv_tree.specs.declared.hash_seed.HashSeed.{HashSeed}
 
 pub pairs_cloned :
     (C : List ℕ → List ℕ → Type 0) (D : OwnedBareItem → OwnedBareItem → Type 0)
@@ -33,10 +30,9 @@ module _ {A : Type 0} where
   each_cloned f Q (x ∷ xs) (y ∷ ys) h = rw (h.0.0, each_cloned f Q xs ys h.1) refl
 
   -- each copy hashes under the seed of its source
-  pub each_seeded : (R : A → A → Type 0) (has : HashSeed → A → Type 0) (xs ys : List A)
-      → AllZip (λ x y. R x y × KeepsSeed has x y) xs ys → (seed : HashSeed) → All (has seed) xs → All (has seed) ys
-  each_seeded R has [] [] h seed all = all
-  each_seeded R has [] (y ∷ ys) h seed all = absurd h
-  each_seeded R has (x ∷ xs) [] h seed all = absurd h
-  each_seeded R has (x ∷ xs) (y ∷ ys) h seed all = All-cons (has seed) y ys (h.0.1 seed (All-head (has seed) x xs all))
-      (each_seeded R has xs ys h.1 seed (All-tail (has seed) x xs all))
+  pub each_seeded : {B : Type 0} (R : A → A → Type 0) (f : A → B) (xs ys : List A)
+      → AllZip (λ x y. R x y × (f y ≡ f x)) xs ys → map f ys ≡ map f xs
+  each_seeded R f [] [] h = refl
+  each_seeded R f [] (y ∷ ys) h = absurd h
+  each_seeded R f (x ∷ xs) [] h = absurd h
+  each_seeded R f (x ∷ xs) (y ∷ ys) h = rw (h.0.1, each_seeded R f xs ys h.1) refl

@@ -1,5 +1,5 @@
 -- The hash seed of a value's maps.
-use Rattle.std.specs.Prelude.{◌≡◌, ℕ, List, All}
+use Rattle.std.specs.Prelude.{◌≡◌, ℕ, List, [], ◌∷◌, map, All}
 use Rattle.indexmap.specs.IndexMap.{IndexMap, hasher_of}
 use Rattle.sfv_tree.specs.declared.hash_seed.HashSeed.{HashSeed}
 use Rattle.sfv_tree.specs.declared.parsed.Item.{Item}
@@ -28,6 +28,7 @@ ListHasSeed seed members = All (MemberHasSeed seed) members
 abbrev pub DictionaryHasSeed : HashSeed → IndexMap (List ℕ) ListEntry HashSeed → Type 0
 DictionaryHasSeed seed d = (hasher_of d ≡ seed) × All (λ p. MemberHasSeed seed p.1) d.entries
 
--- the copy hashes under each seed that the value hashes under
-abbrev pub KeepsSeed : {A : Type 0} → (HashSeed → A → Type 0) → A → A → Type 0
-KeepsSeed has value copy = (seed : HashSeed) → has seed value → has seed copy
+-- the seeds of the maps of a member: of its own parameters, and of those of its items in order
+abbrev pub member_seeds : ListEntry → List HashSeed
+member_seeds (entries.Item i) = hasher_of i.params ∷ []
+member_seeds (entries.InnerList l) = hasher_of l.params ∷ map (λ i. hasher_of i.params) l.items.items

@@ -1,6 +1,6 @@
 //! Lists, dictionaries, inner lists, parameters and items (RFC 9651, sections 3.1 to 3.3).
 
-ghost use Rattle.std.specs.Prelude.{◌≡◌, ◌≢◌, ◌+◌, ◌<◌, ◌≤◌, [], IsOk, IfOk, IfErr, OnOk, OnErr, None, All, map, bytes_eq};
+ghost use Rattle.std.specs.Prelude.{◌≡◌, ◌≢◌, ◌+◌, ◌<◌, ◌≤◌, [], IsOk, IfOk, IfErr, OnOk, OnErr, None, map, bytes_eq};
 ghost use Rattle.std.specs.Prelude.{option_copied};
 ghost use Rattle.indexmap.specs.IndexMap.{get, hasher_of, insert_entry, spare, IsUnique};
 ghost use Rattle.sfv_spec.specs.Ordered.{last_of};
@@ -8,8 +8,7 @@ ghost use Rattle.sfv_bare.specs.BareItems.{bare_value};
 ghost use Rattle.sfv_text.specs.CheckedTexts.{text_of};
 ghost use Rattle.sfv_spec.specs.Values.{item, inner_list};
 ghost use Rattle.sfv_tree.specs.HashSeeds.{library_seed};
-ghost use Rattle.sfv_tree.specs.Seeds.{ItemHasSeed, InnerListHasSeed, MemberHasSeed, KeepsSeed};
-ghost use Rattle.sfv_tree.specs.declared.hash_seed.HashSeed.{HashSeed};
+ghost use Rattle.sfv_tree.specs.Seeds.{member_seeds};
 ghost use Rattle.sfv_tree.specs.Trees.{item_tree, pairs_tree, inner_list_tree};
 ghost use Rattle.sfv_tree.specs.Trees.{member_tree, dictionary_tree, found_member, found_value, NeedsNoMemory};
 ghost use Rattle.sfv_tree.specs.declared.parsed.ListEntry.TheVariants as entries;
@@ -90,7 +89,8 @@ fn copy_params(params: &Parameters) -> Result<Parameters, AllocError>
 }
 
 impl Clone for Item {
-    ghost is_clone = { λ item copy. (item_tree copy ≡ item_tree item) × KeepsSeed ItemHasSeed item copy };
+    ghost is_clone = { λ item copy. (item_tree copy ≡ item_tree item)
+        × (hasher_of copy.params ≡ hasher_of item.params) };
 
     ghost is_infallible = { λ i. NeedsNoMemory (item (item_tree i)) };
 
@@ -147,8 +147,8 @@ impl InnerList {
 // Clones the items, in the same order and under the same seed.
 fn copy_items(items: &Vec<Item>) -> Result<Vec<Item>, AllocError>
     ensures tree { IfOk result (λ copy. map item_tree copy.items ≡ map item_tree items.now.items) }
-    ensures seed { IfOk result (λ copy. (seed : HashSeed) → All (ItemHasSeed seed) items.now.items
-        → All (ItemHasSeed seed) copy.items) }
+    ensures seeds { IfOk result (λ copy. map (λ i. hasher_of i.params) copy.items
+        ≡ map (λ i. hasher_of i.params) items.now.items) }
     ensures out_of_memory { IfErr result (λ _. map item_tree items.now.items ≢ []) }
 {
     if items.is_empty() {
@@ -160,7 +160,7 @@ fn copy_items(items: &Vec<Item>) -> Result<Vec<Item>, AllocError>
 
 impl Clone for InnerList {
     ghost is_clone = { λ list copy. (inner_list_tree copy ≡ inner_list_tree list)
-        × KeepsSeed InnerListHasSeed list copy };
+        × (member_seeds (entries.InnerList copy) ≡ member_seeds (entries.InnerList list)) };
 
     ghost is_infallible = { λ list. NeedsNoMemory (inner_list (inner_list_tree list)) };
 
@@ -204,7 +204,8 @@ impl From<InnerList> for ListEntry {
 }
 
 impl Clone for ListEntry {
-    ghost is_clone = { λ member copy. (member_tree copy ≡ member_tree member) × KeepsSeed MemberHasSeed member copy };
+    ghost is_clone = { λ member copy. (member_tree copy ≡ member_tree member)
+        × (member_seeds copy ≡ member_seeds member) };
 
     ghost is_infallible = { λ member. NeedsNoMemory (member_tree member) };
 

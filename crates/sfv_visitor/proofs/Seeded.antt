@@ -38,10 +38,6 @@ module _ {X : Type 0} (P : X → Type 0) where
       on x (inl here) = All-contains (λ x. Contains xs x ⊎ P x) ys x first here
       on x (inr p) = inr p
 
-  -- one is added last
-  pub adds_push : (xs : List X) (x : X) → P x → AddsTo P xs (xs ++ x ∷ [])
-  adds_push xs x p = all_push (λ y. Contains xs y ⊎ P y) xs x (inr p) (adds_none xs)
-
   -- what holds of all held and of each added one holds of all
   pub adds_all : (xs ys : List X) → All P xs → AddsTo P xs ys → All P ys
   adds_all xs ys held h = All-weaker (λ x. Contains xs x ⊎ P x) P (λ x. on x) ys h

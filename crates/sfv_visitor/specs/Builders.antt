@@ -2,7 +2,7 @@
 use Rattle.std.specs.Prelude.{◌≡◌, ◌⊎◌, ⊤, MatchOption}
 use Rattle.std.specs.Prelude.{ℕ, List, [], ◌∷◌, ◌++◌, Bool, true, false, ◌&&◌, ◌||◌, Option, Some, None, is_none, option_map}
 use Rattle.std.specs.Prelude.{bytes_eq}
-use Rattle.std.specs.List.{All, Contains}
+use Rattle.std.specs.List.{All}
 use Rattle.std.specs.Map.{lookup}
 use Rattle.indexmap.specs.IndexMap.{hasher_of, insert_entry}
 use Rattle.sfv_spec.specs.Values.{BareValue, RawItem, RawInnerList, RawMember, item, inner_list}
@@ -12,6 +12,7 @@ use Rattle.sfv_bare.specs.BareItems.{is_text}
 use Rattle.sfv_tree.specs.Trees.{item_tree, inner_list_tree, member_tree, list_tree, dictionary_tree}
 use Rattle.sfv_tree.specs.Seeds.{ItemHasSeed, InnerListHasSeed, MemberHasSeed}
 use Rattle.sfv_tree.specs.declared.hash_seed.HashSeed.{HashSeed}
+use Rattle.sfv_tree.specs.declared.parsed.ListEntry.{ListEntry}
 use Rattle.sfv_visitor.specs.declared.visitor.item_builder.ItemBuilder.{ItemBuilder}
 use Rattle.sfv_visitor.specs.declared.visitor.list_builder.ListBuilder.{ListBuilder}
 use Rattle.sfv_visitor.specs.declared.visitor.member.Member.{Member}
@@ -51,12 +52,12 @@ plain_item value = record { bare = value; parameters = [] }
 abbrev pub member_step : MemberState → TreeEvent → MemberState
 member_step begun begins_item = item_head
 member_step begun begins_inner_list = inner_items (record { items = []; parameters = [] })
-member_step item_head (bare_item value) = item_parameters (plain_item value)
+member_step item_head (bare_item value) = item_parameters (record { bare = value; parameters = [] })
 member_step (item_parameters i) (parameter key value) = item_parameters (enters i key value)
 member_step (item_parameters i) parameters_end = ended (item i)
 member_step (inner_items l) begins_item = inner_head l
 member_step (inner_items l) inner_list_end = list_parameters l
-member_step (inner_head l) (bare_item value) = inner_parameters l (plain_item value)
+member_step (inner_head l) (bare_item value) = inner_parameters l (record { bare = value; parameters = [] })
 member_step (inner_parameters l i) (parameter key value) = inner_parameters l (enters i key value)
 member_step (inner_parameters l i) parameters_end =
     inner_items (record { items = l.items ++ i ∷ []; parameters = l.parameters })
@@ -112,18 +113,9 @@ abbrev pub StepHasSeed : HashSeed → Step → Type 0
 StepHasSeed seed (steps.Within p) = HasSeedSoFar seed p
 StepHasSeed seed (steps.Ended m) = MemberHasSeed seed m
 
--- The state of an item's builder: it reads the item as a member is read.
-abbrev pub item_state : ItemBuilder → MemberState
-item_state b = step_state b.item
-
 -- the builder adds maps under this seed, and those that it has hash under it
 abbrev pub IsItemUnder : HashSeed → ItemBuilder → Type 0
 IsItemUnder seed b = (b.seed ≡ seed) × StepHasSeed seed b.item
-
--- `after` adds maps under each seed that `s` does. Each member was there before, or hashes under that seed.
-abbrev pub AddsUnder : {B A : Type 0} → (HashSeed → B → Type 0) → (B → List A) → (HashSeed → A → Type 0) → B → B → Type 0
-AddsUnder adds members has s after = (seed : HashSeed) → adds seed s
-    → adds seed after × All (λ m. Contains (members s) m ⊎ has seed m) (members after)
 
 -- the complete members of a state
 abbrev pub complete : {A B : Type 0} → A × B → A
@@ -154,6 +146,11 @@ list_state b = (list_tree b.list.items, option_map member_state b.member)
 abbrev pub ListAddsUnder : HashSeed → ListBuilder → Type 0
 ListAddsUnder seed b = (b.seed ≡ seed) × MatchOption b.member ⊤ (HasSeedSoFar seed)
 
+-- `after` adds maps under each seed that `s` does. The list is unchanged, or one member under that seed is added last.
+abbrev pub ListAdds : ListBuilder → ListBuilder → Type 0
+ListAdds s after = (seed : HashSeed) → ListAddsUnder seed s → ListAddsUnder seed after × ((after.list.items ≡ s.list.items)
+    ⊎ ((m : ListEntry) × (after.list.items ≡ s.list.items ++ m ∷ []) × MemberHasSeed seed m))
+
 -- the state of a dictionary's builder: the complete members, and the current member, if there is one, with their keys
 abbrev pub DictionaryState : Type 0
 DictionaryState = List (List ℕ × RawMember) × Option (List ℕ × MemberState)
@@ -182,3 +179,9 @@ dictionary_state b = (dictionary_tree b.dictionary.entries, option_map (λ m. (m
 -- the dictionary hashes under this seed, and so does the current member
 abbrev pub DictionaryAddsUnder : HashSeed → DictionaryBuilder → Type 0
 DictionaryAddsUnder seed b = (hasher_of b.dictionary ≡ seed) × MatchOption b.member ⊤ (λ p. HasSeedSoFar seed p.1)
+
+-- `after` adds maps under each seed that `s` does. The dictionary is unchanged, or one member under that seed is inserted.
+abbrev pub DictionaryAdds : DictionaryBuilder → DictionaryBuilder → Type 0
+DictionaryAdds s after = (seed : HashSeed) → DictionaryAddsUnder seed s → DictionaryAddsUnder seed after
+    × ((after.dictionary.entries ≡ s.dictionary.entries) ⊎ ((key : List ℕ) × (m : ListEntry)
+    × (after.dictionary.entries ≡ insert_entry bytes_eq s.dictionary.entries key m) × MemberHasSeed seed m))

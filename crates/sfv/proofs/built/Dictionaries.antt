@@ -1,12 +1,12 @@
 -- The builder of a dictionary: after all events of a tree each key that it was given or that stands in the tree is
 -- there once, at its first place, with its last member.
 use Rattle.std.proofs.Common.{◌≡◌, ℕ, Bool, true, false, List, [], ◌∷◌, ◌++◌, map, refl, sym, ap, ◌∙◌, All}
-use Rattle.std.proofs.Common.{append_assoc}
+use Rattle.std.proofs.Common.{append_assoc, ◌⊎◌, inl, inr}
 use Rattle.std.specs.Prelude.{bytes_eq, fold, Option, Some, None, option_map, unwrap_or}
 use Rattle.std.proofs.lemmas.List.{append-nil, map-append}
 use Rattle.std.proofs.lemmas.List.Elements.{All-nil, All-same}
 use Rattle.std.proofs.lemmas.List.Sums.{fold-append}
-use Rattle.indexmap.specs.IndexMap.{IndexMap}
+use Rattle.indexmap.specs.IndexMap.{IndexMap, insert_entry}
 use Rattle.sfv_spec.specs.Values.{RawMember}
 use Rattle.sfv_spec.specs.declared.field_kind.FieldKind.TheVariants.{Dictionary as dictionary_field}
 use Rattle.sfv_spec.specs.declared.version.Version.{Version}
@@ -29,11 +29,11 @@ use Rattle.sfv_visitor.specs.Builders.{dictionary_state}
 use Rattle.sfv_tree.specs.declared.parsed.ListEntry.{ListEntry}
 use Rattle.sfv_visitor.specs.declared.visitor.dictionary_builder.DictionaryBuilder.{DictionaryBuilder}
 use Rattle.sfv.proofs.Relations.{Answers}
-use Rattle.sfv_visitor.specs.Builders.{DictionaryAddsUnder, AddsUnder}
+use Rattle.sfv_visitor.specs.Builders.{DictionaryAddsUnder, DictionaryAdds}
 use Rattle.sfv_tree.specs.declared.hash_seed.HashSeed.{HashSeed}
 use Rattle.sfv_tree.specs.Seeds.{MemberHasSeed, DictionaryHasSeed}
-use Rattle.sfv_visitor.proofs.Seeded.{AddsTo, adds_all}
-use Rattle.sfv.proofs.built.Seeded.{map_none, runs_add, runs_stay, runs_weaker}
+use Rattle.sfv_visitor.proofs.Seeded.{AddsTo, adds_none, adds_more, adds_entered, adds_all}
+use Rattle.sfv.proofs.built.Seeded.{map_none, runs_grow, runs_stay, runs_weaker}
 use Rattle.sfv.proofs.built.Items.{insert_entry-entered}
 use Rattle.sfv.proofs.built.Members.{IsOpen, member_built}
 
@@ -73,8 +73,7 @@ Places s e after = dictionary_state after ≡ dictionary_step (dictionary_state 
 
 abbrev Steps : DictionaryBuilder → TreeEvent → DictionaryBuilder → Type 0
 Steps s e after = (dictionary_state after ≡ dictionary_step (dictionary_state s) e)
-    × AddsUnder DictionaryAddsUnder (λ (b : DictionaryBuilder). b.dictionary.entries)
-    (λ seed (p : List ℕ × ListEntry). MemberHasSeed seed p.1) s after
+    × DictionaryAdds s after
 
 abbrev Ends : DictionaryBuilder → IndexMap (List ℕ) ListEntry HashSeed → Type 0
 Ends s dictionary = dictionary ≡ s.dictionary
@@ -167,14 +166,31 @@ built_dictionary version t from dictionary here h =
     let whole = built_dictionary_after version t [] from dictionary refl here h in
     record { raw = whole.0; accepted = whole.1; only = whole.2; holds = whole.4 (refl, tt) }
 
+one_step : (s : DictionaryBuilder) (e : TreeEvent) (after : DictionaryBuilder) → Steps s e after → (seed : HashSeed)
+    → DictionaryAddsUnder seed s → DictionaryAddsUnder seed after
+    × AddsTo (λ (p : List ℕ × ListEntry). MemberHasSeed seed p.1) s.dictionary.entries after.dictionary.entries
+one_step s e after h seed start = let k = h.1 seed start in (k.0, on k.1)
+  where
+    has : List ℕ × ListEntry → Type 0
+    has p = MemberHasSeed seed p.1
+
+    on : (after.dictionary.entries ≡ s.dictionary.entries) ⊎ ((key : List ℕ) × (m : ListEntry)
+        × (after.dictionary.entries ≡ insert_entry bytes_eq s.dictionary.entries key m) × MemberHasSeed seed m)
+        → AddsTo has s.dictionary.entries after.dictionary.entries
+    on (inl same) = rw same (adds_none has s.dictionary.entries)
+    on (inr k) = rw k.2 (adds_entered bytes_eq (MemberHasSeed seed) s.dictionary.entries k.0 k.1 k.3)
+
 -- each member was in the builder before the field, or hashes under its seed
 pub dictionary_adds : (version : Version) (t : List ℕ) (from : DictionaryBuilder)
     (dictionary : IndexMap (List ℕ) ListEntry HashSeed) (seed : HashSeed) → DictionaryAddsUnder seed from
     → Answers Steps Ends version dictionary_field t from dictionary
     → AddsTo (λ (p : List ℕ × ListEntry). MemberHasSeed seed p.1) from.dictionary.entries dictionary.entries
 dictionary_adds version t from dictionary seed start h = rw h.holds.2
-    (runs_add DictionaryAddsUnder Steps (λ s. s.dictionary.entries) (λ seed (p : List ℕ × ListEntry). MemberHasSeed seed p.1)
-    (λ s e t k. k.1) (events dictionary_field h.raw) from h.holds.0 h.holds.1 seed start)
+    (runs_grow DictionaryAddsUnder Steps (λ s. s.dictionary.entries)
+    (λ seed xs ys. AddsTo (λ (p : List ℕ × ListEntry). MemberHasSeed seed p.1) xs ys)
+    (λ seed. adds_none (λ (p : List ℕ × ListEntry). MemberHasSeed seed p.1))
+    (λ seed. adds_more (λ (p : List ℕ × ListEntry). MemberHasSeed seed p.1))
+    one_step (events dictionary_field h.raw) from h.holds.0 h.holds.1 seed start)
 
 -- if the members that were there hash under the seed, all do
 pub dictionary_seeded : (version : Version) (t : List ℕ) (from : DictionaryBuilder)

@@ -12,11 +12,11 @@ use Rattle.sfv_spec.specs.Statements.{IsParsedAs}
 use Rattle.std.specs.List.{FoldsTo}
 use Rattle.sfv_spec.proofs.Collapse.{entered, collapse-push}
 use Rattle.sfv_tree.specs.Trees.{item_tree}
-use Rattle.sfv_visitor.specs.Builders.{MemberState, item_head, item_parameters, ended, member_step, item_state, takes_memory}
+use Rattle.sfv_visitor.specs.Builders.{MemberState, item_head, item_parameters, ended, member_step, step_state, takes_memory}
 use Rattle.sfv_visitor.specs.Builders.{IsItemUnder}
 use Rattle.sfv_base.specs.declared.error.ParseError.TheVariants.{Visitor}
 use Rattle.sfv_tree.specs.declared.hash_seed.HashSeed.{HashSeed}
-use Rattle.sfv_tree.specs.Seeds.{ItemHasSeed, KeepsSeed}
+use Rattle.sfv_tree.specs.Seeds.{ItemHasSeed}
 use Rattle.sfv.proofs.built.Seeded.{answer_seeded}
 use Rattle.sfv_visitor.specs.declared.visitor.ItemFault.{ItemFault}
 use Rattle.sfv_visitor.specs.declared.visitor.ItemFault.TheVariants as faults
@@ -24,9 +24,14 @@ use Rattle.sfv_tree.specs.declared.parsed.Item.{Item}
 use Rattle.sfv_visitor.specs.declared.visitor.item_builder.ItemBuilder.{ItemBuilder}
 use Rattle.sfv.proofs.Relations.{Answers, FailsIn, HasVisitorError, item_failed}
 
+-- the state of an item's builder
+abbrev item_state : ItemBuilder → MemberState
+item_state b = step_state b.item
+
 -- what the builder does with an event, and with the end
 abbrev Steps : ItemBuilder → TreeEvent → ItemBuilder → Type 0
-Steps s e after = (item_state after ≡ member_step (item_state s) e) × KeepsSeed IsItemUnder s after
+Steps s e after = (item_state after ≡ member_step (item_state s) e)
+    × ((seed : HashSeed) → IsItemUnder seed s → IsItemUnder seed after)
 
 abbrev Ends : ItemBuilder → Item → Type 0
 Ends s out = (item_state s ≡ ended (item (item_tree out)))

@@ -1,10 +1,11 @@
 -- The builder of a list: after all events of a tree it has the ordered members after those that it was given.
 use Rattle.std.proofs.Common.{◌≡◌, ℕ, List, [], ◌∷◌, ◌++◌, map, refl, sym, ap, ◌∙◌, append_assoc, Option}
+use Rattle.std.proofs.Common.{◌⊎◌, inl, inr, subst}
 use Rattle.std.specs.Prelude.{Some, None, fold}
 use Rattle.std.specs.declared.alloc.Global.{Global}
 use Rattle.std.specs.declared.vec.Vec.{Vec}
 use Rattle.std.proofs.lemmas.List.{append-nil}
-use Rattle.std.proofs.lemmas.List.Elements.{All-nil, All-same}
+use Rattle.std.proofs.lemmas.List.Elements.{All-nil, All-cons, All-append, All-same}
 use Rattle.std.proofs.lemmas.List.Sums.{fold-append}
 use Rattle.sfv_spec.specs.Values.{RawMember}
 use Rattle.sfv_spec.specs.declared.field_kind.FieldKind.TheVariants.{List as list_field}
@@ -22,11 +23,10 @@ use Rattle.sfv_visitor.specs.Builders.{settle, list_step, complete, list_state}
 use Rattle.sfv_tree.specs.declared.parsed.ListEntry.{ListEntry}
 use Rattle.sfv_visitor.specs.declared.visitor.list_builder.ListBuilder.{ListBuilder}
 use Rattle.sfv.proofs.Relations.{Answers}
-use Rattle.sfv_visitor.specs.Builders.{ListAddsUnder, AddsUnder}
+use Rattle.sfv_visitor.specs.Builders.{ListAddsUnder, ListAdds}
 use Rattle.sfv_tree.specs.declared.hash_seed.HashSeed.{HashSeed}
 use Rattle.sfv_tree.specs.Seeds.{MemberHasSeed, ListHasSeed}
-use Rattle.sfv_visitor.proofs.Seeded.{AddsTo, adds_all}
-use Rattle.sfv.proofs.built.Seeded.{map_none, runs_add, runs_weaker}
+use Rattle.sfv.proofs.built.Seeded.{map_none, runs_grow, runs_weaker}
 use Rattle.sfv.proofs.built.Members.{IsOpen, member_built}
 
 -- what the builder does with an event, and with the end
@@ -35,16 +35,16 @@ Places s e after = list_state after ≡ list_step (list_state s) e
 
 abbrev Steps : ListBuilder → TreeEvent → ListBuilder → Type 0
 Steps s e after = (list_state after ≡ list_step (list_state s) e)
-    × AddsUnder ListAddsUnder (λ (b : ListBuilder). b.list.items) MemberHasSeed s after
+    × ListAdds s after
 
 abbrev Ends : ListBuilder → Vec ListEntry Global → Type 0
 Ends s list = list ≡ s.list
 
--- no member is current
 -- the state of a list's builder
 abbrev pub ListState : Type 0
 ListState = List RawMember × Option MemberState
 
+-- no member is current
 abbrev pub between : List RawMember → ListState
 between ms = (ms, None)
 
@@ -98,20 +98,45 @@ built_list version t from list here h =
     let whole = built_list_after version t [] from list here h in
     record { raw = whole.0; accepted = whole.1; only = whole.2; holds = whole.3 }
 
--- each member was in the builder before the field, or hashes under its seed
+-- members under this seed follow
+abbrev pub GrowsUnder : HashSeed → List ListEntry → List ListEntry → Type 0
+GrowsUnder seed xs ys = (ms : List ListEntry) × (ys ≡ xs ++ ms) × ListHasSeed seed ms
+
+grows_none : (seed : HashSeed) (xs : List ListEntry) → GrowsUnder seed xs xs
+grows_none seed xs = ([], sym (append-nil xs), All-nil (MemberHasSeed seed))
+
+grows_more : (seed : HashSeed) (xs ys zs : List ListEntry) → GrowsUnder seed xs ys → GrowsUnder seed ys zs
+    → GrowsUnder seed xs zs
+grows_more seed xs ys zs a b = (
+  a.0 ++ b.0,
+  b.1 ∙ ap (λ (l : List ListEntry). l ++ b.0) a.1 ∙ append_assoc xs a.0 b.0,
+  All-append (MemberHasSeed seed) a.0 b.0 a.2 b.2,
+)
+
+one_step : (s : ListBuilder) (e : TreeEvent) (after : ListBuilder) → Steps s e after → (seed : HashSeed)
+    → ListAddsUnder seed s → ListAddsUnder seed after × GrowsUnder seed s.list.items after.list.items
+one_step s e after h seed start = let k = h.1 seed start in (k.0, on k.1)
+  where
+    on : (after.list.items ≡ s.list.items) ⊎ ((m : ListEntry) × (after.list.items ≡ s.list.items ++ m ∷ [])
+        × MemberHasSeed seed m) → GrowsUnder seed s.list.items after.list.items
+    on (inl same) = subst (λ (l : List ListEntry). GrowsUnder seed s.list.items l) (sym same) (grows_none seed s.list.items)
+    on (inr k) = (k.0 ∷ [], k.1, All-cons (MemberHasSeed seed) k.0 [] k.2 (All-nil (MemberHasSeed seed)))
+
+-- the members that the builder was given, and then members under its seed
 pub list_adds : (version : Version) (t : List ℕ) (from : ListBuilder) (list : Vec ListEntry Global) (seed : HashSeed)
     → ListAddsUnder seed from → Answers Steps Ends version list_field t from list
-    → AddsTo (MemberHasSeed seed) from.list.items list.items
+    → GrowsUnder seed from.list.items list.items
 list_adds version t from list seed start h = rw h.holds.2
-    (runs_add ListAddsUnder Steps (λ s. s.list.items) MemberHasSeed (λ s e t k. k.1) (events list_field h.raw)
-    from h.holds.0 h.holds.1 seed start)
+    (runs_grow ListAddsUnder Steps (λ s. s.list.items) GrowsUnder grows_none grows_more one_step
+    (events list_field h.raw) from h.holds.0 h.holds.1 seed start)
 
 -- if the members that were there hash under the seed, all do
 pub list_seeded : (version : Version) (t : List ℕ) (from : ListBuilder) (list : Vec ListEntry Global) (seed : HashSeed)
     → ListHasSeed seed from.list.items → ListAddsUnder seed from → Answers Steps Ends version list_field t from list
     → ListHasSeed seed list.items
 list_seeded version t from list seed held start h =
-    adds_all (MemberHasSeed seed) from.list.items list.items held (list_adds version t from list seed start h)
+    let more = list_adds version t from list seed start h in
+    subst (ListHasSeed seed) (sym more.1) (All-append (MemberHasSeed seed) from.list.items more.0 held more.2)
 
 -- no member was there
 pub no_list_held : (from : ListBuilder) (seed : HashSeed) → list_state from ≡ between [] → ListHasSeed seed from.list.items

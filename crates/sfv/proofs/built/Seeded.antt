@@ -5,7 +5,6 @@ use Rattle.sfv_spec.specs.declared.version.Version.{Version}
 use Rattle.sfv_spec.specs.Events.{TreeEvent}
 use Rattle.std.specs.List.{FoldsTo}
 use Rattle.sfv_tree.specs.declared.hash_seed.HashSeed.{HashSeed}
-use Rattle.sfv_visitor.proofs.Seeded.{AddsTo, adds_none, adds_more}
 use Rattle.sfv.proofs.Relations.{Answers}
 
 -- events that are taken are taken in a weaker sense
@@ -37,15 +36,17 @@ module _ {S : Type 0} (is_under : HashSeed → S → Type 0) (takes : S → Tree
   answer_seeded finishes has each answers version kind t from out seed start h =
       answers h.holds.0 out h.holds.2 seed (runs_stay each _ from h.holds.0 h.holds.1 seed start)
 
-  -- each element was in the builder before the events, or hashes under its seed
-  pub runs_add : {X : Type 0} (held : S → List X) (has : HashSeed → X → Type 0)
+  -- what the builder held grows over all events
+  pub runs_grow : {X : Type 0} (held : S → X) (grows : HashSeed → X → X → Type 0)
+      → ((seed : HashSeed) (x : X) → grows seed x x)
+      → ((seed : HashSeed) (x y z : X) → grows seed x y → grows seed y z → grows seed x z)
       → ((s : S) (e : TreeEvent) (t : S) → takes s e t → (seed : HashSeed) → is_under seed s
-      → is_under seed t × AddsTo (has seed) (held s) (held t))
+      → is_under seed t × grows seed (held s) (held t))
       → (es : List TreeEvent) (from to : S) → FoldsTo takes from es to → (seed : HashSeed) → is_under seed from
-      → AddsTo (has seed) (held from) (held to)
-  runs_add held has each [] from to h seed start =
-      subst (λ (s : S). AddsTo (has seed) (held from) (held s)) h (adds_none (has seed) (held from))
-  runs_add held has each (e ∷ es) from to h seed start =
+      → grows seed (held from) (held to)
+  runs_grow held grows same more each [] from to h seed start =
+      subst (λ (s : S). grows seed (held from) (held s)) h (same seed (held from))
+  runs_grow held grows same more each (e ∷ es) from to h seed start =
       let first = each from e h.0 h.1 seed start in
-      adds_more (has seed) (held from) (held h.0) (held to) first.1
-      (runs_add held has each es h.0 to h.2 seed first.0)
+      more seed (held from) (held h.0) (held to) first.1
+      (runs_grow held grows same more each es h.0 to h.2 seed first.0)

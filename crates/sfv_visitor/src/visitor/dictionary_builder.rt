@@ -2,7 +2,6 @@
 
 ghost use Rattle.std.specs.Prelude.{◌≡◌, ⊤, false, None, OnOk, OnErr, IsTrue};
 ghost use Rattle.indexmap.specs.IndexMap.{hasher_of};
-ghost use Rattle.sfv_tree.specs.Seeds.{MemberHasSeed};
 ghost use Rattle.sfv_tree.specs.Trees.{dictionary_tree};
 ghost use Rattle.sfv_bare.specs.BareItems.{input_value};
 ghost use Rattle.sfv_spec.specs.Events as tree;
@@ -10,7 +9,7 @@ ghost use Rattle.sfv_text.specs.CheckedTexts.{text_of};
 ghost use Rattle.sfv_visitor.specs.Events.{event_of, is_moved};
 ghost use Rattle.sfv_visitor.specs.Builders.{dictionary_step, dictionary_state};
 ghost use Rattle.sfv_visitor.specs.Builders.{dictionary_takes_memory};
-ghost use Rattle.sfv_visitor.specs.Builders.{DictionaryAddsUnder, AddsUnder};
+ghost use Rattle.sfv_visitor.specs.Builders.{DictionaryAddsUnder, DictionaryAdds};
 
 use crate::visitor::member::{Member, Step};
 use crate::visitor::{Event, Visitor};
@@ -56,8 +55,7 @@ impl DictionaryBuilder {
     ) -> Result<(), OutOfMemory>
         ensures state { OnOk result (dictionary_state self.new
             ≡ dictionary_step (dictionary_state self.old) (tree.parameter (text_of key.entry) (input_value value.entry))) }
-        ensures seed { OnOk result (AddsUnder DictionaryAddsUnder (λ b. b.dictionary.entries)
-            (λ seed p. MemberHasSeed seed p.1) self.old self.new) }
+        ensures seed { OnOk result (DictionaryAdds self.old self.new) }
         ensures out_of_memory { OnErr result (IsTrue (dictionary_takes_memory (dictionary_state self.old)
             (tree.parameter (text_of key.entry) (input_value value.entry)))) }
     {
@@ -75,8 +73,7 @@ impl DictionaryBuilder {
         ensures out_of_memory { OnErr result
             (IsTrue (dictionary_takes_memory (dictionary_state self.old) (event_of event.entry))) }
         ensures copied { OnErr result (is_moved event.entry ≡ false) }
-        ensures seed { OnOk result (AddsUnder DictionaryAddsUnder (λ b. b.dictionary.entries)
-            (λ seed p. MemberHasSeed seed p.1) self.old self.new) }
+        ensures seed { OnOk result (DictionaryAdds self.old self.new) }
     {
         let (alloc, seed) = (*self.dictionary.allocator(), *self.dictionary.hasher());
         match (self.member.take(), event) {
@@ -110,8 +107,7 @@ impl<'de> Visitor<'de> for DictionaryBuilder {
     type Error = OutOfMemory;
 
     ghost takes = { λ s event after.
-        (dictionary_state after ≡ dictionary_step (dictionary_state s) event) × AddsUnder DictionaryAddsUnder
-        (λ b. b.dictionary.entries) (λ seed p. MemberHasSeed seed p.1) s after };
+        (dictionary_state after ≡ dictionary_step (dictionary_state s) event) × DictionaryAdds s after };
 
     ghost fails = { λ s event fault. IsTrue (dictionary_takes_memory (dictionary_state s) event) };
 

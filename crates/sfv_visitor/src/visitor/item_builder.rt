@@ -2,11 +2,11 @@
 
 ghost use Rattle.std.specs.Prelude.{◌≡◌, false, OnOk, OnErr, IsTrue};
 ghost use Rattle.sfv_spec.specs.Values.{RawItem, item};
-ghost use Rattle.sfv_tree.specs.Seeds.{ItemHasSeed, KeepsSeed};
+ghost use Rattle.sfv_tree.specs.Seeds.{ItemHasSeed};
 ghost use Rattle.sfv_tree.specs.Trees.{item_tree};
 ghost use Rattle.sfv_tree.specs.declared.hash_seed.HashSeed.{HashSeed};
 ghost use Rattle.sfv_visitor.specs.Events.{event_of, is_moved};
-ghost use Rattle.sfv_visitor.specs.Builders.{item_head, ended, member_step, item_state, takes_memory};
+ghost use Rattle.sfv_visitor.specs.Builders.{item_head, ended, member_step, step_state, takes_memory};
 ghost use Rattle.sfv_visitor.specs.Builders.{IsItemUnder};
 ghost use Rattle.sfv_visitor.specs.declared.visitor.ItemFault.TheVariants as faults;
 
@@ -33,7 +33,7 @@ pub struct ItemBuilder {
 impl ItemBuilder {
     /// Creates a builder that has received no event. It allocates from `alloc`, and builds parameters under `seed`.
     pub fn new(alloc: Global, seed: HashSeed) -> ItemBuilder
-        ensures state { item_state result ≡ item_head }
+        ensures state { step_state result.item ≡ item_head }
         ensures seed { IsItemUnder seed result }
     {
         ItemBuilder {
@@ -45,10 +45,11 @@ impl ItemBuilder {
 
     #[inline(always)]
     fn step(&mut self, event: Event<'_>) -> Result<(), OutOfMemory>
-        ensures state { OnOk result (item_state self.new ≡ member_step (item_state self.old) (event_of event.entry)) }
-        ensures out_of_memory { OnErr result (IsTrue (takes_memory (item_state self.old) (event_of event.entry))) }
+        ensures state { OnOk result (step_state self.new.item
+            ≡ member_step (step_state self.old.item) (event_of event.entry)) }
+        ensures out_of_memory { OnErr result (IsTrue (takes_memory (step_state self.old.item) (event_of event.entry))) }
         ensures copied { OnErr result (is_moved event.entry ≡ false) }
-        ensures seed { OnOk result (KeepsSeed IsItemUnder self.old self.new) }
+        ensures seed { OnOk result ((seed : HashSeed) → IsItemUnder seed self.old → IsItemUnder seed self.new) }
     {
         match mem::replace(&mut self.item, Step::Within(Member::ItemHead)) {
             Step::Within(item) => self.item = item.step(self.alloc, self.seed, 0, event)?,
@@ -64,16 +65,17 @@ impl<'de> Visitor<'de> for ItemBuilder {
     type Error = ItemFault;
 
     ghost takes = { λ s event after.
-        (item_state after ≡ member_step (item_state s) event) × KeepsSeed IsItemUnder s after };
+        (step_state after.item ≡ member_step (step_state s.item) event)
+        × ((seed : HashSeed) → IsItemUnder seed s → IsItemUnder seed after) };
 
-    ghost fails = { λ s event fault. (fault ≡ faults.OutOfMemory) × IsTrue (takes_memory (item_state s) event) };
+    ghost fails = { λ s event fault. (fault ≡ faults.OutOfMemory) × IsTrue (takes_memory (step_state s.item) event) };
 
     ghost fails_read = { λ _ event _. is_moved event ≡ false };
 
-    ghost finishes = { λ s out. (item_state s ≡ ended (item (item_tree out)))
+    ghost finishes = { λ s out. (step_state s.item ≡ ended (item (item_tree out)))
         × ((seed : HashSeed) → IsItemUnder seed s → ItemHasSeed seed out) };
 
-    ghost finish_fails = { λ s fault. (fault ≡ faults.NoItem) × ((i : RawItem) → ¬ (item_state s ≡ ended (item i))) };
+    ghost finish_fails = { λ s fault. (fault ≡ faults.NoItem) × ((i : RawItem) → ¬ (step_state s.item ≡ ended (item i))) };
 
     ghost is_memory = { λ fault. fault ≡ faults.OutOfMemory };
 

@@ -1,14 +1,13 @@
 //! The visitor that builds a list.
 
 ghost use Rattle.std.specs.Prelude.{◌≡◌, ⊤, false, None, OnOk, OnErr, IsTrue};
-ghost use Rattle.sfv_tree.specs.Seeds.{MemberHasSeed};
 ghost use Rattle.sfv_tree.specs.Trees.{list_tree};
 ghost use Rattle.sfv_bare.specs.BareItems.{input_value};
 ghost use Rattle.sfv_spec.specs.Events as tree;
 ghost use Rattle.sfv_text.specs.CheckedTexts.{text_of};
 ghost use Rattle.sfv_visitor.specs.Events.{event_of, is_moved};
 ghost use Rattle.sfv_visitor.specs.Builders.{list_step, list_state, list_takes_memory};
-ghost use Rattle.sfv_visitor.specs.Builders.{ListAddsUnder, AddsUnder};
+ghost use Rattle.sfv_visitor.specs.Builders.{ListAddsUnder, ListAdds};
 
 use crate::visitor::member::{Member, Step};
 use crate::visitor::{Event, Visitor};
@@ -57,8 +56,7 @@ impl ListBuilder {
     ) -> Result<(), OutOfMemory>
         ensures state { OnOk result (list_state self.new
             ≡ list_step (list_state self.old) (tree.parameter (text_of key.entry) (input_value value.entry))) }
-        ensures seed { OnOk result
-            (AddsUnder ListAddsUnder (λ b. b.list.items) MemberHasSeed self.old self.new) }
+        ensures seed { OnOk result (ListAdds self.old self.new) }
         ensures out_of_memory { OnErr result (IsTrue (list_takes_memory (list_state self.old)
             (tree.parameter (text_of key.entry) (input_value value.entry)))) }
     {
@@ -72,8 +70,7 @@ impl ListBuilder {
     #[inline(always)]
     fn step(&mut self, event: Event<'_>) -> Result<(), OutOfMemory>
         ensures state { OnOk result (list_state self.new ≡ list_step (list_state self.old) (event_of event.entry)) }
-        ensures seed { OnOk result
-            (AddsUnder ListAddsUnder (λ b. b.list.items) MemberHasSeed self.old self.new) }
+        ensures seed { OnOk result (ListAdds self.old self.new) }
         ensures out_of_memory { OnErr result (IsTrue (list_takes_memory (list_state self.old) (event_of event.entry))) }
         ensures copied { OnErr result (is_moved event.entry ≡ false) }
     {
@@ -102,8 +99,7 @@ impl<'de> Visitor<'de> for ListBuilder {
     type Error = OutOfMemory;
 
     ghost takes = { λ s event after.
-        (list_state after ≡ list_step (list_state s) event)
-        × AddsUnder ListAddsUnder (λ b. b.list.items) MemberHasSeed s after };
+        (list_state after ≡ list_step (list_state s) event) × ListAdds s after };
 
     ghost fails = { λ s event fault. IsTrue (list_takes_memory (list_state s) event) };
 

@@ -8,7 +8,7 @@ use Rattle.sfv.specs.Types.{HashSeed, DictionaryBuilder, ListEntry}
 use Rattle.sfv.specs.Maps.{IndexMap}
 use Rattle.sfv.specs.Seeds.{MemberHasSeed, DictionaryHasSeed}
 use Rattle.sfv.proofs.Callers.{dictionary_in_lines, dictionary_after, dictionary_seeded, read_is_value}
-use Rattle.sfv.specs.Builders.{dictionary_state, dictionary_step, DictionaryAddsUnder, AddsUnder}
+use Rattle.sfv.specs.Builders.{dictionary_state, dictionary_step, DictionaryAdds}
 use Rattle.sfv_uses.proofs.Uses.{second_fails}
 use Rattle.sfv_uses.proofs.reading.dictionary_of_lines.Goals as goal
 
@@ -41,8 +41,7 @@ returns-clause-rejected c =
     let read : IsParsedAs Rfc9651 dictionary_field c.args.first.now (dictionary_tree c.in_ok-held.held.entries) =
     rw (c.with_hash_seed-parser.ensures, c.new.ensures) at c.in_ok-held.ensures.read in
     second_fails dictionary_field (λ (s : DictionaryBuilder) e after.
-    (dictionary_state after ≡ dictionary_step (dictionary_state s) e) × AddsUnder DictionaryAddsUnder (λ (b : DictionaryBuilder). b.dictionary.entries)
-    (λ seed (p : List ℕ × ListEntry). MemberHasSeed seed p.1) s after)
+    (dictionary_state after ≡ dictionary_step (dictionary_state s) e) × DictionaryAdds s after)
     (λ s (dictionary : IndexMap (List ℕ) ListEntry HashSeed). dictionary ≡ s.dictionary) c.args.first.now
     c.args.second.now c.new-builder.result c.parse_dictionary_with_visitor.result (read.raw, read.accepted)
     (rw c.new-2.ensures at c.parse_dictionary_with_visitor.ensures.syntax)

@@ -7,7 +7,7 @@ use Rattle.sfv.specs.Types.{Rfc9651}
 use Rattle.sfv.specs.Statements.{IsParsedAs}
 use Rattle.sfv.specs.Trees.{list_tree}
 use Rattle.sfv.specs.Seeds.{MemberHasSeed, ListHasSeed}
-use Rattle.sfv.specs.Builders.{list_state, list_step, ListAddsUnder, AddsUnder}
+use Rattle.sfv.specs.Builders.{list_state, list_step, ListAdds}
 use Rattle.sfv.specs.Types.{ListBuilder, ListEntry}
 use Rattle.sfv.proofs.Callers.{list_in_lines, list_after, list_seeded}
 use Rattle.sfv_uses.proofs.Uses.{second_fails}
@@ -41,6 +41,6 @@ returns-clause-rejected c =
     let read : IsParsedAs Rfc9651 list_field c.args.first.now (list_tree c.in_ok-held.held.items) =
     rw (c.with_hash_seed-parser.ensures, c.new.ensures) at c.in_ok-held.ensures.read in
     second_fails list_field (λ (s : ListBuilder) e after. (list_state after ≡ list_step (list_state s) e)
-    × AddsUnder ListAddsUnder (λ (b : ListBuilder). b.list.items) MemberHasSeed s after) (λ s (list : Vec ListEntry Global). list ≡ s.list)
+    × ListAdds s after) (λ s (list : Vec ListEntry Global). list ≡ s.list)
     c.args.first.now c.args.second.now c.new-builder.result c.parse_list_with_visitor.result
     (read.raw, read.accepted) (rw c.new-2.ensures at c.parse_list_with_visitor.ensures.syntax)

@@ -1,4 +1,4 @@
-use Rattle.std.proofs.Common.{◌≡◌, ◌∙◌, refl}
+use Rattle.std.proofs.Common.{◌≡◌, refl}
 use Rattle.sfv_bare.proofs.Copies.{copied_value}
 use Rattle.sfv_bare.specs.BareItems.{bare_value}
 use Rattle.sfv_tree.proofs.parsed.ItemClone.clone.Goals as goal
@@ -10,6 +10,6 @@ returns c =
     record {
       cases = (
         rw (c.with_params.ensures.value, c.with_params.ensures.params, value, c.in_ok-params.ensures.tree) refl,
-        λ seed h. rw c.with_params.ensures.params (c.in_ok-params.ensures.seed ∙ h),
+        rw c.with_params.ensures.params c.in_ok-params.ensures.seed,
       );
     }

@@ -1,16 +1,14 @@
-use Rattle.std.proofs.Common.{rules, ◌≡◌, ◌∙◌, false, refl, sym, subst, ℕ, List}
+use Rattle.std.proofs.Common.{rules, ◌≡◌, ◌∙◌, false, refl, sym, subst, inl, inr, ℕ, List}
 use Rattle.std.proofs.lemmas.Map.Made.{lookup-map_values}
-use Rattle.std.specs.Prelude.{⊤, Option, Some, MatchOption, IsTrue, bytes_eq}
+use Rattle.std.specs.Prelude.{⊤, Option, Some, MatchOption, IsTrue}
 use Rattle.sfv_tree.proofs.Entered.{dictionary_tree-insert}
 use Rattle.sfv_tree.specs.Seeds.{MemberHasSeed}
 use Rattle.sfv_tree.specs.Trees.{member_tree}
-use Rattle.sfv_tree.specs.declared.parsed.ListEntry.{ListEntry}
 use Rattle.sfv_visitor.specs.Builders.{member_state, member_step, HasSeedSoFar, StepHasSeed}
 use Rattle.sfv_visitor.specs.Builders.{dictionary_state, dictionary_takes_memory, ended}
 use Rattle.sfv_visitor.specs.Events.{event_of, is_moved}
 use Rattle.sfv_visitor.specs.declared.visitor.member.Member.{Member}
 use Rattle.sfv_visitor.proofs.Members.{ends_here, not_moved, settles_pair, or_true}
-use Rattle.sfv_visitor.proofs.Seeded.{adds_none, adds_entered}
 use Rattle.sfv_visitor.proofs.visitor.dictionary_builder.DictionaryBuilder.step.Goals as goal
 use Rattle.sfv_visitor.proofs.visitor.dictionary_builder.DictionaryBuilder.step.Goals.{in-None-KeyedEntry+in_ok-to_owned-in-None-KeyedEntry, in-None-default}
 
@@ -31,9 +29,9 @@ returns-in_err-insert-in-Ended-clause-copied c =
 pub returns-after-event-clause-seed : goal.returns-after-event-clause-seed
 returns-after-event-clause-seed c = elim c.match-event.branch [
   | in-None-KeyedEntry+in_ok-to_owned-in-None-KeyedEntry w ↦ rw (w.result-is, w.self-is)
-      (λ seed h. ((h.0, tt), adds_none (λ (p : List ℕ × ListEntry). MemberHasSeed seed p.1) _))
+      (λ seed h. ((h.0, tt), inl refl))
   | in-None-default w ↦ rw (w.result-is, w.self-is, c.take.ensures.after)
-      (λ seed h. ((h.0, tt), adds_none (λ (p : List ℕ × ListEntry). MemberHasSeed seed p.1) _))
+      (λ seed h. ((h.0, tt), inl refl))
 ]
 
 pub returns-in-Within-clause-state : goal.returns-in-Within-clause-state
@@ -58,5 +56,5 @@ returns-in_ok-insert-in-Ended-clause-seed c = λ seed h.
     let stays = rw (c.hasher.ensures, h.0) at c.in_ok-member-in-Some-default.ensures.seed in
     let member : MemberHasSeed seed c.in-Ended.member = subst (StepHasSeed seed) c.in-Ended.is (stays before) in (
       (c.insert.ensures.hasher ∙ h.0, rw c.take.ensures.after tt),
-      rw c.in_ok-insert-in-Ended.ensures.entries (adds_entered bytes_eq (MemberHasSeed seed) _ _ _ member),
+      inr (c.in-Some-default.key, c.in-Ended.member, c.in_ok-insert-in-Ended.ensures.entries, member),
     )

@@ -1,4 +1,4 @@
-use Rattle.std.proofs.Common.{rules, ◌≡◌, false, subst}
+use Rattle.std.proofs.Common.{rules, ◌≡◌, false, refl, subst, inl, inr}
 use Rattle.std.specs.Prelude.{⊤, Option, Some, MatchOption, IsTrue}
 use Rattle.sfv_tree.specs.Seeds.{MemberHasSeed}
 use Rattle.sfv_tree.specs.Trees.{member_tree}
@@ -7,7 +7,6 @@ use Rattle.sfv_visitor.specs.Builders.{list_state, list_takes_memory, ended}
 use Rattle.sfv_visitor.specs.Events.{event_of, is_moved}
 use Rattle.sfv_visitor.specs.declared.visitor.member.Member.{Member}
 use Rattle.sfv_visitor.proofs.Members.{ends_here, not_moved, or_true}
-use Rattle.sfv_visitor.proofs.Seeded.{adds_none, adds_push}
 use Rattle.sfv_visitor.proofs.visitor.list_builder.ListBuilder.step.Goals as goal
 use Rattle.sfv_visitor.proofs.visitor.list_builder.ListBuilder.step.Goals.{in-None-Entry, in-None-default}
 
@@ -27,9 +26,9 @@ returns-in_err-push-in-Ended-clause-copied c =
 
 pub returns-after-event-clause-seed : goal.returns-after-event-clause-seed
 returns-after-event-clause-seed c = elim c.match-event.branch [
-  | in-None-Entry w ↦ rw (w.result-is, w.self-is) (λ seed h. ((h.0, tt), adds_none (MemberHasSeed seed) _))
+  | in-None-Entry w ↦ rw (w.result-is, w.self-is) (λ seed h. ((h.0, tt), inl refl))
   | in-None-default w ↦ rw (w.result-is, w.self-is, c.take.ensures.after)
-      (λ seed h. ((h.0, tt), adds_none (MemberHasSeed seed) _))
+      (λ seed h. ((h.0, tt), inl refl))
 ]
 
 pub returns-in_ok-push-in-Ended-clause-seed : goal.returns-in_ok-push-in-Ended-clause-seed
@@ -40,5 +39,5 @@ returns-in_ok-push-in-Ended-clause-seed c = λ seed h.
     let member : MemberHasSeed seed c.in-Ended.member =
     subst (StepHasSeed seed) c.in-Ended.is (rw h.0 at c.in_ok-member-in-Some-default.ensures.seed before) in (
       (h.0, rw c.take.ensures.after tt),
-      rw c.in_ok-push-in-Ended.ensures.items (adds_push (MemberHasSeed seed) _ _ member),
+      inr (c.in-Ended.member, c.in_ok-push-in-Ended.ensures.items, member),
     )
