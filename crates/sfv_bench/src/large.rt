@@ -1,10 +1,10 @@
 //! Large fields.
 
 use crate::fields::Field;
+use crate::keys::{letters, place};
 use crate::random::Random;
-use sfv::{FieldKind, HashSeed, KeyRef};
+use sfv::{FieldKind, KeyRef};
 use std::alloc::{AllocError, Global};
-use std::hash::BuildHasher;
 
 /// The number of kinds of large fields.
 pub const KINDS: u64 = 15;
@@ -44,17 +44,6 @@ fn dictionary_parts(kind: u64) -> (&'static str, &'static str, &'static str) {
     }
 }
 
-// Returns a key of six letters that the number determines.
-fn letters(number: u64) -> [u8; 6] {
-    let mut left = number;
-    let mut letters = [b'a'; 6];
-    for letter in letters.iter_mut().rev() {
-        *letter = b'a' + (left % 26) as u8;
-        left /= 26;
-    }
-    letters
-}
-
 // Appends members whose keys begin their search at one place in a map under the library's seed.
 fn push_colliding(random: &mut Random, field: &mut Field) -> Result<(), AllocError> {
     let start = random.next();
@@ -64,8 +53,7 @@ fn push_colliding(random: &mut Random, field: &mut Field) -> Result<(), AllocErr
         let Ok(key) = KeyRef::from_bytes(&letters) else {
             continue;
         };
-        let hash = HashSeed::default().hash_one(key);
-        let place = (hash ^ (hash >> 32)) & 0xff00_0060;
+        let place = place(key, 0xff00_0060);
         if *wanted.get_or_insert(place) == place {
             field.text.extend_from_slice(b", ")?;
             field.text.extend_from_slice(&letters)?;

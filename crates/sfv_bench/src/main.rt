@@ -8,11 +8,13 @@
 //! - `write`: small fields call by call, and by lists of calls;
 //! - `reject`: small fields with an error;
 //! - `large`: fields of 200 KB to trees and to their canonical texts, and a field of keys that collide;
+//! - `keys`: 1,000 colliding keys for each round, under the library's seed and a random one, with times;
 //! - `all`: each job.
 #![tactic(auto)]
 
 mod digest;
 mod fields;
+mod keys;
 mod large;
 mod parse;
 mod random;
@@ -25,6 +27,7 @@ mod write;
 
 use crate::digest::Digest;
 use crate::fields::Field;
+use crate::keys::print_keys;
 use crate::large::{KINDS, large_field};
 use crate::random::Random;
 use crate::templates::{Shape, any_field, head};
@@ -174,7 +177,7 @@ fn report(rt: &HostRuntime, job: &str, digest: Result<u64, Error>) -> io::Result
     }
 }
 
-/// Does a job, and prints its digest. Returns `false` after an error, or if there is no such job.
+/// Does a job, and prints its digest or its times. Returns `false` after an error, or if there is no such job.
 fn perform(rt: &HostRuntime, job: &str, seed: u64, rounds: u64) -> io::Result<bool> {
     let alloc = rt.alloc();
     match job {
@@ -184,6 +187,10 @@ fn perform(rt: &HostRuntime, job: &str, seed: u64, rounds: u64) -> io::Result<bo
         "write" => report(rt, job, write_all(alloc, seed, rounds)),
         "reject" => report(rt, job, reject_all(alloc, seed, rounds)),
         "large" => report(rt, job, large_all(alloc, seed, rounds)),
+        "keys" => {
+            print_keys(rt, 1000 * rounds)?;
+            Ok(true)
+        }
         _ => Ok(false),
     }
 }
@@ -199,7 +206,9 @@ fn main(rt: HostRuntime) -> io::Result<ExitCode> {
     };
     let (seed, rounds) = (u64::from(seed), u64::from(rounds));
     if job.as_str() == "all" {
-        for job in ["parse", "read", "rewrite", "write", "reject", "large"] {
+        for job in [
+            "parse", "read", "rewrite", "write", "reject", "large", "keys",
+        ] {
             if !perform(&rt, job, seed, rounds)? {
                 return Ok(ExitCode::FAILURE);
             }
