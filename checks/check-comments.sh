@@ -6,7 +6,7 @@
 cd "$(dirname "$0")/.." || exit 2
 
 folders=
-for crate in sfv_spec sfv_base sfv_text sfv_bare sfv_tree sfv_visitor sfv_writer sfv_serializer sfv sfv_field; do
+for crate in sfv_spec sfv_base sfv_values sfv_tree sfv_writer sfv_serializer sfv sfv_readers; do
     [ -d "crates/$crate/specs" ] || { echo "no crates/$crate/specs" >&2; exit 2; }
     folders="$folders crates/$crate/specs"
 done

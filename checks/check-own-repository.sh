@@ -1,6 +1,6 @@
 #!/bin/sh
 # Usage: checks/check-own-repository.sh [FOLDER]
-# Creates a repository that uses the library, and checks its crate, the smallest field crate. The ten crates of the
+# Creates a repository that uses the library, and checks its crate, the smallest field crate. The nine crates of the
 # library are copied without their must-fail edits, with their lines of `crates.txt`. The repository stays in FOLDER,
 # which must be absent or empty. Without FOLDER it is in a temporary folder, and removed.
 #
@@ -25,8 +25,8 @@ case $# in
 esac
 cd "$(dirname "$0")/.." || exit 2
 
-for crate in sfv_spec sfv_reading sfv_base sfv_text sfv_bare sfv_tree sfv_visitor sfv_writer sfv_serializer sfv \
-    sfv_mobile_hint; do
+for crate in sfv_spec sfv_model sfv_base sfv_values sfv_tree sfv_writer sfv_serializer sfv sfv_readers \
+    sfv_first_field; do
     mkdir -p "$folder/crates/$crate" || exit 2
     for part in src specs proofs out; do
         [ ! -d "crates/$crate/$part" ] || cp -a "crates/$crate/$part" "$folder/crates/$crate/" || exit 2
@@ -37,7 +37,7 @@ cp HANDLES .gitignore "$folder/" || exit 2
 (cd "$folder" && git init -q .) || exit 2
 
 log=$(mktemp) || exit 2
-(cd "$folder/crates/sfv_mobile_hint" && rt check) >"$log" 2>&1
+(cd "$folder/crates/sfv_first_field" && rt check) >"$log" 2>&1
 status=$?
 tail -n 1 "$log"
 grep -q '^logic=proved ' "$log" || status=1

@@ -6,7 +6,7 @@ cd "$(dirname "$0")/.." || exit 2
 room=$(mktemp -d) || exit 2
 trap 'rm -rf "$room"' EXIT
 
-for crate in sfv_spec sfv_reading sfv_base sfv_text sfv_bare sfv_tree sfv_visitor sfv_writer sfv_serializer sfv; do
+for crate in sfv_spec sfv_model sfv_base sfv_values sfv_tree sfv_writer sfv_serializer sfv; do
     mkdir -p "$room/crates/$crate" || exit 2
     for part in src specs proofs out; do
         [ ! -d "crates/$crate/$part" ] || cp -a "crates/$crate/$part" "$room/crates/$crate/" || exit 2

@@ -30,16 +30,16 @@ use Rattle.sfv_spec.specs.declared.error_kind.ErrorKind.{ErrorKind}
 use Rattle.sfv_base.specs.declared.error.Error.{Error}
 use Rattle.sfv_base.specs.Errors.{index_of, kind_of, out_of_memory}
 use Rattle.sfv_tree.specs.Trees.{list_tree, dictionary_tree}
-use Rattle.sfv_visitor.specs.Builders.{list_state, list_step, dictionary_state}
-use Rattle.sfv_visitor.specs.Builders.{ListAdds, DictionaryAdds}
+use Rattle.sfv_tree.specs.Builders.{list_state, list_step, dictionary_state}
+use Rattle.sfv_tree.specs.Builders.{ListAdds, DictionaryAdds}
 use Rattle.sfv_tree.specs.Seeds.{MemberHasSeed}
 use Rattle.sfv_tree.specs.declared.hash_seed.HashSeed.{HashSeed}
-use Rattle.sfv_visitor.specs.Builders.{dictionary_step}
+use Rattle.sfv_tree.specs.Builders.{dictionary_step}
 use Rattle.sfv_tree.specs.declared.parsed.ListEntry.{ListEntry}
-use Rattle.sfv_visitor.specs.declared.visitor.list_builder.ListBuilder.{ListBuilder}
-use Rattle.sfv_visitor.specs.declared.visitor.dictionary_builder.DictionaryBuilder.{DictionaryBuilder}
+use Rattle.sfv_tree.specs.declared.visitor.list_builder.ListBuilder.{ListBuilder}
+use Rattle.sfv_tree.specs.declared.visitor.dictionary_builder.DictionaryBuilder.{DictionaryBuilder}
 use Rattle.sfv_base.specs.declared.error.ParseError.{ParseError}
-use Rattle.sfv_visitor.specs.declared.visitor.Visitor.{Ghosts as Visitor}
+use Rattle.sfv_tree.specs.declared.visitor.Visitor.{Ghosts as Visitor}
 use Rattle.sfv.specs.declared.parser.Parser.{Parser}
 use Rattle.sfv.specs.Parsers.{version_of, input_of}
 use Rattle.sfv.specs.Parsers.{IsParseError, IsAnswerBy, IsSyntaxErrorBy, IsVisitorErrorBy, ReceivesFirstBy}
@@ -61,7 +61,7 @@ pub use Rattle.sfv.proofs.Lines.{list_in_lines, dictionary_in_lines}
 pub use Rattle.sfv_tree.proofs.Entered.{dictionary_tree-insert, pairs_tree-insert}
 -- The result of an accessor of a bare item, as the content of its value. `integer_part` says it of `as_integer`,
 -- whatever type owns the texts.
-pub use Rattle.sfv_bare.proofs.Parts.{decimal_part, integer_part, boolean_part, date_part, display_string_part}
+pub use Rattle.sfv_values.proofs.Parts.{decimal_part, integer_part, boolean_part, date_part, display_string_part}
 -- an iterator over all parameters of a map writes the text of these parameters
 pub use Rattle.sfv_writer.proofs.RoomOfIterators.{parameters_all}
 -- A field without repeated keys (`IsOrdered`) is its own ordered value, and a field that is its own ordered value has
@@ -246,8 +246,11 @@ module _ {S O E : Type 0} {v : Visitor S O E} {p : Parser} {Made : S → Type 0}
   -- the bare item of the field was received as parsed, borrowed unless it has escapes
   pub made_lent : WithSomeVisitor Made (ReadsItemBy v p) r
       → IfOk r (WithSomeVisitor Made (HasBorrowed v.takes v.takes_read v.finishes (version_of p) (input_of p)))
-  made_lent h = IfOk-weaker r _ _ (λ out k. (h.0, h.1,
-      first_as_read v.takes v.takes_read v.finishes (version_of p) (input_of p) h.0 out k)) h.2.all.as_read
+  made_lent h = IfOk-weaker r _ _ (λ out k. (
+    h.0,
+    h.1,
+    first_as_read v.takes v.takes_read v.finishes (version_of p) (input_of p) h.0 out k,
+  )) h.2.all.as_read
 
 -- on accepted input, an error is out of memory
 pub accepted_error : (version : Version) (kind : FieldKind) (t : List ℕ) (raw : RawField kind) (e : Error)

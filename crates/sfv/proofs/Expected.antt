@@ -13,14 +13,14 @@ use Rattle.sfv_base.specs.declared.error.Error.{Error}
 use Rattle.sfv_base.specs.declared.error.ParseError.{ParseError}
 use Rattle.sfv_base.specs.declared.error.ParseError.TheVariants.{Syntax, Visitor}
 use Rattle.sfv_base.specs.Errors.{out_of_memory}
-use Rattle.sfv_bare.specs.BareItems.{input_value}
-use Rattle.sfv_visitor.specs.declared.visitor.ItemFault.{ItemFault}
-use Rattle.sfv_visitor.specs.declared.visitor.ItemFault.TheVariants as faults
-use Rattle.sfv_visitor.specs.Events.{event_of}
-use Rattle.sfv_visitor.specs.declared.visitor.Event.{Event}
-use Rattle.sfv_visitor.specs.declared.visitor.Event.TheVariants as event
-use Rattle.sfv_visitor.specs.ProvidedVisitors.{ReadBareItem, OnRead, item_kept, KeepTakes, KeepFails}
-use Rattle.sfv_visitor.specs.declared.expect_item.ExpectItem.{ExpectItem}
+use Rattle.sfv_values.specs.BareItems.{input_value}
+use Rattle.sfv_tree.specs.declared.visitor.ItemFault.{ItemFault}
+use Rattle.sfv_tree.specs.declared.visitor.ItemFault.TheVariants as faults
+use Rattle.sfv_tree.specs.Events.{event_of}
+use Rattle.sfv_tree.specs.declared.visitor.Event.{Event}
+use Rattle.sfv_tree.specs.declared.visitor.Event.TheVariants as event
+use Rattle.sfv_tree.specs.ProvidedVisitors.{ReadBareItem, OnRead, item_kept, KeepTakes, KeepFails}
+use Rattle.sfv_tree.specs.declared.expect_item.ExpectItem.{ExpectItem}
 use Rattle.sfv.specs.Parsers.{IsBorrowedIfPlain}
 use Rattle.sfv.proofs.built.Seeded.{runs_weaker}
 use Rattle.sfv.proofs.Relations.{WithSomeVisitor, Answers, FailsIn, HasVisitorError, HasFirst, HasBorrowed}

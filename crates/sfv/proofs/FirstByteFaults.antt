@@ -14,12 +14,12 @@ use Rattle.sfv_spec.specs.Events.{TreeEvent, entry, begins_item, events, entry_e
 use Rattle.sfv_base.specs.declared.error.Error.{Error}
 use Rattle.sfv_spec.specs.declared.error_kind.ErrorKind.{ErrorKind}
 use Rattle.sfv_spec.specs.declared.error_kind.ErrorKind.TheVariants.{ExpectedStartOfBareItem}
-use Rattle.sfv_reading.specs.Reader.{Answer, Apart, first, byte, span, led, led_answer}
-use Rattle.sfv_reading.specs.Bare.{bare_at}
-use Rattle.sfv_reading.specs.Items.{key_at, item_at}
-use Rattle.sfv_reading.specs.Members.{member_at, entry_at, keyed_at}
-use Rattle.sfv_reading.specs.Fields.{whole_field_at, read_field}
-use Rattle.sfv_reading.proofs.complete.Combinators.{branch_past}
+use Rattle.sfv_model.specs.Reader.{Answer, Apart, first, byte, span, led, led_answer}
+use Rattle.sfv_model.specs.Bare.{bare_at}
+use Rattle.sfv_model.specs.Items.{key_at, item_at}
+use Rattle.sfv_model.specs.Members.{member_at, entry_at, keyed_at}
+use Rattle.sfv_model.specs.Fields.{whole_field_at, read_field}
+use Rattle.sfv_model.proofs.complete.Combinators.{branch_past}
 use Rattle.sfv.specs.Parsers.{IsParseError}
 use Rattle.sfv.specs.Memory.{IsRefusal}
 use Rattle.sfv.specs.declared.parser.Parser.{Parser}

@@ -11,7 +11,7 @@ use Rattle.sfv_spec.specs.declared.version.Version.{Version}
 use Rattle.sfv_spec.proofs.Collapse.{collapse-distinct, no_repeats-collapse, entered_all, entered_all-collapse}
 use Rattle.sfv_spec.proofs.Distinct.{is_ordered, ordered_same}
 use Rattle.sfv_spec.proofs.Structure.{one_field_lem}
-use Rattle.sfv_reading.proofs.Lines.{joined_lines_lem}
+use Rattle.sfv_model.proofs.Lines.{joined_lines_lem}
 use Rattle.sfv.proofs.built.Dictionaries.{collapse-over}
 
 -- the value of the first line has the same effect as its members

@@ -15,10 +15,10 @@ use Rattle.sfv_base.specs.declared.error.Error.{Error}
 use Rattle.sfv_spec.specs.declared.error_kind.ErrorKind.{ErrorKind}
 use Rattle.sfv_spec.specs.declared.error_kind.ErrorKind.TheVariants.{OutOfMemory}
 use Rattle.sfv_base.specs.Errors.{error_of, out_of_memory}
-use Rattle.sfv_reading.specs.Reader.{Fault}
-use Rattle.sfv_reading.specs.Fields.{read_field}
-use Rattle.sfv_reading.proofs.Theorems.{read_is_accepted}
-use Rattle.sfv_reading.proofs.FaultTable.{fault_is_at, fault_rejects}
+use Rattle.sfv_model.specs.Reader.{Fault}
+use Rattle.sfv_model.specs.Fields.{read_field}
+use Rattle.sfv_model.proofs.Theorems.{read_is_accepted}
+use Rattle.sfv_model.proofs.FaultTable.{fault_is_at, fault_rejects}
 use Rattle.sfv.specs.parser.Cursor.{located_whole}
 use Rattle.sfv.specs.Parsers.{IsParseError}
 use Rattle.sfv.specs.Memory.{IsRefusal}

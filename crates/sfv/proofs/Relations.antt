@@ -15,15 +15,15 @@ use Rattle.sfv_spec.specs.Events.{TreeEvent, bare_item, parameters_events, item_
 use Rattle.sfv_base.specs.declared.error.ParseError.{ParseError}
 use Rattle.sfv_base.specs.declared.error.ParseError.TheVariants.{Syntax, Visitor}
 use Rattle.sfv_base.specs.Errors.{error_of, out_of_memory}
-use Rattle.sfv_bare.specs.BareItems.{input_value}
-use Rattle.sfv_visitor.specs.declared.visitor.Event.{Event}
-use Rattle.sfv_visitor.specs.declared.visitor.Event.TheVariants as event
-use Rattle.sfv_visitor.specs.Events.{event_of}
-use Rattle.sfv_visitor.specs.ProvidedVisitors.{ReadBareItem}
+use Rattle.sfv_values.specs.BareItems.{input_value}
+use Rattle.sfv_tree.specs.declared.visitor.Event.{Event}
+use Rattle.sfv_tree.specs.declared.visitor.Event.TheVariants as event
+use Rattle.sfv_tree.specs.Events.{event_of}
+use Rattle.sfv_tree.specs.ProvidedVisitors.{ReadBareItem}
 use Rattle.sfv_spec.proofs.Valid.{accepted_is_value_lem}
-use Rattle.sfv_reading.specs.Reader.{Fault}
-use Rattle.sfv_reading.specs.Fields.{read_field}
-use Rattle.sfv_reading.proofs.Theorems.{read_is_accepted}
+use Rattle.sfv_model.specs.Reader.{Fault}
+use Rattle.sfv_model.specs.Fields.{read_field}
+use Rattle.sfv_model.proofs.Theorems.{read_is_accepted}
 use Rattle.sfv.specs.Parsers.{IsParseError, IsBorrowedIfPlain, AreReadFrom}
 use Rattle.sfv.specs.parser.Visits.{ReturnsAfter}
 

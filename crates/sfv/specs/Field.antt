@@ -23,9 +23,9 @@ pub use Rattle.sfv_spec.specs.Events.{keyed_events, events}
 -- the values of Rust types
 pub use Rattle.sfv_base.specs.Numbers.{integer_of, thousandths_of, seconds_of}
 pub use Rattle.sfv_base.specs.Errors.{index_of, kind_of, out_of_memory}
-pub use Rattle.sfv_text.specs.CheckedTexts.{text_of}
-pub use Rattle.sfv_bare.specs.BareItems.{bare_value, ref_value, input_value, read_text}
-pub use Rattle.sfv_visitor.specs.Builders.{plain_item}
+pub use Rattle.sfv_values.specs.CheckedTexts.{text_of}
+pub use Rattle.sfv_values.specs.BareItems.{bare_value, ref_value, input_value, read_text}
+pub use Rattle.sfv_tree.specs.Builders.{plain_item}
 pub use Rattle.sfv_tree.specs.Trees.{item_tree, member_tree, list_tree, dictionary_tree, pairs_tree}
 -- the results of a parser
 pub use Rattle.sfv.specs.Parsers.{IsParseError, IsAnswerBy, IsSyntaxErrorBy, IsVisitorErrorBy}

@@ -27,21 +27,21 @@ pub use Rattle.sfv_base.specs.Conversions
 pub use Rattle.sfv_base.specs.Errors
 pub use Rattle.sfv_base.specs.Numbers as NumberValues
 pub use Rattle.sfv_base.specs.ParseErrors
-pub use Rattle.sfv_text.specs.CheckedTexts
-pub use Rattle.sfv_text.specs.Hashes
-pub use Rattle.sfv_text.specs.InvalidTexts
-pub use Rattle.sfv_text.specs.KeyText
-pub use Rattle.sfv_text.specs.StringText
-pub use Rattle.sfv_text.specs.TokenText
-pub use Rattle.sfv_bare.specs.BareItems
-pub use Rattle.sfv_bare.specs.Kinds
-pub use Rattle.sfv_visitor.specs.Builders
-pub use Rattle.sfv_visitor.specs.Events as EventValues
+pub use Rattle.sfv_values.specs.CheckedTexts
+pub use Rattle.sfv_values.specs.Hashes
+pub use Rattle.sfv_values.specs.InvalidTexts
+pub use Rattle.sfv_values.specs.KeyText
+pub use Rattle.sfv_values.specs.StringText
+pub use Rattle.sfv_values.specs.TokenText
+pub use Rattle.sfv_values.specs.BareItems
+pub use Rattle.sfv_values.specs.Kinds
+pub use Rattle.sfv_tree.specs.Builders
+pub use Rattle.sfv_tree.specs.Events as EventValues
 pub use Rattle.sfv_tree.specs.HashSeeds
 pub use Rattle.sfv_tree.specs.Seeds
-pub use Rattle.sfv_visitor.specs.ItemFaults
+pub use Rattle.sfv_tree.specs.ItemFaults
 pub use Rattle.sfv_tree.specs.Trees
-pub use Rattle.sfv_visitor.specs.ProvidedVisitors
+pub use Rattle.sfv_tree.specs.ProvidedVisitors
 pub use Rattle.sfv_writer.specs.Versions
 pub use Rattle.sfv_writer.specs.Written
 pub use Rattle.sfv_serializer.specs.Scripts

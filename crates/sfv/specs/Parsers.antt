@@ -26,14 +26,14 @@ use Rattle.sfv_base.specs.declared.error.Error.{Error}
 use Rattle.sfv_base.specs.declared.error.ParseError.{ParseError}
 use Rattle.sfv_base.specs.declared.error.ParseError.TheVariants as parse_errors
 use Rattle.sfv_base.specs.Errors.{error_of, out_of_memory}
-use Rattle.sfv_bare.specs.BareItems.{input_value, is_borrowed_string, is_borrowed_text}
-use Rattle.sfv_bare.specs.declared.bare.GenericBareItem.TheVariants as bare
+use Rattle.sfv_values.specs.BareItems.{input_value, is_borrowed_string, is_borrowed_text}
+use Rattle.sfv_values.specs.declared.bare.GenericBareItem.TheVariants as bare
 use Rattle.sfv_tree.specs.declared.hash_seed.HashSeed.{HashSeed}
-use Rattle.sfv_visitor.specs.declared.visitor.Event.{Event}
-use Rattle.sfv_visitor.specs.declared.visitor.Event.TheVariants as event
-use Rattle.sfv_visitor.specs.declared.visitor.Visitor.{Ghosts as Visitor}
-use Rattle.sfv_visitor.specs.Events.{event_of}
-use Rattle.sfv_visitor.specs.ProvidedVisitors.{ReadBareItem}
+use Rattle.sfv_tree.specs.declared.visitor.Event.{Event}
+use Rattle.sfv_tree.specs.declared.visitor.Event.TheVariants as event
+use Rattle.sfv_tree.specs.declared.visitor.Visitor.{Ghosts as Visitor}
+use Rattle.sfv_tree.specs.Events.{event_of}
+use Rattle.sfv_tree.specs.ProvidedVisitors.{ReadBareItem}
 use Rattle.sfv.specs.declared.parser.Parser.{Parser}
 use Rattle.sfv.specs.Memory.{NeedsMark}
 

@@ -10,7 +10,7 @@
 //! - `length_bound`: the canonical text is at most 8/5 as long as the text that it was parsed from;
 //! - `joined_lines`: the lines of a field, joined by a comma and a space, have the members of all lines.
 
-pub use sfv_reading::{fault_rejects, field_or_fault, joined_lines, one_fault, ruled_or_at_reach};
+pub use sfv_model::{fault_rejects, field_or_fault, joined_lines, one_fault, ruled_or_at_reach};
 pub use sfv_spec::{
     accepted_is_value, equal_texts, length_bound, newer_accepts, older_reads_back, one_field,
     one_reach, round_trip, some_reach, text_again,

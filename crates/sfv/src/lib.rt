@@ -12,9 +12,6 @@ pub mod visitor;
 
 pub use field_type::FieldType;
 pub use parser::Parser;
-pub use sfv_bare::bare::{
-    BareItem, BareItemFromInput, BareItemType, GenericBareItem, RefBareItem, StringFromInput,
-};
 pub use sfv_base::date::Date;
 pub use sfv_base::decimal::Decimal;
 pub use sfv_base::error::{Error, ErrorKind, OutOfMemory, ParseError};
@@ -27,17 +24,20 @@ pub use sfv_serializer::{
 };
 pub use sfv_spec::field_kind::FieldKind;
 pub use sfv_spec::version::Version;
-pub use sfv_text::key::Key;
-pub use sfv_text::key_ref::KeyRef;
-pub use sfv_text::shorthand::{key_ref, string_ref, token_ref};
-pub use sfv_text::string::String;
-pub use sfv_text::string_ref::StringRef;
-pub use sfv_text::token::Token;
-pub use sfv_text::token_ref::TokenRef;
 pub use sfv_tree::hash_seed::HashSeed;
 pub use sfv_tree::parsed::{
     Dictionary, InnerList, Item, List, ListEntry, Parameters, find_entry, find_param, insert_entry,
     insert_param,
 };
 pub use sfv_tree::shorthand::{dictionary, parameters};
+pub use sfv_values::bare::{
+    BareItem, BareItemFromInput, BareItemType, GenericBareItem, RefBareItem, StringFromInput,
+};
+pub use sfv_values::key::Key;
+pub use sfv_values::key_ref::KeyRef;
+pub use sfv_values::shorthand::{key_ref, string_ref, token_ref};
+pub use sfv_values::string::String;
+pub use sfv_values::string_ref::StringRef;
+pub use sfv_values::token::Token;
+pub use sfv_values::token_ref::TokenRef;
 pub use sfv_writer::SerializeError;

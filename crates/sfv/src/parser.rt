@@ -11,8 +11,8 @@ use crate::field_type::FieldType;
 use sfv_base::error::{Error, ParseError};
 use sfv_spec::version::Version;
 use sfv_tree::hash_seed::HashSeed;
-use sfv_visitor::make::{MakeDictionaryVisitor, MakeItemVisitor, MakeListVisitor};
-use sfv_visitor::visitor::Visitor;
+use sfv_tree::make::{MakeDictionaryVisitor, MakeItemVisitor, MakeListVisitor};
+use sfv_tree::visitor::Visitor;
 use std::alloc::Global;
 
 mod bare_item;

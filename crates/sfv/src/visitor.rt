@@ -1,13 +1,11 @@
 //! The trait `Visitor` and the provided visitors. A visitor receives the parts of a field during parsing. `Visitor`
 //! explains how to handle repeated keys.
 
-pub use sfv_visitor::expect_item::{ExpectItem, ExpectedItem};
-pub use sfv_visitor::ignored::Ignored;
-pub use sfv_visitor::item_visitor::{
-    ItemVisitorWith, MemoryErrors, NoMemoryError, item_visitor_with,
-};
-pub use sfv_visitor::make::{MakeDictionaryVisitor, MakeItemVisitor, MakeListVisitor};
-pub use sfv_visitor::parameter_visitor::{ParameterVisitorWith, parameter_visitor_with};
-pub use sfv_visitor::visitor::{
+pub use sfv_tree::expect_item::{ExpectItem, ExpectedItem};
+pub use sfv_tree::ignored::Ignored;
+pub use sfv_tree::item_visitor::{ItemVisitorWith, MemoryErrors, NoMemoryError, item_visitor_with};
+pub use sfv_tree::make::{MakeDictionaryVisitor, MakeItemVisitor, MakeListVisitor};
+pub use sfv_tree::parameter_visitor::{ParameterVisitorWith, parameter_visitor_with};
+pub use sfv_tree::visitor::{
     BareItemType, DictionaryBuilder, Event, ItemBuilder, ItemFault, ListBuilder, Visitor,
 };

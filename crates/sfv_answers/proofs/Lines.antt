@@ -17,7 +17,7 @@ use Rattle.sfv_answers.specs.declared.answer.ToolFault.{ToolFault}
 use Rattle.sfv_answers.specs.declared.answer.ToolFault.TheVariants as faults
 use Rattle.sfv_answers.specs.Answers.{text_or_empty, without_newline, IsAnswer, IsToolFault, IsPriorityFault}
 use Rattle.sfv.specs.Types.serialize_errors as errors
-use Rattle.sfv_fields.specs.Priority.{PriorityValue, IsPriorityOf}
+use Rattle.sfv_http_fields.specs.Priority.{PriorityValue, IsPriorityOf}
 
 -- nothing is written of a field without members
 empty_text : (kind : FieldKind) (value : RawField kind) → ¬ HasMember kind value → [] ≡ canonical kind value

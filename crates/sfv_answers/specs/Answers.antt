@@ -14,7 +14,7 @@ use Rattle.sfv.specs.Errors.{error_text}
 use Rattle.sfv.specs.Parsers.{IsParseError}
 use Rattle.sfv.specs.Versions.{IsSerializeError, serialize_error_text}
 use Rattle.sfv.specs.Types.serialize_errors as serialize_errors
-use Rattle.sfv_fields.specs.Priority.{PriorityValue, priority_text, IsPriorityOf, ErrorNeedsMark}
+use Rattle.sfv_http_fields.specs.Priority.{PriorityValue, priority_text, IsPriorityOf, ErrorNeedsMark}
 use Rattle.sfv_answers.specs.declared.answer.ToolFault.{ToolFault}
 use Rattle.sfv_answers.specs.declared.answer.ToolFault.TheVariants as faults
 

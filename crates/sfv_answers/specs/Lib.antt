@@ -1,5 +1,3 @@
 pub mod Answers
-pub mod Foo
-pub mod FooSteps
 pub mod Runs
-pub use Rattle.sfv_fields.specs.Priority
+pub use Rattle.sfv_http_fields.specs.Priority

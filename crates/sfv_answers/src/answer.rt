@@ -12,7 +12,7 @@ use sfv::{
     Dictionary, Error, FieldKind, FieldType, HashSeed, Item, List, OutOfMemory, Parser,
     SerializeError, Version,
 };
-use sfv_fields::priority::{read_priority, write_priority};
+use sfv_http_fields::priority::{read_priority, write_priority};
 use std::alloc::Global;
 use std::fmt;
 

@@ -1,9 +1,7 @@
-//! The results of the program `sfv_tool`: the canonical text of a structured field, or of a Priority field. The module
-//! `foo` is an example field.
+//! The results of the program `sfv_tool`: canonical texts of structured fields and Priority fields.
 #![tactic(auto)]
 
 pub mod answer;
-pub mod foo;
 pub mod run;
 
-pub use sfv_fields::priority;
+pub use sfv_http_fields::priority;

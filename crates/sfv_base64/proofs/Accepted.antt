@@ -15,7 +15,7 @@ use Rattle.base64.specs.declared.engine.DecodePaddingMode.TheVariants.{Indiffere
 use Rattle.base64.specs.Decode.{or_else, symbol_error, group_error, groups_error, scan, scan_steps, scan_error, no_leftover}
 use Rattle.base64.proofs.Decoding.{scan-cons_ok, scan-cons_err}
 use Rattle.sfv_spec.proofs.Marks.{is_symbol}
-use Rattle.sfv_reading.specs.Content.{most_padding}
+use Rattle.sfv_model.specs.Content.{most_padding}
 use Rattle.sfv_base64.proofs.Symbols.{IsTable, IsSymbol, symbol_of, no_symbol}
 use Rattle.sfv_base64.proofs.Groups.{four_at, one_scanned, two_scanned, three_scanned}
 

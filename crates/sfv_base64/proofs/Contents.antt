@@ -15,15 +15,15 @@ use Rattle.base64.specs.Decode.{lone_error, groups_error, groups_bytes, scan_ste
 use Rattle.base64.specs.GeneralPurpose.{IsBytes, IsDecodeFailure, decode_of}
 use Rattle.base64.proofs.Tables.{are_tables_inverse, are_tables_padding}
 use Rattle.sfv_spec.specs.Base64.{IsBase64Text, symbol}
-use Rattle.sfv_reading.proofs.base64.Contents.{counted, well_formed, gives_the_bytes}
-use Rattle.sfv_reading.proofs.base64.Shape.{are_symbols}
+use Rattle.sfv_model.proofs.base64.Contents.{counted, well_formed, gives_the_bytes}
+use Rattle.sfv_model.proofs.base64.Shape.{are_symbols}
 use Rattle.std.specs.declared.option.Option.{Option}
 use Rattle.std.proofs.lemmas.List.Folds.{list_all-append}
 use Rattle.std.specs.Prelude.{◌↔◌, IfOk, IfErr}
 use Rattle.base64.specs.declared.decode.DecodeAllocError.{DecodeAllocError}
 use Rattle.base64.specs.declared.decode.DecodeAllocError.TheVariants.{DecodeError as Failed, OutOfMemory}
 use Rattle.sfv_spec.proofs.Marks.{is_symbol}
-use Rattle.sfv_reading.specs.Content.{symbol_value, bytes_from, most_padding}
+use Rattle.sfv_model.specs.Content.{symbol_value, bytes_from, most_padding}
 use Rattle.sfv.proofs.reads.Coded.{all_parts, bytes_from-append}
 use Rattle.sfv_base64.specs.Agreement.{HasNoBytes, IsLenient, ParsedAsDecoded}
 use Rattle.sfv_base64.proofs.Symbols.{IsTable}

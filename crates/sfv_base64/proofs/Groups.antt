@@ -11,7 +11,7 @@ use Rattle.base64.specs.declared.engine.DecodePaddingMode.TheVariants.{Indiffere
 use Rattle.base64.specs.Decode.{group_error, group_bytes, groups_error, groups_bytes, scan, scan_steps, scan_error, scan_bytes, no_leftover}
 use Rattle.base64.proofs.Decoding.{scan-cons_ok}
 use Rattle.sfv_spec.proofs.Marks.{is_symbol}
-use Rattle.sfv_reading.specs.Content.{symbol_value, bytes_from, most_padding}
+use Rattle.sfv_model.specs.Content.{symbol_value, bytes_from, most_padding}
 use Rattle.sfv.proofs.reads.Coded.{bytes_from-append}
 use Rattle.sfv_base64.proofs.Symbols.{IsTable, IsSymbol, symbol_of}
 

@@ -6,8 +6,8 @@ use Rattle.base64.specs.Tables.{is_inverse}
 use Rattle.base64.proofs.Tables.{decode-encode_table, encode-decode_table}
 use Rattle.sfv_spec.specs.Base64.{symbols}
 use Rattle.sfv_spec.proofs.Marks.{is_symbol}
-use Rattle.sfv_reading.specs.Content.{symbol_value}
-use Rattle.sfv_reading.proofs.base64.Shape.{symbol-value, value_within, symbol-is_symbol}
+use Rattle.sfv_model.specs.Content.{symbol_value}
+use Rattle.sfv_model.proofs.base64.Shape.{symbol-value, value_within, symbol-is_symbol}
 
 -- the table of an engine with the standard alphabet
 pub record IsTable (dec : List ℕ) : Type 0 where

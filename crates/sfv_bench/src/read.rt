@@ -7,11 +7,11 @@ use crate::templates::Shape;
 use httparse::Status;
 use httparse::spans::{EMPTY_HEADER_SPAN, HeaderSpan};
 use sfv::{BareItemFromInput, Error, Parser, Version};
-use sfv_cdn_cache_control::max_age;
-use sfv_fields::cache_status::last_hit;
-use sfv_fields::priority::{Priority, read_priority};
-use sfv_proxy_status::reading::last_proxy;
-use sfv_request::request_priority;
+use sfv_first_field::cdn_cache_control::max_age;
+use sfv_http_fields::cache_status::last_hit;
+use sfv_http_fields::priority::{Priority, read_priority};
+use sfv_http_fields::proxy_status::reading::last_proxy;
+use sfv_http_fields::request::request_priority;
 use std::alloc::Global;
 
 const ROOM: [HeaderSpan; 16] = [EMPTY_HEADER_SPAN; 16];

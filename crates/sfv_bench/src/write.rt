@@ -8,7 +8,7 @@ use sfv::{
     ItemSerializer, KeyRef, ListSerializer, OutOfMemory, RefBareItem, SerializeError, Sink,
     StringRef, TokenRef, key_ref, string_ref, token_ref,
 };
-use sfv_fields::priority::{Priority, write_priority};
+use sfv_http_fields::priority::{Priority, write_priority};
 use std::alloc::Global;
 
 /// The texts and bytes that a response has at hand.

@@ -12,8 +12,8 @@ use Rattle.sfv_spec.specs.declared.field_kind.FieldKind.TheVariants.{List as lis
 use Rattle.sfv_spec.specs.declared.version.Version.{Version}
 use Rattle.sfv_spec.specs.Canonical.{item_text, member_text, dictionary_member_text}
 use Rattle.sfv_spec.proofs.Fields.{fit_split, fit_append}
-use Rattle.sfv_text.specs.KeyText.{KeyRef}
-use Rattle.sfv_text.specs.CheckedTexts.{text_of}
+use Rattle.sfv_values.specs.KeyText.{KeyRef}
+use Rattle.sfv_values.specs.CheckedTexts.{text_of}
 use Rattle.sfv_writer.specs.Written.{LacksRoom}
 use Rattle.std.specs.declared.alloc.Global.{Global}
 use Rattle.std.specs.declared.vec.Vec.{Vec}

@@ -10,7 +10,7 @@ use Rattle.sfv_serializer.specs.Scripts.{param_of_call, item_of_calls, member_of
 use Rattle.sfv_serializer.specs.ScriptSteps.{supplied_member, inner_list_calls, list_calls, dictionary_calls}
 use Rattle.sfv_serializer.proofs.Described.{supplied_list_is, supplied_dictionary_is}
 use Rattle.sfv_spec.specs.Values.{AllFit}
-use Rattle.sfv_text.specs.KeyText.{KeyRef}
+use Rattle.sfv_values.specs.KeyText.{KeyRef}
 use Rattle.sfv_writer.specs.Versions.{NamesFirstUnfit, ChecksVersion}
 use Rattle.sfv_spec.specs.Values.{item_values, member_values}
 use Rattle.sfv_spec.proofs.Marks.{parameter_values}

@@ -12,8 +12,8 @@ use Rattle.sfv_spec.specs.declared.version.Version.{Version}
 use Rattle.sfv_spec.specs.declared.version.Version.TheVariants.{Rfc9651}
 use Rattle.sfv_spec.specs.Canonical.{item_text, parameters_text}
 use Rattle.sfv_spec.proofs.Given.{newer_has_all}
-use Rattle.sfv_text.specs.CheckedTexts.{text_of as key_text}
-use Rattle.sfv_bare.specs.BareItems.{ref_value}
+use Rattle.sfv_values.specs.CheckedTexts.{text_of as key_text}
+use Rattle.sfv_values.specs.BareItems.{ref_value}
 use Rattle.sfv_writer.specs.Written.{LacksRoom, separator_before, with_separators, is_first_after, param_text}
 use Rattle.sfv_writer.specs.Versions.{NamesFirstUnfit, IsSerializeError}
 use Rattle.sfv_writer.specs.declared.serialize_error.SerializeError.{SerializeError}

@@ -11,7 +11,7 @@ use Rattle.std.proofs.lemmas.Str.{IsUtf8-string_bytes}
 use Rattle.sfv_spec.specs.Texts.{joined}
 use Rattle.sfv_spec.specs.Values.{RawItem, RawParameters, IsItem, inner_list}
 use Rattle.sfv_spec.specs.Canonical.{item_text, parameters_text, dictionary_member_text}
-use Rattle.sfv_bare.specs.BareItems.{ref_value}
+use Rattle.sfv_values.specs.BareItems.{ref_value}
 use Rattle.sfv_spec.specs.declared.version.Version.{Version}
 use Rattle.sfv_writer.specs.Written.{Extends, separator_before, with_separators, is_first_after}
 use Rattle.sfv_writer.proofs.Separated.{IsLed, mapped_more, is_first_after-false, in_a_row_first}

@@ -6,8 +6,8 @@ use Rattle.std.proofs.lemmas.List.{append-nil}
 use Rattle.sfv_spec.specs.Classes.{is_key}
 use Rattle.sfv_spec.specs.Values.{RawParameters, IsBareValue, AreParameters}
 use Rattle.sfv_spec.specs.Canonical.{parameters_text}
-use Rattle.sfv_text.specs.CheckedTexts.{text_of as key_text}
-use Rattle.sfv_bare.specs.BareItems.{ref_value}
+use Rattle.sfv_values.specs.CheckedTexts.{text_of as key_text}
+use Rattle.sfv_values.specs.BareItems.{ref_value}
 use Rattle.sfv_writer.specs.Written.{param_text}
 use Rattle.sfv_writer.proofs.Parameters.{parameters_push, valid_push}
 use Rattle.sfv_writer.proofs.Separated.{mapped_more}

@@ -8,8 +8,8 @@ use Rattle.sfv_spec.specs.declared.field_kind.FieldKind.TheVariants.{Item as ite
 use Rattle.sfv_spec.specs.declared.field_kind.FieldKind.TheVariants.{Dictionary as dictionary_field}
 use Rattle.sfv_spec.specs.Values.{RawParameters, RawItem, RawMember, RawField, item, inner_list}
 use Rattle.sfv_spec.specs.Canonical.{item_text, parameters_text, member_text, dictionary_member_text}
-use Rattle.sfv_text.specs.KeyText.{KeyRef}
-use Rattle.sfv_text.specs.CheckedTexts.{text_of}
+use Rattle.sfv_values.specs.KeyText.{KeyRef}
+use Rattle.sfv_values.specs.CheckedTexts.{text_of}
 use Rattle.sfv_writer.specs.Written.{LacksRoom, with_separators, is_first_after}
 use Rattle.sfv_serializer.specs.declared.sequence.SequenceSerializer.{SequenceSerializer}
 use Rattle.sfv_serializer.specs.declared.sink.Sink.{Ghosts as Sink}

@@ -9,9 +9,9 @@ use Rattle.sfv_spec.specs.declared.field_kind.FieldKind.TheVariants.{List as lis
 use Rattle.sfv_spec.specs.declared.version.Version.{Version}
 use Rattle.sfv_spec.specs.Canonical.{member_text, dictionary_member_text}
 use Rattle.sfv_spec.specs.Values.{Fits}
-use Rattle.sfv_text.specs.KeyText.{KeyRef}
-use Rattle.sfv_text.specs.CheckedTexts.{text_of}
-use Rattle.sfv_bare.specs.BareItems.{ref_value}
+use Rattle.sfv_values.specs.KeyText.{KeyRef}
+use Rattle.sfv_values.specs.CheckedTexts.{text_of}
+use Rattle.sfv_values.specs.BareItems.{ref_value}
 use Rattle.sfv_writer.specs.Written.{IsReadBack, LacksRoom}
 use Rattle.sfv_serializer.specs.declared.script.ParamCall.{ParamCall}
 use Rattle.sfv_serializer.specs.declared.script.ItemCalls.{ItemCalls}

@@ -4,12 +4,12 @@ use Rattle.std.specs.Prelude.{string_bytes, string_len, string_capacity}
 use Rattle.std.specs.Borrow.{Bor, MutBor, RattleType, Fml, RestsIfErr}
 use Rattle.sfv_spec.specs.Canonical.{value_text}
 use Rattle.sfv_spec.specs.declared.version.Version.{Version}
-use Rattle.sfv_bare.specs.BareItems.{ref_value}
-use Rattle.sfv_bare.specs.declared.bare.GenericBareItem.{GenericBareItem}
-use Rattle.sfv_text.specs.KeyText.{KeyRef}
-use Rattle.sfv_text.specs.CheckedTexts.{text_of}
-use Rattle.sfv_text.specs.StringText.{StringRef}
-use Rattle.sfv_text.specs.TokenText.{TokenRef}
+use Rattle.sfv_values.specs.BareItems.{ref_value}
+use Rattle.sfv_values.specs.declared.bare.GenericBareItem.{GenericBareItem}
+use Rattle.sfv_values.specs.KeyText.{KeyRef}
+use Rattle.sfv_values.specs.CheckedTexts.{text_of}
+use Rattle.sfv_values.specs.StringText.{StringRef}
+use Rattle.sfv_values.specs.TokenText.{TokenRef}
 use Rattle.sfv_tree.specs.Trees.{OwnedBareItem}
 use Rattle.sfv_writer.specs.Versions.{OnUnsupported, PartKind, parts_text, TakesAll, StopsEarly, parameter_pairs}
 use Rattle.sfv_writer.specs.Written.{Extends, IsTruncatedTo, LacksRoom, separator_before, is_first_after}

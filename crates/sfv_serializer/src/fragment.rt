@@ -5,15 +5,15 @@ ghost use Rattle.std.specs.Prelude.{◌++◌, ⊤, ℕ, List, OnOk, IsTrue, code
 ghost use Rattle.sfv_spec.specs.Classes.{is_key, is_token};
 ghost use Rattle.sfv_spec.specs.Values.{IsBareValue};
 ghost use Rattle.sfv_spec.specs.Canonical.{bare_text};
-ghost use Rattle.sfv_bare.specs.BareItems.{ref_value};
-ghost use Rattle.sfv_text.specs.CheckedTexts.{text_of};
+ghost use Rattle.sfv_values.specs.BareItems.{ref_value};
+ghost use Rattle.sfv_values.specs.CheckedTexts.{text_of};
 ghost use Rattle.sfv_writer.specs.Written.{AsksForRoom, Appends, AppendsOrKeeps, separator_before};
 ghost use Rattle.sfv_serializer.specs.Serializers.{keyed, param};
 
-use sfv_bare::bare::RefBareItem;
 use sfv_base::error::OutOfMemory;
-use sfv_text::key_ref::KeyRef;
-use sfv_text::token_ref::TokenRef;
+use sfv_values::bare::RefBareItem;
+use sfv_values::key_ref::KeyRef;
+use sfv_values::token_ref::TokenRef;
 use sfv_writer::item::{serialize_bare_item, serialize_key, serialize_token, serialize_value};
 use sfv_writer::output::{serialize_separator, truncate_to};
 use std::alloc::Allocator;

@@ -5,15 +5,15 @@ ghost use Rattle.std.specs.Borrow.{sem};
 ghost use Rattle.sfv_spec.specs.Values.{IsBareValue};
 ghost use Rattle.sfv_spec.specs.declared.version.Version.TheVariants.{Rfc9651};
 ghost use Rattle.sfv_spec.specs.Canonical.{bare_text};
-ghost use Rattle.sfv_bare.specs.BareItems.{ref_value};
+ghost use Rattle.sfv_values.specs.BareItems.{ref_value};
 ghost use Rattle.sfv_writer.specs.Written.{LacksRoom};
 ghost use Rattle.sfv_writer.specs.Versions.{OnOutOfMemory, ChecksVersionFirst};
 ghost use Rattle.sfv_serializer.specs.Serializers.{TextAfterOneErr, ContinuesText, item_buffer, params_sink, item_version, params_version};
 
 use crate::fragment::{BareItemFragment, append};
 use crate::parameter_serializer::ParameterSerializer;
-use sfv_bare::bare::RefBareItem;
 use sfv_spec::version::Version;
+use sfv_values::bare::RefBareItem;
 use sfv_writer::capacity::prepare;
 use sfv_writer::invariants::bare_item_invariant;
 use sfv_writer::serialize_error::SerializeError;

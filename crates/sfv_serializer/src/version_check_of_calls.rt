@@ -12,7 +12,7 @@ ghost use Rattle.sfv_spec.proofs.Marks.{parameter_values};
 
 use crate::script::{ItemCalls, MemberCalls, ParamCall};
 use sfv_spec::version::Version;
-use sfv_text::key_ref::KeyRef;
+use sfv_values::key_ref::KeyRef;
 use sfv_writer::serialize_error::SerializeError;
 use sfv_writer::version_check::check_bare_item;
 

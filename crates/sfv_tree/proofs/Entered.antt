@@ -6,7 +6,7 @@ use Rattle.std.specs.Map.{keys_of}
 use Rattle.indexmap.specs.IndexMap.{insert_entry}
 use Rattle.sfv_spec.specs.Ordered.{collapse}
 use Rattle.sfv_spec.proofs.Collapse.{entered, entered_all, entered_all-collapse, collapse-distinct}
-use Rattle.sfv_bare.specs.BareItems.{bare_value}
+use Rattle.sfv_values.specs.BareItems.{bare_value}
 use Rattle.sfv_tree.specs.Trees.{OwnedBareItem, pairs_tree, member_tree, dictionary_tree}
 use Rattle.sfv_tree.specs.declared.parsed.ListEntry.{ListEntry}
 use Rattle.sfv_tree.proofs.Distinct.{pairs_distinct}

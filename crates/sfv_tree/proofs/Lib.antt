@@ -2,3 +2,5 @@ pub mod Clones
 pub mod Entered
 pub mod Distinct
 pub mod Words
+mod Members
+pub mod Seeded

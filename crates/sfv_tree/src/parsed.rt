@@ -4,8 +4,8 @@ ghost use Rattle.std.specs.Prelude.{◌≡◌, ◌≢◌, ◌+◌, ◌<◌, ◌�
 ghost use Rattle.std.specs.Prelude.{option_copied};
 ghost use Rattle.indexmap.specs.IndexMap.{get, hasher_of, insert_entry, spare, IsUnique};
 ghost use Rattle.sfv_spec.specs.Ordered.{last_of};
-ghost use Rattle.sfv_bare.specs.BareItems.{bare_value};
-ghost use Rattle.sfv_text.specs.CheckedTexts.{text_of};
+ghost use Rattle.sfv_values.specs.BareItems.{bare_value};
+ghost use Rattle.sfv_values.specs.CheckedTexts.{text_of};
 ghost use Rattle.sfv_spec.specs.Values.{item, inner_list};
 ghost use Rattle.sfv_tree.specs.HashSeeds.{library_seed};
 ghost use Rattle.sfv_tree.specs.Seeds.{member_seeds};
@@ -16,9 +16,9 @@ ghost use Rattle.sfv_tree.specs.declared.parsed.ListEntry.TheVariants as entries
 use crate::hash_seed::HashSeed;
 use crate::shorthand::parameters;
 use indexmap::IndexMap;
-use sfv_bare::bare::BareItem;
-use sfv_text::key::Key;
-use sfv_text::key_ref::KeyRef;
+use sfv_values::bare::BareItem;
+use sfv_values::key::Key;
+use sfv_values::key_ref::KeyRef;
 use std::alloc::{AllocError, Global};
 
 /// The parameters of an item or an inner list (RFC 9651, section 3.1.2): each key once, in order.

@@ -21,7 +21,7 @@ use Rattle.sfv_spec.specs.declared.version.Version.TheVariants.{Rfc9651}
 use Rattle.sfv_spec.specs.Values.{RawField, HasMember}
 use Rattle.sfv_spec.specs.Values.{bare_values}
 use Rattle.sfv_spec.specs.Values.{fits_bare, AllFit}
-use Rattle.sfv_bare.specs.BareItems.{bare_value}
+use Rattle.sfv_values.specs.BareItems.{bare_value}
 use Rattle.sfv_tree.specs.Trees.{OwnedBareItem, pairs_tree, member_tree, dictionary_tree}
 use Rattle.sfv_tree.specs.declared.parsed.ListEntry.{ListEntry}
 use Rattle.std.specs.Map.{values_of}

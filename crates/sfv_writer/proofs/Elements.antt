@@ -11,7 +11,7 @@ use Rattle.sfv_spec.specs.Values.{AreParameters, AllFit}
 use Rattle.sfv_spec.specs.Canonical.{parameters_text}
 use Rattle.sfv_spec.specs.declared.version.Version.{Version}
 use Rattle.sfv_spec.specs.declared.version.Version.TheVariants.{Rfc9651}
-use Rattle.sfv_bare.specs.BareItems.{bare_value}
+use Rattle.sfv_values.specs.BareItems.{bare_value}
 use Rattle.sfv_tree.specs.Trees.{OwnedBareItem}
 use Rattle.sfv_writer.proofs.Checks.{newer_fails, singles}
 use Rattle.sfv_writer.specs.Pairs.{lent_pairs, pair_values}

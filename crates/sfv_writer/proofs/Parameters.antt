@@ -13,7 +13,7 @@ use Rattle.sfv_spec.proofs.Repeats.{no_repeats}
 use Rattle.sfv_spec.proofs.Marks.{keys}
 use Rattle.sfv_spec.specs.Canonical.{parameters_text}
 use Rattle.sfv_spec.specs.Values.{AllFit}
-use Rattle.sfv_bare.specs.BareItems.{bare_value}
+use Rattle.sfv_values.specs.BareItems.{bare_value}
 use Rattle.sfv_tree.specs.Trees.{OwnedBareItem, pairs_tree}
 use Rattle.sfv_writer.specs.Written.{param_text}
 use Rattle.sfv_writer.specs.Pairs.{lent_pairs, pair_values}

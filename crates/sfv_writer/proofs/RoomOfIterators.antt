@@ -15,7 +15,7 @@ use Rattle.sfv_spec.specs.Values.{BareValue, RawParameters}
 use Rattle.sfv_spec.specs.declared.version.Version.{Version}
 use Rattle.sfv_spec.specs.Canonical.{parameters_text}
 use Rattle.sfv_spec.specs.Values.{AllFit}
-use Rattle.sfv_bare.specs.BareItems.{bare_value}
+use Rattle.sfv_values.specs.BareItems.{bare_value}
 use Rattle.sfv_tree.specs.Trees.{OwnedBareItem, pairs_tree}
 use Rattle.sfv_writer.specs.Written.{LacksRoom, separator_before, with_separators, is_first_after, param_text}
 use Rattle.sfv_writer.specs.Pairs.{lent_pairs}

@@ -14,8 +14,8 @@ use Rattle.sfv_spec.specs.Texts.{RunOf}
 use Rattle.sfv_spec.specs.Classes.{is_string_byte}
 use Rattle.sfv_spec.specs.Strings.{is_escaped_in_string}
 use Rattle.sfv_spec.proofs.Marks.{is_plain_in_string}
-use Rattle.sfv_reading.proofs.quoted.StringSteps as in_string
-use Rattle.sfv_reading.proofs.quoted.DisplaySteps as in_display
+use Rattle.sfv_model.proofs.quoted.StringSteps as in_string
+use Rattle.sfv_model.proofs.quoted.DisplaySteps as in_display
 use Rattle.sfv_writer.specs.Written.{Extends, IsTruncatedTo}
 use Rattle.sfv_spec.proofs.Marks.{plain_of}
 use Rattle.sfv_writer.specs.Quoted.{piece_of}

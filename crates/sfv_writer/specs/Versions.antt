@@ -11,9 +11,9 @@ use Rattle.sfv_spec.specs.Ordered.{ordered_item, ordered_member}
 use Rattle.sfv_spec.specs.Values.{BareValue, IsBareValue, IsItem, IsMember, item_values, member_values}
 use Rattle.sfv_spec.specs.declared.version.Version.{Version}
 use Rattle.sfv_spec.specs.Values.{fits_bare, AllFit}
-use Rattle.sfv_bare.specs.BareItems.{bare_value}
-use Rattle.sfv_bare.specs.Kinds.{kind_text, kind_of_value}
-use Rattle.sfv_bare.specs.declared.bare.BareItemType.{BareItemType}
+use Rattle.sfv_values.specs.BareItems.{bare_value}
+use Rattle.sfv_values.specs.Kinds.{kind_text, kind_of_value}
+use Rattle.sfv_values.specs.declared.bare.BareItemType.{BareItemType}
 use Rattle.sfv_tree.specs.Trees.{OwnedBareItem, item_tree, member_tree}
 use Rattle.sfv_tree.specs.declared.parsed.Item.{Item}
 use Rattle.sfv_tree.specs.declared.parsed.ListEntry.{ListEntry}

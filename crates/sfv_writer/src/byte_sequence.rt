@@ -95,7 +95,7 @@ fn serialize_base64<A: Allocator>(input: &[u8], output: &mut String<A>) -> Resul
 
 /// Appends a byte sequence: its Base64 text between colons.
 #[inline(never)]
-#[tactic(auto, using(sfv_bare::proofs::Bytes::run_of_bytes, crate::proofs::Encoded::between_colons))]
+#[tactic(auto, using(sfv_values::proofs::Bytes::run_of_bytes, crate::proofs::Encoded::between_colons))]
 pub(crate) fn serialize_byte_sequence<A: Allocator>(
     value: &[u8],
     output: &mut String<A>,

@@ -56,7 +56,7 @@ impl Escaping for DisplayEscaping {
 
 /// Appends a display string: its inside between the opening and the quote.
 #[inline(always)]
-#[tactic(auto, using(sfv_bare::proofs::Bytes::run_of_bytes))]
+#[tactic(auto, using(sfv_values::proofs::Bytes::run_of_bytes))]
 fn serialize_quoted<A: Allocator>(value: &str, output: &mut String<A>) -> Result<(), OutOfMemory>
     ensures text { Appends output.old output.new (bare_text (display_string value.now)) result }
     ensures room { AsksForRoom output.old output.new (bare_text (display_string value.now)) result }

@@ -17,8 +17,8 @@ use crate::serialize_error::SerializeError;
 use crate::version_check::{check_item, check_member};
 use sfv_base::error::OutOfMemory;
 use sfv_spec::version::Version;
-use sfv_text::key::Key;
 use sfv_tree::parsed::{Item, ListEntry};
+use sfv_values::key::Key;
 use std::alloc::Allocator;
 use std::string::String as StdString;
 

@@ -4,15 +4,15 @@ ghost use Rattle.std.specs.Prelude.{IsTrue};
 ghost use Rattle.sfv_spec.specs.Classes.{is_key};
 ghost use Rattle.sfv_spec.specs.Texts.{RunOf};
 ghost use Rattle.sfv_spec.specs.Values.{is_byte, IsBareValue};
-ghost use Rattle.sfv_bare.specs.BareItems.{ref_value};
-ghost use Rattle.sfv_text.specs.CheckedTexts.{text_of};
+ghost use Rattle.sfv_values.specs.BareItems.{ref_value};
+ghost use Rattle.sfv_values.specs.CheckedTexts.{text_of};
 
-use sfv_bare::bare::{GenericBareItem, RefBareItem};
-use sfv_text::key_ref::KeyRef;
+use sfv_values::bare::{GenericBareItem, RefBareItem};
+use sfv_values::key_ref::KeyRef;
 
 // The prover knows that a slice contains bytes if it is an argument, but not if it is inside a bare item.
 #[inline(always)]
-#[tactic(auto, using(sfv_bare::proofs::Bytes::run_of_bytes))]
+#[tactic(auto, using(sfv_values::proofs::Bytes::run_of_bytes))]
 fn bytes_invariant(bytes: &[u8])
     ensures { RunOf is_byte bytes.now }
 {

@@ -13,8 +13,8 @@ ghost use Rattle.sfv_spec.specs.Canonical.{bare_text, value_text, parameters_tex
 ghost use Rattle.sfv_spec.specs.declared.version.Version.TheVariants.{Rfc9651};
 ghost use Rattle.sfv_spec.specs.Statements.{IsValue, IsSerializedAs};
 ghost use Rattle.sfv_spec.specs.Values.{AllFit};
-ghost use Rattle.sfv_bare.specs.BareItems.{ref_value, bare_value};
-ghost use Rattle.sfv_text.specs.CheckedTexts.{text_of};
+ghost use Rattle.sfv_values.specs.BareItems.{ref_value, bare_value};
+ghost use Rattle.sfv_values.specs.CheckedTexts.{text_of};
 ghost use Rattle.sfv_tree.specs.Trees.{pairs_tree, item_tree};
 ghost use Rattle.sfv_writer.specs.Written.{AsksForRoom, Appends, AppendsOrKeeps, LacksRoom, Extends, param_text};
 ghost use Rattle.sfv_writer.specs.Pairs.{lent_pairs, pair_values};
@@ -28,13 +28,13 @@ use crate::output::truncate_to;
 use crate::serialize_error::{SerializeError, expect_out_of_memory};
 use crate::string::serialize_string;
 use crate::version_check::{check_bare_item, check_item};
-use sfv_bare::bare::{BareItem, GenericBareItem, RefBareItem};
 use sfv_base::error::OutOfMemory;
 use sfv_spec::version::Version;
-use sfv_text::key::Key;
-use sfv_text::key_ref::KeyRef;
-use sfv_text::token_ref::TokenRef;
 use sfv_tree::parsed::{Item, Parameters};
+use sfv_values::bare::{BareItem, GenericBareItem, RefBareItem};
+use sfv_values::key::Key;
+use sfv_values::key_ref::KeyRef;
+use sfv_values::token_ref::TokenRef;
 use std::alloc::{Allocator, Global};
 use std::string::String as StdString;
 

@@ -11,14 +11,14 @@ ghost use Rattle.sfv_spec.specs.Ordered.{ordered_item, ordered_member};
 ghost use Rattle.sfv_spec.specs.Canonical.{value_text, parameters_text, item_text, inner_list_text, member_text};
 ghost use Rattle.sfv_spec.specs.Canonical.{dictionary_member_text};
 ghost use Rattle.sfv_spec.specs.Statements.{IsValue};
-ghost use Rattle.sfv_bare.specs.BareItems.{bare_value};
+ghost use Rattle.sfv_values.specs.BareItems.{bare_value};
 ghost use Rattle.sfv_tree.specs.Trees.{pairs_tree, item_tree, inner_list_tree, member_tree};
 ghost use Rattle.sfv_writer.specs.Written.{AsksForRoom, Appends};
 
 use crate::item::{serialize_all_parameters, serialize_item, serialize_key, serialize_value};
 use sfv_base::error::OutOfMemory;
-use sfv_text::key::Key;
 use sfv_tree::parsed::{InnerList, Item, ListEntry};
+use sfv_values::key::Key;
 use std::alloc::Allocator;
 use std::string::String as StdString;
 

@@ -4,8 +4,8 @@ ghost use Rattle.std.specs.Prelude.{◌≡◌, Some};
 ghost use Rattle.sfv_writer.specs.Versions.{serialize_error_text};
 ghost use Rattle.sfv_writer.specs.declared.serialize_error.SerializeError.TheVariants as errors;
 
-use sfv_bare::bare::BareItemType;
 use sfv_base::error::OutOfMemory;
+use sfv_values::bare::BareItemType;
 use std::fmt;
 
 /// An error of serialization: the version lacks a value, or memory ran out.

@@ -3,7 +3,7 @@
 ghost use Rattle.std.specs.Prelude.{false};
 ghost use Rattle.sfv_spec.specs.Values.{string};
 ghost use Rattle.sfv_spec.specs.Canonical.{bare_text};
-ghost use Rattle.sfv_text.specs.CheckedTexts.{text_of};
+ghost use Rattle.sfv_values.specs.CheckedTexts.{text_of};
 ghost use Rattle.sfv_writer.specs.Written.{AsksForRoom, Appends, AppendsOrKeeps};
 
 use crate::output::truncate_to;
@@ -11,7 +11,7 @@ use crate::quoted::{Escaping, serialize_inside};
 use sfv_base::error::OutOfMemory;
 use sfv_base::runs::{PlainInString, split_run, split_whole_run};
 use sfv_base::utils::is_escaped_in_string;
-use sfv_text::string_ref::StringRef;
+use sfv_values::string_ref::StringRef;
 use std::alloc::{AllocError, Allocator};
 
 /// The inside of a string.

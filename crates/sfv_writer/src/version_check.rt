@@ -6,16 +6,16 @@ ghost use Rattle.sfv_spec.specs.declared.field_kind.FieldKind.TheVariants.{List 
 ghost use Rattle.sfv_spec.specs.declared.field_kind.FieldKind.TheVariants.{Dictionary as dictionary_field};
 ghost use Rattle.sfv_spec.specs.declared.version.Version.TheVariants.{Rfc8941};
 ghost use Rattle.sfv_spec.specs.Values.{bare_values};
-ghost use Rattle.sfv_bare.specs.BareItems.{ref_value};
+ghost use Rattle.sfv_values.specs.BareItems.{ref_value};
 ghost use Rattle.sfv_tree.specs.Trees.{pairs_tree, item_tree, inner_list_tree, member_tree, list_tree, dictionary_tree};
 ghost use Rattle.sfv_writer.specs.Versions.{ChecksVersion};
 ghost use Rattle.sfv_spec.specs.Values.{item_values, member_values};
 ghost use Rattle.sfv_spec.proofs.Marks.{parameter_values};
 
 use crate::serialize_error::SerializeError;
-use sfv_bare::bare::{BareItemType, GenericBareItem, RefBareItem};
 use sfv_spec::version::Version;
 use sfv_tree::parsed::{Dictionary, InnerList, Item, List, ListEntry, Parameters};
+use sfv_values::bare::{BareItemType, GenericBareItem, RefBareItem};
 
 /// Checks that a bare item is neither a date nor a display string. RFC 8941 lacks both.
 fn check_rfc8941(value: RefBareItem<'_>) -> Result<(), SerializeError>

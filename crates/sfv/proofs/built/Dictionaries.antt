@@ -22,17 +22,17 @@ use Rattle.sfv_spec.proofs.Last.{over, last_of-over}
 use Rattle.sfv_spec.proofs.Distinct.{ordered_same}
 use Rattle.sfv_spec.proofs.Runs.{runs_fold}
 use Rattle.sfv_tree.specs.Trees.{member_tree, dictionary_tree}
-use Rattle.sfv_visitor.specs.Builders.{MemberState, begun, item_head, item_parameters, inner_items, inner_head}
-use Rattle.sfv_visitor.specs.Builders.{inner_parameters, list_parameters, ended, member_step, DictionaryState}
-use Rattle.sfv_visitor.specs.Builders.{settle_pair, dictionary_step, complete}
-use Rattle.sfv_visitor.specs.Builders.{dictionary_state}
+use Rattle.sfv_tree.specs.Builders.{MemberState, begun, item_head, item_parameters, inner_items, inner_head}
+use Rattle.sfv_tree.specs.Builders.{inner_parameters, list_parameters, ended, member_step, DictionaryState}
+use Rattle.sfv_tree.specs.Builders.{settle_pair, dictionary_step, complete}
+use Rattle.sfv_tree.specs.Builders.{dictionary_state}
 use Rattle.sfv_tree.specs.declared.parsed.ListEntry.{ListEntry}
-use Rattle.sfv_visitor.specs.declared.visitor.dictionary_builder.DictionaryBuilder.{DictionaryBuilder}
+use Rattle.sfv_tree.specs.declared.visitor.dictionary_builder.DictionaryBuilder.{DictionaryBuilder}
 use Rattle.sfv.proofs.Relations.{Answers}
-use Rattle.sfv_visitor.specs.Builders.{DictionaryAddsUnder, DictionaryAdds}
+use Rattle.sfv_tree.specs.Builders.{DictionaryAddsUnder, DictionaryAdds}
 use Rattle.sfv_tree.specs.declared.hash_seed.HashSeed.{HashSeed}
 use Rattle.sfv_tree.specs.Seeds.{MemberHasSeed, DictionaryHasSeed}
-use Rattle.sfv_visitor.proofs.Seeded.{AddsTo, adds_none, adds_more, adds_entered, adds_all}
+use Rattle.sfv_tree.proofs.Seeded.{AddsTo, adds_none, adds_more, adds_entered, adds_all}
 use Rattle.sfv.proofs.built.Seeded.{map_none, runs_grow, runs_stay, runs_weaker}
 use Rattle.sfv.proofs.built.Items.{insert_entry-entered}
 use Rattle.sfv.proofs.built.Members.{IsOpen, member_built}

@@ -12,16 +12,16 @@ use Rattle.sfv_spec.specs.Statements.{IsParsedAs}
 use Rattle.std.specs.List.{FoldsTo}
 use Rattle.sfv_spec.proofs.Collapse.{entered, collapse-push}
 use Rattle.sfv_tree.specs.Trees.{item_tree}
-use Rattle.sfv_visitor.specs.Builders.{MemberState, item_head, item_parameters, ended, member_step, step_state, takes_memory}
-use Rattle.sfv_visitor.specs.Builders.{IsItemUnder}
+use Rattle.sfv_tree.specs.Builders.{MemberState, item_head, item_parameters, ended, member_step, step_state, takes_memory}
+use Rattle.sfv_tree.specs.Builders.{IsItemUnder}
 use Rattle.sfv_base.specs.declared.error.ParseError.TheVariants.{Visitor}
 use Rattle.sfv_tree.specs.declared.hash_seed.HashSeed.{HashSeed}
 use Rattle.sfv_tree.specs.Seeds.{ItemHasSeed}
 use Rattle.sfv.proofs.built.Seeded.{answer_seeded}
-use Rattle.sfv_visitor.specs.declared.visitor.ItemFault.{ItemFault}
-use Rattle.sfv_visitor.specs.declared.visitor.ItemFault.TheVariants as faults
+use Rattle.sfv_tree.specs.declared.visitor.ItemFault.{ItemFault}
+use Rattle.sfv_tree.specs.declared.visitor.ItemFault.TheVariants as faults
 use Rattle.sfv_tree.specs.declared.parsed.Item.{Item}
-use Rattle.sfv_visitor.specs.declared.visitor.item_builder.ItemBuilder.{ItemBuilder}
+use Rattle.sfv_tree.specs.declared.visitor.item_builder.ItemBuilder.{ItemBuilder}
 use Rattle.sfv.proofs.Relations.{Answers, FailsIn, HasVisitorError, item_failed}
 
 -- the state of an item's builder

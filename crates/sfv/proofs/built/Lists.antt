@@ -17,13 +17,13 @@ use Rattle.sfv_spec.specs.Statements.{IsParsedAs}
 use Rattle.std.specs.List.{FoldsTo}
 use Rattle.sfv_spec.proofs.Runs.{runs_fold}
 use Rattle.sfv_tree.specs.Trees.{member_tree, list_tree}
-use Rattle.sfv_visitor.specs.Builders.{MemberState, begun, item_head, item_parameters, inner_items, inner_head}
-use Rattle.sfv_visitor.specs.Builders.{inner_parameters, list_parameters, ended, member_step}
-use Rattle.sfv_visitor.specs.Builders.{settle, list_step, complete, list_state}
+use Rattle.sfv_tree.specs.Builders.{MemberState, begun, item_head, item_parameters, inner_items, inner_head}
+use Rattle.sfv_tree.specs.Builders.{inner_parameters, list_parameters, ended, member_step}
+use Rattle.sfv_tree.specs.Builders.{settle, list_step, complete, list_state}
 use Rattle.sfv_tree.specs.declared.parsed.ListEntry.{ListEntry}
-use Rattle.sfv_visitor.specs.declared.visitor.list_builder.ListBuilder.{ListBuilder}
+use Rattle.sfv_tree.specs.declared.visitor.list_builder.ListBuilder.{ListBuilder}
 use Rattle.sfv.proofs.Relations.{Answers}
-use Rattle.sfv_visitor.specs.Builders.{ListAddsUnder, ListAdds}
+use Rattle.sfv_tree.specs.Builders.{ListAddsUnder, ListAdds}
 use Rattle.sfv_tree.specs.declared.hash_seed.HashSeed.{HashSeed}
 use Rattle.sfv_tree.specs.Seeds.{MemberHasSeed, ListHasSeed}
 use Rattle.sfv.proofs.built.Seeded.{map_none, runs_grow, runs_weaker}

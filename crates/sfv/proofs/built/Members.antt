@@ -8,8 +8,8 @@ use Rattle.sfv_spec.specs.Events.{TreeEvent, begins_item, parameter, parameters_
 use Rattle.sfv_spec.specs.Events.{item_events, member_events}
 use Rattle.sfv_spec.specs.Ordered.{collapse, ordered_item, ordered_member}
 use Rattle.sfv_spec.proofs.Collapse.{collapse-push}
-use Rattle.sfv_visitor.specs.Builders.{MemberState, begun, item_head, item_parameters, inner_items, inner_head}
-use Rattle.sfv_visitor.specs.Builders.{inner_parameters, list_parameters, ended, member_step}
+use Rattle.sfv_tree.specs.Builders.{MemberState, begun, item_head, item_parameters, inner_items, inner_head}
+use Rattle.sfv_tree.specs.Builders.{inner_parameters, list_parameters, ended, member_step}
 use Rattle.sfv.proofs.built.Items.{insert_entry-entered, with_bare}
 
 -- a member that has not ended

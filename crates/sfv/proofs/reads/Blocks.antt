@@ -10,9 +10,9 @@ use Rattle.std.proofs.lemmas.List.Folds.{list_all_at}
 use Rattle.std.proofs.lemmas.Simd.{swz_l, SwzOk, SwzOk-from_below, Each1-get_or, length-swz_l, get_or-swz_l_below, get_or_narrower}
 use lib.Lanes.{zip2, sel_l, top, Each1, dots, products, pair_sums, all_below, number_l, digits_l, pick_l}
 use Rattle.sfv_spec.proofs.Marks.{is_symbol}
-use Rattle.sfv_reading.specs.Content.{symbol_value, bytes_from}
-use Rattle.sfv_reading.proofs.base64.Bits.{is_value, head_value}
-use Rattle.sfv_reading.proofs.base64.Shape.{symbol-value, value_within}
+use Rattle.sfv_model.specs.Content.{symbol_value, bytes_from}
+use Rattle.sfv_model.proofs.base64.Bits.{is_value, head_value}
+use Rattle.sfv_model.proofs.base64.Shape.{symbol-value, value_within}
 use Rattle.sfv_spec.specs.Base64.{symbols}
 use Rattle.sfv.specs.parser.Base64.{group_numbers, bytes_of_groups, offset_index, AreOffsets}
 

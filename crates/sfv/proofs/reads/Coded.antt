@@ -6,7 +6,7 @@ use Rattle.std.proofs.lemmas.Bool.{and_parts}
 use Rattle.std.proofs.lemmas.List.{append-nil, length-map, length-take-le, length-drop, take-append-drop, map-append}
 use Rattle.std.proofs.lemmas.List.Folds.{list_all-append}
 use Rattle.sfv_spec.proofs.Marks.{is_symbol}
-use Rattle.sfv_reading.specs.Content.{symbol_value, bytes_from}
+use Rattle.sfv_model.specs.Content.{symbol_value, bytes_from}
 use Rattle.sfv.specs.parser.Base64.{decoded_symbols}
 
 -- groups of four one after the other

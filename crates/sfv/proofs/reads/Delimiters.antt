@@ -11,11 +11,11 @@ use Rattle.sfv_spec.specs.Events.{TreeEvent, inner_item_events}
 use Rattle.sfv_spec.specs.declared.error_kind.ErrorKind.TheVariants.{TrailingComma, TrailingCharactersAfterMember}
 use Rattle.sfv_spec.specs.declared.error_kind.ErrorKind.TheVariants.{ExpectedInnerListDelimiter}
 use Rattle.sfv_spec.specs.declared.error_kind.ErrorKind.TheVariants.{UnterminatedInnerList}
-use Rattle.sfv_reading.specs.Reader.{Answer, Reader, first, byte, any, give, fail, back, ahead, branch, and_then, bind}
-use Rattle.sfv_reading.specs.Reader.{span, led, many, ◌>>=◌}
-use Rattle.sfv_reading.specs.Members.{inner_item_at, next_item_at, inner_items_at}
-use Rattle.sfv_reading.specs.Fields.{comma_at, next_at, members_at}
-use Rattle.sfv_reading.proofs.complete.Combinators.{bind_complete}
+use Rattle.sfv_model.specs.Reader.{Answer, Reader, first, byte, any, give, fail, back, ahead, branch, and_then, bind}
+use Rattle.sfv_model.specs.Reader.{span, led, many, ◌>>=◌}
+use Rattle.sfv_model.specs.Members.{inner_item_at, next_item_at, inner_items_at}
+use Rattle.sfv_model.specs.Fields.{comma_at, next_at, members_at}
+use Rattle.sfv_model.proofs.complete.Combinators.{bind_complete}
 use Rattle.sfv.specs.parser.Cursor.{located, TakesIf}
 use Rattle.sfv.specs.parser.Members.{item_delimiter_at, member_delimiter_at}
 use Rattle.sfv.proofs.reads.Steps.{branch_true, branch_false}

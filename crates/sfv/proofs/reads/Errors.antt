@@ -7,7 +7,7 @@ use Rattle.sfv_spec.specs.declared.version.Version.{Version}
 use Rattle.sfv_base.specs.declared.error.Error.{Error}
 use Rattle.sfv_spec.specs.declared.error_kind.ErrorKind.{ErrorKind}
 use Rattle.sfv_base.specs.Errors.{error_of}
-use Rattle.sfv_reading.specs.Reader.{Answer, Reader, and_then, bind, ◌>>=◌}
+use Rattle.sfv_model.specs.Reader.{Answer, Reader, and_then, bind, ◌>>=◌}
 use Rattle.sfv.specs.declared.parser.Parser.{Parser}
 use Rattle.sfv.specs.declared.parser.cursor.Cursor.{Cursor}
 use Rattle.sfv.specs.parser.Cursor.{kept, kept_input, kept_version, rest, located, IsFaultOf, IsErrorOf, Reads}

@@ -20,13 +20,13 @@ use Rattle.sfv_spec.specs.declared.error_kind.ErrorKind.TheVariants.{Unterminate
 use Rattle.sfv_spec.specs.declared.error_kind.ErrorKind.TheVariants.{InvalidEscapeSequence}
 use Rattle.sfv_base.specs.Digits.{digit_value}
 use Rattle.sfv_base.specs.Errors.{kind_of, index_of}
-use Rattle.sfv_reading.specs.Reader.{Answer, first, byte, Apart}
-use Rattle.sfv_reading.specs.Quoted.{after_bytes, string_from, outside, percent, digit, pieces_from, checked}
-use Rattle.sfv_reading.specs.Quoted.{display_at, StringStops, DisplayStops, Traced}
-use Rattle.sfv_reading.proofs.quoted.Pieces.{after_bytes_none, after_bytes_more, after_bytes_ok, step_string}
-use Rattle.sfv_reading.proofs.quoted.Pieces.{step_display}
-use Rattle.sfv_reading.proofs.quoted.Traces.{Ends, trace_of_string, trace_of_display}
-use Rattle.sfv_reading.proofs.quoted.DisplaySteps.{outside_byte}
+use Rattle.sfv_model.specs.Reader.{Answer, first, byte, Apart}
+use Rattle.sfv_model.specs.Quoted.{after_bytes, string_from, outside, percent, digit, pieces_from, checked}
+use Rattle.sfv_model.specs.Quoted.{display_at, StringStops, DisplayStops, Traced}
+use Rattle.sfv_model.proofs.quoted.Pieces.{after_bytes_none, after_bytes_more, after_bytes_ok, step_string}
+use Rattle.sfv_model.proofs.quoted.Pieces.{step_display}
+use Rattle.sfv_model.proofs.quoted.Traces.{Ends, trace_of_string, trace_of_display}
+use Rattle.sfv_model.proofs.quoted.DisplaySteps.{outside_byte}
 use Rattle.sfv.proofs.reads.Steps.{passed}
 use Rattle.sfv.specs.declared.parser.Parser.{Parser}
 use Rattle.sfv.specs.declared.parser.cursor.Cursor.{Cursor}

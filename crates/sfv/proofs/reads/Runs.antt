@@ -12,10 +12,10 @@ use Rattle.sfv_spec.proofs.Marks.{is_digit, is_space_or_tab}
 use Rattle.sfv_spec.specs.Numbers.{place_value}
 use Rattle.sfv.specs.declared.parser.digits.Digits.{Digits}
 use Rattle.sfv.specs.parser.Values.{Spells}
-use Rattle.sfv_reading.specs.Reader.{Apart, byte, up_to, span}
+use Rattle.sfv_model.specs.Reader.{Apart, byte, up_to, span}
 use Rattle.sfv.specs.parser.Cursor.{TakesIf}
 use Rattle.sfv_spec.proofs.Marks.{space, tab}
-use Rattle.sfv_reading.proofs.complete.Combinators.{Apart-nil, Apart-cons, up_to_taken, span_complete}
+use Rattle.sfv_model.proofs.complete.Combinators.{Apart-nil, Apart-cons, up_to_taken, span_complete}
 
 pub stops_at : (class : ℕ → Bool) (xs : List ℕ) (i : ℕ) → (i < length xs → class (get_or xs i 0) ≡ false)
     → Apart class (drop i xs)

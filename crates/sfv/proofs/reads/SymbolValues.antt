@@ -2,7 +2,7 @@
 use Rattle.std.proofs.Common.{◌≡◌, ℕ, ◌<◌, Bool, true, cond, eqb, ltb, List, get_or, refl, ◌∙◌}
 use Rattle.std.proofs.lemmas.Bool.{agree_below, agree_below_at, eqb-true, ltb-true}
 use Rattle.sfv_spec.proofs.Marks.{is_symbol}
-use Rattle.sfv_reading.specs.Content.{symbol_value}
+use Rattle.sfv_model.specs.Content.{symbol_value}
 use Rattle.sfv.specs.declared.parser.base64_symbols.TheConstants.{VALUES}
 
 -- the value of a symbol, and 0 for any other byte

@@ -19,12 +19,12 @@ use Rattle.sfv_base.specs.Errors.{index_of}
 use Rattle.sfv_base.specs.declared.error.ParseError.{ParseError}
 use Rattle.sfv_base.specs.declared.error.ParseError.TheVariants.{Syntax, Visitor}
 use Rattle.sfv_base.specs.declared.error.OutOfMemory.{OutOfMemory}
-use Rattle.sfv_text.specs.TokenText.{TokenRef}
-use Rattle.sfv_bare.specs.declared.bare.GenericBareItem.{GenericBareItem}
-use Rattle.sfv_bare.specs.declared.bare.GenericBareItem.TheVariants as bare
-use Rattle.sfv_bare.specs.declared.bare.StringFromInput.{StringFromInput}
-use Rattle.sfv_bare.specs.BareItems.{is_borrowed, is_text, input_value}
-use Rattle.sfv_reading.specs.Reader.{Answer, Reader, visited}
+use Rattle.sfv_values.specs.TokenText.{TokenRef}
+use Rattle.sfv_values.specs.declared.bare.GenericBareItem.{GenericBareItem}
+use Rattle.sfv_values.specs.declared.bare.GenericBareItem.TheVariants as bare
+use Rattle.sfv_values.specs.declared.bare.StringFromInput.{StringFromInput}
+use Rattle.sfv_values.specs.BareItems.{is_borrowed, is_text, input_value}
+use Rattle.sfv_model.specs.Reader.{Answer, Reader, visited}
 use Rattle.sfv.specs.declared.parser.cursor.Cursor.{Cursor}
 use Rattle.sfv.specs.parser.Cursor.{kept, input, version, rest, IsErrorOf}
 use Rattle.sfv.specs.parser.Trees.{FailsAs, TakesMemory}

@@ -19,9 +19,9 @@ use Rattle.sfv_base.specs.declared.error.Error.{Error}
 use Rattle.sfv_base.specs.declared.error.ParseError.{ParseError}
 use Rattle.sfv_base.specs.declared.error.ParseError.TheVariants.{Syntax}
 use Rattle.sfv_base.specs.declared.error.OutOfMemory.{OutOfMemory}
-use Rattle.sfv_reading.specs.Reader.{Answer, Reader, and_then, first, give, span}
-use Rattle.sfv_reading.specs.Members.{member_at, entry_at, keyed_at}
-use Rattle.sfv_reading.specs.Fields.{members_at, whole_field_at}
+use Rattle.sfv_model.specs.Reader.{Answer, Reader, and_then, first, give, span}
+use Rattle.sfv_model.specs.Members.{member_at, entry_at, keyed_at}
+use Rattle.sfv_model.specs.Fields.{members_at, whole_field_at}
 use Rattle.sfv.specs.declared.parser.Parser.{Parser}
 use Rattle.sfv.specs.declared.parser.cursor.Cursor.{Cursor}
 use Rattle.sfv_tree.specs.Trees.{list_tree, dictionary_tree}

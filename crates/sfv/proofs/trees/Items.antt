@@ -13,8 +13,8 @@ use Rattle.sfv_spec.specs.declared.error_kind.ErrorKind.TheVariants.{TrailingCha
 use Rattle.sfv_base.specs.declared.error.Error.{Error}
 use Rattle.sfv_base.specs.declared.error.ParseError.TheVariants.{Syntax}
 use Rattle.sfv_base.specs.Errors.{error_of}
-use Rattle.sfv_reading.specs.Reader.{first, span}
-use Rattle.sfv_reading.specs.Items.{item_at}
+use Rattle.sfv_model.specs.Reader.{first, span}
+use Rattle.sfv_model.specs.Items.{item_at}
 use Rattle.sfv.specs.declared.parser.Parser.{Parser}
 use Rattle.sfv.specs.declared.parser.cursor.Cursor.{Cursor}
 use Rattle.sfv.specs.parser.Cursor.{kept, kept_input, kept_version, version, rest, IsErrorOf}

@@ -5,8 +5,8 @@ use Rattle.sfv_spec.specs.Values.{RawItem}
 use Rattle.sfv_spec.specs.Ordered.{ordered_item}
 use Rattle.std.specs.declared.alloc.Global.{Global}
 use Rattle.sfv_tree.specs.declared.hash_seed.HashSeed.{HashSeed}
-use Rattle.sfv_reading.specs.Reader.{Answer, and_then, bind, give, led, many, ◌>>=◌}
-use Rattle.sfv_reading.proofs.sound.Many.{put, in_front, starts, regroup, goes_on, is_done}
+use Rattle.sfv_model.specs.Reader.{Answer, and_then, bind, give, led, many, ◌>>=◌}
+use Rattle.sfv_model.proofs.sound.Many.{put, in_front, starts, regroup, goes_on, is_done}
 use Rattle.sfv.specs.declared.parser.Parser.{Parser}
 use Rattle.sfv.specs.declared.parser.cursor.Cursor.{Cursor}
 use Rattle.sfv.specs.parser.Cursor.{kept, version, rest}

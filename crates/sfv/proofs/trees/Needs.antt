@@ -8,8 +8,8 @@ use Rattle.sfv_spec.proofs.Marks.{double_quote, percent_sign, semicolon}
 use Rattle.sfv_spec.specs.Classes.{is_token_start}
 use Rattle.sfv_spec.specs.Values.{BareValue}
 use Rattle.sfv_spec.specs.declared.field_kind.FieldKind.TheVariants.{Item as item_field}
-use Rattle.sfv_reading.specs.Reader.{byte, branch, fail}
-use Rattle.sfv_reading.specs.Bare.{token_at}
+use Rattle.sfv_model.specs.Reader.{byte, branch, fail}
+use Rattle.sfv_model.specs.Bare.{token_at}
 use Rattle.sfv.specs.Memory.{may_need_memory}
 use Rattle.sfv.specs.parser.Cursor.{MayNeedMemory}
 use Rattle.sfv.specs.parser.Cursor.{input, rest, NextIs}

@@ -7,9 +7,9 @@ use Rattle.sfv_spec.specs.declared.version.Version.{Version}
 use Rattle.sfv_spec.specs.Ordered.{collapse}
 use Rattle.sfv_spec.proofs.Collapse.{collapse-push}
 use Rattle.sfv_tree.specs.Trees.{OwnedBareItem, pairs_tree}
-use Rattle.sfv_reading.specs.Items.{parameter_event, parameter_at, parameters_at}
-use Rattle.sfv_reading.proofs.sound.Many.{in_front, starts, goes_on, is_done}
-use Rattle.sfv_reading.proofs.sound.Items.{Consumes-parameter}
+use Rattle.sfv_model.specs.Items.{parameter_event, parameter_at, parameters_at}
+use Rattle.sfv_model.proofs.sound.Many.{in_front, starts, goes_on, is_done}
+use Rattle.sfv_model.proofs.sound.Items.{Consumes-parameter}
 use Rattle.sfv.proofs.trees.Errors.{Any, any_run}
 use Rattle.sfv.proofs.built.Items.{insert_entry-entered}
 use Rattle.sfv.proofs.visits.Parameters.{VisitedParameters, pair_events}

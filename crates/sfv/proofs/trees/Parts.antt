@@ -14,13 +14,13 @@ use Rattle.sfv_spec.specs.Events.{parameters_events, item_events}
 use Rattle.sfv_spec.specs.Ordered.{collapse, ordered_item, ordered_member}
 use Rattle.sfv_base.specs.declared.error.ParseError.{ParseError}
 use Rattle.sfv_base.specs.declared.error.OutOfMemory.{OutOfMemory}
-use Rattle.sfv_reading.specs.Reader.{Reader, led, give, ◌>>=◌, byte}
-use Rattle.sfv_reading.specs.Items.{key_at, parameter_event, parameter_at, parameters_at, item_at, item_of}
-use Rattle.sfv_reading.specs.Bare.{bare_at}
-use Rattle.sfv_reading.specs.Members.{inner_items_at, inner_at, inner_of, closed_events, member_at, member_value_at, keyed_at}
-use Rattle.sfv_reading.proofs.complete.Combinators.{bind_complete, led_complete}
-use Rattle.sfv_reading.proofs.sound.Many.{starts, is_done}
-use Rattle.sfv_reading.proofs.sound.Items.{Consumes-parameter}
+use Rattle.sfv_model.specs.Reader.{Reader, led, give, ◌>>=◌, byte}
+use Rattle.sfv_model.specs.Items.{key_at, parameter_event, parameter_at, parameters_at, item_at, item_of}
+use Rattle.sfv_model.specs.Bare.{bare_at}
+use Rattle.sfv_model.specs.Members.{inner_items_at, inner_at, inner_of, closed_events, member_at, member_value_at, keyed_at}
+use Rattle.sfv_model.proofs.complete.Combinators.{bind_complete, led_complete}
+use Rattle.sfv_model.proofs.sound.Many.{starts, is_done}
+use Rattle.sfv_model.proofs.sound.Items.{Consumes-parameter}
 use Rattle.sfv.specs.declared.parser.cursor.Cursor.{Cursor}
 use Rattle.sfv.specs.parser.Cursor.{kept, version, rest, Reads, TakesIf}
 use Rattle.sfv.specs.parser.Trees.{Builds, FailsAs, EntriesHaveSeed}
@@ -28,13 +28,13 @@ use Rattle.sfv.specs.parser.Visits.{IsOfVisitor}
 use Rattle.sfv.proofs.trees.Errors.{Any, NoMemory, as_answer, as_fault, borrowed_text}
 use Rattle.sfv.proofs.reads.Steps.{branch_true, item_some}
 use Rattle.sfv.proofs.visits.InnerLists.{member_list, member_item}
-use Rattle.sfv_bare.specs.BareItems.{bare_value, input_value, is_borrowed}
-use Rattle.sfv_visitor.specs.ProvidedVisitors.{ReadBareItem}
+use Rattle.sfv_values.specs.BareItems.{bare_value, input_value, is_borrowed}
+use Rattle.sfv_tree.specs.ProvidedVisitors.{ReadBareItem}
 use Rattle.sfv_tree.specs.Trees.{OwnedBareItem, pairs_tree, item_tree, member_tree, list_tree, dictionary_tree}
 use Rattle.sfv_tree.specs.Seeds.{ItemHasSeed, MemberHasSeed, ListHasSeed}
 use Rattle.sfv_tree.specs.declared.hash_seed.HashSeed.{HashSeed}
 use Rattle.sfv_tree.proofs.Entered.{dictionary_tree-insert}
-use Rattle.sfv_visitor.proofs.Seeded.{all_push, all_entered}
+use Rattle.sfv_tree.proofs.Seeded.{all_push, all_entered}
 use Rattle.sfv_tree.specs.declared.parsed.Item.{Item}
 use Rattle.sfv_tree.specs.declared.parsed.ListEntry.{ListEntry}
 use Rattle.sfv.proofs.reads.Errors.{kept_reads}

@@ -17,21 +17,21 @@ use Rattle.sfv_spec.specs.Events.{member_events, keyed_events, events}
 use Rattle.sfv_spec.proofs.Structure.{one_field_lem}
 use Rattle.sfv_base.specs.declared.error.Error.{Error}
 use Rattle.sfv_base.specs.declared.error.ParseError.{ParseError}
-use Rattle.sfv_text.specs.CheckedTexts.{text_of}
-use Rattle.sfv_bare.specs.BareItems.{input_value}
-use Rattle.sfv_bare.specs.declared.bare.GenericBareItem.TheVariants as bare
-use Rattle.sfv_visitor.specs.declared.visitor.Event.{Event}
-use Rattle.sfv_visitor.specs.declared.visitor.Event.TheVariants as event
-use Rattle.sfv_visitor.specs.declared.visitor.Visitor.{Ghosts}
-use Rattle.sfv_visitor.specs.Events.{event_of}
-use Rattle.sfv_visitor.specs.ProvidedVisitors.{ReadBareItem}
-use Rattle.sfv_reading.specs.Reader.{Answer, Reader, byte, first, led, span}
-use Rattle.sfv_reading.specs.Bare.{bare_at}
-use Rattle.sfv_reading.specs.Items.{key_at, parameter_at, parameters_at, item_at}
-use Rattle.sfv_reading.specs.Members.{inner_items_at, inner_at, member_at, member_value_at, keyed_at}
-use Rattle.sfv_reading.specs.Fields.{members_at}
-use Rattle.sfv_reading.proofs.LongestBareItem.{bare_is_exact}
-use Rattle.sfv_reading.proofs.Theorems.{read_is_accepted}
+use Rattle.sfv_values.specs.CheckedTexts.{text_of}
+use Rattle.sfv_values.specs.BareItems.{input_value}
+use Rattle.sfv_values.specs.declared.bare.GenericBareItem.TheVariants as bare
+use Rattle.sfv_tree.specs.declared.visitor.Event.{Event}
+use Rattle.sfv_tree.specs.declared.visitor.Event.TheVariants as event
+use Rattle.sfv_tree.specs.declared.visitor.Visitor.{Ghosts}
+use Rattle.sfv_tree.specs.Events.{event_of}
+use Rattle.sfv_tree.specs.ProvidedVisitors.{ReadBareItem}
+use Rattle.sfv_model.specs.Reader.{Answer, Reader, byte, first, led, span}
+use Rattle.sfv_model.specs.Bare.{bare_at}
+use Rattle.sfv_model.specs.Items.{key_at, parameter_at, parameters_at, item_at}
+use Rattle.sfv_model.specs.Members.{inner_items_at, inner_at, member_at, member_value_at, keyed_at}
+use Rattle.sfv_model.specs.Fields.{members_at}
+use Rattle.sfv_model.proofs.LongestBareItem.{bare_is_exact}
+use Rattle.sfv_model.proofs.Theorems.{read_is_accepted}
 use Rattle.sfv.specs.declared.parser.Parser.{Parser}
 use Rattle.sfv.specs.declared.parser.cursor.Cursor.{Cursor}
 use Rattle.sfv.specs.declared.parser.item.ReadParameter.{ReadParameter}

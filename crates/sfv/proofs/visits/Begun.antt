@@ -21,25 +21,25 @@ use Rattle.sfv_spec.specs.Events.{TreeEvent, entry, keyed_entry, begins_item, ba
 use Rattle.sfv_spec.specs.Events.{parameters_events, item_events}
 use Rattle.sfv_spec.specs.Events.{member_events, entry_events, keyed_events, events}
 use Rattle.sfv_spec.proofs.Settled.{joining-nil, joining-cons}
-use Rattle.sfv_reading.specs.Reader.{Answer, Reader, Apart, visited, and_then, give, ◌>>=◌, bind, led}
-use Rattle.sfv_reading.specs.Reader.{led_answer, many, go_on, one_and_more}
-use Rattle.sfv_reading.specs.Items.{value_at, parameter_at, parameter_event, parameters_at, item_of, item_at}
-use Rattle.sfv_reading.specs.Members.{member_at, entry_at, member_value_at, keyed_at}
-use Rattle.sfv_reading.specs.Fields.{next_at, members_at, whole_field_at}
-use Rattle.sfv_reading.proofs.sound.Combinators.{Begins, Reads, Goes, begins_after, begins_longer, run_head}
-use Rattle.sfv_reading.proofs.sound.Items.{Consumes-parameter}
-use Rattle.sfv_reading.proofs.sound.Many.{many_is}
-use Rattle.sfv_reading.proofs.sound.Separated.{Consumes-next, comma_complete}
-use Rattle.sfv_reading.proofs.complete.Combinators.{Apart-nil, Apart-cons, Apart-part, branch_past, branch_take}
-use Rattle.sfv_reading.proofs.complete.Combinators.{ahead_take, ahead_any, bind_complete, span_complete}
-use Rattle.sfv_reading.proofs.complete.Bare.{bare_complete}
-use Rattle.sfv_reading.proofs.complete.Items.{lengthens, lengthens_item, blank_ends, key_complete, item_no}
-use Rattle.sfv_reading.proofs.complete.Items.{key_apart, equals_apart}
-use Rattle.sfv_reading.proofs.texts.Joining.{joining_none}
-use Rattle.sfv_reading.proofs.complete.Fields.{comma_ends}
-use Rattle.sfv_reading.proofs.complete.Members.{entry_complete, entry_fresh, keyed_complete, keyed_fresh}
-use Rattle.sfv_reading.proofs.sound.Members.{Sound-entry, Sound-keyed}
-use Rattle.sfv_reading.proofs.visits.EventsBeforeRuleAlike.{begins_all, begins_trans}
+use Rattle.sfv_model.specs.Reader.{Answer, Reader, Apart, visited, and_then, give, ◌>>=◌, bind, led}
+use Rattle.sfv_model.specs.Reader.{led_answer, many, go_on, one_and_more}
+use Rattle.sfv_model.specs.Items.{value_at, parameter_at, parameter_event, parameters_at, item_of, item_at}
+use Rattle.sfv_model.specs.Members.{member_at, entry_at, member_value_at, keyed_at}
+use Rattle.sfv_model.specs.Fields.{next_at, members_at, whole_field_at}
+use Rattle.sfv_model.proofs.sound.Combinators.{Begins, Reads, Goes, begins_after, begins_longer, run_head}
+use Rattle.sfv_model.proofs.sound.Items.{Consumes-parameter}
+use Rattle.sfv_model.proofs.sound.Many.{many_is}
+use Rattle.sfv_model.proofs.sound.Separated.{Consumes-next, comma_complete}
+use Rattle.sfv_model.proofs.complete.Combinators.{Apart-nil, Apart-cons, Apart-part, branch_past, branch_take}
+use Rattle.sfv_model.proofs.complete.Combinators.{ahead_take, ahead_any, bind_complete, span_complete}
+use Rattle.sfv_model.proofs.complete.Bare.{bare_complete}
+use Rattle.sfv_model.proofs.complete.Items.{lengthens, lengthens_item, blank_ends, key_complete, item_no}
+use Rattle.sfv_model.proofs.complete.Items.{key_apart, equals_apart}
+use Rattle.sfv_model.proofs.texts.Joining.{joining_none}
+use Rattle.sfv_model.proofs.complete.Fields.{comma_ends}
+use Rattle.sfv_model.proofs.complete.Members.{entry_complete, entry_fresh, keyed_complete, keyed_fresh}
+use Rattle.sfv_model.proofs.sound.Members.{Sound-entry, Sound-keyed}
+use Rattle.sfv_model.proofs.visits.EventsBeforeRuleAlike.{begins_all, begins_trans}
 use Rattle.sfv.specs.Parsers.{open_events, IsBeforeMember, BeginsMember}
 use Rattle.sfv.specs.Parsers.{list_member, list_item, dictionary_key, dictionary_item}
 

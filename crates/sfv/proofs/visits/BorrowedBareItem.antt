@@ -13,16 +13,16 @@ use Rattle.sfv_spec.specs.Grammar.{IsBareText, IsFieldText, BeginsWithLongest}
 use Rattle.sfv_spec.specs.declared.field_kind.FieldKind.TheVariants.{Item as item_field}
 use Rattle.sfv_spec.specs.declared.version.Version.{Version}
 use Rattle.sfv_spec.specs.Events.{TreeEvent, bare_item, parameters_events, item_events, events}
-use Rattle.sfv_bare.specs.BareItems.{input_value, read_text}
-use Rattle.sfv_bare.specs.declared.bare.GenericBareItem.TheVariants as bare
-use Rattle.sfv_visitor.specs.declared.visitor.Event.{Event}
-use Rattle.sfv_visitor.specs.declared.visitor.Event.TheVariants as event
-use Rattle.sfv_visitor.specs.Events.{event_of}
-use Rattle.sfv_visitor.specs.ProvidedVisitors.{ReadBareItem}
-use Rattle.sfv_reading.specs.Reader.{Answer, Apart, span, visited}
-use Rattle.sfv_reading.specs.Quoted.{string_at, display_at}
-use Rattle.sfv_reading.proofs.complete.Combinators.{span_complete, Apart-cons}
-use Rattle.sfv_reading.proofs.complete.Quoted.{string_complete, display_complete}
+use Rattle.sfv_values.specs.BareItems.{input_value, read_text}
+use Rattle.sfv_values.specs.declared.bare.GenericBareItem.TheVariants as bare
+use Rattle.sfv_tree.specs.declared.visitor.Event.{Event}
+use Rattle.sfv_tree.specs.declared.visitor.Event.TheVariants as event
+use Rattle.sfv_tree.specs.Events.{event_of}
+use Rattle.sfv_tree.specs.ProvidedVisitors.{ReadBareItem}
+use Rattle.sfv_model.specs.Reader.{Answer, Apart, span, visited}
+use Rattle.sfv_model.specs.Quoted.{string_at, display_at}
+use Rattle.sfv_model.proofs.complete.Combinators.{span_complete, Apart-cons}
+use Rattle.sfv_model.proofs.complete.Quoted.{string_complete, display_complete}
 use Rattle.sfv.specs.declared.parser.cursor.Cursor.{Cursor}
 use Rattle.sfv.specs.parser.Cursor.{rest}
 use Rattle.sfv.specs.parser.AsRead.{HasNoQuote}
@@ -49,8 +49,11 @@ lent_front version (bare.String text) before after front split means h =
       λ b. let m = h.0 b in
           let same : front ≡ double_quote ∷ m.0 = append_cancel_right front (double_quote ∷ m.0) (rest after) (sym split ∙ m.1) in
           subst (RunOf (λ c. not (c == byte "\\"))) (sym same) m.2,
-      λ p. h.1 (means.back, split ∙ ap (λ (l : List ℕ). l ++ rest after) whole,
-          subst (RunOf (λ c. not (c == byte "\\"))) whole p),
+      λ p. h.1 (
+        means.back,
+        split ∙ ap (λ (l : List ℕ). l ++ rest after) whole,
+        subst (RunOf (λ c. not (c == byte "\\"))) whole p,
+      ),
     )
 lent_front version (bare.DisplayString text) before after front split means h =
     let whole : front ≡ percent_sign ∷ double_quote ∷ means.1.back =
@@ -59,8 +62,11 @@ lent_front version (bare.DisplayString text) before after front split means h =
           let same : front ≡ percent_sign ∷ double_quote ∷ m.0 =
           append_cancel_right front (percent_sign ∷ double_quote ∷ m.0) (rest after) (sym split ∙ m.1) in
           subst (λ (l : List ℕ). IsPlainAfterFirst l) (sym same) m.2,
-      λ p. h.1 (means.1.back, split ∙ ap (λ (l : List ℕ). l ++ rest after) whole,
-          subst (λ (l : List ℕ). IsPlainAfterFirst l) whole p),
+      λ p. h.1 (
+        means.1.back,
+        split ∙ ap (λ (l : List ℕ). l ++ rest after) whole,
+        subst (λ (l : List ℕ). IsPlainAfterFirst l) whole p,
+      ),
     )
 lent_front version item before after front split means h = tt
 
@@ -168,8 +174,12 @@ first_as_read {S} {O} takes takes_read finishes version t from out h =
               f.means (sym k.3 ∙ f.text),
           folds.0,
           folds.1.1,
-          (last, subst (λ (es : List TreeEvent). FoldsTo takes folds.0 es last) rest_same
-              (folded takes takes_read es folds.0 last folds.2), ends),
+          (
+            last,
+            subst (λ (es : List TreeEvent). FoldsTo takes folds.0 es last) rest_same
+                (folded takes takes_read es folds.0 last folds.2),
+            ends,
+          ),
         )
     on (event.Entry ∷ es) e k last folds ends = absurd cc
     on (event.KeyedEntry key ∷ es) e k last folds ends = absurd cc

@@ -25,25 +25,25 @@ use Rattle.sfv_base.specs.declared.error.Error.{Error}
 use Rattle.sfv_base.specs.Errors.{error_of, kind_of, index_of, out_of_memory}
 use Rattle.sfv_base.specs.declared.error.ParseError.{ParseError}
 use Rattle.sfv_base.specs.declared.error.ParseError.TheVariants.{Syntax, Visitor}
-use Rattle.sfv_reading.specs.Reader.{Answer, Fault, and_then, bind, give, span, visited, ◌>>=◌}
-use Rattle.sfv_reading.specs.Items.{item_at}
-use Rattle.sfv_reading.specs.Fields.{members_at, whole_field_at, ending, read_field}
-use Rattle.sfv_reading.specs.Judgements.{Reached}
-use Rattle.sfv_reading.specs.Visits.{VisitorFails}
-use Rattle.sfv_reading.proofs.complete.Combinators.{bind_complete}
-use Rattle.sfv_reading.proofs.sound.Combinators.{Somewhere}
-use Rattle.sfv_reading.proofs.sound.Fields.{FieldGoes, Sound-field}
-use Rattle.sfv_reading.proofs.Theorems.{read_is_accepted, fault_is_placed}
-use Rattle.sfv_reading.proofs.TrailingBytes.{read_before}
-use Rattle.sfv_reading.proofs.visits.Fields.{visited_begins}
-use Rattle.sfv_reading.proofs.visits.EventsBeforeReach.{visited_reach}
-use Rattle.sfv_reading.proofs.visits.EventsBeforeComma.{visited_before}
+use Rattle.sfv_model.specs.Reader.{Answer, Fault, and_then, bind, give, span, visited, ◌>>=◌}
+use Rattle.sfv_model.specs.Items.{item_at}
+use Rattle.sfv_model.specs.Fields.{members_at, whole_field_at, ending, read_field}
+use Rattle.sfv_model.specs.Judgements.{Reached}
+use Rattle.sfv_model.specs.Visits.{VisitorFails}
+use Rattle.sfv_model.proofs.complete.Combinators.{bind_complete}
+use Rattle.sfv_model.proofs.sound.Combinators.{Somewhere}
+use Rattle.sfv_model.proofs.sound.Fields.{FieldGoes, Sound-field}
+use Rattle.sfv_model.proofs.Theorems.{read_is_accepted, fault_is_placed}
+use Rattle.sfv_model.proofs.TrailingBytes.{read_before}
+use Rattle.sfv_model.proofs.visits.Fields.{visited_begins}
+use Rattle.sfv_model.proofs.visits.EventsBeforeReach.{visited_reach}
+use Rattle.sfv_model.proofs.visits.EventsBeforeComma.{visited_before}
 use Rattle.sfv.specs.declared.parser.Parser.{Parser}
 use Rattle.sfv.specs.declared.parser.cursor.Cursor.{Cursor}
 use Rattle.sfv.specs.parser.Cursor.{kept_input, located, IsErrorOf}
 use Rattle.sfv.specs.parser.Cursor.{located_whole}
 use Rattle.sfv.specs.parser.Members.{MemberValue, member_parts, one_member_at, field_of}
-use Rattle.sfv_visitor.specs.declared.visitor.Visitor.{Ghosts}
+use Rattle.sfv_tree.specs.declared.visitor.Visitor.{Ghosts}
 use Rattle.sfv.specs.parser.Visits.{VisitsAnswer, IsOfVisitor, VisitsField, IsFinishedAt, IsAskedThere, ReturnsAfter}
 use Rattle.sfv.specs.parser.Visits.{TookAllOf, TookAll}
 use Rattle.sfv.specs.Parsers.{version_of, input_of, IsParseError, FailsOn, Returns, IsAnswerBy, IsSyntaxErrorBy}

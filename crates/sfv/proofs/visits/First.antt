@@ -16,17 +16,17 @@ use Rattle.sfv_base.specs.declared.error.Error.{Error}
 use Rattle.sfv_base.specs.Errors.{index_of}
 use Rattle.sfv_base.specs.declared.error.ParseError.{ParseError}
 use Rattle.sfv_base.specs.declared.error.ParseError.TheVariants.{Syntax, Visitor}
-use Rattle.sfv_reading.specs.Reader.{Answer, Fault, bind, give, led, span, visited}
-use Rattle.sfv_reading.specs.Bare.{bare_at}
-use Rattle.sfv_reading.specs.Items.{parameters_at, item_at}
-use Rattle.sfv_reading.specs.Fields.{whole_field_at}
-use Rattle.sfv_reading.specs.Judgements.{Reached}
-use Rattle.sfv_reading.proofs.sound.Bare.{BareGoes, Sound-bare}
-use Rattle.sfv_reading.proofs.sound.Combinators.{Somewhere, IsSpan, Steady-span}
-use Rattle.sfv_reading.proofs.LongestBareItem.{bare_is_exact}
-use Rattle.sfv_reading.proofs.FirstBareItem.{first_bare, longest_read}
-use Rattle.sfv_reading.proofs.visits.Fields.{visited_begins}
-use Rattle.sfv_visitor.specs.declared.visitor.Visitor.{Ghosts}
+use Rattle.sfv_model.specs.Reader.{Answer, Fault, bind, give, led, span, visited}
+use Rattle.sfv_model.specs.Bare.{bare_at}
+use Rattle.sfv_model.specs.Items.{parameters_at, item_at}
+use Rattle.sfv_model.specs.Fields.{whole_field_at}
+use Rattle.sfv_model.specs.Judgements.{Reached}
+use Rattle.sfv_model.proofs.sound.Bare.{BareGoes, Sound-bare}
+use Rattle.sfv_model.proofs.sound.Combinators.{Somewhere, IsSpan, Steady-span}
+use Rattle.sfv_model.proofs.LongestBareItem.{bare_is_exact}
+use Rattle.sfv_model.proofs.FirstBareItem.{first_bare, longest_read}
+use Rattle.sfv_model.proofs.visits.Fields.{visited_begins}
+use Rattle.sfv_tree.specs.declared.visitor.Visitor.{Ghosts}
 use Rattle.sfv.specs.declared.parser.Parser.{Parser}
 use Rattle.sfv.specs.parser.Visits.{IsOfVisitor, VisitsField, TookBare, TookFirst}
 use Rattle.sfv.specs.Parsers.{version_of, input_of, IsParseError, ReceivesFirstBy}

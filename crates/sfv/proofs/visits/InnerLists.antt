@@ -11,10 +11,10 @@ use Rattle.sfv_spec.specs.Events.{item_events, member_events, inner_item_events}
 use Rattle.std.specs.List.{FoldsTo}
 use Rattle.sfv_base.specs.declared.error.ParseError.{ParseError}
 use Rattle.sfv_base.specs.declared.error.ParseError.TheVariants.{Syntax, Visitor}
-use Rattle.sfv_reading.specs.Reader.{Answer, Reader, byte, led_answer, led, give, and_then, bind, ◌>>=◌}
-use Rattle.sfv_reading.specs.Items.{parameters_at, item_at}
-use Rattle.sfv_reading.specs.Members.{inner_items_at, inner_of, closed_events, inner_at, member_at}
-use Rattle.sfv_reading.specs.Visits.{VisitorFails}
+use Rattle.sfv_model.specs.Reader.{Answer, Reader, byte, led_answer, led, give, and_then, bind, ◌>>=◌}
+use Rattle.sfv_model.specs.Items.{parameters_at, item_at}
+use Rattle.sfv_model.specs.Members.{inner_items_at, inner_of, closed_events, inner_at, member_at}
+use Rattle.sfv_model.specs.Visits.{VisitorFails}
 use Rattle.sfv.specs.declared.parser.Parser.{Parser}
 use Rattle.sfv.specs.declared.parser.cursor.Cursor.{Cursor}
 use Rattle.sfv.specs.parser.Cursor.{TakesIf, kept_input}

@@ -10,10 +10,10 @@ use Rattle.sfv_spec.specs.Events.{keyed_events}
 use Rattle.sfv_spec.proofs.Marks.{true_with}
 use Rattle.sfv_base.specs.declared.error.Error.{Error}
 use Rattle.sfv_base.specs.declared.error.ParseError.{ParseError}
-use Rattle.sfv_reading.specs.Reader.{Answer, Reader, byte, visited, led_answer, led, give, and_then, bind, ◌>>=◌}
-use Rattle.sfv_reading.specs.Items.{key_at, parameters_at}
-use Rattle.sfv_reading.specs.Members.{member_at, member_value_at, keyed_at}
-use Rattle.sfv_reading.proofs.visits.Parts.{visited_then}
+use Rattle.sfv_model.specs.Reader.{Answer, Reader, byte, visited, led_answer, led, give, and_then, bind, ◌>>=◌}
+use Rattle.sfv_model.specs.Items.{key_at, parameters_at}
+use Rattle.sfv_model.specs.Members.{member_at, member_value_at, keyed_at}
+use Rattle.sfv_model.proofs.visits.Parts.{visited_then}
 use Rattle.sfv.specs.declared.parser.Parser.{Parser}
 use Rattle.sfv.specs.declared.parser.cursor.Cursor.{Cursor}
 use Rattle.sfv.specs.parser.Cursor.{TakesIf, kept_input, IsErrorOf}

@@ -11,16 +11,16 @@ use Rattle.sfv_spec.specs.Grammar.{IsMemberText, IsDictionaryMemberText}
 use Rattle.sfv_spec.specs.Events.{TreeEvent, inner_item_events, entry_events, keyed_events}
 use Rattle.std.specs.List.{FoldsTo}
 use Rattle.sfv_base.specs.declared.error.Error.{Error}
-use Rattle.sfv_reading.specs.Reader.{Answer, Reader, Fault, after_events, visited, and_then, bind, give, led, many, ◌>>=◌}
-use Rattle.sfv_reading.specs.Members.{inner_item_at, next_item_at, entry_at, keyed_at}
-use Rattle.sfv_reading.specs.Fields.{next_at}
-use Rattle.sfv_reading.specs.Visits.{VisitorFails}
-use Rattle.sfv_reading.proofs.sound.Members.{Consumes-next_item, Sound-entry, Sound-keyed}
-use Rattle.sfv_reading.proofs.sound.Separated.{Consumes-next}
-use Rattle.sfv_reading.proofs.sound.Many.{Consumes, put, in_front, starts, regroup, many_is, goes_on, is_done}
-use Rattle.sfv_reading.proofs.sound.Many.{is_faulty}
-use Rattle.sfv_reading.proofs.visits.Parts.{visited_in_front, failed_within}
-use Rattle.sfv_reading.proofs.complete.Combinators.{bind_complete}
+use Rattle.sfv_model.specs.Reader.{Answer, Reader, Fault, after_events, visited, and_then, bind, give, led, many, ◌>>=◌}
+use Rattle.sfv_model.specs.Members.{inner_item_at, next_item_at, entry_at, keyed_at}
+use Rattle.sfv_model.specs.Fields.{next_at}
+use Rattle.sfv_model.specs.Visits.{VisitorFails}
+use Rattle.sfv_model.proofs.sound.Members.{Consumes-next_item, Sound-entry, Sound-keyed}
+use Rattle.sfv_model.proofs.sound.Separated.{Consumes-next}
+use Rattle.sfv_model.proofs.sound.Many.{Consumes, put, in_front, starts, regroup, many_is, goes_on, is_done}
+use Rattle.sfv_model.proofs.sound.Many.{is_faulty}
+use Rattle.sfv_model.proofs.visits.Parts.{visited_in_front, failed_within}
+use Rattle.sfv_model.proofs.complete.Combinators.{bind_complete}
 use Rattle.sfv_base.specs.declared.error.ParseError.{ParseError}
 use Rattle.sfv_base.specs.declared.error.ParseError.TheVariants.{Syntax, Visitor}
 use Rattle.sfv.specs.declared.parser.Parser.{Parser}

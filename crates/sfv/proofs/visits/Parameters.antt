@@ -9,14 +9,14 @@ use Rattle.sfv_spec.specs.declared.version.Version.{Version}
 use Rattle.sfv_spec.specs.Events.{TreeEvent, parameter, parameters_end, parameters_events, bare_item, item_events}
 use Rattle.std.specs.List.{FoldsTo}
 use Rattle.sfv_base.specs.declared.error.Error.{Error}
-use Rattle.sfv_reading.specs.Reader.{Answer, Fault, after_events, visited, and_then, bind, give, led, led_answer, ◌>>=◌}
-use Rattle.sfv_reading.proofs.complete.Combinators.{bind_complete}
-use Rattle.sfv_reading.specs.Bare.{bare_at}
-use Rattle.sfv_reading.specs.Items.{parameter_event, parameter_at, parameters_at, item_at, item_of}
-use Rattle.sfv_reading.specs.Visits.{VisitorFails}
-use Rattle.sfv_reading.proofs.sound.Many.{in_front, starts, goes_on, is_done, is_faulty}
-use Rattle.sfv_reading.proofs.sound.Items.{Consumes-parameter}
-use Rattle.sfv_reading.proofs.visits.Parts.{visited_then}
+use Rattle.sfv_model.specs.Reader.{Answer, Fault, after_events, visited, and_then, bind, give, led, led_answer, ◌>>=◌}
+use Rattle.sfv_model.proofs.complete.Combinators.{bind_complete}
+use Rattle.sfv_model.specs.Bare.{bare_at}
+use Rattle.sfv_model.specs.Items.{parameter_event, parameter_at, parameters_at, item_at, item_of}
+use Rattle.sfv_model.specs.Visits.{VisitorFails}
+use Rattle.sfv_model.proofs.sound.Many.{in_front, starts, goes_on, is_done, is_faulty}
+use Rattle.sfv_model.proofs.sound.Items.{Consumes-parameter}
+use Rattle.sfv_model.proofs.visits.Parts.{visited_then}
 use Rattle.sfv_base.specs.declared.error.ParseError.{ParseError}
 use Rattle.sfv_base.specs.declared.error.ParseError.TheVariants.{Syntax, Visitor}
 use Rattle.sfv.specs.declared.parser.Parser.{Parser}

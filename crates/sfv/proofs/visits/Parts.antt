@@ -8,10 +8,10 @@ use Rattle.sfv_spec.specs.Events.{TreeEvent}
 use Rattle.std.specs.List.{FoldsTo}
 use Rattle.sfv_base.specs.declared.error.ParseError.{ParseError}
 use Rattle.sfv_base.specs.declared.error.ParseError.TheVariants.{Syntax, Visitor}
-use Rattle.sfv_reading.specs.Reader.{Answer, Reader, visited, and_then, bind, give, led_answer, led, ◌>>=◌}
-use Rattle.sfv_reading.specs.Visits.{VisitorFails}
-use Rattle.sfv_reading.proofs.visits.Parts.{visited_then, visited_first, failed_within}
-use Rattle.sfv_reading.proofs.complete.Combinators.{bind_complete, led_complete}
+use Rattle.sfv_model.specs.Reader.{Answer, Reader, visited, and_then, bind, give, led_answer, led, ◌>>=◌}
+use Rattle.sfv_model.specs.Visits.{VisitorFails}
+use Rattle.sfv_model.proofs.visits.Parts.{visited_then, visited_first, failed_within}
+use Rattle.sfv_model.proofs.complete.Combinators.{bind_complete, led_complete}
 use Rattle.sfv.specs.declared.parser.Parser.{Parser}
 use Rattle.sfv.specs.declared.parser.cursor.Cursor.{Cursor}
 use Rattle.sfv.specs.parser.Cursor.{kept, kept_input, kept_version, rest}

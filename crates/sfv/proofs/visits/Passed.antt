@@ -9,11 +9,11 @@ use Rattle.sfv_spec.proofs.Marks.{double_quote, is_space, is_space_or_tab, comma
 use Rattle.sfv_spec.specs.Texts.{RunOf}
 use Rattle.sfv_spec.specs.Classes.{is_key_start, is_key_inner}
 use Rattle.sfv_spec.specs.declared.error_kind.ErrorKind.{ErrorKind}
-use Rattle.sfv_reading.specs.Reader.{Answer, Reader, and_then, give, fail, bind, ◌>>=◌, branch, ahead, at_start, back}
-use Rattle.sfv_reading.specs.Reader.{span, byte, any}
-use Rattle.sfv_reading.specs.Items.{key_at}
-use Rattle.sfv_reading.specs.Fields.{comma_at}
-use Rattle.sfv_reading.proofs.sound.Combinators.{Steady-span, run_cons, run_head, run_tail}
+use Rattle.sfv_model.specs.Reader.{Answer, Reader, and_then, give, fail, bind, ◌>>=◌, branch, ahead, at_start, back}
+use Rattle.sfv_model.specs.Reader.{span, byte, any}
+use Rattle.sfv_model.specs.Items.{key_at}
+use Rattle.sfv_model.specs.Fields.{comma_at}
+use Rattle.sfv_model.proofs.sound.Combinators.{Steady-span, run_cons, run_head, run_tail}
 use Rattle.sfv.specs.parser.AsRead.{HasNoQuote, Passes}
 use Rattle.sfv.specs.parser.Cursor.{TakesIf}
 use Rattle.sfv.specs.parser.Members.{item_delimiter_at, member_delimiter_at}

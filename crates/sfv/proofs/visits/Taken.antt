@@ -11,18 +11,18 @@ use Rattle.sfv_spec.specs.declared.error_kind.ErrorKind.TheVariants.{TrailingCom
 use Rattle.sfv_base.specs.declared.error.Error.{Error}
 use Rattle.sfv_spec.specs.declared.error_kind.ErrorKind.{ErrorKind}
 use Rattle.sfv_base.specs.Errors.{kind_of, index_of, error_of}
-use Rattle.sfv_reading.specs.Judgements.{Reached, Sound, Mute, Quiet}
-use Rattle.sfv_reading.specs.Reader.{Answer, Reader, Fault, after_events, visited, and_then, bind, ◌>>=◌}
-use Rattle.sfv_reading.specs.Bare.{bare_at}
-use Rattle.sfv_reading.specs.Items.{key_at, value_at, parameter_at}
-use Rattle.sfv_reading.specs.Members.{inner_items_at}
-use Rattle.sfv_reading.specs.Fields.{comma_at}
-use Rattle.sfv_reading.specs.Reader.{ahead, fail, first, give, at_reach}
-use Rattle.sfv_reading.specs.Visits.{Visited}
-use Rattle.sfv_reading.proofs.sound.Combinators.{Sound-give, Sound-fail, Sound-branch, Sound-ahead, Sound-bind}
-use Rattle.sfv_reading.proofs.sound.Combinators.{Sound-span, Sound-back, Found, Reads}
-use Rattle.sfv_reading.proofs.sound.Bare.{Sound-bare}
-use Rattle.sfv_reading.proofs.sound.Items.{Sound-key, Sound-value}
+use Rattle.sfv_model.specs.Judgements.{Reached, Sound, Mute, Quiet}
+use Rattle.sfv_model.specs.Reader.{Answer, Reader, Fault, after_events, visited, and_then, bind, ◌>>=◌}
+use Rattle.sfv_model.specs.Bare.{bare_at}
+use Rattle.sfv_model.specs.Items.{key_at, value_at, parameter_at}
+use Rattle.sfv_model.specs.Members.{inner_items_at}
+use Rattle.sfv_model.specs.Fields.{comma_at}
+use Rattle.sfv_model.specs.Reader.{ahead, fail, first, give, at_reach}
+use Rattle.sfv_model.specs.Visits.{Visited}
+use Rattle.sfv_model.proofs.sound.Combinators.{Sound-give, Sound-fail, Sound-branch, Sound-ahead, Sound-bind}
+use Rattle.sfv_model.proofs.sound.Combinators.{Sound-span, Sound-back, Found, Reads}
+use Rattle.sfv_model.proofs.sound.Bare.{Sound-bare}
+use Rattle.sfv_model.proofs.sound.Items.{Sound-key, Sound-value}
 use Rattle.sfv.specs.declared.parser.cursor.Cursor.{Cursor}
 use Rattle.sfv.specs.parser.Cursor.{kept, input, version, rest, located, IsErrorOf}
 use Rattle.sfv.specs.parser.Members.{item_delimiter_at, member_delimiter_at}

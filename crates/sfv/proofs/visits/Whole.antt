@@ -11,10 +11,10 @@ use Rattle.sfv_spec.specs.Events.{TreeEvent, events}
 use Rattle.sfv_base.specs.declared.error.Error.{Error}
 use Rattle.sfv_spec.specs.declared.error_kind.ErrorKind.{ErrorKind}
 use Rattle.sfv_spec.specs.declared.error_kind.ErrorKind.TheVariants.{TrailingCharactersAfterParsedValue}
-use Rattle.sfv_reading.specs.Reader.{Answer, Reader, first, give, ◌>>=◌, span}
-use Rattle.sfv_reading.specs.Items.{item_at}
-use Rattle.sfv_reading.specs.Fields.{whole_field_at, ending, read_field}
-use Rattle.sfv_reading.proofs.complete.Combinators.{bind_complete}
+use Rattle.sfv_model.specs.Reader.{Answer, Reader, first, give, ◌>>=◌, span}
+use Rattle.sfv_model.specs.Items.{item_at}
+use Rattle.sfv_model.specs.Fields.{whole_field_at, ending, read_field}
+use Rattle.sfv_model.proofs.complete.Combinators.{bind_complete}
 use Rattle.sfv.specs.declared.parser.Parser.{Parser}
 use Rattle.sfv.specs.declared.parser.cursor.Cursor.{Cursor}
 use Rattle.sfv.specs.parser.Cursor.{kept, kept_input, rest, located, IsErrorOf}

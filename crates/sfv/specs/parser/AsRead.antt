@@ -4,10 +4,10 @@ use Rattle.sfv_spec.specs.Ascii.{byte}
 use Rattle.sfv_spec.specs.Texts.{RunOf}
 use Rattle.sfv_spec.specs.declared.version.Version.{Version}
 use Rattle.sfv_spec.specs.Events.{TreeEvent}
-use Rattle.sfv_visitor.specs.declared.visitor.Event.{Event}
-use Rattle.sfv_visitor.specs.Events.{event_of}
-use Rattle.sfv_visitor.specs.ProvidedVisitors.{ReadBareItem}
-use Rattle.sfv_reading.specs.Reader.{Reader}
+use Rattle.sfv_tree.specs.declared.visitor.Event.{Event}
+use Rattle.sfv_tree.specs.Events.{event_of}
+use Rattle.sfv_tree.specs.ProvidedVisitors.{ReadBareItem}
+use Rattle.sfv_model.specs.Reader.{Reader}
 use Rattle.sfv.specs.declared.parser.cursor.Cursor.{Cursor}
 use Rattle.sfv.specs.Parsers.{IsReadAs, IsEventText}
 use Rattle.sfv.specs.parser.Cursor.{version, rest}

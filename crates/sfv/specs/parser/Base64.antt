@@ -6,8 +6,8 @@ use Rattle.sfv_spec.proofs.Marks.{equals_sign}
 use Rattle.sfv_spec.specs.Base64.{symbols}
 use Rattle.sfv_spec.specs.Texts.{RunOf}
 use Rattle.sfv_spec.proofs.Marks.{is_symbol, slash}
-use Rattle.sfv_reading.specs.Reader.{Apart, byte}
-use Rattle.sfv_reading.specs.Content.{bytes_from, symbol_value}
+use Rattle.sfv_model.specs.Reader.{Apart, byte}
+use Rattle.sfv_model.specs.Content.{bytes_from, symbol_value}
 
 -- `n` is the length of the longest run of symbols at the start of `t`
 pub record IsSymbolRun (t : List ℕ) (n : ℕ) : Type 0 where

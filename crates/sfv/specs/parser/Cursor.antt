@@ -8,7 +8,7 @@ use Rattle.sfv_spec.specs.declared.version.Version.{Version}
 use Rattle.sfv_base.specs.declared.error.Error.{Error}
 use Rattle.sfv_spec.specs.declared.error_kind.ErrorKind.{ErrorKind}
 use Rattle.sfv_base.specs.Errors.{kind_of, index_of}
-use Rattle.sfv_reading.specs.Reader.{Fault, Answer, Reader, Apart}
+use Rattle.sfv_model.specs.Reader.{Fault, Answer, Reader, Apart}
 use Rattle.sfv.specs.declared.parser.Parser.{Parser}
 use Rattle.sfv.specs.declared.parser.cursor.Cursor.{Cursor}
 use Rattle.sfv.specs.Memory.{may_need_memory, IsRefusal}

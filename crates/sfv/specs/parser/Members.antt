@@ -6,9 +6,9 @@ use Rattle.sfv_spec.specs.declared.field_kind.FieldKind.TheVariants.{List as lis
 use Rattle.sfv_spec.specs.declared.version.Version.{Version}
 use Rattle.sfv_spec.specs.Events.{TreeEvent, item_events, inner_list_end, parameters_events, inner_item_events}
 use Rattle.sfv_spec.specs.Events.{entry_events, keyed_events}
-use Rattle.sfv_reading.specs.Reader.{Reader, give}
-use Rattle.sfv_reading.specs.Members.{entry_at, keyed_at, item_delimited}
-use Rattle.sfv_reading.specs.Fields.{member_delimited}
+use Rattle.sfv_model.specs.Reader.{Reader, give}
+use Rattle.sfv_model.specs.Members.{entry_at, keyed_at, item_delimited}
+use Rattle.sfv_model.specs.Fields.{member_delimited}
 
 -- after an item of an inner list: `true` if another item follows, `false` after the closing parenthesis
 unfoldable pub item_delimiter_at : Reader Bool

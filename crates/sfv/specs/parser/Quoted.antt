@@ -14,13 +14,13 @@ use Rattle.sfv_spec.specs.declared.error_kind.ErrorKind.{ErrorKind}
 use Rattle.sfv_spec.specs.declared.error_kind.ErrorKind.TheVariants.{UnterminatedString, InvalidStringCharacter}
 use Rattle.sfv_spec.specs.declared.error_kind.ErrorKind.TheVariants.{UnterminatedDisplayString}
 use Rattle.sfv_spec.specs.declared.error_kind.ErrorKind.TheVariants.{InvalidDisplayStringCharacter}
-use Rattle.sfv_text.specs.TokenText.{TokenRef}
-use Rattle.sfv_bare.specs.declared.bare.GenericBareItem.{GenericBareItem}
-use Rattle.sfv_bare.specs.declared.bare.GenericBareItem.TheVariants as bare
-use Rattle.sfv_bare.specs.declared.bare.StringFromInput.{StringFromInput}
-use Rattle.sfv_bare.specs.BareItems.{is_borrowed_string, is_borrowed_text}
-use Rattle.sfv_reading.specs.Reader.{Answer, Reader}
-use Rattle.sfv_reading.specs.Quoted.{after_bytes, string_from, outside, percent, digit, pieces_from}
+use Rattle.sfv_values.specs.TokenText.{TokenRef}
+use Rattle.sfv_values.specs.declared.bare.GenericBareItem.{GenericBareItem}
+use Rattle.sfv_values.specs.declared.bare.GenericBareItem.TheVariants as bare
+use Rattle.sfv_values.specs.declared.bare.StringFromInput.{StringFromInput}
+use Rattle.sfv_values.specs.BareItems.{is_borrowed_string, is_borrowed_text}
+use Rattle.sfv_model.specs.Reader.{Answer, Reader}
+use Rattle.sfv_model.specs.Quoted.{after_bytes, string_from, outside, percent, digit, pieces_from}
 use Rattle.sfv.specs.declared.parser.cursor.Cursor.{Cursor}
 use Rattle.sfv.specs.declared.parser.quoted.QuotedBytes.{QuotedBytes}
 use Rattle.sfv.specs.declared.parser.quoted.QuotedBytes.TheVariants as quoted

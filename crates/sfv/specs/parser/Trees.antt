@@ -9,13 +9,13 @@ use Rattle.sfv_base.specs.declared.error.Error.{Error}
 use Rattle.sfv_base.specs.declared.error.ParseError.{ParseError}
 use Rattle.sfv_base.specs.declared.error.ParseError.TheVariants.{Syntax, Visitor}
 use Rattle.sfv_base.specs.declared.error.OutOfMemory.{OutOfMemory}
-use Rattle.sfv_bare.specs.BareItems.{is_text}
+use Rattle.sfv_values.specs.BareItems.{is_text}
 use Rattle.sfv_tree.specs.Trees.{OwnedBareItem}
 use Rattle.sfv_tree.proofs.Words.{item_with, inner_list_with}
 use Rattle.sfv_tree.specs.Seeds.{ItemHasSeed, MemberHasSeed}
 use Rattle.sfv_tree.specs.declared.parsed.ListEntry.{ListEntry}
 use Rattle.sfv_tree.specs.declared.hash_seed.HashSeed.{HashSeed}
-use Rattle.sfv_reading.specs.Reader.{Reader, visited}
+use Rattle.sfv_model.specs.Reader.{Reader, visited}
 use Rattle.sfv.specs.declared.parser.cursor.Cursor.{Cursor}
 use Rattle.sfv.specs.declared.parser.tree.Head.{Head}
 use Rattle.sfv.specs.declared.parser.tree.Head.TheVariants as heads

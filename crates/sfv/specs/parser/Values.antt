@@ -8,10 +8,10 @@ use Rattle.sfv_spec.proofs.Marks.{is_digit}
 use Rattle.sfv_spec.specs.Numbers.{place_value}
 use Rattle.sfv_spec.specs.Values.{BareValue, integer, decimal, display_string}
 use Rattle.sfv_base.specs.Numbers.{integer_of, thousandths_of}
-use Rattle.sfv_text.specs.CheckedTexts.{text_of}
+use Rattle.sfv_values.specs.CheckedTexts.{text_of}
 use Rattle.std.specs.Cow.{cow_str_bytes}
-use Rattle.sfv_bare.specs.BareItems.{input_value}
-pub use Rattle.sfv_bare.specs.BareItems.{is_borrowed_string, is_borrowed_text}
+use Rattle.sfv_values.specs.BareItems.{input_value}
+pub use Rattle.sfv_values.specs.BareItems.{is_borrowed_string, is_borrowed_text}
 use Rattle.sfv.specs.declared.parser.digits.Digits.{Digits}
 use Rattle.sfv.specs.declared.parser.number.Number.{Number}
 use Rattle.sfv.specs.declared.parser.number.Number.TheVariants as number

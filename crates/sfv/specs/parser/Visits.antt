@@ -13,10 +13,10 @@ use Rattle.sfv_base.specs.declared.error.Error.{Error}
 use Rattle.sfv_base.specs.declared.error.ParseError.{ParseError}
 use Rattle.sfv_base.specs.declared.error.ParseError.TheVariants.{Syntax, Visitor}
 use Rattle.sfv_base.specs.Errors.{kind_of, index_of}
-use Rattle.sfv_reading.specs.Reader.{Answer, Reader, span}
-use Rattle.sfv_reading.specs.Bare.{bare_at}
-use Rattle.sfv_reading.specs.Fields.{whole_field_at, read_field}
-use Rattle.sfv_reading.specs.Visits.{Visited, VisitorFails}
+use Rattle.sfv_model.specs.Reader.{Answer, Reader, span}
+use Rattle.sfv_model.specs.Bare.{bare_at}
+use Rattle.sfv_model.specs.Fields.{whole_field_at, read_field}
+use Rattle.sfv_model.specs.Visits.{Visited, VisitorFails}
 use Rattle.sfv.specs.declared.parser.Parser.{Parser}
 use Rattle.sfv.specs.declared.parser.cursor.Cursor.{Cursor}
 use Rattle.sfv.specs.parser.Cursor.{kept, kept_input, version, rest, IsErrorOf}

@@ -7,9 +7,9 @@ ghost use Rattle.sfv_spec.specs.Values.{boolean, date};
 ghost use Rattle.sfv_spec.specs.declared.field_kind.FieldKind.TheVariants.{Item as item_field};
 ghost use Rattle.sfv_spec.specs.declared.version.Version.TheVariants.{Rfc9651};
 ghost use Rattle.sfv_base.specs.Numbers.{seconds_of};
-ghost use Rattle.sfv_bare.specs.BareItems.{input_value, is_borrowed};
-ghost use Rattle.sfv_reading.specs.Reader.{byte};
-ghost use Rattle.sfv_reading.specs.Bare.{is_number_start, boolean_at, date_at, token_at, bare_at};
+ghost use Rattle.sfv_values.specs.BareItems.{input_value, is_borrowed};
+ghost use Rattle.sfv_model.specs.Reader.{byte};
+ghost use Rattle.sfv_model.specs.Bare.{is_number_start, boolean_at, date_at, token_at, bare_at};
 ghost use Rattle.sfv.specs.parser.Cursor.{input, version, rest, Reads, ReadsOrOutOfMemory, NextIs};
 ghost use Rattle.sfv.specs.parser.Cursor.{MayNeedMemory};
 ghost use Rattle.sfv.specs.parser.Quoted.{IsBorrowedUnlessEscaped};
@@ -17,10 +17,10 @@ ghost use Rattle.sfv.specs.parser.Quoted.{IsBorrowedUnlessEscaped};
 use crate::parser::cursor::Cursor;
 use crate::parser::digits::is_digit_byte;
 use crate::parser::number::Number;
-use sfv_bare::bare::{BareItemFromInput, GenericBareItem};
 use sfv_base::date::Date;
 use sfv_base::error::{Error, ErrorKind};
 use sfv_spec::version::Version;
+use sfv_values::bare::{BareItemFromInput, GenericBareItem};
 
 impl<'de> Cursor<'de> {
     /// Parses a boolean after its question mark.

@@ -3,7 +3,7 @@
 ghost use Rattle.std.specs.Prelude.{◌≡◌, map, nat_lt, take};
 ghost use Rattle.sfv_spec.specs.Texts.{RunOf};
 ghost use Rattle.sfv_spec.proofs.Marks.{is_symbol};
-ghost use Rattle.sfv_reading.specs.Content.{symbol_value};
+ghost use Rattle.sfv_model.specs.Content.{symbol_value};
 ghost use Rattle.sfv.specs.parser.Base64.{AreOffsets, decoded_symbols, group_numbers, bytes_of_groups};
 
 use std::simd::prelude::*;
@@ -14,7 +14,7 @@ const OFFSETS: [u8; 16] = [0, 16, 19, 4, 191, 191, 185, 185, 0, 0, 0, 0, 0, 0, 0
 
 // Returns the offsets as a vector.
 #[inline(always)]
-#[tactic(auto, unfolding(sfv_reading::specs::Content::symbol_value))]
+#[tactic(auto, unfolding(sfv_model::specs::Content::symbol_value))]
 fn offsets() -> u8x16
     ensures { AreOffsets result }
 {

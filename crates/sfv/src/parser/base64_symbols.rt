@@ -2,7 +2,7 @@
 
 ghost use Rattle.std.specs.Prelude.{◌≡◌, ◌<◌, IsTrue};
 ghost use Rattle.sfv_spec.proofs.Marks.{is_symbol};
-ghost use Rattle.sfv_reading.specs.Content.{symbol_value, most_padding};
+ghost use Rattle.sfv_model.specs.Content.{symbol_value, most_padding};
 ghost use Rattle.sfv.specs.parser.Base64.{IsSymbolRun, IsPaddingRun};
 
 use sfv_base::runs::{Symbol, long_run_end};
@@ -30,7 +30,7 @@ static VALUES: [u8; 256] = [
 
 /// Returns the value of a Base64 symbol.
 #[inline(always)]
-#[tactic(auto, using(crate::proofs::reads::SymbolValues::value_at), unfolding(sfv_spec::proofs::Marks::is_symbol, sfv_reading::specs::Content::symbol_value))]
+#[tactic(auto, using(crate::proofs::reads::SymbolValues::value_at), unfolding(sfv_spec::proofs::Marks::is_symbol, sfv_model::specs::Content::symbol_value))]
 pub(crate) fn value_of(byte: u8) -> u8
     requires { IsTrue (is_symbol byte) }
     ensures value { result ≡ symbol_value byte }

@@ -8,7 +8,7 @@ ghost use Rattle.std.specs.Prelude.{◌≡◌, ◌<◌, ◌%◌, ◌++◌, lengt
 ghost use Rattle.sfv_spec.specs.Texts.{RunOf};
 ghost use Rattle.sfv_spec.proofs.Marks.{is_symbol};
 ghost use Rattle.sfv_base.specs.Errors.{out_of_memory};
-ghost use Rattle.sfv_reading.specs.Content.{bytes_at};
+ghost use Rattle.sfv_model.specs.Content.{bytes_at};
 ghost use Rattle.sfv.specs.parser.Cursor.{rest, ReadsOrOutOfMemory};
 ghost use Rattle.sfv.specs.parser.Values.{vec_bytes};
 ghost use Rattle.sfv.specs.parser.Base64.{decoded_symbols};

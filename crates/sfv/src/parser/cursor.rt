@@ -4,7 +4,7 @@ ghost use Rattle.std.specs.Prelude.{◌≡◌, ◌≤◌, ◌+◌, ◌++◌, ℕ
 ghost use Rattle.sfv_spec.specs.Texts.{RunOf};
 ghost use Rattle.sfv_spec.proofs.Marks.{is_digit, is_space, is_space_or_tab};
 ghost use Rattle.sfv_base.specs.Errors.{error_of};
-ghost use Rattle.sfv_reading.specs.Reader.{Apart, first, byte, up_to, span};
+ghost use Rattle.sfv_model.specs.Reader.{Apart, first, byte, up_to, span};
 ghost use Rattle.sfv.specs.parser.Values.{Spells};
 
 use crate::parser::Parser;

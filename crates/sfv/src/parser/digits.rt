@@ -4,7 +4,7 @@ ghost use Rattle.std.specs.Prelude.{◌≡◌, ◌≤◌, ◌<◌, ◌^◌, ◌*
 ghost use Rattle.std.specs.Prelude.{MatchOption};
 ghost use Rattle.sfv_spec.proofs.Marks.{digit_zero};
 ghost use Rattle.sfv_spec.proofs.Marks.{is_digit};
-ghost use Rattle.sfv_reading.specs.Reader.{up_to};
+ghost use Rattle.sfv_model.specs.Reader.{up_to};
 ghost use Rattle.sfv.specs.parser.Values.{Spells};
 
 #[inline(always)]

@@ -3,9 +3,9 @@
 ghost use Rattle.std.specs.Prelude.{◌≡◌, ◌≤◌, ◌↔◌, ℕ, List, true, length, drop, IfOk, IsTrue, Ok};
 ghost use Rattle.sfv_spec.proofs.Marks.{percent_sign};
 ghost use Rattle.sfv_spec.specs.declared.version.Version.TheVariants.{Rfc9651};
-ghost use Rattle.sfv_reading.specs.Reader.{byte};
-ghost use Rattle.sfv_reading.specs.Bare.{quoted_at};
-ghost use Rattle.sfv_reading.specs.Quoted.{outside, pieces_from, after_pieces, display_at};
+ghost use Rattle.sfv_model.specs.Reader.{byte};
+ghost use Rattle.sfv_model.specs.Bare.{quoted_at};
+ghost use Rattle.sfv_model.specs.Quoted.{outside, pieces_from, after_pieces, display_at};
 ghost use Rattle.sfv.specs.parser.Cursor.{rest, ReadsOrOutOfMemory, NextIs};
 ghost use Rattle.sfv.specs.parser.Quoted.{HasNoMarkInside, GivesDisplayText};
 ghost use Rattle.sfv.specs.parser.Values.{display_value_of, is_borrowed_text};

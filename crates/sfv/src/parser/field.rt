@@ -11,7 +11,7 @@ use crate::parser::cursor::Cursor;
 use crate::parser::member::Member;
 use crate::parser::visit::finish;
 use sfv_base::error::{ErrorKind, ParseError};
-use sfv_visitor::visitor::Visitor;
+use sfv_tree::visitor::Visitor;
 use std::alloc::Global;
 
 /// Parses the input as an item, and passes its parts to `visitor`. The visitor is finished before the check for

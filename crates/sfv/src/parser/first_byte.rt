@@ -3,7 +3,7 @@
 ghost use Rattle.std.specs.Prelude.{IfErr};
 ghost use Rattle.sfv_spec.specs.declared.field_kind.FieldKind.TheVariants.{Item as item_field, List as list_field};
 ghost use Rattle.sfv_spec.specs.declared.field_kind.FieldKind.TheVariants.{Dictionary as dictionary_field};
-ghost use Rattle.sfv_reading.specs.Bare.{bare_at};
+ghost use Rattle.sfv_model.specs.Bare.{bare_at};
 ghost use Rattle.sfv.specs.Parsers.{input_of, version_of, IsParseError};
 ghost use Rattle.sfv.specs.Memory.{NeedsMemory};
 ghost use Rattle.sfv.specs.parser.Cursor.{version, input, rest, IsFaultOf};

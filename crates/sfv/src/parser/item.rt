@@ -2,18 +2,18 @@
 
 ghost use Rattle.std.specs.Prelude.{◌≡◌, option_map, OnOk, IfOk, IfErr, MatchOption};
 ghost use Rattle.sfv_spec.specs.Events.{parameters_events, item_events};
-ghost use Rattle.sfv_bare.specs.BareItems.{input_value};
-ghost use Rattle.sfv_reading.specs.Items.{value_at, parameter_at, parameters_at, item_at};
+ghost use Rattle.sfv_values.specs.BareItems.{input_value};
+ghost use Rattle.sfv_model.specs.Items.{value_at, parameter_at, parameters_at, item_at};
 ghost use Rattle.sfv.specs.parser.Cursor.{version, rest, ReadsOrOutOfMemory};
 ghost use Rattle.sfv.specs.parser.AsRead.{IsNextValue, ReadsEvents};
 ghost use Rattle.sfv.specs.parser.Visits.{Visits, TookBare};
 
 use crate::parser::cursor::Cursor;
 use crate::parser::visit::visit;
-use sfv_bare::bare::{BareItemFromInput, GenericBareItem};
 use sfv_base::error::{Error, ParseError};
-use sfv_text::key_ref::KeyRef;
-use sfv_visitor::visitor::{Event, Visitor};
+use sfv_tree::visitor::{Event, Visitor};
+use sfv_values::bare::{BareItemFromInput, GenericBareItem};
+use sfv_values::key_ref::KeyRef;
 
 /// A parsed parameter, with its key as a slice of the input.
 #[derive(Drop)]

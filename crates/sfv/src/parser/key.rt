@@ -2,15 +2,15 @@
 
 ghost use Rattle.std.specs.Prelude.{◌≡◌, ◌++◌, IfOk};
 ghost use Rattle.sfv_spec.specs.Classes.{is_key_start};
-ghost use Rattle.sfv_text.specs.CheckedTexts.{text_of};
-ghost use Rattle.sfv_reading.specs.Items.{key_at};
+ghost use Rattle.sfv_values.specs.CheckedTexts.{text_of};
+ghost use Rattle.sfv_model.specs.Items.{key_at};
 ghost use Rattle.sfv.specs.parser.Cursor.{rest, Reads, NextIs};
 
 use crate::parser::cursor::Cursor;
 use sfv_base::error::{Error, ErrorKind};
 use sfv_base::runs::InnerKey;
 use sfv_base::utils::is_allowed_start_key_char;
-use sfv_text::key_ref::KeyRef;
+use sfv_values::key_ref::KeyRef;
 
 impl<'de> Cursor<'de> {
     /// Returns `true` if the next byte may begin a key.

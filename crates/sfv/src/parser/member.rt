@@ -2,8 +2,8 @@
 
 ghost use Rattle.std.specs.Prelude.{◌≡◌, [], Bool, true, false, OnOk, flat_map};
 ghost use Rattle.sfv_spec.specs.Events.{member_events, inner_item_events};
-ghost use Rattle.sfv_reading.specs.Members.{inner_item_at, inner_items_at, inner_at, member_at, member_value_at};
-ghost use Rattle.sfv_reading.specs.Fields.{members_at};
+ghost use Rattle.sfv_model.specs.Members.{inner_item_at, inner_items_at, inner_at, member_at, member_value_at};
+ghost use Rattle.sfv_model.specs.Fields.{members_at};
 ghost use Rattle.sfv.specs.parser.Cursor.{rest, Reads};
 ghost use Rattle.sfv.specs.parser.Members.{item_delimiter_at, member_delimiter_at, after_begin, member_parts, one_member_at};
 ghost use Rattle.sfv.specs.parser.Visits.{Visits};
@@ -11,9 +11,9 @@ ghost use Rattle.sfv.specs.parser.AsRead.{ReadsEvents};
 
 use crate::parser::cursor::Cursor;
 use crate::parser::visit::visit;
-use sfv_bare::bare::GenericBareItem;
 use sfv_base::error::{Error, ErrorKind, ParseError};
-use sfv_visitor::visitor::{Event, Visitor};
+use sfv_tree::visitor::{Event, Visitor};
+use sfv_values::bare::GenericBareItem;
 
 impl<'de> Cursor<'de> {
     /// Parses an item of an inner list, and passes its parts to `visitor`.

@@ -4,8 +4,8 @@ ghost use Rattle.std.specs.Prelude.{◌≡◌, ◌≤◌, ◌<◌, ◌^◌, ℕ,
 ghost use Rattle.sfv_spec.proofs.Marks.{dot};
 ghost use Rattle.sfv_spec.specs.Numbers.{signed as with_sign};
 ghost use Rattle.sfv_base.specs.Numbers.{integer_of};
-ghost use Rattle.sfv_reading.specs.Reader.{byte};
-ghost use Rattle.sfv_reading.specs.Bare.{sign_at, point_at, whole_at, number_at};
+ghost use Rattle.sfv_model.specs.Reader.{byte};
+ghost use Rattle.sfv_model.specs.Bare.{sign_at, point_at, whole_at, number_at};
 ghost use Rattle.sfv.specs.parser.Cursor.{kept, rest, Reads, NextIs};
 ghost use Rattle.sfv.specs.parser.Values.{Spells};
 ghost use Rattle.sfv.specs.parser.Values.{number_value_of};

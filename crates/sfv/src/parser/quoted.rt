@@ -4,8 +4,8 @@ ghost use Rattle.std.specs.Prelude.{◌≡◌, ◌++◌, ◌↔◌, Bool, true, 
 ghost use Rattle.sfv_spec.proofs.Marks.{double_quote};
 ghost use Rattle.sfv_spec.specs.Texts.{RunOf};
 ghost use Rattle.sfv_spec.proofs.Marks.{plain_of};
-ghost use Rattle.sfv_reading.specs.Reader.{Apart, byte};
-ghost use Rattle.sfv_reading.specs.Quoted.{after_bytes};
+ghost use Rattle.sfv_model.specs.Reader.{Apart, byte};
+ghost use Rattle.sfv_model.specs.Quoted.{after_bytes};
 ghost use Rattle.sfv.specs.parser.Cursor.{input, kept, rest, IsFaultOf, ReadsOrOutOfMemory};
 ghost use Rattle.sfv.specs.parser.Quoted.{mark_of, end_error_of, inside, quoted_bytes, is_plain, HasNoMark, ReadsEscape};
 ghost use Rattle.sfv.specs.parser.Quoted.{ReadsDigit, IsNextEscape};

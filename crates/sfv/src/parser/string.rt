@@ -1,18 +1,18 @@
 //! Parsing of strings (RFC 9651, section 4.2.5).
 
 ghost use Rattle.std.specs.Prelude.{◌↔◌, false, IfOk, IsTrue};
-ghost use Rattle.sfv_bare.specs.BareItems.{read_text};
-ghost use Rattle.sfv_reading.specs.Quoted.{string_at};
+ghost use Rattle.sfv_values.specs.BareItems.{read_text};
+ghost use Rattle.sfv_model.specs.Quoted.{string_at};
 ghost use Rattle.sfv.specs.parser.Cursor.{ReadsOrOutOfMemory};
 ghost use Rattle.sfv.specs.parser.Quoted.{HasNoMark};
 ghost use Rattle.sfv.specs.parser.Values.{is_borrowed_string};
 
 use crate::parser::cursor::Cursor;
 use crate::parser::quoted::{InString, QuotedBytes};
-use sfv_bare::bare::StringFromInput;
 use sfv_base::error::Error;
-use sfv_text::string::String;
-use sfv_text::string_ref::StringRef;
+use sfv_values::bare::StringFromInput;
+use sfv_values::string::String;
+use sfv_values::string_ref::StringRef;
 use std::string::String as StdString;
 
 impl<'de> Cursor<'de> {

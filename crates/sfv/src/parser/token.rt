@@ -2,15 +2,15 @@
 
 ghost use Rattle.sfv_spec.specs.Classes.{is_token_start};
 ghost use Rattle.sfv_spec.specs.Values.{token};
-ghost use Rattle.sfv_text.specs.CheckedTexts.{text_of};
-ghost use Rattle.sfv_reading.specs.Bare.{token_at};
+ghost use Rattle.sfv_values.specs.CheckedTexts.{text_of};
+ghost use Rattle.sfv_model.specs.Bare.{token_at};
 ghost use Rattle.sfv.specs.parser.Cursor.{rest, Reads, NextIs};
 
 use crate::parser::cursor::Cursor;
 use sfv_base::error::{Error, ErrorKind};
 use sfv_base::runs::InnerToken;
 use sfv_base::utils::is_allowed_start_token_char;
-use sfv_text::token_ref::TokenRef;
+use sfv_values::token_ref::TokenRef;
 
 impl<'de> Cursor<'de> {
     /// Returns `true` if the next byte may begin a token.

@@ -1,11 +1,11 @@
 //! Calls of the visitor, with its errors as errors of parsing.
 
 ghost use Rattle.std.specs.Prelude.{OnOk, IfOk, IfErr};
-ghost use Rattle.sfv_visitor.specs.Events.{event_of};
+ghost use Rattle.sfv_tree.specs.Events.{event_of};
 ghost use Rattle.sfv.specs.parser.Visits.{IsOfVisitor};
 
 use sfv_base::error::ParseError;
-use sfv_visitor::visitor::{Event, Visitor};
+use sfv_tree::visitor::{Event, Visitor};
 
 /// Passes an event to the visitor.
 #[inline(always)]

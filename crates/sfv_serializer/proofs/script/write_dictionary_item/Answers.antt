@@ -1,7 +1,7 @@
 use Rattle.std.proofs.Common.{[], ◌∷◌, ◌<◌, ◌≤◌, length, refl, ◌∙◌, codes, rules}
 use Rattle.std.proofs.lemmas.List.{append-nil, take_all}
-use Rattle.sfv_text.specs.CheckedTexts.{text_of as key_text}
-use Rattle.sfv_bare.specs.BareItems.{ref_value}
+use Rattle.sfv_values.specs.CheckedTexts.{text_of as key_text}
+use Rattle.sfv_values.specs.BareItems.{ref_value}
 use Rattle.sfv_writer.specs.Written.{separator_before, keyed_text, param_text}
 use Rattle.sfv_serializer.specs.Serializers.{is_empty_so_far}
 use Rattle.sfv_serializer.proofs.Scripts.{kept_grown, of_error}

@@ -1,5 +1,5 @@
 use Rattle.std.proofs.Common.{◌≡◌, rules}
-use Rattle.sfv_text.specs.CheckedTexts.{text_of as key_text}
+use Rattle.sfv_values.specs.CheckedTexts.{text_of as key_text}
 use Rattle.sfv_serializer.specs.ScriptSteps.{member_calls, inner_list_calls}
 use Rattle.sfv_serializer.specs.Serializers.{is_empty_so_far}
 use Rattle.sfv_serializer.proofs.Room.{on_err, dictionary_inner_lacks}

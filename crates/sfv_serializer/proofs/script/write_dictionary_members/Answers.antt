@@ -5,7 +5,7 @@ use Rattle.sfv_spec.specs.Classes.{is_key}
 use Rattle.sfv_spec.specs.Values.{IsMember}
 use Rattle.sfv_spec.specs.Canonical.{dictionary_member_text}
 use Rattle.sfv_serializer.specs.ScriptSteps.{written_member, member_calls, added_text_of_pair}
-use Rattle.sfv_text.specs.CheckedTexts.{text_of as key_text}
+use Rattle.sfv_values.specs.CheckedTexts.{text_of as key_text}
 use Rattle.sfv_writer.proofs.Separated.{anyway}
 use Rattle.sfv_serializer.proofs.Room.{calls_lack}
 use Rattle.sfv_serializer.proofs.Scripts.{calls_more, no_less}

@@ -1,8 +1,8 @@
 use Rattle.std.proofs.Common.{[], ◌∷◌, codes, map, ◌∙◌, subst, rules}
 use Rattle.std.proofs.lemmas.List.{take_all}
 use Rattle.sfv_writer.specs.Written.{separator_before, param_text}
-use Rattle.sfv_text.specs.CheckedTexts.{text_of as key_text}
-use Rattle.sfv_bare.specs.BareItems.{ref_value}
+use Rattle.sfv_values.specs.CheckedTexts.{text_of as key_text}
+use Rattle.sfv_values.specs.BareItems.{ref_value}
 use Rattle.sfv_writer.proofs.Separated.{anyway}
 use Rattle.sfv_serializer.specs.Serializers.{is_empty_so_far, KeepsSequence}
 use Rattle.sfv_serializer.specs.Scripts.{param_of_call, item_of_calls}

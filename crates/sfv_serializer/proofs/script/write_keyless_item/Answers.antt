@@ -1,8 +1,8 @@
 use Rattle.std.proofs.Common.{[], ◌∷◌, ◌<◌, ◌≤◌, length, refl, ◌∙◌, rules}
 use Rattle.std.proofs.lemmas.List.{append-nil, take_all}
 use Rattle.sfv_spec.specs.Canonical.{bare_text}
-use Rattle.sfv_text.specs.CheckedTexts.{text_of as key_text}
-use Rattle.sfv_bare.specs.BareItems.{ref_value}
+use Rattle.sfv_values.specs.CheckedTexts.{text_of as key_text}
+use Rattle.sfv_values.specs.BareItems.{ref_value}
 use Rattle.sfv_writer.specs.Written.{separator_before, param_text}
 use Rattle.sfv_serializer.specs.Serializers.{is_empty_so_far}
 use Rattle.sfv_serializer.proofs.Scripts.{kept_grown, of_error}

@@ -3,7 +3,7 @@ use Rattle.std.specs.Prelude.{flat_map}
 use Rattle.std.proofs.lemmas.List.{take_all}
 use Rattle.sfv_serializer.specs.ScriptSteps.{supplied_member, member_calls, dictionary_calls}
 use Rattle.sfv_spec.specs.Values.{AllFit}
-use Rattle.sfv_text.specs.CheckedTexts.{text_of as key_text}
+use Rattle.sfv_values.specs.CheckedTexts.{text_of as key_text}
 use Rattle.sfv_writer.specs.Versions.{NamesFirstUnfit}
 use Rattle.sfv_spec.specs.Values.{member_values}
 use Rattle.sfv_writer.proofs.Checks.{at_exit, slice_more, slice_stops}

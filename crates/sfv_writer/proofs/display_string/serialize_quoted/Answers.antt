@@ -3,7 +3,7 @@ use Rattle.std.specs.Prelude.{flat_map}
 use Rattle.sfv_spec.specs.Texts.{RunOf}
 use Rattle.sfv_spec.specs.Values.{is_byte, display_string}
 use Rattle.sfv_spec.specs.Canonical.{display_piece, bare_text}
-use Rattle.sfv_bare.proofs.Bytes.{run_of_bytes}
+use Rattle.sfv_values.proofs.Bytes.{run_of_bytes}
 use Rattle.sfv_writer.proofs.Appended.{put, next, between, unchanged, stops}
 use Rattle.sfv_writer.proofs.display_string.serialize_quoted.Goals as goal
 

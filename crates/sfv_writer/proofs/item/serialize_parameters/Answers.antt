@@ -1,6 +1,6 @@
 use Rattle.std.proofs.Common.{[], ◌∷◌, refl, subst, arith, rules}
 use Rattle.std.specs.Iterator.{IsFinite, Yields}
-use Rattle.sfv_bare.specs.BareItems.{bare_value, ref_value}
+use Rattle.sfv_values.specs.BareItems.{bare_value, ref_value}
 use Rattle.sfv_spec.specs.Values.{AllFit}
 use Rattle.sfv_spec.specs.Canonical.{parameters_text}
 use Rattle.sfv_writer.specs.Pairs.{lent_pairs, pair_values}

@@ -4,7 +4,7 @@ use Rattle.sfv_spec.specs.Texts.{RunOf}
 use Rattle.sfv_spec.specs.Classes.{is_string_byte}
 use Rattle.sfv_spec.specs.Canonical.{string_piece, bare_text}
 use Rattle.sfv_spec.specs.Values.{string}
-use Rattle.sfv_text.specs.CheckedTexts.{text_of as string_text}
+use Rattle.sfv_values.specs.CheckedTexts.{text_of as string_text}
 use Rattle.sfv_writer.proofs.Appended.{put, next, between, unchanged, stops}
 use Rattle.sfv_writer.proofs.string.serialize_quoted.Goals as goal
 

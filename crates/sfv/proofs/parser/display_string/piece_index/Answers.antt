@@ -2,8 +2,8 @@ use Rattle.std.proofs.Common.{◌≡◌, ℕ, suc, ◌+◌, ◌-◌, cond, sym, 
 use Rattle.std.specs.Prelude.{slice_index, ◌==◌}
 use Rattle.std.proofs.lemmas.Bool.{eq-eqb, ne_eqb}
 use Rattle.sfv_spec.proofs.Marks.{percent_sign}
-use Rattle.sfv_reading.specs.Quoted.{after_pieces}
-use Rattle.sfv_reading.proofs.quoted.DisplaySteps.{LeadsTo, leads_on}
+use Rattle.sfv_model.specs.Quoted.{after_pieces}
+use Rattle.sfv_model.proofs.quoted.DisplaySteps.{LeadsTo, leads_on}
 use Rattle.sfv.proofs.parser.display_string.piece_index.Goals as goal
 use Rattle.sfv.proofs.parser.display_string.piece_index.Goals.{then-input-index-eq37, else-input-index-eq37}
 

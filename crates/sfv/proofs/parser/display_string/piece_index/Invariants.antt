@@ -1,6 +1,6 @@
 use Rattle.std.proofs.Common.{◌-◌, drop}
-use Rattle.sfv_reading.specs.Quoted.{after_pieces}
-use Rattle.sfv_reading.proofs.quoted.DisplaySteps.{LeadsTo}
+use Rattle.sfv_model.specs.Quoted.{after_pieces}
+use Rattle.sfv_model.proofs.quoted.DisplaySteps.{LeadsTo}
 use Rattle.sfv.proofs.parser.display_string.piece_index.Given as goal
 
 abbrev pub invariant-loop : goal.invariant-loop

@@ -1,8 +1,8 @@
 use Rattle.std.proofs.Common.{◌≡◌, ◌∙◌, Ok, Err, sym, ap}
 use Rattle.sfv_spec.proofs.Marks.{is_space}
 use Rattle.sfv_spec.specs.Events.{item_events}
-use Rattle.sfv_reading.specs.Reader.{span}
-use Rattle.sfv_reading.specs.Items.{item_at}
+use Rattle.sfv_model.specs.Reader.{span}
+use Rattle.sfv_model.specs.Items.{item_at}
 use Rattle.sfv.specs.parser.Cursor.{rest, version, kept_version}
 use Rattle.sfv.specs.Parsers.{input_of, version_of}
 use Rattle.sfv.proofs.visits.Whole.{field_trailing_error, field_done}

@@ -1,5 +1,5 @@
 use Rattle.std.proofs.Common.{Ok, Err, flat_map}
-use Rattle.sfv_reading.specs.Fields.{members_at}
+use Rattle.sfv_model.specs.Fields.{members_at}
 use Rattle.sfv.specs.parser.Members.{member_parts, one_member_at}
 use Rattle.sfv.specs.Parsers.{input_of, version_of}
 use Rattle.sfv.proofs.visits.Parts.{start_visits}

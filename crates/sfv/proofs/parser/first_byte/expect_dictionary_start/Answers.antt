@@ -1,6 +1,6 @@
 use Rattle.std.proofs.Common.{◌≡◌, ◌∙◌, Ok, ap, not}
 use Rattle.sfv_spec.proofs.Marks.{is_space}
-use Rattle.sfv_reading.specs.Reader.{span}
+use Rattle.sfv_model.specs.Reader.{span}
 use Rattle.sfv.specs.Parsers.{input_of}
 use Rattle.sfv.specs.parser.Cursor.{rest}
 use Rattle.sfv.proofs.reads.Errors.{FaultOf-here}

@@ -1,6 +1,6 @@
 use Rattle.std.proofs.Common.{refl}
 use Rattle.std.proofs.lemmas.Bool.{le-ltb, ne_eqb}
-use Rattle.sfv_reading.specs.Bare.{whole_at, point_at}
+use Rattle.sfv_model.specs.Bare.{whole_at, point_at}
 use Rattle.sfv.specs.parser.Values.{number_value_of}
 use Rattle.sfv.proofs.reads.Errors.{reads_same}
 use Rattle.sfv.proofs.reads.Steps.{whole_point}

@@ -1,5 +1,5 @@
 use Rattle.std.proofs.Common.{◌∙◌}
-use Rattle.sfv_reading.specs.Bare.{boolean_at}
+use Rattle.sfv_model.specs.Bare.{boolean_at}
 use Rattle.sfv.proofs.reads.Errors.{left_with, ErrorOf-fault, ErrorOf-same}
 use Rattle.sfv.proofs.reads.Steps.{bare_boolean}
 use Rattle.sfv.proofs.parser.cursor.Cursor.boolean_item.Goals as goal

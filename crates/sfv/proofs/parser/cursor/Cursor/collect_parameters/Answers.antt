@@ -2,8 +2,8 @@ use Rattle.std.proofs.Common.{◌∙◌, refl, ap}
 use Rattle.std.specs.Prelude.{⊤}
 use Rattle.sfv_spec.specs.Events.{parameters_events}
 use Rattle.sfv_tree.specs.Trees.{pairs_tree}
-use Rattle.sfv_reading.specs.Items.{parameter_at}
-use Rattle.sfv_reading.proofs.sound.Items.{Consumes-parameter}
+use Rattle.sfv_model.specs.Items.{parameter_at}
+use Rattle.sfv_model.proofs.sound.Items.{Consumes-parameter}
 use Rattle.sfv.specs.parser.Cursor.{version, kept, rest}
 use Rattle.sfv.proofs.trees.Errors.{Any, NoMemory, as_fault}
 use Rattle.sfv.proofs.reads.Errors.{left_with, kept_reads}

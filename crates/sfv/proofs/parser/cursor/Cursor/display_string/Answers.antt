@@ -1,8 +1,8 @@
 use Rattle.std.proofs.Common.{◌∙◌, ap, drop, sym, refl, true}
 use Rattle.std.specs.declared.alloc.Global.{Global}
 use Rattle.sfv_spec.specs.Values.{display_string}
-use Rattle.sfv_reading.specs.Quoted.{outside, pieces_from, display_at}
-use Rattle.sfv_reading.proofs.quoted.DisplaySteps.{shown_text, plain_utf8}
+use Rattle.sfv_model.specs.Quoted.{outside, pieces_from, display_at}
+use Rattle.sfv_model.proofs.quoted.DisplaySteps.{shown_text, plain_utf8}
 use Rattle.sfv.specs.declared.parser.Parser.{Parser}
 use Rattle.sfv.specs.parser.Cursor.{input, kept_input, rest}
 use Rattle.sfv.proofs.reads.Errors.{left_with, ErrorOf-here, ErrorOf-part, ErrorOf-kept}

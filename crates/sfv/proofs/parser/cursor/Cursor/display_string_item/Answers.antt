@@ -1,6 +1,6 @@
 use Rattle.std.proofs.Common.{◌∙◌, refl}
 use Rattle.sfv_spec.specs.declared.version.Version.TheVariants.{Rfc9651}
-use Rattle.sfv_reading.specs.Bare.{quoted_at}
+use Rattle.sfv_model.specs.Bare.{quoted_at}
 use Rattle.sfv.specs.parser.Cursor.{kept}
 use Rattle.sfv.proofs.reads.Errors.{left_with, ErrorOf-same}
 use Rattle.sfv.proofs.reads.Steps.{bare_quoted}

@@ -1,6 +1,6 @@
 use Rattle.sfv_spec.specs.Events.{item_events, parameters_end}
-use Rattle.sfv_bare.specs.BareItems.{bare_value}
-use Rattle.sfv_reading.specs.Items.{item_at}
+use Rattle.sfv_values.specs.BareItems.{bare_value}
+use Rattle.sfv_model.specs.Items.{item_at}
 use Rattle.sfv.proofs.reads.Errors.{left_with}
 use Rattle.sfv.proofs.trees.Errors.{fails_after, item_ends}
 use Rattle.sfv.proofs.trees.Parts.{later_fails, item_builds}

@@ -1,11 +1,11 @@
 use Rattle.sfv_spec.specs.Events.{begins_item, item_events}
-use Rattle.sfv_reading.specs.Items.{item_at}
-use Rattle.sfv_reading.specs.Members.{inner_item_at}
+use Rattle.sfv_model.specs.Items.{item_at}
+use Rattle.sfv_model.specs.Members.{inner_item_at}
 use Rattle.sfv.specs.parser.Cursor.{kept, version}
 use Rattle.sfv.proofs.visits.Parts.{led_visits, led_fails}
 use Rattle.sfv.proofs.reads.Errors.{left_with}
 use Rattle.std.proofs.Common.{refl}
-use Rattle.sfv_visitor.specs.declared.visitor.Event.TheVariants as event
+use Rattle.sfv_tree.specs.declared.visitor.Event.TheVariants as event
 use Rattle.sfv.proofs.visits.AsRead.{led_reads}
 use Rattle.sfv.proofs.parser.cursor.Cursor.inner_item.Goals as goal
 

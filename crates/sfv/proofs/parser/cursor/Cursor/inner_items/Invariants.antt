@@ -1,5 +1,5 @@
 use Rattle.std.proofs.Common.{length}
-use Rattle.sfv_reading.specs.Members.{inner_items_at}
+use Rattle.sfv_model.specs.Members.{inner_items_at}
 use Rattle.sfv.specs.parser.Cursor.{version, rest}
 use Rattle.sfv.proofs.visits.Loops.{VisitedSoFar, items_loop}
 use Rattle.sfv.proofs.visits.AsRead.{ReadSoFar}

@@ -1,5 +1,5 @@
 use Rattle.sfv_spec.specs.Events.{parameters_events}
-use Rattle.sfv_reading.specs.Items.{parameters_at}
+use Rattle.sfv_model.specs.Items.{parameters_at}
 use Rattle.sfv.specs.parser.Cursor.{kept, version}
 use Rattle.sfv.proofs.visits.InnerLists.{items_fail, end_fails, inner_list_visits}
 use Rattle.sfv.proofs.visits.Parts.{kept_visits}

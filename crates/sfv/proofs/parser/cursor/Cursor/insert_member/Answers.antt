@@ -1,9 +1,9 @@
 use Rattle.std.proofs.Common.{◌∙◌, ap, Err}
 use Rattle.sfv_spec.specs.Events.{keyed_entry, member_events, keyed_events}
-use Rattle.sfv_text.specs.CheckedTexts.{text_of as key_text}
+use Rattle.sfv_values.specs.CheckedTexts.{text_of as key_text}
 use Rattle.std.specs.declared.alloc.Global.{Global}
 use Rattle.sfv.specs.declared.parser.Parser.{Parser}
-use Rattle.sfv_reading.specs.Members.{member_value_at, keyed_at}
+use Rattle.sfv_model.specs.Members.{member_value_at, keyed_at}
 use Rattle.sfv.specs.parser.Cursor.{kept, version, rest}
 use Rattle.sfv.specs.parser.Trees.{HeadHasSeed}
 use Rattle.sfv.proofs.trees.Errors.{Any, NoMemory, as_answer, as_fault, fails_after, keyed_begins}

@@ -1,5 +1,5 @@
 use Rattle.sfv_spec.specs.Events.{parameters_events, item_events}
-use Rattle.sfv_reading.specs.Items.{parameters_at}
+use Rattle.sfv_model.specs.Items.{parameters_at}
 use Rattle.sfv.specs.parser.Cursor.{kept, version, rest, input}
 use Rattle.sfv.proofs.visits.Parameters.{of_visitor, bare_failed, bare_faulty, item_visits}
 use Rattle.sfv.proofs.visits.Parts.{kept_visits}

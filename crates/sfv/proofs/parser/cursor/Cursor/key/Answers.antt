@@ -1,4 +1,4 @@
-use Rattle.sfv_text.proofs.Ascii.{key_utf8}
+use Rattle.sfv_values.proofs.Ascii.{key_utf8}
 use Rattle.sfv.proofs.reads.Steps.{key_some, key_class}
 use Rattle.sfv.proofs.parser.cursor.Cursor.key.Goals as goal
 

@@ -1,6 +1,6 @@
 use Rattle.sfv_spec.specs.Events.{item_events}
-use Rattle.sfv_reading.specs.Items.{item_at}
-use Rattle.sfv_reading.specs.Members.{inner_at}
+use Rattle.sfv_model.specs.Items.{item_at}
+use Rattle.sfv_model.specs.Members.{inner_at}
 use Rattle.sfv.specs.parser.Cursor.{kept, version}
 use Rattle.sfv.specs.parser.Members.{after_begin}
 use Rattle.sfv.proofs.visits.InnerLists.{list_member_visits, item_member_visits, list_begin_fails, item_begin_fails}

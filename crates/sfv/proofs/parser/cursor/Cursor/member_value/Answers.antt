@@ -1,6 +1,6 @@
 use Rattle.sfv_spec.specs.Events.{member_events, parameters_events}
-use Rattle.sfv_reading.specs.Items.{parameters_at}
-use Rattle.sfv_reading.specs.Members.{member_at}
+use Rattle.sfv_model.specs.Items.{parameters_at}
+use Rattle.sfv_model.specs.Members.{member_at}
 use Rattle.sfv.specs.parser.Cursor.{kept, version}
 use Rattle.sfv.proofs.visits.Keyed.{value_visits, true_begin_fails, true_bare_fails, true_visits}
 use Rattle.sfv.proofs.visits.Parts.{kept_visits}

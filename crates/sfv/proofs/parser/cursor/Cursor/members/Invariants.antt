@@ -1,5 +1,5 @@
 use Rattle.std.proofs.Common.{length}
-use Rattle.sfv_reading.specs.Fields.{members_at}
+use Rattle.sfv_model.specs.Fields.{members_at}
 use Rattle.sfv.specs.parser.Cursor.{version, rest}
 use Rattle.sfv.specs.parser.Members.{member_parts, one_member_at}
 use Rattle.sfv.proofs.visits.Loops.{VisitedSoFar, members_loop}

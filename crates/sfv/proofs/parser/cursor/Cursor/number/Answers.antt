@@ -1,5 +1,5 @@
 use Rattle.std.proofs.Common.{◌∙◌}
-use Rattle.sfv_reading.specs.Bare.{whole_at, number_at}
+use Rattle.sfv_model.specs.Bare.{whole_at, number_at}
 use Rattle.sfv.specs.parser.Values.{number_value_of}
 use Rattle.sfv.proofs.reads.Errors.{reads_same}
 use Rattle.sfv.proofs.reads.Steps.{number_is}

@@ -1,5 +1,5 @@
 use Rattle.std.proofs.Common.{◌∙◌, refl, false}
-use Rattle.sfv_reading.specs.Bare.{number_at}
+use Rattle.sfv_model.specs.Bare.{number_at}
 use Rattle.sfv.specs.parser.Cursor.{kept}
 use Rattle.sfv.proofs.reads.Errors.{left_with, ErrorOf-fault, ErrorOf-same}
 use Rattle.sfv.proofs.reads.Steps.{bare_number}

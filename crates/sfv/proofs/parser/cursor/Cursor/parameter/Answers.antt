@@ -1,5 +1,5 @@
 use Rattle.std.proofs.Common.{◌∙◌, ap}
-use Rattle.sfv_reading.specs.Items.{key_at, value_at}
+use Rattle.sfv_model.specs.Items.{key_at, value_at}
 use Rattle.sfv.proofs.reads.Errors.{left_with, kept_reads, ErrorOf-fault, ErrorOf-part}
 use Rattle.sfv.proofs.reads.Steps.{parameter_is, parameter_keyed, parameter_some}
 use Rattle.sfv.specs.parser.Cursor.{kept_version}

@@ -1,8 +1,8 @@
 use Rattle.std.proofs.Common.{◌∙◌, ap, Ok, Err}
 use Rattle.sfv_spec.specs.Events.{begins_item, item_events}
 use Rattle.sfv_spec.specs.Ordered.{ordered_item}
-use Rattle.sfv_reading.specs.Items.{item_at}
-use Rattle.sfv_reading.specs.Members.{inner_item_at}
+use Rattle.sfv_model.specs.Items.{item_at}
+use Rattle.sfv_model.specs.Members.{inner_item_at}
 use Rattle.indexmap.specs.IndexMap.{hasher_of}
 use Rattle.sfv_tree.proofs.Words.{item_with}
 use Rattle.sfv.proofs.reads.Errors.{left_with}

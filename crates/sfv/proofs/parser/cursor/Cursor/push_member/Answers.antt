@@ -5,8 +5,8 @@ use Rattle.std.specs.declared.vec.Vec.{Vec}
 use Rattle.indexmap.specs.IndexMap.{hasher_of}
 use Rattle.sfv_spec.specs.Values.{item, inner_list}
 use Rattle.sfv_spec.specs.Events.{item_events, member_events, parameters_end}
-use Rattle.sfv_reading.specs.Items.{item_at}
-use Rattle.sfv_reading.specs.Members.{inner_at, member_at}
+use Rattle.sfv_model.specs.Items.{item_at}
+use Rattle.sfv_model.specs.Members.{inner_at, member_at}
 use Rattle.sfv_tree.specs.Seeds.{ItemHasSeed}
 use Rattle.sfv_tree.specs.declared.parsed.Item.{Item}
 use Rattle.sfv_tree.specs.declared.parsed.ListEntry.TheVariants as entries

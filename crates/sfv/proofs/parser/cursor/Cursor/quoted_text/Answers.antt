@@ -1,7 +1,7 @@
 use Rattle.std.proofs.Common.{◌∙◌, true, refl, sym}
 use Rattle.std.proofs.lemmas.Bool.{true≢false}
-use Rattle.sfv_reading.specs.Reader.{byte}
-use Rattle.sfv_reading.specs.Quoted.{after_bytes}
+use Rattle.sfv_model.specs.Reader.{byte}
+use Rattle.sfv_model.specs.Quoted.{after_bytes}
 use Rattle.sfv.specs.parser.Cursor.{rest, kept, NextIs}
 use Rattle.sfv.specs.parser.Quoted.{mark_of, inside}
 use Rattle.sfv.proofs.reads.Errors.{left_with, ErrorOf-same}

@@ -1,4 +1,4 @@
-use Rattle.sfv_reading.proofs.texts.Ranges.{range_at}
+use Rattle.sfv_model.proofs.texts.Ranges.{range_at}
 use Rattle.sfv.proofs.reads.Runs.{stops_at}
 use Rattle.sfv.proofs.parser.cursor.Cursor.run.Goals as goal
 

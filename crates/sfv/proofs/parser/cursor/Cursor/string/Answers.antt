@@ -1,4 +1,4 @@
-use Rattle.sfv_reading.proofs.quoted.StringSteps.{read_utf8, read_bytes}
+use Rattle.sfv_model.proofs.quoted.StringSteps.{read_utf8, read_bytes}
 use Rattle.sfv.proofs.parser.cursor.Cursor.string.Goals as goal
 
 pub from_utf8_unchecked-text-requires : goal.from_utf8_unchecked-text-requires

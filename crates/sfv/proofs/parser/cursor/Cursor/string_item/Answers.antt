@@ -1,6 +1,6 @@
 use Rattle.std.proofs.Common.{◌∙◌, false}
 use Rattle.sfv_spec.specs.Values.{string}
-use Rattle.sfv_reading.specs.Quoted.{string_at}
+use Rattle.sfv_model.specs.Quoted.{string_at}
 use Rattle.sfv.proofs.reads.Errors.{left_with, ErrorOf-part}
 use Rattle.sfv.proofs.reads.Steps.{bare_string, given}
 use Rattle.sfv.proofs.reads.Escapes.{string_opens, after_opening}

@@ -1,4 +1,4 @@
-use Rattle.sfv_text.proofs.Ascii.{token_utf8}
+use Rattle.sfv_values.proofs.Ascii.{token_utf8}
 use Rattle.sfv.proofs.reads.Steps.{token_some, token_class}
 use Rattle.sfv.proofs.parser.cursor.Cursor.token.Goals as goal
 

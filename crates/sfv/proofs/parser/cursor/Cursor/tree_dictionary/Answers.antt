@@ -1,5 +1,5 @@
 use Rattle.std.specs.Prelude.{is_some}
-use Rattle.sfv_reading.specs.Reader.{first}
+use Rattle.sfv_model.specs.Reader.{first}
 use Rattle.std.proofs.Common.{◌≡◌, ◌∙◌, true, ap, not, sym, subst, []}
 use Rattle.std.proofs.Common.{ℕ, List}
 use Rattle.std.proofs.lemmas.List.Elements.{All-nil}
@@ -8,7 +8,7 @@ use Rattle.sfv_tree.specs.Trees.{dictionary_tree}
 use Rattle.sfv_tree.specs.Seeds.{MemberHasSeed}
 use Rattle.sfv.specs.parser.Trees.{EntriesHaveSeed}
 use Rattle.sfv_tree.specs.declared.parsed.ListEntry.{ListEntry}
-use Rattle.sfv_reading.specs.Members.{keyed_at}
+use Rattle.sfv_model.specs.Members.{keyed_at}
 use Rattle.sfv.specs.parser.Cursor.{version, rest}
 use Rattle.sfv.proofs.trees.Errors.{Any, NoMemory, as_answer, as_fault}
 use Rattle.sfv.proofs.reads.Delimiters.{members_none, members_first, ends_there, at_end}

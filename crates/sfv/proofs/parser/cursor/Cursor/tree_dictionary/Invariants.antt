@@ -4,8 +4,8 @@ use Rattle.sfv_spec.specs.declared.field_kind.FieldKind.TheVariants.{Dictionary 
 use Rattle.sfv_spec.specs.Events.{keyed_events}
 use Rattle.sfv_tree.specs.Trees.{dictionary_tree}
 use Rattle.sfv.specs.parser.Trees.{EntriesHaveSeed}
-use Rattle.sfv_reading.specs.Members.{keyed_at}
-use Rattle.sfv_reading.specs.Fields.{members_at}
+use Rattle.sfv_model.specs.Members.{keyed_at}
+use Rattle.sfv_model.specs.Fields.{members_at}
 use Rattle.sfv.specs.parser.Cursor.{MayNeedMemory}
 use Rattle.sfv.specs.parser.Cursor.{version, rest}
 use Rattle.sfv.proofs.visits.Loops.{members_loop}

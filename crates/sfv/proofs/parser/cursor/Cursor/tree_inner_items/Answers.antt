@@ -4,7 +4,7 @@ use Rattle.std.proofs.lemmas.List.Elements.{All-nil}
 use Rattle.sfv_spec.specs.Ordered.{ordered_item}
 use Rattle.sfv_tree.specs.Trees.{item_tree}
 use Rattle.sfv_tree.specs.Seeds.{ItemHasSeed}
-use Rattle.sfv_reading.specs.Reader.{first}
+use Rattle.sfv_model.specs.Reader.{first}
 use Rattle.sfv.specs.parser.Cursor.{rest}
 use Rattle.sfv.proofs.trees.Errors.{Any, NoMemory, as_answer, as_fault}
 use Rattle.sfv.proofs.reads.Delimiters.{items_closed, items_first}

@@ -3,7 +3,7 @@ use Rattle.std.specs.Prelude.{All}
 use Rattle.sfv_spec.specs.Ordered.{ordered_item}
 use Rattle.sfv_tree.specs.Trees.{item_tree}
 use Rattle.sfv_tree.specs.Seeds.{ItemHasSeed}
-use Rattle.sfv_reading.specs.Members.{inner_items_at}
+use Rattle.sfv_model.specs.Members.{inner_items_at}
 use Rattle.sfv.specs.parser.Cursor.{version, rest}
 use Rattle.sfv.proofs.visits.Loops.{items_loop}
 use Rattle.sfv.proofs.trees.Loops.{BuiltSoFar}

@@ -1,7 +1,7 @@
 use Rattle.std.proofs.Common.{◌∙◌, Err}
 use Rattle.sfv_spec.specs.Events.{parameters_events}
-use Rattle.sfv_reading.specs.Items.{parameters_at}
-use Rattle.sfv_reading.specs.Members.{inner_of}
+use Rattle.sfv_model.specs.Items.{parameters_at}
+use Rattle.sfv_model.specs.Members.{inner_of}
 use Rattle.sfv.specs.parser.Cursor.{kept, version, rest}
 use Rattle.sfv.proofs.trees.Errors.{Any, NoMemory, as_answer, as_fault, any_run}
 use Rattle.sfv.proofs.reads.Errors.{left_with, kept_reads}

@@ -1,5 +1,5 @@
 use Rattle.std.specs.Prelude.{is_some}
-use Rattle.sfv_reading.specs.Reader.{first}
+use Rattle.sfv_model.specs.Reader.{first}
 use Rattle.std.proofs.Common.{◌≡◌, ◌∙◌, false, true, ap, not, sym, subst, [], Ok, Err}
 use Rattle.std.proofs.Common.{map}
 use Rattle.std.proofs.lemmas.List.Elements.{All-nil}
@@ -7,7 +7,7 @@ use Rattle.sfv_spec.specs.Events.{entry_events}
 use Rattle.sfv_spec.specs.Ordered.{ordered_member}
 use Rattle.sfv_tree.specs.Trees.{list_tree}
 use Rattle.sfv_tree.specs.Seeds.{MemberHasSeed, ListHasSeed}
-use Rattle.sfv_reading.specs.Members.{entry_at}
+use Rattle.sfv_model.specs.Members.{entry_at}
 use Rattle.sfv.specs.parser.Cursor.{version, rest}
 use Rattle.sfv.proofs.trees.Errors.{Any, NoMemory, as_answer, as_fault}
 use Rattle.sfv.proofs.reads.Delimiters.{members_none, members_first, ends_there, at_end}

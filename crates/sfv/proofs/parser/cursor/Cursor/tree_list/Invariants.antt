@@ -4,8 +4,8 @@ use Rattle.sfv_spec.specs.Events.{entry_events}
 use Rattle.sfv_spec.specs.Ordered.{ordered_member}
 use Rattle.sfv_tree.specs.Trees.{list_tree}
 use Rattle.sfv_tree.specs.Seeds.{ListHasSeed}
-use Rattle.sfv_reading.specs.Members.{entry_at}
-use Rattle.sfv_reading.specs.Fields.{members_at}
+use Rattle.sfv_model.specs.Members.{entry_at}
+use Rattle.sfv_model.specs.Fields.{members_at}
 use Rattle.sfv.specs.parser.Cursor.{MayNeedMemory}
 use Rattle.sfv.specs.parser.Cursor.{version, rest}
 use Rattle.sfv.proofs.visits.Loops.{members_loop}

@@ -1,8 +1,8 @@
 use Rattle.std.proofs.Common.{◌∙◌, ap, Err}
 use Rattle.sfv_spec.specs.Events.{item_events}
 use Rattle.sfv_spec.specs.Values.{item}
-use Rattle.sfv_reading.specs.Items.{item_at}
-use Rattle.sfv_reading.specs.Members.{inner_at}
+use Rattle.sfv_model.specs.Items.{item_at}
+use Rattle.sfv_model.specs.Members.{inner_at}
 use Rattle.sfv.specs.parser.Cursor.{kept, version}
 use Rattle.sfv.specs.parser.Members.{after_begin}
 use Rattle.sfv.proofs.trees.Errors.{Any, NoMemory, as_answer, as_fault}

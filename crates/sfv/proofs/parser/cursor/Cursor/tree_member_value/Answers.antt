@@ -2,7 +2,7 @@ use Rattle.std.proofs.Common.{◌∙◌, true, refl, ap, Err}
 use Rattle.sfv_spec.specs.Events.{parameters_events}
 use Rattle.sfv_spec.specs.Values.{item, boolean}
 use Rattle.sfv_spec.proofs.Marks.{true_with}
-use Rattle.sfv_reading.specs.Items.{parameters_at}
+use Rattle.sfv_model.specs.Items.{parameters_at}
 use Rattle.sfv.specs.parser.Cursor.{kept, version}
 use Rattle.sfv.specs.parser.Trees.{head_tree}
 use Rattle.sfv.proofs.trees.Errors.{Any, NoMemory, as_answer, as_fault}

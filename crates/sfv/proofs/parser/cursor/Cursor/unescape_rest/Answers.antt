@@ -1,5 +1,5 @@
 use Rattle.std.proofs.Common.{◌∙◌, true}
-use Rattle.sfv_reading.specs.Reader.{byte}
+use Rattle.sfv_model.specs.Reader.{byte}
 use Rattle.sfv.specs.parser.Cursor.{kept, rest, TakesIf}
 use Rattle.sfv.specs.parser.Quoted.{mark_of}
 use Rattle.sfv.proofs.reads.Escapes.{closed_after, past_escape, past_run, escape_fails}

@@ -1,5 +1,5 @@
 use Rattle.std.proofs.Common.{◌≡◌, length}
-use Rattle.sfv_reading.specs.Quoted.{after_bytes}
+use Rattle.sfv_model.specs.Quoted.{after_bytes}
 use Rattle.sfv.specs.parser.Cursor.{kept, rest}
 use Rattle.sfv.specs.parser.Quoted.{inside}
 use Rattle.sfv.proofs.parser.cursor.Cursor.unescape_rest.Given as goal

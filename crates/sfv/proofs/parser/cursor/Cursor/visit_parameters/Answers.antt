@@ -1,7 +1,7 @@
 use Rattle.std.proofs.Common.{◌∙◌, refl, ap}
 use Rattle.sfv_spec.specs.Events.{parameters_events}
-use Rattle.sfv_reading.specs.Items.{parameter_at}
-use Rattle.sfv_reading.proofs.sound.Items.{Consumes-parameter}
+use Rattle.sfv_model.specs.Items.{parameter_at}
+use Rattle.sfv_model.proofs.sound.Items.{Consumes-parameter}
 use Rattle.sfv.specs.parser.Cursor.{version, kept, kept_version, rest}
 use Rattle.sfv.proofs.reads.Errors.{left_with, kept_reads}
 use Rattle.sfv.proofs.visits.Parameters.{of_visitor, visited_none, visited_more, visited_error, parameter_failed}

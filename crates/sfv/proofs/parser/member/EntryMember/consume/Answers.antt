@@ -1,10 +1,10 @@
 use Rattle.sfv_spec.specs.Events.{entry, member_events}
-use Rattle.sfv_reading.specs.Members.{member_at, entry_at}
+use Rattle.sfv_model.specs.Members.{member_at, entry_at}
 use Rattle.sfv.specs.parser.Cursor.{kept, version}
 use Rattle.sfv.proofs.visits.Parts.{led_visits, led_fails}
 use Rattle.sfv.proofs.reads.Errors.{left_with}
 use Rattle.std.proofs.Common.{refl}
-use Rattle.sfv_visitor.specs.declared.visitor.Event.TheVariants as event
+use Rattle.sfv_tree.specs.declared.visitor.Event.TheVariants as event
 use Rattle.sfv.proofs.visits.AsRead.{led_reads}
 use Rattle.sfv.proofs.parser.member.EntryMember.consume.Goals as goal
 

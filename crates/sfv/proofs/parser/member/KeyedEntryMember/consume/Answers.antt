@@ -1,11 +1,11 @@
 use Rattle.sfv_spec.specs.Events.{member_events}
-use Rattle.sfv_reading.specs.Members.{member_value_at}
+use Rattle.sfv_model.specs.Members.{member_value_at}
 use Rattle.sfv.specs.parser.Cursor.{kept, version}
 use Rattle.sfv.proofs.reads.Errors.{left_with, ErrorOf-fault}
 use Rattle.sfv.proofs.visits.Keyed.{key_fails, keyed_fails, keyed_visits}
 use Rattle.sfv.proofs.visits.Parts.{kept_visits}
 use Rattle.std.proofs.Common.{refl}
-use Rattle.sfv_visitor.specs.declared.visitor.Event.TheVariants as event
+use Rattle.sfv_tree.specs.declared.visitor.Event.TheVariants as event
 use Rattle.sfv.proofs.visits.AsRead.{keyed_reads}
 use Rattle.sfv.proofs.parser.member.KeyedEntryMember.consume.Goals as goal
 

@@ -1,5 +1,0 @@
-use Rattle.std.proofs.Common.{rules}
-use Rattle.sfv_bare.proofs.bare.conversions.GenericBareItemTryFromI64.try_from.Goals as goal
-
-pub returns : goal.returns
-returns g c = ((c.in_ok-try_from.field-0, c.from.ensures, search rules), search rules)

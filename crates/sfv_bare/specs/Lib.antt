@@ -1,2 +1,0 @@
-pub mod BareItems
-pub mod Kinds

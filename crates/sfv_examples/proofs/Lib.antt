@@ -1,0 +1,5 @@
+pub mod Parts
+pub mod Uses
+mod RowItems
+mod Pairs
+mod Foos

@@ -1,0 +1,8 @@
+use Rattle.std.specs.Fmt as fmt
+use Rattle.sfv_examples.proofs.serializing.write_one.Goals as goal
+
+pub returns : goal.returns
+unfolding fmt.digits
+returns g c =
+    let written = c.in_ok-write_member.ensures in
+    (written.0, rw (c.integer.ensures, c.integer-2.ensures, c.key_ref.ensures) at written.1, written.2, written.3, written.4, written.5)

@@ -1,0 +1,20 @@
+use Rattle.std.proofs.Common.{refl}
+use Rattle.std.specs.Prelude.{⊤}
+use Rattle.std.proofs.lemmas.Result.{IfOk-weaker}
+use Rattle.sfv.specs.Types.{Rfc9651, item_field}
+use Rattle.sfv.proofs.Callers.{never_fails}
+use Rattle.sfv_examples.specs.Uses.{IsMemoryError}
+use Rattle.sfv_examples.proofs.Uses.{of_error_alone}
+use Rattle.sfv_examples.proofs.visiting.with_bare_item.Goals as goal
+
+pub returns-clause-accepted : goal.returns-clause-accepted
+returns-clause-accepted g c a = of_error_alone _ _ c.parse_item_with_visitor.result
+    (never_fails _ _ _ _ Rfc9651 item_field c.args.input.now _ a.0 c.parse_item_with_visitor.result a.1
+    (rw c.new.ensures at c.parse_item_with_visitor.ensures.visited)
+    (rw c.new.ensures at c.parse_item_with_visitor.ensures.syntax)
+    (rw c.new.ensures at c.parse_item_with_visitor.ensures.visitor) (IsMemoryError (λ _. ⊤)) refl
+    (λ error fails. tt))
+
+pub returns-clause-read : goal.returns-clause-read
+returns-clause-read g c = IfOk-weaker c.parse_item_with_visitor.result _ _ (λ out h. (h.raw, h.accepted))
+    (rw c.new.ensures at c.parse_item_with_visitor.ensures.visited)

@@ -1,0 +1,6 @@
+pub mod Uses
+pub mod Rows
+pub mod RowSteps
+pub mod Pairs
+pub mod Foo
+pub mod FooSteps

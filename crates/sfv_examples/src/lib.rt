@@ -1,0 +1,14 @@
+//! Examples for callers, each proved from the public contracts of the library.
+#![tactic(auto)]
+
+pub mod expecting;
+pub mod foo;
+pub mod lookups;
+pub mod reading;
+pub mod rows;
+pub mod serializing;
+pub mod start;
+pub mod values;
+pub mod versions;
+pub mod visiting;
+pub mod writing;

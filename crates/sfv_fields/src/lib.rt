@@ -1,6 +1,0 @@
-//! Fields of other standards, with code that is proved from the library's public contracts.
-#![tactic(auto)]
-
-pub mod cache_status;
-pub mod content_digest;
-pub mod priority;

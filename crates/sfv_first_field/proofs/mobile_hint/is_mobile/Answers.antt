@@ -1,0 +1,13 @@
+use Rattle.std.proofs.Common.{ap}
+use Rattle.sfv.specs.BareItems.{bare_value}
+use Rattle.sfv.specs.Statements.{IsParsedAs}
+use Rattle.sfv.specs.Trees.{item_tree}
+use Rattle.sfv.specs.Types.{item_field}
+use Rattle.sfv.specs.Types.{Rfc9651}
+use Rattle.sfv_first_field.proofs.mobile_hint.is_mobile.Goals as goal
+
+pub returns-clause-read : goal.returns-clause-read
+returns-clause-read c =
+    let read : IsParsedAs Rfc9651 item_field c.args.input.now (item_tree c.in-Ok.item) =
+    rw c.new.ensures at c.in-Ok.ensures.read in
+    (item_tree c.in-Ok.item, read, ap bare_value c.in-Some.ensures)

@@ -1,0 +1,2 @@
+pub mod MobileHint
+pub mod MaxAge

@@ -1,0 +1,11 @@
+pub mod CacheStatus
+pub mod CacheStatusSteps
+pub mod ContentDigests
+pub mod DigestSteps
+pub mod Priority
+pub mod PrioritySteps
+pub mod ProxyStatus
+pub mod Kept
+pub mod Writing
+pub mod Requests
+pub mod Lines

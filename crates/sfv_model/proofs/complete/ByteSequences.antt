@@ -1,0 +1,19 @@
+-- A text of a Byte Sequence is read, as its bytes.
+use Rattle.std.proofs.Common.{◌≡◌, ℕ, List, [], ◌∷◌, ◌++◌, ◌∙◌, ap, append_assoc, Ok}
+use Rattle.sfv_spec.proofs.Marks.{colon}
+use Rattle.sfv_spec.specs.Base64.{IsBase64Text}
+use Rattle.sfv_model.specs.Content.{IsBytesEnd, bytes_at}
+use Rattle.sfv_model.proofs.base64.Contents.{gives_the_bytes}
+use Rattle.sfv_model.proofs.sound.ByteSequences.{read_value, text_apart}
+
+-- Each Byte Sequence is read, whatever follows it.
+pub reads_its_texts : (bytes content rest : List ℕ) → IsBase64Text bytes content
+    → bytes_at (content ++ colon ∷ rest) ≡ Ok (bytes, rest)
+reads_its_texts bytes content rest h = read_value content rest bytes (text_apart bytes content h)
+    ((gives_the_bytes content bytes).0 h)
+
+pub bytes_complete : (bytes t q : List ℕ) → IsBytesEnd bytes t → bytes_at (t ++ q) ≡ Ok (bytes, q)
+bytes_complete bytes t q h =
+    let all : t ++ q ≡ h.front ++ colon ∷ q = ap (λ (l : List ℕ). l ++ q) (h.text
+    ∙ ap (λ (l : List ℕ). h.front ++ l) h.second) ∙ append_assoc h.front (colon ∷ []) q in
+    ap bytes_at all ∙ reads_its_texts bytes h.front q h.first

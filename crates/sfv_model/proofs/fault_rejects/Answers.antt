@@ -1,0 +1,5 @@
+use Rattle.sfv_model.proofs.fault_rejects.Goals as goal
+use Rattle.sfv_model.proofs.FaultTable.{fault_rejects}
+
+pub returns : goal.returns
+returns c = fault_rejects

@@ -1,0 +1,369 @@
+-- Where the faults between the bare items of an inner list stand.
+use Rattle.std.proofs.Common.{◌≡◌, ℕ, ◌≤◌, true, List, [], ◌∷◌, ◌++◌, length, Option, refl}
+use Rattle.std.proofs.Common.{sym, ap, subst, ◌∙◌, append_assoc, arith}
+use Rattle.std.specs.Prelude.{⊤, codes}
+use Rattle.std.proofs.lemmas.List.{append-nil}
+use Rattle.std.proofs.lemmas.Bool.{eqb-true}
+use Rattle.sfv_spec.proofs.Marks.{space, equals_sign}
+use Rattle.sfv_spec.proofs.Marks.{left_parenthesis, right_parenthesis, comma}
+use Rattle.sfv_spec.specs.Texts.{RunOf, IsJoining}
+use Rattle.sfv_spec.proofs.Marks.{is_space, is_space_or_tab}
+use Rattle.sfv_spec.specs.Values.{boolean, RawItem}
+use Rattle.sfv_spec.specs.declared.version.Version.{Version}
+use Rattle.sfv_spec.specs.Grammar.{IsItemText, IsMemberText, IsMemberValueText, IsDictionaryMemberText}
+use Rattle.sfv_spec.specs.Grammar.{IsParameterText, IsKeyText}
+use Rattle.sfv_spec.specs.Events.{inner_item_events}
+use Rattle.sfv_spec.specs.declared.error_kind.ErrorKind.{ErrorKind}
+use Rattle.sfv_spec.specs.declared.error_kind.ErrorKind.TheVariants.{TrailingCharactersAfterMember, TrailingComma}
+use Rattle.sfv_spec.specs.declared.error_kind.ErrorKind.TheVariants.{TrailingCharactersAfterParsedValue}
+use Rattle.sfv_spec.specs.declared.error_kind.ErrorKind.TheVariants.{ExpectedInnerListDelimiter}
+use Rattle.sfv_spec.specs.declared.error_kind.ErrorKind.TheVariants.{UnterminatedInnerList}
+use Rattle.sfv_spec.proofs.Settled.{joining-nil, joining-cons}
+use Rattle.sfv_model.specs.Reader.{Fault, Reader, span, many, any}
+use Rattle.sfv_model.specs.Items.{key_at, item_of}
+use Rattle.sfv_model.specs.Members.{inner_item_at, next_item_at, inner_items_at, inner_of, inner_at, member_at}
+use Rattle.sfv_model.specs.Members.{entry_at}
+use Rattle.sfv_model.specs.Members.{member_value_at, keyed_at}
+use Rattle.sfv_model.proofs.TrailingBytes.{IsOther, Shuns, Shuns-item, Shuns-key, Shuns-parameters, Shuns-led, Shuns-bind}
+use Rattle.sfv_model.proofs.TrailingBytes.{Shuns-give, Shuns-branch, Shuns-span}
+use Rattle.sfv_model.proofs.sound.Combinators.{Steady-span, Sound-steady, IsSpan}
+use Rattle.sfv_model.proofs.sound.Items.{Sound-key, parameter_of, true_value}
+use Rattle.sfv_model.proofs.sound.Members.{IsClosed, IsNextItem, Sound-inner_item, Sound-next_item}
+use Rattle.sfv_model.proofs.sound.Members.{Consumes-next_item, IsItems, items_with, bracket, Sound-items}
+use Rattle.sfv_model.proofs.sound.Members.{inner_text, given}
+use Rattle.sfv_model.proofs.sound.Members.{Sound-member_value, keyed}
+use Rattle.sfv_model.proofs.sound.Steps.{Sound-steps}
+use Rattle.sfv_model.proofs.texts.Joining.{joining_none, joining_into, joining_push, joined_split}
+use Rattle.sfv_model.proofs.faults.Combinators.{Rules, Rules-give, Rules-steady, Rules-led, Rules-bind, Rules-branch}
+use Rattle.sfv_model.proofs.faults.Combinators.{Rules-ahead, Rules-any, Rules-weaker, fail_at}
+use Rattle.sfv_model.proofs.faults.Many.{Rules-many}
+use Rattle.sfv_model.proofs.faults.ItemEnds.{IsTight, tight_after, item_tight, outer_space}
+
+-- front ends in an inner list, where a parenthesis can stand, and, after an item, a parameter too
+pub record IsOpen {A : Type 0} (P : A → List ℕ → Type 0) (k : ErrorKind) (t rest : List ℕ) : Type 0 where
+  pub front : List ℕ
+  pub text : t ≡ front ++ rest
+  pub closes : (v : A) × P v (front ++ codes ")")
+  pub tight : IsTight space front
+  pub longer : k ≡ ExpectedInnerListDelimiter → (v : A) × P v (front ++ codes ";a)")
+  pub some : k ≡ ExpectedInnerListDelimiter → 1 ≤ length rest
+  pub ends : k ≡ UnterminatedInnerList → rest ≡ []
+
+-- front is a whole text with a member
+pub record IsWhole {A : Type 0} (P : A → List ℕ → Type 0) (Has : A → Type 0) (t rest : List ℕ) : Type 0 where
+  pub front : List ℕ
+  pub value : A
+  pub text : t ≡ front ++ rest
+  pub means : P value front
+  pub has : Has value
+  pub some : 1 ≤ length rest
+
+-- the comma at the end, after such a text
+pub record IsLastComma {A : Type 0} (P : A → List ℕ → Type 0) (Has : A → Type 0) (t rest : List ℕ) : Type 0 where
+  pub front : List ℕ
+  pub whitespace : List ℕ
+  pub value : A
+  pub text : t ≡ front ++ comma ∷ whitespace
+  pub blank : RunOf is_space_or_tab whitespace
+  pub means : P value front
+  pub has : Has value
+  pub here : rest ≡ comma ∷ whitespace
+
+-- where a fault of this kind stands
+abbrev pub Stands : {A : Type 0} → (A → List ℕ → Type 0) → (A → Type 0) → ErrorKind → List ℕ → List ℕ → Type 0
+Stands P Has ExpectedInnerListDelimiter t rest = IsOpen P ExpectedInnerListDelimiter t rest
+Stands P Has UnterminatedInnerList t rest = IsOpen P UnterminatedInnerList t rest
+Stands P Has TrailingCharactersAfterMember t rest = IsWhole P Has t rest
+Stands P Has TrailingComma t rest = IsLastComma P Has t rest
+Stands P Has TrailingCharactersAfterParsedValue t rest = ⊥
+Stands P Has _ t rest = ⊤
+
+-- no value has members
+abbrev pub HasNone : {A : Type 0} → A → Type 0
+HasNone v = ⊥
+
+open_within : {A B : Type 0} (P : A → List ℕ → Type 0) (Q : B → List ℕ → Type 0) (p : List ℕ)
+    → ((v : A) (s : List ℕ) → P v s → (w : B) × Q w (p ++ s)) → (k : ErrorKind) (t rest : List ℕ) → IsOpen P k t rest
+    → IsOpen Q k (p ++ t) rest
+open_within P Q p h k t rest o = record {
+  front = p ++ o.front;
+  text = ap (λ (l : List ℕ). p ++ l) o.text ∙ sym (append_assoc p o.front rest);
+  closes = let m = h o.closes.0 (o.front ++ codes ")") o.closes.1 in
+      (m.0, subst (Q m.0) (sym (append_assoc p o.front (codes ")"))) m.1);
+  tight = tight_after space p o.front o.tight;
+  longer = λ e. let w = o.longer e in let m = h w.0 (o.front ++ codes ";a)") w.1 in
+      (m.0, subst (Q m.0) (sym (append_assoc p o.front (codes ";a)"))) m.1);
+  some = o.some;
+  ends = o.ends;
+}
+
+-- in a longer text
+pub stands_within : {A B : Type 0} (P : A → List ℕ → Type 0) (Q : B → List ℕ → Type 0) (Has : A → Type 0)
+    (More : B → Type 0) (p : List ℕ)
+    → ((v : A) (s : List ℕ) → P v s → (w : B) × Q w (p ++ s) × (Has v → More w)) → (k : ErrorKind) (t rest : List ℕ)
+    → Stands P Has k t rest → Stands Q More k (p ++ t) rest
+stands_within P Q Has More p h ExpectedInnerListDelimiter t rest o =
+    open_within P Q p (λ v s m. let w = h v s m in (w.0, w.1)) ExpectedInnerListDelimiter t rest o
+stands_within P Q Has More p h UnterminatedInnerList t rest o =
+    open_within P Q p (λ v s m. let w = h v s m in (w.0, w.1)) UnterminatedInnerList t rest o
+stands_within P Q Has More p h TrailingCharactersAfterMember t rest o =
+    let w = h o.value o.front o.means in
+    record {
+      front = p ++ o.front;
+      value = w.0;
+      text = ap (λ (l : List ℕ). p ++ l) o.text ∙ sym (append_assoc p o.front rest);
+      means = w.1;
+      has = w.2 o.has;
+      some = o.some;
+    }
+stands_within P Q Has More p h TrailingComma t rest o =
+    let w = h o.value o.front o.means in
+    record {
+      front = p ++ o.front;
+      whitespace = o.whitespace;
+      value = w.0;
+      text = ap (λ (l : List ℕ). p ++ l) o.text ∙ sym (append_assoc p o.front (comma ∷ o.whitespace));
+      blank = o.blank;
+      means = w.1;
+      has = w.2 o.has;
+      here = o.here;
+    }
+stands_within P Q Has More p h TrailingCharactersAfterParsedValue t rest o = o
+stands_within P Q Has More p h _ t rest o = tt
+
+-- all other kinds stand anywhere
+stands_other : {A : Type 0} (P : A → List ℕ → Type 0) (Has : A → Type 0) (k : ErrorKind) (t rest : List ℕ)
+    → IsOther k → Stands P Has k t rest
+stands_other P Has ExpectedInnerListDelimiter t rest o = absurd o
+stands_other P Has UnterminatedInnerList t rest o = absurd o
+stands_other P Has TrailingCharactersAfterMember t rest o = absurd o
+stands_other P Has TrailingComma t rest o = absurd o
+stands_other P Has TrailingCharactersAfterParsedValue t rest o = o
+stands_other P Has _ t rest o = tt
+
+pub Rules-other : {A B : Type 0} (f : Reader A) (P : B → List ℕ → Type 0) (Has : B → Type 0) (at : List ℕ → List ℕ)
+    → Shuns f → Rules f (λ t e. Stands P Has e.kind (at t) e.rest)
+Rules-other f P Has at h = record {
+  rules = λ t e i.
+      stands_other P Has e.kind (at t) e.rest (h.rules t e i);
+}
+
+-- ---- items, of which the last gets one more parameter
+
+module _ (version : Version) where
+  pub parameter_a : IsParameterText version (codes "a", boolean true) (codes ";a")
+  parameter_a = parameter_of version [] (codes "a") (codes "a") [] (boolean true) refl (refl, refl) (true_value version)
+
+  pub item_longer : (i : RawItem) (t : List ℕ) → IsItemText version i t → (j : RawItem)
+      × IsItemText version j (t ++ codes ";a")
+  item_longer i t h = (
+    item_of i.bare (i.parameters ++ (codes "a", boolean true) ∷ []),
+    record {
+      front = h.front;
+      back = h.back ++ codes ";a";
+      text = ap (λ (l : List ℕ). l ++ codes ";a") h.text ∙ append_assoc h.front h.back (codes ";a");
+      first = h.first;
+      second = joining_push (IsParameterText version) i.parameters (codes "a", boolean true) h.back (codes ";a")
+          h.second parameter_a;
+    },
+  )
+
+  -- an item, others after it
+  pub record AreItems (t : List ℕ) : Type 0 where
+    pub i : RawItem
+    pub is : List RawItem
+    pub one : List ℕ
+    pub others : List ℕ
+    pub text : t ≡ one ++ others
+    pub first : IsItemText version i one
+    pub second : IsJoining (IsNextItem version) is others
+
+  items_longer : (i : RawItem) (is : List RawItem) (s u : List ℕ) → IsItemText version i s
+      → IsJoining (IsNextItem version) is u → AreItems ((s ++ u) ++ codes ";a")
+  items_longer i [] s u h j =
+      let m = item_longer i s h in
+      record {
+        i = m.0;
+        is = [];
+        one = s ++ codes ";a";
+        others = [];
+        text = ap (λ (l : List ℕ). (s ++ l) ++ codes ";a") (joining-nil j)
+            ∙ ap (λ (l : List ℕ). l ++ codes ";a") (append-nil s) ∙ sym (append-nil (s ++ codes ";a"));
+        first = m.1;
+        second = joining_none (IsNextItem version);
+      }
+  items_longer i (next ∷ is) s u h j =
+      let c = joining-cons j in
+      let n = c.first in
+      let m = items_longer next is n.back c.back n.second c.second in
+      record {
+        i = i;
+        is = m.i ∷ m.is;
+        one = s;
+        others = (n.front ++ m.one) ++ m.others;
+        text = append_assoc s u (codes ";a") ∙ ap (λ (l : List ℕ). s ++ l)
+            (ap (λ (l : List ℕ). l ++ codes ";a") (c.text ∙ ap (λ (l : List ℕ). l ++ c.back) n.text
+            ∙ append_assoc n.front n.back c.back) ∙ append_assoc n.front (n.back ++ c.back) (codes ";a")
+            ∙ ap (λ (l : List ℕ). n.front ++ l) m.text ∙ sym (append_assoc n.front m.one m.others));
+        first = h;
+        second = joining_into (IsNextItem version) m.i m.is (n.front ++ m.one) m.others
+            (record { front = n.front; back = m.one; text = refl; first = n.first; second = m.first }) m.second;
+      }
+
+  items_tight : (i : RawItem) (is : List RawItem) (s u : List ℕ) → IsItemText version i s
+      → IsJoining (IsNextItem version) is u → IsTight space (s ++ u)
+  items_tight i [] s u h j = subst (IsTight space) (sym (ap (λ (l : List ℕ). s ++ l) (joining-nil j) ∙ append-nil s))
+      (item_tight space outer_space version i s h)
+  items_tight i (next ∷ is) s u h j =
+      let c = joining-cons j in
+      let n = c.first in
+      tight_after space s u (subst (IsTight space) (sym (c.text ∙ ap (λ (l : List ℕ). l ++ c.back) n.text
+      ∙ append_assoc n.front n.back c.back)) (tight_after space n.front (n.back ++ c.back)
+      (items_tight next is n.back c.back n.second c.second)))
+
+  -- ---- inner lists
+
+  -- the items with the opening parenthesis
+  abbrev Opened : List RawItem → List ℕ → Type 0
+  Opened is s = (b : List ℕ) × (s ≡ left_parenthesis ∷ b) × IsItems version is b
+
+  shuns-inner_item : Shuns (inner_item_at version)
+  unfolding inner_item_at
+  shuns-inner_item = Shuns-led _ _ (Shuns-item version)
+
+  module _ (s t u : List ℕ) (i : RawItem) (is : List RawItem) (each : RunOf is_space s) (h : IsItemText version i t)
+      (j : IsJoining (IsNextItem version) is u) where
+    -- after spaces, an item and others
+    abbrev Here : List ℕ → Fault → Type 0
+    Here x e = Stands Opened HasNone e.kind (left_parenthesis ∷ (s ++ (t ++ (u ++ x)))) e.rest
+
+    placed : (k : ErrorKind) (x : List ℕ) → (k ≡ ExpectedInnerListDelimiter → 1 ≤ length x)
+        → (k ≡ UnterminatedInnerList → x ≡ []) → IsOpen Opened k (left_parenthesis ∷ (s ++ (t ++ (u ++ x)))) x
+    placed k x some ends =
+        let front : List ℕ = left_parenthesis ∷ (s ++ (t ++ u)) in
+        let m = items_longer i is t u h j in
+        record {
+          front = front;
+          text = ap (λ (l : List ℕ). left_parenthesis ∷ l) (simp append_assoc);
+          closes = (
+            i ∷ is,
+            (
+              s ++ (t ++ (u ++ codes ")")),
+              ap (λ (l : List ℕ). left_parenthesis ∷ l) (simp append_assoc),
+              items_with version s t (u ++ codes ")") i is each h
+                  (joined_split (IsNextItem version) IsClosed is u (codes ")") j bracket),
+            ),
+          );
+          tight = tight_after space (left_parenthesis ∷ s) (t ++ u) (items_tight i is t u h j);
+          longer = λ _. (
+            m.i ∷ m.is,
+            (
+              s ++ (m.one ++ (m.others ++ codes ")")),
+              ap (λ (l : List ℕ). left_parenthesis ∷ l) (append_assoc s (t ++ u) (codes ";a)")
+                  ∙ ap (λ (l : List ℕ). s ++ l) (sym (append_assoc (t ++ u) (codes ";a") (codes ")"))
+                  ∙ ap (λ (l : List ℕ). l ++ codes ")") m.text ∙ append_assoc m.one m.others (codes ")"))),
+              items_with version s m.one (m.others ++ codes ")") m.i m.is each m.first
+                  (joined_split (IsNextItem version) IsClosed m.is m.others (codes ")") m.second bracket),
+            ),
+          );
+          some = some;
+          ends = ends;
+        }
+
+    next_item_rules : Rules (next_item_at version) Here
+    unfolding next_item_at
+    next_item_rules = Rules-branch _ _ _ _ (λ c _. Rules-other _ Opened HasNone _
+        (Shuns-bind _ _ (Shuns-span _) (λ _. Shuns-branch _ _ _ (λ _. Shuns-give _)
+        (Shuns-bind _ _ shuns-inner_item (λ i. Shuns-give _)))))
+        (Rules-branch _ _ _ _ (λ _ _. Rules-give _ _) (Rules-ahead any _ _ _
+        (λ c r e _ q. fail_at (Option RawItem) ExpectedInnerListDelimiter Here (c ∷ r) e q
+        (placed ExpectedInnerListDelimiter (c ∷ r) (λ _. omega arith) (λ k. absurd cc)))
+        (λ c r e y q. absurd cc)
+        (λ e q. fail_at (Option RawItem) UnterminatedInnerList Here [] e q
+        (placed UnterminatedInnerList [] (λ k. absurd cc) (λ _. refl)))))
+
+  abbrev AfterBracket : List ℕ → Fault → Type 0
+  AfterBracket x e = Stands Opened HasNone e.kind (left_parenthesis ∷ x) e.rest
+
+  items_rules : Rules (inner_items_at version) AfterBracket
+  unfolding inner_items_at
+  items_rules = Rules-any _ _ _
+      (Rules-bind (IsSpan is_space) (λ _ _. Unit {0}) (λ _. Unit {0}) (span is_space) _ _
+      (Sound-steady _ _ _ _ (Steady-span is_space)) (Rules-steady _ _ _ (Steady-span is_space)) (λ s v z.
+      let each : RunOf is_space s = subst (RunOf is_space) (sym z.0) z.1 in
+      Rules-branch _ _ _ _ (λ _ _. Rules-give _ _)
+      (Rules-bind (IsItemText version) _ _ (inner_item_at version) _ _ (Sound-inner_item version)
+      (Rules-other _ Opened HasNone _ shuns-inner_item)
+      (λ t i h. Rules-led _ _ _ (Rules-bind _ _ _ (many inner_item_events (next_item_at version)) _ _
+      (Sound-steps (IsNextItem version) IsClosed inner_item_events (right_parenthesis ∷ []) bracket
+      (next_item_at version) (Sound-next_item version))
+      (Rules-many (IsNextItem version) IsClosed _ _ inner_item_events (next_item_at version)
+      (Consumes-next_item version) (Sound-next_item version)
+      (λ x e. Stands Opened HasNone e.kind (left_parenthesis ∷ (s ++ (t ++ x))) e.rest)
+      (λ u is j. Rules-weaker _ _ _ (next_item_rules s t u i is each h j) (λ x e o. o)))
+      (λ u is q. Rules-give _ _)))))
+      )
+      (λ e q. fail_at (List RawItem) UnterminatedInnerList AfterBracket [] e q (record {
+        front = left_parenthesis ∷ [];
+        text = refl;
+        closes = ([], (right_parenthesis ∷ [], refl, bracket));
+        tight = record { before = []; last = left_parenthesis; text = refl; other = refl };
+        longer = λ k. absurd cc;
+        some = λ k. absurd cc;
+        ends = λ _. refl;
+      }))
+
+  inner_rules : Rules (inner_at version)
+      (λ x e. Stands (IsMemberText version) HasNone e.kind (left_parenthesis ∷ x) e.rest)
+  unfolding inner_at
+  inner_rules = Rules-bind (IsItems version) _ _ (inner_items_at version) _ _ (Sound-items version)
+      (Rules-weaker _ _ _ items_rules (λ x e o. stands_within Opened (IsMemberText version) HasNone HasNone []
+      (λ is b m. (
+        inner_of is [],
+        subst (IsMemberText version (inner_of is [])) (ap (λ (l : List ℕ). left_parenthesis ∷ l) (append-nil m.0)
+            ∙ sym m.1) (inner_text version is [] m.0 [] m.2 (joining_none (IsParameterText version))),
+        λ n. n,
+      )) e.kind (left_parenthesis ∷ x) e.rest o))
+      (λ s is h. Rules-other _ (IsMemberText version) HasNone _
+      (Shuns-led _ _ (Shuns-bind _ _ (Shuns-parameters version) (λ ps. Shuns-give _))))
+
+  member_rules : Rules (member_at version) (λ x e. Stands (IsMemberText version) HasNone e.kind x e.rest)
+  unfolding member_at
+  member_rules = Rules-branch _ _ _ _
+      (λ c is. Rules-weaker _ _ _
+      (Rules-led _ _ (λ x e. Stands (IsMemberText version) HasNone e.kind (left_parenthesis ∷ x) e.rest) inner_rules)
+      (λ x e o. subst (λ (c : ℕ). Stands (IsMemberText version) HasNone e.kind (c ∷ x) e.rest)
+      (sym (eqb-true c left_parenthesis is)) o))
+      (Rules-other _ (IsMemberText version) HasNone (λ x. x)
+      (Shuns-led _ _ (Shuns-bind _ _ (Shuns-item version) (λ i. Shuns-give _))))
+
+  pub entry_rules : Rules (entry_at version) (λ x e. Stands (IsMemberText version) HasNone e.kind x e.rest)
+  unfolding entry_at
+  entry_rules = Rules-led _ _ _ member_rules
+
+  member_value_rules : Rules (member_value_at version)
+      (λ x e. Stands (IsMemberValueText version) HasNone e.kind x e.rest)
+  unfolding member_value_at
+  member_value_rules = Rules-branch _ _ _ _
+      (λ c is. Rules-weaker _ _ _ member_rules (λ x e o.
+      stands_within (IsMemberText version) (IsMemberValueText version) HasNone HasNone (c ∷ []) (λ m s h. (
+        m,
+        subst (λ (c : ℕ). IsMemberValueText version m (c ∷ s)) (sym (eqb-true c equals_sign is)) (given version m s h),
+        λ n. n,
+      )) e.kind x e.rest o))
+      (Rules-other _ (IsMemberValueText version) HasNone (λ x. x)
+      (Shuns-led _ _ (Shuns-bind _ _ (Shuns-parameters version) (λ ps. Shuns-give _))))
+
+  pub keyed_rules : Rules (keyed_at version) (λ x e. Stands (IsDictionaryMemberText version) HasNone e.kind x e.rest)
+  unfolding keyed_at
+  keyed_rules = Rules-bind IsKeyText _ _ key_at _ _ Sound-key
+      (Rules-other _ (IsDictionaryMemberText version) HasNone (λ x. x) Shuns-key)
+      (λ k key h. Rules-led _ _ _ (Rules-bind (IsMemberValueText version) _ _ (member_value_at version) _ _
+      (Sound-member_value version)
+      (Rules-weaker _ _ _ member_value_rules (λ x e o.
+      stands_within (IsMemberValueText version) (IsDictionaryMemberText version) HasNone HasNone k (λ m s g. (
+        (key, m),
+        keyed version key k s m h g,
+        λ n. n,
+      )) e.kind x e.rest o))
+      (λ s m g. Rules-give _ _)))

@@ -1,0 +1,179 @@
+-- What stands after a field with a member, and is no more of it.
+use Rattle.std.proofs.Common.{◌≡◌, ℕ, false, eqb, List, [], ◌∷◌, ◌++◌, length, drop, Ok, Err, refl, sym, ap}
+use Rattle.std.proofs.Common.{◌∙◌, append_assoc, arith}
+use Rattle.std.proofs.lemmas.List.{append-nil, drop_at}
+use Rattle.std.specs.Prelude.{codes, ◌≢◌}
+use Rattle.sfv_spec.proofs.Marks.{comma, right_parenthesis}
+use Rattle.sfv_spec.specs.Texts.{RunOf}
+use Rattle.sfv_spec.proofs.Marks.{is_space, is_space_or_tab}
+use Rattle.sfv_spec.specs.Values.{RawField, HasMember}
+use Rattle.sfv_spec.specs.declared.field_kind.FieldKind.{FieldKind}
+use Rattle.sfv_spec.specs.declared.field_kind.FieldKind.TheVariants.{Item as item_field, List as list_field}
+use Rattle.sfv_spec.specs.declared.field_kind.FieldKind.TheVariants.{Dictionary as dictionary_field}
+use Rattle.sfv_spec.specs.declared.version.Version.{Version}
+use Rattle.sfv_spec.specs.Grammar.{IsMemberText, IsDictionaryMemberText, IsFieldText, IsAccepted}
+use Rattle.sfv_spec.specs.Events.{TreeEvent, events, entry_events, keyed_events}
+use Rattle.sfv_model.specs.Commas.{HasManyMembers}
+use Rattle.sfv_spec.specs.declared.error_kind.ErrorKind.TheVariants.{TrailingComma, TrailingCharactersAfterMember}
+use Rattle.sfv_model.specs.Reader.{Fault, Reader, Apart, any, byte, at_reach, by_rule, after_events, at_start}
+use Rattle.sfv_model.specs.Reader.{give, fail}
+use Rattle.sfv_model.specs.Reader.{back, span, branch, ahead, bind, led}
+use Rattle.sfv_model.specs.Judgements.{IsFault}
+use Rattle.sfv_model.specs.Bare.{token_at, bare_at}
+use Rattle.sfv_model.specs.Items.{key_at, item_at}
+use Rattle.sfv_model.specs.Members.{member_at, entry_at, keyed_at}
+use Rattle.sfv_model.specs.Fields.{comma_at, next_at, members_at, whole_field_at, ending, read_field}
+use Rattle.sfv_model.specs.Claims.{CommaRow}
+use Rattle.sfv_model.proofs.complete.Combinators.{Apart-nil, Apart-cons, branch_take, ahead_past, ahead_take}
+use Rattle.sfv_model.proofs.complete.Combinators.{ahead_any}
+use Rattle.sfv_model.proofs.complete.Combinators.{bind_complete, span_complete}
+use Rattle.sfv_model.proofs.sound.Members.{Sound-entry, Sound-keyed}
+use Rattle.sfv_model.proofs.sound.Separated.{members_met}
+use Rattle.sfv_model.proofs.complete.Items.{lengthens_item, blank_ends}
+use Rattle.sfv_model.proofs.complete.Members.{entry_complete, entry_fresh, keyed_complete, keyed_fresh}
+use Rattle.sfv_model.proofs.complete.Fields.{spaces_end, comma_ends, item_field_complete}
+use Rattle.sfv_model.proofs.Theorems.{read_is_accepted}
+use Rattle.sfv_model.proofs.faults.PiecesToFault.{bind_met}
+
+-- a type of field is a list or a dictionary unless it is an item
+pub not_item : (kind : FieldKind) → HasManyMembers kind → kind ≢ item_field
+not_item item_field many = absurd many
+not_item list_field many = λ e. cc
+not_item dictionary_field many = λ e. cc
+
+pub has_many : (kind : FieldKind) → kind ≢ item_field → HasManyMembers kind
+has_many item_field other = absurd (other refl)
+has_many list_field other = tt
+has_many dictionary_field other = tt
+
+-- blanks, a comma, and the end
+comma_met : {A : Type 0} (one : Reader A) (w z : List ℕ) → RunOf is_space_or_tab w → RunOf is_space_or_tab z
+    → next_at one (z ++ comma ∷ w) ≡ Err (by_rule TrailingComma (comma ∷ w))
+unfolding next_at comma_at back give
+comma_met one w z each' each =
+    let end : span is_space_or_tab w ≡ Ok (w, []) = ap (span is_space_or_tab) (sym (append-nil w))
+    ∙ span_complete is_space_or_tab w [] each' (Apart-nil is_space_or_tab) in
+    bind_complete _ _ _ _ _ (span_complete is_space_or_tab z (comma ∷ w) each (Apart-cons is_space_or_tab comma w refl))
+    ∙ ahead_any _ _ _ (omega arith) ∙ ahead_take _ _ _ comma w refl
+    ∙ bind_met _ _ _ _ (ap (at_start TrailingComma (comma ∷ w)) (branch_take _ _ _ comma w refl
+    ∙ bind_complete _ _ _ _ _ end ∙ ahead_past _ _ _ [] (Apart-nil any)))
+
+-- blanks, and another byte
+pub byte_met : {A : Type 0} (one : Reader A) (c : ℕ) (w z : List ℕ) → is_space_or_tab c ≡ false → eqb c comma ≡ false
+    → RunOf is_space_or_tab z → next_at one (z ++ c ∷ w) ≡ Err (at_reach TrailingCharactersAfterMember (c ∷ w))
+unfolding next_at fail
+byte_met one c w z none no_comma each =
+    bind_complete _ _ _ _ _ (span_complete is_space_or_tab z (c ∷ w) each (Apart-cons is_space_or_tab c w none))
+    ∙ ahead_any _ _ _ (omega arith) ∙ ahead_past _ _ _ (c ∷ w) (Apart-cons (byte comma) c w no_comma)
+
+-- a fault that comes after any member is the field's
+pub met : (version : Version) (kind : FieldKind) (raw : RawField kind) (t q : List ℕ) (e : Fault) → HasManyMembers kind
+    → HasMember kind raw → IsFieldText version kind raw t
+    → ((A : Type 0) (one : Reader A) (z : List ℕ) → RunOf is_space_or_tab z → next_at one (z ++ q) ≡ Err e)
+    → Apart lengthens_item q → whole_field_at version kind (t ++ q) ≡ Err (after_events (events kind raw) e)
+unfolding whole_field_at
+met version item_field raw t q e many has h after f = absurd many
+met version list_field [] t q e many has h after f = absurd (let none = has.2 in cc)
+met version list_field (m ∷ ms) t q e many has h after f =
+    members_met (IsMemberText version) entry_events (entry_at version) (Apart lengthens_item) (entry_complete version)
+    (entry_fresh version) blank_ends comma_ends (Apart-nil lengthens_item) (Sound-entry version) m ms t q e h
+    (after _ (entry_at version) h.second.back h.second.second) f
+met version dictionary_field [] t q e many has h after f = absurd (let none = has.2 in cc)
+met version dictionary_field (m ∷ ms) t q e many has h after f =
+    members_met (IsDictionaryMemberText version) keyed_events (keyed_at version) (Apart lengthens_item)
+    (keyed_complete version) (keyed_fresh version) blank_ends comma_ends (Apart-nil lengthens_item)
+    (Sound-keyed version) m ms t q e h (after _ (keyed_at version) h.second.back h.second.second) f
+
+-- a comma and blanks at the end
+pub comma_after : (version : Version) (kind : FieldKind) (raw : RawField kind) (t w : List ℕ) → HasManyMembers kind
+    → HasMember kind raw → IsFieldText version kind raw t → RunOf is_space_or_tab w
+    → whole_field_at version kind (t ++ comma ∷ w)
+    ≡ Err (after_events (events kind raw) (by_rule TrailingComma (comma ∷ w)))
+comma_after version kind raw t w many has h each =
+    met version kind raw t (comma ∷ w) (by_rule TrailingComma (comma ∷ w)) many has h
+    (λ A one z blank. comma_met one w z each blank) (comma_ends w)
+
+-- a byte that is none of the field, nor a blank or a comma
+pub byte_after : (version : Version) (kind : FieldKind) (raw : RawField kind) (t w : List ℕ) (c : ℕ)
+    → HasManyMembers kind → HasMember kind raw → IsFieldText version kind raw t → is_space_or_tab c ≡ false
+    → eqb c comma ≡ false → lengthens_item c ≡ false
+    → whole_field_at version kind (t ++ c ∷ w)
+    ≡ Err (after_events (events kind raw) (at_reach TrailingCharactersAfterMember (c ∷ w)))
+byte_after version kind raw t w c many has h none no_comma no_more =
+    met version kind raw t (c ∷ w) (at_reach TrailingCharactersAfterMember (c ∷ w)) many has h
+    (λ A one z blank. byte_met one c w z none no_comma blank) (Apart-cons lengthens_item c w no_more)
+
+-- ---- a parenthesis
+
+-- no member begins with it
+none_begun : {A : Type 0} (parts : A → List TreeEvent) (one : Reader A) (s q : List ℕ) → RunOf is_space s
+    → IsFault (one (right_parenthesis ∷ q)) → IsFault (members_at parts one (s ++ right_parenthesis ∷ q))
+unfolding members_at
+none_begun parts one s q each f = (
+  f.0,
+  bind_complete _ _ _ _ _ (span_complete is_space s (right_parenthesis ∷ q) each
+      (Apart-cons is_space right_parenthesis q refl)) ∙ ahead_any _ _ _ (omega arith) ∙ bind_met _ _ _ _ f.1,
+)
+
+no_entry : (version : Version) (q : List ℕ) → IsFault (entry_at version (right_parenthesis ∷ q))
+unfolding entry_at member_at item_at bare_at token_at branch ahead fail bind led
+no_entry version q = (_, refl)
+
+no_keyed : (version : Version) (q : List ℕ) → IsFault (keyed_at version (right_parenthesis ∷ q))
+unfolding keyed_at key_at branch fail bind
+no_keyed version q = (_, refl)
+
+-- after a whole field it stands nowhere
+bracket_after : (version : Version) (kind : FieldKind) (raw : RawField kind) (t : List ℕ)
+    → IsFieldText version kind raw t
+    → (e : Fault) × (ending (events kind) (whole_field_at version kind (t ++ codes ")")) ≡ Err e)
+unfolding whole_field_at
+bracket_after version item_field raw t h = (
+  _,
+  ap (ending (events item_field)) (item_field_complete version raw t (codes ")") h
+      (Apart-cons is_space right_parenthesis [] refl)
+      (spaces_end h.second.back (codes ")") h.second.second (Apart-cons lengthens_item right_parenthesis [] refl))),
+)
+bracket_after version list_field [] t h =
+    let m = none_begun entry_events (entry_at version) t [] h (no_entry version []) in
+    (m.0, ap (ending (events list_field)) m.1)
+bracket_after version list_field (m ∷ ms) t h = (
+  _,
+  ap (ending (events list_field))
+      (byte_after version list_field (m ∷ ms) t [] right_parenthesis tt (m, ms, refl) h refl refl refl),
+)
+bracket_after version dictionary_field [] t h =
+    let m = none_begun keyed_events (keyed_at version) t [] h (no_keyed version []) in
+    (m.0, ap (ending (events dictionary_field)) m.1)
+bracket_after version dictionary_field (m ∷ ms) t h = (
+  _,
+  ap (ending (events dictionary_field))
+      (byte_after version dictionary_field (m ∷ ms) t [] right_parenthesis tt (m, ms, refl) h refl refl refl),
+)
+
+pub not_bracketed : (version : Version) (kind : FieldKind) (t : List ℕ) → IsAccepted version kind t
+    → ¬ IsAccepted version kind (t ++ codes ")")
+unfolding read_field
+not_bracketed version kind t a b =
+    let fault = bracket_after version kind a.0 t a.1 in
+    let read = (read_is_accepted version kind (t ++ codes ")") b.0).1 b.1 in
+    absurd (let both = sym fault.1 ∙ read in cc)
+
+pub comma_row : CommaRow
+unfolding read_field
+comma_row version kind t index h =
+    let text : t ≡ h.before ++ comma ∷ h.whitespace = h.text ∙ simp append_assoc in (
+      h.raw,
+      ap (λ (l : List ℕ). ending (events kind) (whole_field_at version kind l)) text
+          ∙ ap (ending (events kind))
+          (comma_after version kind h.raw h.before h.whitespace h.many h.member h.accepted h.blank)
+          ∙ ap (λ (l : List ℕ). Err (record {
+            kind = TrailingComma;
+            exact = false;
+            rest = l;
+            events = events kind h.raw ++ [];
+          })) (sym (ap (λ (n : ℕ). drop n t) h.here ∙ ap (drop (length h.before)) text
+          ∙ drop_at h.before (comma ∷ h.whitespace) _ refl))
+          ∙ ap (λ es. Err (record { kind = TrailingComma; exact = false; rest = drop index t; events = es }))
+          (append-nil (events kind h.raw)),
+    )

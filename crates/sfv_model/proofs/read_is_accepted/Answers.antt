@@ -1,0 +1,5 @@
+use Rattle.sfv_model.proofs.read_is_accepted.Goals as goal
+use Rattle.sfv_model.proofs.Theorems.{read_is_accepted}
+
+pub returns : goal.returns
+returns c = read_is_accepted

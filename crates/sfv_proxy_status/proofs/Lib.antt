@@ -1,2 +1,0 @@
-mod LastProxies
-mod ReadBack

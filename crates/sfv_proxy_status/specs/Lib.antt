@@ -1,3 +1,0 @@
-pub mod ProxyStatus
-pub mod Kept
-pub mod Writing

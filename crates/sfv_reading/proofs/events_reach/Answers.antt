@@ -1,5 +1,0 @@
-use Rattle.sfv_reading.proofs.events_reach.Goals as goal
-use Rattle.sfv_reading.proofs.visits.EventsBeforeReach.{events_reach}
-
-pub returns : goal.returns
-returns c = events_reach

@@ -1,5 +1,0 @@
-use Rattle.sfv_reading.proofs.fault_rejects.Goals as goal
-use Rattle.sfv_reading.proofs.FaultTable.{fault_rejects}
-
-pub returns : goal.returns
-returns c = fault_rejects

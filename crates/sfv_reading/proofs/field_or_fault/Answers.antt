@@ -1,5 +1,0 @@
-use Rattle.sfv_reading.proofs.field_or_fault.Goals as goal
-use Rattle.sfv_reading.proofs.FaultTable.{field_or_fault}
-
-pub returns : goal.returns
-returns c = field_or_fault

@@ -1,5 +1,0 @@
-use Rattle.sfv_reading.proofs.joined_lines.Goals as goal
-use Rattle.sfv_reading.proofs.Lines.{joined_lines_lem}
-
-pub returns : goal.returns
-returns c = joined_lines_lem

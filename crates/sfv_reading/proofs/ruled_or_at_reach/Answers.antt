@@ -1,5 +1,0 @@
-use Rattle.sfv_reading.proofs.ruled_or_at_reach.Goals as goal
-use Rattle.sfv_reading.proofs.FaultTable.{ruled_or_at_reach}
-
-pub returns : goal.returns
-returns c = ruled_or_at_reach

@@ -1,6 +1,0 @@
-pub mod CheckedTexts
-pub mod KeyText
-pub mod TokenText
-pub mod StringText
-pub mod InvalidTexts
-pub mod Hashes

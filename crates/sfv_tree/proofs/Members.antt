@@ -1,0 +1,29 @@
+-- A member after an event is complete or not.
+use Rattle.std.proofs.Common.{◌≡◌, ℕ, true, false, List, rules}
+use Rattle.std.specs.Prelude.{Bool, Some, ◌||◌, IsTrue}
+use native.Mathlib.Omega.{arith}
+use Rattle.sfv_spec.specs.Events.{TreeEvent}
+use Rattle.sfv_spec.specs.Values.{RawMember}
+use Rattle.sfv_tree.specs.Builders.{member_state, member_step, settle_pair, ended, ends}
+use Rattle.sfv_tree.specs.Events.{event_of, is_moved}
+use Rattle.sfv_tree.specs.declared.visitor.member.Member.{Member}
+use Rattle.sfv_tree.specs.declared.visitor.Event.{Event}
+
+-- an incomplete member does not go in
+pub settles_pair : (ms : List (List ℕ × RawMember)) (key : List ℕ) (p : Member)
+    → settle_pair ms key (member_state p) ≡ (ms, Some (key, member_state p))
+settles_pair ms key p = grind arith
+
+-- a member that is complete after an event ends there
+pub ends_here : (p : Member) (e : TreeEvent) (m : RawMember) → ended m ≡ member_step (member_state p) e
+    → ends (member_state p) e ≡ true
+ends_here p e m h = grind arith
+
+-- a member does not end at a bare item
+pub not_moved : (p : Member) (e : Event) (m : RawMember) → ended m ≡ member_step (member_state p) (event_of e)
+    → is_moved e ≡ false
+not_moved p e m h = grind arith
+
+pub or_true : (b : Bool) → IsTrue (b || true)
+or_true true = search rules
+or_true false = search rules

@@ -1,0 +1,125 @@
+//! The visitor that builds a list.
+
+ghost use Rattle.std.specs.Prelude.{◌≡◌, ⊤, false, None, OnOk, OnErr, IsTrue};
+ghost use Rattle.sfv_tree.specs.Trees.{list_tree};
+ghost use Rattle.sfv_values.specs.BareItems.{input_value};
+ghost use Rattle.sfv_spec.specs.Events as tree;
+ghost use Rattle.sfv_values.specs.CheckedTexts.{text_of};
+ghost use Rattle.sfv_tree.specs.Events.{event_of, is_moved};
+ghost use Rattle.sfv_tree.specs.Builders.{list_step, list_state, list_takes_memory};
+ghost use Rattle.sfv_tree.specs.Builders.{ListAddsUnder, ListAdds};
+
+use crate::hash_seed::HashSeed;
+use crate::parsed::List;
+use crate::visitor::member::{Member, Step};
+use crate::visitor::{Event, Visitor};
+use sfv_base::error::OutOfMemory;
+use sfv_values::bare::BareItemFromInput;
+use sfv_values::key_ref::KeyRef;
+
+/// A visitor that builds a list, beginning with an existing one. A repeated key keeps its first position and takes its
+/// last value.
+///
+/// Ignores an event that is out of sequence. Fails only if memory runs out: at borrowed text, a parameter, or the end
+/// of an item or a member. `finish` never fails. It returns the list of the complete members.
+///
+/// If memory runs out, parsing ends, and the list is dropped.
+#[derive(Drop)]
+pub struct ListBuilder {
+    list: List,
+    // The seed of the parameters that are built.
+    seed: HashSeed,
+    // The current member.
+    member: Option<Member>,
+}
+
+impl ListBuilder {
+    /// Creates a builder that begins with `list` and uses its allocator. It builds parameters under `seed`. To join
+    /// several lines of a field, pass the list of the earlier lines.
+    pub fn new(list: List, seed: HashSeed) -> ListBuilder
+        ensures state { list_state result ≡ (list_tree list.items, None) }
+        ensures list { result.list ≡ list }
+        ensures seed { ListAddsUnder seed result }
+    {
+        ListBuilder {
+            list,
+            seed,
+            member: None,
+        }
+    }
+
+    // Inserts a parameter into the current member, where it is.
+    fn parameter(
+        &mut self,
+        key: KeyRef<'_>,
+        value: BareItemFromInput<'_>,
+    ) -> Result<(), OutOfMemory>
+        ensures state { OnOk result (list_state self.new
+            ≡ list_step (list_state self.old) (tree.parameter (text_of key.entry) (input_value value.entry))) }
+        ensures seed { OnOk result (ListAdds self.old self.new) }
+        ensures out_of_memory { OnErr result (IsTrue (list_takes_memory (list_state self.old)
+            (tree.parameter (text_of key.entry) (input_value value.entry)))) }
+    {
+        let alloc = *self.list.allocator();
+        if let Some(member) = &mut self.member {
+            member.parameter(alloc, key, value)?;
+        }
+        Ok(())
+    }
+
+    #[inline(always)]
+    fn step(&mut self, event: Event<'_>) -> Result<(), OutOfMemory>
+        ensures state { OnOk result (list_state self.new ≡ list_step (list_state self.old) (event_of event.entry)) }
+        ensures seed { OnOk result (ListAdds self.old self.new) }
+        ensures out_of_memory { OnErr result (IsTrue (list_takes_memory (list_state self.old) (event_of event.entry))) }
+        ensures copied { OnErr result (is_moved event.entry ≡ false) }
+    {
+        match (self.member.take(), event) {
+            (None, Event::Entry) => {
+                self.member = Some(Member::Begun);
+                Ok(())
+            }
+            (None, _) => Ok(()),
+            (Some(member), event) => {
+                match member.step(*self.list.allocator(), self.seed, self.list.len(), event)? {
+                    Step::Within(member) => {
+                        self.member = Some(member);
+                        Ok(())
+                    }
+                    Step::Ended(member) => Ok(self.list.push(member)?),
+                }
+            }
+        }
+    }
+}
+
+impl<'de> Visitor<'de> for ListBuilder {
+    type Out = List;
+
+    type Error = OutOfMemory;
+
+    ghost takes = { λ s event after.
+        (list_state after ≡ list_step (list_state s) event) × ListAdds s after };
+
+    ghost fails = { λ s event fault. IsTrue (list_takes_memory (list_state s) event) };
+
+    ghost fails_read = { λ _ event _. is_moved event ≡ false };
+
+    ghost finishes = { λ s list. list ≡ s.list };
+
+    ghost finish_fails = { λ _ _. ⊥ };
+
+    ghost is_memory = { λ _. ⊤ };
+
+    #[inline(always)]
+    fn event(&mut self, event: Event<'de>) -> Result<(), OutOfMemory> {
+        if let Event::Parameter(key, value) = event {
+            return self.parameter(key, value);
+        }
+        self.step(event)
+    }
+
+    fn finish(self) -> Result<List, OutOfMemory> {
+        Ok(self.list)
+    }
+}

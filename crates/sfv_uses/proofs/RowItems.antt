@@ -1,8 +1,0 @@
--- The integers of the items after one more item.
-use Rattle.std.specs.Prelude.{◌≡◌, List, [], ◌∷◌, ◌++◌}
-use Rattle.sfv_field.specs.Field.{RawItem}
-use Rattle.std.proofs.lemmas.List.Elements.{filter_map-append}
-use Rattle.sfv_uses.specs.Rows.{integer_in, integers_of}
-
-pub one_more : (items : List RawItem) (i : RawItem) → integers_of (items ++ i ∷ []) ≡ integers_of items ++ integers_of (i ∷ [])
-one_more items i = filter_map-append (λ i. integer_in i.bare) items (i ∷ [])

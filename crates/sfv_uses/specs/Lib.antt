@@ -1,3 +1,0 @@
-pub mod Uses
-pub mod Rows
-pub mod RowSteps

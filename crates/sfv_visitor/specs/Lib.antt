@@ -1,4 +1,0 @@
-pub mod Events
-pub mod ItemFaults
-pub mod Builders
-pub mod ProvidedVisitors
