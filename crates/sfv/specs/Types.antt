@@ -39,3 +39,4 @@ pub use Rattle.sfv_serializer.specs.declared.script.ParamCall.{ParamCall}
 pub use Rattle.sfv_serializer.specs.declared.script.ItemCalls.{ItemCalls}
 pub use Rattle.sfv_serializer.specs.declared.script.MemberCalls.{MemberCalls}
 pub use Rattle.sfv_serializer.specs.declared.script.MemberCalls.TheVariants as script_members
+pub use Rattle.sfv_serializer.specs.declared.sink.Sink.{Ghosts as Sink}

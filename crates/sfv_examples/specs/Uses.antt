@@ -1,6 +1,6 @@
 -- The results of the examples.
 use Rattle.std.specs.Prelude.{◌≡◌, ◌⊎◌, ℕ, ℤ, ◌+◌, ◌<◌, ◌≤◌, List, [], ◌∷◌, ◌++◌, length, Option, Some, None, codes}
-use Rattle.std.specs.Prelude.{Result, MatchResult, IsTrue, ◌↔◌, ◌==◌, not, option_map, string_bytes}
+use Rattle.std.specs.Prelude.{¬◌, ⊥, false, Result, MatchResult, IsTrue, ◌↔◌, ◌==◌, not, option_map, string_bytes}
 use Rattle.std.specs.Borrow.{Bor}
 use Rattle.std.specs.declared.alloc.Global.{Global}
 use Rattle.std.specs.declared.string.String.{String}
@@ -13,14 +13,16 @@ use Rattle.sfv.specs.Types.{Rfc9651}
 use Rattle.sfv.specs.Values.{string, token}
 use Rattle.sfv.specs.Values.{RawField, HasMember, RawParameters, RawItem, RawMember}
 use Rattle.sfv.specs.Values.{item, inner_list}
-use Rattle.sfv.specs.Grammar.{IsFieldText, IsAccepted, BeginsWithLongest}
+use Rattle.sfv.specs.Grammar.{IsFieldText, IsAccepted, BeginsWithLongest, BeginsWithComplete}
 use Rattle.sfv.specs.Ordered.{ordered, last_of}
 use Rattle.sfv.specs.Statements.{IsParsedAs, IsSerializedAs}
 use Rattle.sfv.specs.KeyText.{KeyRef}
 use Rattle.sfv.specs.CheckedTexts.{text_of}
 use Rattle.sfv.specs.TokenText.{TokenRef}
 use Rattle.sfv.specs.StringText.{StringRef}
-use Rattle.sfv.specs.Canonical.{item_text}
+use Rattle.sfv.specs.Canonical.{item_text, inner_list_text, dictionary_member_text}
+use Rattle.sfv.specs.Serializers.{Parts, HasAppendedNext}
+use Rattle.sfv.specs.Types.{Sink}
 use Rattle.sfv.specs.BareItems.{bare_value, ref_value, input_value, read_text, is_borrowed_string}
 use Rattle.sfv.specs.Trees.{OwnedBareItem}
 use Rattle.sfv.specs.Events.{TreeEvent, keyed_entry}
@@ -109,6 +111,27 @@ LentBareItem = GenericBareItem StringRef (Bor (List ℕ)) TokenRef (Bor (List �
 abbrev pub one_item : LentBareItem → KeyRef → LentBareItem → RawItem
 one_item value key param = item_of_one (ref_value value) (text_of key) (ref_value param)
 
+-- this text is appended to a list or a dictionary as its next member
+abbrev pub AddsMember : {W K : Type 0} → Sink W → Parts W K → Parts W K → List ℕ → Type 0
+AddsMember w s t text = HasAppendedNext w (codes ", ") s t text false
+
+-- this text is appended to an inner list as its next item
+abbrev pub AddsItem : {W K : Type 0} → Sink W → Parts W K → Parts W K → List ℕ → Type 0
+AddsItem w s t text = HasAppendedNext w (codes " ") s t text false
+
+-- the text of an item with two parameters of this key
+abbrev pub pair_text : LentBareItem → KeyRef → LentBareItem → LentBareItem → List ℕ
+pair_text value key first second =
+    item_text (item_of_two (ref_value value) (text_of key) (ref_value first) (ref_value second))
+
+-- the text of an empty inner list with this parameter
+abbrev pub empty_text : KeyRef → LentBareItem → List ℕ
+empty_text key param = inner_list_text (record { items = []; parameters = (text_of key, ref_value param) ∷ [] })
+
+-- the text of a dictionary member that is an item with this parameter
+abbrev pub named_text : KeyRef → LentBareItem → KeyRef → LentBareItem → List ℕ
+named_text name value key param = dictionary_member_text (text_of name, item (one_item value key param))
+
 -- the text of the example dictionary
 abbrev pub example_dictionary : List ℕ
 example_dictionary = codes "member1=11;foo, member2=(abc;abc_param=?0 def);bar=\"val\", member3=12.346"
@@ -152,6 +175,18 @@ abbrev pub IsExpectError : (ReadBareItem → ItemFault → Type 0) → BareValue
 IsExpectError fails value (Syntax e) = e ≡ out_of_memory
 IsExpectError fails value (Visitor fault) =
     (read : ReadBareItem) × (input_value read ≡ value) × fails read fault
+
+-- if the text is an item, the result has its bare item, or the type rejects that
+abbrev pub ExpectsItem : {T : Type 0} → (T → BareValue) → (ReadBareItem → ItemFault → Type 0) → List ℕ
+    → Result T (ParseError ItemFault) → Type 0
+ExpectsItem holds fails t result = (raw : RawItem) → IsFieldText Rfc9651 item_field raw t
+    → MatchResult result (λ item. holds item ≡ raw.bare) (IsExpectError fails raw.bare)
+
+-- if a complete bare item that the type cannot have comes first in the text, the type rejects it
+abbrev pub RejectsOther : {T : Type 0} → (T → BareValue) → (ReadBareItem → ItemFault → Type 0) → List ℕ
+    → Result T (ParseError ItemFault) → Type 0
+RejectsOther {T} holds fails t result = (value : BareValue) → BeginsWithComplete Rfc9651 value t
+    → ((item : T) → ¬ (holds item ≡ value)) → MatchResult result (λ _. ⊥) (IsExpectError fails value)
 
 -- memory ran out, or the value is no token
 abbrev pub IsTokenError : BareValue → ParseError ItemFault → Type 0

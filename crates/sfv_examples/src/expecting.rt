@@ -10,7 +10,7 @@ ghost use Rattle.sfv.specs.Trees.{item_tree, list_tree, dictionary_tree};
 ghost use Rattle.sfv.specs.HashSeeds.{library_seed};
 ghost use Rattle.sfv.specs.Seeds.{ItemHasSeed, ListHasSeed, DictionaryHasSeed};
 ghost use Rattle.sfv.specs.Types.item_faults as item_faults;
-ghost use Rattle.sfv_examples.specs.Uses.{HasBareItem, FailsAtFirst, IsReadError, IsExpectError, GivesToken, RefusesOther};
+ghost use Rattle.sfv_examples.specs.Uses.{ExpectsItem, RejectsOther, HasBareItem, FailsAtFirst, IsReadError, IsExpectError, GivesToken, RefusesOther};
 ghost use Rattle.sfv_examples.specs.Uses.{IsLentString};
 
 use sfv::visitor::{ExpectedItem, ItemFault};
@@ -28,10 +28,8 @@ pub fn expect<'de, T: ExpectedItem<'de>>(
     input: &'de [u8],
 ) -> Result<T, ParseError<ItemFault>>
     ensures held { IfOk result (λ item. HasBareItem input.now (T.holds item)) }
-    ensures of_an_item { (raw : RawItem) → IsFieldText Rfc9651 item_field raw input.now
-        → MatchResult result (λ item. T.holds item ≡ raw.bare) (IsExpectError T.fails raw.bare) }
-    ensures of_another_kind { (value : BareValue) → BeginsWithComplete Rfc9651 value input.now
-        → ((item : T) → ¬ (T.holds item ≡ value)) → MatchResult result (λ _. ⊥) (IsExpectError T.fails value) }
+    ensures of_an_item { ExpectsItem T.holds T.fails input.now result }
+    ensures of_another_kind { RejectsOther T.holds T.fails input.now result }
     ensures rejected { IfErr result (IsReadError (FailsAtFirst T.fails input.now) item_field input.now) }
 {
     Parser::new(input).parse_item::<T>(alloc)

@@ -155,10 +155,9 @@ pub fn dictionary_of_lines(
     first: &[u8],
     second: &[u8],
 ) -> Result<Dictionary, ParseError<OutOfMemory>>
-    ensures joined { IfOk result
-        (λ dictionary. IsDictionaryOfBoth first.now second.now (dictionary_tree dictionary.entries)) }
+    ensures joined { IfOk result (λ d. IsDictionaryOfBoth first.now second.now (dictionary_tree d.entries)) }
     ensures one_line { IfOk result
-        (λ dictionary. IsOfOneLine dictionary_field first.now second.now (dictionary_tree dictionary.entries)) }
+        (λ d. IsOfOneLine dictionary_field first.now second.now (dictionary_tree d.entries)) }
     ensures seed { IfOk result (DictionaryHasSeed seed) }
     ensures rejected { IfErr result (IsErrorOfLines dictionary_field first.now second.now) }
 {

@@ -14,6 +14,7 @@ ghost use Rattle.sfv.specs.Written.{keyed_text, with_separators};
 ghost use Rattle.sfv.specs.Serializers.{lent_sequence, HasAppended, HasAppendedNext, GrowsSequence, KeepsSequence};
 ghost use Rattle.sfv.specs.Serializers.{sequence_sink, is_empty_so_far};
 ghost use Rattle.sfv_examples.specs.Uses.{item_of_one, item_of_two, pair_of, example_dictionary, Adds};
+ghost use Rattle.sfv_examples.specs.Uses.{AddsMember, AddsItem, pair_text, empty_text, named_text};
 
 use crate::writing::write_item;
 use sfv::script::{MemberCalls, run_list};
@@ -36,9 +37,8 @@ pub fn write_member<W: Sink>(
     first: RefBareItem<'_>,
     second: RefBareItem<'_>,
 ) -> Result<(), SerializeError>
-    ensures { OnOk result (HasAppendedNext W.Sink (codes ", ") list.old list.new
-        (item_text (item_of_two (ref_value value.entry) (text_of key.entry)
-        (ref_value first.entry) (ref_value second.entry))) false) }
+    ensures { OnOk result (AddsMember W.Sink list.old list.new
+        (pair_text value.entry key.entry first.entry second.entry)) }
 {
     let params = list.bare_item(value)?;
     params
@@ -88,8 +88,8 @@ pub fn write_inner<W: Sink, K>(
     value: RefBareItem<'_>,
 ) -> Result<(), SerializeError>
     ensures lent { (sequence_sink inner.new).ghost_name ≡ (sequence_sink inner.old).ghost_name }
-    ensures text { OnOk result (HasAppendedNext (lent_sequence W.Sink) (codes " ") inner.old inner.new
-        (bare_text (ref_value value.entry)) false) }
+    ensures text { OnOk result (AddsItem (lent_sequence W.Sink) inner.old inner.new
+        (bare_text (ref_value value.entry))) }
     ensures grows { GrowsSequence (lent_sequence W.Sink) inner.old inner.new }
 {
     put(inner, value)
@@ -122,9 +122,7 @@ pub fn write_empty<W: Sink>(
     key: KeyRef<'_>,
     param: RefBareItem<'_>,
 ) -> Result<(), SerializeError>
-    ensures { OnOk result (HasAppendedNext W.Sink (codes ", ") list.old list.new
-        (inner_list_text (record { items = []; parameters = (text_of key.entry, ref_value param.entry) ∷ [] }))
-        false) }
+    ensures { OnOk result (AddsMember W.Sink list.old list.new (empty_text key.entry param.entry)) }
 {
     list.inner_list()?.finish()?.parameter(key, param)?.finish();
     Ok(())
@@ -224,19 +222,16 @@ pub fn write_item_of_no_bytes(text: &mut String) -> Result<(), SerializeError>
 ///
 /// Returns the errors of the serializer.
 pub fn write_named<W: Sink>(
-    dictionary: &mut DictSerializer<W>,
+    dict: &mut DictSerializer<W>,
     name: KeyRef<'_>,
     value: RefBareItem<'_>,
     key: KeyRef<'_>,
     param: RefBareItem<'_>,
 ) -> Result<(), SerializeError>
-    ensures { OnOk result (HasAppendedNext W.Sink (codes ", ") dictionary.old dictionary.new
-        (dictionary_member_text (
-          text_of name.entry,
-          item (item_of_one (ref_value value.entry) (text_of key.entry) (ref_value param.entry)),
-        )) false) }
+    ensures { OnOk result (AddsMember W.Sink dict.old dict.new
+        (named_text name.entry value.entry key.entry param.entry)) }
 {
-    let params = dictionary.bare_item(name, value)?;
+    let params = dict.bare_item(name, value)?;
     params.parameter(key, param)?.finish();
     Ok(())
 }
@@ -247,15 +242,14 @@ pub fn write_named<W: Sink>(
 ///
 /// Returns the errors of the serializer.
 pub fn write_bare<W: Sink>(
-    dictionary: &mut DictSerializer<W>,
+    dict: &mut DictSerializer<W>,
     name: KeyRef<'_>,
     value: RefBareItem<'_>,
 ) -> Result<(), SerializeError>
-    ensures { OnOk result (HasAppendedNext W.Sink (codes ", ") dictionary.old dictionary.new
-        (keyed_text (text_of name.entry) (ref_value value.entry))
-        false) }
+    ensures { OnOk result (AddsMember W.Sink dict.old dict.new
+        (keyed_text (text_of name.entry) (ref_value value.entry))) }
 {
-    dictionary.bare_item(name, value)?.finish();
+    dict.bare_item(name, value)?.finish();
     Ok(())
 }
 

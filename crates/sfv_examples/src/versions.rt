@@ -10,7 +10,8 @@ ghost use Rattle.sfv.specs.Trees.{list_tree};
 ghost use Rattle.sfv.specs.Scripts.{member_of_calls, described_list};
 ghost use Rattle.sfv.specs.Serializers.{HasAppendedNext, sequence_version};
 ghost use Rattle.sfv.specs.Versions.{ChecksVersionFirst};
-ghost use Rattle.sfv_examples.specs.Pairs.{two_members, IsPairError};
+ghost use Rattle.sfv_examples.specs.Pairs.{both_text, IsBothError};
+ghost use Rattle.sfv_examples.specs.Uses.{Adds, AddsMember};
 
 use sfv::script::{MemberCalls, run_list_for};
 use sfv::{List, ListSerializer, Parser, RefBareItem, SerializeError, Sink, Version};
@@ -26,13 +27,10 @@ pub fn write_both<W: Sink>(
     first: RefBareItem<'_>,
     second: RefBareItem<'_>,
 ) -> Result<(), SerializeError>
-    ensures text { OnOk result
-        (HasAppendedNext W.Sink (codes ", ") list.old list.new
-        (two_members (ref_value first.entry) (ref_value second.entry)) false) }
+    ensures text { OnOk result (AddsMember W.Sink list.old list.new (both_text first.entry second.entry)) }
     ensures fit { OnOk result
         (AllFit (sequence_version list.old) (ref_value first.entry ∷ ref_value second.entry ∷ [])) }
-    ensures failed { IfErr result
-        (IsPairError (sequence_version list.old) (ref_value first.entry) (ref_value second.entry)) }
+    ensures failed { IfErr result (IsBothError (sequence_version list.old) first.entry second.entry) }
 {
     list.bare_item(first)?.finish();
     list.bare_item(second)?.finish();
@@ -50,10 +48,9 @@ pub fn write_both_for(
     first: RefBareItem<'_>,
     second: RefBareItem<'_>,
 ) -> Result<(), SerializeError>
-    ensures text { OnOk result (string_bytes text.new
-        ≡ string_bytes text.old ++ two_members (ref_value first.entry) (ref_value second.entry)) }
+    ensures text { OnOk result (Adds text.old text.new (both_text first.entry second.entry)) }
     ensures fit { OnOk result (AllFit version (ref_value first.entry ∷ ref_value second.entry ∷ [])) }
-    ensures failed { IfErr result (IsPairError version (ref_value first.entry) (ref_value second.entry)) }
+    ensures failed { IfErr result (IsBothError version first.entry second.entry) }
 {
     let mut list = ListSerializer::with_buffer_for(text, version);
     write_both(&mut list, first, second)

@@ -54,3 +54,7 @@ value_of p = record { urgency = p.urgency; incremental = p.incremental }
 abbrev pub IsPriorityOf : Version → List ℕ → PriorityValue → Type 0
 IsPriorityOf version t p = (value : List (List ℕ × RawMember)) × IsParsedAs version dictionary_field t value
     × (p ≡ priority value)
+
+-- the text of the priority parses to it under both versions
+abbrev pub IsReadBack : PriorityValue → Type 0
+IsReadBack p = (version : Version) → IsPriorityOf version (priority_text p) p

@@ -16,7 +16,7 @@ ghost use Rattle.sfv.specs.Trees.{member_tree, dictionary_tree};
 ghost use Rattle.sfv.specs.Serializers.{HasAppended, HasAppendedNext, is_empty_so_far, sequence_version, sequence_sink};
 ghost use Rattle.sfv.specs.Written.{AppendsOrKeeps, AsksForRoom, LacksRoom, keyed_text, separator_before, with_separators, is_first_after};
 ghost use Rattle.sfv_http_fields.specs.Priority.{priority, urgency_in, urgency_of, incremental_in, incremental_of};
-ghost use Rattle.sfv_http_fields.specs.Priority.{priority_text, value_of, IsPriorityOf};
+ghost use Rattle.sfv_http_fields.specs.Priority.{priority_text, value_of, IsPriorityOf, IsReadBack};
 ghost use Rattle.sfv_http_fields.specs.PrioritySteps.{urgency_texts, incremental_texts};
 
 mod value;
@@ -157,8 +157,7 @@ pub fn write_priority(text: &mut String, priority: Priority) -> Result<bool, Out
     ensures text { AppendsOrKeeps text.old text.new (priority_text (value_of priority)) result }
     ensures room { AsksForRoom text.old text.new (priority_text (value_of priority)) result }
     ensures stands { IfOk result (λ stands. IsTrue stands ↔ (priority_text (value_of priority) ≢ [])) }
-    ensures read_back { OnOk result ((version : Version)
-        → IsPriorityOf version (priority_text (value_of priority)) (value_of priority)) }
+    ensures read_back { OnOk result (IsReadBack (value_of priority)) }
 {
     // With room for the whole text no call fails, so nothing has to be removed.
     text.reserve(text_len(priority))?;

@@ -12,6 +12,8 @@ mod conversions;
 #[cfg(test)]
 mod errors;
 #[cfg(test)]
+mod memory;
+#[cfg(test)]
 mod numbers;
 #[cfg(test)]
 mod seeds;
