@@ -94,6 +94,24 @@ fn a_text_keeps_at_most_twice_its_length(rt: HostRuntime) -> Result<(), Fail> {
     Ok(())
 }
 
+/// Returns `true` if an empty list or dictionary appends nothing, and requests no memory.
+fn appends_nothing<T: FieldType>(alloc: Global) -> bool {
+    let Ok(field) = Parser::new(b"").parse::<T>(alloc) else {
+        return false;
+    };
+    let mut text = String::new(alloc);
+    match field.append_to(Version::Rfc9651, &mut text) {
+        Ok(has_member) => !has_member & (text.capacity() == 0),
+        Err(_) => false,
+    }
+}
+
+#[test]
+fn an_empty_field_requests_no_memory(rt: HostRuntime) {
+    assert!(rt; appends_nothing::<List>(rt.alloc()));
+    assert!(rt; appends_nothing::<Dictionary>(rt.alloc()));
+}
+
 /// Writes the item of the input to one text by a serializer, and to the other one by a script.
 fn write_item(alloc: Global, input: &str, text: &mut String, called: &mut String) -> Option<()> {
     let item = Parser::new(input.as_bytes()).parse::<Item>(alloc).ok()?;
