@@ -184,6 +184,38 @@ fn capacity_after(
     None
 }
 
+/// Appends the field of the input to `before` in a text of this capacity. Returns the capacity then.
+fn appended_capacity<T: FieldType>(
+    alloc: Global,
+    before: &str,
+    room: usize,
+    input: &str,
+) -> Option<usize> {
+    let field = Parser::new(input.as_bytes()).parse::<T>(alloc).ok()?;
+    let mut text = String::with_capacity(alloc, room).ok()?;
+    text.push_str(before).ok()?;
+    field.append_to(Version::Rfc9651, &mut text).ok()?;
+    if text.as_str().strip_prefix(before)? == input {
+        return Some(text.capacity());
+    }
+    None
+}
+
+/// The same for the item, list or dictionary of the input.
+fn capacity_appended(
+    alloc: Global,
+    field: &str,
+    before: &str,
+    room: usize,
+    input: &str,
+) -> Option<usize> {
+    match field {
+        "item" => appended_capacity::<Item>(alloc, before, room, input),
+        "list" => appended_capacity::<List>(alloc, before, room, input),
+        _ => appended_capacity::<Dictionary>(alloc, before, room, input),
+    }
+}
+
 /// Values of each kind and of each number of digits.
 const VALUES: &[&str] = &[
     "0",
@@ -232,6 +264,7 @@ fn a_text_with_exact_room_keeps_its_capacity(rt: HostRuntime) -> Result<(), Fail
             let text = filled(alloc, place, value)?;
             let room = text.len() + "X: ".len();
             holds &= capacity_after(alloc, field, "X: ", room, text.as_str()) == Some(room);
+            holds &= capacity_appended(alloc, field, "X: ", room, text.as_str()) == Some(room);
         }
     }
     assert!(rt; holds);
