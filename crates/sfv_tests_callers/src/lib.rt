@@ -22,6 +22,8 @@ mod readers;
 #[cfg(test)]
 mod requests;
 #[cfg(test)]
+mod seeds;
+#[cfg(test)]
 mod tool;
 #[cfg(test)]
 mod uses;

@@ -1,0 +1,114 @@
+//! The random seed of the program reaches the maps of each type of field. Keys that collide under one seed are slow to
+//! parse under that seed, and fast under another one.
+
+use sfv::{HashSeed, KeyRef};
+use sfv_answers::run::{random_seed, run_with_random_seed};
+use std::alloc::Global;
+use std::hash::BuildHasher;
+use std::io;
+use std::random::RandomSource;
+use std::rt::Clock;
+use std::test::Fail;
+use std::time::{Duration, Instant};
+
+/// A source whose random bytes are all this one.
+#[derive(Clone, Copy)]
+struct Always(u8);
+
+impl RandomSource for Always {
+    fn fill_bytes(&self, buf: &mut [u8]) -> io::Result<()> {
+        for byte in buf {
+            *byte = self.0;
+        }
+        Ok(())
+    }
+}
+
+/// The number of keys. Under their seed, a field of them takes ten times as long as under another one.
+const COUNT: usize = 500;
+
+/// The bits of a hash that determine the start of the search in a map of `COUNT` keys.
+const MASK: u64 = 0xff00_0020;
+
+/// Returns keys of at most eight bytes that begin their search at one place in a map under this seed.
+fn colliding_keys(alloc: Global, seed: HashSeed) -> Result<Vec<String>, Fail> {
+    let mut wanted = None;
+    let mut keys = Vec::new(alloc);
+    for number in 0..10_000_000u32 {
+        if keys.len() == COUNT {
+            break;
+        }
+        let name = format!(in alloc; "k{number}")?;
+        let Ok(key) = KeyRef::from_str(name.as_str()) else {
+            continue;
+        };
+        let hash = seed.hash_one(key);
+        let place = (hash ^ (hash >> 32)) & MASK;
+        if *wanted.get_or_insert(place) == place {
+            keys.push(name)?;
+        }
+    }
+    Ok(keys)
+}
+
+/// Returns the keys with a separator between neighbours, after this text.
+fn joined(alloc: Global, begin: &str, separator: &str, keys: &[String]) -> Result<String, Fail> {
+    let mut text = String::from_str(alloc, begin)?;
+    for (number, key) in keys.iter().enumerate() {
+        if number > 0 {
+            text.push_str(separator)?;
+        }
+        text.push_str(key.as_str())?;
+    }
+    Ok(text)
+}
+
+/// Returns the least time of three runs of the program with random bytes from this source. Fails if a run fails.
+fn time_of(rt: &HostRuntime, random: Always, args: &[String], text: &str) -> io::Result<Duration> {
+    let alloc = rt.alloc();
+    let mut least = Duration::MAX;
+    for _ in 0..3 {
+        let (mut output, mut errors) = (Vec::new(alloc), Vec::new(alloc));
+        let mut input = text.as_bytes();
+        let start = Instant::now(rt)?;
+        let status = run_with_random_seed(
+            alloc,
+            &random,
+            args,
+            &mut input,
+            &mut output,
+            &mut errors,
+        );
+        let time = start.elapsed(rt)?;
+        if status != 0 {
+            return Err(io::Error::from(io::ErrorKind::InvalidData));
+        }
+        least = least.min(time);
+    }
+    Ok(least)
+}
+
+/// Fields of colliding keys: the type, the text before the keys, and the separator.
+const FIELDS: &[(&str, &str, &str)] = &[
+    ("item", "1;", ";"),
+    ("list", "1;", ";"),
+    ("list", "(1 1);", ";"),
+    ("dict", "", ","),
+    ("dict", "a;", ";"),
+];
+
+#[test]
+fn the_random_seed_is_that_of_all_maps(rt: HostRuntime) -> Result<(), Fail> {
+    let alloc = rt.alloc();
+    let keys = colliding_keys(alloc, random_seed(&Always(1))?)?;
+    for &(field, begin, separator) in FIELDS {
+        let mut args = Vec::new(alloc);
+        args.push(String::from_str(alloc, field)?)?;
+        args.push(String::from_str(alloc, "9651")?)?;
+        let text = joined(alloc, begin, separator, keys.as_slice())?;
+        let slow = time_of(&rt, Always(1), args.as_slice(), text.as_str())?;
+        let fast = time_of(&rt, Always(2), args.as_slice(), text.as_str())?;
+        assert!(rt; slow.as_nanos() / 3 > fast.as_nanos());
+    }
+    Ok(())
+}
