@@ -24,8 +24,8 @@ impl RandomSource for Always {
     }
 }
 
-/// The number of keys. Under their seed, a field of them takes ten times as long as under another one.
-const COUNT: usize = 500;
+/// The number of keys. Under their seed, a field of them takes eight times as long as under another one.
+const COUNT: usize = 570;
 
 /// The bits of a hash that determine the start of the search in a map of `COUNT` keys.
 const MASK: u64 = 0xff00_0020;
@@ -63,11 +63,17 @@ fn joined(alloc: Global, begin: &str, separator: &str, keys: &[String]) -> Resul
     Ok(text)
 }
 
-/// Returns the least time of three runs of the program with random bytes from this source. Fails if a run fails.
-fn time_of(rt: &HostRuntime, random: Always, args: &[String], text: &str) -> io::Result<Duration> {
+/// Returns the least time of this many runs of the program with random bytes from this source. Fails if a run fails.
+fn time_of(
+    rt: &HostRuntime,
+    random: Always,
+    args: &[String],
+    text: &str,
+    runs: u32,
+) -> io::Result<Duration> {
     let alloc = rt.alloc();
     let mut least = Duration::MAX;
-    for _ in 0..3 {
+    for _ in 0..runs {
         let (mut output, mut errors) = (Vec::new(alloc), Vec::new(alloc));
         let mut input = text.as_bytes();
         let start = Instant::now(rt)?;
@@ -106,9 +112,9 @@ fn the_random_seed_is_that_of_all_maps(rt: HostRuntime) -> Result<(), Fail> {
         args.push(String::from_str(alloc, field)?)?;
         args.push(String::from_str(alloc, "9651")?)?;
         let text = joined(alloc, begin, separator, keys.as_slice())?;
-        let slow = time_of(&rt, Always(1), args.as_slice(), text.as_str())?;
-        let fast = time_of(&rt, Always(2), args.as_slice(), text.as_str())?;
-        assert!(rt; slow.as_nanos() / 3 > fast.as_nanos());
+        let slow = time_of(&rt, Always(1), args.as_slice(), text.as_str(), 3)?;
+        let fast = time_of(&rt, Always(2), args.as_slice(), text.as_str(), 7)?;
+        assert!(rt; slow.as_nanos() / 2 > fast.as_nanos());
     }
     Ok(())
 }

@@ -19,7 +19,7 @@ use Rattle.sfv_model.proofs.sound.Members.{Consumes-next_item, Sound-entry, Soun
 use Rattle.sfv_model.proofs.sound.Separated.{Consumes-next}
 use Rattle.sfv_model.proofs.sound.Many.{Consumes, put, in_front, starts, regroup, many_is, goes_on, is_done}
 use Rattle.sfv_model.proofs.sound.Many.{is_faulty}
-use Rattle.sfv_model.proofs.visits.Parts.{visited_in_front, failed_within}
+use Rattle.sfv_model.proofs.visits.Parts.{failed_within}
 use Rattle.sfv_model.proofs.complete.Combinators.{bind_complete}
 use Rattle.sfv_base.specs.declared.error.ParseError.{ParseError}
 use Rattle.sfv_base.specs.declared.error.ParseError.TheVariants.{Syntax, Visitor}
@@ -33,6 +33,13 @@ use Rattle.sfv.proofs.visits.Taken.{runs_on, took_after, took_part, took_none, I
 use Rattle.sfv.proofs.visits.Taken.{member_delimiter_quiet}
 use Rattle.sfv.proofs.reads.Delimiters.{one_if, first_of, next_item_is, next_member_is}
 use Rattle.sfv.proofs.visits.Parts.{kept_visits, first_failed}
+
+-- the values of a front, and then what is read
+visited_in_front : {A : Type 0} (parts : A → List TreeEvent) (front : List A) (a : Answer (List A))
+    → visited (λ vs. flat_map parts vs) (in_front parts front a)
+    ≡ flat_map parts front ++ visited (λ vs. flat_map parts vs) a
+visited_in_front parts front (Ok x) = flat_map-append parts front x.0
+visited_in_front parts front (Err e) = refl
 
 -- the events of what was read
 abbrev pub all_events : {A : Type 0} → (A → List TreeEvent) → List A → List TreeEvent
