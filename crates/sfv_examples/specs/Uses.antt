@@ -1,6 +1,6 @@
 -- The results of the examples.
 use Rattle.std.specs.Prelude.{◌≡◌, ◌⊎◌, ℕ, ℤ, ◌+◌, ◌<◌, ◌≤◌, List, [], ◌∷◌, ◌++◌, length, Option, Some, None, codes}
-use Rattle.std.specs.Prelude.{¬◌, ⊥, false, Result, MatchResult, IsTrue, ◌↔◌, ◌==◌, not, option_map, string_bytes}
+use Rattle.std.specs.Prelude.{false, Result, MatchResult, IsTrue, ◌↔◌, ◌==◌, not, option_map, string_bytes}
 use Rattle.std.specs.Borrow.{Bor}
 use Rattle.std.specs.declared.alloc.Global.{Global}
 use Rattle.std.specs.declared.string.String.{String}
@@ -119,11 +119,6 @@ AddsMember w s t text = HasAppendedNext w (codes ", ") s t text false
 abbrev pub AddsItem : {W K : Type 0} → Sink W → Parts W K → Parts W K → List ℕ → Type 0
 AddsItem w s t text = HasAppendedNext w (codes " ") s t text false
 
--- the text of an item with two parameters of this key
-abbrev pub pair_text : LentBareItem → KeyRef → LentBareItem → LentBareItem → List ℕ
-pair_text value key first second =
-    item_text (item_of_two (ref_value value) (text_of key) (ref_value first) (ref_value second))
-
 -- the text of an empty inner list with this parameter
 abbrev pub empty_text : KeyRef → LentBareItem → List ℕ
 empty_text key param = inner_list_text (record { items = []; parameters = (text_of key, ref_value param) ∷ [] })
@@ -155,6 +150,11 @@ pair_of first key param second = item_of_one first key param ∷ record { bare =
 -- an item with two parameters of one key
 abbrev pub item_of_two : BareValue → List ℕ → BareValue → BareValue → RawItem
 item_of_two value key first second = record { bare = value; parameters = (key, first) ∷ (key, second) ∷ [] }
+
+-- the text of an item with two parameters of this key
+abbrev pub pair_text : LentBareItem → KeyRef → LentBareItem → LentBareItem → List ℕ
+pair_text value key first second =
+    item_text (item_of_two (ref_value value) (text_of key) (ref_value first) (ref_value second))
 
 -- the text is an item with this bare item and any parameters
 abbrev pub HasBareItem : List ℕ → BareValue → Type 0
