@@ -188,7 +188,7 @@ fn perform(rt: &HostRuntime, job: &str, seed: u64, rounds: u64) -> io::Result<bo
         "reject" => report(rt, job, reject_all(alloc, seed, rounds)),
         "large" => report(rt, job, large_all(alloc, seed, rounds)),
         "keys" => {
-            print_keys(rt, 1000 * rounds)?;
+            print_keys(rt, rounds.saturating_mul(1000))?;
             Ok(true)
         }
         _ => Ok(false),
