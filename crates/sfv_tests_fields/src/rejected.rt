@@ -49,8 +49,8 @@ fn is_rejected(alloc: Global, field: &str, input: &str, kind: ErrorKind, back: u
 /// The numbers of parts or pieces.
 const COUNTS: &[usize] = &[1, 2, 100, 1_001, 4_001, 65_537, 100_001];
 
-/// Fields of numbered parts: the type, the text before the parts, the text before each number, the separator, the end,
-/// the kind of the error, and how many bytes follow its index. Some begin with a backslash, a percent sign or a colon.
+/// Fields of numbered parts: the type, the text before the parts, the text before each number, the separator, and the
+/// end. Then the kind of the error, and how many bytes follow its index. Some fields have a backslash or a colon.
 const PARTS: &[(&str, &str, &str, &str, &str, ErrorKind, usize)] = &[
     (
         "item",

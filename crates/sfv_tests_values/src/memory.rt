@@ -12,7 +12,7 @@ use sfv_values::token::TokenClass;
 use std::alloc::Global;
 use std::string::String as StdString;
 
-/// Returns `true` if a new map of parameters, and that of a new item, have no capacity.
+/// Returns `true` if a new map of parameters, and the map of a new item, have no capacity.
 fn are_parameters_empty(alloc: Global) -> bool {
     let item = Item::new(alloc, GenericBareItem::Boolean(true));
     (parameters(alloc).capacity() == 0) & (item.params.capacity() == 0)
