@@ -94,6 +94,8 @@ fn priorities_are_read_and_written(rt: HostRuntime) {
         ("u", (3, false), ""),
         ("u=1, u=9", (3, false), ""),
         ("u=1, x=@5", (1, false), "u=1"),
+        ("u=1, x=%\"a\"", (1, false), "u=1"),
+        ("u=1, x=\"\\\\\", y=:aGk=:", (1, false), "u=1"),
     ];
     for &(input, wanted, line) in rows {
         assert!(rt;
