@@ -24,7 +24,7 @@ impl RandomSource for Always {
     }
 }
 
-/// The number of keys. Under their seed, a field of them takes eight times as long as under another one.
+/// The number of keys. Under their seed, a field of them takes several times as long as under another one.
 const COUNT: usize = 570;
 
 /// The bits of a hash that determine the start of the search in a map of `COUNT` keys.
